@@ -1,0 +1,5 @@
+//! Records files: what their lines say, and whether they keep the rules.
+#![tactic(auto)]
+
+pub mod rule;
+pub mod sayings;

@@ -1,0 +1,17 @@
+-- What collation data say, whole: characters, weights and settings.
+use Rattle.std.specs.Prelude.{ℕ, Bool, List}
+use Rattle.icu_normalizer_core.specs.Canonical.{Canonical}
+use Rattle.icu_collator_types.specs.declared.options.FileSettings.{FileSettings}
+use Rattle.icu_collator_core.specs.Weights.{Weights}
+
+pub record Collation : Type 0 where
+  pub canonical : Canonical
+  pub weights : Weights
+  -- what they set of the options
+  pub options : FileSettings
+  -- whether the secondary level is read backward, between one U+FFFE and the next
+  pub backward : Bool
+  -- the upper halves of the first primaries behind spaces, punctuation, symbols and currency signs
+  pub groups : List ℕ
+  -- the lead byte that stands in the place of another
+  pub reordered_lead : ℕ → ℕ

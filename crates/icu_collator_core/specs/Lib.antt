@@ -1,0 +1,5 @@
+pub mod Weights
+pub mod Defaults
+pub mod Numbers
+pub mod Elements
+pub mod Collation
