@@ -1,1 +1,4 @@
+//! Collation elements: what texts are matched, and what each match gives.
 #![tactic(auto)]
+
+pub mod elements;

@@ -1,3 +1,4 @@
 pub mod BuiltIn
 pub mod Canonical
 pub mod Decoding
+pub mod Properties

@@ -1,0 +1,5 @@
+pub mod DecodedLemmas
+pub mod DecodingComputing
+mod DecodingRows
+pub mod TextLemmas
+pub mod Utf16Lemmas
