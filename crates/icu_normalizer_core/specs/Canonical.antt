@@ -2,7 +2,7 @@
 use Rattle.std.specs.Prelude.{◌≡◌, ℕ, ◌+◌, ◌<◌, ◌≤◌, Bool, true, false, cond, ◌==◌, ◌&&◌, ◌↔◌, not, leb, ltb, List, [], ◌∷◌, ◌++◌, length, flat_map, All, Contains, Option, Some, None, IsTrue, IsSome, IfSome}
 use Rattle.std.specs.List.{list_all}
 use Rattle.std.specs.Char.{IsScalar}
-use Rattle.icu_normalizer_core.specs.BuiltIn.{built_in_step, built_in_class, is_syllable, is_jamo, is_within, syllable_of}
+use Rattle.icu_normalizer_core.specs.BuiltIn.{built_in_step, built_in_class, is_syllable, is_jamo, is_within, singled_out, syllable_of}
 
 pub record Canonical : Type 0 where
   -- the canonical combining class; a starter has 0, a mark another
@@ -94,6 +94,8 @@ pub record IsComposing (canonical : Canonical) : Type 0 where
   pub syllables : (a b : ℕ) → IfSome (syllable_of a b) (λ c. canonical.pair a b ≡ Some c)
   pub mapped : (a b c : ℕ) → canonical.pair a b ≡ Some c → canonical.step c ≡ a ∷ b ∷ []
   pub scalars : (a b c : ℕ) → canonical.pair a b ≡ Some c → IsScalar c
+  -- none of the seven that are mapped by what is built in is composed
+  pub uncomposed : (a b c : ℕ) → canonical.pair a b ≡ Some c → singled_out c ≡ None
   -- the second of a pair is not below U+0300, and no vowel or trailing consonant unless the pair is a syllable's
   pub seconds : (a b c : ℕ) → canonical.pair a b ≡ Some c → 0x300 ≤ b
   pub letters : (a b c : ℕ) → canonical.pair a b ≡ Some c → syllable_of a b ≡ None → is_within 0x1161 0x11ff b ≡ false
