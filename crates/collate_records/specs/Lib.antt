@@ -1,3 +1,4 @@
 pub mod Sayings
 pub mod Rule
 pub mod Rules
+pub mod Tables

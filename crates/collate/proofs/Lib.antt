@@ -1,0 +1,13 @@
+pub mod ContextFree
+pub mod PlainLevels
+pub mod PlainOrder
+pub mod Marks
+pub mod OfRecords
+pub mod PlainKeys
+pub mod Order
+pub mod Simple
+pub mod Sorting
+pub mod Searching
+pub mod Kept
+pub mod Listing
+pub mod OrderLaws

@@ -1,0 +1,12 @@
+pub mod AddErrors
+pub mod Catalogue
+pub mod Index
+pub mod Keys
+pub mod Listing
+pub mod Meaning
+pub mod Names
+pub mod Newest
+pub mod Plain
+pub mod Search
+pub mod Settings
+pub mod Strengths

@@ -1,0 +1,2 @@
+pub mod FullLists
+pub mod Lookups

@@ -1,0 +1,10 @@
+use Rattle.std.proofs.Common.{map}
+use Rattle.std.proofs.lemmas.List.{get_or_read}
+use Rattle.collate_records.specs.Sayings.{said}
+use Rattle.collate_records.specs.Tables.{HasSmallClass}
+use Rattle.collate_records.proofs.Lookups.{All-map_at}
+use Rattle.collate_records.proofs.records.Records.new.Goals as goal
+
+pub add-requires : goal.add-requires
+add-requires c =
+    All-map_at HasSmallClass said c.args.sayings.items c.deref-saying-items.result.now c.loop-saying.saying-index c.saying-item.result c.deref-saying-items.ensures.value c.loop-saying-test.true c.saying-item.is c.requires
