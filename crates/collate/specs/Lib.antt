@@ -1,5 +1,6 @@
 pub mod AddErrors
 pub mod Catalogue
+pub mod Choices
 pub mod Index
 pub mod Keys
 pub mod Listing
@@ -7,6 +8,13 @@ pub mod Meaning
 pub mod Names
 pub mod Newest
 pub mod Plain
+pub mod Reading
+pub mod Replies
+pub mod ReplyText
+pub mod Runs
 pub mod Search
+pub mod Sending
+pub mod Served
 pub mod Settings
 pub mod Strengths
+pub mod Watched

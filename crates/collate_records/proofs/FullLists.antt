@@ -1,15 +1,15 @@
 -- the full list of a character, step by step
-use Rattle.std.proofs.Common.{◌≡◌, ℕ, zero, suc, ◌-◌, ◌==◌, cond, List, [], ◌∷◌, ◌++◌, flat_map, refl, sym, ap, ◌∙◌, append-nil, append_assoc, arith, Bool, true, false, Result, Ok, Err, OnErr, sub-one, pred}
+use Rattle.std.proofs.Common.{◌≡◌, ℕ, zero, suc, ◌-◌, ◌==◌, cond, List, [], ◌∷◌, ◌++◌, flat_map, refl, sym, ap, ◌∙◌, append-nil, append_assoc, arith, false, Result, Ok, Err, OnErr, sub-one}
 use Rattle.std.proofs.lemmas.Bool.Decides.{nat_tests}
 use Rattle.collate_records.specs.Sayings.{expanded}
 use Rattle.collate_records.specs.Tables.{AddsFront}
 
 -- what at most n steps leave, by what the first of them gives
-abbrev by_first : (ℕ → List ℕ) → ℕ → ℕ → List ℕ → List ℕ
+abbrev pub by_first : (ℕ → List ℕ) → ℕ → ℕ → List ℕ → List ℕ
 by_first step n c [] = c ∷ []
 by_first step n c (d ∷ ds) = flat_map (expanded step n) (d ∷ ds)
 
-expanded-zero : (step : ℕ → List ℕ) (c : ℕ) → expanded step 0 c ≡ c ∷ []
+pub expanded-zero : (step : ℕ → List ℕ) (c : ℕ) → expanded step 0 c ≡ c ∷ []
 unfolding expanded
 expanded-zero step c = refl
 
@@ -44,6 +44,10 @@ AddsFront-first old new xs ys h = (h.0, h.1 ++ ys, h.2, ap (λ zs. zs ++ ys) h.3
 pub AddsFront-second : (old mid new xs ys : List ℕ) → mid ≡ old ++ xs → AddsFront mid new ys → AddsFront old new (xs ++ ys)
 AddsFront-second old mid new xs ys e h =
     (xs ++ h.0, h.1, h.2 ∙ ap (λ zs. zs ++ h.0) e ∙ append_assoc old xs h.0, ap (λ zs. xs ++ zs) h.3 ∙ sym (append_assoc xs h.0 h.1))
+
+-- two parts, one after another
+pub append_both : (old mid new xs ys whole : List ℕ) → mid ≡ old ++ xs → new ≡ mid ++ ys → whole ≡ xs ++ ys → new ≡ old ++ whole
+append_both old mid new xs ys whole first second e = second ∙ ap (λ zs. zs ++ ys) first ∙ append_assoc old xs ys ∙ ap (λ zs. old ++ zs) (sym e)
 
 pub OnErr-always : {T E : Type 0} (r : Result T E) {Q : Type 0} → Q → OnErr r Q
 OnErr-always (Ok x) q = tt

@@ -1,2 +1,28 @@
+pub mod BadLists
+pub mod Breaches
+pub mod BuiltInFalls
+pub mod BuiltIns
+pub mod Classes
+pub mod Decomposing
+pub mod Endings
+pub mod Exploring
+mod Faults
+mod Forms
+pub mod Found
 pub mod FullLists
+mod GrammarExamples
+mod Limits
+pub mod Lines
 pub mod Lookups
+pub mod LoopFacts
+pub mod Loops
+pub mod Marks
+mod Naming
+mod Numbers
+mod Ranks
+pub mod Reached
+mod Reading
+pub mod SameFacts
+pub mod SoonEnded
+pub mod Steps
+mod Scalars

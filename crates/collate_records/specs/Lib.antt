@@ -1,4 +1,14 @@
-pub mod Sayings
+pub mod Accepted
+pub mod Facts
+pub mod Files
+pub mod Grammar
+pub mod Limits
+pub mod Lists
+pub mod Offenders
+pub mod Phases
+pub mod Reached
 pub mod Rule
 pub mod Rules
+pub mod Sayings
+pub mod Seen
 pub mod Tables

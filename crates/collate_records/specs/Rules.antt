@@ -1,13 +1,12 @@
 -- The rules on lines that are in the grammar: which line offends against a rule. Lines count from 0 here.
-use Rattle.std.specs.Prelude.{◌≡◌, ◌≢◌, ℕ, ◌+◌, ◌<◌, ◌≤◌, ◌⊎◌, Bool, true, false, cond, not, ◌==◌, ◌&&◌, ◌||◌, leb, ltb, List, [], ◌∷◌, ◌++◌, map, flat_map, filter, length, take, Option, Some, None, Contains, IsTrue, slice_get}
+use Rattle.std.specs.Prelude.{◌≡◌, ◌≢◌, ℕ, ◌+◌, ◌<◌, ◌⊎◌, Bool, true, false, cond, not, ◌==◌, ◌&&◌, ◌||◌, List, [], ◌∷◌, flat_map, filter, length, take, Some, None, IsTrue, slice_get}
 use Rattle.std.specs.Option.{unwrap_or, is_some}
 use Rattle.std.specs.List.{list_any}
 use Rattle.icu_normalizer_core.specs.BuiltIn.{built_in_class, built_in_step, built_in_compatibility_step, is_jamo, is_syllable}
 use Rattle.icu_normalizer_core.specs.Canonical.{Reaches}
-use Rattle.icu_collator_types.specs.declared.elements.Element.{Element}
 use Rattle.collate_records.specs.declared.rule.Rule.{Rule}
 use Rattle.collate_records.specs.declared.rule.Rule.TheVariants.{Grammar, Limit, Set, C1, C2, C3, C4, C5, C6, C7, C8, C9, V1, V2, V3, V4, V5, V6, V7, V8, V9, V10, V11, V12, V13, V14, V15}
-use Rattle.collate_records.specs.Sayings.{Saying, nothing, class, mapping, weights, is_built_in, first_found, mapping_in, class_of, step_of, full_of}
+use Rattle.collate_records.specs.Sayings.{Saying, nothing, class, mapping, weights, is_built_in, first_found, mapping_in, class_of, step_of, expanded, full_of}
 
 -- what line i says
 abbrev pub saying_at : List Saying → ℕ → Saying
@@ -75,11 +74,19 @@ abbrev pub begins_with_mark : List Saying → List ℕ → Bool
 begins_with_mark sayings [] = false
 begins_with_mark sayings (c ∷ cs) = not (class_of sayings c == 0)
 
--- C4: the full list of a mapped character that isn't built in has over eight characters, or begins with a mark
+-- what at most so many steps of either kind leave of a character
+abbrev pub compatibility_full_of : List Saying → ℕ → List ℕ
+compatibility_full_of sayings c = expanded (any_step sayings) 0x110000 c
+
+-- a list has over eight characters, or begins with a mark
+abbrev pub IsBadList : List Saying → List ℕ → Type 0
+IsBadList sayings list = (8 < length list) ⊎ (begins_with_mark sayings list ≡ true)
+
+-- C4: a full list of a mapped character that isn't built in is bad, by canonical mappings or by all
 abbrev pub HasBadList : List Saying → Type 0
 HasBadList sayings =
     (c : ℕ) × IsTrue (is_some (first_found (mapping_in c) sayings)) × (is_built_in c ≡ false)
-        × ((8 < length (full_of sayings c)) ⊎ (begins_with_mark sayings (full_of sayings c) ≡ true))
+    × (IsBadList sayings (full_of sayings c) ⊎ IsBadList sayings (compatibility_full_of sayings c))
 
 -- whether a line says exactly what is built in; a syllable alone is composed
 abbrev pub is_built_in_saying : Saying → Bool

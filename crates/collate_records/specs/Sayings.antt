@@ -1,5 +1,5 @@
 -- What the lines of a records file say, and what they mean together.
-use Rattle.std.specs.Prelude.{◌≡◌, ℕ, ◌+◌, Bool, true, false, cond, not, ◌==◌, ◌&&◌, ◌||◌, List, [], ◌∷◌, ◌++◌, map, flat_map, length, replicate, zero, suc, Option, Some, None}
+use Rattle.std.specs.Prelude.{ℕ, Bool, false, cond, not, ◌==◌, ◌&&◌, ◌||◌, List, [], ◌∷◌, flat_map, replicate, zero, suc, Option, Some, None}
 use Rattle.std.specs.Option.{unwrap_or, option_to_list, is_some}
 use Rattle.icu_normalizer_core.specs.BuiltIn.{built_in_class, built_in_step, built_in_compatibility_step, syllable_of}
 use Rattle.icu_normalizer_core.specs.Canonical.{Canonical}
@@ -91,22 +91,22 @@ recorded_in sayings _ _ = None
 abbrev pub weights_of : List Saying → Weights
 weights_of sayings =
     record {
-        recorded = recorded_in sayings;
-        digit = λ c. None;
-        range = λ c. None;
-        is_compressible = λ lead. lead == 0xfe;
-        numeric_lead = 0x10;
-        dot_above = false
+      recorded = recorded_in sayings;
+      digit = λ c. None;
+      range = λ c. None;
+      is_compressible = λ lead. lead == 0xfe;
+      numeric_lead = 0x10;
+      dot_above = false;
     }
 
 -- what records mean
 abbrev pub collation_of : List Saying → Collation
 collation_of sayings =
     record {
-        canonical = canonical_of sayings;
-        weights = weights_of sayings;
-        options = default_settings;
-        backward = false;
-        groups = replicate 4 0x300;
-        reordered_lead = λ lead. lead
+      canonical = canonical_of sayings;
+      weights = weights_of sayings;
+      options = default_settings;
+      backward = false;
+      groups = replicate 4 0x300;
+      reordered_lead = λ lead. lead;
     }

@@ -1,16 +1,11 @@
--- The look-up tables of records, and what their lines must keep.
-use Rattle.std.specs.Prelude.{◌≡◌, ℕ, ◌<◌, cond, ◌==◌, List, ◌++◌, All, Option, Some, None, option_map}
+-- The look-up tables of records, and the list that a call adds to.
+use Rattle.std.specs.Prelude.{◌≡◌, ℕ, cond, ◌==◌, List, ◌++◌, Option, Some, None, option_map}
 use Rattle.std.specs.Option.{option_or}
 use Rattle.std.specs.Ordering.{nat_cmp}
 use Rattle.std.specs.BTreeMap.{BTreeMap, get}
 use Rattle.icu_normalizer_core.specs.Properties.{mapped_to}
-use Rattle.collate_records.specs.Sayings.{Saying, nothing, class, mapping, weights, first_found, class_in, mapping_in, elements_in}
+use Rattle.collate_records.specs.Sayings.{Saying, first_found, class_in, mapping_in, elements_in}
 use Rattle.collate_records.specs.declared.records.Tables.{Tables}
-
--- a class that a line gives is below 256
-abbrev pub HasSmallClass : Saying → Type 0
-HasSmallClass (class c k) = k < 256
-HasSmallClass _ = Unit {0}
 
 -- what an entry says of a key
 abbrev pub at_key : {V : Type 0} → ℕ → V → ℕ → Option V

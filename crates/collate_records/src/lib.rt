@@ -1,6 +1,14 @@
 //! Records files: what their lines say, and whether they keep the rules.
 #![tactic(auto)]
 
+mod facts;
+mod fields;
+pub mod laws;
+mod limit;
+mod line;
+mod reader;
 pub mod records;
 pub mod rule;
+mod rules;
 pub mod sayings;
+mod seen;

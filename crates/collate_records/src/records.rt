@@ -1,8 +1,15 @@
 // What an accepted records file says of characters.
 
-ghost use Rattle.std.specs.Prelude.{◌≡◌, ◌==◌, cond, ℕ, ◌++◌, ◌∷◌, [], List, OnOk, OnErr, IfOk, All, map};
-ghost use Rattle.collate_records.specs.Sayings.{Saying as PureSaying, said};
+ghost use Rattle.std.specs.Prelude.{◌≡◌, ◌==◌, ◌++◌, ◌∷◌, [], List, cond, OnOk, OnErr, IfOk, All, map};
+ghost use Rattle.std.specs.Option.{option_copied};
+ghost use Rattle.icu_normalizer_core.specs.Properties.{mapped_to};
+ghost use Rattle.collate_records.specs.Sayings.{Saying as PureSaying, said, first_found, class_of, step_of, full_of, expanded, elements_in};
+ghost use Rattle.collate_records.specs.Tables.{AreTablesOf, PutsFirst, AddsFront};
+ghost use Rattle.collate_records.specs.Accepted.{HasSmallClass};
+ghost use Rattle.collate_records.specs.Files.{IsReadFrom};
 
+use crate::reader::read_sayings;
+use crate::rule::RecordsError;
 use crate::sayings::Saying;
 use icu_collator_types::elements::Element;
 use icu_normalizer_core::built_in::{built_in_class, built_in_compatibility_step, built_in_step};
@@ -20,8 +27,6 @@ struct Tables {
 }
 
 impl Tables {
-    ghost use Rattle.collate_records.specs.Tables.{AreTablesOf, HasSmallClass};
-
     /// The tables of no lines.
     fn new(alloc: Global) -> Tables
         ensures { AreTablesOf result [] }
@@ -66,8 +71,6 @@ impl Tables {
     }
 }
 
-ghost use Rattle.collate_records.specs.Tables.{PutsFirst, HasSmallClass};
-
 /// Adds a value for a key, unless the map has one.
 fn put_first<V: Drop>(map: &mut BTreeMap<u32, V>, key: u32, value: V) -> Result<(), AllocError>
     ensures { OnOk result (PutsFirst map.old map.new key value) }
@@ -100,13 +103,22 @@ impl Model for Records {
 }
 
 impl Records {
-    ghost use Rattle.std.specs.Option.{option_copied};
-    ghost use Rattle.icu_normalizer_core.specs.Properties.{mapped_to};
-    ghost use Rattle.collate_records.specs.Sayings.{first_found, class_of, step_of, full_of, expanded, elements_in};
-    ghost use Rattle.collate_records.specs.Tables.{HasSmallClass, AddsFront};
+    /// Reads a records file (our profile). It is accepted exactly if no line breaks a rule; the records are what its lines
+    /// say, one saying a line.
+    ///
+    /// Errors: `Fault` with the first fault of any other file, in the order of faults, its line counted from 1; `Memory`
+    /// where memory is refused.
+    #[tactic(auto, using(crate::proofs::Classes::accepted_classes))]
+    pub fn read(alloc: Global, bytes: &[u8]) -> Result<Records, RecordsError>
+        ensures { IsReadFrom bytes.now result }
+    {
+        let sayings = read_sayings(alloc, bytes)?;
+        let records = Records::new(alloc, sayings)?;
+        Ok(records)
+    }
 
     /// The records of these lines. `AllocError` where memory is refused.
-    pub(crate) fn new(alloc: Global, sayings: Vec<Saying>) -> Result<Records, AllocError>
+    fn new(alloc: Global, sayings: Vec<Saying>) -> Result<Records, AllocError>
         requires { All HasSmallClass (map said sayings.items) }
         ensures { IfOk result (λ records. records ≡ map said sayings.items) }
     {
@@ -125,7 +137,7 @@ impl Records {
         self.class32(u32::from(c))
     }
 
-    /// The class of a code point, as `class`; 0 for a number that is no character.
+    /// The class of a code point, as `class` gives it.
     pub fn class32(&self, c: u32) -> u8
         ensures { result ≡ class_of self.now c }
     {
@@ -143,7 +155,7 @@ impl Records {
         self.mapping32(u32::from(c))
     }
 
-    /// The mapping of a code point, as `mapping`; none for a number that is no character.
+    /// The mapping of a code point, as `mapping` gives it.
     pub fn mapping32(&self, c: u32) -> Decomposed
         ensures { mapped_to result ≡ step_of self.now c }
     {

@@ -1,5 +1,8 @@
 // The rules that a records file keeps, and the fault of a file that breaks one.
 
+ghost use Rattle.std.specs.Prelude.{◌≡◌};
+
+use std::alloc::AllocError;
 use std::error::Error;
 use std::fmt;
 
@@ -13,30 +16,93 @@ pub enum Rule {
     Limit,
     /// The settings agree with one another.
     Set,
+    /// A mapping stands on a starter that has no other mapping.
     C1,
+    /// No chain of mappings comes back to where it began.
     C2,
+    /// A class is 1 to 254.
     C3,
+    /// A full list begins with a starter and has at most 8 characters.
     C4,
+    /// Two characters compose to at most one character.
     C5,
+    /// The second of a composed pair is from U+0300 on, and no vowel or final consonant of Hangul.
     C6,
+    /// A character below U+0300 is a starter and its own NFC; the lowest ones have no mapping.
     C7,
+    /// What is built in isn't contradicted.
     C8,
+    /// No mapping names a jamo or a Hangul syllable.
     C9,
+    /// An element is primary, secondary or tertiary.
     V1,
+    /// A primary weight has a lead that letters may have, and two to four bytes.
     V2,
+    /// A secondary weight is common or has a lead that accents may have.
     V3,
+    /// A tertiary weight is common or has a lead that forms may have.
     V4,
+    /// No weight's bytes begin another's of its level.
     V5,
+    /// A range has primaries of three bytes in one lead, and shares nothing with another range.
     V6,
+    /// A text and a prefix are their own decomposed lists.
     V7,
+    /// After a mark a text has only marks.
     V8,
+    /// A text of more than two characters that ends in a mark is recorded without that mark too.
     V9,
+    /// A prefix has starters only, and its text is one starter that is recorded without it too.
     V10,
+    /// A digit is a starter with one lone record.
     V11,
+    /// A jamo has at most one record, a lone one of one element.
     V12,
+    /// U+FFFD, U+FFFE and U+FFFF stand in no record, digit or range.
     V13,
+    /// No line says again what an earlier line of its kind says.
     V14,
+    /// With the dot above, the marks U+0300 to U+0307 have lone records of one secondary element.
     V15,
+}
+
+impl Rule {
+    ghost use Rattle.collate_records.specs.Rule.{rule_text};
+
+    /// The rule as it prints.
+    pub fn as_str(self) -> &'static str
+        ensures { result.now ≡ rule_text self }
+    {
+        match self {
+            Rule::Grammar => "grammar",
+            Rule::Limit => "limit",
+            Rule::Set => "set",
+            Rule::C1 => "C1",
+            Rule::C2 => "C2",
+            Rule::C3 => "C3",
+            Rule::C4 => "C4",
+            Rule::C5 => "C5",
+            Rule::C6 => "C6",
+            Rule::C7 => "C7",
+            Rule::C8 => "C8",
+            Rule::C9 => "C9",
+            Rule::V1 => "V1",
+            Rule::V2 => "V2",
+            Rule::V3 => "V3",
+            Rule::V4 => "V4",
+            Rule::V5 => "V5",
+            Rule::V6 => "V6",
+            Rule::V7 => "V7",
+            Rule::V8 => "V8",
+            Rule::V9 => "V9",
+            Rule::V10 => "V10",
+            Rule::V11 => "V11",
+            Rule::V12 => "V12",
+            Rule::V13 => "V13",
+            Rule::V14 => "V14",
+            Rule::V15 => "V15",
+        }
+    }
 }
 
 impl fmt::Display for Rule {
@@ -46,35 +112,7 @@ impl fmt::Display for Rule {
     ghost output = { λ rule. Some (rule_text rule) };
 
     fn fmt<W: fmt::Write>(&self, f: &mut fmt::Formatter<W>) -> fmt::Result {
-        match self {
-            Rule::Grammar => f.write_str("grammar"),
-            Rule::Limit => f.write_str("limit"),
-            Rule::Set => f.write_str("set"),
-            Rule::C1 => f.write_str("C1"),
-            Rule::C2 => f.write_str("C2"),
-            Rule::C3 => f.write_str("C3"),
-            Rule::C4 => f.write_str("C4"),
-            Rule::C5 => f.write_str("C5"),
-            Rule::C6 => f.write_str("C6"),
-            Rule::C7 => f.write_str("C7"),
-            Rule::C8 => f.write_str("C8"),
-            Rule::C9 => f.write_str("C9"),
-            Rule::V1 => f.write_str("V1"),
-            Rule::V2 => f.write_str("V2"),
-            Rule::V3 => f.write_str("V3"),
-            Rule::V4 => f.write_str("V4"),
-            Rule::V5 => f.write_str("V5"),
-            Rule::V6 => f.write_str("V6"),
-            Rule::V7 => f.write_str("V7"),
-            Rule::V8 => f.write_str("V8"),
-            Rule::V9 => f.write_str("V9"),
-            Rule::V10 => f.write_str("V10"),
-            Rule::V11 => f.write_str("V11"),
-            Rule::V12 => f.write_str("V12"),
-            Rule::V13 => f.write_str("V13"),
-            Rule::V14 => f.write_str("V14"),
-            Rule::V15 => f.write_str("V15"),
-        }
+        f.write_str(self.as_str())
     }
 }
 
@@ -84,7 +122,9 @@ impl Error for Rule {}
 /// prints as `LINE RULE`.
 #[derive(Clone, Copy, Debug, PartialEq, Eq)]
 pub struct RecordFault {
+    /// The line, counted from 1.
     pub line: usize,
+    /// The rule that the line breaks.
     pub rule: Rule,
 }
 
@@ -102,3 +142,23 @@ impl fmt::Display for RecordFault {
 }
 
 impl Error for RecordFault {}
+
+/// Why a records file was refused.
+#[derive(Clone, Copy, Debug, PartialEq, Eq)]
+pub enum RecordsError {
+    /// The file breaks a rule.
+    Fault(RecordFault),
+    /// Memory was refused.
+    Memory,
+}
+
+impl From<AllocError> for RecordsError {
+    ghost use Rattle.std.specs.Prelude.{◌≡◌};
+    ghost use Rattle.collate_records.specs.declared.rule.RecordsError.TheVariants.{Memory};
+
+    ghost from_gives = { λ refused error. error ≡ Memory };
+
+    fn from(_: AllocError) -> RecordsError {
+        RecordsError::Memory
+    }
+}

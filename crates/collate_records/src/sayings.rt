@@ -8,7 +8,10 @@ pub enum Saying {
     /// Nothing: the line is empty or a comment.
     Nothing,
     /// `class CP N`: the character's canonical combining class, as written, up to 999.
-    Class { character: char, class: u16 },
+    Class {
+        character: char,
+        class: u16,
+    },
     /// `map CP CP [CP] [x]`: the character's canonical mapping, of one or two characters, and whether an `x` keeps it
     /// out of the composed pairs.
     Map {

@@ -48,7 +48,10 @@ fn syllable_step(c: u32) -> Decomposed
     let place = c - 0xac00;
     let trailing = place % 28;
     if trailing == 0 {
-        Decomposed::Expansion(letter(0x1100 + place / 588), letter(0x1161 + place % 588 / 28))
+        Decomposed::Expansion(
+            letter(0x1100 + place / 588),
+            letter(0x1161 + place % 588 / 28),
+        )
     } else {
         Decomposed::Expansion(letter(c - trailing), letter(0x11a7 + trailing))
     }
@@ -111,7 +114,5 @@ pub fn built_in_class(c: u32) -> Option<u8>
 fn is_built_in_starter(c: u32) -> bool
     ensures { IsTrue result ↔ (built_in_class c ≡ Some 0) }
 {
-    is_syllable(c)
-        || is_jamo(c)
-        || matches!(c, 0xfffd | 0xf73 | 0xf75 | 0xf81 | 0xff9e | 0xff9f)
+    is_syllable(c) || is_jamo(c) || matches!(c, 0xfffd | 0xf73 | 0xf75 | 0xf81 | 0xff9e | 0xff9f)
 }

@@ -1,7 +1,6 @@
-use Rattle.std.proofs.Common.{◌++◌, ◌-◌, ap, sym, ◌∙◌, append_assoc, refl}
+use Rattle.std.proofs.Common.{◌++◌, ◌-◌, ap, sym, ◌∙◌, refl}
 use Rattle.collate_records.specs.Sayings.{step_of, expanded}
-use Rattle.collate_records.specs.Tables.{AddsFront}
-use Rattle.collate_records.proofs.FullLists.{expanded-none, expanded-one, expanded-two, AddsFront-first, AddsFront-second, OnErr-always}
+use Rattle.collate_records.proofs.FullLists.{expanded-none, expanded-one, expanded-two, AddsFront-first, AddsFront-second, append_both, OnErr-always}
 use Rattle.collate_records.proofs.records.Records.+append_steps.Goals as goal
 
 pub returns-in_err-append_steps-in-Singleton-clause-part : goal.returns-in_err-append_steps-in-Singleton-clause-part
@@ -36,10 +35,7 @@ pub returns-in_ok-append_steps-in-Expansion-2-clause-full : goal.returns-in_ok-a
 returns-in_ok-append_steps-in-Expansion-2-clause-full t c =
     let step = step_of c.args.self.now in
     let n = c.args.steps - 1 in
-    let first = expanded step n c.from-in-Expansion.result in
-    let second = expanded step n c.from-in-Expansion-2.result in
-    let e = expanded-two step c.args.steps c.args.c c.in-Expansion.d c.in-Expansion.e c.from-in-Expansion.result c.from-in-Expansion-2.result c.in-Expansion.ensures c.from-in-Expansion.ensures c.from-in-Expansion-2.ensures in
-    c.in_ok-append_steps-in-Expansion-2.ensures.full
-    ∙ ap (λ xs. xs ++ second) c.in_ok-append_steps-in-Expansion.ensures.full
-    ∙ append_assoc c.args.list.now.items first second
-    ∙ ap (λ xs. c.args.list.now.items ++ xs) (sym e)
+    append_both c.args.list.now.items c.append_steps-in-Expansion.new.list.items c.append_steps-in-Expansion-2.new.list.items
+    (expanded step n c.from-in-Expansion.result) (expanded step n c.from-in-Expansion-2.result) (expanded step c.args.steps c.args.c)
+    c.in_ok-append_steps-in-Expansion.ensures.full c.in_ok-append_steps-in-Expansion-2.ensures.full
+    (expanded-two step c.args.steps c.args.c c.in-Expansion.d c.in-Expansion.e c.from-in-Expansion.result c.from-in-Expansion-2.result c.in-Expansion.ensures c.from-in-Expansion.ensures c.from-in-Expansion-2.ensures)

@@ -1,7 +1,5 @@
-use Rattle.std.proofs.Common.{map}
-use Rattle.std.proofs.lemmas.List.{get_or_read}
 use Rattle.collate_records.specs.Sayings.{said}
-use Rattle.collate_records.specs.Tables.{HasSmallClass}
+use Rattle.collate_records.specs.Accepted.{HasSmallClass}
 use Rattle.collate_records.proofs.Lookups.{All-map_at}
 use Rattle.collate_records.proofs.records.Records.new.Goals as goal
 

@@ -1,6 +1,5 @@
-use Rattle.std.proofs.Common.{◌≡◌, ℕ, List, ◌∷◌, [], ◌++◌, Option, Some, None, refl, rules, OnOk, IfOk, Ok, Err, ap, ◌∙◌, sym, cond, ◌==◌}
-use Rattle.collate_records.specs.Sayings.{Saying as PureSaying, said, first_found, class_in, mapping_in, elements_in}
-use Rattle.collate_records.specs.Tables.{AreTablesOf, PutsFirst}
+use Rattle.std.proofs.Common.{Some, None, refl, ap, sym, cond, ◌==◌}
+use Rattle.collate_records.specs.Sayings.{class_in, mapping_in, elements_in}
 use Rattle.collate_records.proofs.Lookups.{finds_more, finds_more_same, first_found-skip, OnOk-then}
 use Rattle.icu_normalizer_core.specs.Properties.{mapped_to}
 use Rattle.collate_records.proofs.records.Tables.add.Goals as goal

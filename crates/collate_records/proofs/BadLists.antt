@@ -1,0 +1,135 @@
+-- Full lists: how they are followed, and when they are bad.
+use Rattle.std.proofs.Common.{◌≡◌, ◌≢◌, ℕ, ◌+◌, ◌-◌, ◌<◌, ◌≤◌, List, [], ◌∷◌, ◌++◌, map, take, length, get_or, refl, sym, ap, ◌∙◌, subst, arith, inl, inr, ⊎_elim, Bool, true, false, not, ◌==◌, Option, Some, None, ◌↔◌, zero, suc, append-nil, flat_map, take_all}
+use Rattle.std.specs.Bool.{IsTrue}
+use Rattle.std.specs.List.{slice_get, All}
+use Rattle.std.specs.Option.{is_some}
+use Rattle.std.proofs.lemmas.Bool.{false≢true}
+use Rattle.std.proofs.lemmas.List.Elements.{All-head, All-tail, All-more, All-weaker}
+use Rattle.collate_records.specs.declared.facts.Fact.{Fact}
+use Rattle.collate_records.specs.declared.rules.lists.Front.{Front}
+use Rattle.collate_records.specs.Sayings.{Saying, first_found, mapping_in, expanded, step_of, full_of}
+use Rattle.collate_records.specs.Rules.{any_step, compatibility_full_of, begins_with_mark, IsBadList, HasBadList}
+use Rattle.collate_records.specs.Facts.{stated, SaysSame, fact_character}
+use Rattle.collate_records.specs.Lists.{is_mark_at, IsFront, IsBadlyMapped}
+use Rattle.collate_records.proofs.SameFacts.{other_mapping, class_of-same, step_of-same, any_step-same}
+
+pub expanded_none : (step : ℕ → List ℕ) (n c : ℕ) → n ≡ 0 → expanded step n c ≡ c ∷ []
+unfolding expanded
+expanded_none step zero c e = refl
+expanded_none step (suc n) c e = absurd (omega arith)
+
+-- what the steps to come leave, by the first of them
+abbrev after_step : (ℕ → List ℕ) → ℕ → List ℕ → List ℕ
+after_step later c [] = c ∷ []
+after_step later c (d ∷ ds) = flat_map later (d ∷ ds)
+
+expanded_after : (step : ℕ → List ℕ) (n c : ℕ) → expanded step (suc n) c ≡ after_step (expanded step n) c (step c)
+unfolding expanded
+expanded_after step n c = refl
+
+pub expanded_unmapped : (step : ℕ → List ℕ) (n c : ℕ) → step c ≡ [] → expanded step n c ≡ c ∷ []
+expanded_unmapped step zero c e = expanded_none step zero c refl
+expanded_unmapped step (suc n) c e = expanded_after step n c ∙ ap (after_step (expanded step n) c) e
+
+pub expanded_one : (step : ℕ → List ℕ) (n c d : ℕ) → n ≢ 0 → step c ≡ d ∷ [] → expanded step n c ≡ expanded step (n - 1) d
+expanded_one step zero c d h e = absurd (h refl)
+expanded_one step (suc n) c d h e =
+    let less : n ≡ suc n - 1 = omega arith in
+    expanded_after step n c ∙ ap (after_step (expanded step n) c) e ∙ append-nil (expanded step n d) ∙ ap (λ (m : ℕ). expanded step m d) less
+
+pub expanded_two : (step : ℕ → List ℕ) (n c d e : ℕ) → n ≢ 0 → step c ≡ d ∷ e ∷ [] → expanded step n c ≡ expanded step (n - 1) d ++ expanded step (n - 1) e
+expanded_two step zero c d e h s = absurd (h refl)
+expanded_two step (suc n) c d e h s =
+    let less : n ≡ suc n - 1 = omega arith in
+    expanded_after step n c ∙ ap (after_step (expanded step n) c) s
+    ∙ ap (λ (l : List ℕ). expanded step n d ++ l) (append-nil (expanded step n e))
+    ∙ ap (λ (m : ℕ). expanded step m d ++ expanded step m e) less
+
+mark_at_front : (sayings : List Saying) (list : List ℕ) → begins_with_mark sayings list ≡ is_mark_at sayings (slice_get list 0)
+mark_at_front sayings [] = refl
+mark_at_front sayings (c ∷ cs) = refl
+
+-- a list of more than eight characters is bad,
+pub bad_long : (sayings : List Saying) (list : List ℕ) (front : Front) → IsFront front list → 8 < front.count → IsBadList sayings list
+bad_long sayings list front h more = let count = h.1 in inl (omega arith)
+
+-- another one exactly if it begins with a mark
+pub bad_short : (sayings : List Saying) (list : List ℕ) (front : Front) (b : Bool) → IsFront front list → front.count ≤ 8 → b ≡ is_mark_at sayings front.first
+    → IsTrue b ↔ IsBadList sayings list
+bad_short sayings list front b h few e =
+    let same : b ≡ begins_with_mark sayings list = e ∙ ap (is_mark_at sayings) h.0 ∙ sym (mark_at_front sayings list) in
+    let count = h.1 in
+    (λ t. inr (sym same ∙ t), λ bad. ⊎_elim (λ long. absurd (omega arith)) (λ marked. same ∙ marked) bad)
+
+-- a mapped character is one of which a fact says something
+pub mapped_in_facts : (facts : List Fact) (c : ℕ) → is_some (first_found (mapping_in c) (map stated facts)) ≡ true
+    → (All (λ fact. c ≢ fact_character fact) facts) → ⊥
+mapped_in_facts [] c e apart = false≢true e
+mapped_in_facts (fact ∷ facts) c e apart =
+    let other : c ≢ fact_character fact = All-head (λ f. c ≢ fact_character f) fact facts apart in
+    mapped_in_facts facts c
+    (ap (λ (o : Option (List ℕ)). is_some (elim o as (λ _. Option (List ℕ)) [ Some y ↦ Some y | None ↦ first_found (mapping_in c) (map stated facts) ])) (sym (other_mapping fact c other)) ∙ e)
+    (All-tail (λ f. c ≢ fact_character f) fact facts apart)
+
+begins-same : (lines others : List Saying) (list : List ℕ) → SaysSame lines others → begins_with_mark others list ≡ begins_with_mark lines list
+begins-same lines others [] same = refl
+begins-same lines others (c ∷ cs) same = ap (λ (k : ℕ). not (k == 0)) (sym (class_of-same lines others c same))
+
+flat_same : (later other : ℕ → List ℕ) (ds : List ℕ) → ((d : ℕ) → later d ≡ other d) → flat_map later ds ≡ flat_map other ds
+flat_same later other [] agree = refl
+flat_same later other (d ∷ ds) agree = let e = agree d in let rest = flat_same later other ds agree in cc
+
+after_same : (later other : ℕ → List ℕ) (c : ℕ) (ds : List ℕ) → ((d : ℕ) → later d ≡ other d) → after_step later c ds ≡ after_step other c ds
+after_same later other c [] agree = refl
+after_same later other c (d ∷ ds) agree = flat_same later other (d ∷ ds) agree
+
+-- the same steps leave the same
+pub expanded_same : (step other : ℕ → List ℕ) → ((d : ℕ) → step d ≡ other d) → (n c : ℕ) → expanded step n c ≡ expanded other n c
+expanded_same step other agree zero c = expanded_none step 0 c refl ∙ sym (expanded_none other 0 c refl)
+expanded_same step other agree (suc n) c =
+    expanded_after step n c
+    ∙ ap (after_step (expanded step n) c) (agree c)
+    ∙ after_same (expanded step n) (expanded other n) c (other c) (λ d. expanded_same step other agree n d)
+    ∙ sym (expanded_after other n c)
+
+IsBadList-same : (lines others : List Saying) (list further : List ℕ) → SaysSame lines others → list ≡ further → IsBadList lines list → IsBadList others further
+IsBadList-same lines others list further same e bad =
+    subst (λ (l : List ℕ). IsBadList others l) e
+    (⊎_elim (λ long. inl long) (λ marked. inr (begins-same lines others list same ∙ marked)) bad)
+
+pub HasBadList-same : (lines others : List Saying) → SaysSame lines others → HasBadList lines → HasBadList others
+HasBadList-same lines others same bad =
+    let c = bad.0 in (
+      c,
+      subst (λ (o : Option (List ℕ)). IsTrue (is_some o)) (same.mappings c) bad.1,
+      bad.2,
+      ⊎_elim
+          (λ canonical. inl (IsBadList-same lines others (full_of lines c) (full_of others c) same
+          (expanded_same (step_of lines) (step_of others) (λ d. step_of-same lines others d same) 0x110000 c) canonical))
+          (λ all. inr (IsBadList-same lines others (compatibility_full_of lines c) (compatibility_full_of others c) same
+          (expanded_same (any_step lines) (any_step others) (λ d. any_step-same lines others d same) 0x110000 c) all))
+          bad.3,
+    )
+
+pub HasBadList-none : HasBadList [] → ⊥
+HasBadList-none bad = false≢true bad.1
+
+-- no fact so far is on a badly mapped character, nor is one more
+pub bad_more : (facts : List Fact) (i : ℕ) (d : Fact) (c : ℕ) (b : Bool) → i < length facts
+    → All (λ fact. IsBadlyMapped (map stated facts) (fact_character fact) → ⊥) (take i facts)
+    → c ≡ fact_character (get_or facts i d) → (IsBadlyMapped (map stated facts) c → IsTrue b) → b ≡ false
+    → All (λ fact. IsBadlyMapped (map stated facts) (fact_character fact) → ⊥) (take (i + 1) facts)
+bad_more facts i d c b within before e holds is_false =
+    let P : ℕ → Type 0 = λ n. IsBadlyMapped (map stated facts) n → ⊥ in
+    All-more (λ fact. IsBadlyMapped (map stated facts) (fact_character fact) → ⊥) facts i d within before
+    (subst P e (λ bad. false≢true (sym is_false ∙ holds bad)))
+
+-- where no fact is on a badly mapped character, there is none
+pub bad_none : (facts : List Fact) (i : ℕ) → length facts ≤ i
+    → All (λ fact. IsBadlyMapped (map stated facts) (fact_character fact) → ⊥) (take i facts) → HasBadList (map stated facts) → ⊥
+bad_none facts i past before bad =
+    let P : Fact → Type 0 = λ fact. IsBadlyMapped (map stated facts) (fact_character fact) → ⊥ in
+    let all : All P facts = subst (λ (l : List Fact). All P l) (take_all i facts past) before in
+    mapped_in_facts facts bad.0 bad.1
+    (All-weaker P (λ fact. bad.0 ≢ fact_character fact)
+    (λ fact none same. let Q : ℕ → Type 0 = λ n. IsBadlyMapped (map stated facts) n in none (subst Q same (bad.1, bad.2, bad.3))) facts all)

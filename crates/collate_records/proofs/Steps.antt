@@ -1,0 +1,158 @@
+-- the mapping of a character: what is built in, none, or what a line says
+use Rattle.std.proofs.Common.{◌≡◌, ◌≢◌, ℕ, ◌<◌, ◌≤◌, ◌⊎◌, inl, inr, ⊎_elim, ◌||◌, List, [], ◌∷◌, length, All, Bool, true, false, Option, Some, None, refl, sym, ap, ◌∙◌, arith, subst}
+use Rattle.std.specs.Option.{is_some, unwrap_or}
+use Rattle.std.specs.Char.{IsScalar}
+use Rattle.std.specs.List.{Contains, list_any}
+use Rattle.std.proofs.lemmas.List.Folds.{list_any_at}
+use lib.Utf8.{low_scalar}
+use Rattle.std.proofs.lemmas.Bool.{or_left, or_right, or_parts, or_from, cases_Bool, cases_eq, cases_lt, both_ways, false_from_ne_true, cond-true, cond-false}
+use Rattle.std.proofs.lemmas.Option.{none-some, unwrap_or-slice_get}
+use Rattle.std.proofs.lemmas.List.Elements.{All-get_or, All-cons, All-nil}
+use Rattle.icu_normalizer_core.specs.BuiltIn.{is_syllable, is_jamo, built_in_step, built_in_compatibility_step, built_in_class}
+use Rattle.icu_normalizer_core.specs.Canonical.{IsFree}
+use Rattle.collate_records.specs.Sayings.{Saying, nothing, class, mapping, is_built_in, first_found, mapping_in, class_in, step_of, class_of}
+use Rattle.collate_records.specs.Rules.{saying_at, MapsMark, MapsHangul, IsBadClass, is_built_in_saying}
+use Rattle.collate_records.specs.Accepted.{AreScalars, MapsToScalars}
+use Rattle.collate_records.proofs.BuiltIns.{built_in_cases, compatibility_alone, all_singled_out, syllable_cases}
+use Rattle.collate_records.proofs.Classes.{built_in_class-small}
+use Rattle.collate_records.proofs.Endings.{Contains-tail}
+use Rattle.collate_records.proofs.Found.{mapping_line, class_line}
+
+pub some_or_none : {A : Type 0} (o : Option A) → ((x : A) × (o ≡ Some x)) ⊎ (o ≡ None)
+some_or_none (Some x) = inl (x, refl)
+some_or_none None = inr refl
+
+pub step_of-built_in : (sayings : List Saying) (c : ℕ) (ds : List ℕ) → built_in_step c ≡ Some ds → step_of sayings c ≡ ds
+step_of-built_in sayings c ds e =
+    cond-true (is_built_in c) _ _ (or_left _ (is_some (built_in_compatibility_step c)) (ap is_some e)) ∙ ap (λ o. unwrap_or o []) e
+
+pub step_of-compatibility : (sayings : List Saying) (c : ℕ) → is_some (built_in_compatibility_step c) ≡ true → step_of sayings c ≡ []
+step_of-compatibility sayings c e =
+    cond-true (is_built_in c) _ _ (or_right (is_some (built_in_step c)) _ e) ∙ ap (λ o. unwrap_or o []) (compatibility_alone c e)
+
+step_of-free : (sayings : List Saying) (c : ℕ) → is_built_in c ≡ false → step_of sayings c ≡ unwrap_or (first_found (mapping_in c) sayings) []
+step_of-free sayings c e = cond-false (is_built_in c) _ _ e
+
+-- a jamo or a syllable
+abbrev is_letter : ℕ → Bool
+is_letter d = is_jamo d || is_syllable d
+
+list_any_false : (p : ℕ → Bool) (xs : List ℕ) (x : ℕ) → list_any p xs ≡ false → Contains xs x → p x ≡ false
+list_any_false p xs x e h =
+    false_from_ne_true (p x) (λ t. both_ways (list_any p xs) e (list_any_at p xs h.0 x h.1 (subst (λ y. p y ≡ true) (sym h.2) t)))
+
+-- a line on a character that isn't built in says nothing built in
+free_not_said : (c : ℕ) (ds : List ℕ) (x : Bool) → IsFree c → is_built_in_saying (mapping c ds x) ≡ false
+free_not_said c [] x free = refl
+free_not_said c (d ∷ []) x free = rw (is_built_in_saying, free) refl
+free_not_said c (d ∷ e ∷ []) x free = rw (is_built_in_saying, free) refl
+free_not_said c (d ∷ e ∷ f ∷ ds) x free = refl
+
+-- a character that a line maps
+pub record IsMapped (sayings : List Saying) (c : ℕ) (ds : List ℕ) : Type 0 where
+  pub free : is_built_in c ≡ false
+  pub found : first_found (mapping_in c) sayings ≡ Some ds
+
+-- at most two characters, scalar values
+abbrev AreTwoScalars : List ℕ → Type 0
+AreTwoScalars ds = All IsScalar ds × (length ds ≤ 2)
+
+no_scalars : AreTwoScalars []
+no_scalars = (All-nil IsScalar, omega arith)
+
+one_scalar : (a : ℕ) → IsScalar a → AreTwoScalars (a ∷ [])
+one_scalar a h = (All-cons IsScalar a [] h (All-nil IsScalar), omega arith)
+
+two_scalars : (a b : ℕ) → IsScalar a → IsScalar b → AreTwoScalars (a ∷ b ∷ [])
+two_scalars a b h k = (All-cons IsScalar a (b ∷ []) h (All-cons IsScalar b [] k (All-nil IsScalar)), omega arith)
+
+built_in_scalars : (c : ℕ) (ds : List ℕ) → built_in_step c ≡ Some ds → AreTwoScalars ds
+built_in_scalars c ds e =
+    ⊎_elim
+    (λ w. let s = syllable_cases c w.0 in
+    subst AreTwoScalars (sym s.2 ∙ w.1) (two_scalars s.0 s.1 (low_scalar s.0 s.5) (low_scalar s.1 s.4)))
+    (λ w. ⊎_elim
+    (λ none. subst AreTwoScalars (sym none) no_scalars)
+    (λ one. all_singled_out (λ a xs. AreTwoScalars xs) (one_scalar 0x300 refl) (one_scalar 0x301 refl) (one_scalar 0x313 refl)
+    (two_scalars 0x308 0x301 refl refl) (two_scalars 0xf71 0xf72 refl refl) (two_scalars 0xf71 0xf74 refl refl) (two_scalars 0xf71 0xf80 refl refl) c ds one)
+    w)
+    (built_in_cases c ds e)
+
+module _ (sayings : List Saying) where
+  -- a mapping is built in, or there is none, or a line says it
+  pub step_cases : (c : ℕ) → (built_in_step c ≡ Some (step_of sayings c)) ⊎ ((step_of sayings c ≡ []) ⊎ IsMapped sayings c (step_of sayings c))
+  step_cases c =
+      ⊎_elim
+      (λ w. inl (w.1 ∙ ap Some (sym (step_of-built_in sayings c w.0 w.1))))
+      (λ none. ⊎_elim
+      (λ t. inr (inl (step_of-compatibility sayings c t)))
+      (λ f. let free : is_built_in c ≡ false = or_from _ _ (ap is_some none) f in
+      ⊎_elim
+      (λ w. let same = step_of-free sayings c free ∙ ap (λ o. unwrap_or o []) w.1 in
+      inr (inr (record { free = free; found = w.1 ∙ ap Some (sym same) })))
+      (λ n. inr (inl (step_of-free sayings c free ∙ ap (λ o. unwrap_or o []) n)))
+      (some_or_none (first_found (mapping_in c) sayings)))
+      (cases_Bool (is_some (built_in_compatibility_step c))))
+      (some_or_none (built_in_step c))
+
+  pub free_step_cases : (c : ℕ) → IsFree c → (step_of sayings c ≡ []) ⊎ IsMapped sayings c (step_of sayings c)
+  free_step_cases c free = ⊎_elim (λ built_in. absurd (none-some _ (sym free ∙ built_in))) (λ w. w) (step_cases c)
+
+  -- what a line says of a mapping
+  line_scalars : AreScalars sayings → (c : ℕ) (ds : List ℕ) → IsMapped sayings c ds → AreTwoScalars ds
+  line_scalars scalars c ds m =
+      let w = mapping_line sayings c ds m.found in
+      let here = All-get_or MapsToScalars sayings w.0 nothing w.2 scalars in
+      let same = sym (unwrap_or-slice_get sayings w.0 nothing) ∙ w.3 in
+      subst MapsToScalars same here
+
+  pub step_scalars : AreScalars sayings → (c : ℕ) → All IsScalar (step_of sayings c) × (length (step_of sayings c) ≤ 2)
+  step_scalars scalars c =
+      ⊎_elim
+      (λ built_in. built_in_scalars c (step_of sayings c) built_in)
+      (λ w. ⊎_elim
+      (λ none. subst AreTwoScalars (sym none) no_scalars)
+      (λ m. line_scalars scalars c (step_of sayings c) m)
+      w)
+      (step_cases c)
+
+  -- a mark that isn't built in has no mapping
+  pub mark_unmapped : (MapsMark sayings → ⊥) → (c : ℕ) → IsFree c → class_of sayings c ≢ 0 → step_of sayings c ≡ []
+  mark_unmapped keeps c free mark =
+      ⊎_elim (λ none. none) (λ m. absurd (keeps (c, ap is_some m.found, m.free, mark))) (free_step_cases c free)
+
+  -- a mapped character that isn't built in is a starter
+  pub mapped_starter : (MapsMark sayings → ⊥) → (c d : ℕ) (ds : List ℕ) → IsFree c → step_of sayings c ≡ d ∷ ds → class_of sayings c ≡ 0
+  mapped_starter keeps c d ds free e =
+      ⊎_elim (λ zero. zero) (λ mark. let none = mark_unmapped keeps c free mark in absurd cc) (cases_eq (class_of sayings c) 0)
+
+  -- no line maps a jamo or a syllable, nor to one
+  pub no_letters : ((i : ℕ) → i < length sayings → MapsHangul (saying_at sayings i) → ⊥) → (c d : ℕ) → IsFree c → Contains (step_of sayings c) d
+      → (is_jamo d ≡ false) × (is_syllable d ≡ false)
+  no_letters keeps c d free h =
+      ⊎_elim
+      (λ none. let inside : Contains [] d = subst (λ ds. Contains ds d) none h in absurd (omega (arith, inside.1)))
+      (λ m. let w = mapping_line sayings c (step_of sayings c) m.found in
+      let unsaid : MapsHangul (mapping c (step_of sayings c) w.1) → ⊥ = subst (λ s. MapsHangul s → ⊥) w.3 (keeps w.0 w.2) in
+      let clean = false_from_ne_true (list_any is_letter (c ∷ step_of sayings c)) (λ t. unsaid (t, free_not_said c (step_of sayings c) w.1 free)) in
+      or_parts (is_jamo d) (is_syllable d) (list_any_false is_letter (c ∷ step_of sayings c) d clean (Contains-tail c (step_of sayings c) d h)))
+      (free_step_cases c free)
+
+  -- a class is below 255
+  pub small_class : ((i : ℕ) → i < length sayings → IsBadClass (saying_at sayings i) → ⊥) → (c : ℕ) → class_of sayings c < 255
+  small_class keeps c =
+      ⊎_elim
+      (λ w. let small = built_in_class-small c w.0 w.1 in
+      let same : class_of sayings c ≡ w.0 = ap (λ o. unwrap_or o (unwrap_or (first_found (class_in c) sayings) 0)) w.1 in omega arith)
+      (λ none. let same : class_of sayings c ≡ unwrap_or (first_found (class_in c) sayings) 0 = ap (λ o. unwrap_or o (unwrap_or (first_found (class_in c) sayings) 0)) none in
+      ⊎_elim
+      (λ w. let line = class_line sayings c w.0 w.1 in
+      let good : IsBadClass (class c w.0) → ⊥ = subst (λ s. IsBadClass s → ⊥) line.2 (keeps line.0 line.1) in
+      let equal : class_of sayings c ≡ w.0 = same ∙ ap (λ o. unwrap_or o 0) w.1 in
+      ⊎_elim
+      (λ small. omega arith)
+      (λ large. absurd (good (inr large, λ e. none-some w.0 (sym none ∙ e))))
+      (cases_lt w.0 255))
+      (λ n. let equal : class_of sayings c ≡ 0 = same ∙ ap (λ o. unwrap_or o 0) n in omega arith)
+      (some_or_none (first_found (class_in c) sayings)))
+      (some_or_none (built_in_class c))

@@ -1,0 +1,56 @@
+-- The phases in which a records file is read: its lines one by one, and then one rule after another. Lines count from 0 here.
+use Rattle.std.specs.Prelude.{◌≡◌, ℕ, ◌+◌, ◌<◌, ◌⊎◌, List, length, Option, MatchOption, Result, MatchResult}
+use Rattle.collate_records.specs.declared.rule.Rule.{Rule}
+use Rattle.collate_records.specs.declared.rule.Rule.TheVariants.{Grammar, Limit, Set, C1, C2, C3, C4, C5, C6, C7, C8, C9, V1, V2, V3, V4, V5, V6, V7, V8, V9, V10, V11, V12, V13, V14, V15}
+use Rattle.collate_records.specs.declared.rule.RecordsError.{RecordsError}
+use Rattle.collate_records.specs.declared.rule.RecordsError.TheVariants.{Fault, Memory}
+use Rattle.collate_records.specs.Sayings.{Saying}
+use Rattle.collate_records.specs.Offenders.{NoneOffends, IsFirstOffender}
+use Rattle.collate_records.specs.Rules.{Offends, Repeats, rank}
+use Rattle.collate_records.specs.Files.{IsOutside, sayings_in}
+
+-- the first so many lines are in the grammar, and no two are for one thing
+pub record AreSound (lines : List (List ℕ)) (count : ℕ) : Type 0 where
+  pub inside : (i : ℕ) → i < count → IsOutside lines i → ⊥
+  pub apart : (i : ℕ) → i < count → Repeats (sayings_in lines) i → ⊥
+
+-- Line i isn't in the grammar, or it is for the thing of an earlier line.
+abbrev pub IsUnsound : Rule → List (List ℕ) → ℕ → Type 0
+IsUnsound Grammar lines i = IsOutside lines i
+IsUnsound V14 lines i = (IsOutside lines i → ⊥) × Repeats (sayings_in lines) i
+IsUnsound rule lines i = ⊥
+
+-- an error names the first of so many lines that is unsound, counted from 1, or want of memory
+abbrev pub RefusesLine : List (List ℕ) → ℕ → RecordsError → Type 0
+RefusesLine lines count (Fault fault) =
+    (i : ℕ) × (fault.line ≡ i + 1) × (i < count) × IsUnsound fault.rule lines i × AreSound lines i
+RefusesLine lines count Memory = Unit {0}
+
+-- no line breaks a rule of a rank from 1 on and below the bound
+abbrev pub KeepsBelow : ℕ → List Saying → Type 0
+KeepsBelow bound sayings =
+    (rule : Rule) (i : ℕ) → 0 < rank rule → rank rule < bound → i < length sayings → Offends rule sayings i → ⊥
+
+-- line i breaks a rule, no line before it does, and no line breaks a rule of a lower rank from 1 on
+pub record BreaksFirst (sayings : List Saying) (rule : Rule) (i : ℕ) : Type 0 where
+  pub ranked : 0 < rank rule
+  pub within : i < length sayings
+  pub offends : Offends rule sayings i
+  pub least : (j : ℕ) → j < i → Offends rule sayings j → ⊥
+  pub lower : KeepsBelow (rank rule) sayings
+
+-- an error names that line, counted from 1, or want of memory
+abbrev pub RefusesSayings : List Saying → RecordsError → Type 0
+RefusesSayings sayings (Fault fault) = (i : ℕ) × (fault.line ≡ i + 1) × BreaksFirst sayings fault.rule i
+RefusesSayings sayings Memory = Unit {0}
+
+-- One rule was asked after those of lower ranks: what was found is the first line that offends against it.
+abbrev pub AsksRule : Rule → List Saying → Option ℕ → Result (Unit {0}) RecordsError → Type 0
+AsksRule rule sayings found answer =
+    0 < rank rule → MatchOption found (NoneOffends rule sayings) (IsFirstOffender rule sayings) → KeepsBelow (rank rule) sayings
+    → MatchResult answer (λ _. KeepsBelow (rank rule + 1) sayings) (RefusesSayings sayings)
+
+-- the lines are unsound, or sound and in breach of another rule
+abbrev pub RefusesLines : List (List ℕ) → RecordsError → Type 0
+RefusesLines lines error =
+    RefusesLine lines (length lines) error ⊎ (AreSound lines (length lines) × RefusesSayings (sayings_in lines) error)

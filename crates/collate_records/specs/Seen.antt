@@ -1,0 +1,13 @@
+-- The things that lines were for: the class, the mapping or the weights of a character.
+use Rattle.std.specs.Prelude.{ℕ, Bool, false}
+use Rattle.std.specs.Ordering.{nat_cmp}
+use Rattle.std.specs.BTreeSet.{contains}
+use Rattle.collate_records.specs.declared.seen.Seen.{Seen}
+use Rattle.collate_records.specs.Sayings.{Saying, nothing, class, mapping, weights}
+
+-- an earlier line was for what this one is for
+abbrev pub is_seen : Seen → Saying → Bool
+is_seen seen nothing = false
+is_seen seen (class c k) = contains nat_cmp seen.classes c
+is_seen seen (mapping c ds is_excluded) = contains nat_cmp seen.mappings c
+is_seen seen (weights c es) = contains nat_cmp seen.weights c

@@ -1,0 +1,152 @@
+// The rules that look at one line: classes from 1 to 254 (C3), nothing against what is built in (C8), and no jamo or
+// syllable in a mapping (C9).
+
+ghost use Rattle.std.specs.Prelude.{◌≡◌, ℕ, ◌↔◌, ◌∷◌, ◌++◌, ◌||◌, Option, map, true, IsTrue, MatchOption};
+ghost use Rattle.std.specs.Option.{option_to_list};
+ghost use Rattle.std.specs.List.{list_any};
+ghost use Rattle.icu_normalizer_core.specs.BuiltIn.{is_jamo, is_syllable};
+ghost use Rattle.collate_records.specs.Sayings.{said, mapping, is_built_in};
+ghost use Rattle.collate_records.specs.Rules.{IsBadClass, Contradicts, MapsHangul, is_built_in_saying};
+ghost use Rattle.collate_records.specs.Offenders.{NoneOffends, IsFirstOffender};
+
+use crate::rule::Rule;
+use crate::sayings::Saying;
+use icu_normalizer_core::built_in::{
+    built_in_class, built_in_compatibility_step, built_in_step, is_jamo, is_syllable,
+};
+use icu_normalizer_core::properties::Decomposed;
+
+/// The first line that gives a class outside 1 to 254, other than one that is built in (rule C3,
+/// our profile). Lines count from 0; `None` where no line offends.
+pub fn first_bad_class(sayings: &[Saying]) -> Option<usize>
+    ensures { MatchOption result (NoneOffends Rule.C3 (map said sayings.now)) (λ i. IsFirstOffender Rule.C3 (map said sayings.now) i) }
+{
+    for (i, saying) in sayings.iter().enumerate() {
+        if is_bad_class(saying) {
+            return Some(i);
+        }
+    }
+    None
+}
+
+/// The first line that contradicts what is built in (rule C8, our profile); a line that says the
+/// same again doesn't. Lines count from 0; `None` where no line offends.
+pub fn first_contradiction(sayings: &[Saying]) -> Option<usize>
+    ensures { MatchOption result (NoneOffends Rule.C8 (map said sayings.now)) (λ i. IsFirstOffender Rule.C8 (map said sayings.now) i) }
+{
+    for (i, saying) in sayings.iter().enumerate() {
+        if contradicts(saying) {
+            return Some(i);
+        }
+    }
+    None
+}
+
+/// The first line whose mapping names a jamo or a syllable, unless the mapping is built in (rule
+/// C9, our profile). Lines count from 0; `None` where no line offends.
+pub fn first_mapped_hangul(sayings: &[Saying]) -> Option<usize>
+    ensures { MatchOption result (NoneOffends Rule.C9 (map said sayings.now)) (λ i. IsFirstOffender Rule.C9 (map said sayings.now) i) }
+{
+    for (i, saying) in sayings.iter().enumerate() {
+        if maps_hangul(saying) {
+            return Some(i);
+        }
+    }
+    None
+}
+
+/// Whether a line gives a class outside 1 to 254 that isn't built in.
+fn is_bad_class(saying: &Saying) -> bool
+    ensures { IsTrue result ↔ IsBadClass (said saying.now) }
+{
+    match saying {
+        Saying::Class { character, class } => {
+            !(1..=254).contains(class)
+                && built_in_class(*character as u32).map(u16::from) != Some(*class)
+        }
+        _ => false,
+    }
+}
+
+/// Whether a line contradicts what is built in.
+fn contradicts(saying: &Saying) -> bool
+    ensures { IsTrue result ↔ Contradicts (said saying.now) }
+{
+    match saying {
+        Saying::Class { character, .. } => {
+            built_in_class(*character as u32).is_some() && !is_built_in_saying(saying)
+        }
+        Saying::Map { character, .. } => {
+            is_built_in(*character as u32) && !is_built_in_saying(saying)
+        }
+        _ => false,
+    }
+}
+
+/// Whether a line's mapping names a jamo or a syllable, and isn't built in.
+fn maps_hangul(saying: &Saying) -> bool
+    ensures { IsTrue result ↔ MapsHangul (said saying.now) }
+{
+    match saying {
+        Saying::Map {
+            character,
+            first,
+            second,
+            ..
+        } => {
+            let is_named = is_hangul(*character)
+                || is_hangul(*first)
+                || match second {
+                    Some(second) => is_hangul(*second),
+                    None => false,
+                };
+            is_named && !is_built_in_saying(saying)
+        }
+        _ => false,
+    }
+}
+
+/// Whether a character is a jamo or a Hangul syllable.
+fn is_hangul(c: char) -> bool
+    ensures { result ≡ is_jamo c || is_syllable c }
+{
+    is_jamo(c as u32) || is_syllable(c as u32)
+}
+
+/// Whether a mapping of this character, or that it has none, is built in (our profile).
+pub fn is_built_in(c: u32) -> bool
+    ensures { result ≡ is_built_in c }
+{
+    built_in_step(c).is_some() || built_in_compatibility_step(c).is_some()
+}
+
+/// Whether a line says exactly what is built in.
+fn is_built_in_saying(saying: &Saying) -> bool
+    ensures { result ≡ is_built_in_saying (said saying.now) }
+{
+    match saying {
+        Saying::Class { character, class } => {
+            built_in_class(*character as u32).map(u16::from) == Some(*class)
+        }
+        Saying::Map {
+            character,
+            first,
+            second,
+            is_excluded,
+        } => is_built_in_mapping(*character as u32, *first, *second, *is_excluded),
+        _ => false,
+    }
+}
+
+/// Whether a mapping is built in just so; a syllable alone is composed.
+fn is_built_in_mapping(c: u32, first: char, second: Option<char>, is_excluded: bool) -> bool
+    ensures { result ≡ is_built_in_saying (mapping c (first ∷ option_to_list second) is_excluded) }
+{
+    match (built_in_step(c), second) {
+        (Some(Decomposed::Singleton(d)), None) => first == d,
+        (Some(Decomposed::Expansion(d, e)), Some(second)) => {
+            first == d && second == e && is_excluded != is_syllable(c)
+        }
+        _ => false,
+    }
+}

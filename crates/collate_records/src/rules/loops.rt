@@ -1,0 +1,104 @@
+// The rule that mapping steps lead in no loop (C2).
+
+ghost use Rattle.std.specs.Prelude.{◌≡◌, ℕ, ◌↔◌, ◌∷◌, ◌++◌, [], map, true, IsTrue, IfOk, OnOk, MatchOption};
+ghost use Rattle.icu_normalizer_core.specs.Canonical.{Reaches};
+ghost use Rattle.icu_normalizer_core.specs.Properties.{mapped_to};
+ghost use Rattle.collate_records.specs.Sayings.{said};
+ghost use Rattle.collate_records.specs.Rules.{any_step, HasLoop};
+ghost use Rattle.collate_records.specs.Facts.{stated};
+ghost use Rattle.collate_records.specs.Offenders.{NoneOffends, IsFirstOffender};
+ghost use Rattle.collate_records.specs.Reached.{with_one, with_all, AreSmall};
+
+use crate::facts::{Fact, any_step, fact_of, said_mapping};
+use crate::rule::Rule;
+use crate::rules::lines::is_built_in;
+use crate::sayings::Saying;
+use icu_normalizer_core::properties::Decomposed;
+use std::alloc::{AllocError, Global};
+
+/// The first line that closes a loop of mapping steps, canonical or compatibility, built-in ones
+/// among them (rule C2, our profile). Lines count from 0; `None` where no line offends.
+///
+/// Errors: `AllocError` where memory is refused.
+pub fn first_loop(alloc: Global, sayings: &[Saying]) -> Result<Option<usize>, AllocError>
+    ensures { IfOk result (λ found. MatchOption found (NoneOffends Rule.C2 (map said sayings.now)) (λ i. IsFirstOffender Rule.C2 (map said sayings.now) i)) }
+{
+    let mut facts = Vec::new(alloc);
+    for (i, saying) in sayings.iter().enumerate() {
+        if let Some(fact) = fact_of(saying) {
+            let is_closed = closes_loop(alloc, &facts, fact)?;
+            facts.push(fact)?;
+            if is_closed {
+                return Ok(Some(i));
+            }
+        }
+    }
+    Ok(None)
+}
+
+/// Whether a fact more closes a loop of mapping steps.
+fn closes_loop(alloc: Global, facts: &[Fact], fact: Fact) -> Result<bool, AllocError>
+    requires { HasLoop (map stated facts.now) → ⊥ }
+    ensures { IfOk result (λ b. IsTrue b ↔ HasLoop (map stated facts.now ++ stated fact ∷ [])) }
+{
+    match fact {
+        Fact::Map { character, step } => {
+            if is_built_in(character as u32) || said_mapping(facts, character as u32).is_some() {
+                Ok(false)
+            } else {
+                reaches(alloc, facts, step, character as u32)
+            }
+        }
+        Fact::Class { .. } => Ok(false),
+    }
+}
+
+/// Whether mapping steps, none included, lead from the characters of a mapping to a character.
+fn reaches(
+    alloc: Global,
+    facts: &[Fact],
+    start: Decomposed,
+    target: u32,
+) -> Result<bool, AllocError>
+    ensures { IfOk result (λ b. IsTrue b ↔ Reaches (any_step (map stated facts.now)) (mapped_to start) target) }
+{
+    let mut list = Vec::new(alloc);
+    add_all(&mut list, start)?;
+    let mut next = 0;
+    while next < list.len() {
+        let c = list[next];
+        if c == target {
+            return Ok(true);
+        }
+        let step = any_step(facts, c);
+        add_all(&mut list, step)?;
+        next += 1;
+    }
+    Ok(false)
+}
+
+/// Adds the characters of a mapping to a list, those that don't stand there.
+fn add_all(list: &mut Vec<u32>, step: Decomposed) -> Result<(), AllocError>
+    ensures value { OnOk result (list.new.items ≡ with_all list.old.items (mapped_to step)) }
+    ensures small { AreSmall list.old.items → OnOk result (AreSmall list.new.items) }
+{
+    match step {
+        Decomposed::Default => Ok(()),
+        Decomposed::Singleton(c) => add_one(list, c as u32),
+        Decomposed::Expansion(c, d) => {
+            add_one(list, c as u32)?;
+            add_one(list, d as u32)
+        }
+    }
+}
+
+/// Adds a character to a list, unless it stands there.
+fn add_one(list: &mut Vec<u32>, c: u32) -> Result<(), AllocError>
+    ensures value { OnOk result (list.new.items ≡ with_one list.old.items c) }
+    ensures small { AreSmall list.old.items → OnOk result (AreSmall list.new.items) }
+{
+    if !list.contains(&c) {
+        list.push(c)?;
+    }
+    Ok(())
+}
