@@ -30,7 +30,7 @@ at_greatest_one found zero none above one = rw none refl
 at_greatest_one found (suc zero) none above one = of_one (found 1) (found 0) none one
 at_greatest_one found (suc (suc n)) none above one =
     rw (above n (omega arith), at_greatest)
-        (at_greatest_one found (suc n) none (λ k lt. above k (omega arith)) one)
+    (at_greatest_one found (suc n) none (λ k lt. above k (omega arith)) one)
 
 -- a mark that doesn't join stays, and a starter ends the search
 step_none : {A X : Type 0} (s t : Bool) (r : Option X) (d x y g : A) → r ≡ None → d ≡ g → y ≡ g → cond s d (cond (t && is_some r) x y) ≡ g
@@ -48,7 +48,7 @@ joining_none canonical weights h c between [] =
 joining_none canonical weights h c between (m ∷ ms) =
     let leaving : List Placed → Joining = λ l. record { text = c ∷ []; left = l }
     in step_none _ _ _ _ _ _ _ (h.no_contraction c m.character []) refl
-        (joining_none canonical weights h c (between ++ m ∷ []) ms ∙ ap leaving (append_assoc between (m ∷ []) ms))
+    (joining_none canonical weights h c (between ++ m ∷ []) ms ∙ ap leaving (append_assoc between (m ∷ []) ms))
 
 -- a test that fails
 cond_and_false : {A : Type 0} (t : Bool) (x y : A) → cond (t && false) x y ≡ y
@@ -71,8 +71,8 @@ one_or_none false = refl
 match_one : (weights : Weights) (h : IsContextFree weights) (c : ℕ) (cs : List ℕ) → match_length weights (c ∷ cs) ≡ 1
 match_one weights h c cs =
     at_greatest_one (recorded_length weights (c ∷ cs)) (length (c ∷ cs)) refl
-        (λ k lt. recorded_above_one weights h (c ∷ cs) k lt)
-        (one_or_none (is_some (weights.recorded [] (c ∷ []))))
+    (λ k lt. recorded_above_one weights h (c ∷ cs) k lt)
+    (one_or_none (is_some (weights.recorded [] (c ∷ []))))
 
 -- nothing is recorded behind a prefix
 nothing_behind : (weights : Weights) (h : IsContextFree weights) (prefix text : List ℕ) → 0 < length prefix → weights.recorded prefix text ≡ None
@@ -108,7 +108,7 @@ text_match_alone canonical weights h p ps =
 
 text_reading_alone : (canonical : Canonical) (weights : Weights) (h : IsContextFree weights) (p : Placed) (ps : List Placed)
     → text_reading canonical weights p.character (p ∷ ps)
-        ≡ record { elements = unwrap_or (weights.recorded [] (p.character ∷ [])) (default_elements weights p.character); left = ps }
+    ≡ record { elements = unwrap_or (weights.recorded [] (p.character ∷ [])) (default_elements weights p.character); left = ps }
 unfolding text_reading
 text_reading_alone canonical weights h p ps =
     let f : Joining → Reading = λ m. record { elements = unwrap_or (weights.recorded [] m.text) (default_elements weights p.character); left = m.left }
@@ -125,7 +125,7 @@ unprefixed (Some es) f r e = absurd (cc)
 
 special_or : (o : Option ℕ) (ps : List Placed) (x : Reading) (es : List Element) → x ≡ record { elements = es; left = ps }
     → elim o as (λ s. Reading) [ Some s ↦ record { elements = primary_element s ∷ []; left = ps } | None ↦ x ]
-        ≡ record { elements = elim o as (λ s. List Element) [ Some s ↦ primary_element s ∷ [] | None ↦ es ]; left = ps }
+    ≡ record { elements = elim o as (λ s. List Element) [ Some s ↦ primary_element s ∷ [] | None ↦ es ]; left = ps }
 special_or None ps x es e = e
 special_or (Some s) ps x es e = refl
 
@@ -136,9 +136,9 @@ unfolding reading
 reading_alone canonical weights h p ps =
     let f : List Element → Reading = λ es. record { elements = es; left = ps }
     in special_or (special_primary p.character) ps _ _
-        (undotted weights.dot_above (p.character == 0x307) (is_before_accent ps) (f []) _ h.no_dot_above
-            ∙ unprefixed (prefix_match weights p) f _ (at_greatest_none (behind_prefix weights p) longest_prefix (prefix_none weights h p))
-            ∙ text_reading_alone canonical weights h p ps)
+    (undotted weights.dot_above (p.character == 0x307) (is_before_accent ps) (f []) _ h.no_dot_above
+    ∙ unprefixed (prefix_match weights p) f _ (at_greatest_none (behind_prefix weights p) longest_prefix (prefix_none weights h p))
+    ∙ text_reading_alone canonical weights h p ps)
 
 -- the elements of a list are those of its characters
 pub elements_alone : (canonical : Canonical) (weights : Weights) (h : IsContextFree weights) (before list : List ℕ)
@@ -150,7 +150,7 @@ elements_alone canonical weights h before (c ∷ cs) =
     in let left = placed_behind (take longest_prefix (c ∷ before)) cs
     in let f : Reading → List Element = λ r. r.elements ++ elements_within (length cs) canonical weights false r.left
     in ap f (reading_alone canonical weights h p left)
-        ∙ ap (λ es. elements_of_character weights c ++ es) (elements_alone canonical weights h (take longest_prefix (c ∷ before)) cs)
+    ∙ ap (λ es. elements_of_character weights c ++ es) (elements_alone canonical weights h (take longest_prefix (c ∷ before)) cs)
 
 at_none : {A B : Type 0} (f : A → B) (y : B) (o : Option A) → o ≡ None → elim o as (λ x. B) [ Some s ↦ f s | None ↦ y ] ≡ y
 at_none f y None e = refl
@@ -162,5 +162,5 @@ pub elements_unrecorded : (weights : Weights) (c : ℕ) → special_primary c �
 unfolding default_primary
 elements_unrecorded weights c s r o =
     at_none (λ p. primary_element p ∷ []) _ (special_primary c) s
-        ∙ ap (λ es. unwrap_or es (default_elements weights c)) r
-        ∙ ap (λ p. primary_element p ∷ []) (at_none (λ p. p) _ (special_primary c) s ∙ at_none (λ range. range_primary weights range c) _ (weights.range c) o)
+    ∙ ap (λ es. unwrap_or es (default_elements weights c)) r
+    ∙ ap (λ p. primary_element p ∷ []) (at_none (λ p. p) _ (special_primary c) s ∙ at_none (λ range. range_primary weights range c) _ (weights.range c) o)

@@ -28,7 +28,7 @@ put_last class c = refl
 pub settle_step : (class : ℕ → ℕ) (c : ℕ) (list : List ℕ) (place : ℕ) → place + 1 < length list
     → is_mark_below (class (get_or list (place + 1) 0)) (class c) ≡ true
     → take (place + 1) (set list place (get_or list (place + 1) 0)) ++ put_in_order class c (drop ((place + 1) + 1) (set list place (get_or list (place + 1) 0)))
-        ≡ take place list ++ put_in_order class c (drop (place + 1) list)
+    ≡ take place list ++ put_in_order class c (drop (place + 1) list)
 settle_step class c list place lt h =
     let d = get_or list (place + 1) 0
     in let here : place < length list = omega arith
@@ -36,7 +36,7 @@ settle_step class c list place lt h =
     in let e = drop-cons list (place + 1) 0 lt
     in let s = put_behind class c d (drop (suc (place + 1)) list) h
     in rw (take_more_set list place d here, drop-set-lt ((place + 1) + 1) list place d further, e, s, add-one (place + 1))
-        (append_assoc (take place list) (d ∷ []) _)
+    (append_assoc (take place list) (d ∷ []) _)
 
 -- the place of the character: at the end
 settle_last : (class : ℕ → ℕ) (c : ℕ) (list : List ℕ) (place : ℕ) → place < length list → length list ≤ place + 1
@@ -61,8 +61,8 @@ pub settle_end : (class : ℕ → ℕ) (c : ℕ) (list : List ℕ) (place : ℕ)
 settle_end class c list place lt (inl le) = settle_last class c list place lt le
 settle_end class c list place lt (inr f) =
     elim (cases_lt (place + 1) (length list)) [
-        inl more ↦ settle_before class c list place more f
-        | inr le ↦ settle_last class c list place lt le
+      | inl more ↦ settle_before class c list place more f
+      | inr le ↦ settle_last class c list place lt le
     ]
 
 -- one more character put in order before those that are

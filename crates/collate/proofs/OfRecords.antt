@@ -13,9 +13,9 @@ use Rattle.collate.proofs.ContextFree.{elements_alone, elements_unrecorded}
 pub weights_context_free : (sayings : List Saying) → IsContextFree (weights_of sayings)
 weights_context_free sayings =
     record {
-        no_prefix = λ p ps text. refl;
-        no_contraction = λ a b cs. refl;
-        no_dot_above = refl
+      no_prefix = λ p ps text. refl;
+      no_contraction = λ a b cs. refl;
+      no_dot_above = refl;
     }
 
 -- the elements of a list that was read whole
@@ -25,7 +25,7 @@ pub elements_of_records : (sayings : List Saying) (list : List ℕ) (i : ℕ) (e
 elements_of_records sayings list i es le e =
     let whole : take i list ≡ list = grind (arith, common_steps)
     in e ∙ ap (flat_map (elements_of_character (weights_of sayings))) whole
-        ∙ sym (elements_alone (canonical_of sayings) (weights_of sayings) (weights_context_free sayings) [] list)
+    ∙ sym (elements_alone (canonical_of sayings) (weights_of sayings) (weights_context_free sayings) [] list)
 
 -- the elements of a character that no line names
 pub elements_by_default : (sayings : List Saying) (c : ℕ) (e : Element) (p : ℕ) → None ≡ special_primary c → None ≡ first_found (elements_in c) sayings

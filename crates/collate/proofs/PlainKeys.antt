@@ -31,9 +31,9 @@ then_then Greater b d = refl
 -- how the weights of two keys compare is how their names do
 pub keys_order : (m : Meaning) (a b : List ℕ) (x y : IndexKey) → IsKeyOf m a x → IsKeyOf m b y
     → ordering_then
-        (ordering_then (slice_cmp nat_cmp x.primaries.items y.primaries.items) (slice_cmp nat_cmp x.secondaries.items y.secondaries.items))
-        (slice_cmp nat_cmp x.tertiaries.items y.tertiaries.items)
-      ≡ order_by m a b
+    (ordering_then (slice_cmp nat_cmp x.primaries.items y.primaries.items) (slice_cmp nat_cmp x.secondaries.items y.secondaries.items))
+    (slice_cmp nat_cmp x.tertiaries.items y.tertiaries.items)
+    ≡ order_by m a b
 unfolding order_by
 keys_order m a b x y hx hy =
     let o = m.options
@@ -45,8 +45,8 @@ keys_order m a b x y hx hy =
     in let ea = elements_of_name m a
     in let eb = elements_of_name m b
     in then_then (slice_cmp nat_cmp x.primaries.items y.primaries.items) (slice_cmp nat_cmp x.secondaries.items y.secondaries.items) (slice_cmp nat_cmp x.tertiaries.items y.tertiaries.items)
-        ∙ rw (hx.primaries, hy.primaries, hx.secondaries, hy.secondaries, hx.tertiaries, hy.tertiaries)
-        (levels_order_plain o hx.plain (levels_of_text d o (utf8_chars a)) (levels_of_text d o (utf8_chars b)) _ _ _ _ _ _
-            (primaries_plain d o la s (λ lead. refl) ea) (primaries_plain d o lb s (λ lead. refl) eb)
-            (secondaries_plain d o la s refl ea) (secondaries_plain d o lb s refl eb)
-            (tertiaries_plain d o la s t ea) (tertiaries_plain d o lb s t eb))
+    ∙ rw (hx.primaries, hy.primaries, hx.secondaries, hy.secondaries, hx.tertiaries, hy.tertiaries)
+    (levels_order_plain o hx.plain (levels_of_text d o (utf8_chars a)) (levels_of_text d o (utf8_chars b)) _ _ _ _ _ _
+    (primaries_plain d o la s (λ lead. refl) ea) (primaries_plain d o lb s (λ lead. refl) eb)
+    (secondaries_plain d o la s refl ea) (secondaries_plain d o lb s refl eb)
+    (tertiaries_plain d o la s t ea) (tertiaries_plain d o lb s t eb))

@@ -36,7 +36,7 @@ pub primaries_plain : (collation : Collation) (options : ResolvedCollatorOptions
 unfolding levels_of
 primaries_plain collation options list e leads es =
     let g : (x : Element) → primary_at collation (whole x) ≡ unless_zero x.primary x.primary =
-        λ x. ap (λ w. unless_zero x.primary w) (ap (λ l. l * 2 ^ 24 + x.primary % 2 ^ 24) (leads (x.primary / 2 ^ 24)) ∙ lead_and_rest x.primary)
+    λ x. ap (λ w. unless_zero x.primary w) (ap (λ l. l * 2 ^ 24 + x.primary % 2 ^ 24) (leads (x.primary / 2 ^ 24)) ∙ lead_and_rest x.primary)
     in ap (filter_map (primary_at collation)) (counted_whole collation options e es) ∙ filter_map_whole (primary_at collation) _ g es
 
 cond_map : {A B : Type 0} (f : A → B) (t : Bool) (x : A) → cond t None (Some (f x)) ≡ option_map f (cond t None (Some x))
@@ -59,8 +59,8 @@ pub secondaries_plain : (collation : Collation) (options : ResolvedCollatorOptio
 unfolding levels_of
 secondaries_plain collation options list e forward es =
     rw (counted_whole collation options e es, forward)
-        (filter_map_whole secondary_at (λ x. unless_zero x.secondary (secondary x.secondary)) (λ x. refl) es
-            ∙ filter_map_map secondary _ _ (λ x. cond_map secondary (x.secondary == 0) x.secondary) es)
+    (filter_map_whole secondary_at (λ x. unless_zero x.secondary (secondary x.secondary)) (λ x. refl) es
+    ∙ filter_map_map secondary _ _ (λ x. cond_map secondary (x.secondary == 0) x.secondary) es)
 
 -- the tertiaries without case bits
 pub tertiaries_plain : (collation : Collation) (options : ResolvedCollatorOptions) (list : List ℕ) → is_shifted options.alternate_handling ≡ false
@@ -69,5 +69,5 @@ pub tertiaries_plain : (collation : Collation) (options : ResolvedCollatorOption
 unfolding levels_of
 tertiaries_plain collation options list e bits es =
     let g : (x : Element) → tertiary_at options (whole x) ≡ unless_zero x.tertiary x.tertiary =
-        λ x. rw bits refl
+    λ x. rw bits refl
     in ap (filter_map (tertiary_at options)) (counted_whole collation options e es) ∙ filter_map_whole (tertiary_at options) _ g es

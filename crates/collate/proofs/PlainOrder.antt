@@ -45,9 +45,9 @@ below_identical Identical e = e
 pub levels_order_plain : (options : ResolvedCollatorOptions) (h : AreSimple options) (a b : Levels) (pa pb sa sb ta tb : List ℕ)
     → a.primaries ≡ pa → b.primaries ≡ pb → a.secondaries ≡ map secondary sa → b.secondaries ≡ map secondary sb → a.tertiaries ≡ ta → b.tertiaries ≡ tb
     → ordering_then (slice_cmp nat_cmp pa pb)
-        (ordering_then (slice_cmp nat_cmp (cond (is_at_least options.strength Secondary) sa []) (cond (is_at_least options.strength Secondary) sb []))
-            (slice_cmp nat_cmp (cond (is_at_least options.strength Tertiary) ta []) (cond (is_at_least options.strength Tertiary) tb [])))
-      ≡ levels_order options a b
+    (ordering_then (slice_cmp nat_cmp (cond (is_at_least options.strength Secondary) sa []) (cond (is_at_least options.strength Secondary) sb []))
+    (slice_cmp nat_cmp (cond (is_at_least options.strength Tertiary) ta []) (cond (is_at_least options.strength Tertiary) tb [])))
+    ≡ levels_order options a b
 unfolding levels_order
 levels_order_plain options h a b pa pb sa sb ta tb ea eb es et eu ev =
     let i = below_identical options.strength h.strength

@@ -23,10 +23,10 @@ pub resolved_simple : (preferences : CollatorPreferences) (options : CollatorOpt
     → settings ≡ default_settings → AreSimple (resolved_options options preferences settings)
 resolved_simple preferences options settings p o e =
     rw (e)
-        record {
-            alternate_handling = rw (o.alternate_handling) refl;
-            case_first = rw (p.case_first) refl;
-            case_level = rw (o.case_level) refl;
-            numeric = rw (p.numeric_ordering) refl;
-            strength = served_below options.strength o.strength
-        }
+    record {
+      alternate_handling = rw (o.alternate_handling) refl;
+      case_first = rw (p.case_first) refl;
+      case_level = rw (o.case_level) refl;
+      numeric = rw (p.numeric_ordering) refl;
+      strength = served_below options.strength o.strength;
+    }

@@ -14,7 +14,11 @@ use icu_normalizer_core::decoding::decode_utf8;
 use std::alloc::{AllocError, Global};
 
 /// The decomposed list of a text in UTF-8 (NFD, UAX 15).
-pub fn decomposed_list(alloc: Global, records: &Records, text: &[u8]) -> Result<Vec<u32>, AllocError>
+pub fn decomposed_list(
+    alloc: Global,
+    records: &Records,
+    text: &[u8],
+) -> Result<Vec<u32>, AllocError>
     ensures { IfOk result (λ list. list.items ≡ decomposed (canonical_of records.now) (utf8_chars text.now)) }
 {
     let mut list = full_lists(alloc, records, text)?;
@@ -71,7 +75,11 @@ fn is_mark_below(class: u8, other: u8) -> bool
 }
 
 /// The collation elements of a decomposed list (UTS 10).
-pub fn elements_of_list(alloc: Global, records: &Records, list: &[u32]) -> Result<Vec<Element>, AllocError>
+pub fn elements_of_list(
+    alloc: Global,
+    records: &Records,
+    list: &[u32],
+) -> Result<Vec<Element>, AllocError>
     ensures { IfOk result (λ es. es.items ≡ elements_of_list (canonical_of records.now) (weights_of records.now) false list.now) }
 {
     let mut elements = Vec::new(alloc);

@@ -15,7 +15,9 @@ ghost use Rattle.collate.specs.Search.{IsPlaceOf, stands_before};
 
 use crate::key::IndexKey;
 use collate_records::records::Records;
-use icu_collator_types::options::{CollatorOptions, CollatorPreferences, FileSettings, ResolvedCollatorOptions};
+use icu_collator_types::options::{
+    CollatorOptions, CollatorPreferences, FileSettings, ResolvedCollatorOptions,
+};
 use std::alloc::{AllocError, Global};
 use std::cmp::Ordering;
 use std::fmt;
@@ -336,4 +338,3 @@ struct Sought<'a> {
     bytes: &'a [u8],
     key: IndexKey,
 }
-

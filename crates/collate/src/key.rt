@@ -4,13 +4,12 @@ ghost use Rattle.std.specs.Prelude.{◌≡◌, ◌+◌, ℕ, List, min, IfOk};
 ghost use Rattle.collate.specs.Meaning.{Meaning, meaning_of, order_by};
 ghost use Rattle.collate.specs.Plain.{AreSimple, weights_at};
 
+use crate::comparison::{decomposed_list, elements_of_list};
 use collate_records::records::Records;
 use icu_collator_types::elements::Element;
 use icu_collator_types::options::{ResolvedCollatorOptions, Strength};
 use std::alloc::{AllocError, Global};
 use std::cmp::Ordering;
-
-use crate::comparison::{decomposed_list, elements_of_list};
 
 /// The levels of a name under records and options, up to the strength: `make` alone makes one, `compare` alone reads it.
 #[derive(Drop)]
@@ -73,7 +72,11 @@ fn primaries_of(alloc: Global, elements: &[Element]) -> Result<Vec<u32>, AllocEr
 {
     elements
         .iter()
-        .filter_map(|e| if e.primary == 0 { None } else { Some(e.primary) })
+        .filter_map(|e| if e.primary == 0 {
+            None
+        } else {
+            Some(e.primary)
+        })
         .collect(alloc)
 }
 
@@ -83,7 +86,11 @@ fn secondaries_of(alloc: Global, elements: &[Element]) -> Result<Vec<u16>, Alloc
 {
     elements
         .iter()
-        .filter_map(|e| if e.secondary == 0 { None } else { Some(e.secondary) })
+        .filter_map(|e| if e.secondary == 0 {
+            None
+        } else {
+            Some(e.secondary)
+        })
         .collect(alloc)
 }
 
@@ -93,6 +100,10 @@ fn tertiaries_of(alloc: Global, elements: &[Element]) -> Result<Vec<u16>, AllocE
 {
     elements
         .iter()
-        .filter_map(|e| if e.tertiary == 0 { None } else { Some(e.tertiary) })
+        .filter_map(|e| if e.tertiary == 0 {
+            None
+        } else {
+            Some(e.tertiary)
+        })
         .collect(alloc)
 }

@@ -6,9 +6,13 @@ mod comparison;
 pub mod index;
 mod key;
 pub mod laws;
+#[cfg(test)]
+mod name_tests;
 mod replies;
 mod run;
 mod serve;
+#[cfg(test)]
+mod tests;
 mod watched;
 
 use choice::Choice;

@@ -8,4 +8,4 @@ pub returns : goal.returns
 unfolding decomposed
 returns c =
     vector_written c.in_ok-list.list.len c.put_marks_in_order.new.list c.in_ok-list.list.items (omega arith) (omega arith)
-        ∙ c.put_marks_in_order.ensures ∙ ap (marks_in_order (class_of c.args.records.now)) (c.deref_mut.ensures.value ∙ c.in_ok-list.ensures)
+    ∙ c.put_marks_in_order.ensures ∙ ap (marks_in_order (class_of c.args.records.now)) (c.deref_mut.ensures.value ∙ c.in_ok-list.ensures)

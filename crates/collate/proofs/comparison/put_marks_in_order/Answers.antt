@@ -7,11 +7,12 @@ pub loop-place-init : goal.loop-place-init
 loop-place-init c = (omega arith, nothing_in_order (class_of c.args.records.now) c.args.list.now)
 
 pub loop-place-preserved : goal.loop-place-preserved
-loop-place-preserved c =
-    (omega arith,
-        c.settle.ensures
-            ∙ marks_previous (class_of c.args.records.now) c.args.list.now c.loop-place.list c.loop-place.place (c.loop-place.place - 1)
-                (omega arith) (omega arith) c.loop-place.invariant.1)
+loop-place-preserved c = (
+  omega arith,
+  c.settle.ensures
+      ∙ marks_previous (class_of c.args.records.now) c.args.list.now c.loop-place.list c.loop-place.place (c.loop-place.place - 1)
+      (omega arith) (omega arith) c.loop-place.invariant.1,
+)
 
 pub returns : goal.returns
 returns c = marks_all _ c.args.list.now c.loop-place.list c.loop-place.place c.loop-place-test.false c.loop-place.invariant.1

@@ -6,7 +6,7 @@ use Rattle.collate.proofs.comparison.put_marks_in_order.Given as goal
 abbrev pub invariant-loop-place : goal.invariant-loop-place
 invariant-loop-place l =
     (l.place ≤ length l.list)
-        × (l.list ≡ take l.place l.initial.list ++ marks_in_order (class_of l.records) (drop l.place l.initial.list))
+    × (l.list ≡ take l.place l.initial.list ++ marks_in_order (class_of l.records) (drop l.place l.initial.list))
 
 abbrev pub decreases-loop-place : goal.decreases-loop-place
 decreases-loop-place l = l.place
