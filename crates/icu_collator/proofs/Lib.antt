@@ -1,1 +1,11 @@
 pub mod OrderTotal
+pub mod Strengths
+pub mod MarksSorted
+pub mod Left
+pub mod Equivalence
+pub mod Identical
+pub mod Few
+pub mod Examples
+pub mod FewPairs
+pub mod Composed
+pub mod NormalForms

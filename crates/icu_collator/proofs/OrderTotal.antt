@@ -1,10 +1,7 @@
 -- The collation order is a total preorder, at every strength and option.
-use Rattle.std.proofs.Common.{◌≡◌, ℕ, Bool, true, false, cond, List, refl}
-use Rattle.std.specs.Ordering.{nat_cmp, ordering_then}
+use Rattle.std.proofs.Common.{ℕ, Bool, true, false, List}
 use Rattle.std.specs.Cmp.{IsTotalOrder}
-use Rattle.std.specs.Cmp.Lexicographic.{slice_cmp}
 use Rattle.std.specs.declared.cmp.Ordering.{Ordering}
-use Rattle.std.specs.declared.cmp.Ordering.TheVariants.{Less, Equal, Greater}
 use Rattle.std.specs.Cmp.Derive.{point_total}
 use Rattle.std.proofs.lemmas.Cmp.{lists_total, nat_cmp_total, on_total, then_total}
 use Rattle.icu_collator_types.specs.declared.options.ResolvedCollatorOptions.{ResolvedCollatorOptions}
@@ -28,11 +25,11 @@ pub levels_total : (options : ResolvedCollatorOptions) → IsTotalOrder (levels_
 unfolding levels_order
 levels_total options =
     then_total (level_total true (λ l. l.primaries) (λ w. w))
-        (then_total (level_total _ (λ l. l.secondaries) secondary_rank)
-        (then_total (level_total _ (λ l. l.cases) (λ w. w))
-        (then_total (level_total _ (λ l. l.tertiaries) (λ w. w))
-        (then_total (level_total _ (λ l. l.quaternaries) quaternary_rank)
-        (level_total _ (λ l. l.characters) character_rank)))))
+    (then_total (level_total _ (λ l. l.secondaries) secondary_rank)
+    (then_total (level_total _ (λ l. l.cases) (λ w. w))
+    (then_total (level_total _ (λ l. l.tertiaries) (λ w. w))
+    (then_total (level_total _ (λ l. l.quaternaries) quaternary_rank)
+    (level_total _ (λ l. l.characters) character_rank)))))
 
 -- texts compare as a total preorder
 pub collation_order_total : (collation : Collation) (options : ResolvedCollatorOptions) → IsTotalOrder (collation_order collation options)

@@ -94,12 +94,12 @@ unfoldable pub levels_of : Collation → ResolvedCollatorOptions → List Elemen
 levels_of collation options elements list =
     let es = counted collation options elements
     in record {
-        primaries = filter_map (primary_at collation) es;
-        secondaries = secondaries_of collation es;
-        cases = filter_map (case_at options) es;
-        tertiaries = filter_map (tertiary_at options) es;
-        quaternaries = filter_map (quaternary_at collation) es;
-        characters = list
+      primaries = filter_map (primary_at collation) es;
+      secondaries = secondaries_of collation es;
+      cases = filter_map (case_at options) es;
+      tertiaries = filter_map (tertiary_at options) es;
+      quaternaries = filter_map (quaternary_at collation) es;
+      characters = list;
     }
 
 -- the elements of a text

@@ -37,11 +37,11 @@ where_in_force is_in_force answer = cond is_in_force answer Equal
 unfoldable pub levels_order : ResolvedCollatorOptions → Levels → Levels → Ordering
 levels_order options a b =
     ordering_then (list_order (λ w. w) a.primaries b.primaries)
-        (ordering_then (where_in_force (is_at_least options.strength Secondary) (list_order secondary_rank a.secondaries b.secondaries))
-        (ordering_then (where_in_force (has_case_level options.case_level) (list_order (λ w. w) a.cases b.cases))
-        (ordering_then (where_in_force (is_at_least options.strength Tertiary) (list_order (λ w. w) a.tertiaries b.tertiaries))
-        (ordering_then (where_in_force (is_at_least options.strength Quaternary) (list_order quaternary_rank a.quaternaries b.quaternaries))
-        (where_in_force (is_at_least options.strength Identical) (list_order character_rank a.characters b.characters))))))
+    (ordering_then (where_in_force (is_at_least options.strength Secondary) (list_order secondary_rank a.secondaries b.secondaries))
+    (ordering_then (where_in_force (has_case_level options.case_level) (list_order (λ w. w) a.cases b.cases))
+    (ordering_then (where_in_force (is_at_least options.strength Tertiary) (list_order (λ w. w) a.tertiaries b.tertiaries))
+    (ordering_then (where_in_force (is_at_least options.strength Quaternary) (list_order quaternary_rank a.quaternaries b.quaternaries))
+    (where_in_force (is_at_least options.strength Identical) (list_order character_rank a.characters b.characters))))))
 
 -- the collation order of two texts, given as characters
 abbrev pub collation_order : Collation → ResolvedCollatorOptions → List ℕ → List ℕ → Ordering

@@ -14,8 +14,8 @@ pub data Counted : Type 0 where
 abbrev pub is_variable : Collation → ResolvedCollatorOptions → Element → Bool
 is_variable collation options e =
     is_shifted options.alternate_handling
-        && ltb 0x02000000 e.primary
-        && ltb e.primary (get_or collation.groups (group_index options.max_variable) 0 * 2 ^ 16)
+    && ltb 0x02000000 e.primary
+    && ltb e.primary (get_or collation.groups (group_index options.max_variable) 0 * 2 ^ 16)
 
 -- The elements that count. Those without a primary behind a variable one, up to the next with one, count nowhere.
 unfoldable pub counted_behind : Collation → ResolvedCollatorOptions → Bool → List Element → List Counted

@@ -1,1 +1,4 @@
+//! Collation: the levels of texts, and the order in which they are compared.
 #![tactic(auto)]
+
+pub mod laws;

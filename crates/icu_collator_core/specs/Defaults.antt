@@ -20,7 +20,7 @@ primary_of lead second third fourth = lead * 2 ^ 24 + second * 2 ^ 16 + third * 
 unfoldable pub special_primary : ℕ → Option ℕ
 special_primary c =
     cond (c == 0xfffe) (Some 0x02000000)
-        (cond (c == 0xfffd) (Some 0xfffd0000) (cond (c == 0xffff) (Some 0xffff0000) None))
+    (cond (c == 0xfffd) (Some 0xfffd0000) (cond (c == 0xffff) (Some 0xffff0000) None))
 
 -- A primary moved on: its third byte counts in 254 from 02, and its second in 254 from 02, under a compressible lead
 -- in 251 from 04.
@@ -51,8 +51,8 @@ unfoldable pub default_primary : Weights → ℕ → ℕ
 default_primary weights c =
     let unranged = cond (is_jamo c) (jamo_primary c) (implicit_primary c)
     in elim (special_primary c) [
-        Some p ↦ p
-        | None ↦ elim (weights.range c) [ Some range ↦ range_primary weights range c | None ↦ unranged ]
+      | Some p ↦ p
+      | None ↦ elim (weights.range c) [ Some range ↦ range_primary weights range c | None ↦ unranged ]
     ]
 
 -- the elements of a character without a record

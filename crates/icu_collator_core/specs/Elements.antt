@@ -39,8 +39,8 @@ at_greatest found (suc n) = elim (found (suc n)) [ Some x ↦ Some x | None ↦ 
 abbrev pub behind_prefix : Weights → Placed → ℕ → Option (List Element)
 behind_prefix weights p n =
     cond (ltb 0 n && leb n (length p.before))
-        (weights.recorded (reverse (take n p.before)) (p.character ∷ []))
-        None
+    (weights.recorded (reverse (take n p.before)) (p.character ∷ []))
+    None
 
 -- the record of a character behind the longest prefix that stands before it and is recorded
 abbrev pub prefix_match : Weights → Placed → Option (List Element)
@@ -100,8 +100,8 @@ unfoldable pub number_reading : Weights → List Placed → Reading
 number_reading weights ps =
     let n = digit_count weights ps
     in record {
-        elements = number_elements weights.numeric_lead (filter_map (λ p. weights.digit p.character) (take n ps));
-        left = drop n ps
+      elements = number_elements weights.numeric_lead (filter_map (λ p. weights.digit p.character) (take n ps));
+      left = drop n ps;
     }
 
 -- whether a grave, an acute or a tilde stands at the beginning of a list

@@ -3,3 +3,4 @@ pub mod Defaults
 pub mod Numbers
 pub mod Elements
 pub mod Collation
+pub mod WholeNumbers

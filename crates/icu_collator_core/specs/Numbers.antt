@@ -57,8 +57,8 @@ number_part lead digits =
     in let x = v - 10234
     in let four = primary_element (primary_of lead (116 + x / 64516) (2 + x / 254 % 254) (2 + x % 254)) ∷ []
     in cond (ltb 7 (length digits))
-        long
-        (cond (ltb v 74) two (cond (ltb w 10160) three (cond (ltb x 1032256) four long)))
+    long
+    (cond (ltb v 74) two (cond (ltb w 10160) three (cond (ltb x 1032256) four long)))
 
 -- a number in parts of 254 digits; each part loses its leading zeros
 unfoldable pub number_parts : ℕ → ℕ → List ℕ → List Element

@@ -2,3 +2,4 @@
 #![tactic(auto)]
 
 pub mod elements;
+pub mod laws;

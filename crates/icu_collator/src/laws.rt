@@ -1,0 +1,120 @@
+//! Laws of the collation order and of canonical equivalence, for all data and all texts: each
+//! function's contract is the law, and its body is empty.
+
+ghost use Rattle.std.specs.Char.{IsScalar};
+ghost use Rattle.std.specs.Cmp.{IsTotalOrder};
+ghost use Rattle.std.specs.Prelude.{◌≡◌, ℕ, ◌≢◌, ◌↔◌, All, List, IsTrue};
+ghost use Rattle.std.specs.declared.cmp.Ordering.TheVariants.{Equal};
+ghost use Rattle.icu_normalizer_core.specs.Canonical.{Canonical, IsCanonical, IsDecomposing, composed, decomposed};
+ghost use Rattle.icu_collator_types.specs.declared.options.CaseLevel.TheVariants.{Off};
+ghost use Rattle.icu_collator_types.specs.declared.options.ResolvedCollatorOptions.{ResolvedCollatorOptions};
+ghost use Rattle.icu_collator_types.specs.declared.options.Strength.{Strength};
+ghost use Rattle.icu_collator_types.specs.declared.options.Strength.TheVariants.{Identical};
+ghost use Rattle.icu_collator_types.specs.Options.{is_at_least};
+ghost use Rattle.icu_collator_core.specs.Collation.{Collation};
+ghost use Rattle.icu_collator.specs.Equivalence.{IsEquivalent};
+ghost use Rattle.icu_collator.specs.Levels.{levels_of_text};
+ghost use Rattle.icu_collator.specs.Order.{collation_order};
+ghost use Rattle.icu_collator.specs.Strengths.{at_strength};
+
+/// Whatever collation data and options say, the collation order is a total preorder: turning two
+/// texts round turns the answer round, "below" and "equal" are transitive, and texts that compare
+/// equal compare alike to any third.
+#[tactic(auto, using(crate::proofs::OrderTotal::collation_order_total))]
+pub fn order_is_total()
+    ensures { (collation : Collation) (options : ResolvedCollatorOptions) → IsTotalOrder (collation_order collation options) }
+{}
+
+/// With the case level off, what a strength tells apart every higher strength tells apart in the
+/// same way: an answer that isn't `Equal` stays when the strength alone is raised.
+#[tactic(auto, using(crate::proofs::Strengths::raised_order))]
+pub fn raised_strength_keeps_order()
+    ensures { (collation : Collation) (options : ResolvedCollatorOptions) (lower higher : Strength) (a b : List ℕ)
+        → options.case_level ≡ Off → IsTrue (is_at_least higher lower)
+        → collation_order collation (at_strength options lower) a b ≢ Equal
+        → collation_order collation (at_strength options higher) a b ≡ collation_order collation (at_strength options lower) a b }
+{}
+
+/// Two texts of scalar values are canonically equivalent exactly where they have the same
+/// decomposed list (UAX 15). Equivalent means here that mapping characters where they stand and
+/// exchanging neighbouring marks of different classes, forward and back, lead from the one text to
+/// the other.
+#[tactic(auto, using(crate::proofs::Equivalence::one_decomposed))]
+pub fn equal_lists_are_equivalent()
+    ensures { (canonical : Canonical) (xs ys : List ℕ)
+        → IsDecomposing canonical → All IsScalar xs → All IsScalar ys
+        → IsEquivalent canonical xs ys ↔ (decomposed canonical xs ≡ decomposed canonical ys) }
+{}
+
+/// Two texts of scalar values are canonically equivalent exactly where they have the same composed
+/// list.
+#[tactic(auto, using(crate::proofs::NormalForms::composed_one))]
+pub fn equal_composed_lists_are_equivalent()
+    ensures { (canonical : Canonical) (xs ys : List ℕ)
+        → IsCanonical canonical → All IsScalar xs → All IsScalar ys
+        → IsEquivalent canonical xs ys ↔ (composed canonical xs ≡ composed canonical ys) }
+{}
+
+/// Each normal form of a normal form is that of the text: the decomposed and the composed list of a
+/// decomposed list, and those of a composed list.
+#[tactic(auto, using(crate::proofs::NormalForms::decomposed_twice, crate::proofs::NormalForms::decomposed_composed, crate::proofs::NormalForms::composed_decomposed, crate::proofs::NormalForms::composed_twice))]
+pub fn normal_forms_stay()
+    ensures decomposed_twice { (canonical : Canonical) (xs : List ℕ) → IsDecomposing canonical → All IsScalar xs
+        → decomposed canonical (decomposed canonical xs) ≡ decomposed canonical xs }
+    ensures decomposed_then_composed { (canonical : Canonical) (xs : List ℕ) → IsDecomposing canonical → All IsScalar xs
+        → composed canonical (decomposed canonical xs) ≡ composed canonical xs }
+    ensures composed_then_decomposed { (canonical : Canonical) (xs : List ℕ) → IsCanonical canonical → All IsScalar xs
+        → decomposed canonical (composed canonical xs) ≡ decomposed canonical xs }
+    ensures composed_twice { (canonical : Canonical) (xs : List ℕ) → IsCanonical canonical → All IsScalar xs
+        → composed canonical (composed canonical xs) ≡ composed canonical xs }
+{}
+
+/// Canonically equivalent texts compare equal, at every strength and with every option.
+#[tactic(auto, using(crate::proofs::Identical::equivalent_equal))]
+pub fn equivalent_texts_are_equal()
+    ensures { (collation : Collation) (options : ResolvedCollatorOptions) (a b : List ℕ)
+        → IsDecomposing collation.canonical → All IsScalar a → All IsScalar b
+        → IsEquivalent collation.canonical a b
+        → collation_order collation options a b ≡ Equal }
+{}
+
+/// At strength `Identical` the texts that compare equal are exactly those that are canonically
+/// equivalent, whatever the other options are.
+#[tactic(auto, using(crate::proofs::Identical::equal_at_identical))]
+pub fn equal_at_identical_is_equivalence()
+    ensures { (collation : Collation) (options : ResolvedCollatorOptions) (a b : List ℕ)
+        → IsDecomposing collation.canonical → options.strength ≡ Identical → All IsScalar a → All IsScalar b
+        → (collation_order collation options a b ≡ Equal) ↔ IsEquivalent collation.canonical a b }
+{}
+
+/// A text has the levels of its decomposed list and of its composed list, at every strength and with
+/// every option; so what goes by the levels alone, as the order and the keys, is the same for them.
+#[tactic(auto, using(crate::proofs::NormalForms::decomposed_levels, crate::proofs::NormalForms::composed_levels))]
+pub fn normalising_keeps_levels()
+    ensures decomposed { (collation : Collation) (options : ResolvedCollatorOptions) (text : List ℕ)
+        → IsDecomposing collation.canonical → All IsScalar text
+        → levels_of_text collation options (decomposed collation.canonical text) ≡ levels_of_text collation options text }
+    ensures composed { (collation : Collation) (options : ResolvedCollatorOptions) (text : List ℕ)
+        → IsCanonical collation.canonical → All IsScalar text
+        → levels_of_text collation options (composed collation.canonical text) ≡ levels_of_text collation options text }
+{}
+
+/// To put a text in a normal form before it is compared changes no answer, on either side.
+#[tactic(auto, using(crate::proofs::NormalForms::decomposed_first, crate::proofs::NormalForms::decomposed_second, crate::proofs::NormalForms::composed_first, crate::proofs::NormalForms::composed_second))]
+pub fn normalising_first_keeps_order()
+    ensures decomposed_left { (collation : Collation) (options : ResolvedCollatorOptions) (a b : List ℕ)
+        → IsDecomposing collation.canonical → All IsScalar a
+        → collation_order collation options (decomposed collation.canonical a) b ≡ collation_order collation options a b }
+    ensures decomposed_right { (collation : Collation) (options : ResolvedCollatorOptions) (a b : List ℕ)
+        → IsDecomposing collation.canonical → All IsScalar b
+        → collation_order collation options a (decomposed collation.canonical b) ≡ collation_order collation options a b }
+    ensures composed_left { (collation : Collation) (options : ResolvedCollatorOptions) (a b : List ℕ)
+        → IsCanonical collation.canonical → All IsScalar a
+        → collation_order collation options (composed collation.canonical a) b ≡ collation_order collation options a b }
+    ensures composed_right { (collation : Collation) (options : ResolvedCollatorOptions) (a b : List ℕ)
+        → IsCanonical collation.canonical → All IsScalar b
+        → collation_order collation options a (composed collation.canonical b) ≡ collation_order collation options a b }
+{}
+
+#[cfg(test)]
+mod tests;

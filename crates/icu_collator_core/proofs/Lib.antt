@@ -1,0 +1,5 @@
+pub mod NumbersDigits
+pub mod NumbersPairs
+pub mod NumbersBytes
+pub mod NumbersOrder
+pub mod NumbersExamples

@@ -1,0 +1,35 @@
+// The laws of numbers applied to digits.
+
+ghost use Rattle.std.specs.Cmp.Lexicographic.{slice_cmp};
+ghost use Rattle.std.specs.Ordering.{nat_cmp};
+ghost use Rattle.std.specs.Prelude.{◌≡◌, ℕ, List, [], ◌∷◌, ◌++◌};
+ghost use Rattle.std.specs.declared.cmp.Ordering.TheVariants.{Less};
+ghost use Rattle.icu_collator_core.specs.Numbers.{number_elements};
+ghost use Rattle.icu_collator_core.specs.WholeNumbers.{primaries_of};
+
+use super::{equal_values_have_equal_elements, numbers_order_as_values};
+
+// 9 is below 10, whatever follows.
+fn nine_is_below_ten()
+    ensures { (lead : ℕ) (behind behind_others : List ℕ)
+        → slice_cmp nat_cmp (primaries_of (number_elements lead (9 ∷ [])) ++ behind) (primaries_of (number_elements lead (1 ∷ 0 ∷ [])) ++ behind_others) ≡ Less }
+{
+    numbers_order_as_values();
+}
+
+// 007 has the elements of 7.
+fn leading_zeros_are_nothing()
+    ensures { (lead : ℕ) → number_elements lead (0 ∷ 0 ∷ 7 ∷ []) ≡ number_elements lead (7 ∷ []) }
+{
+    equal_values_have_equal_elements();
+}
+
+#[test]
+fn ok_numbers_order_as_values() {
+    nine_is_below_ten();
+}
+
+#[test]
+fn ok_equal_values_have_equal_elements() {
+    leading_zeros_are_nothing();
+}

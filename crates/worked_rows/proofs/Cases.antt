@@ -1,0 +1,97 @@
+-- Case: as a level of its own, ahead of tertiary differences, and where it does not count.
+use Rattle.std.specs.Prelude.{◌≡◌, [], ◌∷◌, ◌++◌, replicate, Some, refl, codes}
+use Rattle.std.specs.declared.cmp.Ordering.TheVariants.{Less, Equal, Greater}
+use Rattle.icu_collator_types.specs.declared.options.Strength.TheVariants.{Primary, Secondary, Tertiary}
+use Rattle.icu_collator_types.specs.declared.options.CaseLevel.TheVariants.{On}
+use Rattle.icu_collator_types.specs.declared.options.CollationCaseFirst.TheVariants.{Lower, Upper}
+use Rattle.worked_rows.specs.Tables.{Table}
+use Rattle.worked_rows.specs.Asked.{Asked, at_strength, order}
+use Rattle.worked_rows.specs.Letters.{letters, with_records, text_at, text_with, accent_at, upper_element, case_element, composed_of}
+use Rattle.worked_rows.proofs.Computing.{computing}
+
+-- "A" as an "a" in upper case
+abbrev with_upper_a : Table
+with_upper_a = with_records (text_with (codes "A") (upper_element 0x2a100000 ∷ []) ∷ []) letters
+
+-- case as a level of its own above accents, upper case first
+abbrev accents_then_upper_first : Asked
+accents_then_upper_first = record (at_strength Secondary) { case_level = Some On; case_first = Some Upper }
+
+-- Upper case is below lower case, in the fourteenth place too.
+pub upper_in_fourteenth_place_is_first :
+    order with_upper_a accents_then_upper_first (replicate 13 0x61 ++ codes "A") (replicate 14 0x61) ≡ Less
+unfolding computing
+upper_in_fourteenth_place_is_first = refl
+
+-- "t" as a mark of upper case without a letter or an accent
+abbrev with_case_t : Table
+with_case_t = with_records (text_with (codes "t") (case_element ∷ []) ∷ []) letters
+
+-- An element without a secondary has no place at the level of case, and its tertiary is above that of "a".
+pub a_is_below_ta :
+    order with_case_t (record (at_strength Tertiary) { case_level = Some On; case_first = Some Upper }) (codes "a") (codes "ta") ≡ Less
+unfolding computing
+a_is_below_ta = refl
+
+-- the same, and "B" as a "b" with the tertiary of upper case but no case
+abbrev with_case_t_and_b : Table
+with_case_t_and_b =
+    with_records
+    (text_with (codes "B") (record { primary = 0x2a200000; secondary = 0x500; case = 0; tertiary = 0x900; quaternary = 0 } ∷ []) ∷ [])
+    with_case_t
+
+-- upper case first, ahead of other tertiary differences
+abbrev upper_first : Asked
+upper_first = record (at_strength Tertiary) { case_first = Some Upper }
+
+-- With upper case first an element without a secondary is above all others at the tertiary level.
+pub atb_is_above_ab : order with_case_t_and_b upper_first (codes "atb") (codes "aB") ≡ Greater
+unfolding computing
+atb_is_above_ab = refl
+
+-- Compared the other way round the answer is turned round.
+pub ab_is_below_atb : order with_case_t_and_b upper_first (codes "aB") (codes "atb") ≡ Less
+unfolding computing
+ab_is_below_atb = refl
+
+-- "A", an "s", and a grave that composes with "a" and "o"
+abbrev with_graves : Table
+with_graves =
+    record (with_records (accent_at 0x300 0x8600 ∷ text_at (codes "s") 0x2b10 ∷ []) with_upper_a) {
+      mappings = composed_of 0xe0 0x61 0x300 ∷ composed_of 0xf2 0x6f 0x300 ∷ letters.mappings;
+    }
+
+-- An accent counts at Secondary.
+pub as_is_below_as_grave : order with_graves (at_strength Secondary) (codes "as") (codes "às") ≡ Less
+unfolding computing
+as_is_below_as_grave = refl
+
+-- Case doesn't.
+pub ao_is_ao_in_upper_case : order with_graves (at_strength Secondary) (codes "ao") (codes "Ao") ≡ Equal
+unfolding computing
+ao_is_ao_in_upper_case = refl
+
+-- So upper case doesn't stand in the way of an accent behind it.
+pub upper_ao_is_below_ao_grave : order with_graves (at_strength Secondary) (codes "Ao") (codes "aò") ≡ Less
+unfolding computing
+upper_ao_is_below_ao_grave = refl
+
+-- Upper case comes first only where that is asked.
+pub a_is_below_upper_a_by_lower_first :
+    order with_upper_a (record (at_strength Tertiary) { case_first = Some Lower }) (codes "a") (codes "A") ≡ Less
+unfolding computing
+a_is_below_upper_a_by_lower_first = refl
+
+pub a_is_above_upper_a_by_upper_first : order with_upper_a upper_first (codes "a") (codes "A") ≡ Greater
+unfolding computing
+a_is_above_upper_a_by_upper_first = refl
+
+-- At Primary the case level alone sets them apart.
+pub a_is_below_upper_a_by_case_level :
+    order with_upper_a (record (at_strength Primary) { case_level = Some On }) (codes "a") (codes "A") ≡ Less
+unfolding computing
+a_is_below_upper_a_by_case_level = refl
+
+pub a_is_upper_a_at_primary : order with_upper_a (at_strength Primary) (codes "a") (codes "A") ≡ Equal
+unfolding computing
+a_is_upper_a_at_primary = refl

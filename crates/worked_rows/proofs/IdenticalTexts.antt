@@ -1,0 +1,31 @@
+-- Texts that are canonically equivalent, and texts that only their characters set apart.
+use Rattle.std.specs.Prelude.{◌≡◌, [], ◌∷◌, refl, codes}
+use Rattle.std.specs.declared.cmp.Ordering.TheVariants.{Less, Equal}
+use Rattle.icu_collator_types.specs.declared.options.Strength.TheVariants.{Identical}
+use Rattle.worked_rows.specs.Tables.{Table}
+use Rattle.worked_rows.specs.Asked.{at_strength, order}
+use Rattle.worked_rows.specs.Letters.{letters, with_records, class_at, text_with}
+use Rattle.worked_rows.proofs.Computing.{computing}
+
+-- An accent of its own is as good as one composed with its letter.
+pub a_acute_is_composed : order letters (at_strength Identical) (codes "á") (codes "á") ≡ Equal
+unfolding computing
+a_acute_is_composed = refl
+
+-- Nor does it count which of two marks of different class is composed with the letter.
+pub marks_are_equivalent : order letters (at_strength Identical) (codes "ạ́") (codes "ạ́") ≡ Equal
+unfolding computing
+marks_are_equivalent = refl
+
+-- three marks without elements, of which U+0350 has the class of the acute
+abbrev with_ignored_marks : Table
+with_ignored_marks =
+    record (with_records (text_with (0x301 ∷ []) [] ∷ text_with (0x323 ∷ []) [] ∷ text_with (0x350 ∷ []) [] ∷ []) letters) {
+      classes = class_at 0x350 230 ∷ letters.classes;
+    }
+
+-- The whole decomposed texts are compared, where the dot below stands first.
+pub ignored_marks_count_as_characters :
+    order with_ignored_marks (at_strength Identical) (codes "ạ͐") (codes "a͐́") ≡ Less
+unfolding computing
+ignored_marks_count_as_characters = refl

@@ -1,0 +1,49 @@
+-- Characters that have other elements behind certain characters.
+use Rattle.std.specs.Prelude.{◌≡◌, [], ◌∷◌, refl, codes}
+use Rattle.std.specs.declared.cmp.Ordering.TheVariants.{Less, Greater}
+use Rattle.icu_collator_types.specs.declared.options.Strength.TheVariants.{Primary, Tertiary}
+use Rattle.worked_rows.specs.Tables.{Table}
+use Rattle.worked_rows.specs.Asked.{at_strength, order, list_of}
+use Rattle.worked_rows.specs.Letters.{letters, with_records, behind_at}
+use Rattle.worked_rows.proofs.Computing.{computing}
+
+-- "c" behind "ab" as a letter between "e" and "h"
+abbrev with_c_behind_ab : Table
+with_c_behind_ab = with_records (behind_at (codes "ab") 0x63 0x2a60 ∷ []) letters
+
+-- Behind "ab" the letter "c" is above "e".
+pub abc_is_above_abe : order with_c_behind_ab (at_strength Tertiary) (codes "abc") (codes "abe") ≡ Greater
+unfolding computing
+abc_is_above_abe = refl
+
+-- "e" behind "abc" as a letter between "h" and "l"
+abbrev with_e_behind_abc : Table
+with_e_behind_abc = with_records (behind_at (codes "abc") 0x65 0x2aa0 ∷ []) letters
+
+-- Behind "abc" the letter "e" is above "h".
+pub abce_is_above_abch : order with_e_behind_abc (at_strength Tertiary) (codes "abce") (codes "abch") ≡ Greater
+unfolding computing
+abce_is_above_abch = refl
+
+-- Besides, "e" behind "c" alone is a letter between "e" and "h".
+abbrev with_two_prefixes : Table
+with_two_prefixes = with_records (behind_at (codes "c") 0x65 0x2a70 ∷ []) with_e_behind_abc
+
+-- The longest prefix counts.
+pub abce_is_above_abch_by_longest : order with_two_prefixes (at_strength Tertiary) (codes "abce") (codes "abch") ≡ Greater
+unfolding computing
+abce_is_above_abch_by_longest = refl
+
+-- Behind "bc" only the short prefix is there.
+pub bce_is_below_bch : order with_two_prefixes (at_strength Tertiary) (codes "bce") (codes "bch") ≡ Less
+unfolding computing
+bce_is_below_bch = refl
+
+-- The prefix turns two names round.
+pub names_without_prefix : list_of letters (at_strength Primary) (codes "abce" ∷ codes "abch" ∷ []) ≡ codes "abce" ∷ codes "abch" ∷ []
+unfolding computing
+names_without_prefix = refl
+
+pub names_with_prefix : list_of with_e_behind_abc (at_strength Primary) (codes "abce" ∷ codes "abch" ∷ []) ≡ codes "abch" ∷ codes "abce" ∷ []
+unfolding computing
+names_with_prefix = refl

@@ -1,0 +1,71 @@
+-- Spaces and punctuation that count at the quaternary level alone.
+use Rattle.std.specs.Prelude.{◌≡◌, [], ◌∷◌, Some, refl, codes}
+use Rattle.std.specs.declared.cmp.Ordering.TheVariants.{Less, Equal}
+use Rattle.icu_collator_types.specs.declared.options.Strength.TheVariants.{Tertiary, Quaternary}
+use Rattle.icu_collator_types.specs.declared.options.Strength.{Strength}
+use Rattle.icu_collator_types.specs.declared.options.AlternateHandling.TheVariants.{Shifted}
+use Rattle.icu_collator_types.specs.declared.options.MaxVariable.TheVariants.{Space, Punctuation}
+use Rattle.icu_collator_types.specs.Options.{default_settings}
+use Rattle.worked_rows.specs.Tables.{Table}
+use Rattle.worked_rows.specs.Asked.{Asked, at_strength, order}
+use Rattle.worked_rows.specs.Letters.{letters, with_records, text_at}
+use Rattle.worked_rows.proofs.Computing.{computing}
+
+-- a space and a full stop, which the file's last variable group holds
+abbrev with_punctuation : Table
+with_punctuation =
+    record (with_records (text_at (codes " ") 0x304 ∷ text_at (codes ".") 0x308 ∷ []) letters) {
+      groups = 0x306 ∷ 0x30a ∷ 0x30a ∷ 0x30a ∷ [];
+      settings = record default_settings { max_variable = Punctuation };
+    }
+
+abbrev shifted_at : Strength → Asked
+shifted_at strength = record (at_strength strength) { alternate = Some Shifted }
+
+-- A space counts for nothing up to the tertiary level.
+pub a_space_c_is_ac : order with_punctuation (shifted_at Tertiary) (codes "a c") (codes "ac") ≡ Equal
+unfolding computing
+a_space_c_is_ac = refl
+
+-- Nor do full stops.
+pub stopped_is_ac : order with_punctuation (shifted_at Tertiary) (codes "a.c.") (codes "ac") ≡ Equal
+unfolding computing
+stopped_is_ac = refl
+
+-- At the quaternary level a space is below a letter.
+pub a_space_c_is_below_ac : order with_punctuation (shifted_at Quaternary) (codes "a c") (codes "ac") ≡ Less
+unfolding computing
+a_space_c_is_below_ac = refl
+
+-- A full stop too.
+pub stopped_is_below_ac : order with_punctuation (shifted_at Quaternary) (codes "a.c.") (codes "ac") ≡ Less
+unfolding computing
+stopped_is_below_ac = refl
+
+-- A space is below a full stop.
+pub a_space_c_is_below_stopped : order with_punctuation (shifted_at Quaternary) (codes "a c") (codes "a.c") ≡ Less
+unfolding computing
+a_space_c_is_below_stopped = refl
+
+-- An accent behind a space counts nowhere with it.
+pub accent_behind_a_space_counts_nowhere :
+    order with_punctuation (shifted_at Quaternary) (codes "a ́c") (codes "a c") ≡ Equal
+unfolding computing
+accent_behind_a_space_counts_nowhere = refl
+
+-- Where spaces are the last variable group, a full stop counts as a letter does.
+pub a_stop_c_is_below_ac_by_spaces :
+    order with_punctuation (record (shifted_at Tertiary) { max_variable = Some Space }) (codes "a.c") (codes "ac") ≡ Less
+unfolding computing
+a_stop_c_is_below_ac_by_spaces = refl
+
+-- So does a character whose primary is where the group ends, not below it.
+pub end_of_a_group_is_outside :
+    order
+    (record with_punctuation { groups = 0x304 ∷ 0x30a ∷ 0x30a ∷ 0x30a ∷ [] })
+    (record (shifted_at Tertiary) { max_variable = Some Space })
+    (codes "a c")
+    (codes "ac")
+    ≡ Less
+unfolding computing
+end_of_a_group_is_outside = refl
