@@ -1,20 +1,20 @@
 -- The first fault of a file, from what its lines were found to break.
-use Rattle.std.proofs.Common.{◌≡◌, ℕ, ◌+◌, ◌-◌, ◌<◌, ◌≤◌, ◌⊎◌, Bool, true, false, cond, drop, List, [], ◌∷◌, length, map, take, get_or, count_by, ◌==◌, refl, sym, ap, ◌∙◌, subst, arith, inl, inr, ⊎_elim, Option, Some, None, Bor, Result, Ok, Err}
+use Rattle.std.proofs.Common.{◌≡◌, ℕ, ◌+◌, ◌-◌, ◌<◌, ◌≤◌, Bool, true, false, cond, drop, List, [], length, map, take, count_by, ◌==◌, refl, sym, ap, ◌∙◌, subst, arith, inl, inr, ⊎_elim, Some, None, Bor, Result, Ok, Err}
 use Rattle.std.proofs.lemmas.Bool.{cases_lt}
 use Rattle.std.proofs.lemmas.List.{get_or_past, length-map, length-take, take-append-drop}
 use Rattle.std.proofs.lemmas.List.Sums.{sum_by-append, count_by-le-length}
 use Rattle.std.proofs.lemmas.List.Splits.{length-slice_split}
 use Rattle.std.specs.List.{slice_split}
 use Rattle.collate_records.specs.declared.rule.Rule.{Rule}
-use Rattle.collate_records.specs.declared.rule.Rule.TheVariants.{Grammar, Limit, Set, C1, C2, C3, C4, C5, C6, C7, C8, C9, V1, V2, V3, V4, V5, V6, V7, V8, V9, V10, V11, V12, V13, V14, V15}
+use Rattle.collate_records.specs.declared.rule.Rule.TheVariants.{Grammar, V14}
 use Rattle.collate_records.specs.declared.rule.RecordsError.{RecordsError}
 use Rattle.collate_records.specs.declared.rule.RecordsError.TheVariants.{Fault, Memory}
 use Rattle.std.specs.Result.{MatchResult}
 use Rattle.collate_records.specs.declared.sayings.Saying.{Saying as Line}
-use Rattle.collate_records.specs.Sayings.{Saying, nothing, said}
+use Rattle.collate_records.specs.Sayings.{nothing, said}
 use Rattle.collate_records.specs.Grammar.{saying_of}
-use Rattle.collate_records.specs.Rules.{Offends, Repeats, rank}
-use Rattle.collate_records.specs.Files.{ended, ends_empty, size_limit, lines_of, line_at, read_line, sayings_in, sayings_of, PassesSize, IsOutside, Breaks, IsEarlier, IsAccepted, IsFirstFault, Refuses}
+use Rattle.collate_records.specs.Rules.{Offends, rank}
+use Rattle.collate_records.specs.Files.{ended, ends_empty, size_limit, lines_of, read_line, sayings_in, sayings_of, PassesSize, IsOutside, Breaks, IsEarlier, IsAccepted, IsFirstFault, Refuses}
 use Rattle.collate_records.specs.Phases.{AreSound, IsUnsound, RefusesLine, KeepsBelow, BreaksFirst, RefusesSayings, RefusesLines}
 use Rattle.collate_records.proofs.Ranks.{same_from_rank}
 

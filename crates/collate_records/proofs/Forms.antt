@@ -1,9 +1,7 @@
 -- The forms of lines: what a row of fields of no form says, and a row of elements.
-use Rattle.std.proofs.Common.{◌≡◌, ◌≢◌, ℕ, ◌+◌, ◌<◌, ◌≤◌, Bool, true, false, List, [], ◌∷◌, ◌++◌, map, drop, take, length, get_or, Bor, Option, Some, None, sym, refl, ap, ◌∙◌, arith, option_map, append_assoc}
-use Rattle.std.proofs.lemmas.List.{at_drop_more, at_drop_all}
-use Rattle.std.specs.Prelude.{bytes_eq, codes}
+use Rattle.std.proofs.Common.{◌≡◌, ◌≢◌, ℕ, ◌+◌, ◌<◌, List, [], ◌∷◌, ◌++◌, map, drop, length, get_or, Bor, Option, Some, None, sym, refl, ap, ◌∙◌, arith, option_map, append_assoc}
+use Rattle.std.proofs.lemmas.List.{at_drop_more}
 use Rattle.icu_collator_types.specs.declared.elements.Element.{Element}
-use Rattle.collate_records.specs.Sayings.{Saying}
 use Rattle.collate_records.specs.Grammar.{class_by, mapping_by, element, elements, ◌>>=◌}
 
 -- the bytes of fields
@@ -34,9 +32,3 @@ pub elements_more : (listed : List Element) (fields : List (Bor (List ℕ))) (i 
 elements_more listed fields i d e below is =
     at_drop_more (λ left. option_map (λ rest. listed ++ rest) (elements (bytes_of left))) fields i d below
     ∙ elements_joined listed _ e _ is
-
--- a field that is no element ends them
-pub elements_none : (listed : List Element) (fields : List (Bor (List ℕ))) (i : ℕ) (d : Bor (List ℕ)) → i < length fields → element (get_or fields i d).now ≡ None → option_map (λ rest. listed ++ rest) (elements (bytes_of (drop i fields))) ≡ None
-elements_none listed fields i d below is =
-    at_drop_more (λ left. option_map (λ rest. listed ++ rest) (elements (bytes_of left))) fields i d below
-    ∙ ap (λ o. option_map (λ rest. listed ++ rest) (o >>= λ first. elements (bytes_of (drop (i + 1) fields)) >>= λ more. Some (first ∷ more))) is

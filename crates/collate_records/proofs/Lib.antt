@@ -5,12 +5,12 @@ pub mod BuiltIns
 pub mod Classes
 pub mod Decomposing
 pub mod Endings
+mod Examples
 pub mod Exploring
 mod Faults
 mod Forms
 pub mod Found
 pub mod FullLists
-mod GrammarExamples
 mod Limits
 pub mod Lines
 pub mod Lookups
@@ -23,6 +23,6 @@ mod Ranks
 pub mod Reached
 mod Reading
 pub mod SameFacts
+pub mod Scalars
 pub mod SoonEnded
 pub mod Steps
-mod Scalars

@@ -1,6 +1,6 @@
 -- The limits, line by line.
 use Rattle.std.proofs.Common.{◌≡◌, ℕ, ◌+◌, ◌<◌, ◌≤◌, ◌⊎◌, Bool, true, false, cond, List, [], ◌∷◌, ◌++◌, length, map, take, get_or, refl, sym, ap, ◌∙◌, subst, arith, below_more, append-nil, inl, inr, ⊎_elim}
-use Rattle.std.specs.Prelude.{flat_map, filter, ◌↔◌, IsTrue}
+use Rattle.std.specs.Prelude.{flat_map, filter}
 use mir.Val.{bool_byte}
 use Rattle.std.proofs.lemmas.Bool.{cases_lt}
 use Rattle.std.specs.Ordering.{nat_cmp}

@@ -1,5 +1,5 @@
 -- Different numbers: a set of them, and how many there are.
-use Rattle.std.proofs.Common.{◌≡◌, ◌≢◌, ℕ, ◌+◌, ◌<◌, ◌≤◌, Bool, true, false, cond, ◌||◌, not, eqb, List, [], ◌∷◌, ◌++◌, refl, sym, ap, ◌∙◌, subst, arith, if◌then◌else◌}
+use Rattle.std.proofs.Common.{◌≡◌, ℕ, ◌+◌, Bool, true, false, cond, ◌||◌, not, eqb, List, [], ◌∷◌, ◌++◌, refl, sym, ap, ◌∙◌, arith, if◌then◌else◌}
 use Rattle.std.specs.Ordering.{nat_cmp}
 use Rattle.std.specs.BTreeSet.{BTreeSet, contains, btree_set_len, Updates}
 use Rattle.std.specs.BTreeMap.{is_at}
@@ -30,6 +30,9 @@ joined false false n m e = ap (λ k. 1 + k) e
 eqb_turn : (x c : ℕ) → eqb c x ≡ false → eqb x c ≡ false
 eqb_turn x c e = grind (arith, nat_tests)
 
+eqb_back : (x c : ℕ) → eqb c x ≡ true → eqb x c ≡ true
+eqb_back x c e = grind (arith, nat_tests)
+
 eqb_is : (x c : ℕ) → eqb c x ≡ true → c ≡ x
 eqb_is x c e = grind (arith, nat_tests)
 
@@ -38,7 +41,7 @@ unfolding different
 different-head c x xs true e h =
     let same : c ≡ x = eqb_is x c e in
     let found : list_any (λ d. eqb x d) (xs ++ c ∷ []) ≡ true =
-    any_push x c xs ∙ ap (λ (b : Bool). list_any (λ d. eqb x d) xs || b) (subst (λ (y : ℕ). eqb x y ≡ true) (sym same) (subst (λ (y : ℕ). eqb c y ≡ true → eqb y y ≡ true) same (λ k. subst (λ (y : ℕ). eqb y y ≡ true) (sym same) (subst (λ (y : ℕ). eqb y x ≡ true) same e)) e)) ∙ or_true _ in
+    any_push x c xs ∙ ap (λ (b : Bool). list_any (λ d. eqb x d) xs || b) (eqb_back x c e) ∙ or_true _ in
     ap (λ (b : Bool). cond b (different (xs ++ c ∷ [])) (1 + different (xs ++ c ∷ []))) found
     ∙ h
     ∙ ap (λ (y : ℕ). cond (list_any (λ d. eqb y d) xs) (different xs) (1 + different xs)) same

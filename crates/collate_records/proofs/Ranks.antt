@@ -1,12 +1,12 @@
 -- The order of faults: each rule from rank 1 on has a rank of its own.
-use Rattle.std.proofs.Common.{◌≡◌, ℕ, ◌+◌, ◌<◌, ◌≤◌, ◌⊎◌, List, [], ◌∷◌, length, get_or, refl, sym, ap, ◌∙◌, subst, arith, ⊎_elim, Option, Some, None}
+use Rattle.std.proofs.Common.{◌≡◌, ℕ, ◌+◌, ◌<◌, ◌≤◌, List, [], ◌∷◌, get_or, refl, sym, ap, ◌∙◌, subst, arith, ⊎_elim}
 use Rattle.std.proofs.lemmas.Bool.{cases_lt}
 use Rattle.collate_records.specs.declared.rule.Rule.{Rule}
 use Rattle.collate_records.specs.declared.rule.Rule.TheVariants.{Grammar, Limit, Set, C1, C2, C3, C4, C5, C6, C7, C8, C9, V1, V2, V3, V4, V5, V6, V7, V8, V9, V10, V11, V12, V13, V14, V15}
 use Rattle.collate_records.specs.Sayings.{Saying}
-use Rattle.collate_records.specs.Offenders.{NoneOffends, IsFirstOffender}
+use Rattle.collate_records.specs.Offenders.{NoneOffends}
 use Rattle.collate_records.specs.Rules.{Offends, rank}
-use Rattle.collate_records.specs.Phases.{KeepsBelow, BreaksFirst}
+use Rattle.collate_records.specs.Phases.{KeepsBelow}
 
 -- the rules in the order of faults
 abbrev rule_at : ℕ → Rule

@@ -1,14 +1,13 @@
 -- A records file, byte by byte: its lines, what they say, and its first fault. Lines count from 0 here.
-use Rattle.std.specs.Prelude.{◌≡◌, ℕ, ◌+◌, ◌-◌, ◌<◌, ◌≤◌, ◌⊎◌, Bool, ltb, ◌==◌, ◌&&◌, if◌then◌else◌, List, [], ◌∷◌, map, length, take, count_by, slice_index_or, Option, Some, None, MatchOption, Result, MatchResult}
+use Rattle.std.specs.Prelude.{◌≡◌, ℕ, ◌+◌, ◌-◌, ◌<◌, ◌⊎◌, Bool, ltb, ◌==◌, ◌&&◌, if◌then◌else◌, List, [], map, length, take, count_by, slice_index_or, None, Result, MatchResult}
 use Rattle.std.specs.Option.{unwrap_or}
 use Rattle.std.specs.List.{slice_split}
 use Rattle.collate_records.specs.declared.rule.Rule.{Rule}
-use Rattle.collate_records.specs.declared.rule.Rule.TheVariants.{Grammar, Limit, Set, C1, C2, C3, C4, C5, C6, C7, C8, C9, V1, V2, V3, V4, V5, V6, V7, V8, V9, V10, V11, V12, V13, V14, V15}
+use Rattle.collate_records.specs.declared.rule.Rule.TheVariants.{Grammar, V14}
 use Rattle.collate_records.specs.declared.rule.RecordsError.{RecordsError}
 use Rattle.collate_records.specs.declared.rule.RecordsError.TheVariants.{Fault, Memory}
 use Rattle.collate_records.specs.Sayings.{Saying, nothing}
 use Rattle.collate_records.specs.Grammar.{saying_of}
-use Rattle.collate_records.specs.Offenders.{NoneOffends, IsFirstOffender}
 use Rattle.collate_records.specs.Rules.{Offends, Repeats, rank}
 
 -- line i, or an empty one

@@ -1,6 +1,6 @@
 -- The grammar of the lines of a records file: what the bytes of a line, without its LF, say. A line is a row of fields, one
 -- space between two. A field is a word, a code point, a number or an element.
-use Rattle.std.specs.Prelude.{◌≡◌, ℕ, ◌+◌, ◌-◌, ◌*◌, ◌<◌, Bool, true, false, not, ◌==◌, ◌&&◌, ◌||◌, leb, ltb, if◌then◌else◌, List, [], ◌∷◌, length, slice_index, slice_range, Option, Some, None, option_and_then, bytes_eq, codes}
+use Rattle.std.specs.Prelude.{◌≡◌, ℕ, ◌+◌, ◌-◌, ◌*◌, Bool, true, false, not, ◌==◌, ◌&&◌, ◌||◌, leb, ltb, if◌then◌else◌, List, [], ◌∷◌, length, slice_index, slice_range, Option, Some, None, option_and_then, bytes_eq, codes}
 use Rattle.std.specs.List.{list_any, slice_split}
 use Rattle.icu_collator_types.specs.declared.elements.Element.{Element}
 use Rattle.collate_records.specs.Sayings.{Saying, nothing, class, mapping, weights}

@@ -1,7 +1,7 @@
 -- The phases in which a records file is read: its lines one by one, and then one rule after another. Lines count from 0 here.
 use Rattle.std.specs.Prelude.{◌≡◌, ℕ, ◌+◌, ◌<◌, ◌⊎◌, List, length, Option, MatchOption, Result, MatchResult}
 use Rattle.collate_records.specs.declared.rule.Rule.{Rule}
-use Rattle.collate_records.specs.declared.rule.Rule.TheVariants.{Grammar, Limit, Set, C1, C2, C3, C4, C5, C6, C7, C8, C9, V1, V2, V3, V4, V5, V6, V7, V8, V9, V10, V11, V12, V13, V14, V15}
+use Rattle.collate_records.specs.declared.rule.Rule.TheVariants.{Grammar, V14}
 use Rattle.collate_records.specs.declared.rule.RecordsError.{RecordsError}
 use Rattle.collate_records.specs.declared.rule.RecordsError.TheVariants.{Fault, Memory}
 use Rattle.collate_records.specs.Sayings.{Saying}

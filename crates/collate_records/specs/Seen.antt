@@ -1,5 +1,5 @@
 -- The things that lines were for: the class, the mapping or the weights of a character.
-use Rattle.std.specs.Prelude.{ℕ, Bool, false}
+use Rattle.std.specs.Prelude.{Bool, false}
 use Rattle.std.specs.Ordering.{nat_cmp}
 use Rattle.std.specs.BTreeSet.{contains}
 use Rattle.collate_records.specs.declared.seen.Seen.{Seen}

@@ -7,7 +7,7 @@ ghost use Rattle.collate_records.specs.Grammar.{class_number, code_point, decima
 use icu_collator_types::elements::Element;
 use std::alloc::{AllocError, Global};
 
-// The value of a decimal digit.
+/// The value of a decimal digit.
 fn digit_value(byte: u8) -> Option<u8>
     ensures { result ≡ digit byte }
 {
@@ -17,7 +17,7 @@ fn digit_value(byte: u8) -> Option<u8>
     }
 }
 
-// The value of a hexadecimal digit in upper case.
+/// The value of a hexadecimal digit in upper case.
 fn hex_digit_value(byte: u8) -> Option<u8>
     ensures value { result ≡ hex_digit byte }
     ensures bound { IfSome result (λ digit. digit < 16) }
@@ -28,7 +28,7 @@ fn hex_digit_value(byte: u8) -> Option<u8>
     }
 }
 
-// The number that at most three decimal digits write.
+/// The number that at most three decimal digits write.
 fn decimal(digits: &[u8]) -> Option<u16>
     requires { length digits.now ≤ 3 }
     ensures { result ≡ decimal_number digits.now }
@@ -40,7 +40,7 @@ fn decimal(digits: &[u8]) -> Option<u16>
     Some(number)
 }
 
-// The number that at most eight hexadecimal digits write.
+/// The number that at most eight hexadecimal digits write.
 fn hexadecimal(digits: &[u8]) -> Option<u32>
     requires { length digits.now ≤ 8 }
     ensures value { result ≡ hex_number digits.now }
@@ -53,7 +53,7 @@ fn hexadecimal(digits: &[u8]) -> Option<u32>
     Some(number)
 }
 
-// Whether a field has so many bytes, and no leading zero past the least number of them.
+/// Whether a field has so many bytes at least and so many at most, and no leading zero past the least.
 fn is_short_number(field: &[u8], least: usize, most: usize) -> bool
     requires { 1 ≤ least }
     ensures { result ≡ is_short least most field.now }
@@ -61,7 +61,7 @@ fn is_short_number(field: &[u8], least: usize, most: usize) -> bool
     least <= field.len() && field.len() <= most && (field.len() == least || field[0] != b'0')
 }
 
-// CP: a character by its code point.
+/// The character that a field names: four to six hexadecimal digits in upper case, no leading zero past four (our profile).
 pub(crate) fn character(field: &[u8]) -> Option<char>
     ensures { result ≡ code_point field.now }
 {
@@ -71,7 +71,7 @@ pub(crate) fn character(field: &[u8]) -> Option<char>
     char::from_u32(hexadecimal(field)?)
 }
 
-// N of a class line.
+/// The class that a field gives: one to three digits without a leading zero (our profile).
 pub(crate) fn class_value(field: &[u8]) -> Option<u16>
     ensures { result ≡ class_number field.now }
 {
@@ -81,7 +81,7 @@ pub(crate) fn class_value(field: &[u8]) -> Option<u16>
     decimal(field)
 }
 
-// The four hexadecimal digits of a weight.
+/// The four hexadecimal digits of a weight.
 fn weight(field: &[u8]) -> Option<u16>
     ensures { result ≡ hex_of 4 field.now }
 {
@@ -91,7 +91,7 @@ fn weight(field: &[u8]) -> Option<u16>
     Some(hexadecimal(field)? as u16)
 }
 
-// One digit, up to the last.
+/// One digit, up to the last.
 fn choice(field: &[u8], last: u8) -> Option<u8>
     ensures { result ≡ digit_to last field.now }
 {
@@ -102,7 +102,7 @@ fn choice(field: &[u8], last: u8) -> Option<u8>
     (value <= last).then_some(value)
 }
 
-// P of an element: 0, or eight hexadecimal digits.
+/// P of an element: 0, or eight hexadecimal digits.
 fn primary_weight(field: &[u8]) -> Option<u32>
     ensures { result ≡ primary field.now }
 {
@@ -115,7 +115,7 @@ fn primary_weight(field: &[u8]) -> Option<u32>
     hexadecimal(field)
 }
 
-// What stands between two brackets.
+/// What stands between two brackets.
 fn bracketed(field: &[u8]) -> Option<&[u8]>
     ensures { option_map (λ part. part.now) result ≡ in_brackets field.now }
 {
@@ -125,7 +125,7 @@ fn bracketed(field: &[u8]) -> Option<&[u8]>
     }
 }
 
-// The weights of an element, in their order.
+/// The weights of an element, in their order.
 fn element_of(weights: &[&[u8]]) -> Option<Element>
     ensures { result ≡ element_by (map (λ part. part.now) weights.now) }
 {
@@ -141,7 +141,9 @@ fn element_of(weights: &[&[u8]]) -> Option<Element>
     })
 }
 
-// The parts of a text between its separators.
+/// The parts of a text between its separators, as they stand; a text without one is one part.
+///
+/// Errors: `AllocError` where memory is refused.
 pub(crate) fn parts<'a>(
     alloc: Global,
     bytes: &'a [u8],
@@ -152,7 +154,9 @@ pub(crate) fn parts<'a>(
     bytes.split(|byte| *byte == separator).collect(alloc)
 }
 
-// E: an element.
+/// The element that a field lists, as `[P.S.C.T.Q]` (our profile).
+///
+/// Errors: `AllocError` where memory is refused.
 pub(crate) fn listed_element(alloc: Global, field: &[u8]) -> Result<Option<Element>, AllocError>
     ensures { IfOk result (λ found. found ≡ element field.now) }
 {

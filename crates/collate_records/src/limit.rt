@@ -22,7 +22,7 @@ pub(crate) const ENTRY_LIMIT: usize = 1000;
 /// The most elements that a line lists (our profile).
 pub(crate) const ELEMENT_LIMIT: usize = 8;
 
-// Adds a character to those that are named.
+/// Adds a character to those that are named.
 fn add_name(names: &mut BTreeSet<char>, character: char) -> Result<(), AllocError>
     ensures { (list : List ℕ) → Holds names.old list → OnOk result (Holds names.new (list ++ character ∷ [])) }
 {
@@ -30,7 +30,7 @@ fn add_name(names: &mut BTreeSet<char>, character: char) -> Result<(), AllocErro
     Ok(())
 }
 
-// Adds the characters that a line names.
+/// Adds the characters that a line names.
 fn add_names(names: &mut BTreeSet<char>, saying: &Saying) -> Result<(), AllocError>
     ensures { (list : List ℕ) → Holds names.old list → OnOk result (Holds names.new (list ++ named (said saying.now))) }
 {
@@ -54,14 +54,14 @@ fn add_names(names: &mut BTreeSet<char>, saying: &Saying) -> Result<(), AllocErr
     Ok(())
 }
 
-// Whether a line says something.
+/// Whether a line says something.
 fn is_entry(saying: &Saying) -> bool
     ensures { result ≡ says_something (said saying.now) }
 {
     !matches!(saying, Saying::Nothing)
 }
 
-// How many elements a line lists.
+/// How many elements a line lists.
 fn elements_listed(saying: &Saying) -> usize
     ensures { result ≡ element_count (said saying.now) }
 {
@@ -73,6 +73,8 @@ fn elements_listed(saying: &Saying) -> usize
 
 /// The first line by which a limit is passed: of 150 code points that lines name, of 1,000 lines that say something, or of
 /// 8 elements in a line (our profile).
+///
+/// Errors: `AllocError` where memory is refused.
 pub(crate) fn first_over_limit(
     alloc: Global,
     sayings: &[Saying],
@@ -91,7 +93,7 @@ pub(crate) fn first_over_limit(
     Ok(None)
 }
 
-// Whether a limit is passed by these names, so many lines that say something, and the elements of this line.
+/// Whether a limit is passed by these names, so many lines that say something, and the elements of this line.
 fn is_over(names: &BTreeSet<char>, entries: usize, saying: &Saying) -> bool
     ensures { IsTrue result ↔ ((150 < btree_set_len names.now) ⊎ ((1000 < entries) ⊎ (8 < element_count (said saying.now)))) }
 {

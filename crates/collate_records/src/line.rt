@@ -12,7 +12,7 @@ use std::alloc::{AllocError, Global};
 /// The most bytes of a line, without its LF (our profile).
 pub(crate) const LINE_LIMIT: usize = 1024;
 
-// class CP N
+/// What is said behind `class`: `CP N`.
 fn class_line(fields: &[&[u8]]) -> Option<Saying>
     ensures { option_map said result ≡ class_by (map (λ field. field.now) fields.now) }
 {
@@ -25,7 +25,7 @@ fn class_line(fields: &[&[u8]]) -> Option<Saying>
     })
 }
 
-// What may stand behind the first character of a mapping: a second one, and an `x`.
+/// What may stand behind the first character of a mapping: a second one, and an `x`.
 fn map_ending(fields: &[&[u8]]) -> Option<(Option<char>, bool)>
     ensures { option_map (λ ending. (option_to_list ending.0, ending.1)) result ≡ ending_by (map (λ field. field.now) fields.now) }
 {
@@ -43,14 +43,14 @@ fn map_ending(fields: &[&[u8]]) -> Option<(Option<char>, bool)>
     }
 }
 
-// Whether a field is the `x` that keeps a mapping out of the composed pairs.
+/// Whether a field is the `x` that keeps a mapping out of the composed pairs.
 fn is_exclusion(field: &[u8]) -> bool
     ensures { result ≡ bytes_eq field.now (codes "x") }
 {
     field == b"x".as_slice()
 }
 
-// map CP CP [CP] [x]
+/// What is said behind `map`: `CP CP [CP] [x]`.
 fn map_line(fields: &[&[u8]]) -> Option<Saying>
     ensures { option_map said result ≡ mapping_by (map (λ field. field.now) fields.now) }
 {
@@ -68,7 +68,7 @@ fn map_line(fields: &[&[u8]]) -> Option<Saying>
     })
 }
 
-// The elements that the fields of a line list.
+/// The elements that the fields of a line list.
 fn listed(alloc: Global, fields: &[&[u8]]) -> Result<Option<Vec<Element>>, AllocError>
     ensures { IfOk result (λ found. option_map (λ list. list.items) found ≡ elements (map (λ field. field.now) fields.now)) }
 {
@@ -82,7 +82,7 @@ fn listed(alloc: Global, fields: &[&[u8]]) -> Result<Option<Vec<Element>>, Alloc
     Ok(Some(list))
 }
 
-// w CP ; E..
+/// What is said behind `w`: `CP ; E..`.
 fn weights_line(alloc: Global, fields: &[&[u8]]) -> Result<Option<Saying>, AllocError>
     ensures { IfOk result (λ saying. option_map said saying ≡ weights_by (map (λ field. field.now) fields.now)) }
 {
@@ -102,7 +102,7 @@ fn weights_line(alloc: Global, fields: &[&[u8]]) -> Result<Option<Saying>, Alloc
     }))
 }
 
-// What the fields of a line say.
+/// What the fields of a line say.
 fn says_by(alloc: Global, fields: &[&[u8]]) -> Result<Option<Saying>, AllocError>
     ensures { IfOk result (λ saying. option_map said saying ≡ saying_by (map (λ field. field.now) fields.now)) }
 {
@@ -120,21 +120,23 @@ fn says_by(alloc: Global, fields: &[&[u8]]) -> Result<Option<Saying>, AllocError
     }
 }
 
-// Whether a line is short enough, and in ASCII.
+/// Whether a line is short enough, and in ASCII.
 fn is_sound(line: &[u8]) -> bool
     ensures { result ≡ is_line line.now }
 {
     line.len() <= LINE_LIMIT && !line.iter().any(|byte| *byte >= 0x80)
 }
 
-// Whether a line says nothing: it is empty or a comment.
+/// Whether a line says nothing: it is empty or a comment.
 fn is_comment(line: &[u8]) -> bool
     ensures { result ≡ is_remark line.now }
 {
     matches!(line, [] | [b'#', ..])
 }
 
-// What a line says, or `None` if it is not in the grammar.
+/// What a line says, given without its LF, or `None` if it is not in the grammar (our profile).
+///
+/// Errors: `AllocError` where memory is refused.
 pub(crate) fn says(alloc: Global, line: &[u8]) -> Result<Option<Saying>, AllocError>
     ensures { IfOk result (λ saying. option_map said saying ≡ saying_of line.now) }
 {

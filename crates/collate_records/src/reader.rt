@@ -20,18 +20,32 @@ use std::alloc::{AllocError, Global};
 /// The most bytes of a file (our profile).
 pub(crate) const FILE_LIMIT: usize = 1048576;
 
-// The fault of a line, which counts from 0 here.
-fn fault(line: usize, rule: Rule) -> RecordsError
-    requires { line < usize.MAX }
-    ensures { result ≡ RecordsError.Fault (record { line = line + 1; rule = rule }) }
+/// Reads a records file (our profile): what its lines say, one saying a line.
+///
+/// Errors: the first fault of a file that is not accepted, in the order of faults; `Memory` where memory is refused.
+pub(crate) fn read_sayings(alloc: Global, bytes: &[u8]) -> Result<Vec<Saying>, RecordsError>
+    ensures { MatchResult result (λ sayings. IsAccepted bytes.now × (map said sayings.items ≡ sayings_of bytes.now)) (Refuses bytes.now) }
 {
-    RecordsError::Fault(RecordFault {
-        line: line + 1,
-        rule,
-    })
+    let lines = lines_in(alloc, bytes)?;
+    match line_past_size(bytes) {
+        Some(line) => {
+            read_lines(alloc, &lines, line)?;
+            Err(fault(line, Rule::Grammar))
+        }
+        None => read_within(alloc, &lines),
+    }
 }
 
-// The lines of a file, without their LFs.
+/// Reads the lines of a file that is not too long.
+fn read_within(alloc: Global, lines: &[&[u8]]) -> Result<Vec<Saying>, RecordsError>
+    ensures { let texts = map (λ line. line.now) lines.now in MatchResult result (λ sayings. AreSound texts (length texts) × (map said sayings.items ≡ sayings_in texts) × KeepsBelow 26 (sayings_in texts)) (RefusesLines texts) }
+{
+    let sayings = read_lines(alloc, lines, lines.len())?;
+    keep_rules(alloc, &sayings)?;
+    Ok(sayings)
+}
+
+/// The lines of a file, without their LFs.
 fn lines_in(alloc: Global, bytes: &[u8]) -> Result<Vec<&[u8]>, AllocError>
     ensures { IfOk result (λ lines. map (λ line. line.now) lines.items ≡ lines_of bytes.now) }
 {
@@ -42,7 +56,7 @@ fn lines_in(alloc: Global, bytes: &[u8]) -> Result<Vec<&[u8]>, AllocError>
     Ok(lines)
 }
 
-// Whether nothing stands in the last line.
+/// Whether nothing stands in the last line.
 fn ends_empty(lines: &[&[u8]]) -> bool
     ensures { result ≡ ends_empty (map (λ line. line.now) lines.now) }
 {
@@ -52,7 +66,7 @@ fn ends_empty(lines: &[&[u8]]) -> bool
     }
 }
 
-// The line that holds the first byte past the most bytes of a file.
+/// The line that holds the first byte past the most bytes of a file.
 fn line_past_size(bytes: &[u8]) -> Option<usize>
     ensures { MatchOption result ((i : ℕ) → PassesSize bytes.now i → ⊥) (PassesSize bytes.now) }
 {
@@ -67,7 +81,7 @@ fn line_past_size(bytes: &[u8]) -> Option<usize>
     )
 }
 
-// What the first so many lines say, one saying a line.
+/// What the first so many lines say, one saying a line.
 fn read_lines(alloc: Global, lines: &[&[u8]], count: usize) -> Result<Vec<Saying>, RecordsError>
     requires { count ≤ length lines.now }
     ensures { let texts = map (λ line. line.now) lines.now in MatchResult result (λ sayings. AreSound texts count × (map said sayings.items ≡ take count (sayings_in texts))) (RefusesLine texts count) }
@@ -89,18 +103,7 @@ fn read_lines(alloc: Global, lines: &[&[u8]], count: usize) -> Result<Vec<Saying
     Ok(sayings)
 }
 
-// Refuses a file for the first line that offends against a rule, if there is one.
-fn refuse(rule: Rule, found: Option<usize>) -> Result<(), RecordsError>
-    requires { IfSome found (λ i. i < usize.MAX) }
-    ensures { (sayings : List Said) → AsksRule rule sayings found result }
-{
-    match found {
-        Some(line) => Err(fault(line, rule)),
-        None => Ok(()),
-    }
-}
-
-// Asks the rules in the order of faults, from the limits on.
+/// Asks the rules in the order of faults, from the limits on.
 fn keep_rules(alloc: Global, sayings: &[Saying]) -> Result<(), RecordsError>
     ensures { let said = map said sayings.now in MatchResult result (λ _. KeepsBelow 26 said) (RefusesSayings said) }
 {
@@ -114,29 +117,26 @@ fn keep_rules(alloc: Global, sayings: &[Saying]) -> Result<(), RecordsError>
     Ok(())
 }
 
-// Reads a file that is not longer than a file may be.
-fn read_within(alloc: Global, lines: &[&[u8]]) -> Result<Vec<Saying>, RecordsError>
-    ensures { let texts = map (λ line. line.now) lines.now in MatchResult result (λ sayings. AreSound texts (length texts) × (map said sayings.items ≡ sayings_in texts) × KeepsBelow 26 (sayings_in texts)) (RefusesLines texts) }
+/// Refuses a file for the first line that offends against a rule, if there is one.
+fn refuse(rule: Rule, found: Option<usize>) -> Result<(), RecordsError>
+    requires { IfSome found (λ i. i < usize.MAX) }
+    ensures { (sayings : List Said) → AsksRule rule sayings found result }
 {
-    let sayings = read_lines(alloc, lines, lines.len())?;
-    keep_rules(alloc, &sayings)?;
-    Ok(sayings)
+    match found {
+        Some(line) => Err(fault(line, rule)),
+        None => Ok(()),
+    }
 }
 
-/// Reads a records file (our profile): what its lines say, one saying a line.
-///
-/// Errors: the first fault of a file that is not accepted, in the order of faults; `Memory` where memory is refused.
-pub(crate) fn read_sayings(alloc: Global, bytes: &[u8]) -> Result<Vec<Saying>, RecordsError>
-    ensures { MatchResult result (λ sayings. IsAccepted bytes.now × (map said sayings.items ≡ sayings_of bytes.now)) (Refuses bytes.now) }
+/// The fault of a line, which counts from 0 here.
+fn fault(line: usize, rule: Rule) -> RecordsError
+    requires { line < usize.MAX }
+    ensures { result ≡ RecordsError.Fault (record { line = line + 1; rule = rule }) }
 {
-    let lines = lines_in(alloc, bytes)?;
-    match line_past_size(bytes) {
-        Some(line) => {
-            read_lines(alloc, &lines, line)?;
-            Err(fault(line, Rule::Grammar))
-        }
-        None => read_within(alloc, &lines),
-    }
+    RecordsError::Fault(RecordFault {
+        line: line + 1,
+        rule,
+    })
 }
 
 #[cfg(test)]

@@ -1,4 +1,4 @@
-use Rattle.std.proofs.Common.{◌<◌, ◌+◌, ◌*◌, ◌^◌, arith, lit<}
+use Rattle.std.proofs.Common.{◌<◌, ◌^◌, arith, lit<}
 use Rattle.collate_records.proofs.Numbers.{power_most}
 use Rattle.collate_records.proofs.fields.hexadecimal.Goals as goal
 

@@ -1,4 +1,4 @@
-use Rattle.std.proofs.Common.{◌<◌, length, map, sym, ◌∙◌, arith}
+use Rattle.std.proofs.Common.{map, sym, ◌∙◌, arith}
 use Rattle.std.proofs.lemmas.List.{length-map}
 use Rattle.std.proofs.lemmas.Bool.{false≢true}
 use Rattle.collate_records.specs.Sayings.{said}

@@ -1,4 +1,4 @@
-use Rattle.std.proofs.Common.{◌≡◌, ap, not, leb, rules, tests, sym, ◌∙◌, true, ◌&&◌}
+use Rattle.std.proofs.Common.{ap, not, leb, rules, tests}
 use borrow.Author.Tests.{le-leb}
 use Rattle.std.proofs.lemmas.Iterator.{YieldsList-from_slice}
 use Rattle.std.proofs.lemmas.Iterator.Search.{any_from_yields_List}

@@ -1,10 +1,8 @@
-use Rattle.std.proofs.Common.{refl, ◌≡◌, ℕ, ◌+◌, ◌<◌, ◌≤◌, ◌++◌, ◌∷◌, [], Bool, true, false, not, map, length, take, List, Bor, Option, Some, None, sym, ap, ◌∙◌, arith, if◌then◌else◌}
+use Rattle.std.proofs.Common.{refl, ◌≡◌, ℕ, ◌<◌, ◌++◌, ◌∷◌, [], Bool, true, false, not, map, length, List, Bor, sym, ap, ◌∙◌, arith, if◌then◌else◌}
 use Rattle.std.proofs.lemmas.List.{length-map, map_push}
 use Rattle.collate_records.specs.declared.sayings.Saying.{Saying as Line}
 use Rattle.collate_records.specs.Sayings.{Saying, said}
-use Rattle.collate_records.specs.Grammar.{saying_of}
 use Rattle.collate_records.specs.Seen.{is_seen}
-use Rattle.collate_records.specs.Files.{line_at, sayings_in}
 use Rattle.collate_records.proofs.Reading.{read_at, outside_at, refuses_at, said_to, sound_more, seen_more, repeats_here}
 use Rattle.collate_records.proofs.reader.read_lines.Goals as goal
 

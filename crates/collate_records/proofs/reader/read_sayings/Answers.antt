@@ -1,5 +1,5 @@
-use Rattle.std.proofs.Common.{◌≡◌, ℕ, ◌+◌, ◌<◌, ◌≤◌, List, Bor, map, length, ap, ◌∙◌, arith, rules}
-use Rattle.collate_records.specs.Files.{lines_of, Refuses}
+use Rattle.std.proofs.Common.{ℕ, List, Bor, map, ap, ◌∙◌, arith, rules}
+use Rattle.collate_records.specs.Files.{Refuses}
 use Rattle.collate_records.proofs.Faults.{past_small, past_lines, past_refused, past_fault, answers_within}
 use Rattle.collate_records.proofs.reader.read_sayings.Goals as goal
 

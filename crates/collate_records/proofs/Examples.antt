@@ -1,8 +1,9 @@
--- What the grammar says of some lines, computed.
-use Rattle.std.proofs.Common.{◌≡◌, refl, List, [], ◌∷◌, Some, None, true, false}
+-- What the grammar says of some lines, and the lines of some files, computed.
+use Rattle.std.proofs.Common.{◌≡◌, refl, [], ◌∷◌, Some, None, true}
 use Rattle.std.specs.Prelude.{codes}
-use Rattle.collate_records.specs.Sayings.{Saying, nothing, class, mapping, weights}
+use Rattle.collate_records.specs.Sayings.{nothing, class, mapping, weights}
 use Rattle.collate_records.specs.Grammar.{saying_of}
+use Rattle.collate_records.specs.Files.{lines_of}
 
 pub said_class : saying_of (codes "class 0301 230") ≡ Some (class 0x301 230)
 said_class = refl
@@ -27,3 +28,15 @@ unsaid_zero = refl
 
 pub unsaid_surrogate : saying_of (codes "class D800 230") ≡ None
 unsaid_surrogate = refl
+
+pub no_line : lines_of [] ≡ []
+no_line = refl
+
+pub ended_line : lines_of (97 ∷ 10 ∷ []) ≡ (97 ∷ []) ∷ []
+ended_line = refl
+
+pub open_line : lines_of (97 ∷ []) ≡ (97 ∷ []) ∷ []
+open_line = refl
+
+pub empty_line : lines_of (10 ∷ 97 ∷ []) ≡ [] ∷ (97 ∷ []) ∷ []
+empty_line = refl
