@@ -1,15 +1,15 @@
 -- The elements of a list under weights that look at single characters alone.
-use Rattle.std.proofs.Common.{◌≡◌, ℕ, zero, suc, ◌+◌, ◌<◌, ◌≤◌, Bool, true, false, cond, List, [], ◌∷◌, ◌++◌, length, take, drop, reverse, Option, Some, None, refl, sym, ◌∙◌, ap, arith, append_assoc, leb, ltb, ◌==◌, ◌&&◌, map}
+use Rattle.std.proofs.Common.{◌≡◌, ℕ, zero, suc, ◌<◌, ◌≤◌, Bool, true, false, cond, List, [], ◌∷◌, ◌++◌, length, take, drop, reverse, Option, Some, None, refl, sym, ◌∙◌, ap, arith, append_assoc, leb, ltb, ◌==◌, ◌&&◌}
 use Rattle.std.proofs.lemmas.List.{append-nil, length-reverse, length-take-le}
 use Rattle.std.proofs.lemmas.Bool.Decides.{nat_tests}
 use Rattle.std.specs.Option.{unwrap_or, is_some}
-use Rattle.std.specs.List.{list_all, flat_map}
+use Rattle.std.specs.List.{flat_map}
 use Rattle.icu_normalizer_core.specs.Canonical.{Canonical}
 use Rattle.icu_collator_types.specs.declared.elements.Element.{Element}
 use Rattle.icu_collator_core.specs.Weights.{Weights}
 use Rattle.icu_normalizer_core.specs.BuiltIn.{is_jamo}
 use Rattle.icu_collator_core.specs.Defaults.{special_primary, primary_element, default_elements, default_primary, jamo_primary, implicit_primary, range_primary}
-use Rattle.icu_collator_core.specs.Elements.{Placed, Reading, Joining, at_greatest, behind_prefix, prefix_match, recorded_length, match_length, joining, text_match, text_reading, reading, elements_within, placed_behind, characters_of, longest_prefix, elements_of_list, is_before_accent}
+use Rattle.icu_collator_core.specs.Elements.{Placed, Reading, Joining, at_greatest, behind_prefix, prefix_match, recorded_length, match_length, joining, text_match, text_reading, reading, elements_within, placed_behind, characters_of, longest_prefix, is_before_accent}
 use Rattle.collate.specs.Plain.{IsContextFree, elements_of_character}
 
 -- what is nowhere found isn't found at the greatest place

@@ -1,16 +1,16 @@
 -- Keys of names under plain options compare as the names do.
-use Rattle.std.proofs.Common.{◌≡◌, ℕ, Bool, true, false, cond, List, [], ◌∷◌, map, refl, sym, ◌∙◌, ap}
+use Rattle.std.proofs.Common.{◌≡◌, ℕ, false, List, refl, ◌∙◌}
 use Rattle.std.specs.Ordering.{nat_cmp, ordering_then}
 use Rattle.std.specs.Cmp.Lexicographic.{slice_cmp}
 use Rattle.std.specs.declared.cmp.Ordering.{Ordering}
 use Rattle.std.specs.declared.cmp.Ordering.TheVariants.{Less, Equal, Greater}
 use Rattle.icu_normalizer_core.specs.Canonical.{decomposed}
 use Rattle.icu_normalizer_core.specs.Decoding.{utf8_chars}
-use Rattle.icu_collator_types.specs.Options.{is_at_least, is_shifted, has_case_bits}
+use Rattle.icu_collator_types.specs.Options.{is_shifted, has_case_bits}
 use Rattle.icu_collator_types.specs.declared.options.ResolvedCollatorOptions.{ResolvedCollatorOptions}
 use Rattle.icu_collator.specs.Levels.{levels_of_text}
 use Rattle.collate_records.specs.Sayings.{collation_of}
-use Rattle.collate.specs.Plain.{AreSimple, weights_at}
+use Rattle.collate.specs.Plain.{AreSimple}
 use Rattle.collate.specs.Keys.{IsKeyOf, elements_of_name}
 use Rattle.collate.specs.Meaning.{Meaning, order_by}
 use Rattle.collate.specs.declared.key.IndexKey.{IndexKey}

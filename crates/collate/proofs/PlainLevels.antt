@@ -1,15 +1,14 @@
 -- The levels of elements under options that leave out cases, numbers and shifting, over a collation that neither reorders
 -- nor reads backward.
-use Rattle.std.proofs.Common.{◌≡◌, ℕ, zero, suc, ◌+◌, ◌*◌, ◌/◌, ◌%◌, ◌^◌, Bool, true, false, cond, List, [], ◌∷◌, ◌++◌, map, Option, Some, None, refl, sym, ◌∙◌, ap, arith, ◌==◌, ◌&&◌}
+use Rattle.std.proofs.Common.{◌≡◌, ℕ, ◌+◌, ◌*◌, ◌/◌, ◌%◌, ◌^◌, Bool, true, false, cond, List, [], ◌∷◌, map, Option, Some, None, refl, ◌∙◌, ap, arith, ◌==◌}
 use Rattle.std.specs.List.{filter_map, cons_option}
 use Rattle.std.specs.Option.{option_map}
 use Rattle.icu_collator_types.specs.declared.elements.Element.{Element}
-use Rattle.icu_collator_types.specs.declared.options.AlternateHandling.TheVariants.{NonIgnorable}
 use Rattle.icu_collator_types.specs.declared.options.ResolvedCollatorOptions.{ResolvedCollatorOptions}
 use Rattle.icu_collator_types.specs.Options.{is_shifted, has_case_bits}
 use Rattle.icu_collator_core.specs.Collation.{Collation}
-use Rattle.icu_collator.specs.Shifted.{Counted, whole, variable, counted, counted_behind, is_variable}
-use Rattle.icu_collator.specs.Levels.{Levels, SecondaryPlace, secondary, reordered, unless_zero, primary_at, secondary_at, secondaries_of, tertiary_at, tertiary_weight, levels_of}
+use Rattle.icu_collator.specs.Shifted.{Counted, whole, counted_behind}
+use Rattle.icu_collator.specs.Levels.{secondary, unless_zero, primary_at, secondary_at, tertiary_at, levels_of}
 use Rattle.collate.specs.Plain.{weights_at}
 
 -- no element is variable

@@ -1,5 +1,5 @@
 -- The collation order under plain options: primaries, secondaries and tertiaries in turn.
-use Rattle.std.proofs.Common.{◌≡◌, ℕ, zero, suc, ◌+◌, Bool, true, false, cond, List, [], ◌∷◌, map, refl, sym, ◌∙◌, ap, arith}
+use Rattle.std.proofs.Common.{◌≡◌, ℕ, ◌+◌, Bool, true, false, cond, List, [], ◌∷◌, map, refl, arith}
 use Rattle.std.proofs.lemmas.Bool.Decides.{nat_tests}
 use Rattle.std.specs.Ordering.{nat_cmp, ordering_then}
 use Rattle.std.specs.Cmp.Lexicographic.{slice_cmp}
@@ -8,7 +8,7 @@ use Rattle.std.specs.declared.cmp.Ordering.TheVariants.{Less, Equal, Greater}
 use Rattle.icu_collator_types.specs.declared.options.Strength.{Strength}
 use Rattle.icu_collator_types.specs.declared.options.Strength.TheVariants.{Primary, Secondary, Tertiary, Quaternary, Identical}
 use Rattle.icu_collator_types.specs.declared.options.ResolvedCollatorOptions.{ResolvedCollatorOptions}
-use Rattle.icu_collator_types.specs.Options.{is_at_least, has_case_level}
+use Rattle.icu_collator_types.specs.Options.{is_at_least}
 use Rattle.icu_collator.specs.Levels.{Levels, secondary}
 use Rattle.icu_collator.specs.Order.{levels_order, list_order, secondary_rank, where_in_force}
 use Rattle.collate.specs.Plain.{AreSimple}

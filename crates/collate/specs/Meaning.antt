@@ -1,5 +1,5 @@
 -- What decides the order of names: records and options.
-use Rattle.std.specs.Prelude.{ℕ, List}
+use Rattle.std.specs.Prelude.{List}
 use Rattle.icu_normalizer_core.specs.Decoding.{utf8_chars}
 use Rattle.icu_collator_types.specs.declared.options.ResolvedCollatorOptions.{ResolvedCollatorOptions}
 use Rattle.icu_collator.specs.Order.{collation_order}

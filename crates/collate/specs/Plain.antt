@@ -1,6 +1,6 @@
 -- What the definitions come to over records of single characters, without prefixes, digits and ranges, and under the
 -- options that leave out cases, numbers and shifting.
-use Rattle.std.specs.Prelude.{◌≡◌, ℕ, Bool, true, false, cond, ltb, ◌&&◌, List, [], ◌∷◌, ◌++◌, filter_map, flat_map, Option, Some, None}
+use Rattle.std.specs.Prelude.{◌≡◌, ℕ, Bool, false, ltb, ◌&&◌, List, [], ◌∷◌, filter_map, Some, None}
 use Rattle.std.specs.Option.{unwrap_or}
 use Rattle.icu_collator_types.specs.declared.elements.Element.{Element}
 use Rattle.icu_collator_types.specs.declared.options.AlternateHandling.TheVariants.{NonIgnorable}

@@ -1,5 +1,5 @@
 -- The code points that lines name are scalar values.
-use Rattle.std.proofs.Common.{◌≡◌, ℕ, ◌≤◌, Bool, true, false, cond, not, ◌||◌, ◌&&◌, List, [], ◌∷◌, length, map, Option, Some, None, All, refl, sym, ◌∙◌, ap, arith, get_or, ◌==◌, ◌<◌, bytes_eq, ◌⊎◌, inl, inr}
+use Rattle.std.proofs.Common.{◌≡◌, ℕ, ◌≤◌, Bool, true, false, not, List, [], ◌∷◌, length, Option, Some, None, All, refl, arith, get_or, ◌==◌, ◌<◌, bytes_eq, ◌⊎◌, inl, inr}
 use Rattle.std.proofs.lemmas.Bool.Decides.{nat_tests}
 use Rattle.std.proofs.lemmas.List.{length-map}
 use Rattle.std.proofs.lemmas.List.Elements.{All-cons, All-map, All-nil}
@@ -7,10 +7,10 @@ use Rattle.std.specs.List.{slice_split}
 use Rattle.std.specs.Option.{unwrap_or}
 use Rattle.std.proofs.lemmas.Option.{same_Some}
 use Rattle.std.specs.Char.{IsScalar}
-use Rattle.std.specs.Prelude.{if◌then◌else◌, codes, option_and_then}
-use Rattle.collate_records.specs.Sayings.{Saying, canonical_of, nothing, class, mapping, weights}
+use Rattle.std.specs.Prelude.{if◌then◌else◌, codes}
+use Rattle.collate_records.specs.Sayings.{Saying, canonical_of, nothing, weights}
 use Rattle.collate_records.specs.Accepted.{AreScalars, MapsToScalars}
-use Rattle.collate_records.specs.Grammar.{◌>>=◌, checked, code_point, ending_by, hex_number, is_line, is_remark, is_scalar, is_short, mapping_by, saying_by, saying_of, class_by, weights_by, class_number, elements}
+use Rattle.collate_records.specs.Grammar.{◌>>=◌, checked, code_point, ending_by, hex_number, is_line, is_remark, is_scalar, is_short, mapping_by, saying_by, saying_of, class_by, weights_by, class_number}
 use Rattle.collate_records.specs.Files.{IsAccepted, lines_of, read_line, sayings_of}
 use Rattle.icu_normalizer_core.specs.Canonical.{IsDecomposing}
 use Rattle.collate_records.specs.declared.rule.Rule.{Rule}

@@ -1,5 +1,5 @@
 -- The collation elements of a decomposed list: which texts are matched, and what each match gives.
-use Rattle.std.specs.Prelude.{ℕ, zero, suc, ◌+◌, Bool, true, false, cond, ◌==◌, ◌&&◌, ◌||◌, ltb, leb, List, [], ◌∷◌, ◌++◌, map, reverse, length, take, drop, Option, Some, None, filter_map, take_while}
+use Rattle.std.specs.Prelude.{ℕ, zero, suc, Bool, false, cond, ◌==◌, ◌&&◌, ◌||◌, ltb, leb, List, [], ◌∷◌, ◌++◌, map, reverse, length, take, drop, Option, Some, None, filter_map}
 use Rattle.std.specs.List.{list_all, prefix_len}
 use Rattle.std.specs.Option.{unwrap_or, is_some}
 use Rattle.icu_normalizer_core.specs.Canonical.{Canonical}

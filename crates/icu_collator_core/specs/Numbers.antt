@@ -1,5 +1,5 @@
 -- The elements of a number, that is, of a maximal run of digits. Their primaries order as the values do.
-use Rattle.std.specs.Prelude.{ℕ, zero, suc, ◌+◌, ◌-◌, ◌*◌, ◌/◌, ◌%◌, ◌^◌, Bool, cond, ◌==◌, ltb, leb, List, [], ◌∷◌, ◌++◌, map, reverse, length, take, drop, fold}
+use Rattle.std.specs.Prelude.{ℕ, zero, suc, ◌+◌, ◌-◌, ◌*◌, ◌/◌, ◌%◌, cond, ◌==◌, ltb, List, [], ◌∷◌, ◌++◌, length, take, drop, fold}
 use Rattle.icu_collator_types.specs.declared.elements.Element.{Element}
 use Rattle.icu_collator_core.specs.Defaults.{primary_of, primary_element}
 

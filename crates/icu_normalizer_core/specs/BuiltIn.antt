@@ -1,6 +1,6 @@
 -- What is built in: Hangul, jamo, U+FFFD, seven decompositions that compose to nothing, two compatibility mappings,
 -- and the classes of the marks that these name (UAX 15; our profile fixes the list).
-use Rattle.std.specs.Prelude.{◌≡◌, ℕ, ◌+◌, ◌-◌, ◌*◌, ◌/◌, ◌%◌, Bool, true, false, cond, ◌==◌, ◌&&◌, ◌||◌, leb, List, [], ◌∷◌, Option, Some, None}
+use Rattle.std.specs.Prelude.{ℕ, ◌+◌, ◌-◌, ◌*◌, ◌/◌, ◌%◌, Bool, cond, ◌==◌, ◌&&◌, ◌||◌, leb, List, [], ◌∷◌, Option, Some, None}
 
 -- first ≤ c ≤ last
 abbrev pub is_within : ℕ → ℕ → ℕ → Bool
@@ -33,25 +33,25 @@ syllable_of first second =
     let of_jamo = Some (0xac00 + ((first - 0x1100) * 21 + (second - 0x1161)) * 28)
     in let of_syllable = Some (first + (second - 0x11a7))
     in cond (is_within 0x1100 0x1112 first && is_within 0x1161 0x1175 second)
-        of_jamo
-        (cond (is_open_syllable first && is_within 0x11a8 0x11c2 second) of_syllable None)
+    of_jamo
+    (cond (is_open_syllable first && is_within 0x11a8 0x11c2 second) of_syllable None)
 
 -- the seven whose mapping is built in without a composed pair
 unfoldable pub singled_out : ℕ → Option (List ℕ)
 singled_out c =
     cond (c == 0x340) (Some (0x300 ∷ []))
-        (cond (c == 0x341) (Some (0x301 ∷ []))
-        (cond (c == 0x343) (Some (0x313 ∷ []))
-        (cond (c == 0x344) (Some (0x308 ∷ 0x301 ∷ []))
-        (cond (c == 0xf73) (Some (0xf71 ∷ 0xf72 ∷ []))
-        (cond (c == 0xf75) (Some (0xf71 ∷ 0xf74 ∷ []))
-        (cond (c == 0xf81) (Some (0xf71 ∷ 0xf80 ∷ [])) None))))))
+    (cond (c == 0x341) (Some (0x301 ∷ []))
+    (cond (c == 0x343) (Some (0x313 ∷ []))
+    (cond (c == 0x344) (Some (0x308 ∷ 0x301 ∷ []))
+    (cond (c == 0xf73) (Some (0xf71 ∷ 0xf72 ∷ []))
+    (cond (c == 0xf75) (Some (0xf71 ∷ 0xf74 ∷ []))
+    (cond (c == 0xf81) (Some (0xf71 ∷ 0xf80 ∷ [])) None))))))
 
 -- the canonical mapping of a character that has a built-in one; the empty list where it is built in that there is none
 unfoldable pub built_in_step : ℕ → Option (List ℕ)
 built_in_step c =
     cond (is_syllable c) (Some (syllable_step c))
-        (cond (is_jamo c || (c == 0xfffd)) (Some []) (singled_out c))
+    (cond (is_jamo c || (c == 0xfffd)) (Some []) (singled_out c))
 
 -- the compatibility mapping of a character that has a built-in one
 unfoldable pub built_in_compatibility_step : ℕ → Option (List ℕ)
@@ -62,14 +62,14 @@ built_in_compatibility_step c =
 unfoldable pub built_in_class : ℕ → Option ℕ
 built_in_class c =
     let above =
-        (c == 0x300) || (c == 0x301) || (c == 0x308) || (c == 0x313)
-            || (c == 0x340) || (c == 0x341) || (c == 0x343) || (c == 0x344)
+    (c == 0x300) || (c == 0x301) || (c == 0x308) || (c == 0x313)
+    || (c == 0x340) || (c == 0x341) || (c == 0x343) || (c == 0x344)
     in let none =
-        is_syllable c || is_jamo c || (c == 0xfffd)
-            || (c == 0xf73) || (c == 0xf75) || (c == 0xf81) || (c == 0xff9e) || (c == 0xff9f)
+    is_syllable c || is_jamo c || (c == 0xfffd)
+    || (c == 0xf73) || (c == 0xf75) || (c == 0xf81) || (c == 0xff9e) || (c == 0xff9f)
     in cond above (Some 230)
-        (cond (c == 0xf71) (Some 129)
-        (cond ((c == 0xf72) || (c == 0xf80)) (Some 130)
-        (cond (c == 0xf74) (Some 132)
-        (cond ((c == 0x3099) || (c == 0x309a)) (Some 8)
-        (cond none (Some 0) None)))))
+    (cond (c == 0xf71) (Some 129)
+    (cond ((c == 0xf72) || (c == 0xf80)) (Some 130)
+    (cond (c == 0xf74) (Some 132)
+    (cond ((c == 0x3099) || (c == 0x309a)) (Some 8)
+    (cond none (Some 0) None)))))

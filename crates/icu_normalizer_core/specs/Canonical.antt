@@ -1,5 +1,5 @@
 -- Canonical data as what they say of characters, apart from how they are stored.
-use Rattle.std.specs.Prelude.{◌≡◌, ℕ, ◌+◌, ◌<◌, ◌≤◌, Bool, true, false, cond, ◌==◌, ◌&&◌, ◌↔◌, not, leb, ltb, List, [], ◌∷◌, ◌++◌, length, flat_map, All, Contains, Option, Some, None, IsTrue, IsSome, IfSome}
+use Rattle.std.specs.Prelude.{◌≡◌, ℕ, ◌<◌, ◌≤◌, Bool, false, cond, ◌==◌, ◌&&◌, ltb, List, [], ◌∷◌, ◌++◌, length, flat_map, All, Contains, Option, Some, None, IfSome}
 use Rattle.std.specs.List.{list_all}
 use Rattle.std.specs.Char.{IsScalar}
 use Rattle.icu_normalizer_core.specs.BuiltIn.{built_in_step, built_in_class, is_syllable, is_jamo, is_within, singled_out, syllable_of}

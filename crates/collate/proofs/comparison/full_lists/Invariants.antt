@@ -1,4 +1,4 @@
-use Rattle.std.proofs.Common.{ℕ, ◌≡◌, ◌++◌}
+use Rattle.std.proofs.Common.{◌≡◌, ◌++◌}
 use Rattle.std.specs.List.{flat_map}
 use Rattle.icu_normalizer_core.specs.Decoding.{utf8_chars}
 use Rattle.collate_records.specs.Sayings.{full_of}

@@ -1,4 +1,4 @@
-use Rattle.std.proofs.Common.{ℕ, ◌≡◌, ◌≤◌, ◌++◌, length, take, drop}
+use Rattle.std.proofs.Common.{◌≡◌, ◌≤◌, ◌++◌, length, take, drop}
 use Rattle.icu_normalizer_core.specs.Canonical.{marks_in_order}
 use Rattle.collate_records.specs.Sayings.{class_of}
 use Rattle.collate.proofs.comparison.put_marks_in_order.Given as goal

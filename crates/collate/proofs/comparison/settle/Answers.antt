@@ -1,5 +1,5 @@
 -- Each turn moves one mark of a lower class to the left, and the end puts the character behind them.
-use Rattle.std.proofs.Common.{arith, ◌≡◌, ◌∙◌, ◌<◌, ◌+◌, true, false, length-set, sym, inl, inr, slice_index_or}
+use Rattle.std.proofs.Common.{arith, ◌∙◌, ◌+◌, length-set, inl, inr, slice_index_or}
 use Rattle.collate_records.specs.Sayings.{class_of}
 use Rattle.collate.proofs.Marks.{settle_step, settle_end, test_at}
 use Rattle.collate.proofs.comparison.settle.Goals as goal
