@@ -225,100 +225,57 @@ impl Records {
 #[cfg(test)]
 mod tests {
     use super::*;
+    use crate::rule::{RecordFault, Rule};
     use std::test::Fail;
 
-    fn add(lines: &mut Vec<Saying>, line: Saying) -> Result<(), AllocError>
-        requires lines { All HasSmallClass (map said lines.old.items) }
-        requires line { HasSmallClass (said line) }
-        ensures { OnOk result (All HasSmallClass (map said lines.new.items)) }
-    {
-        lines.push(line)?;
-        Ok(())
-    }
+    /// Letters, three marks of which two have classes by lines, and two letters with a mark.
+    const LETTERS: &[u8] = b"class 0302 230
+class 0323 220
+map 00E1 0061 0301
+map 1EA1 0061 0323
+w 0061 ; [2A100000.0500.0.0500.0]
+w 0062 ; [2A200000.0500.0.0500.0]
+w 0063 ; [2A300000.0500.0.0500.0]
+w 0065 ; [2A500000.0500.0.0500.0]
+w 0068 ; [2A800000.0500.0.0500.0]
+w 006C ; [2AC00000.0500.0.0500.0]
+w 006F ; [2AF00000.0500.0.0500.0]
+w 0074 ; [2B400000.0500.0.0500.0]
+w 0301 ; [0.8800.0.0500.0]
+w 0302 ; [0.8A00.0.0500.0]
+w 0323 ; [0.8C00.0.0500.0]
+";
 
-    /// A line with one element, with the common tertiary.
-    fn add_weights(
-        lines: &mut Vec<Saying>,
-        alloc: Global,
-        character: char,
-        primary: u32,
-        secondary: u16,
-    ) -> Result<(), AllocError>
-        requires { All HasSmallClass (map said lines.old.items) }
-        ensures { OnOk result (All HasSmallClass (map said lines.new.items)) }
-    {
-        let element = Element {
-            primary,
-            secondary,
-            case: 0,
-            tertiary: 0x500,
-            quaternary: 0,
-        };
-        let elements = Vec::from_slice(alloc, &[element])?;
-        add(
-            lines,
-            Saying::Weights {
-                character,
-                elements,
-            },
-        )
-    }
-
-    /// The records of the file of 15 lines that the worked rows use.
-    fn worked_records(alloc: Global) -> Result<Records, AllocError> {
-        let mut lines = Vec::new(alloc);
-        add(
-            &mut lines,
-            Saying::Class {
-                character: '\u{302}',
-                class: 230,
-            },
-        )?;
-        add(
-            &mut lines,
-            Saying::Class {
-                character: '\u{323}',
-                class: 220,
-            },
-        )?;
-        add(
-            &mut lines,
-            Saying::Map {
-                character: '\u{e1}',
-                first: 'a',
-                second: Some('\u{301}'),
-                is_excluded: false,
-            },
-        )?;
-        add(
-            &mut lines,
-            Saying::Map {
-                character: '\u{1ea1}',
-                first: 'a',
-                second: Some('\u{323}'),
-                is_excluded: false,
-            },
-        )?;
-        add_weights(&mut lines, alloc, 'a', 0x2a10_0000, 0x500)?;
-        add_weights(&mut lines, alloc, 'b', 0x2a20_0000, 0x500)?;
-        add_weights(&mut lines, alloc, 'c', 0x2a30_0000, 0x500)?;
-        add_weights(&mut lines, alloc, 'e', 0x2a50_0000, 0x500)?;
-        add_weights(&mut lines, alloc, 'h', 0x2a80_0000, 0x500)?;
-        add_weights(&mut lines, alloc, 'l', 0x2ac0_0000, 0x500)?;
-        add_weights(&mut lines, alloc, 'o', 0x2af0_0000, 0x500)?;
-        add_weights(&mut lines, alloc, 't', 0x2b40_0000, 0x500)?;
-        add_weights(&mut lines, alloc, '\u{301}', 0, 0x8800)?;
-        add_weights(&mut lines, alloc, '\u{302}', 0, 0x8a00)?;
-        add_weights(&mut lines, alloc, '\u{323}', 0, 0x8c00)?;
-        Records::new(alloc, lines)
+    fn worked_records(alloc: Global) -> Result<Records, RecordsError> {
+        Records::read(alloc, LETTERS)
     }
 
     #[test]
-    fn ok_new(rt: HostRuntime) -> Result<(), Fail> {
+    fn ok_read(rt: HostRuntime) -> Result<(), Fail> {
         let records = worked_records(rt.alloc())?;
         assert_eq!(rt; records.class('\u{302}'), 230);
         assert_eq!(rt; records.class('\u{323}'), 220);
         assert_eq!(rt; records.class('a'), 0);
+        Ok(())
+    }
+
+    #[test]
+    fn a_line_more_may_be_at_fault(rt: HostRuntime) -> Result<(), Fail> {
+        let alloc = rt.alloc();
+        let lines: [(&[u8], Rule); 3] = [
+            (b"class 0301 220", Rule::C8),
+            (b"w 0061 ;", Rule::V14),
+            (b"w 0061 0062 ;", Rule::Grammar),
+        ];
+        for (line, rule) in lines {
+            let mut file = Vec::from_slice(alloc, LETTERS)?;
+            file.extend_from_slice(line)?;
+            let fault = RecordFault { line: 16, rule };
+            assert_eq!(rt;
+                Records::read(alloc, &file).err(),
+                Some(RecordsError::Fault(fault))
+            );
+        }
         Ok(())
     }
 
