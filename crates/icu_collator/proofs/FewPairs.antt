@@ -101,7 +101,7 @@ few_jamo a b c h e =
     in let parts = accented_pair a b c is
     in grind (arith, nat_tests)
 
-few_low_starters : (c : ℕ) → c < 0x300 → few_class c ≡ 0
+pub few_low_starters : (c : ℕ) → c < 0x300 → few_class c ≡ 0
 unfolding few_class built_in_class
 few_low_starters c h = grind (arith, nat_tests)
 
@@ -109,10 +109,10 @@ few_low_steps : (c : ℕ) → c < 0x300 → (c ≡ 0xe9) ⊎ (few_step c ≡ [])
 unfolding few_step built_in_step singled_out
 few_low_steps c h = grind (arith, nat_tests)
 
-few_unmapped : (c : ℕ) → c < 0xc0 → few_step c ≡ []
+pub few_unmapped : (c : ℕ) → c < 0xc0 → few_step c ≡ []
 few_unmapped c h = elim (few_low_steps c (omega arith)) [ inl e ↦ absurd (omega arith) | inr e ↦ e ]
 
-few_full_unmapped : (c : ℕ) → c < 0x300 → few_step c ≡ [] → few_full c ≡ c ∷ []
+pub few_full_unmapped : (c : ℕ) → c < 0x300 → few_step c ≡ [] → few_full c ≡ c ∷ []
 unfolding few_full
 few_full_unmapped c h e =
     cond_both (is_syllable c) _ _ (λ (ds : List ℕ). ds ≡ c ∷ []) (λ s. let low : 0xac00 ≤ c = grind (arith, nat_tests) in absurd (omega arith))

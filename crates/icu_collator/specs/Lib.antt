@@ -4,3 +4,8 @@ pub mod Order
 pub mod Strengths
 pub mod Equivalence
 pub mod Few
+pub mod KeyBytes
+pub mod Settings
+pub mod FewKeys
+pub mod NumbersInTexts
+pub mod FewDigits

@@ -116,5 +116,6 @@ pub fn normalising_first_keeps_order()
         → collation_order collation options a (composed collation.canonical b) ≡ collation_order collation options a b }
 {}
 
+pub mod numbers;
 #[cfg(test)]
 mod tests;

@@ -3,3 +3,5 @@ pub mod NumbersPairs
 pub mod NumbersBytes
 pub mod NumbersOrder
 pub mod NumbersExamples
+pub mod DecomposedScalars
+pub mod SoundReadings

@@ -50,12 +50,12 @@ digits_are [] h = tt
 digits_are (d ∷ ds) h = (h.0, digits_are ds h.1)
 
 -- the digits that count
-record IsCounted (ds : List ℕ) : Type 0 where
-  digits : AreDigits ds
-  is : AreSignificant ds
-  short : length ds ≤ 254
+pub record IsCounted (ds : List ℕ) : Type 0 where
+  pub digits : AreDigits ds
+  pub is : AreSignificant ds
+  pub short : length ds ≤ 254
 
-counted : (ds : List ℕ) → IsWholeNumber ds → IsCounted (significant ds)
+pub counted : (ds : List ℕ) → IsWholeNumber ds → IsCounted (significant ds)
 counted [] h = let filled = h.filled in absurd (omega arith)
 counted (d ∷ ds) h =
     record {
@@ -70,7 +70,7 @@ parts_of_none zero lead = refl
 parts_of_none (suc parts) lead = refl
 
 -- a number that is read whole has the elements of its bytes
-whole_elements : (lead : ℕ) (ds : List ℕ) → IsWholeNumber ds → number_elements lead ds ≡ elements_of_bytes lead (number_bytes (significant ds))
+pub whole_elements : (lead : ℕ) (ds : List ℕ) → IsWholeNumber ds → number_elements lead ds ≡ elements_of_bytes lead (number_bytes (significant ds))
 unfolding number_parts
 whole_elements lead [] h = let filled = h.filled in absurd (omega arith)
 whole_elements lead (d ∷ ds) h =
@@ -97,7 +97,7 @@ differs_greater (x ∷ xs) (y ∷ ys) us vs (inr (e, h)) =
     let equal : nat_cmp x y ≡ Equal = grind (arith, nat_tests)
     in ap (λ o. ordering_then o (slice_cmp nat_cmp (xs ++ us) (ys ++ vs))) equal ∙ differs_greater xs ys us vs h
 
-same_front : (xs us vs : List ℕ) → slice_cmp nat_cmp (xs ++ us) (xs ++ vs) ≡ slice_cmp nat_cmp us vs
+pub same_front : (xs us vs : List ℕ) → slice_cmp nat_cmp (xs ++ us) (xs ++ vs) ≡ slice_cmp nat_cmp us vs
 same_front [] us vs = refl
 same_front (x ∷ xs) us vs =
     let equal : nat_cmp x x ≡ Equal = grind (arith, nat_tests)

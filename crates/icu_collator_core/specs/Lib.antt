@@ -4,3 +4,5 @@ pub mod Numbers
 pub mod Elements
 pub mod Collation
 pub mod WholeNumbers
+pub mod WeightRules
+pub mod SoundElements

@@ -3,3 +3,4 @@
 
 pub mod elements;
 pub mod laws;
+pub mod laws_texts;

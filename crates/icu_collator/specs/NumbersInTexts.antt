@@ -1,0 +1,71 @@
+-- Runs of digits in a text: when they are read as numbers that count, and what their values are.
+use Rattle.std.specs.Prelude.{◌≡◌, ℕ, ◌*◌, ◌<◌, ◌≤◌, Bool, true, false, not, ◌||◌, leb, get_or, List, [], ◌∷◌, length, filter_map, Some, None}
+use Rattle.std.specs.List.{list_all, list_any}
+use Rattle.std.specs.Option.{is_some}
+use Rattle.icu_normalizer_core.specs.Canonical.{decomposed}
+use Rattle.icu_collator_types.specs.declared.options.ResolvedCollatorOptions.{ResolvedCollatorOptions}
+use Rattle.icu_collator_types.specs.Options.{is_shifted, group_index}
+use Rattle.icu_collator_core.specs.Collation.{Collation}
+use Rattle.icu_collator_core.specs.Defaults.{special_primary}
+use Rattle.icu_collator_core.specs.Numbers.{significant, value_of}
+use Rattle.icu_collator_core.specs.WeightRules.{is_letter_lead}
+use Rattle.icu_collator_core.specs.Weights.{Weights}
+
+-- a character with a value as a digit
+abbrev pub is_digit : Weights → ℕ → Bool
+is_digit weights c = is_some (weights.digit c)
+
+abbrev pub holds_digit : Weights → List ℕ → Bool
+holds_digit weights text = list_any (is_digit weights) text
+
+abbrev pub begins_with_digit : Weights → List ℕ → Bool
+begins_with_digit weights [] = false
+begins_with_digit weights (c ∷ cs) = is_digit weights c
+
+abbrev pub ends_with_digit : Weights → List ℕ → Bool
+ends_with_digit weights [] = false
+ends_with_digit weights (c ∷ []) = is_digit weights c
+ends_with_digit weights (c ∷ d ∷ ds) = ends_with_digit weights (d ∷ ds)
+
+-- the values of the digits of a run
+abbrev pub digits_of : Weights → List ℕ → List ℕ
+digits_of weights run = filter_map weights.digit run
+
+-- the value of a run of digits
+abbrev pub run_value : Weights → List ℕ → ℕ
+run_value weights run = value_of (digits_of weights run)
+
+-- one digit or more, and nothing else; at most 254 digits count, those from the first on that isn't 0
+pub record IsRunOfDigits (weights : Weights) (run : List ℕ) : Type 0 where
+  pub digits : list_all (is_digit weights) run ≡ true
+  pub filled : 0 < length run
+  pub short : length (significant (digits_of weights run)) ≤ 254
+
+-- a run of digits between two texts, neither of which goes on with a digit there once it is decomposed
+pub record IsNumberBetween (collation : Collation) (x run y : List ℕ) : Type 0 where
+  pub number : IsRunOfDigits collation.weights run
+  pub before : ends_with_digit collation.weights (decomposed collation.canonical x) ≡ false
+  pub behind : begins_with_digit collation.weights (decomposed collation.canonical y) ≡ false
+
+-- Whether no number is variable: nothing is, or the last variable group ends at the lead of numbers or below it.
+abbrev pub do_numbers_count : Collation → ResolvedCollatorOptions → Bool
+do_numbers_count collation options =
+    not (is_shifted options.alternate_handling)
+    || leb (get_or collation.groups (group_index options.max_variable) 0) (collation.weights.numeric_lead * 256)
+
+-- What collation data must keep for a digit to be read as part of a number wherever it stands, and to change nothing
+-- that is read before or behind the number.
+pub record AreDigitsApart (collation : Collation) : Type 0 where
+  pub lead : is_letter_lead collation.weights.numeric_lead ≡ true
+  pub values : (c d : ℕ) → collation.weights.digit c ≡ Some d → leb d 9 ≡ true
+  -- a digit is a starter, unmapped, and not special
+  pub starters : (c : ℕ) → is_digit collation.weights c ≡ true → collation.canonical.class c ≡ 0
+  pub own : (c : ℕ) → is_digit collation.weights c ≡ true → collation.canonical.full c ≡ c ∷ []
+  pub plain : (c : ℕ) → is_digit collation.weights c ≡ true → special_primary c ≡ None
+  -- a recorded text that holds a digit is that digit alone, and no recorded prefix holds one
+  pub alone : (prefix text : List ℕ) → 1 < length text → holds_digit collation.weights text ≡ true
+      → collation.weights.recorded prefix text ≡ None
+  pub prefixes : (prefix text : List ℕ) → holds_digit collation.weights prefix ≡ true
+      → collation.weights.recorded prefix text ≡ None
+  -- a dot above directly before a number is not dropped: a grave and an acute are marks, a tilde may be a digit
+  pub accents : (not collation.weights.dot_above || not (is_digit collation.weights 0x303)) ≡ true

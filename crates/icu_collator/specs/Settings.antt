@@ -1,0 +1,44 @@
+-- What a collation's settings must keep (the rule `set` of our profile), and when keys order as levels do.
+use Rattle.std.specs.Prelude.{◌≡◌, ℕ, ◌+◌, ◌*◌, Bool, true, false, not, ◌==◌, ◌&&◌, ◌||◌, leb, List, [], ◌∷◌, length}
+use Rattle.std.specs.List.{list_all}
+use Rattle.icu_normalizer_core.specs.BuiltIn.{is_within}
+use Rattle.icu_collator_types.specs.declared.options.ResolvedCollatorOptions.{ResolvedCollatorOptions}
+use Rattle.icu_collator_types.specs.Options.{is_numeric}
+use Rattle.icu_collator_core.specs.WeightRules.{is_letter_lead}
+use Rattle.icu_collator_core.specs.Collation.{Collation}
+
+-- whether a group may end here: not amid the special characters, nor amid numbers, which are all variable or none
+abbrev pub is_sound_group : ℕ → ℕ → Bool
+is_sound_group numeric_lead group =
+    leb 0x300 group && not (is_within (numeric_lead * 256 + 1) (numeric_lead * 256 + 255) group)
+
+-- whether each number is at least the one before it
+abbrev pub is_rising : List ℕ → Bool
+is_rising [] = true
+is_rising (a ∷ []) = true
+is_rising (a ∷ b ∷ bs) = leb a b && is_rising (b ∷ bs)
+
+abbrev pub are_sound_groups : ℕ → List ℕ → Bool
+are_sound_groups numeric_lead groups =
+    (length groups == 4) && is_rising groups && list_all (is_sound_group numeric_lead) groups
+
+-- settings that keep the rule
+pub record AreSoundSettings (collation : Collation) : Type 0 where
+  pub numeric_lead : is_letter_lead collation.weights.numeric_lead ≡ true
+  pub groups : are_sound_groups collation.weights.numeric_lead collation.groups ≡ true
+  -- the implicit lead is always compressible
+  pub implicit : collation.weights.is_compressible 0xfe ≡ true
+  pub compressible :
+      (lead : ℕ) → collation.weights.is_compressible lead ≡ true → (is_letter_lead lead || (lead == 0xfe)) ≡ true
+  -- reordering exchanges leads of letters, each for one as compressible as itself
+  pub outside : (lead : ℕ) → is_letter_lead lead ≡ false → collation.reordered_lead lead ≡ lead
+  pub inside : (lead : ℕ) → is_letter_lead lead ≡ true → is_letter_lead (collation.reordered_lead lead) ≡ true
+  pub one_to_one : (a b : ℕ) → collation.reordered_lead a ≡ collation.reordered_lead b → a ≡ b
+  pub alike :
+      (lead : ℕ) → collation.weights.is_compressible (collation.reordered_lead lead) ≡ collation.weights.is_compressible lead
+
+-- Plain leads: numeric ordering is off, or the lead of numbers isn't compressible. The second bytes of numbers begin at
+-- 02, so under a compressible lead they would meet the bytes that end a run.
+abbrev pub has_plain_leads : Collation → ResolvedCollatorOptions → Bool
+has_plain_leads collation options =
+    not (is_numeric options.numeric) || not (collation.weights.is_compressible collation.weights.numeric_lead)
