@@ -1,0 +1,41 @@
+-- The table of a file with no line keeps the rules, so the laws of keys speak of something.
+use Rattle.std.proofs.Common.{◌≡◌, Bool, true, false, List, Option, None, Some, refl}
+use Rattle.std.specs.Prelude.{◌==◌, ◌||◌}
+use Rattle.icu_collator_types.specs.declared.elements.Element.{Element}
+use Rattle.icu_collator_core.specs.WeightRules.{AreSoundWeights, IsRecorded, is_letter_lead}
+use Rattle.icu_collator.specs.Settings.{AreSoundSettings}
+use Rattle.worked_rows.specs.Tables.{empty_table, weights_of, collation_of, recorded_of}
+
+nothing_recorded : (e : Element) → IsRecorded (weights_of empty_table) e → ⊥
+unfolding recorded_of
+nothing_recorded e is = let never : ◌≡◌ {A = Option (List Element)} None (Some (is.2)) = is.3 in cc
+
+pub empty_weights_are_sound : AreSoundWeights (weights_of empty_table)
+empty_weights_are_sound =
+    record {
+      widths = λ e is. absurd (nothing_recorded e is);
+      elements = λ e is. absurd (nothing_recorded e is);
+      apart = λ d e is also. absurd (nothing_recorded d is);
+      held = λ c range h. cc;
+      ranges = λ c range h. cc;
+      leads = λ c range e h is. absurd (nothing_recorded e is);
+      digits = λ c d h. cc;
+    }
+
+or_self : (a b : Bool) → (b || false) ≡ true → (a || b) ≡ true
+or_self true b h = refl
+or_self false true h = refl
+or_self false false h = h
+
+pub empty_settings_are_sound : AreSoundSettings (collation_of empty_table)
+empty_settings_are_sound =
+    record {
+      numeric_lead = refl;
+      groups = refl;
+      implicit = refl;
+      compressible = λ lead h. or_self (is_letter_lead lead) (lead == 0xfe) h;
+      outside = λ lead h. refl;
+      inside = λ lead h. h;
+      one_to_one = λ a b h. h;
+      alike = λ lead. refl;
+    }
