@@ -35,3 +35,4 @@ pub mod ReadingsSplit
 pub mod ReadingsAlike
 pub mod NumbersInTexts
 pub mod FewDigits
+pub mod NumberKeys

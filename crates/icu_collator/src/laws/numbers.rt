@@ -1,13 +1,19 @@
 //! The law of numbers in texts (numeric ordering): where two texts differ in a number alone, they
 //! compare as the values of the two numbers do. Its contract is the law, and its body is empty.
 
-ghost use Rattle.std.specs.Prelude.{◌≡◌, ◌<◌, ℕ, true, false, List, ◌++◌};
+ghost use Rattle.std.specs.Char.{IsScalar};
+ghost use Rattle.std.specs.Cmp.Lexicographic.{slice_cmp};
+ghost use Rattle.std.specs.Ordering.{nat_cmp};
+ghost use Rattle.std.specs.Prelude.{◌≡◌, ◌<◌, ℕ, true, false, All, List, ◌++◌};
 ghost use Rattle.std.specs.declared.cmp.Ordering.TheVariants.{Less, Equal, Greater};
 ghost use Rattle.icu_normalizer_core.specs.Canonical.{IsDecomposing};
 ghost use Rattle.icu_collator_types.specs.declared.options.ResolvedCollatorOptions.{ResolvedCollatorOptions};
 ghost use Rattle.icu_collator_types.specs.declared.options.Strength.TheVariants.{Identical};
 ghost use Rattle.icu_collator_types.specs.Options.{is_at_least, is_numeric};
 ghost use Rattle.icu_collator_core.specs.Collation.{Collation};
+ghost use Rattle.icu_collator_core.specs.WeightRules.{AreSoundWeights};
+ghost use Rattle.icu_collator.specs.KeyBytes.{key_of_text};
+ghost use Rattle.icu_collator.specs.Settings.{AreSoundSettings, has_plain_leads};
 ghost use Rattle.icu_collator.specs.NumbersInTexts.{AreDigitsApart, IsNumberBetween, do_numbers_count, run_value};
 ghost use Rattle.icu_collator.specs.Order.{collation_order};
 
@@ -41,6 +47,25 @@ pub fn numbers_order_by_value()
         → IsNumberBetween collation x r y → IsNumberBetween collation x s y
         → run_value collation.weights r ≡ run_value collation.weights s
         → collation_order collation options (x ++ (r ++ y)) (x ++ (s ++ y)) ≡ Equal }
+{}
+
+/// The keys of such texts order alike, byte by byte, over weights and settings that keep the rules,
+/// where the lead byte of numbers is not compressible: the lower value has the lower key, and equal
+/// values have one key at every strength but `Identical`.
+#[tactic(auto, using(crate::proofs::NumberKeys::lower_key_first, crate::proofs::NumberKeys::equal_value_keys))]
+pub fn number_keys_order_by_value()
+    ensures lower { (collation : Collation) (options : ResolvedCollatorOptions) (x r s y : List ℕ)
+        → IsDecomposing collation.canonical → AreSoundWeights collation.weights → AreSoundSettings collation → has_plain_leads collation options ≡ true
+        → AreDigitsApart collation → is_numeric options.numeric ≡ true → do_numbers_count collation options ≡ true
+        → IsNumberBetween collation x r y → IsNumberBetween collation x s y → All IsScalar (x ++ (r ++ y)) → All IsScalar (x ++ (s ++ y))
+        → run_value collation.weights r < run_value collation.weights s
+        → slice_cmp nat_cmp (key_of_text collation options (x ++ (r ++ y))) (key_of_text collation options (x ++ (s ++ y))) ≡ Less }
+    ensures equal { (collation : Collation) (options : ResolvedCollatorOptions) (x r s y : List ℕ)
+        → IsDecomposing collation.canonical → AreSoundWeights collation.weights → AreSoundSettings collation → has_plain_leads collation options ≡ true
+        → AreDigitsApart collation → is_numeric options.numeric ≡ true → is_at_least options.strength Identical ≡ false
+        → IsNumberBetween collation x r y → IsNumberBetween collation x s y → All IsScalar (x ++ (r ++ y)) → All IsScalar (x ++ (s ++ y))
+        → run_value collation.weights r ≡ run_value collation.weights s
+        → key_of_text collation options (x ++ (r ++ y)) ≡ key_of_text collation options (x ++ (s ++ y)) }
 {}
 
 #[cfg(test)]
