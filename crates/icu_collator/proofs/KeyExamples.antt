@@ -1,99 +1,134 @@
--- The small collation keeps the rules, so the laws of keys speak of something.
-use Rattle.std.proofs.Common.{◌≡◌, ℕ, zero, suc, ◌-◌, true, List, [], ◌∷◌, Some, None, refl, sym, subst, ◌∙◌, inl, inr, ◌⊎◌, arith}
+-- The records of the worked examples keep the rules, so the laws of keys speak of them.
+use Rattle.std.proofs.Common.{◌≡◌, ℕ, zero, suc, ◌+◌, ◌-◌, ◌*◌, ◌^◌, ◌≤◌, Bool, true, false, List, [], ◌∷◌, Option, Some, None, refl, subst, arith}
 use Rattle.std.proofs.lemmas.Bool.{cond_both}
 use Rattle.std.proofs.lemmas.Bool.Decides.{nat_tests}
-use Rattle.std.proofs.lemmas.List.Elements.{All-from_recursion}
-use Rattle.std.specs.Prelude.{◌==◌, ◌||◌, leb}
+use Rattle.std.proofs.lemmas.List.Elements.{All-from_recursion, All-contains}
+use Rattle.std.proofs.lemmas.List.Sums.{AllPass-from_list_all}
+use Rattle.std.specs.Prelude.{◌==◌, ◌||◌, IfSome}
+use Rattle.std.specs.List.{All, AllByRecursion, Contains, list_all}
 use Rattle.std.specs.Char.{IsScalar}
-use Rattle.std.specs.Cmp.Lexicographic.{slice_cmp}
-use Rattle.std.specs.Ordering.{nat_cmp}
-use Rattle.std.specs.List.{All, AllByRecursion, Contains}
 use Rattle.std.specs.declared.cmp.Ordering.TheVariants.{Less}
 use Rattle.icu_normalizer_core.specs.BuiltIn.{is_within}
-use Rattle.icu_normalizer_core.specs.BuiltIn.{built_in_step, built_in_class, singled_out}
-use Rattle.icu_normalizer_core.specs.Canonical.{IsDecomposing, decomposed, marks_in_order, put_in_order}
 use Rattle.icu_collator_types.specs.declared.elements.Element.{Element}
-use Rattle.icu_collator_types.specs.declared.options.Strength.TheVariants.{Primary}
-use Rattle.icu_collator_core.specs.Defaults.{primary_element, default_primary, special_primary, range_primary, moved_primary}
-use Rattle.icu_collator_core.specs.Elements.{placed_behind, at_greatest, joining, text_match, text_reading, reading, elements_within}
+use Rattle.icu_collator_types.specs.declared.options.Strength.TheVariants.{Tertiary}
+use Rattle.icu_collator_core.specs.Defaults.{primary_element}
+use Rattle.icu_collator_core.specs.SoundElements.{IsSoundSequence, single, nothing, of_record}
 use Rattle.icu_collator_core.specs.Numbers.{without_last_zeros}
-use Rattle.icu_collator_core.specs.Weights.{Range}
-use Rattle.icu_collator_core.specs.WeightRules.{AreSoundWeights, IsRecorded, has_widths, is_sound_element, are_apart_elements, is_of_other_lead, is_sound_range, is_letter_lead, is_proper_beginning}
-use Rattle.icu_collator.specs.Few.{few_class, few_step, few_full, plain_options}
-use Rattle.icu_collator.specs.FewKeys.{few_letters, few_range, keyed_weights, keyed_collation}
-use Rattle.icu_collator.specs.KeyBytes.{key_of_text}
+use Rattle.icu_collator_core.specs.WeightRules.{AreSoundWeights, IsRecorded, has_widths, is_sound_element, are_apart_elements, is_letter_lead, is_proper_beginning}
+use Rattle.icu_collator.specs.Letters.{character_elements, further_elements, letter_element, digit_of, digits_collation, plain_options}
 use Rattle.icu_collator.specs.Levels.{levels_of}
-use Rattle.icu_collator.specs.Order.{levels_order, collation_order}
-use Rattle.icu_collator.specs.Shifted.{counted_behind}
+use Rattle.icu_collator.specs.Order.{levels_order}
 use Rattle.icu_collator.specs.Settings.{AreSoundSettings}
-use Rattle.icu_collator.proofs.Few.{few_is_decomposing}
-use Rattle.icu_collator.proofs.TextKeys.{text_keys_order}
+use Rattle.icu_collator.proofs.Examples.{computing}
+use Rattle.icu_collator.proofs.LettersDigits.{digit_values}
 
-abbrev a_element : Element
-a_element = primary_element 0x20040000
+-- the element of a letter or a digit, and that of an accent
+abbrev pub of_letter : ℕ → Element
+of_letter p = primary_element (p * 2 ^ 16)
 
-abbrev b_element : Element
-b_element = primary_element 0x20060000
+abbrev pub of_accent : ℕ → Element
+of_accent s = record { primary = 0; secondary = s; case = 0; tertiary = 0x500; quaternary = 0 }
 
-lone : (e x : Element) → Contains (x ∷ []) e → e ≡ x
-lone e x (zero, h, same) = sym same
-lone e x (suc k, h, same) = absurd (omega (arith, h))
+-- the element of the capital of "a"
+abbrev pub of_capital : Element
+of_capital = record { primary = 0x2a100000; secondary = 0x500; case = 2; tertiary = 0x900; quaternary = 0 }
 
-some_same : (es ds : List Element) → Some es ≡ Some ds → es ≡ ds
-some_same es ds h = cc
+-- the elements of all records: of ten digits, eight letters, three accents, a capital, a space and a full stop
+abbrev all_elements : List Element
+all_elements =
+    of_letter 0x1110 ∷ of_letter 0x1111 ∷ of_letter 0x1112 ∷ of_letter 0x1113 ∷ of_letter 0x1114
+    ∷ of_letter 0x1115 ∷ of_letter 0x1116 ∷ of_letter 0x1117 ∷ of_letter 0x1118 ∷ of_letter 0x1119
+    ∷ of_letter 0x2a10 ∷ of_letter 0x2a20 ∷ of_letter 0x2a30 ∷ of_letter 0x2a50
+    ∷ of_letter 0x2a80 ∷ of_letter 0x2ac0 ∷ of_letter 0x2af0 ∷ of_letter 0x2b40
+    ∷ of_accent 0x8800 ∷ of_accent 0x8a00 ∷ of_accent 0x8c00 ∷ of_capital ∷ of_letter 0x304 ∷ of_letter 0x308 ∷ []
 
-letters : (text : List ℕ) (es : List Element) (e : Element) → few_letters text ≡ Some es → Contains es e → (e ≡ a_element) ⊎ (e ≡ b_element)
-letters [] es e h c = cc
-letters (x ∷ []) es e h c =
-    cond_both (x == 0x61) (Some (a_element ∷ [])) _ (λ o. o ≡ Some es → (e ≡ a_element) ⊎ (e ≡ b_element))
-    (λ _ k. inl (lone e a_element (subst (λ ds. Contains ds e) (sym (some_same (a_element ∷ []) es k)) c)))
-    (λ _. cond_both (x == 0x62) (Some (b_element ∷ [])) None (λ o. o ≡ Some es → (e ≡ a_element) ⊎ (e ≡ b_element))
-    (λ _ k. inr (lone e b_element (subst (λ ds. Contains ds e) (sym (some_same (b_element ∷ []) es k)) c)))
-    (λ _ k. cc)) h
-letters (x ∷ y ∷ xs) es e h c = cc
+-- the elements of a record are among those
+abbrev AreOurs : Option (List Element) → Type 0
+AreOurs (Some es) = AllByRecursion (Contains all_elements) es
+AreOurs None = Unit {0}
 
-which : (e : Element) → IsRecorded keyed_weights e → (e ≡ a_element) ⊎ (e ≡ b_element)
-which e (prefix, text, es, h, c) = letters text es e h c
+characters_ours : (c : ℕ) → AreOurs (character_elements c)
+unfolding character_elements
+characters_ours c =
+    cond_both (c == 0x61) _ _ AreOurs (λ _. ((10, omega arith, refl), tt)) (λ _.
+    cond_both (c == 0x62) _ _ AreOurs (λ _. ((11, omega arith, refl), tt)) (λ _.
+    cond_both (c == 0x63) _ _ AreOurs (λ _. ((12, omega arith, refl), tt)) (λ _.
+    cond_both (c == 0x65) _ _ AreOurs (λ _. ((13, omega arith, refl), tt)) (λ _.
+    cond_both (c == 0x68) _ _ AreOurs (λ _. ((14, omega arith, refl), tt)) (λ _.
+    cond_both (c == 0x6c) _ _ AreOurs (λ _. ((15, omega arith, refl), tt)) (λ _.
+    cond_both (c == 0x6f) _ _ AreOurs (λ _. ((16, omega arith, refl), tt)) (λ _.
+    cond_both (c == 0x74) _ _ AreOurs (λ _. ((17, omega arith, refl), tt)) (λ _.
+    cond_both (c == 0x301) _ _ AreOurs (λ _. ((18, omega arith, refl), tt)) (λ _.
+    cond_both (c == 0x302) _ _ AreOurs (λ _. ((19, omega arith, refl), tt)) (λ _.
+    cond_both (c == 0x323) _ _ AreOurs (λ _. ((20, omega arith, refl), tt)) (λ _. tt)))))))))))
 
-of_both : (P : Element → Type 0) → P a_element → P b_element → (e : Element) → IsRecorded keyed_weights e → P e
-of_both P a b e is = by (which e is)
-  where
-    by : (e ≡ a_element) ⊎ (e ≡ b_element) → P e
-    by (inl same) = subst P (sym same) a
-    by (inr same) = subst P (sym same) b
+further_ours : (c : ℕ) → AreOurs (further_elements c)
+unfolding further_elements
+further_ours c =
+    cond_both (c == 0x41) _ _ AreOurs (λ _. ((21, omega arith, refl), tt)) (λ _.
+    cond_both (c == 0x20) _ _ AreOurs (λ _. ((22, omega arith, refl), tt)) (λ _.
+    cond_both (c == 0x2e) _ _ AreOurs (λ _. ((23, omega arith, refl), tt)) (λ _. characters_ours c)))
 
-ranged : (c : ℕ) (range : Range) → keyed_weights.range c ≡ Some range → (is_within 0x4e00 0x9fff c ≡ true) × (few_range ≡ range)
-ranged c range h =
-    cond_both (is_within 0x4e00 0x9fff c) (Some few_range) None (λ o. o ≡ Some range → (is_within 0x4e00 0x9fff c ≡ true) × (few_range ≡ range)) (λ t k. (t, cc)) (λ _ k. cc) h
+digits_ours : (d : ℕ) → d ≤ 9 → AreOurs (letter_element (0x1110 + d))
+digits_ours zero h = ((0, omega arith, refl), tt)
+digits_ours (suc zero) h = ((1, omega arith, refl), tt)
+digits_ours (suc (suc zero)) h = ((2, omega arith, refl), tt)
+digits_ours (suc (suc (suc zero))) h = ((3, omega arith, refl), tt)
+digits_ours (suc (suc (suc (suc zero)))) h = ((4, omega arith, refl), tt)
+digits_ours (suc (suc (suc (suc (suc zero))))) h = ((5, omega arith, refl), tt)
+digits_ours (suc (suc (suc (suc (suc (suc zero)))))) h = ((6, omega arith, refl), tt)
+digits_ours (suc (suc (suc (suc (suc (suc (suc zero))))))) h = ((7, omega arith, refl), tt)
+digits_ours (suc (suc (suc (suc (suc (suc (suc (suc zero)))))))) h = ((8, omega arith, refl), tt)
+digits_ours (suc (suc (suc (suc (suc (suc (suc (suc (suc zero))))))))) h = ((9, omega arith, refl), tt)
+digits_ours (suc (suc (suc (suc (suc (suc (suc (suc (suc (suc d)))))))))) h = absurd (omega arith)
 
-digit_small : (c d : ℕ) → keyed_weights.digit c ≡ Some d → leb d 9 ≡ true
-digit_small c d h =
-    cond_both (is_within 0x30 0x39 c) (Some (c - 0x30)) None (λ o. o ≡ Some d → leb d 9 ≡ true)
-    (λ t k. let same : c - 0x30 ≡ d = cc in grind (arith, nat_tests)) (λ _ k. cc) h
+digit_low : (c : ℕ) → IfSome (digit_of c) (λ d. d ≤ 9)
+digit_low c =
+    cond_both (is_within 0x30 0x39 c) (Some (c - 0x30)) None (λ (o : Option ℕ). IfSome o (λ d. d ≤ 9)) (λ t. grind (arith, nat_tests)) (λ _. tt)
 
-apart : (d e : Element) → IsRecorded keyed_weights d → IsRecorded keyed_weights e → are_apart_elements d e ≡ true
+either_ours : (c : ℕ) (o : Option ℕ) → IfSome o (λ d. d ≤ 9)
+    → AreOurs (elim o as (λ _. Option (List Element)) [ Some d ↦ letter_element (0x1110 + d) | None ↦ further_elements c ])
+either_ours c (Some d) h = digits_ours d h
+either_ours c None h = further_ours c
+
+recorded_ours : (before text : List ℕ) → AreOurs (digits_collation.weights.recorded before text)
+recorded_ours [] [] = tt
+recorded_ours [] (c ∷ []) = either_ours c (digit_of c) (digit_low c)
+recorded_ours [] (c ∷ d ∷ cs) = tt
+recorded_ours (p ∷ ps) text = tt
+
+ours : (e : Element) → IsRecorded digits_collation.weights e → Contains all_elements e
+ours e (before, text, es, h, k) =
+    All-contains (Contains all_elements) es e (All-from_recursion (Contains all_elements) es (subst AreOurs h (recorded_ours before text))) k
+
+-- what each of those passes, each recorded element passes
+every : (p : Element → Bool) → list_all p all_elements ≡ true → (e : Element) → IsRecorded digits_collation.weights e → p e ≡ true
+every p h e is =
+    All-contains (λ x. p x ≡ true) all_elements e (AllPass-from_list_all p all_elements h) (ours e is)
+
+apart : (d e : Element) → IsRecorded digits_collation.weights d → IsRecorded digits_collation.weights e → are_apart_elements d e ≡ true
 unfolding is_proper_beginning without_last_zeros
 apart d e is also =
-    of_both (λ x. are_apart_elements x e ≡ true) (of_both (λ y. are_apart_elements a_element y ≡ true) refl refl e also) (of_both (λ y. are_apart_elements b_element y ≡ true) refl refl e also) d is
+    every (λ x. are_apart_elements x e) (every (λ y. list_all (λ x. are_apart_elements x y) all_elements) refl e also) d is
 
-pub keyed_weights_sound : AreSoundWeights keyed_weights
+pub digits_weights_sound : AreSoundWeights digits_collation.weights
 unfolding without_last_zeros
-keyed_weights_sound =
+digits_weights_sound =
     record {
-      widths = of_both (λ e. has_widths e ≡ true) refl refl;
-      elements = of_both (λ e. is_sound_element keyed_weights e ≡ true) refl refl;
+      widths = every has_widths refl;
+      elements = every (is_sound_element digits_collation.weights) refl;
       apart = apart;
-      held = λ c range h. let both = ranged c range h in subst (λ (r : Range). is_within r.first r.last c ≡ true) both.1 both.0;
-      ranges = λ c range h. subst (λ r. is_sound_range keyed_weights r ≡ true) (ranged c range h).1 refl;
-      leads = λ c range e h is. subst (λ r. is_of_other_lead r e ≡ true) (ranged c range h).1 (of_both (λ d. is_of_other_lead few_range d ≡ true) refl refl e is);
-      digits = digit_small;
+      held = λ c range h. cc;
+      ranges = λ c range h. cc;
+      leads = λ c range e h is. cc;
+      digits = digit_values;
     }
 
 implicit_alone : (lead : ℕ) → (lead == 0xfe) ≡ true → (is_letter_lead lead || (lead == 0xfe)) ≡ true
 implicit_alone lead h = grind (arith, nat_tests)
 
-pub keyed_settings_sound : AreSoundSettings keyed_collation
-keyed_settings_sound =
+pub digits_settings_sound : AreSoundSettings digits_collation
+digits_settings_sound =
     record {
       numeric_lead = refl;
       groups = refl;
@@ -105,27 +140,29 @@ keyed_settings_sound =
       alike = λ lead. refl;
     }
 
-pub keyed_decomposing : IsDecomposing keyed_collation.canonical
-keyed_decomposing = few_is_decomposing
+-- the elements of "a" and "b" are single ones, alone and one after the other
+a_is_recorded : IsRecorded digits_collation.weights (of_letter 0x2a10)
+unfolding character_elements further_elements
+a_is_recorded = ([], 0x61 ∷ [], of_letter 0x2a10 ∷ [], refl, (0, omega arith, refl))
 
-pub letter_scalars : All IsScalar (0x61 ∷ [])
-letter_scalars = let each : AllByRecursion IsScalar (0x61 ∷ []) = (refl, tt) in All-from_recursion IsScalar (0x61 ∷ []) each
+b_is_recorded : IsRecorded digits_collation.weights (of_letter 0x2a20)
+unfolding character_elements further_elements
+b_is_recorded = ([], 0x62 ∷ [], of_letter 0x2a20 ∷ [], refl, (0, omega arith, refl))
 
-pub ideograph_scalars : All IsScalar (0x4e00 ∷ [])
-ideograph_scalars = let each : AllByRecursion IsScalar (0x4e00 ∷ []) = (refl, tt) in All-from_recursion IsScalar (0x4e00 ∷ []) each
+pub only_b : IsSoundSequence digits_collation.weights false (of_letter 0x2a20 ∷ [])
+only_b = single _ _ (of_record _ b_is_recorded) nothing
 
-unfoldable computing : Unit {0}
-unfolding
-    few_class few_step few_full built_in_step built_in_class singled_out decomposed marks_in_order put_in_order
-    default_primary special_primary range_primary moved_primary placed_behind at_greatest joining text_match text_reading reading
-    elements_within counted_behind levels_of levels_order
-computing = tt
+pub a_then_b : IsSoundSequence digits_collation.weights false (of_letter 0x2a10 ∷ of_letter 0x2a20 ∷ [])
+a_then_b = single _ _ (of_record _ a_is_recorded) only_b
 
--- a and an ideograph at the lowest strength
-pub letter_first : collation_order keyed_collation (plain_options Primary) (0x61 ∷ []) (0x4e00 ∷ []) ≡ Less
+pub only_b_scalars : All IsScalar (0x62 ∷ [])
+only_b_scalars = let each : AllByRecursion IsScalar (0x62 ∷ []) = (refl, tt) in All-from_recursion IsScalar (0x62 ∷ []) each
+
+pub a_then_b_scalars : All IsScalar (0x61 ∷ 0x62 ∷ [])
+a_then_b_scalars =
+    let each : AllByRecursion IsScalar (0x61 ∷ 0x62 ∷ []) = (refl, (refl, tt)) in All-from_recursion IsScalar (0x61 ∷ 0x62 ∷ []) each
+
+-- the levels of those elements
+pub a_then_b_is_below : levels_order (plain_options Tertiary) (levels_of digits_collation (plain_options Tertiary) (of_letter 0x2a10 ∷ of_letter 0x2a20 ∷ []) (0x61 ∷ 0x62 ∷ [])) (levels_of digits_collation (plain_options Tertiary) (of_letter 0x2a20 ∷ []) (0x62 ∷ [])) ≡ Less
 unfolding computing
-letter_first = refl
-
-pub letter_key_first : slice_cmp nat_cmp (key_of_text keyed_collation (plain_options Primary) (0x61 ∷ [])) (key_of_text keyed_collation (plain_options Primary) (0x4e00 ∷ [])) ≡ Less
-letter_key_first =
-    text_keys_order keyed_collation (plain_options Primary) (0x61 ∷ []) (0x4e00 ∷ []) keyed_decomposing keyed_weights_sound keyed_settings_sound refl letter_scalars ideograph_scalars ∙ letter_first
+a_then_b_is_below = refl

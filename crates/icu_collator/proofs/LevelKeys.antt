@@ -1,6 +1,7 @@
 -- Keys of levels that keep the rules on weights order as the levels do.
 use Rattle.std.proofs.Common.{◌≡◌, ℕ, ◌^◌, Bool, true, false, cond, List, [], ◌∷◌, ◌++◌, length, refl, sym, ◌∙◌, ap, arith, append_assoc}
 use Rattle.std.proofs.lemmas.List.{append-nil}
+use Rattle.std.proofs.lemmas.Bool.Decides.{nat_tests}
 use Rattle.std.specs.Prelude.{not}
 use Rattle.std.specs.Cmp.Lexicographic.{slice_cmp}
 use Rattle.std.specs.List.{AllByRecursion}
@@ -16,11 +17,11 @@ use Rattle.icu_collator_core.specs.WeightRules.{is_sound_secondary, is_sound_ter
 use Rattle.icu_collator.specs.Levels.{Levels}
 use Rattle.icu_collator.specs.Order.{list_order, levels_order, where_in_force, secondary_rank, quaternary_rank, character_rank}
 use Rattle.icu_collator.specs.KeyBytes.{key_bytes, level_bytes, primary_level, secondary_code, case_halves, paired_halves, tertiary_code_of, quaternary_level, character_level, with_runs}
-use Rattle.icu_collator.proofs.Codes.{BeginsUpTo, AllFrom, then_equal}
+use Rattle.icu_collator.proofs.Codes.{BeginsUpTo, AllFrom, behind_same, then_equal}
 use Rattle.icu_collator.proofs.CommonAlone.{NoneBelow}
 use Rattle.icu_collator.proofs.WeightBytes.{AreWeights}
 use Rattle.icu_collator.proofs.CharacterKeys.{IsCharacter, character_level_order}
-use Rattle.icu_collator.proofs.PrimaryKeys.{ArePrimaries, primary_level_order}
+use Rattle.icu_collator.proofs.PrimaryKeys.{ArePrimaries, none_compressible, primary_level_order}
 use Rattle.icu_collator.proofs.SecondaryKeys.{IsSecondaryAt, past as past_secondary, secondary_level_order}
 use Rattle.icu_collator.proofs.CaseKeys.{IsCase, past as past_case, case_level_order}
 use Rattle.icu_collator.proofs.TertiaryKeys.{IsTertiaryAt, past as past_tertiary, tertiary_level_order}
@@ -31,7 +32,7 @@ then_only Less p q h = refl
 then_only Equal p q h = h refl
 then_only Greater p q h = refl
 
-then_first : (o p : Ordering) → ordering_then o p ≡ Equal → o ≡ Equal
+pub then_first : (o p : Ordering) → ordering_then o p ≡ Equal → o ≡ Equal
 then_first Less p h = h
 then_first Equal p h = refl
 then_first Greater p h = h
@@ -40,6 +41,22 @@ then_second : (o p : Ordering) → ordering_then o p ≡ Equal → p ≡ Equal
 then_second Less p h = let never : Less ≡ Equal = h in cc
 then_second Equal p h = h
 then_second Greater p h = let never : Greater ≡ Equal = h in cc
+
+pub then_equal_first : (o p : Ordering) → o ≡ Equal → ordering_then o p ≡ p
+then_equal_first Less p h = let never : Less ≡ Equal = h in cc
+then_equal_first Equal p h = refl
+then_equal_first Greater p h = let never : Greater ≡ Equal = h in cc
+
+-- numbers that compare equal are the same
+pub same_numbers : (xs ys : List ℕ) → slice_cmp nat_cmp xs ys ≡ Equal → xs ≡ ys
+same_numbers [] [] h = refl
+same_numbers [] (y ∷ ys) h = let never : Less ≡ Equal = h in cc
+same_numbers (x ∷ xs) [] h = let never : Greater ≡ Equal = h in cc
+same_numbers (x ∷ xs) (y ∷ ys) h =
+    let first : nat_cmp x y ≡ Equal = then_first (nat_cmp x y) (slice_cmp nat_cmp xs ys) h
+    in let same : x ≡ y = grind (arith, nat_tests)
+    in let rest : xs ≡ ys = same_numbers xs ys (then_second (nat_cmp x y) (slice_cmp nat_cmp xs ys) h)
+    in cc
 
 regrouped : (p s c t q i : List ℕ) → ((((p ++ s) ++ c) ++ t) ++ q) ++ i ≡ p ++ (s ++ (c ++ (t ++ (q ++ i))))
 regrouped p s c t q i =
@@ -81,9 +98,9 @@ quaternary_has_tertiary Tertiary h = refl
 quaternary_has_tertiary Quaternary h = refl
 quaternary_has_tertiary Identical h = refl
 
-module _ (collation : Collation) (options : ResolvedCollatorOptions)
+module _ (options : ResolvedCollatorOptions)
     {S : Type 0} (IsPrimary : S → ℕ → Type 0) (nextp : S → ℕ → S) (IsOutside : S → Type 0) (start : S)
-    (primaries_are : ArePrimaries IsPrimary collation.weights.is_compressible)
+    (primaries_are : ArePrimaries IsPrimary none_compressible)
     (IsSecondaryWeight : ℕ → Type 0) (secondaries_are : AreWeights is_sound_secondary IsSecondaryWeight)
     (IsTertiaryWeight : ℕ → Type 0) (tertiaries_are : AreWeights is_sound_tertiary IsTertiaryWeight)
   where
@@ -95,7 +112,7 @@ module _ (collation : Collation) (options : ResolvedCollatorOptions)
       pub tertiaries :
           AllFrom (IsTertiaryAt IsTertiaryWeight tertiaries_are (has_case_bits options) (is_upper_first options.case_first)) (past_tertiary IsTertiaryWeight tertiaries_are) tt levels.tertiaries
       pub quaternaries :
-          AllFrom (IsPlace IsPrimary nextp IsOutside collation.weights.is_compressible primaries_are) (next_place IsPrimary nextp IsOutside collation.weights.is_compressible primaries_are) start levels.quaternaries
+          AllFrom (IsPlace IsPrimary nextp IsOutside none_compressible primaries_are) (next_place IsPrimary nextp IsOutside none_compressible primaries_are) start levels.quaternaries
       pub characters : AllByRecursion IsCharacter levels.characters
       -- a case for each secondary, and at Primary for each primary
       pub case_each : length levels.cases ≡ cond (is_at_least options.strength Secondary) (length levels.secondaries) (length levels.primaries)
@@ -174,7 +191,7 @@ module _ (collation : Collation) (options : ResolvedCollatorOptions)
       quaternaries_part : by_tertiaries ≡ Equal → slice_cmp nat_cmp (from_quaternaries a) (from_quaternaries b) ≡ ordering_then by_quaternaries by_characters
       quaternaries_part same =
           ended_level (is_at_least options.strength Quaternary) (quaternary_level options a.quaternaries) (quaternary_level options b.quaternaries) (from_characters a) (from_characters b) (list_order quaternary_rank a.quaternaries b.quaternaries)
-          (λ force. quaternary_level_order IsPrimary nextp IsOutside collation.weights.is_compressible primaries_are options start a.quaternaries b.quaternaries (0x01 ∷ from_characters a) (0x01 ∷ from_characters b)
+          (λ force. quaternary_level_order IsPrimary nextp IsOutside none_compressible primaries_are options start a.quaternaries b.quaternaries (0x01 ∷ from_characters a) (0x01 ∷ from_characters b)
           (plain_quaternaries force same) sound_a.quaternaries sound_b.quaternaries (omega arith) (omega arith))
           ∙ ap (ordering_then by_quaternaries) characters_part
 
@@ -197,14 +214,23 @@ module _ (collation : Collation) (options : ResolvedCollatorOptions)
           (λ force. secondary_level_order IsSecondaryWeight secondaries_are a.secondaries b.secondaries (0x01 ∷ from_cases a) (0x01 ∷ from_cases b) sound_a.secondaries sound_b.secondaries (omega arith) (omega arith))
           ∙ then_only by_secondaries _ _ (cases_part p)
 
-      key_parts : (c : Levels) → key_bytes collation options c ≡ primary_level collation.weights c.primaries ++ from_secondaries c
+      key_parts : (collation : Collation) (c : Levels) → key_bytes collation options c ≡ primary_level collation.weights c.primaries ++ from_secondaries c
       unfolding key_bytes
-      key_parts c = regrouped (primary_level collation.weights c.primaries) _ _ _ _ (from_characters c)
+      key_parts collation c = regrouped (primary_level collation.weights c.primaries) _ _ _ _ (from_characters c)
+
+      -- Where the primaries are equal, keys order as the levels behind them do, whatever leads are compressible.
+      pub equal_primaries_order : (collation : Collation) → list_order (λ p. p) a.primaries b.primaries ≡ Equal → slice_cmp nat_cmp (key_bytes collation options a) (key_bytes collation options b) ≡ levels_order options a b
+      unfolding levels_order
+      equal_primaries_order collation same =
+          let alike : a.primaries ≡ b.primaries = same_numbers a.primaries b.primaries same in
+          rw (key_parts collation a, key_parts collation b)
+          (ap (λ (ps : List ℕ). slice_cmp nat_cmp (primary_level collation.weights ps ++ from_secondaries a) (primary_level collation.weights b.primaries ++ from_secondaries b)) alike
+          ∙ behind_same (primary_level collation.weights b.primaries) (from_secondaries a) (from_secondaries b) ∙ secondaries_part same ∙ sym (then_equal_first by_primaries _ same))
 
       -- The keys of levels that keep the rules order as the levels do.
-      pub level_keys_order : slice_cmp nat_cmp (key_bytes collation options a) (key_bytes collation options b) ≡ levels_order options a b
+      pub level_keys_order : (collation : Collation) → ArePrimaries IsPrimary collation.weights.is_compressible → slice_cmp nat_cmp (key_bytes collation options a) (key_bytes collation options b) ≡ levels_order options a b
       unfolding levels_order
-      level_keys_order =
-          rw (key_parts a, key_parts b)
-          (primary_level_order IsPrimary nextp collation.weights primaries_are start a.primaries b.primaries (from_secondaries a) (from_secondaries b) sound_a.primaries sound_b.primaries (secondaries_end a) (secondaries_end b)
+      level_keys_order collation compressed =
+          rw (key_parts collation a, key_parts collation b)
+          (primary_level_order IsPrimary nextp collation.weights compressed start a.primaries b.primaries (from_secondaries a) (from_secondaries b) sound_a.primaries sound_b.primaries (secondaries_end a) (secondaries_end b)
           ∙ then_only by_primaries _ _ secondaries_part)

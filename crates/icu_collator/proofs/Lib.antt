@@ -4,9 +4,7 @@ pub mod MarksSorted
 pub mod Left
 pub mod Equivalence
 pub mod Identical
-pub mod Few
 pub mod Examples
-pub mod FewPairs
 pub mod Composed
 pub mod NormalForms
 pub mod Codes
@@ -34,5 +32,9 @@ pub mod ReadingsApart
 pub mod ReadingsSplit
 pub mod ReadingsAlike
 pub mod NumbersInTexts
-pub mod FewDigits
+pub mod Letters
+pub mod LettersPairs
+pub mod LettersDigits
 pub mod NumberKeys
+pub mod DecidingLevels
+pub mod LevelExamples

@@ -19,6 +19,10 @@ pub record ArePrimaries {S : Type 0} (IsPrimary : S → ℕ → Type 0) (is_comp
   pub apart : (s : S) (p q : ℕ) → IsPrimary s p → IsPrimary s q → is_proper_beginning (primary_bytes p) (primary_bytes q) ≡ false
   pub second : (s : S) (p : ℕ) → IsPrimary s p → is_compressible (p / 2 ^ 24) ≡ true → (4 ≤ p / 2 ^ 16 % 256) × (p / 2 ^ 16 % 256 ≤ 0xfe)
 
+-- where no lead is compressible, so that a primary is only apart from the others
+abbrev pub none_compressible : ℕ → Bool
+none_compressible lead = false
+
 -- the four ways to write a primary behind a run
 data Behind (before p : ℕ) : List ℕ → Type 0 where
   inside : p / 2 ^ 24 ≡ before → Behind before p (primary_rest p)

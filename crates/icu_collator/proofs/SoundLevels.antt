@@ -14,7 +14,7 @@ use Rattle.icu_collator_core.specs.Collation.{Collation}
 use Rattle.icu_collator_core.specs.WeightRules.{AreSoundWeights}
 use Rattle.icu_collator.specs.Levels.{Levels, SecondaryPlace, segment_end, secondary, QuaternaryPlace, quaternary, reordered, unless_zero, primary_at, secondary_at, backward_from, secondaries_of, case_at, tertiary_weight, tertiary_at, quaternary_at, levels_of}
 use Rattle.icu_collator.specs.Order.{quaternary_rank}
-use Rattle.icu_collator.specs.Settings.{AreSoundSettings, has_plain_leads}
+use Rattle.icu_collator.specs.Settings.{AreSoundSettings}
 use Rattle.icu_collator.specs.Shifted.{Counted, whole, variable, counted}
 use Rattle.icu_collator.proofs.Codes.{AllFrom}
 use Rattle.icu_collator.proofs.CommonAlone.{NoneBelow}
@@ -22,10 +22,10 @@ use Rattle.icu_collator.proofs.CaseKeys.{IsCase, past as past_case}
 use Rattle.icu_collator.proofs.CharacterKeys.{IsCharacter}
 use Rattle.icu_collator.proofs.TertiaryKeys.{IsTertiaryAt, past as past_tertiary}
 use Rattle.icu_collator.proofs.SecondaryKeys.{IsSecondaryAt, past as past_secondary}
-use Rattle.icu_collator.proofs.PrimaryKeys.{ArePrimaries}
+use Rattle.icu_collator.proofs.PrimaryKeys.{ArePrimaries, none_compressible}
 use Rattle.icu_collator.proofs.QuaternaryKeys.{IsPlace, next_place}
 use Rattle.icu_collator.proofs.LevelKeys.{AreSoundLevels}
-use Rattle.icu_collator.proofs.TextPrimaries.{Place, outside, primaries_are}
+use Rattle.icu_collator.proofs.TextPrimaries.{Place, outside, primaries_apart}
 use Rattle.icu_collator.proofs.NumberPlaces.{Reaches}
 use Rattle.icu_collator.proofs.SoundWeights.{IsSecondaryWeight, IsTertiaryWeight, secondaries_are, tertiaries_are, tertiary_below}
 use Rattle.icu_collator.proofs.CountedPlaces.{Flow as FlowAt, IsAt as IsPrimaryThere, next as next_there, IsOutside as IsOutsideThere, whole_behind as whole_behind_there, numbers_vary as vary, shifted_side, same_side, same_whole, counted_flow}
@@ -236,46 +236,45 @@ module _ (collation : Collation) (sound : AreSoundWeights collation.weights) (se
   characters_sound [] h = tt
   characters_sound (c ∷ cs) h = let scalar = h.0 in (grind (arith, nat_tests), characters_sound cs h.1)
 
-  -- under plain leads the levels of elements that stand at their places keep the rules that keys need
-  module _ (plain : has_plain_leads collation options ≡ true) where
-    abbrev pub primaries_stand : ArePrimaries IsAt collation.weights.is_compressible
-    primaries_stand = primaries_are collation sound settings options plain
+  -- the levels of elements that stand at their places keep the rules that keys need
+  abbrev pub stands_apart : ArePrimaries IsAt none_compressible
+  stands_apart = primaries_apart collation sound settings options
 
-    abbrev IsPlaced : Place → QuaternaryPlace → Type 0
-    IsPlaced = IsPlace IsAt next IsOutside collation.weights.is_compressible primaries_stand
+  abbrev IsPlaced : Place → QuaternaryPlace → Type 0
+  IsPlaced = IsPlace IsAt next IsOutside none_compressible stands_apart
 
-    abbrev next_placed : Place → QuaternaryPlace → Place
-    next_placed = next_place IsAt next IsOutside collation.weights.is_compressible primaries_stand
+  abbrev next_placed : Place → QuaternaryPlace → Place
+  next_placed = next_place IsAt next IsOutside none_compressible stands_apart
 
-    quaternaries_sound : (s w : Place) (cs : List Counted) → Flow s w cs → AllFrom IsPlaced next_placed s (filter_map (quaternary_at collation) cs)
-    quaternaries_sound s w [] h = tt
-    quaternaries_sound s w (variable p ∷ cs) h = (h.1, quaternaries_sound (next s (reordered collation p)) w cs h.2)
-    quaternaries_sound s w (whole e ∷ cs) h =
-        let later = quaternaries_sound s (whole_behind w e) cs h.3
-        in from_option IsPlaced next_placed s e.tertiary (quaternary e.quaternary) (filter_map (quaternary_at collation) cs) (λ some. ((h.0, h.1.quaternary), later)) (λ none. later)
+  quaternaries_sound : (s w : Place) (cs : List Counted) → Flow s w cs → AllFrom IsPlaced next_placed s (filter_map (quaternary_at collation) cs)
+  quaternaries_sound s w [] h = tt
+  quaternaries_sound s w (variable p ∷ cs) h = (h.1, quaternaries_sound (next s (reordered collation p)) w cs h.2)
+  quaternaries_sound s w (whole e ∷ cs) h =
+      let later = quaternaries_sound s (whole_behind w e) cs h.3
+      in from_option IsPlaced next_placed s e.tertiary (quaternary e.quaternary) (filter_map (quaternary_at collation) cs) (λ some. ((h.0, h.1.quaternary), later)) (λ none. later)
 
-    abbrev pub AreSound : Levels → Type 0
-    AreSound = AreSoundLevels collation options IsAt next IsOutside outside primaries_stand
-        (IsSecondaryWeight collation.weights sound) (secondaries_are collation.weights sound) (IsTertiaryWeight collation.weights sound) (tertiaries_are collation.weights sound)
+  abbrev pub AreSound : Levels → Type 0
+  AreSound = AreSoundLevels options IsAt next IsOutside outside stands_apart
+      (IsSecondaryWeight collation.weights sound) (secondaries_are collation.weights sound) (IsTertiaryWeight collation.weights sound) (tertiaries_are collation.weights sound)
 
-    levels_by : (cs : List Counted) (list : List ℕ) → Flow outside outside cs → AllByRecursion IsScalar list
-        → AreSound (record { primaries = filter_map (primary_at collation) cs; secondaries = secondaries_of collation cs; cases = filter_map (case_at options) cs; tertiaries = filter_map (tertiary_at options) cs; quaternaries = filter_map (quaternary_at collation) cs; characters = list })
-    levels_by cs list h scalars =
-        record {
-          primaries = primaries_sound outside outside cs h;
-          secondaries = secondaries_sound outside outside cs h;
-          cases = cases_sound outside outside cs h;
-          tertiaries = tertiaries_sound outside outside cs h;
-          quaternaries = quaternaries_sound outside outside cs h;
-          characters = characters_sound list scalars;
-          case_each = case_each outside outside cs h;
-          quaternary_each = λ n. quaternary_each outside outside cs n h;
-          none_shifted = λ n. none_shifted outside outside cs n h;
-        }
+  levels_by : (cs : List Counted) (list : List ℕ) → Flow outside outside cs → AllByRecursion IsScalar list
+      → AreSound (record { primaries = filter_map (primary_at collation) cs; secondaries = secondaries_of collation cs; cases = filter_map (case_at options) cs; tertiaries = filter_map (tertiary_at options) cs; quaternaries = filter_map (quaternary_at collation) cs; characters = list })
+  levels_by cs list h scalars =
+      record {
+        primaries = primaries_sound outside outside cs h;
+        secondaries = secondaries_sound outside outside cs h;
+        cases = cases_sound outside outside cs h;
+        tertiaries = tertiaries_sound outside outside cs h;
+        quaternaries = quaternaries_sound outside outside cs h;
+        characters = characters_sound list scalars;
+        case_each = case_each outside outside cs h;
+        quaternary_each = λ n. quaternary_each outside outside cs n h;
+        none_shifted = λ n. none_shifted outside outside cs n h;
+      }
 
-    pub levels_sound : (es : List Element) (list : List ℕ) → Reaches collation.weights sound numeric_on outside es outside → AllByRecursion IsScalar list → AreSound (levels_of collation options es list)
-    unfolding levels_of
-    levels_sound es list h scalars =
-        levels_by (counted collation options es) list
-        (subst (λ p. Flow p outside (counted collation options es)) (same_side numbers_vary) (subst (λ p. Flow (shifted_side numbers_vary outside) p (counted collation options es)) (same_whole numbers_vary) (counted_flow collation sound settings options outside false es h)))
-        scalars
+  pub levels_sound : (es : List Element) (list : List ℕ) → Reaches collation.weights sound numeric_on outside es outside → AllByRecursion IsScalar list → AreSound (levels_of collation options es list)
+  unfolding levels_of
+  levels_sound es list h scalars =
+      levels_by (counted collation options es) list
+      (subst (λ p. Flow p outside (counted collation options es)) (same_side numbers_vary) (subst (λ p. Flow (shifted_side numbers_vary outside) p (counted collation options es)) (same_whole numbers_vary) (counted_flow collation sound settings options outside false es h)))
+      scalars

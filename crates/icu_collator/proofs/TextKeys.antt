@@ -1,14 +1,12 @@
 -- Keys of texts order as the texts do, whatever collation data say that keep the rules.
-use Rattle.std.proofs.Common.{◌≡◌, ℕ, true, List, [], ◌∷◌, ◌↔◌, refl, sym, ◌∙◌, subst, arith}
-use Rattle.std.proofs.lemmas.Bool.Decides.{nat_tests}
+use Rattle.std.proofs.Common.{◌≡◌, ℕ, true, List, ◌↔◌, sym, ◌∙◌, subst}
 use Rattle.std.proofs.lemmas.Cmp.{nat_list_cmp_total, tied_itself}
 use Rattle.std.proofs.lemmas.List.Elements.{All-from_recursion, recursion_from_All}
 use Rattle.std.specs.Char.{IsScalar}
 use Rattle.std.specs.Cmp.Lexicographic.{slice_cmp}
 use Rattle.std.specs.List.{All}
-use Rattle.std.specs.Ordering.{nat_cmp, ordering_then}
-use Rattle.std.specs.declared.cmp.Ordering.{Ordering}
-use Rattle.std.specs.declared.cmp.Ordering.TheVariants.{Less, Equal, Greater}
+use Rattle.std.specs.Ordering.{nat_cmp}
+use Rattle.std.specs.declared.cmp.Ordering.TheVariants.{Equal}
 use Rattle.icu_normalizer_core.specs.Canonical.{IsDecomposing, decomposed}
 use Rattle.icu_collator_types.specs.declared.options.ResolvedCollatorOptions.{ResolvedCollatorOptions}
 use Rattle.icu_collator_types.specs.declared.options.Strength.TheVariants.{Identical}
@@ -25,12 +23,12 @@ use Rattle.icu_collator.specs.Levels.{levels_of, elements_of_text}
 use Rattle.icu_collator.specs.Order.{levels_order, collation_order}
 use Rattle.icu_collator.specs.Settings.{AreSoundSettings, has_plain_leads}
 use Rattle.icu_collator.proofs.Identical.{equal_at_identical}
-use Rattle.icu_collator.proofs.LevelKeys.{level_keys_order}
-use Rattle.icu_collator.proofs.TextPrimaries.{outside, IsPrimaryAt}
+use Rattle.icu_collator.proofs.LevelKeys.{level_keys_order, same_numbers}
+use Rattle.icu_collator.proofs.TextPrimaries.{outside, IsPrimaryAt, primaries_are}
 use Rattle.icu_collator.proofs.SequencePlaces.{sequence_stands}
 use Rattle.icu_collator.proofs.SoundWeights.{IsSecondaryWeight, IsTertiaryWeight, secondaries_are, tertiaries_are}
 use Rattle.icu_collator.proofs.CountedPlaces.{next, IsOutside}
-use Rattle.icu_collator.proofs.SoundLevels.{primaries_stand, levels_sound}
+use Rattle.icu_collator.proofs.SoundLevels.{stands_apart, levels_sound}
 
 -- the keys of two sequences of elements order list their levels do
 pub sequence_keys_order : (collation : Collation) (options : ResolvedCollatorOptions) (es fs : List Element) (list other : List ℕ)
@@ -40,11 +38,12 @@ pub sequence_keys_order : (collation : Collation) (options : ResolvedCollatorOpt
     → slice_cmp nat_cmp (key_bytes collation options (levels_of collation options es list)) (key_bytes collation options (levels_of collation options fs other))
     ≡ levels_order options (levels_of collation options es list) (levels_of collation options fs other)
 sequence_keys_order collation options es fs list other sound settings plain he hf sa sb =
-    level_keys_order collation options (IsPrimaryAt collation sound settings options) (next collation sound settings options) (IsOutside collation sound settings options) outside (primaries_stand collation sound settings options plain)
+    level_keys_order options (IsPrimaryAt collation sound settings options) (next collation sound settings options) (IsOutside collation sound settings options) outside (stands_apart collation sound settings options)
     (IsSecondaryWeight collation.weights sound) (secondaries_are collation.weights sound) (IsTertiaryWeight collation.weights sound) (tertiaries_are collation.weights sound)
     (levels_of collation options es list) (levels_of collation options fs other)
-    (levels_sound collation sound settings options plain es list (sequence_stands collation sound settings (is_numeric options.numeric) es he) (recursion_from_All IsScalar list sa))
-    (levels_sound collation sound settings options plain fs other (sequence_stands collation sound settings (is_numeric options.numeric) fs hf) (recursion_from_All IsScalar other sb))
+    (levels_sound collation sound settings options es list (sequence_stands collation sound settings (is_numeric options.numeric) es he) (recursion_from_All IsScalar list sa))
+    (levels_sound collation sound settings options fs other (sequence_stands collation sound settings (is_numeric options.numeric) fs hf) (recursion_from_All IsScalar other sb))
+    collation (primaries_are collation sound settings options plain)
 
 -- the keys of two texts order as the texts do
 pub text_keys_order : (collation : Collation) (options : ResolvedCollatorOptions) (a b : List ℕ)
@@ -57,23 +56,6 @@ text_keys_order collation options a b d sound settings plain sa sb =
     (All-from_recursion IsScalar (decomposed collation.canonical a) (decomposed_scalars collation.canonical a d (recursion_from_All IsScalar a sa)))
     (All-from_recursion IsScalar (decomposed collation.canonical b) (decomposed_scalars collation.canonical b d (recursion_from_All IsScalar b sb)))
 
-first_equal : (o p : Ordering) → ordering_then o p ≡ Equal → (o ≡ Equal) × (p ≡ Equal)
-first_equal Less p h = let never : Less ≡ Equal = h in cc
-first_equal Equal p h = (refl, h)
-first_equal Greater p h = let never : Greater ≡ Equal = h in cc
-
--- bytes that compare equal are the same
-same_bytes : (xs ys : List ℕ) → slice_cmp nat_cmp xs ys ≡ Equal → xs ≡ ys
-same_bytes [] [] h = refl
-same_bytes [] (y ∷ ys) h = let never : Less ≡ Equal = h in cc
-same_bytes (x ∷ xs) [] h = let never : Greater ≡ Equal = h in cc
-same_bytes (x ∷ xs) (y ∷ ys) h =
-    let both = first_equal (nat_cmp x y) (slice_cmp nat_cmp xs ys) h
-    in let first : nat_cmp x y ≡ Equal = both.0
-    in let same : x ≡ y = grind (arith, nat_tests)
-    in let rest : xs ≡ ys = same_bytes xs ys both.1
-    in cc
-
 -- two texts have one key where they compare equal
 pub equal_text_keys : (collation : Collation) (options : ResolvedCollatorOptions) (a b : List ℕ)
     → IsDecomposing collation.canonical → AreSoundWeights collation.weights → AreSoundSettings collation → has_plain_leads collation options ≡ true
@@ -83,7 +65,7 @@ equal_text_keys collation options a b d sound settings plain sa sb =
     let order = text_keys_order collation options a b d sound settings plain sa sb
     in (
       λ e. sym order ∙ subst (λ (k : List ℕ). slice_cmp nat_cmp (key_of_text collation options a) k ≡ Equal) e (tied_itself nat_list_cmp_total (key_of_text collation options a)),
-      λ e. same_bytes (key_of_text collation options a) (key_of_text collation options b) (order ∙ e),
+      λ e. same_numbers (key_of_text collation options a) (key_of_text collation options b) (order ∙ e),
     )
 
 -- at strength Identical two texts have one key where they are canonically equivalent

@@ -14,7 +14,7 @@ use Rattle.icu_collator.specs.Levels.{reordered}
 use Rattle.icu_collator.specs.Settings.{AreSoundSettings, has_plain_leads}
 use Rattle.icu_collator_types.specs.Options.{is_numeric}
 use Rattle.icu_collator.proofs.CommonAlone.{and_true}
-use Rattle.icu_collator.proofs.PrimaryKeys.{ArePrimaries}
+use Rattle.icu_collator.proofs.PrimaryKeys.{ArePrimaries, none_compressible}
 use Rattle.icu_collator.proofs.WeightBytes.{apart_begins, begins_tests}
 
 and_false : (b : Bool) → (b && false) ≡ false
@@ -296,12 +296,22 @@ module _ (collation : Collation) (sound : AreSoundWeights collation.weights) (se
   lead_bounds : (place : Place) (q : ℕ) → IsOriginal collation.weights sound numeric_on place q → (2 ≤ collation.reordered_lead (q / 2 ^ 24)) × (collation.reordered_lead (q / 2 ^ 24) < 256)
   lead_bounds place q is = let small = original_small place q is in reordered_small (q / 2 ^ 24) (original_lead place q is) (omega (arith, small))
 
-  pub primaries_are : has_plain_leads collation options ≡ true → ArePrimaries IsPrimaryAt collation.weights.is_compressible
-  primaries_are plain =
+  -- whatever the lead of numbers is, no primary begins another
+  pub primaries_apart : ArePrimaries IsPrimaryAt none_compressible
+  primaries_apart =
       record {
         lead = λ s p is. let bounds = lead_bounds s (is.0) (is.1) in omega (arith, is.2, bounds.0, reordered_lead_is (is.0));
         small = λ s p is. let bounds = lead_bounds s (is.0) (is.1) in omega (arith, is.2, bounds.1);
         apart = λ s p q is other. rw (is.2, other.2) (reordered_apart (is.0) (other.0) (originals_apart collation.weights sound numeric_on s (is.0) (other.0) (is.1) (other.1)));
+        second = λ s p is h. absurd (true≢false (sym h));
+      }
+
+  pub primaries_are : has_plain_leads collation options ≡ true → ArePrimaries IsPrimaryAt collation.weights.is_compressible
+  primaries_are plain =
+      record {
+        lead = primaries_apart.lead;
+        small = primaries_apart.small;
+        apart = primaries_apart.apart;
         second = λ s p is h.
             let q : ℕ = is.0 in
             let lead : p / 2 ^ 24 ≡ collation.reordered_lead (q / 2 ^ 24) = ap (λ (x : ℕ). x / 2 ^ 24) (is.2) ∙ reordered_lead_is q in

@@ -3,9 +3,9 @@ pub mod Levels
 pub mod Order
 pub mod Strengths
 pub mod Equivalence
-pub mod Few
 pub mod KeyBytes
 pub mod Settings
-pub mod FewKeys
 pub mod NumbersInTexts
-pub mod FewDigits
+pub mod Letters
+pub mod LevelOrders
+pub mod LetterLevels

@@ -3,3 +3,4 @@
 
 pub mod laws;
 pub mod laws_keys;
+pub mod laws_levels;
