@@ -1,0 +1,44 @@
+use Rattle.std.proofs.Common.{◌∙◌, sym, Some, None}
+use Rattle.icu_collections.proofs.UnitKeys.{value_of, longer_of, last_of, stopped_of, no_match_of}
+use Rattle.icu_collections.proofs.UnitWhole.{whole_of, more_of}
+use Rattle.icu_collections.proofs.char16trie.Char16TrieIterator.next16.Goals as goal
+
+pub returns-in-Some-clause-value : goal.returns-in-Some-clause-value
+returns-in-Some-clause-value c number =
+    value_of c.args.self.now.units.now c.args.self.now.state c.args.unit (Some c.in-Some.arrival) (sym c.step.ensures ∙ c.in-Some.is) number
+
+pub returns-in-Some-clause-longer : goal.returns-in-Some-clause-longer
+returns-in-Some-clause-longer c next key number =
+    longer_of c.args.self.now.units.now c.args.self.now.state c.args.unit (Some c.in-Some.arrival) (sym c.step.ensures ∙ c.in-Some.is) next key number
+
+pub returns-in-Some-clause-last : goal.returns-in-Some-clause-last
+returns-in-Some-clause-last c =
+    last_of c.args.self.now.units.now c.args.self.now.state c.args.unit (Some c.in-Some.arrival) (sym c.step.ensures ∙ c.in-Some.is)
+
+pub returns-in-None-clause-value : goal.returns-in-None-clause-value
+returns-in-None-clause-value c number =
+    value_of c.args.self.now.units.now c.args.self.now.state c.args.unit None (sym c.step.ensures ∙ c.in-None.is) number
+
+pub returns-in-None-clause-longer : goal.returns-in-None-clause-longer
+returns-in-None-clause-longer c next key number =
+    longer_of c.args.self.now.units.now c.args.self.now.state c.args.unit None (sym c.step.ensures ∙ c.in-None.is) next key number
+
+pub returns-in-None-clause-last : goal.returns-in-None-clause-last
+returns-in-None-clause-last c =
+    last_of c.args.self.now.units.now c.args.self.now.state c.args.unit None (sym c.step.ensures ∙ c.in-None.is)
+
+pub returns-in-Some-clause-whole : goal.returns-in-Some-clause-whole
+returns-in-Some-clause-whole c =
+    whole_of c.args.self.now.units.now c.args.self.now.state c.args.unit (Some c.in-Some.arrival) (sym c.step.ensures ∙ c.in-Some.is)
+
+pub returns-in-Some-clause-more : goal.returns-in-Some-clause-more
+returns-in-Some-clause-more c =
+    more_of c.args.self.now.units.now c.args.self.now.state c.args.unit (Some c.in-Some.arrival) (sym c.step.ensures ∙ c.in-Some.is)
+
+pub returns-in-Some-clause-stops : goal.returns-in-Some-clause-stops
+returns-in-Some-clause-stops c =
+    stopped_of c.args.self.now.units.now c.args.self.now.state c.args.unit (Some c.in-Some.arrival) (sym c.step.ensures ∙ c.in-Some.is)
+
+pub returns-in-Some-clause-stopped : goal.returns-in-Some-clause-stopped
+returns-in-Some-clause-stopped c =
+    no_match_of c.args.self.now.units.now c.args.self.now.state c.args.unit (Some c.in-Some.arrival) (sym c.step.ensures ∙ c.in-Some.is)

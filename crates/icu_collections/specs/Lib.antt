@@ -1,0 +1,11 @@
+pub mod TrieValues
+pub mod TrieValueLaws
+pub mod Places
+pub mod Ranges
+pub mod RangeIterators
+pub mod CodePointMaps
+pub mod MappedRanges
+pub mod UnitCells
+pub mod UnitSteps
+pub mod Cursors
+pub mod UnitMaps

@@ -1,0 +1,18 @@
+//! Maps from code points to values in compact tables that are read by a few loads and shifts.
+
+mod builder;
+mod iterators;
+mod ranges;
+mod trie;
+mod typed;
+mod value;
+
+pub use builder::{CodePointTrieBuilder, CodePointTrieBuilderError};
+pub use iterators::{CodePointMapRangeIterator, CodePointMappedRanges, CodePointRangesForValue};
+pub use ranges::CodePointMapRange;
+pub use trie::{CodePointTrie, CodePointTrieError, CodePointTrieHeader, TrieType};
+pub use typed::{FastCodePointTrie, SmallCodePointTrie, TypedCodePointTrie};
+pub use value::TrieValue;
+
+#[cfg(test)]
+mod tests;

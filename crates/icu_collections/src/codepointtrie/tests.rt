@@ -1,0 +1,229 @@
+use super::*;
+use icu_collections_sets::packed_vector::PackedVec;
+use std::alloc::Global;
+use std::test::Fail;
+
+fn header(trie_type: TrieType, high_start: u32) -> CodePointTrieHeader {
+    CodePointTrieHeader {
+        high_start,
+        shifted12_high_start: 4,
+        index3_null_offset: 0,
+        data_null_offset: 0,
+        null_value: 0,
+        trie_type,
+    }
+}
+
+// code points below 40 (hex) have 5, 41 to 43 have 6, others up to 10FFFF 8, and numbers past it 9
+fn small_trie(alloc: Global) -> Result<CodePointTrie<'static, u8>, Fail> {
+    let mut index = Vec::new(alloc);
+    for place in 0..128u8 {
+        index.push(match place {
+            0 | 1 => 0,
+            2 => 64,
+            _ => if place % 2 == 0 { 128 } else { 0 },
+        })?;
+    }
+    let mut cells = Vec::new(alloc);
+    for place in 0..194u8 {
+        cells.push(match place {
+            0..64 => 5,
+            65..68 => 6,
+            193 => 9,
+            _ => 8,
+        })?;
+    }
+    let index = PackedVec::<u16>::try_from_bytes(index.as_slice())?.into_owned(alloc)?;
+    let cells = PackedVec::<u8>::try_from_bytes(cells.as_slice())?.into_owned(alloc)?;
+    Ok(CodePointTrie::try_new(header(TrieType::Small, 0x1000), index, cells)?)
+}
+
+#[test]
+fn refused_tables(rt: HostRuntime) -> Result<(), Fail> {
+    let none = CodePointTrie::<u8>::try_new(
+        header(TrieType::Small, 0x1000),
+        PackedVec::try_from_bytes(&[])?,
+        PackedVec::try_from_bytes(&[])?,
+    );
+    assert_eq!(rt; none.err(), Some(CodePointTrieError::EmptyDataVector));
+    let index = PackedVec::<u16>::try_from_bytes(&[0; 126])?;
+    let short = CodePointTrie::<u8>::try_new(
+        header(TrieType::Small, 0x1000),
+        index,
+        PackedVec::try_from_bytes(&[0; 64])?,
+    );
+    assert_eq!(rt;
+        short.err(),
+        Some(CodePointTrieError::IndexTooShortForFastAccess)
+    );
+    let index = PackedVec::<u16>::try_from_bytes(&[0; 128])?;
+    let short = CodePointTrie::<u8>::try_new(
+        header(TrieType::Small, 0x1000),
+        index,
+        PackedVec::try_from_bytes(&[0; 63])?,
+    );
+    assert_eq!(rt;
+        short.err(),
+        Some(CodePointTrieError::DataTooShortForFastAccess)
+    );
+    Ok(())
+}
+
+#[test]
+fn cells_of_one_step(rt: HostRuntime) -> Result<(), Fail> {
+    let trie = small_trie(rt.alloc())?;
+    assert_eq!(rt; trie.get32(0x3F), 5);
+    assert_eq!(rt; trie.get('A'), 6);
+    assert_eq!(rt; trie.get32_u32(0x44), 8);
+    assert_eq!(rt; trie.get32(0x10_FFFF), 8);
+    assert_eq!(rt; trie.get32(0x11_0000), 9);
+    assert!(rt; trie.has_cell(0x11_0000));
+    Ok(())
+}
+
+// an index whose group of 18-bit offsets begins at 105: the first offset is 10000, the second 0
+fn wide_index(alloc: Global) -> Result<PackedVec<'static, u16>, Fail> {
+    let mut index = Vec::new(alloc);
+    for place in 0..228u8 {
+        index.push(match place {
+            128 => 65,
+            146 => 105,
+            147 => 0x80,
+            211 => 0x40,
+            _ => 0,
+        })?;
+    }
+    Ok(PackedVec::<u16>::try_from_bytes(index.as_slice())?.into_owned(alloc)?)
+}
+
+#[test]
+fn cells_of_wide_offsets(rt: HostRuntime) -> Result<(), Fail> {
+    let mut cells = Vec::new(rt.alloc());
+    for place in 0..0x1_0010u32 {
+        cells.push(if place == 0x1_0005 { 7u8 } else { 0 })?;
+    }
+    let trie = CodePointTrie::<u8>::try_new(
+        header(TrieType::Small, 0x2000),
+        wide_index(rt.alloc())?,
+        PackedVec::try_from_bytes(cells.as_slice())?,
+    )?;
+    assert_eq!(rt; trie.get32(0x1005), 7);
+    assert_eq!(rt; trie.get32(0x1004), 0);
+    assert_eq!(rt; trie.get32(0x1015), 0);
+    assert!(rt; trie.has_cell(0x1005));
+    Ok(())
+}
+
+#[test]
+fn values_from_the_limit_on(rt: HostRuntime) -> Result<(), Fail> {
+    let index = PackedVec::<u16>::try_from_bytes(&[0; 128])?;
+    let trie = CodePointTrie::<u8>::try_new(
+        header(TrieType::Small, 0x1000),
+        index,
+        PackedVec::try_from_bytes(&[3; 64])?,
+    )?;
+    assert!(rt; trie.has_cell(0x1000));
+    let typed = SmallCodePointTrie::try_from(trie);
+    assert!(rt; typed.is_ok_and(|small| small.get32(0x1000) == 3 && small.get('a') == 3));
+    Ok(())
+}
+
+#[test]
+fn typed_tries(rt: HostRuntime) -> Result<(), Fail> {
+    let trie = small_trie(rt.alloc())?;
+    let Err(trie) = FastCodePointTrie::try_from(trie) else {
+        return Err("a small trie is no fast one".into());
+    };
+    let Ok(small) = SmallCodePointTrie::try_from(trie) else {
+        return Err("a small trie is a small one".into());
+    };
+    assert_eq!(rt; small.get('A'), 6);
+    assert!(rt; *small.as_untyped_ref() == small_trie(rt.alloc())?);
+    Ok(())
+}
+
+#[test]
+fn ok_clone(rt: HostRuntime) -> Result<(), Fail> {
+    let trie = small_trie(rt.alloc())?;
+    let copy = trie.clone(rt.alloc())?;
+    assert!(rt; copy == trie);
+    assert_eq!(rt; copy.get('B'), 6);
+    Ok(())
+}
+
+#[test]
+fn ranges_of_a_trie(rt: HostRuntime) -> Result<(), Fail> {
+    let trie = small_trie(rt.alloc())?;
+    let mut starts = Vec::new(rt.alloc());
+    let mut values = Vec::new(rt.alloc());
+    for found in trie.iter_ranges() {
+        starts.push(*found.range.start())?;
+        values.push(found.value)?;
+    }
+    assert_eq!(rt; starts.as_slice(), [0, 0x40, 0x41, 0x44].as_slice());
+    assert_eq!(rt; values.as_slice(), [5, 8, 6, 8].as_slice());
+    let found = trie.get_range(0x42).ok_or("no range")?;
+    assert_eq!(rt; *found.range.start(), 0x42);
+    assert_eq!(rt; *found.range.end(), 0x43);
+    assert!(rt; trie.get_range(0x11_0000).is_none());
+    Ok(())
+}
+
+#[test]
+fn ranges_of_a_value(rt: HostRuntime) -> Result<(), Fail> {
+    let trie = small_trie(rt.alloc())?;
+    let mut ends = Vec::new(rt.alloc());
+    for range in trie.iter_ranges_for_value(8) {
+        ends.push(*range.start())?;
+        ends.push(*range.end())?;
+    }
+    assert_eq!(rt; ends.as_slice(), [0x40, 0x40, 0x44, 0x10_FFFF].as_slice());
+    assert!(rt; trie.iter_ranges_for_value(9).next().is_none());
+    Ok(())
+}
+
+#[test]
+fn numbers_of_values(rt: HostRuntime) {
+    assert_eq!(rt; u8::try_from_u32(0x100), None);
+    assert_eq!(rt; u16::try_from_u32(0xFFFF), Some(0xFFFF));
+    assert_eq!(rt; char::try_from_u32(0xD800), None);
+    assert_eq!(rt; 'a'.to_u32(), 0x61);
+    assert_eq!(rt; u32::try_from_u32(0xFFFF_FFFF), Some(0xFFFF_FFFF));
+}
+
+#[test]
+fn ok_new(rt: HostRuntime) -> Result<(), Fail> {
+    let mut map = CodePointTrieBuilder::new(rt.alloc(), 0u32, 9, TrieType::Small)?;
+    assert_eq!(rt; map.set_value(0x41, 7), Ok(()));
+    assert_eq!(rt; map.set_value(0x41, 0), Ok(()));
+    assert_eq!(rt;
+        map.set_value(0x11_0000, 1),
+        Err(CodePointTrieBuilderError::OutOfRange)
+    );
+    Ok(())
+}
+
+#[test]
+fn ranges_of_an_image(rt: HostRuntime) -> Result<(), Fail> {
+    let trie = small_trie(rt.alloc())?;
+    let mut starts = Vec::new(rt.alloc());
+    let mut images = Vec::new(rt.alloc());
+    for found in trie.iter_ranges_mapped(|value: u8| value > 5) {
+        starts.push(*found.range.start())?;
+        images.push(found.value)?;
+    }
+    assert_eq!(rt; starts.as_slice(), [0, 0x40].as_slice());
+    assert_eq!(rt; images.as_slice(), [false, true].as_slice());
+    Ok(())
+}
+
+#[test]
+fn writes_of_ranges(rt: HostRuntime) -> Result<(), Fail> {
+    let mut map = CodePointTrieBuilder::new(rt.alloc(), 0u8, 9, TrieType::Fast)?;
+    let refused = Err(CodePointTrieBuilderError::OutOfRange);
+    assert_eq!(rt; map.set_range_value(0x41..=0x10_FFFF, 7), Ok(()));
+    assert_eq!(rt; map.set_range_value(0x41..=0x11_0000, 7), refused);
+    assert_eq!(rt; map.set_range_value(0x11_0000..=0x41, 7), refused);
+    assert_eq!(rt; map.set_range_value(0x42..=0x41, 7), Ok(()));
+    Ok(())
+}

@@ -1,0 +1,73 @@
+-- The ranges that an inversion list leaves out hold what it does not.
+use Rattle.std.proofs.Common.{◌≡◌, ℕ, ◌+◌, ◌%◌, ◌<◌, ◌≤◌, Bool, true, false, not, nat_lt, nat_le, ◌&&◌, List, [], ◌∷◌, length, Some, None, sym, ap, ◌∙◌, arith, inl, inr}
+use Rattle.std.proofs.lemmas.Bool.{cases_lt, false≢true}
+use Rattle.std.proofs.lemmas.Bool.Decides.{nat_tests}
+use Rattle.icu_collections_sets.specs.CodePoints.{Rises, IsInversionList, is_in, holds, in_ranges}
+use Rattle.icu_collections_sets.specs.Gaps.{gaps, start_from}
+use Rattle.icu_collections_sets.proofs.SetLemmas.{is_in_past, is_in_before, holds_range, holds_behind}
+use Rattle.icu_collections_sets.proofs.EditLemmas.{is_in_early}
+
+-- whether a code point is left out, from a start on
+abbrev left_out : ℕ → List ℕ → ℕ → Bool
+left_out start edges c = nat_le start c && (nat_lt c 1114112 && not (holds edges c))
+
+started : (t : ℕ) → t < 1114112 → start_from t ≡ Some t
+started t h = grind (arith, nat_tests)
+
+ended : (t : ℕ) → 1114112 ≤ t → start_from t ≡ None
+ended t h = grind (arith, nat_tests)
+
+gaps_behind : (t : ℕ) (edges : List ℕ) (c : ℕ) → (t < 1114112 → in_ranges (gaps (Some t) edges) c ≡ left_out t edges c) → in_ranges (gaps (start_from t) edges) c ≡ left_out t edges c
+gaps_behind t edges c ih = elim (cases_lt t 1114112) [
+  | inl low ↦ ap (λ s. in_ranges (gaps s edges) c) (started t low) ∙ ih low
+  | inr end ↦ ap (λ s. in_ranges (gaps s edges) c) (ended t end) ∙ grind (arith, nat_tests)
+]
+
+pub gaps_some : (start : ℕ) (edges : List ℕ) → start < 1114112 → Rises (start + 1) edges → length edges % 2 ≡ 0 → (c : ℕ) → in_ranges (gaps (Some start) edges) c ≡ left_out start edges c
+gaps_some start [] h r e c = grind (arith, nat_tests)
+gaps_some start (f ∷ []) h r e c = absurd (omega arith)
+gaps_some start (f ∷ t ∷ es) h r e c =
+    let rise : f < t = omega (arith, r.2.0) in
+    let above : start < f = omega (arith, r.0) in
+    let rest = gaps_behind t es c (λ low. gaps_some t es low r.2.2 (omega arith) c) in
+    elim (cases_lt c f) [
+      | inl before ↦ let here = is_in_before false f (t ∷ es) c before in grind (arith, nat_tests, rest, here)
+      | inr past ↦ elim (cases_lt c t) [
+        | inl within ↦ let here = holds_range f t es c past within in grind (arith, nat_tests, rest, here)
+        | inr behind ↦ let here = holds_behind f t es c rise behind in grind (arith, nat_tests, rest, here)
+      ]
+    ]
+
+-- a list that holds the first code point begins with it
+pub first_edge : (xs : List ℕ) → IsInversionList xs → holds xs 0 ≡ true → (t : ℕ) × (es : List ℕ) × (xs ≡ 0 ∷ t ∷ es)
+first_edge [] list h = absurd (false≢true h)
+first_edge (x ∷ []) list h = absurd (omega (arith, list.even))
+first_edge (x ∷ t ∷ es) list h = elim (cases_lt 0 x) [
+  | inl above ↦ absurd (false≢true (sym (is_in_before false x (t ∷ es) 0 above) ∙ h))
+  | inr first ↦ (t, es, ap (λ y. y ∷ t ∷ es) (omega arith))
+]
+
+-- a list that doesn't hold the first code point begins above it
+pub Rises_above : (xs : List ℕ) → Rises 0 xs → holds xs 0 ≡ false → Rises (0 + 1) xs
+Rises_above [] r h = tt
+Rises_above (x ∷ xs) r h = elim (cases_lt 0 x) [
+  | inl above ↦ (omega arith, r.1, r.2)
+  | inr first ↦
+      let in_first : is_in true xs 0 ≡ true = is_in_early true xs 0 (x + 1) (omega arith) r.2 in
+      absurd (false≢true (sym h ∙ is_in_past false x xs 0 (omega arith) ∙ in_first))
+]
+
+-- what is left out of a list that begins with the first code point, and of one that doesn't
+pub left_out_behind : (t : ℕ) (es : List ℕ) → IsInversionList (0 ∷ t ∷ es) → (c : ℕ) → in_ranges (gaps (start_from t) es) c ≡ (nat_lt c 1114112 && not (holds (0 ∷ t ∷ es) c))
+left_out_behind t es list c =
+    let rise : 0 < t = omega (arith, list.rises.2.0) in
+    let rest = gaps_behind t es c (λ low. gaps_some t es low list.rises.2.2 (omega (arith, list.even)) c) in
+    elim (cases_lt c t) [
+      | inl within ↦ let here = holds_range 0 t es c (omega arith) within in grind (arith, nat_tests, rest, here)
+      | inr behind ↦ let here = holds_behind 0 t es c rise behind in grind (arith, nat_tests, rest, here)
+    ]
+
+pub left_out_all : (xs : List ℕ) → IsInversionList xs → holds xs 0 ≡ false → (c : ℕ) → in_ranges (gaps (Some 0) xs) c ≡ (nat_lt c 1114112 && not (holds xs c))
+left_out_all xs list h c =
+    let rest = gaps_some 0 xs (omega arith) (Rises_above xs list.rises h) list.even c in
+    grind (arith, nat_tests, rest)

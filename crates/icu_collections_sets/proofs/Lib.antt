@@ -1,0 +1,6 @@
+pub mod ItemLemmas
+pub mod SetLemmas
+pub mod EditLemmas
+pub mod MergeLemmas
+pub mod UniqueLemmas
+pub mod GapLemmas

@@ -1,0 +1,19 @@
+-- The ranges that an inversion list leaves out.
+use Rattle.std.specs.Prelude.{◌≡◌, ℕ, ◌+◌, ◌-◌, ◌%◌, ◌<◌, nat_lt, if◌then◌else◌, List, [], ◌∷◌, length, Option, Some, None}
+use Rattle.icu_collections_sets.specs.CodePoints.{Rises}
+
+-- where a range begins that is left out behind an edge, if one does
+abbrev pub start_from : ℕ → Option ℕ
+start_from edge = if nat_lt edge 0x110000 then Some edge else None
+
+-- the ranges between the ranges of a list, the first from a start on and the last up to the last code point
+abbrev pub gaps : Option ℕ → List ℕ → List (ℕ × ℕ)
+gaps None edges = []
+gaps (Some start) [] = (start, 0x10FFFF) ∷ []
+gaps (Some start) (from ∷ []) = (start, from - 1) ∷ []
+gaps (Some start) (from ∷ till ∷ edges) = (start, from - 1) ∷ gaps (start_from till) edges
+
+-- the start is a code point below all edges
+abbrev pub AreGapsFrom : Option ℕ → List ℕ → Type 0
+AreGapsFrom None edges = Unit {0}
+AreGapsFrom (Some start) edges = (start < 0x110000) × Rises (start + 1) edges × (length edges % 2 ≡ 0)

@@ -1,0 +1,10 @@
+pub mod Bytes
+pub mod ByteLaws
+pub mod CodePoints
+pub mod Gaps
+pub mod Items
+pub mod Operations
+pub mod RangeErrors
+pub mod SetEdits
+pub mod SetErrors
+pub mod Stored

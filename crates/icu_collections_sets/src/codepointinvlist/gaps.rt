@@ -1,0 +1,95 @@
+//! The iterator over the ranges that a set leaves out.
+ghost use Rattle.std.specs.Prelude.{◌≡◌, ℕ, ◌<◌, ◌≤◌, ◌&&◌, nat_lt, not, length, ◌∷◌, ◌%◌, true};
+ghost use Rattle.std.specs.Iterator.{YieldsFirstBy, item_count};
+ghost use Rattle.icu_collections_sets.specs.CodePoints.{IsInversionList, holds, in_ranges, ends_of};
+ghost use Rattle.icu_collections_sets.specs.Gaps.{start_from};
+
+use crate::packed_vector::PackedIter;
+use std::iter::FusedIterator;
+use std::marker::Model;
+use std::ops::RangeInclusive;
+
+/// The ranges of code points that a set doesn't hold, in order, seen as the list of those that are
+/// left, each by its first and its last code point.
+#[derive(Drop)]
+pub struct ComplementedRanges<'a> {
+    // Where the next range begins, or `None` where none is left.
+    start: Option<u32>,
+    edges: PackedIter<'a, u32>,
+}
+
+impl<'a> Model for ComplementedRanges<'a> {
+    ghost use Rattle.std.specs.Prelude.{ℕ, List};
+    ghost use Rattle.icu_collections_sets.specs.Gaps.{gaps, AreGapsFrom};
+
+    ghost Value = { List (ℕ × ℕ) };
+
+    ghost view = { λ inside. gaps inside.start inside.edges };
+
+    ghost invariant = { λ inside. AreGapsFrom inside.start inside.edges };
+}
+
+/// Where a range begins that a set leaves out behind this edge, if one does.
+fn start_of(edge: u32) -> Option<u32>
+    ensures { result ≡ start_from edge }
+{
+    if edge < 0x11_0000 { Some(edge) } else { None }
+}
+
+/// Passes the edge where a range of the set ends, and says where one begins behind it that the set
+/// leaves out.
+fn next_start(edges: &mut PackedIter<'_, u32>) -> Option<u32>
+    requires { length edges.old % 2 ≡ 1 }
+    ensures { (till : ℕ) × (edges.old ≡ till ∷ edges.new) × (result ≡ start_from till) }
+{
+    let till = edges.next()?;
+    start_of(till)
+}
+
+/// The same behind the first range of a set that begins with the first code point.
+fn first_start(edges: &mut PackedIter<'_, u32>) -> Option<u32>
+    requires list { IsInversionList edges.old }
+    requires first { holds edges.old 0 ≡ true }
+    ensures { (till : ℕ) × (edges.old ≡ 0 ∷ till ∷ edges.new) × (result ≡ start_from till) }
+{
+    let _ = edges.next()?;
+    next_start(edges)
+}
+
+impl<'a> ComplementedRanges<'a> {
+    /// The ranges that this inversion list leaves out.
+    pub(super) fn new(mut edges: PackedIter<'a, u32>, begins_in: bool) -> ComplementedRanges<'a>
+        requires list { IsInversionList edges }
+        requires first { begins_in ≡ holds edges 0 }
+        ensures { (c : ℕ) → in_ranges result c ≡ (nat_lt c 0x110000 && not (holds edges.entry c)) }
+    {
+        if begins_in {
+            let start = first_start(&mut edges);
+            return ComplementedRanges { start, edges };
+        }
+        ComplementedRanges {
+            start: Some(0),
+            edges,
+        }
+    }
+}
+
+impl Iterator for ComplementedRanges<'_> {
+    type Item = RangeInclusive<u32>;
+
+    ghost next_gives = { YieldsFirstBy ends_of (λ rest. rest) };
+
+    ghost remaining = { item_count (λ rest. rest) };
+
+    fn next(&mut self) -> Option<RangeInclusive<u32>> {
+        let start = self.start?;
+        let Some(from) = self.edges.next() else {
+            self.start = None;
+            return Some(start..=0x10_FFFF);
+        };
+        self.start = next_start(&mut self.edges);
+        Some(start..=from - 1)
+    }
+}
+
+impl FusedIterator for ComplementedRanges<'_> {}

@@ -1,0 +1,5 @@
+//! Packed vectors, and sets of code points and strings over them.
+#![tactic(auto)]
+
+pub mod codepointinvlist;
+pub mod packed_vector;
