@@ -4,5 +4,6 @@ mod UnitBranches
 mod UnitAnswers
 mod UnitKeys
 mod UnitWhole
+mod UnitSays
 mod UnitTexts
 mod UnitExamples

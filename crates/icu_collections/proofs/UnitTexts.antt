@@ -7,6 +7,9 @@ use Rattle.icu_collections.specs.declared.char16trie.node.State.{State}
 use Rattle.icu_collections.specs.declared.char16trie.node.State.TheVariants as state
 use Rattle.icu_collections.specs.declared.char16trie.TrieResult.{TrieResult}
 use Rattle.icu_collections.specs.declared.char16trie.TrieResult.TheVariants.{NoMatch}
+use Rattle.icu_collections.specs.UnitAnswers.{IsAnswer}
+use Rattle.icu_collections.proofs.UnitAnswers.{stopped_none}
+use Rattle.icu_collections.proofs.UnitSays.{answers}
 use Rattle.icu_collections.proofs.UnitKeys.{value_law, longer_law, stopped_of}
 use Rattle.icu_collections.proofs.UnitWhole.{whole_of, has_more}
 
@@ -101,3 +104,7 @@ module _ (units : List ℕ) (next : State) (code : ℕ) (answer : TrieResult) (r
   pub no_match_units : next ≡ state.Stopped → answer ≡ NoMatch
   no_match_units stopped = answer-is ∙ subst (λ next. answer_to units next (units_of code) ≡ NoMatch) (sym stopped)
       (no-match-pick units (ltb code 0x10000) code (0xd800 + (code - 0x10000) / 0x400) (0xdc00 + code % 0x400))
+
+  pub says_units : IsWhole units (behind next) → IsAnswer (Spells units (behind next)) (units_of code) answer
+  says_units whole = answers (Spells units (behind next)) (Spells read (behind after)) (units_of code) longer_units answer value_units (more_units whole)
+      (λ last key number h. stopped_none read key number (subst (λ after. Spells read (behind after) key number) (stopped_units last) h))

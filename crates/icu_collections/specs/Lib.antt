@@ -9,3 +9,4 @@ pub mod UnitCells
 pub mod UnitSteps
 pub mod Cursors
 pub mod UnitMaps
+pub mod UnitAnswers

@@ -2,6 +2,7 @@
 //! unit or character at a time. The form is that of ICU4X's `Char16Trie`.
 ghost use Rattle.std.specs.Prelude.{◌≡◌, ◌+◌, ◌*◌, ◌^◌, ◌<◌, ◌≤◌, ◌-◌, ◌/◌, ◌%◌, [], ◌∷◌, ◌++◌, ◌↔◌, ◌⊎◌, ℕ, ℤ, List};
 ghost use Rattle.icu_collections.specs.Cursors.{IsEntry, IsEntryFrom, IsStopped, IsWholeFrom, IsWholeTrie, trie_units, cursor_units, cursor_state, follow, answer_of, answer_to, state_of, units_of};
+ghost use Rattle.icu_collections.specs.UnitAnswers.{IsAnswer};
 ghost use Rattle.icu_collections.specs.UnitMaps.{HasValue, IsLast};
 ghost use Rattle.icu_collections.specs.UnitSteps.{start, step};
 
@@ -66,6 +67,7 @@ impl Char16TrieIterator<'_> {
     /// `NoMatch`, and so it is where the units of the trie break the grammar.
     pub fn next16(&mut self, unit: u16) -> TrieResult
         ensures units { cursor_units self.new ≡ cursor_units self.old }
+        ensures says { IsWholeFrom self.old → IsAnswer (IsEntryFrom self.old) (unit ∷ []) result }
         ensures value { (number : ℤ) → HasValue result number ↔ IsEntryFrom self.old (unit ∷ []) number }
         ensures longer { (next : ℕ) (key : List ℕ) (number : ℤ) → IsEntryFrom self.new (next ∷ key) number ↔ IsEntryFrom self.old (unit ∷ next ∷ key) number }
         ensures whole { IsWholeFrom self.old → IsLast result ⊎ IsWholeFrom self.new }
@@ -93,6 +95,7 @@ impl Char16TrieIterator<'_> {
     /// `FinalValue` every answer is `NoMatch`.
     pub fn next32(&mut self, code: u32) -> TrieResult
         ensures units { cursor_units self.new ≡ cursor_units self.old }
+        ensures says { code ≤ 0x10ffff → IsWholeFrom self.old → IsAnswer (IsEntryFrom self.old) (units_of code) result }
         ensures value { code ≤ 0x10ffff → (number : ℤ) → HasValue result number ↔ IsEntryFrom self.old (units_of code) number }
         ensures longer { code ≤ 0x10ffff → (next : ℕ) (key : List ℕ) (number : ℤ) → IsEntryFrom self.new (next ∷ key) number ↔ IsEntryFrom self.old (units_of code ++ (next ∷ key)) number }
         ensures whole { code ≤ 0x10ffff → IsWholeFrom self.old → IsLast result ⊎ IsWholeFrom self.new }
@@ -112,6 +115,7 @@ impl Char16TrieIterator<'_> {
     /// `NoMatch` or `FinalValue` every answer is `NoMatch`.
     pub fn next(&mut self, character: char) -> TrieResult
         ensures units { cursor_units self.new ≡ cursor_units self.old }
+        ensures says { IsWholeFrom self.old → IsAnswer (IsEntryFrom self.old) (units_of character) result }
         ensures value { (number : ℤ) → HasValue result number ↔ IsEntryFrom self.old (units_of character) number }
         ensures longer { (next : ℕ) (key : List ℕ) (number : ℤ) → IsEntryFrom self.new (next ∷ key) number ↔ IsEntryFrom self.old (units_of character ++ (next ∷ key)) number }
         ensures whole { IsWholeFrom self.old → IsLast result ⊎ IsWholeFrom self.new }

@@ -1,4 +1,4 @@
-use Rattle.icu_collections.proofs.UnitTexts.{value_units, longer_units, whole_units, more_units, stopped_units, no_match_units}
+use Rattle.icu_collections.proofs.UnitTexts.{value_units, longer_units, says_units, whole_units, more_units, stopped_units, no_match_units}
 use Rattle.icu_collections.proofs.char16trie.Char16TrieIterator.next.Goals as goal
 
 pub returns-clause-value : goal.returns-clause-value
@@ -18,3 +18,6 @@ returns-clause-stops c = stopped_units c.args.self.now.units.now c.args.self.now
 
 pub returns-clause-stopped : goal.returns-clause-stopped
 returns-clause-stopped c = no_match_units c.args.self.now.units.now c.args.self.now.state c.args.character c.follow_code.result c.follow_code.new.self.units.now c.follow_code.new.self.state c.follow_code.ensures.units c.follow_code.ensures.answer c.follow_code.ensures.state
+
+pub returns-clause-says : goal.returns-clause-says
+returns-clause-says c = says_units c.args.self.now.units.now c.args.self.now.state c.args.character c.follow_code.result c.follow_code.new.self.units.now c.follow_code.new.self.state c.follow_code.ensures.units c.follow_code.ensures.answer c.follow_code.ensures.state

@@ -1,4 +1,7 @@
-use Rattle.std.proofs.Common.{◌∙◌, sym, Some, None}
+use Rattle.std.proofs.Common.{◌∙◌, ◌∷◌, [], sym, Some, None}
+use Rattle.icu_collections.specs.Cursors.{answer_of, state_of}
+use Rattle.icu_collections.specs.UnitMaps.{behind, Spells}
+use Rattle.icu_collections.proofs.UnitSays.{answers}
 use Rattle.icu_collections.proofs.UnitKeys.{value_of, longer_of, last_of, stopped_of, no_match_of}
 use Rattle.icu_collections.proofs.UnitWhole.{whole_of, more_of}
 use Rattle.icu_collections.proofs.char16trie.Char16TrieIterator.next16.Goals as goal
@@ -42,3 +45,21 @@ returns-in-Some-clause-stops c =
 pub returns-in-Some-clause-stopped : goal.returns-in-Some-clause-stopped
 returns-in-Some-clause-stopped c =
     no_match_of c.args.self.now.units.now c.args.self.now.state c.args.unit (Some c.in-Some.arrival) (sym c.step.ensures ∙ c.in-Some.is)
+
+pub returns-in-Some-clause-says : goal.returns-in-Some-clause-says
+returns-in-Some-clause-says c whole =
+    let is = sym c.step.ensures ∙ c.in-Some.is in
+    answers (Spells c.args.self.now.units.now (behind c.args.self.now.state)) (Spells c.args.self.now.units.now (behind (state_of (Some c.in-Some.arrival)))) (c.args.unit ∷ [])
+    (longer_of c.args.self.now.units.now c.args.self.now.state c.args.unit (Some c.in-Some.arrival) is) (answer_of (Some c.in-Some.arrival))
+    (value_of c.args.self.now.units.now c.args.self.now.state c.args.unit (Some c.in-Some.arrival) is)
+    (more_of c.args.self.now.units.now c.args.self.now.state c.args.unit (Some c.in-Some.arrival) is whole)
+    (last_of c.args.self.now.units.now c.args.self.now.state c.args.unit (Some c.in-Some.arrival) is)
+
+pub returns-in-None-clause-says : goal.returns-in-None-clause-says
+returns-in-None-clause-says c whole =
+    let is = sym c.step.ensures ∙ c.in-None.is in
+    answers (Spells c.args.self.now.units.now (behind c.args.self.now.state)) (Spells c.args.self.now.units.now (behind (state_of None))) (c.args.unit ∷ [])
+    (longer_of c.args.self.now.units.now c.args.self.now.state c.args.unit None is) (answer_of None)
+    (value_of c.args.self.now.units.now c.args.self.now.state c.args.unit None is)
+    (more_of c.args.self.now.units.now c.args.self.now.state c.args.unit None is whole)
+    (last_of c.args.self.now.units.now c.args.self.now.state c.args.unit None is)
