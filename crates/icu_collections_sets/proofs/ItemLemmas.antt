@@ -2,6 +2,8 @@
 use Rattle.std.proofs.Common.{◌≡◌, ℕ, ◌+◌, ◌-◌, ◌*◌, ◌/◌, ◌%◌, ◌<◌, ◌≤◌, List, [], ◌∷◌, ◌++◌, length, map, get_or, take, drop, sym, ap, ◌∙◌, subst, arith, Some, None, slice_get, inl, inr, slice_range}
 use Rattle.std.specs.List.{range_with_len}
 use Rattle.std.proofs.lemmas.List.{take-append-le, drop-append-le, drop-drop, drop_at, take_at, take-append-drop, length-take-le, length-append, length-drop, take_all, get_or_append_left, get_or-append_right, same_lists, nil_from_length}
+use Rattle.std.specs.Prelude.{All, ◌^◌}
+use Rattle.std.proofs.lemmas.List.Elements.{All-take, All-drop}
 use Rattle.std.proofs.lemmas.List.FromFn.{length-map-range_with_len, get_or-map-range_with_len}
 use Rattle.std.proofs.lemmas.Option.{slice_get-get_or, slice_get_past}
 use Rattle.std.proofs.lemmas.Bool.{cases_lt}
@@ -289,3 +291,15 @@ AreItems-push w xs ys p a e good = AreItems-append w xs ys p a (AreItems-one w y
 
 pub items_of_none : {T : Type 0} (w : ℕ) (m : List ℕ → T) (bytes : List ℕ) → 0 < w → length bytes ≡ 0 → items_of w m bytes ≡ []
 items_of_none w m bytes p e = ap (items_of w m) (nil_from_length bytes e) ∙ items_of-nil w m p
+
+-- items of bytes are values, where good bytes of their width mean values
+pub items_are_values : {T : Type 0} {IsGood : List ℕ → Type 0} (IsValue : T → Type 0) (w : ℕ) (m : List ℕ → T) (bytes : List ℕ)
+    → ((item : List ℕ) → All (λ byte. byte < 2 ^ 8) item → length item ≡ w → IsGood item → IsValue (m item))
+    → 0 < w → All (λ byte. byte < 2 ^ 8) bytes → AreItems w IsGood bytes → All IsValue (items_of w m bytes)
+items_are_values {T} {IsGood} IsValue w m bytes law p small good = λ i d h.
+    let place : i < length bytes / w = rw length-items_of at h in
+    let whole = whole_count w bytes p good.whole in
+    let room = product_below w (length bytes / w) i place in
+    let width : length (item_bytes w bytes i) ≡ w = length-take-le w (drop (i * w) bytes) (simp length-drop (omega (arith, whole, room))) in
+    let item_small = All-take (λ byte. byte < 2 ^ 8) w (drop (i * w) bytes) (All-drop (λ byte. byte < 2 ^ 8) (i * w) bytes small) in
+    subst IsValue (sym (get_or-items_of w m bytes i d place)) (law (item_bytes w bytes i) item_small width (good.each i place))

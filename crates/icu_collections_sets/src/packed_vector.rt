@@ -151,9 +151,10 @@ impl<'a, T: PackedItem> PackedVec<'a, T> {
         read_at(self.as_bytes(), place)
     }
 
-    /// The items in order, from both ends.
+    /// The items in order, from both ends. Each is a value of the type.
     pub fn iter(&self) -> PackedIter<'_, T>
-        ensures { result ≡ self.now }
+        ensures items { result ≡ self.now }
+        ensures values { All T.is_value self.now }
     {
         PackedIter::new(self.as_bytes())
     }
@@ -207,7 +208,6 @@ impl<'a, T: PackedItem> PackedVec<'a, T> {
 impl<T: PackedItem> PackedVec<'static, T> {
     /// The items of a slice, in bytes of their own. The only error is want of memory.
     pub fn from_slice(alloc: Global, items: &[T]) -> Result<PackedVec<'static, T>, AllocError>
-        requires { All T.is_value items.now }
         ensures { IfOk result (λ packed. packed ≡ items.now) }
     {
         let mut bytes = Vec::new(alloc);

@@ -1,10 +1,10 @@
 //! What a packed vector holds: numbers and characters, each of one width in bytes.
-ghost use Rattle.std.specs.Prelude.{◌≡◌, ℕ, ◌<◌, ◌^◌, ◌++◌, ◌↔◌, IsTrue, List, length, if◌then◌else◌};
+ghost use Rattle.std.specs.Prelude.{◌≡◌, ℕ, ◌<◌, ◌^◌, ◌++◌, ◌↔◌, IsTrue, List, length, All, if◌then◌else◌};
 ghost use Rattle.std.specs.Result.{is_ok};
 ghost use Rattle.std.specs.Char.{IsScalar};
 ghost use Rattle.std.proofs.Common.{arith, refl};
 ghost use Rattle.icu_collections_sets.specs.Bytes.{little_endian, little_endian_bytes};
-ghost use Rattle.icu_collections_sets.specs.ByteLaws.{little_endian-bytes1, little_endian-bytes2, little_endian-bytes3, little_endian-bytes4, little_endian-bytes8, is_scalar-bytes3};
+ghost use Rattle.icu_collections_sets.specs.ByteLaws.{little_endian-bytes1, little_endian-bytes2, little_endian-bytes3, little_endian-bytes4, little_endian-bytes8, is_scalar-bytes3, little_endian-below};
 
 use std::alloc::AllocError;
 
@@ -43,7 +43,8 @@ pub trait PackedItem: Copy + Eq {
 
     /// Appends the bytes of the value. The only error is want of memory, and then nothing is appended.
     fn write(self, out: &mut Vec<u8>) -> Result<(), AllocError>
-        ensures { out.new.items ≡ (if is_ok result then out.old.items ++ encoding self else out.old.items) };
+        ensures appended { out.new.items ≡ (if is_ok result then out.old.items ++ encoding self else out.old.items) }
+        ensures value { is_value self };
 
     ghost width_positive: { 0 < WIDTH };
 
@@ -52,6 +53,8 @@ pub trait PackedItem: Copy + Eq {
     ghost encoding_is_encoding: { (value : Self) → is_value value → is_encoding (encoding value) };
 
     ghost encoding_means: { (value : Self) → is_value value → meaning (encoding value) ≡ value };
+
+    ghost meaning_is_value: { (bytes : List ℕ) → All (λ byte. byte < 2 ^ 8) bytes → length bytes ≡ WIDTH → is_encoding bytes → is_value (meaning bytes) };
 }
 
 impl PackedItem for u8 {
@@ -86,6 +89,8 @@ impl PackedItem for u8 {
     ghost encoding_is_encoding = { λ value h. tt };
 
     ghost encoding_means = { little_endian-bytes1 };
+
+    ghost meaning_is_value = { λ bytes small width h. little_endian-below 1 bytes small width };
 }
 
 impl PackedItem for u16 {
@@ -120,6 +125,8 @@ impl PackedItem for u16 {
     ghost encoding_is_encoding = { λ value h. tt };
 
     ghost encoding_means = { little_endian-bytes2 };
+
+    ghost meaning_is_value = { λ bytes small width h. little_endian-below 2 bytes small width };
 }
 
 impl PackedItem for u32 {
@@ -162,6 +169,8 @@ impl PackedItem for u32 {
     ghost encoding_is_encoding = { λ value h. tt };
 
     ghost encoding_means = { little_endian-bytes4 };
+
+    ghost meaning_is_value = { λ bytes small width h. little_endian-below 4 bytes small width };
 }
 
 impl PackedItem for u64 {
@@ -212,6 +221,8 @@ impl PackedItem for u64 {
     ghost encoding_is_encoding = { λ value h. tt };
 
     ghost encoding_means = { little_endian-bytes8 };
+
+    ghost meaning_is_value = { λ bytes small width h. little_endian-below 8 bytes small width };
 }
 
 impl PackedItem for char {
@@ -253,4 +264,6 @@ impl PackedItem for char {
     ghost encoding_is_encoding = { is_scalar-bytes3 };
 
     ghost encoding_means = { λ value h. little_endian-bytes3 value h };
+
+    ghost meaning_is_value = { λ bytes small width h. h };
 }

@@ -1,5 +1,5 @@
 //! The iterator over a packed vector.
-ghost use Rattle.std.specs.Prelude.{◌≡◌, ℕ, ◌<◌, ◌≤◌, length, [], ◌∷◌, ◌++◌, MatchOption};
+ghost use Rattle.std.specs.Prelude.{◌≡◌, ℕ, ◌<◌, ◌≤◌, length, [], ◌∷◌, ◌++◌, MatchOption, All};
 ghost use Rattle.std.specs.Iterator.{YieldsFirst, YieldsLast, item_count};
 ghost use Rattle.icu_collections_sets.specs.Items.{items_of, AreItems};
 
@@ -26,10 +26,11 @@ impl<'a, T: PackedItem> Model for PackedIter<'a, T> {
 }
 
 impl<'a, T: PackedItem> PackedIter<'a, T> {
-    /// The items of these bytes.
+    /// The items of these bytes, each of which is a value of the type.
     pub(super) fn new(bytes: &'a [u8]) -> PackedIter<'a, T>
         requires { AreItems T.WIDTH T.is_encoding bytes.now }
-        ensures { result ≡ items_of T.WIDTH T.meaning bytes.now }
+        ensures items { result ≡ items_of T.WIDTH T.meaning bytes.now }
+        ensures values { All T.is_value result }
     {
         PackedIter {
             rest: bytes,

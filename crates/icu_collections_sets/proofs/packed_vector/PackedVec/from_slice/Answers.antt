@@ -15,12 +15,12 @@ loop-item-preserved g c =
     let P = g.T.PackedItem in
     let law = g.met.T.PackedItem in
     let item = c.item-item.result in
-    let value = rw (← c.item-item.is) at (c.requires c.loop-item.item-index item c.loop-item-test.true) in
+    let value = c.in_ok-write.ensures.value in
     let width = law.encoding_width item in
     let more = items_of_push P.WIDTH P.meaning c.loop-item.bytes.items (P.encoding item) law.width_positive c.loop-item.invariant.0.whole width in
     let last = law.encoding_means item value in
     let taken = take_more c.args.items.now c.loop-item.item-index item c.loop-item-test.true in
-    rw c.in_ok-write.ensures (
+    rw c.in_ok-write.ensures.appended (
       AreItems-push P.WIDTH c.loop-item.bytes.items (P.encoding item) law.width_positive c.loop-item.invariant.0 width (law.encoding_is_encoding item value),
       more ∙ ap (λ xs. xs ++ P.meaning (P.encoding item) ∷ []) c.loop-item.invariant.1 ∙ ap (λ x. take c.loop-item.item-index c.args.items.now ++ x ∷ []) (last ∙ c.item-item.is) ∙ sym taken,
     )

@@ -6,7 +6,7 @@ use Rattle.icu_collections_sets.proofs.codepointinvlist.inversion_list.CodePoint
 pub loop-edge-init : goal.loop-edge-init
 loop-edge-init c =
     let list = c.args.self.now in
-    let start = sym (c.into_iter-edge-iterator.ensures.into_iter_gives ∙ c.iter-edge-items.ensures ∙ c.self.view_is) in
+    let start = sym (c.into_iter-edge-iterator.ensures.into_iter_gives ∙ c.iter-edge-items.ensures.items ∙ c.self.view_is) in
     let rises = subst (Rises 0) c.self.view_is c.self.invariant.rises in
     record {
       counts = subst (λ xs. CountsUpTo list c.args.code_point xs false 0 0) start (CountsUpTo-none list c.args.code_point rises);

@@ -6,5 +6,5 @@ use Rattle.icu_collections_sets.proofs.packed_vector.item.U64PackedItem.write.Go
 low_byte : (x : ℕ) → bit_and x 255 ≡ x % 256
 low_byte x = and_mask x 8
 
-pub returns : goal.returns
-returns c = simp div-div-eq-div-mul (simp low_byte at c.extend_from_slice.ensures.items)
+pub returns-clause-appended : goal.returns-clause-appended
+returns-clause-appended c = simp div-div-eq-div-mul (simp low_byte at c.extend_from_slice.ensures.items)
