@@ -7,3 +7,4 @@ mod UnitWhole
 mod UnitSays
 mod UnitTexts
 mod UnitExamples
+mod UnitGrammars

@@ -10,3 +10,4 @@ pub mod UnitSteps
 pub mod Cursors
 pub mod UnitMaps
 pub mod UnitAnswers
+pub mod UnitGrammar

@@ -1,0 +1,52 @@
+-- Units that keep the grammar of unit tries, by cases on the units.
+use Rattle.std.specs.Prelude.{◌≡◌, ℕ, ◌+◌, ◌-◌, ◌/◌, ◌<◌, ◌≤◌, List, [], slice_get, Option, Some, None}
+use Rattle.icu_collections.specs.UnitCells.{delta, landing}
+use Rattle.icu_collections.specs.UnitSteps.{entry_at, entry_target}
+use Rattle.icu_collections.specs.UnitMaps.{IsNode, Spot, at_node, behind}
+use Rattle.icu_collections.specs.declared.char16trie.cells.Number.{Number}
+use Rattle.icu_collections.specs.declared.char16trie.node.Branch.{Branch}
+use Rattle.icu_collections.specs.declared.char16trie.node.Entry.{Entry}
+use Rattle.icu_collections.specs.declared.char16trie.node.Match.{Match}
+use Rattle.icu_collections.specs.declared.char16trie.node.Target.TheVariants.{Value, Node}
+use Rattle.icu_collections.specs.declared.char16trie.node.State.{State}
+use Rattle.icu_collections.specs.declared.char16trie.node.State.TheVariants as state
+
+-- what a rule of the grammar is about: a spot, or a branch whose units go from a low bound to below a high one
+pub data Part : Type 0 where
+  spot : Spot → Part
+  within : Branch → ℕ → ℕ → Part
+
+-- the units keep the grammar there: all that can be reached is read to its end and within the units, and
+-- the units of a branch rise, those of its first half below the unit at which it is halved
+pub data IsSound (units : List ℕ) : Part → Type 0 where
+  sound_end : (place value : ℕ) → IsNode units place (Some value) None → IsSound units (spot (at_node place))
+  sound_node : (place : ℕ) (value : Option ℕ) (next : State) → IsNode units place value (Some next) → IsSound units (spot (behind next))
+      → IsSound units (spot (at_node place))
+  sound_run : (run : Match) (unit : ℕ) → slice_get units run.place ≡ Some unit → 1 < run.left
+      → IsSound units (spot (behind (state.Match (record { left = run.left - 1; place = run.place + 1 }))))
+      → IsSound units (spot (behind (state.Match run)))
+  sound_run_end : (run : Match) (unit : ℕ) → slice_get units run.place ≡ Some unit → run.left ≤ 1
+      → IsSound units (spot (at_node (run.place + 1))) → IsSound units (spot (behind (state.Match run)))
+  sound_branch : (branch : Branch) → IsSound units (within branch 0 0x10000) → IsSound units (spot (behind (state.Branch branch)))
+  sound_last : (branch : Branch) (low high unit : ℕ) → branch.count ≤ 1 → slice_get units branch.place ≡ Some unit
+      → low ≤ unit → unit < high → IsSound units (spot (at_node (branch.place + 1))) → IsSound units (within branch low high)
+  sound_value : (branch : Branch) (low high value : ℕ) (entry : Entry) → 1 < branch.count → branch.count ≤ 5
+      → entry_at units branch.place ≡ Some entry → entry_target units entry ≡ Some (Value value) → low ≤ entry.unit → entry.unit < high
+      → IsSound units (within (record { count = branch.count - 1; place = entry.number.end }) (entry.unit + 1) high)
+      → IsSound units (within branch low high)
+  sound_jump : (branch : Branch) (low high place : ℕ) (entry : Entry) → 1 < branch.count → branch.count ≤ 5
+      → entry_at units branch.place ≡ Some entry → entry_target units entry ≡ Some (Node place) → low ≤ entry.unit → entry.unit < high
+      → IsSound units (spot (at_node place))
+      → IsSound units (within (record { count = branch.count - 1; place = entry.number.end }) (entry.unit + 1) high)
+      → IsSound units (within branch low high)
+  sound_halves : (branch : Branch) (low high middle place : ℕ) (jump : Number) → 5 < branch.count
+      → slice_get units branch.place ≡ Some middle → delta units (branch.place + 1) ≡ Some jump → landing units jump ≡ Some place
+      → low < middle → middle < high
+      → IsSound units (within (record { count = branch.count / 2; place = place }) low middle)
+      → IsSound units (within (record { count = branch.count - branch.count / 2; place = jump.end }) middle high)
+      → IsSound units (within branch low high)
+
+-- units that keep the grammar: none, or those whose first node has no value
+pub data IsUnitTrie (units : List ℕ) : Type 0 where
+  no_units : units ≡ [] → IsUnitTrie units
+  rooted : (next : State) → IsNode units 0 None (Some next) → IsSound units (spot (behind next)) → IsUnitTrie units
