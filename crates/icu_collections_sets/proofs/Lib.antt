@@ -4,3 +4,5 @@ pub mod EditLemmas
 pub mod MergeLemmas
 pub mod UniqueLemmas
 pub mod GapLemmas
+pub mod SpanLemmas
+pub mod CharacterLemmas

@@ -1,5 +1,5 @@
 -- The bytes of a number spell it.
-use Rattle.std.specs.Prelude.{zero, suc, ◌+◌, ◌*◌, List, [], ◌∷◌, length, All}
+use Rattle.std.specs.Prelude.{zero, suc, List, [], ◌∷◌, length, All}
 use Rattle.std.proofs.lemmas.List.Elements.{All-head, All-tail}
 use Rattle.std.proofs.Common.{◌≡◌, ℕ, ◌^◌, ◌<◌, sym, subst, arith, ⊎_elim}
 use Rattle.std.specs.Char.{IsScalar}

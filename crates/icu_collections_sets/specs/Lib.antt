@@ -1,4 +1,5 @@
 pub mod Bytes
+pub mod Characters
 pub mod ByteLaws
 pub mod CodePoints
 pub mod Gaps

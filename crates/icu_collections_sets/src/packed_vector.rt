@@ -5,6 +5,8 @@ ghost use Rattle.icu_collections_sets.specs.Items.{items_of, item_bytes, AreItem
 ghost use Rattle.std.specs.Cmp.Lexicographic.{pointwise, lists_per, lists_equiv};
 
 use std::alloc::{AllocError, Global};
+use std::error::Error;
+use std::fmt;
 use std::marker::{Model, PhantomData};
 use std::ops::Range;
 
@@ -22,6 +24,17 @@ pub enum PackedVecError {
     /// The item at this place is the first that is no value of the type.
     BadValue(usize),
 }
+
+impl fmt::Display for PackedVecError {
+    fn fmt<W: fmt::Write>(&self, f: &mut fmt::Formatter<W>) -> fmt::Result {
+        match self {
+            PackedVecError::OddLength => f.write_str("the bytes end within an item"),
+            PackedVecError::BadValue(place) => write!(f, "item {place} is no value of its type"),
+        }
+    }
+}
+
+impl Error for PackedVecError {}
 
 /// Items in packed bytes, borrowed or owned.
 #[derive(Drop)]
@@ -218,6 +231,16 @@ impl<T: PackedItem> PackedVec<'static, T> {
             bytes: Bytes::Owned(bytes),
             item: PhantomData,
         })
+    }
+}
+
+impl<T: PackedItem + fmt::Debug> fmt::Debug for PackedVec<'_, T> {
+    fn fmt<W: fmt::Write>(&self, f: &mut fmt::Formatter<W>) -> fmt::Result {
+        let mut list = f.debug_list();
+        for item in self.iter() {
+            list.entry(&item);
+        }
+        list.finish()
     }
 }
 

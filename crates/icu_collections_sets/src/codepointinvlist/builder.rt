@@ -15,7 +15,7 @@ use std::ops::{Range, RangeInclusive};
 
 /// Builds a set of code points by adding, removing, keeping and complementing others. After an
 /// error, which is want of memory alone, it is as before.
-#[derive(Drop)]
+#[derive(Debug, Drop)]
 pub struct CodePointInversionListBuilder {
     edges: Vec<u32>,
 }

@@ -6,6 +6,8 @@ ghost use Rattle.icu_collections_sets.specs.RangeErrors.{IsRefusedRange};
 use super::inversion_list::CodePointInversionList;
 use crate::packed_vector::PackedVec;
 use std::alloc::{AllocError, Global};
+use std::error::Error;
+use std::fmt;
 use std::ops::{Range, RangeFrom, RangeFull, RangeInclusive, RangeTo, RangeToInclusive};
 
 /// A range of characters, of one of the six types of the standard library.
@@ -77,6 +79,14 @@ impl CharRange for RangeFull {
 #[derive(Clone, Copy, Debug, PartialEq, Eq)]
 pub struct RangeError(pub u32, pub u32);
 
+impl fmt::Display for RangeError {
+    fn fmt<W: fmt::Write>(&self, f: &mut fmt::Formatter<W>) -> fmt::Result {
+        write!(f, "Invalid range: {}..{}", self.0, self.1)
+    }
+}
+
+impl Error for RangeError {}
+
 /// Why there is no set of a range.
 #[derive(Clone, Copy, Debug, PartialEq, Eq)]
 pub enum FromRangeError {
@@ -85,6 +95,17 @@ pub enum FromRangeError {
     /// Memory was refused.
     Memory,
 }
+
+impl fmt::Display for FromRangeError {
+    fn fmt<W: fmt::Write>(&self, f: &mut fmt::Formatter<W>) -> fmt::Result {
+        match self {
+            FromRangeError::Range(error) => write!(f, "{error}"),
+            FromRangeError::Memory => f.write_str("out of memory"),
+        }
+    }
+}
+
+impl Error for FromRangeError {}
 
 impl From<AllocError> for FromRangeError {
     ghost use Rattle.std.specs.Prelude.{◌≡◌};

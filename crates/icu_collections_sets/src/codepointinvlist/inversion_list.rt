@@ -7,19 +7,23 @@ ghost use Rattle.std.specs.Cmp.{partial_equiv_from_equiv, nat_eq_equiv};
 ghost use Rattle.std.specs.Cmp.Lexicographic.{pointwise, lists_per, nat_list_eq_equiv};
 ghost use Rattle.std.specs.Range.{range_inclusive_start, range_inclusive_end, range_inclusive_exhausted};
 ghost use Rattle.icu_collections_sets.specs.CodePoints.{IsInversionList, Rises, IsCountUpTo, holds, is_in, count_below, ranges_of, in_ranges};
+ghost use Rattle.icu_collections_sets.specs.Characters.{characters_of};
 ghost use Rattle.icu_collections_sets.specs.SetErrors.{IsRefusedSlice};
 
+use super::characters::Chars;
 use super::gaps::ComplementedRanges;
 use super::ranges::CodePointRanges;
 use crate::packed_vector::PackedVec;
 use std::alloc::{AllocError, Global};
+use std::error::Error;
+use std::fmt;
 use std::hash::{Hash, Hasher};
 use std::marker::Model;
 use std::ops::RangeInclusive;
 
 /// A set of code points, seen as its inversion list: the numbers, each above the one before, at
 /// which the set begins and ends in turn, none past 110000 hex, one past the last code point.
-#[derive(Drop)]
+#[derive(Debug, Drop)]
 pub struct CodePointInversionList<'a> {
     edges: PackedVec<'a, u32>,
 }
@@ -37,17 +41,36 @@ impl<'a> Model for CodePointInversionList<'a> {
 
 /// A list of numbers that is no inversion list: it has an odd length, doesn't rise, or goes past
 /// 110000 hex.
-#[derive(Drop)]
+#[derive(Debug, Drop)]
 pub struct InvalidSetError<'a>(pub PackedVec<'a, u32>);
 
+impl fmt::Display for InvalidSetError<'_> {
+    fn fmt<W: fmt::Write>(&self, f: &mut fmt::Formatter<W>) -> fmt::Result {
+        write!(f, "Invalid set: {:?}", self.0)
+    }
+}
+
+impl Error for InvalidSetError<'_> {}
+
 /// Why a slice is no set of code points.
-#[derive(Drop)]
+#[derive(Debug, Drop)]
 pub enum SetError {
     /// The numbers are no inversion list.
     Invalid(InvalidSetError<'static>),
     /// Memory was refused.
     Memory,
 }
+
+impl fmt::Display for SetError {
+    fn fmt<W: fmt::Write>(&self, f: &mut fmt::Formatter<W>) -> fmt::Result {
+        match self {
+            SetError::Invalid(error) => write!(f, "{error}"),
+            SetError::Memory => f.write_str("out of memory"),
+        }
+    }
+}
+
+impl Error for SetError {}
 
 impl From<AllocError> for SetError {
     ghost use Rattle.std.specs.Prelude.{◌≡◌};
@@ -189,6 +212,13 @@ impl<'a> CodePointInversionList<'a> {
         let start = self.edges.at(2 * place);
         let end = self.edges.at(2 * place + 1);
         Some(start..=end - 1)
+    }
+
+    /// The characters that the set holds in order; surrogates, which are none, are left out.
+    pub fn iter_chars(&self) -> Chars<'_>
+        ensures { result ≡ characters_of self.now }
+    {
+        Chars::new(self.edges.iter())
     }
 
     /// The ranges in order, both ends included.

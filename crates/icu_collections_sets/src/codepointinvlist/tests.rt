@@ -124,3 +124,62 @@ fn ranges_left_out(rt: HostRuntime) -> Result<(), Fail> {
     assert!(rt; ranges.next().is_none());
     Ok(())
 }
+
+#[test]
+fn characters_of_a_set(rt: HostRuntime) -> Result<(), Fail> {
+    let set = set_of(
+        rt.alloc(),
+        &[
+            0x41, 0x43, 0xD7FF, 0xD801, 0xDFFF, 0xE001, 0x10_FFFF, 0x11_0000,
+        ],
+    )?;
+    let characters: Vec<char> = set.iter_chars().collect(rt.alloc())?;
+    assert_eq!(rt;
+        characters.as_slice(),
+        ['A', 'B', '\u{D7FF}', '\u{E000}', '\u{10FFFF}'].as_slice()
+    );
+    let surrogates = set_of(rt.alloc(), &[0xD800, 0xE000])?;
+    assert!(rt; surrogates.iter_chars().next().is_none());
+    assert_eq!(rt;
+        CodePointInversionList::all().iter_chars().count(),
+        0x10_F800
+    );
+    Ok(())
+}
+
+#[test]
+fn stretches_of_texts(rt: HostRuntime) -> Result<(), Fail> {
+    let set = CodePointInversionList::try_from_range(rt.alloc(), 'A'..'D')?;
+    assert_eq!(rt; set.span("CABXYZ", true), 3);
+    assert_eq!(rt; set.span("XYZC", false), 3);
+    assert_eq!(rt; set.span("XYZ", true), 0);
+    assert_eq!(rt; set.span("ABC", false), 0);
+    assert_eq!(rt; set.span("\u{E9}\u{1F600}A", false), 6);
+    assert_eq!(rt; set.span("", true), 0);
+    assert_eq!(rt; set.span_back("XYZCAB", true), 3);
+    assert_eq!(rt; set.span_back("ABCXYZ", true), 6);
+    assert_eq!(rt; set.span_back("CABXYZ", false), 3);
+    assert_eq!(rt; set.span_back("A\u{E9}\u{1F600}", false), 1);
+    assert_eq!(rt; set.span_back("ABC", true), 0);
+    Ok(())
+}
+
+#[test]
+fn printed(rt: HostRuntime) -> Result<(), Fail> {
+    let set = set_of(rt.alloc(), &[0x41, 0x43])?;
+    assert_eq!(rt;
+        format!(in rt.alloc(); "{set:?}")?.as_str(),
+        "CodePointInversionList { edges: [65, 67] }"
+    );
+    let error = set_of(rt.alloc(), &[0x42, 0x41]).err().ok_or("a set")?;
+    assert_eq!(rt;
+        format!(in rt.alloc(); "{error}")?.as_str(),
+        "Invalid set: [66, 65]"
+    );
+    let error = RangeError(65, 65);
+    assert_eq!(rt;
+        format!(in rt.alloc(); "{error}")?.as_str(),
+        "Invalid range: 65..65"
+    );
+    Ok(())
+}

@@ -92,3 +92,15 @@ fn ok_clone(rt: HostRuntime) -> Result<(), Fail> {
     assert!(rt; borrowed != PackedVec::from_slice(rt.alloc(), &[0x0102u16])?);
     Ok(())
 }
+
+#[test]
+fn printed(rt: HostRuntime) -> Result<(), Fail> {
+    let items = PackedVec::<char>::try_from_bytes(&[0x61, 0, 0])?;
+    assert_eq!(rt; format!(in rt.alloc(); "{items:?}")?.as_str(), "['a']");
+    let error = PackedVecError::BadValue(3);
+    assert_eq!(rt;
+        format!(in rt.alloc(); "{error}")?.as_str(),
+        "item 3 is no value of its type"
+    );
+    Ok(())
+}
