@@ -1,4 +1,5 @@
 pub mod RangeLemmas
+pub mod TomlLemmas
 mod UnitLemmas
 mod UnitBranches
 mod UnitAnswers

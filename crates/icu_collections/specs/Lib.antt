@@ -4,6 +4,7 @@ pub mod Places
 pub mod Ranges
 pub mod RangeIterators
 pub mod CodePointMaps
+pub mod TomlTables
 pub mod MappedRanges
 pub mod UnitCells
 pub mod UnitSteps

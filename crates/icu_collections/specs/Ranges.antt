@@ -1,8 +1,9 @@
 -- The ranges of one value in a trie.
-use Rattle.std.specs.Prelude.{◌≡◌, ℕ, ◌+◌, ◌<◌, ◌≤◌, ◌≢◌, false, Option, Some, MatchOption}
+use Rattle.std.specs.Prelude.{◌≡◌, ℕ, ◌+◌, ◌<◌, ◌≤◌, ◌≢◌, ◌↔◌, true, false, List, Option, Some, MatchOption}
 use Rattle.std.specs.declared.ops.RangeInclusive.{RangeInclusive}
 use Rattle.std.specs.Range.{range_inclusive_start, range_inclusive_end, range_inclusive_exhausted}
 use Rattle.icu_collections.specs.Places.{TrieTables, value_at}
+use Rattle.icu_collections_sets.specs.CodePoints.{holds}
 use Rattle.icu_collections.specs.declared.codepointtrie.ranges.CodePointMapRange.{CodePointMapRange}
 
 -- all code points from start to before the limit have the value
@@ -40,3 +41,11 @@ IsNextRangeOf t value start r next = MatchOption r (IsAbsent t start 0x11_0000 v
     × IsAbsent t start (range_inclusive_start range) value
     × IsEndOfRange t (range_inclusive_start range) value (range_inclusive_end range)
     × (next ≡ range_inclusive_end range + 1))
+
+-- the set holds the code points below the limit that have the value, and no others
+abbrev pub IsPreimageBelow : {T : Type 0} → TrieTables T → T → ℕ → List ℕ → Type 0
+IsPreimageBelow t value limit set = (c : ℕ) → (holds set c ≡ true) ↔ ((c < limit) × (c ≤ 0x10_FFFF) × (value_at t c ≡ Some value))
+
+-- the set holds the code points that have the value, and no others
+abbrev pub IsPreimage : {T : Type 0} → TrieTables T → T → List ℕ → Type 0
+IsPreimage t value set = (c : ℕ) → (holds set c ≡ true) ↔ ((c ≤ 0x10_FFFF) × (value_at t c ≡ Some value))

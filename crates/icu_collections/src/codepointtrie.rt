@@ -2,7 +2,9 @@
 
 mod builder;
 mod iterators;
+pub mod laws;
 mod ranges;
+mod toml_text;
 mod trie;
 mod typed;
 mod value;
@@ -10,6 +12,7 @@ mod value;
 pub use builder::{CodePointTrieBuilder, CodePointTrieBuilderError};
 pub use iterators::{CodePointMapRangeIterator, CodePointMappedRanges, CodePointRangesForValue};
 pub use ranges::CodePointMapRange;
+pub use toml_text::CodePointTrieTomlError;
 pub use trie::{CodePointTrie, CodePointTrieError, CodePointTrieHeader, TrieType};
 pub use typed::{FastCodePointTrie, SmallCodePointTrie, TypedCodePointTrie};
 pub use value::TrieValue;

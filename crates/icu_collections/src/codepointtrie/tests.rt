@@ -183,6 +183,17 @@ fn ranges_of_a_value(rt: HostRuntime) -> Result<(), Fail> {
 }
 
 #[test]
+fn ok_get_set_for_value(rt: HostRuntime) -> Result<(), Fail> {
+    let trie = small_trie(rt.alloc())?;
+    let set = trie.get_set_for_value(rt.alloc(), 8)?;
+    let edges = set.get_inversion_list_vec(rt.alloc())?;
+    assert_eq!(rt; edges.as_slice(), [0x40, 0x41, 0x44, 0x11_0000].as_slice());
+    assert!(rt; trie.get_set_for_value(rt.alloc(), 9)?.is_empty());
+    assert!(rt; trie.get_set_for_value(rt.alloc(), 6)?.contains('A'));
+    Ok(())
+}
+
+#[test]
 fn numbers_of_values(rt: HostRuntime) {
     assert_eq!(rt; u8::try_from_u32(0x100), None);
     assert_eq!(rt; u16::try_from_u32(0xFFFF), Some(0xFFFF));

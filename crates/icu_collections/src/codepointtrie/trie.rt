@@ -9,6 +9,8 @@ ghost use Rattle.icu_collections.specs.Places.{fast_limit, first_step, fast_plac
 use super::value::TrieValue;
 use icu_collections_sets::packed_vector::PackedVec;
 use std::alloc::{AllocError, Global};
+use std::error::Error;
+use std::fmt;
 use std::marker::Model;
 
 /// Which trade between speed and size a trie makes.
@@ -47,6 +49,22 @@ pub enum CodePointTrieError {
     /// One of the first index cells, so many, names a block of 64 that ends past the last data cell.
     DataTooShortForFastAccess,
 }
+
+impl fmt::Display for CodePointTrieError {
+    fn fmt<W: fmt::Write>(&self, f: &mut fmt::Formatter<W>) -> fmt::Result {
+        f.write_str(match self {
+            CodePointTrieError::EmptyDataVector => "a code point trie has at least one data cell",
+            CodePointTrieError::IndexTooShortForFastAccess => {
+                "the index of a code point trie has a cell for each block below the fast limit"
+            }
+            CodePointTrieError::DataTooShortForFastAccess => {
+                "each block of a code point trie below the fast limit stands within its data"
+            }
+        })
+    }
+}
+
+impl Error for CodePointTrieError {}
 
 /// A map from code points to values, as ICU4X has it. It answers from its cells for any number,
 /// past 10FFFF (hex) too.
@@ -259,6 +277,27 @@ impl<'a, T: TrieValue> CodePointTrie<'a, T> {
         ensures { result ≡ self.now.header.trie_type }
     {
         self.header.trie_type
+    }
+
+    /// The trie's header.
+    pub(super) fn header(&self) -> CodePointTrieHeader
+        ensures { result ≡ self.now.header }
+    {
+        self.header
+    }
+
+    /// The trie's index cells.
+    pub(super) fn index(&self) -> &PackedVec<'a, u16>
+        ensures { result.now ≡ self.now.index }
+    {
+        &self.index
+    }
+
+    /// The trie's data cells.
+    pub(super) fn cells(&self) -> &PackedVec<'a, T>
+        ensures { result.now ≡ self.now.cells }
+    {
+        &self.cells
     }
 }
 

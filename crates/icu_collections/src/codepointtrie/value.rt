@@ -1,5 +1,5 @@
 //! What a code point trie holds: numbers and characters that fit into 32 bits.
-ghost use Rattle.std.specs.Prelude.{◌≡◌, ℕ, ◌<◌, nat_lt, Option, Some};
+ghost use Rattle.std.specs.Prelude.{◌≡◌, ℕ, ◌<◌, nat_lt, Option, Some, IfSome};
 ghost use Rattle.std.specs.Char.{IsScalar};
 ghost use Rattle.std.proofs.Common.{refl};
 ghost use lib.Utf8.{scalar};
@@ -23,7 +23,8 @@ pub trait TrieValue: PackedItem {
 
     /// The value of the number, or `None` where no value of the type has it.
     fn try_from_u32(code: u32) -> Option<Self>
-        ensures { result ≡ of_number code };
+        ensures value { result ≡ of_number code }
+        ensures is_value { IfSome result Self.is_value };
 
     ghost round_trip: { (value : Self) → Self.is_value value → of_number (number value) ≡ Some value };
 

@@ -1,13 +1,17 @@
 //! The walk over the ranges of a trie that have one value.
-ghost use Rattle.std.specs.Prelude.{◌≡◌, ◌-◌, ◌≤◌, ◌+◌, Some, MatchOption};
+ghost use Rattle.std.specs.Prelude.{◌≡◌, ◌-◌, ◌≤◌, ◌+◌, Some, IfOk, MatchOption};
 ghost use Rattle.std.specs.Iterator.{at_most};
 ghost use Rattle.icu_collections.specs.Places.{value_at};
-ghost use Rattle.icu_collections.specs.Ranges.{IsAbsent, IsNextRangeOf};
+ghost use Rattle.icu_collections.specs.Ranges.{IsAbsent, IsNextRangeOf, IsPreimage};
 ghost use Rattle.icu_collections.specs.RangeIterators.{for_value_trie, for_value_value, for_value_start};
 
 use super::super::trie::CodePointTrie;
 use super::super::value::TrieValue;
 use super::CodePointRangesForValue;
+use icu_collections_sets::codepointinvlist::{
+    CodePointInversionList, CodePointInversionListBuilder,
+};
+use std::alloc::{AllocError, Global};
 use std::ops::RangeInclusive;
 
 impl<'a, T: TrieValue> CodePointTrie<'a, T> {
@@ -22,6 +26,21 @@ impl<'a, T: TrieValue> CodePointTrie<'a, T> {
             value,
             start: 0,
         }
+    }
+
+    /// The set of the code points that have this value. The only error is want of memory.
+    pub fn get_set_for_value(
+        &self,
+        alloc: Global,
+        value: T,
+    ) -> Result<CodePointInversionList<'static>, AllocError>
+        ensures { IfOk result (IsPreimage self.now value) }
+    {
+        let mut builder = CodePointInversionListBuilder::new(alloc);
+        for range in self.iter_ranges_for_value(value) {
+            builder.add_range32(range)?;
+        }
+        builder.build(alloc)
     }
 
     /// The first code point from this one on that has the value.
