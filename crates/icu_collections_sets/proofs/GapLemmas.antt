@@ -1,10 +1,10 @@
 -- The ranges that an inversion list leaves out hold what it does not.
-use Rattle.std.proofs.Common.{◌≡◌, ℕ, ◌+◌, ◌%◌, ◌<◌, ◌≤◌, Bool, true, false, not, nat_lt, nat_le, ◌&&◌, List, [], ◌∷◌, length, Some, None, sym, ap, ◌∙◌, arith, inl, inr}
+use Rattle.std.proofs.Common.{◌≡◌, ℕ, ◌+◌, ◌%◌, ◌<◌, ◌≤◌, Bool, true, false, not, nat_lt, nat_le, ◌&&◌, List, [], ◌∷◌, length, ◌-◌, Option, Some, None, sym, ap, refl, subst, ◌∙◌, arith, inl, inr}
 use Rattle.std.proofs.lemmas.Bool.{cases_lt, false≢true}
 use Rattle.std.proofs.lemmas.Bool.Decides.{nat_tests}
-use Rattle.icu_collections_sets.specs.CodePoints.{Rises, IsInversionList, is_in, holds, in_ranges}
-use Rattle.icu_collections_sets.specs.Gaps.{gaps, start_from}
-use Rattle.icu_collections_sets.proofs.SetLemmas.{is_in_past, is_in_before, holds_range, holds_behind}
+use Rattle.icu_collections_sets.specs.CodePoints.{Rises, IsInversionList, is_in, holds, in_ranges, ranges_of}
+use Rattle.icu_collections_sets.specs.Gaps.{gaps, start_from, AreGapsFrom, AreGapsOf}
+use Rattle.icu_collections_sets.proofs.SetLemmas.{is_in_past, is_in_before, holds_range, holds_behind, in_ranges_of, Rises_lower}
 use Rattle.icu_collections_sets.proofs.EditLemmas.{is_in_early}
 
 -- whether a code point is left out, from a start on
@@ -71,3 +71,58 @@ pub left_out_all : (xs : List ℕ) → IsInversionList xs → holds xs 0 ≡ fal
 left_out_all xs list h c =
     let rest = gaps_some 0 xs (omega arith) (Rises_above xs list.rises h) list.even c in
     grind (arith, nat_tests, rest)
+
+-- the inversion list of the ranges between the ranges of a list
+abbrev gap_edges : Option ℕ → List ℕ → List ℕ
+gap_edges None edges = []
+gap_edges (Some start) [] = start ∷ 0x110000 ∷ []
+gap_edges (Some start) (from ∷ []) = start ∷ from ∷ []
+gap_edges (Some start) (from ∷ till ∷ edges) = start ∷ from ∷ gap_edges (start_from till) edges
+
+ranges_of_gap_edges : (start : Option ℕ) (edges : List ℕ) → ranges_of (gap_edges start edges) ≡ gaps start edges
+ranges_of_gap_edges None edges = refl
+ranges_of_gap_edges (Some start) [] = refl
+ranges_of_gap_edges (Some start) (from ∷ []) = refl
+ranges_of_gap_edges (Some start) (from ∷ till ∷ edges) = ap (λ ranges. (start, from - 1) ∷ ranges) (ranges_of_gap_edges (start_from till) edges)
+
+-- the list is one, from a start on
+abbrev IsFrom : ℕ → List ℕ → Type 0
+IsFrom least xs = Rises least xs × (length xs % 2 ≡ 0)
+
+gap_edges_behind : (till : ℕ) (edges : List ℕ) → (till < 1114112 → IsFrom till (gap_edges (Some till) edges)) → IsFrom till (gap_edges (start_from till) edges)
+gap_edges_behind till edges ih = elim (cases_lt till 1114112) [
+  | inl low ↦ subst (λ s. IsFrom till (gap_edges s edges)) (sym (started till low)) (ih low)
+  | inr end ↦ subst (λ s. IsFrom till (gap_edges s edges)) (sym (ended till end)) (tt, refl)
+]
+
+gap_edges_rise : (start : ℕ) (edges : List ℕ) → start < 1114112 → Rises (start + 1) edges → length edges % 2 ≡ 0 → IsFrom start (gap_edges (Some start) edges)
+gap_edges_rise start [] h r e = ((omega arith, omega arith, (omega arith, omega arith, tt)), refl)
+gap_edges_rise start (f ∷ []) h r e = absurd (omega arith)
+gap_edges_rise start (f ∷ t ∷ es) h r e =
+    let rest = gap_edges_behind t es (λ low. gap_edges_rise t es low r.2.2 (omega arith)) in
+    ((omega arith, omega arith, (r.0, r.1, Rises_lower (f + 1) t _ r.2.0 rest.0)), omega (arith, rest.1))
+
+-- what is left is the ranges of an inversion list
+pub gaps_are : (list : List ℕ) (start : Option ℕ) (edges : List ℕ) → AreGapsFrom start edges
+    → ((c : ℕ) → in_ranges (gaps start edges) c ≡ (nat_lt c 1114112 && not (holds list c))) → AreGapsOf list (gaps start edges)
+gaps_are list None edges good members = record {
+    edges = [];
+    is = record { even = refl; rises = tt };
+    left_out = members;
+    ranges_are = refl;
+}
+gaps_are list (Some start) edges good members =
+    let from = gap_edges_rise start edges good.0 good.1 good.2 in
+    let rises = Rises_lower 0 start _ (omega arith) from.0 in
+    record {
+      edges = gap_edges (Some start) edges;
+      is = record { even = from.1; rises = rises };
+      left_out = λ c. sym (in_ranges_of 0 _ c rises from.1) ∙ ap (λ ranges. in_ranges ranges c) (ranges_of_gap_edges (Some start) edges) ∙ members c;
+      ranges_are = sym (ranges_of_gap_edges (Some start) edges);
+    }
+
+pub AreGapsFrom_behind : (t : ℕ) (es : List ℕ) → IsInversionList (0 ∷ t ∷ es) → AreGapsFrom (start_from t) es
+AreGapsFrom_behind t es list = elim (cases_lt t 1114112) [
+  | inl low ↦ subst (λ s. AreGapsFrom s es) (sym (started t low)) (low, list.rises.2.2, omega (arith, list.even))
+  | inr end ↦ subst (λ s. AreGapsFrom s es) (sym (ended t end)) tt
+]

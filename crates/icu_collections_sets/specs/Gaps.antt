@@ -1,6 +1,6 @@
 -- The ranges that an inversion list leaves out.
-use Rattle.std.specs.Prelude.{◌≡◌, ℕ, ◌+◌, ◌-◌, ◌%◌, ◌<◌, nat_lt, if◌then◌else◌, List, [], ◌∷◌, length, Option, Some, None}
-use Rattle.icu_collections_sets.specs.CodePoints.{Rises}
+use Rattle.std.specs.Prelude.{◌≡◌, ℕ, ◌+◌, ◌-◌, ◌%◌, ◌<◌, not, ◌&&◌, nat_lt, if◌then◌else◌, List, [], ◌∷◌, length, Option, Some, None}
+use Rattle.icu_collections_sets.specs.CodePoints.{Rises, IsInversionList, holds, ranges_of}
 
 -- where a range begins that is left out behind an edge, if one does
 abbrev pub start_from : ℕ → Option ℕ
@@ -17,3 +17,10 @@ gaps (Some start) (from ∷ till ∷ edges) = (start, from - 1) ∷ gaps (start_
 abbrev pub AreGapsFrom : Option ℕ → List ℕ → Type 0
 AreGapsFrom None edges = Unit {0}
 AreGapsFrom (Some start) edges = (start < 0x110000) × Rises (start + 1) edges × (length edges % 2 ≡ 0)
+
+-- the ranges are those of the inversion list of the code points that a list leaves out
+pub record AreGapsOf (list : List ℕ) (ranges : List (ℕ × ℕ)) : Type 0 where
+  pub edges : List ℕ
+  pub is : IsInversionList edges
+  pub left_out : (c : ℕ) → holds edges c ≡ (nat_lt c 0x110000 && not (holds list c))
+  pub ranges_are : ranges ≡ ranges_of edges

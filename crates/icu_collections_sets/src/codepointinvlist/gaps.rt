@@ -2,7 +2,7 @@
 ghost use Rattle.std.specs.Prelude.{◌≡◌, ℕ, ◌<◌, ◌≤◌, ◌&&◌, nat_lt, not, length, ◌∷◌, ◌%◌, true};
 ghost use Rattle.std.specs.Iterator.{YieldsFirstBy, item_count};
 ghost use Rattle.icu_collections_sets.specs.CodePoints.{IsInversionList, holds, in_ranges, ends_of};
-ghost use Rattle.icu_collections_sets.specs.Gaps.{start_from};
+ghost use Rattle.icu_collections_sets.specs.Gaps.{start_from, AreGapsOf};
 
 use crate::packed_vector::PackedIter;
 use std::iter::FusedIterator;
@@ -61,7 +61,8 @@ impl<'a> ComplementedRanges<'a> {
     pub(super) fn new(mut edges: PackedIter<'a, u32>, begins_in: bool) -> ComplementedRanges<'a>
         requires list { IsInversionList edges }
         requires first { begins_in ≡ holds edges 0 }
-        ensures { (c : ℕ) → in_ranges result c ≡ (nat_lt c 0x110000 && not (holds edges.entry c)) }
+        ensures members { (c : ℕ) → in_ranges result c ≡ (nat_lt c 0x110000 && not (holds edges.entry c)) }
+        ensures ranges { AreGapsOf edges.entry result }
     {
         if begins_in {
             let start = first_start(&mut edges);

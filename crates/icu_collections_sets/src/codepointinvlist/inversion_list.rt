@@ -8,6 +8,7 @@ ghost use Rattle.std.specs.Cmp.Lexicographic.{pointwise, lists_per, nat_list_eq_
 ghost use Rattle.std.specs.Range.{range_inclusive_start, range_inclusive_end, range_inclusive_exhausted};
 ghost use Rattle.icu_collections_sets.specs.CodePoints.{IsInversionList, Rises, IsCountUpTo, holds, is_in, count_below, ranges_of, in_ranges};
 ghost use Rattle.icu_collections_sets.specs.Characters.{characters_of};
+ghost use Rattle.icu_collections_sets.specs.Gaps.{AreGapsOf};
 ghost use Rattle.icu_collections_sets.specs.SetErrors.{IsRefusedSlice};
 
 use super::characters::Chars;
@@ -229,9 +230,11 @@ impl<'a> CodePointInversionList<'a> {
         CodePointRanges::new(self.edges.iter())
     }
 
-    /// The ranges of code points that the set doesn't hold in order, both ends included.
+    /// The ranges of code points that the set doesn't hold in order, both ends included: those of
+    /// the complement.
     pub fn iter_ranges_complemented(&self) -> ComplementedRanges<'_>
-        ensures { (c : ℕ) → in_ranges result c ≡ (nat_lt c 0x110000 && not (holds self.now c)) }
+        ensures members { (c : ℕ) → in_ranges result c ≡ (nat_lt c 0x110000 && not (holds self.now c)) }
+        ensures ranges { AreGapsOf self.now result }
     {
         ComplementedRanges::new(self.edges.iter(), self.contains32(0))
     }

@@ -95,7 +95,8 @@ impl CodePointInversionListBuilder {
         self.combine_set(Operation::Intersection, set)
     }
 
-    /// Complements within a range: what of it was held no longer is, and the other way round. An empty range changes nothing.
+    /// Complements within a range: what of it was held no longer is, and the other way round. An
+    /// empty range changes nothing.
     pub fn complement_range32(&mut self, range: RangeInclusive<u32>) -> Result<(), AllocError>
         ensures ok { OnOk result (IsSymmetricDifference (holds self.old) (in_range range) self.new) }
         ensures err { OnErr result (self.new ≡ self.old) }
