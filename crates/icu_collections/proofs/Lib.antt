@@ -9,3 +9,10 @@ mod UnitSays
 mod UnitTexts
 mod UnitExamples
 mod UnitGrammars
+mod UnitPairs
+mod UnitGroups
+mod UnitReads
+mod UnitMeanings
+mod UnitSpreads
+mod UnitWrites
+pub mod UnitRoots

@@ -103,13 +103,13 @@ going-says : (units : List ℕ) (value : Option ℕ) (next : State) (key : List 
 going-says units None next key number rest = inr rest
 going-says units (Some value) next key number rest = inr rest
 
-node_forth : (units : List ℕ) {place : ℕ} {key : List ℕ} {number : ℤ} → Spells units (at_node place) key number → Says units (arrive_at units place) key number
+pub node_forth : (units : List ℕ) {place : ℕ} {key : List ℕ} {number : ℤ} → Spells units (at_node place) key number → Says units (arrive_at units place) key number
 node_forth units (ends place value next node) =
     subst (λ o. Says units o [] (cast_signed w32 value)) (sym (node-is units node)) (valued-says units value next)
 node_forth units (goes_on place value next key number node rest) =
     subst (λ o. Says units o key number) (sym (node-is units node)) (going-says units value next key number rest)
 
-ends-here : (units : List ℕ) (place value : ℕ) (next : Option State) (key : List ℕ) (number : ℤ) → IsNode units place (Some value) next
+pub ends-here : (units : List ℕ) (place value : ℕ) (next : Option State) (key : List ℕ) (number : ℤ) → IsNode units place (Some value) next
     → (key ≡ []) × (cast_signed w32 value ≡ number) → Spells units (at_node place) key number
 ends-here units place value next key number node h =
     subst (λ key. Spells units (at_node place) key number) (sym h.0)

@@ -12,3 +12,7 @@ pub mod Cursors
 pub mod UnitMaps
 pub mod UnitAnswers
 pub mod UnitGrammar
+pub mod UnitForms
+pub mod UnitPairs
+pub mod UnitLayouts
+pub mod WrittenUnits

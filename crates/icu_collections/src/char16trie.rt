@@ -10,8 +10,10 @@ use icu_collections_sets::packed_vector::PackedVec;
 
 mod cells;
 mod node;
+mod writer;
 
 use node::{State, start, step};
+pub use writer::{WriteUnitsError, write_units};
 
 /// What a cursor says of the units that it was given.
 #[derive(Clone, Copy, Debug, PartialEq, Eq)]
