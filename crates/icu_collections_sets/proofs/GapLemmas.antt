@@ -106,10 +106,10 @@ gap_edges_rise start (f ∷ t ∷ es) h r e =
 pub gaps_are : (list : List ℕ) (start : Option ℕ) (edges : List ℕ) → AreGapsFrom start edges
     → ((c : ℕ) → in_ranges (gaps start edges) c ≡ (nat_lt c 1114112 && not (holds list c))) → AreGapsOf list (gaps start edges)
 gaps_are list None edges good members = record {
-    edges = [];
-    is = record { even = refl; rises = tt };
-    left_out = members;
-    ranges_are = refl;
+  edges = [];
+  is = record { even = refl; rises = tt };
+  left_out = members;
+  ranges_are = refl;
 }
 gaps_are list (Some start) edges good members =
     let from = gap_edges_rise start edges good.0 good.1 good.2 in
