@@ -1,6 +1,6 @@
 -- What is left of the characters of a set, as ranges are passed and characters taken.
 use Rattle.std.proofs.Common.{◌≡◌, ℕ, ◌+◌, ◌<◌, ◌≤◌, Bool, true, false, List, [], ◌∷◌, zero, suc, refl, ap, ◌∙◌, arith, inl, inr, ⊎_elim}
-use Rattle.std.specs.Prelude.{filter, nat_le, nat_lt, ◌&&◌, if◌then◌else◌}
+use Rattle.std.specs.Prelude.{filter, cond, length, nat_le, nat_lt, ◌&&◌, if◌then◌else◌}
 use Rattle.std.specs.List.{range_with_len}
 use Rattle.std.specs.Prelude.{Option, Some, None, SomeIff}
 use lib.Utf8.{scalar, scalar_cases}
@@ -124,3 +124,16 @@ module _ (start end : ℕ) (edges : List ℕ) (is : IsLeft start end edges) (roo
 pub some_of : (r : Option ℕ) (P : Type 0) (x : ℕ) → P → SomeIff r P x → r ≡ Some x
 some_of None P x p h = absurd (h p)
 some_of (Some y) P x p h = ap Some h.1
+
+length_filter : (p : ℕ → Bool) (n s : ℕ) → length (filter p (range_with_len s n)) ≤ n
+length_filter p zero s = omega arith
+length_filter p (suc n) s = counted (p s) s (filter p (range_with_len (s + 1) n)) n (length_filter p n (s + 1))
+  where
+  counted : (b : Bool) (x : ℕ) (xs : List ℕ) (n : ℕ) → length xs ≤ n → length (cond b (x ∷ xs) xs) ≤ suc n
+  counted true x xs n h = omega (arith, h)
+  counted false x xs n h = omega (arith, h)
+
+-- there are no more than there are code points
+pub length_passing : (p : ℕ → Bool) → length (passing p) ≤ 0x110000
+unfolding passing
+length_passing p = length_filter p 0x110000 0

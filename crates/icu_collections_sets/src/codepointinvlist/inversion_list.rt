@@ -217,7 +217,8 @@ impl<'a> CodePointInversionList<'a> {
 
     /// The characters that the set holds in order; surrogates, which are none, are left out.
     pub fn iter_chars(&self) -> Chars<'_>
-        ensures { result ≡ characters_of self.now }
+        ensures characters { result ≡ characters_of self.now }
+        ensures count { length result ≤ 0x110000 }
     {
         Chars::new(self.edges.iter())
     }
