@@ -6,3 +6,4 @@ pub mod UniqueLemmas
 pub mod GapLemmas
 pub mod SpanLemmas
 pub mod CharacterLemmas
+pub mod StringListLemmas

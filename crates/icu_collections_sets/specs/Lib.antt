@@ -9,3 +9,6 @@ pub mod RangeErrors
 pub mod SetEdits
 pub mod SetErrors
 pub mod Stored
+pub mod StringList
+pub mod StringListFaults
+pub mod StringListOffences

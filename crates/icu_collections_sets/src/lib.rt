@@ -2,4 +2,5 @@
 #![tactic(auto)]
 
 pub mod codepointinvlist;
+pub mod codepointinvliststringlist;
 pub mod packed_vector;

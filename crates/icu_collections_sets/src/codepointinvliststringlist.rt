@@ -1,0 +1,210 @@
+//! Sets of code points and strings, as ICU4X's `icu_collections::codepointinvliststringlist`.
+ghost use Rattle.std.specs.Prelude.{◌≡◌, ◌≢◌, ℕ, ◌+◌, ◌<◌, ◌↔◌, ◌∷◌, [], IsTrue, length, map, MatchOption, MatchResult, string_bytes};
+ghost use Rattle.std.specs.Str.{chars};
+ghost use Rattle.std.specs.List.{Contains};
+ghost use Rattle.icu_collections_sets.specs.CodePoints.{holds, count_below};
+ghost use Rattle.icu_collections_sets.specs.StringList.{CodePointsAndStrings, AreStrings, AreStringsUpTo};
+ghost use Rattle.icu_collections_sets.specs.StringListFaults.{IsFirstFault};
+ghost use Rattle.icu_collections_sets.specs.StringListOffences.{IsOffence};
+
+use crate::codepointinvlist::CodePointInversionList;
+use std::cmp::Ordering;
+use std::error::Error;
+use std::fmt;
+use std::marker::Model;
+
+#[cfg(test)]
+mod tests;
+
+/// A set of code points and a sorted list of strings, none of them one character. It is seen as the
+/// set and the strings, each by its UTF-8 bytes.
+#[derive(Drop)]
+pub struct CodePointInversionListAndStringList<'a> {
+    code_points: CodePointInversionList<'a>,
+    strings: Vec<String>,
+}
+
+impl<'a> Model for CodePointInversionListAndStringList<'a> {
+    ghost use Rattle.std.specs.Prelude.{map, string_bytes};
+    ghost use Rattle.icu_collections_sets.specs.StringList.{CodePointsAndStrings, AreStrings};
+
+    ghost Value = { CodePointsAndStrings };
+
+    ghost view = { λ inside. record { code_points = inside.code_points; strings = map string_bytes inside.strings.items } };
+
+    ghost invariant = { λ inside. AreStrings (map string_bytes inside.strings.items) };
+}
+
+/// Why strings are no strings of a set: the first string that something is wrong with, and what.
+#[derive(Debug, Drop)]
+pub enum InvalidStringList {
+    /// The string is one character, which belongs to the code points.
+    InvalidStringLength(String),
+    /// The string equals the one before it.
+    StringListNotUnique(String),
+    /// The string before, and the string, which is below it by bytes.
+    StringListNotSorted(String, String),
+}
+
+impl fmt::Display for InvalidStringList {
+    ghost use Rattle.std.specs.Prelude.{Some};
+    ghost use Rattle.icu_collections_sets.specs.StringListFaults.{fault_text};
+
+    ghost output = { λ fault. Some (fault_text fault) };
+
+    fn fmt<W: fmt::Write>(&self, f: &mut fmt::Formatter<W>) -> fmt::Result {
+        match self {
+            InvalidStringList::InvalidStringLength(text) => {
+                write!(f, "one character alone: {text}")
+            }
+            InvalidStringList::StringListNotUnique(text) => write!(f, "twice in the list: {text}"),
+            InvalidStringList::StringListNotSorted(before, text) => {
+                write!(f, "not sorted: {before}, {text}")
+            }
+        }
+    }
+}
+
+impl Error for InvalidStringList {}
+
+/// What is wrong with a string behind another one.
+enum Offence {
+    Length,
+    NotUnique,
+    NotSorted,
+}
+
+/// The character that a text is, if it is one alone.
+fn only_character(text: &str) -> Option<char>
+    ensures { MatchOption result (length (chars text.now) ≢ 1) (λ character. chars text.now ≡ character ∷ []) }
+{
+    let mut characters = text.chars();
+    let character = characters.next()?;
+    if characters.as_str().is_empty() {
+        Some(character)
+    } else {
+        None
+    }
+}
+
+/// What is wrong with the string at a place.
+fn offence_at(strings: &[String], place: usize) -> Option<Offence>
+    requires { place < length strings.now }
+    ensures { IsOffence (map string_bytes strings.now) place result }
+{
+    let text = strings[place].as_str();
+    if only_character(text).is_some() {
+        return Some(Offence::Length);
+    }
+    if place == 0 {
+        return None;
+    }
+    match strings[place - 1].as_str().cmp(text) {
+        Ordering::Less => None,
+        Ordering::Equal => Some(Offence::NotUnique),
+        Ordering::Greater => Some(Offence::NotSorted),
+    }
+}
+
+/// The first string that something is wrong with, by its place, and what.
+fn first_offence(strings: &[String]) -> Option<(usize, Offence)>
+    ensures { MatchOption result (AreStrings (map string_bytes strings.now)) (λ found.
+        (found.0 < length strings.now) × AreStringsUpTo (map string_bytes strings.now) found.0 × IsOffence (map string_bytes strings.now) found.0 (Some found.1)) }
+{
+    for place in 0..strings.len() {
+        if let Some(offence) = offence_at(strings, place) {
+            return Some((place, offence));
+        }
+    }
+    None
+}
+
+impl<'a> CodePointInversionListAndStringList<'a> {
+    /// The set of the code points of a list and of these strings, which are sorted by bytes, differ,
+    /// and have no string of one character. Refused with the first string for which that isn't so;
+    /// of one string its length is asked first, then whether it equals the string before, then
+    /// whether it is below that. It takes no memory.
+    pub fn try_from(
+        code_points: CodePointInversionList<'a>,
+        mut strings: Vec<String>,
+    ) -> Result<CodePointInversionListAndStringList<'a>, InvalidStringList>
+        ensures { MatchResult result
+            (λ set. AreStrings (map string_bytes strings.items) × (set ≡ record { code_points = code_points.entry; strings = map string_bytes strings.items }))
+            (IsFirstFault (map string_bytes strings.items)) }
+    {
+        let Some((place, offence)) = first_offence(&strings) else {
+            return Ok(CodePointInversionListAndStringList {
+                code_points,
+                strings,
+            });
+        };
+        let text = strings.remove(place);
+        match offence {
+            Offence::Length => Err(InvalidStringList::InvalidStringLength(text)),
+            Offence::NotUnique => Err(InvalidStringList::StringListNotUnique(text)),
+            Offence::NotSorted => {
+                let before = strings.remove(place - 1);
+                Err(InvalidStringList::StringListNotSorted(before, text))
+            }
+        }
+    }
+
+    /// The set of code points.
+    pub fn code_points(&self) -> &CodePointInversionList<'a>
+        ensures { result.now ≡ self.now.code_points }
+    {
+        &self.code_points
+    }
+
+    /// The strings, each below the next by bytes.
+    pub fn strings(&self) -> &[String]
+        ensures strings { map string_bytes result.now ≡ self.now.strings }
+        ensures valid { AreStrings self.now.strings }
+    {
+        &self.strings
+    }
+
+    /// Whether there is a string.
+    pub fn has_strings(&self) -> bool
+        ensures { IsTrue result ↔ (self.now.strings ≢ []) }
+    {
+        !self.strings.is_empty()
+    }
+
+    /// The number of code points and of strings.
+    pub fn size(&self) -> usize
+        ensures { result ≡ count_below (holds self.now.code_points) 0x110000 + length self.now.strings }
+    {
+        self.code_points.size() + self.strings.len()
+    }
+
+    /// Whether the set holds a code point; no number past 10FFFF hex is one. A binary search, which
+    /// allocates nothing.
+    pub fn contains32(&self, code_point: u32) -> bool
+        ensures { result ≡ holds self.now.code_points code_point }
+    {
+        self.code_points.contains32(code_point)
+    }
+
+    /// Whether the set holds a character.
+    pub fn contains(&self, character: char) -> bool
+        ensures { result ≡ holds self.now.code_points character }
+    {
+        self.code_points.contains(character)
+    }
+
+    /// Whether the set holds a text: of one character, whether its code points hold that; of another
+    /// text, whether it is one of the strings. A binary search, which allocates nothing.
+    pub fn contains_str(&self, text: &str) -> bool
+        ensures character { (c : ℕ) → chars text.now ≡ c ∷ [] → result ≡ holds self.now.code_points c }
+        ensures string { length (chars text.now) ≢ 1 → (IsTrue result ↔ Contains self.now.strings text.now) }
+    {
+        match only_character(text) {
+            Some(character) => self.contains(character),
+            None => self
+                .strings
+                .binary_search_by(|string| string.as_str().cmp(text))
+                .is_ok(),
+        }
+    }
+}
