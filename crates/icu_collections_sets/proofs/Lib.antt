@@ -7,3 +7,6 @@ pub mod GapLemmas
 pub mod SpanLemmas
 pub mod CharacterLemmas
 pub mod StringListLemmas
+pub mod SpellingLemmas
+pub mod JsonLemmas
+pub mod JsonStringListLemmas

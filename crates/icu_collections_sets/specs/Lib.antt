@@ -12,3 +12,7 @@ pub mod Stored
 pub mod StringList
 pub mod StringListFaults
 pub mod StringListOffences
+pub mod Spelling
+pub mod Json
+pub mod JsonFaults
+pub mod JsonStringList

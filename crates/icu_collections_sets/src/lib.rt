@@ -3,4 +3,5 @@
 
 pub mod codepointinvlist;
 pub mod codepointinvliststringlist;
+pub mod json;
 pub mod packed_vector;

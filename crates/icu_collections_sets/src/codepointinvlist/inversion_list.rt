@@ -227,6 +227,7 @@ impl<'a> CodePointInversionList<'a> {
     pub fn iter_ranges(&self) -> CodePointRanges<'_>
         ensures ranges { result ≡ ranges_of self.now }
         ensures members { (c : ℕ) → in_ranges result c ≡ holds self.now c }
+        ensures valid { IsInversionList self.now }
     {
         CodePointRanges::new(self.edges.iter())
     }

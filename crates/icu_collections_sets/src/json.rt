@@ -1,0 +1,11 @@
+//! Sets of code points, and of code points and strings, as JSON values.
+mod error;
+pub mod laws;
+mod list;
+mod spelling;
+mod string_list;
+
+pub use error::JsonError;
+
+#[cfg(test)]
+mod tests;
