@@ -16,3 +16,7 @@ mod UnitMeanings
 mod UnitSpreads
 mod UnitWrites
 pub mod UnitRoots
+pub mod Blocks
+pub mod Layouts
+pub mod BuiltTries
+pub mod BlockCounts

@@ -17,12 +17,9 @@ pub record CodePointMap (T : Type 0) : Type 0 where
 abbrev pub mapped : {T : Type 0} → CodePointMap T → ℕ → T
 mapped m c = slice_index_or m.values c m.default
 
--- a code point for each number up to 10FFFF, and values of the type
-pub record IsMap {T : Type 0} (IsValue : T → Type 0) (m : CodePointMap T) : Type 0 where
+-- there is a value for each code point
+pub record IsMap {T : Type 0} (m : CodePointMap T) : Type 0 where
   pub all : length m.values ≡ 0x11_0000
-  pub values : (c : ℕ) → IsValue (mapped m c)
-  pub default : IsValue m.default
-  pub error : IsValue m.error
 
 -- the code points from the first to the last have the value, unless it is the default, and all else
 -- is as before

@@ -16,3 +16,6 @@ pub mod UnitForms
 pub mod UnitPairs
 pub mod UnitLayouts
 pub mod WrittenUnits
+pub mod Blocks
+pub mod Layouts
+pub mod BuiltTries

@@ -9,7 +9,7 @@ mod trie;
 mod typed;
 mod value;
 
-pub use builder::{CodePointTrieBuilder, CodePointTrieBuilderError};
+pub use builder::{CodePointTrieBuildError, CodePointTrieBuilder, CodePointTrieBuilderError};
 pub use iterators::{CodePointMapRangeIterator, CodePointMappedRanges, CodePointRangesForValue};
 pub use ranges::CodePointMapRange;
 pub use toml_text::CodePointTrieTomlError;

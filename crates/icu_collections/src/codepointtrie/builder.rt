@@ -4,8 +4,13 @@ ghost use Rattle.std.specs.Range.{range_inclusive_start, range_inclusive_end};
 ghost use Rattle.icu_collections.specs.CodePointMaps.{CodePointMap, mapped, IsMap, IsWritten, covers};
 ghost use Rattle.icu_collections.specs.declared.codepointtrie.builder.CodePointTrieBuilderError.TheVariants.{OutOfRange};
 
+mod build;
+mod compaction;
+mod layout;
+
 use super::trie::TrieType;
 use super::value::TrieValue;
+pub use compaction::CodePointTrieBuildError;
 use std::alloc::{AllocError, Global};
 use std::marker::Model;
 use std::ops::RangeInclusive;
@@ -33,7 +38,7 @@ impl<T: TrieValue> Model for CodePointTrieBuilder<T> {
 
     ghost view = { λ inside. record { default = inside.default_value; error = inside.error_value; trie_type = inside.trie_type; values = inside.values.items } };
 
-    ghost invariant = { λ inside. IsMap T.is_value (record { default = inside.default_value; error = inside.error_value; trie_type = inside.trie_type; values = inside.values.items }) };
+    ghost invariant = { λ inside. IsMap (record { default = inside.default_value; error = inside.error_value; trie_type = inside.trie_type; values = inside.values.items }) };
 }
 
 impl<T: TrieValue> CodePointTrieBuilder<T> {
@@ -45,8 +50,6 @@ impl<T: TrieValue> CodePointTrieBuilder<T> {
         error_value: T,
         trie_type: TrieType,
     ) -> Result<CodePointTrieBuilder<T>, AllocError>
-        requires default { T.is_value default_value }
-        requires error { T.is_value error_value }
         ensures values { IfOk result (λ map. (c : ℕ) → mapped map c ≡ default_value) }
         ensures kept { IfOk result (λ map. (map.default ≡ default_value) × (map.error ≡ error_value) × (map.trie_type ≡ trie_type)) }
     {
@@ -70,7 +73,6 @@ impl<T: TrieValue> CodePointTrieBuilder<T> {
     /// Gives the code point the value, unless it is the default. Refused as `OutOfRange` past 10FFFF
     /// (hex); then nothing changes.
     pub fn set_value(&mut self, code_point: u32, value: T) -> Result<(), CodePointTrieBuilderError>
-        requires { T.is_value value }
         ensures written { MatchResult result
             (λ _. IsWritten T.number self.old (λ c. c == code_point) value self.new)
             (λ _. self.new ≡ self.old) }
@@ -93,7 +95,6 @@ impl<T: TrieValue> CodePointTrieBuilder<T> {
         range: RangeInclusive<u32>,
         value: T,
     ) -> Result<(), CodePointTrieBuilderError>
-        requires { T.is_value value }
         ensures written { MatchResult result
             (λ _. IsWritten T.number self.old (covers range) value self.new)
             (λ _. self.new ≡ self.old) }

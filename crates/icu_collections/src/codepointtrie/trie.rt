@@ -87,7 +87,7 @@ impl<'a, T: TrieValue> Model for CodePointTrie<'a, T> {
 
 impl TrieType {
     /// The code point from which on a place is found in three steps.
-    fn fast_limit(self) -> u32
+    pub(super) fn fast_limit(self) -> u32
         ensures { result ≡ fast_limit self }
     {
         match self {
@@ -97,7 +97,7 @@ impl TrieType {
     }
 
     /// Where the first of the three steps begins.
-    fn first_step(self) -> usize
+    pub(super) fn first_step(self) -> usize
         ensures { result ≡ first_step self }
     {
         match self {
@@ -199,6 +199,22 @@ impl<'a, T: TrieValue> CodePointTrie<'a, T> {
             index,
             cells,
         })
+    }
+
+    /// The trie of tables that are a trie's.
+    pub(super) fn from_tables(
+        header: CodePointTrieHeader,
+        index: PackedVec<'a, u16>,
+        cells: PackedVec<'a, T>,
+    ) -> CodePointTrie<'a, T>
+        requires { IsTrie (record { header = header; index = index; cells = cells }) }
+        ensures { result ≡ record { header = header; index = index.entry; cells = cells.entry } }
+    {
+        CodePointTrie {
+            header,
+            index,
+            cells,
+        }
     }
 
     /// The place that header and index name.

@@ -1,0 +1,39 @@
+-- Aligned blocks of values, told apart by the values' numbers.
+use Rattle.std.specs.Prelude.{◌≡◌, ℕ, ◌+◌, ◌-◌, ◌*◌, ◌/◌, ◌<◌, ◌≤◌, List, length, map, slice_range, slice_index, nat_eq}
+use Rattle.std.specs.List.{range_with_len, IsDistinct}
+use Rattle.std.specs.Set.{distinct_count}
+use Rattle.std.specs.Cmp.Lexicographic.{pointwise}
+
+-- the block of a width that begins at the block's number times the width
+abbrev pub block : ℕ → List ℕ → ℕ → List ℕ
+block width numbers i = slice_range numbers (i * width) (i * width + width)
+
+-- the aligned blocks of a width that the list has whole
+abbrev pub blocks : ℕ → List ℕ → List (List ℕ)
+blocks width numbers = map (block width numbers) (range_with_len 0 (length numbers / width))
+
+-- how many different blocks those are, where a block counts once however often it comes
+unfoldable pub different_blocks : {T : Type 0} → (T → ℕ) → ℕ → List T → ℕ
+different_blocks number width values = distinct_count (pointwise nat_eq) (blocks width (map number values))
+
+-- blocks of those between two numbers, no two of them alike
+pub record AreKept (width : ℕ) (values : List ℕ) (first end : ℕ) (kept : List ℕ) : Type 0 where
+  pub from : (i : ℕ) → i < length kept → first ≤ slice_index kept i
+  pub before : (i : ℕ) → i < length kept → slice_index kept i < end
+  pub whole : (i : ℕ) → i < length kept → slice_index kept i * width + width ≤ length values
+  pub few : length kept ≤ end - first
+  pub different : IsDistinct (pointwise nat_eq) (map (block width values) kept)
+
+-- for each block from the first to before the end the place among the kept ones of one that is like it
+pub record ArePlaces (width : ℕ) (values : List ℕ) (first end : ℕ) (places kept : List ℕ) : Type 0 where
+  pub count : length places ≡ end - first
+  pub inside : (i : ℕ) → i < length places → slice_index places i < length kept
+  pub alike : (b : ℕ) → first ≤ b → b < end → block width values (slice_index kept (slice_index places (b - first))) ≡ block width values b
+
+-- the place is that of a kept block which is like this one
+abbrev pub IsKeptAt : ℕ → List ℕ → ℕ → List ℕ → ℕ → Type 0
+IsKeptAt width values number kept place = (place < length kept) × (block width values (slice_index kept place) ≡ block width values number)
+
+-- more than so many different blocks are between two numbers
+abbrev pub HasMore : ℕ → List ℕ → ℕ → ℕ → ℕ → Type 0
+HasMore width values first end limit = (kept : List ℕ) × AreKept width values first end kept × (limit < length kept)
