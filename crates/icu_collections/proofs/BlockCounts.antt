@@ -20,7 +20,8 @@ use Rattle.icu_collections.specs.Layouts.{IsLayout}
 use Rattle.icu_collections.specs.declared.codepointtrie.builder.layout.Layout.{Layout}
 use Rattle.icu_collections.proofs.BuiltTries.{type_facts}
 
-abbrev Same : List ℕ → List ℕ → Bool
+-- whether two blocks have the same numbers
+abbrev pub Same : List ℕ → List ℕ → Bool
 Same = pointwise nat_eq
 
 -- a list without repetitions has the items of the list
@@ -49,13 +50,13 @@ distinct_below ns ys distinct covered =
     (λ q m. members_kept ys q ∙ (is_member-Decides bytes_eq-Decides ys q).1 (covered q ((is_member-Decides bytes_eq-Decides ns q).0 m)))
 
 -- where each item of one list is one of the other
-count_below : (xs ys : List (List ℕ)) → ((q : List ℕ) → Contains xs q → Contains ys q) → distinct_count Same xs ≤ distinct_count Same ys
+pub count_below : (xs ys : List (List ℕ)) → ((q : List ℕ) → Contains xs q → Contains ys q) → distinct_count Same xs ≤ distinct_count Same ys
 count_below xs ys covered =
     distinct_below (unique_keys Same xs) ys (kept_distinct xs)
     (λ q m. covered q ((is_member-Decides bytes_eq-Decides xs q).0 (sym (members_kept xs q) ∙ (is_member-Decides bytes_eq-Decides (unique_keys Same xs) q).1 m)))
 
 -- a block is one of the blocks
-block_among : (width : ℕ) (values : List ℕ) (j : ℕ) (q : List ℕ) → j < length values / width → block width values j ≡ q → Contains (blocks width values) q
+pub block_among : (width : ℕ) (values : List ℕ) (j : ℕ) (q : List ℕ) → j < length values / width → block width values j ≡ q → Contains (blocks width values) q
 block_among width values j q inside is = (
   j,
   rw (length-map-range_with_len (block width values) 0 (length values / width)) inside,
@@ -63,7 +64,7 @@ block_among width values j q inside is = (
 )
 
 -- and one of the blocks is a block
-among_blocks : (width : ℕ) (values : List ℕ) (q : List ℕ) → Contains (blocks width values) q → (j : ℕ) × (j < length values / width) × (block width values j ≡ q)
+pub among_blocks : (width : ℕ) (values : List ℕ) (q : List ℕ) → Contains (blocks width values) q → (j : ℕ) × (j < length values / width) × (block width values j ≡ q)
 among_blocks width values q (j, inside, is) =
     let below : j < length values / width = rw (length-map-range_with_len (block width values) 0 (length values / width)) at inside in
     (j, below, sym (get_or-map-range_with_len (block width values) 0 (length values / width) j j q below (omega arith)) ∙ is)

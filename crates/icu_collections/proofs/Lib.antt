@@ -20,3 +20,4 @@ pub mod Blocks
 pub mod Layouts
 pub mod BuiltTries
 pub mod BlockCounts
+pub mod BlockLaws

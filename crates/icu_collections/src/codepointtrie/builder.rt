@@ -1,6 +1,7 @@
 //! The code point map from which a trie is to be built.
-ghost use Rattle.std.specs.Prelude.{◌≡◌, ℕ, ◌<◌, ◌≤◌, ◌⊎◌, ◌==◌, ◌&&◌, nat_le, nat_lt, length, slice_index_or, if◌then◌else◌, IfOk, MatchResult};
+ghost use Rattle.std.specs.Prelude.{◌≡◌, ℕ, ◌<◌, ◌≤◌, ◌⊎◌, ◌==◌, ◌&&◌, nat_le, nat_lt, length, slice_index_or, if◌then◌else◌, ◌+◌, IfOk, OnOk, MatchResult};
 ghost use Rattle.std.specs.Range.{range_inclusive_start, range_inclusive_end};
+ghost use Rattle.icu_collections.specs.Blocks.{different_blocks};
 ghost use Rattle.icu_collections.specs.CodePointMaps.{CodePointMap, mapped, IsMap, IsWritten, covers};
 ghost use Rattle.icu_collections.specs.declared.codepointtrie.builder.CodePointTrieBuilderError.TheVariants.{OutOfRange};
 
@@ -43,7 +44,9 @@ impl<T: TrieValue> Model for CodePointTrieBuilder<T> {
 
 impl<T: TrieValue> CodePointTrieBuilder<T> {
     /// The map of all code points to the default, for a trie of this type whose value past 10FFFF
-    /// (hex) is `error_value`. The only error is want of memory.
+    /// (hex) is `error_value`. It has at most one different block of a width, and each write for a
+    /// code point makes at most one more, so few writes keep a map within what `build` takes. The
+    /// only error is want of memory.
     pub fn new(
         alloc: Global,
         default_value: T,
@@ -51,6 +54,7 @@ impl<T: TrieValue> CodePointTrieBuilder<T> {
         trie_type: TrieType,
     ) -> Result<CodePointTrieBuilder<T>, AllocError>
         ensures values { IfOk result (λ map. (c : ℕ) → mapped map c ≡ default_value) }
+        ensures blocks { IfOk result (λ map. (width : ℕ) → different_blocks T.number width map.values ≤ 1) }
         ensures kept { IfOk result (λ map. (map.default ≡ default_value) × (map.error ≡ error_value) × (map.trie_type ≡ trie_type)) }
     {
         let mut values = Vec::new(alloc);
@@ -76,6 +80,7 @@ impl<T: TrieValue> CodePointTrieBuilder<T> {
         ensures written { MatchResult result
             (λ _. IsWritten T.number self.old (λ c. c == code_point) value self.new)
             (λ _. self.new ≡ self.old) }
+        ensures blocks { OnOk result ((width : ℕ) → different_blocks T.number width self.new.values ≤ different_blocks T.number width self.old.values + 1) }
         ensures refused { MatchResult result (λ _. code_point ≤ 0x10FFFF) (λ e. (e ≡ OutOfRange) × (0x10FFFF < code_point)) }
     {
         if code_point > 0x10_FFFF {
