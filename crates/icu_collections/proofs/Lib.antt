@@ -21,3 +21,11 @@ pub mod Layouts
 pub mod BuiltTries
 pub mod BlockCounts
 pub mod BlockLaws
+mod UnitJobsLeft
+mod UnitStands
+mod UnitAhead
+mod UnitListing
+mod UnitListed
+mod UnitReadings
+mod UnitRead
+mod UnitListings

@@ -19,31 +19,23 @@ fewer branch entry = record { count = branch.count - 1; place = entry.number.end
 abbrev pub SomeLeads : List ℕ → Branch → ℕ → ℕ → Type 0
 SomeLeads units branch low high = (unit : ℕ) × (target : Target) × (low ≤ unit) × (unit < high) × Leads units branch unit target
 
+pub last_leads : (units : List ℕ) (branch : Branch) (unit : ℕ) → branch.count ≤ 1 → slice_get units branch.place ≡ Some unit → Leads units branch unit (Node (branch.place + 1))
+last_leads units branch unit one e =
+    listed branch unit (Node (branch.place + 1)) (omega (arith, one))
+    (subst (λ entries. Lists units entries branch.place unit (Node (branch.place + 1))) (omega (arith, one)) (last branch.place unit e))
+
+pub entry_leads : (units : List ℕ) (branch : Branch) (entry : Entry) (target : Target) → 1 < branch.count → branch.count ≤ 5
+    → entry_at units branch.place ≡ Some entry → entry_target units entry ≡ Some target → Leads units branch entry.unit target
+entry_leads units branch entry target more few e to =
+    listed branch entry.unit target few
+    (subst (λ entries. Lists units entries branch.place entry.unit target) (omega (arith, more)) (here (branch.count - 2) branch.place entry.unit entry target e refl to))
+
 pub some_leads : (units : List ℕ) {branch : Branch} {low high : ℕ} → IsSound units (within branch low high) → SomeLeads units branch low high
-some_leads units (sound_last branch low high unit one e above below rest) = (
-  unit,
-  Node (branch.place + 1),
-  above,
-  below,
-  listed branch unit (Node (branch.place + 1)) (omega (arith, one))
-      (subst (λ entries. Lists units entries branch.place unit (Node (branch.place + 1))) (omega (arith, one)) (last branch.place unit e)),
-)
-some_leads units (sound_value branch low high value entry more few e to above below rest) = (
-  entry.unit,
-  Value value,
-  above,
-  below,
-  listed branch entry.unit (Value value) few
-      (subst (λ entries. Lists units entries branch.place entry.unit (Value value)) (omega (arith, more)) (here (branch.count - 2) branch.place entry.unit entry (Value value) e refl to)),
-)
-some_leads units (sound_jump branch low high place entry more few e to above below node rest) = (
-  entry.unit,
-  Node place,
-  above,
-  below,
-  listed branch entry.unit (Node place) few
-      (subst (λ entries. Lists units entries branch.place entry.unit (Node place)) (omega (arith, more)) (here (branch.count - 2) branch.place entry.unit entry (Node place) e refl to)),
-)
+some_leads units (sound_last branch low high unit one e above below rest) = (unit, Node (branch.place + 1), above, below, last_leads units branch unit one e)
+some_leads units (sound_value branch low high value entry more few e to above below rest) =
+    (entry.unit, Value value, above, below, entry_leads units branch entry (Value value) more few e to)
+some_leads units (sound_jump branch low high place entry more few e to above below node rest) =
+    (entry.unit, Node place, above, below, entry_leads units branch entry (Node place) more few e to)
 some_leads units (sound_halves branch low high middle place jump many e d lands above below first second) =
     let found = some_leads units first in (
       found.0,

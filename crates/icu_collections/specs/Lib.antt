@@ -19,3 +19,5 @@ pub mod WrittenUnits
 pub mod Blocks
 pub mod Layouts
 pub mod BuiltTries
+pub mod UnitReading
+pub mod UnitJobs

@@ -1,8 +1,12 @@
 -- Units that keep the grammar of unit tries, by cases on the units.
-use Rattle.std.specs.Prelude.{◌≡◌, ℕ, ◌+◌, ◌-◌, ◌/◌, ◌<◌, ◌≤◌, List, [], slice_get, Option, Some, None}
+use Rattle.std.specs.Prelude.{◌≡◌, ◌≢◌, ℕ, ℤ, ◌+◌, ◌-◌, ◌/◌, ◌<◌, ◌≤◌, ◌↔◌, List, [], length, map, slice_get, Option, Some, None}
+use Rattle.std.specs.Cmp.Lexicographic.{slice_cmp}
+use Rattle.std.specs.List.{Contains}
+use Rattle.std.specs.List.Sorted.{IsStrictlySortedBy}
+use Rattle.std.specs.Ordering.{nat_cmp}
 use Rattle.icu_collections.specs.UnitCells.{delta, landing}
-use Rattle.icu_collections.specs.UnitSteps.{entry_at, entry_target}
-use Rattle.icu_collections.specs.UnitMaps.{IsNode, Spot, at_node, behind}
+use Rattle.icu_collections.specs.UnitSteps.{entry_at, entry_target, start}
+use Rattle.icu_collections.specs.UnitMaps.{IsNode, Spells, IsWhole, Spot, at_node, behind}
 use Rattle.icu_collections.specs.declared.char16trie.cells.Number.{Number}
 use Rattle.icu_collections.specs.declared.char16trie.node.Branch.{Branch}
 use Rattle.icu_collections.specs.declared.char16trie.node.Entry.{Entry}
@@ -50,3 +54,16 @@ pub data IsSound (units : List ℕ) : Part → Type 0 where
 pub data IsUnitTrie (units : List ℕ) : Type 0 where
   no_units : units ≡ [] → IsUnitTrie units
   rooted : (next : State) → IsNode units 0 None (Some next) → IsSound units (spot (behind next)) → IsUnitTrie units
+
+-- no key is longer than so many units
+abbrev pub IsWithin : List ℕ → ℕ → Type 0
+IsWithin units limit = (key : List ℕ) (number : ℤ) → Spells units (at_node 0) key number → length key ≤ limit
+
+-- the keys and values that the units spell, in order, no key longer than so many units
+pub record IsListing (units : List ℕ) (limit : ℕ) (pairs : List (List ℕ × ℤ)) : Type 0 where
+  pub trie : IsUnitTrie units
+  pub entries : (key : List ℕ) (number : ℤ) → Contains pairs (key, number) ↔ Spells units (at_node 0) key number
+  pub sorted : IsStrictlySortedBy (slice_cmp nat_cmp) (map (λ pair. pair.0) pairs)
+  pub bound : IsWithin units limit
+  pub from_start : (key : List ℕ) (number : ℤ) → Spells units (behind (start units)) key number ↔ Spells units (at_node 0) key number
+  pub whole : units ≢ [] → IsWhole units (behind (start units))

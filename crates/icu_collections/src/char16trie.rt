@@ -10,9 +10,11 @@ use icu_collections_sets::packed_vector::PackedVec;
 
 mod cells;
 mod node;
+mod reader;
 mod writer;
 
 use node::{State, start, step};
+pub use reader::{ReadUnitsError, read_units};
 pub use writer::{WriteUnitsError, write_units};
 
 /// What a cursor says of the units that it was given.

@@ -10,28 +10,28 @@ use icu_collections_sets::packed_vector::PackedVec;
 /// A branch: how many units it tells apart, and where it begins.
 #[derive(Clone, Copy)]
 pub(super) struct Branch {
-    count: usize,
-    place: usize,
+    pub(super) count: usize,
+    pub(super) place: usize,
 }
 
 /// Units that must match: how many are left, and where they begin.
 #[derive(Clone, Copy)]
 pub(super) struct Match {
-    left: usize,
-    place: usize,
+    pub(super) left: usize,
+    pub(super) place: usize,
 }
 
 /// A branch unit before the last, and its number: a value, or else a jump.
 #[derive(Clone, Copy)]
-struct Entry {
-    unit: u16,
-    is_value: bool,
-    number: Number,
+pub(super) struct Entry {
+    pub(super) unit: u16,
+    pub(super) is_value: bool,
+    pub(super) number: Number,
 }
 
 /// What a branch unit leads to.
 #[derive(Clone, Copy)]
-enum Target {
+pub(super) enum Target {
     Value(u32),
     Node(usize),
 }
@@ -95,7 +95,7 @@ fn small_part(
 }
 
 /// A branch unit before the last, and the number behind it.
-fn entry_at(units: &PackedVec<'_, u16>, place: usize) -> Option<Entry>
+pub(super) fn entry_at(units: &PackedVec<'_, u16>, place: usize) -> Option<Entry>
     ensures { result ≡ entry_at units.now place }
 {
     let unit = unit_at(units, place)?;
@@ -109,7 +109,7 @@ fn entry_at(units: &PackedVec<'_, u16>, place: usize) -> Option<Entry>
 }
 
 /// What a branch unit leads to: its value, or the node that it jumps to.
-fn entry_target(units: &PackedVec<'_, u16>, entry: Entry) -> Option<Target>
+pub(super) fn entry_target(units: &PackedVec<'_, u16>, entry: Entry) -> Option<Target>
     ensures { result ≡ entry_target units.now entry }
 {
     if entry.is_value {
@@ -139,7 +139,7 @@ fn target_in(units: &PackedVec<'_, u16>, unit: u16, entries: usize, place: usize
 }
 
 /// A node of a type below 40, whose units begin at the place.
-fn opened(units: &PackedVec<'_, u16>, kind: u16, place: usize) -> Option<State>
+pub(super) fn opened(units: &PackedVec<'_, u16>, kind: u16, place: usize) -> Option<State>
     ensures { result ≡ opened units.now kind place }
 {
     if kind >= 0x30 {
