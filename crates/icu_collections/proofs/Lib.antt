@@ -29,3 +29,5 @@ mod UnitListed
 mod UnitReadings
 mod UnitRead
 mod UnitListings
+pub mod RangeWalks
+pub mod PlaneLemmas

@@ -24,6 +24,7 @@ pub record IsMap {T : Type 0} (m : CodePointMap T) : Type 0 where
 -- the code points from the first to the last have the value, unless it is the default, and all else
 -- is as before
 pub record IsWritten {T : Type 0} (number : T → ℕ) (before : CodePointMap T) (covers : ℕ → Bool) (value : T) (after : CodePointMap T) : Type 0 where
+  pub all : length after.values ≡ length before.values
   pub values : (c : ℕ) → c ≤ 0x10_FFFF → mapped after c ≡ (if covers c && not (number value == number before.default) then value else mapped before c)
   pub default : after.default ≡ before.default
   pub error : after.error ≡ before.error

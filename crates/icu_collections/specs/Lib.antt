@@ -21,3 +21,4 @@ pub mod Layouts
 pub mod BuiltTries
 pub mod UnitReading
 pub mod UnitJobs
+pub mod MaximalRanges

@@ -3,6 +3,7 @@
 mod builder;
 mod iterators;
 pub mod laws;
+pub mod planes;
 mod ranges;
 mod toml_text;
 mod trie;

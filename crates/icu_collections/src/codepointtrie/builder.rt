@@ -53,6 +53,7 @@ impl<T: TrieValue> CodePointTrieBuilder<T> {
         error_value: T,
         trie_type: TrieType,
     ) -> Result<CodePointTrieBuilder<T>, AllocError>
+        ensures all { IfOk result (λ map. length map.values ≡ 0x110000) }
         ensures values { IfOk result (λ map. (c : ℕ) → mapped map c ≡ default_value) }
         ensures blocks { IfOk result (λ map. (width : ℕ) → different_blocks T.number width map.values ≤ 1) }
         ensures kept { IfOk result (λ map. (map.default ≡ default_value) × (map.error ≡ error_value) × (map.trie_type ≡ trie_type)) }

@@ -1,12 +1,28 @@
 //! Laws of tries.
-ghost use Rattle.std.specs.Prelude.{◌≡◌, ℕ, List, Some};
+ghost use Rattle.std.specs.Prelude.{◌≡◌, ℕ, List, None, Some};
+ghost use Rattle.std.specs.Iterator.{YieldsThen};
+ghost use Rattle.icu_collections.specs.CodePointMaps.{CodePointMap, mapped};
+ghost use Rattle.icu_collections.specs.BuiltTries.{IsTrieOf};
+ghost use Rattle.icu_collections.specs.RangeIterators.{ranges_trie, ranges_start};
+ghost use Rattle.icu_collections.specs.MaximalRanges.{AreMaximalFrom, IsRangeStep};
 ghost use Rattle.icu_collections.specs.Places.{TrieTables, IsTrie, IsRefused};
 ghost use Rattle.icu_collections.specs.TomlTables.{tables_of_text, IsTomlRefused};
+ghost use Rattle.icu_collections.specs.declared.codepointtrie.ranges.CodePointMapRange.{CodePointMapRange};
+ghost use Rattle.icu_collections.specs.declared.codepointtrie.iterators.CodePointMapRangeIterator.{CodePointMapRangeIterator};
 ghost use Rattle.icu_collections.specs.declared.codepointtrie.trie.CodePointTrieError.{CodePointTrieError};
 ghost use Rattle.icu_collections.specs.declared.codepointtrie.toml_text.CodePointTrieTomlError.{CodePointTrieTomlError};
 ghost use Rattle.icu_collections.specs.declared.codepointtrie.toml_text.CodePointTrieTomlError.TheVariants.{Memory};
 
 use super::value::TrieValue;
+
+/// A walk over all ranges of a built trie gives the maximal ranges of the map: the first begins at
+/// 0, the last ends at 10FFFF (hex), none leaves a gap, each has the map's value, and neighbours
+/// differ.
+pub fn ranges_of_built_tries<T: TrieValue>()
+    ensures { (map : CodePointMap T) (start end : CodePointMapRangeIterator T) (ranges : List (CodePointMapRange T)) →
+        IsTrieOf map (ranges_trie start) → ranges_start start ≡ 0 → YieldsThen IsRangeStep start ranges None end →
+        AreMaximalFrom (mapped map) 0 ranges }
+{}
 
 /// The tables of a trie have none of the faults by which `try_new` refuses tables.
 pub fn a_trie_is_not_refused<T: TrieValue>()
