@@ -8,7 +8,7 @@ use super::value::TrieValue;
 use std::ops::RangeInclusive;
 
 /// Code points one after another with one value.
-#[derive(Drop)]
+#[derive(Debug, PartialEq, Eq, Drop)]
 pub struct CodePointMapRange<T> {
     /// The code points, from the first to the last.
     pub range: RangeInclusive<u32>,

@@ -143,6 +143,25 @@ fn typed_tries(rt: HostRuntime) -> Result<(), Fail> {
 }
 
 #[test]
+fn what_tries_print(rt: HostRuntime) -> Result<(), Fail> {
+    let index = PackedVec::<u16>::try_from_bytes(&[0; 128])?;
+    let cells = PackedVec::<u8>::try_from_bytes(&[3; 64])?;
+    let trie = CodePointTrie::try_new(header(TrieType::Small, 0x1000), index, cells)?;
+    let range = format!(in rt.alloc(); "{:?}", trie.get_range(0x10_FFFF))?;
+    assert_eq!(rt;
+        range.as_str(),
+        "Some(CodePointMapRange { range: 1114111..=1114111, value: 3 })"
+    );
+    let typed = format!(in rt.alloc(); "{:?}", SmallCodePointTrie::try_from(trie))?;
+    assert!(rt;
+        typed.as_str().starts_with(
+            "Ok(SmallCodePointTrie { trie: CodePointTrie { header: CodePointTrieHeader { high_start: 4096,"
+        )
+    );
+    Ok(())
+}
+
+#[test]
 fn ok_clone(rt: HostRuntime) -> Result<(), Fail> {
     let trie = small_trie(rt.alloc())?;
     let copy = trie.clone(rt.alloc())?;

@@ -68,7 +68,7 @@ impl Error for CodePointTrieError {}
 
 /// A map from code points to values, as ICU4X has it. It answers from its cells for any number,
 /// past 10FFFF (hex) too.
-#[derive(Drop)]
+#[derive(Debug, Drop)]
 pub struct CodePointTrie<'a, T: TrieValue> {
     header: CodePointTrieHeader,
     index: PackedVec<'a, u16>,

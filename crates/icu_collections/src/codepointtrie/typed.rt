@@ -34,14 +34,14 @@ pub trait TypedCodePointTrie<T: TrieValue> {
 }
 
 /// A trie of type `Fast`.
-#[derive(Drop)]
+#[derive(Debug, Drop)]
 pub struct FastCodePointTrie<'a, T: TrieValue> {
     trie: CodePointTrie<'a, T>,
     ghost is_fast: { trie.header.trie_type ≡ Fast },
 }
 
 /// A trie of type `Small`.
-#[derive(Drop)]
+#[derive(Debug, Drop)]
 pub struct SmallCodePointTrie<'a, T: TrieValue> {
     trie: CodePointTrie<'a, T>,
     ghost is_small: { trie.header.trie_type ≡ Small },
