@@ -2,6 +2,7 @@ pub mod BadLists
 pub mod Breaches
 pub mod BuiltInFalls
 pub mod BuiltIns
+pub mod CharacterTables
 pub mod Classes
 pub mod Decomposing
 pub mod Endings
@@ -12,6 +13,7 @@ mod Forms
 pub mod Found
 pub mod FullLists
 mod Limits
+pub mod Keys
 pub mod Lines
 pub mod Lookups
 pub mod LoopFacts

@@ -1,12 +1,10 @@
--- what is found in lines after one more
+-- what is found in lines after one more, and in tables with one value more
 use Rattle.std.proofs.lemmas.List.{get_or-map, length-map}
+use Rattle.std.proofs.lemmas.Bool.{eqb-true}
 use Rattle.std.proofs.lemmas.List.Elements.{All-get_or}
-use Rattle.std.proofs.Common.{◌<◌, length, get_or, map, All, subst, ◌≡◌, ℕ, ◌==◌, cond, List, [], ◌∷◌, ◌++◌, Option, Some, None, option_map, refl, sym, ap, ◌∙◌, Bool, true, false, Result, Ok, Err, OnOk}
+use Rattle.std.proofs.Common.{◌<◌, length, get_or, map, All, subst, ◌≡◌, ℕ, eqb, cond, List, [], ◌∷◌, ◌++◌, Option, Some, None, option_map, refl, sym, ap, ◌∙◌, Bool, true, false, Result, Ok, Err, OnOk}
 use Rattle.std.specs.Option.{option_or}
-use Rattle.std.specs.Ordering.{nat_cmp}
-use Rattle.std.specs.BTreeMap.{BTreeMap, get}
 use Rattle.collate_records.specs.Sayings.{first_found}
-use Rattle.collate_records.specs.Tables.{at_key, PutsFirst}
 
 -- what is found first in a list and one more item
 pub first_found-push : {A B : Type 0} (f : A → Option B) (xs : List A) (x : A) → first_found f (xs ++ x ∷ []) ≡ option_or (first_found f xs) (f x)
@@ -23,42 +21,42 @@ option_or-none (Some x) = refl
 pub first_found-skip : {A B : Type 0} (f : A → Option B) (xs : List A) (x : A) → f x ≡ None → first_found f (xs ++ x ∷ []) ≡ first_found f xs
 first_found-skip f xs x e = first_found-push f xs x ∙ ap (λ o. option_or (first_found f xs) o) e ∙ option_or-none (first_found f xs)
 
-option_map-or : {A B : Type 0} (f : A → B) (o p : Option A) → option_map f (option_or o p) ≡ option_or (option_map f o) (option_map f p)
-option_map-or f None p = refl
-option_map-or f (Some x) p = refl
-
-option_map-cond : {A B : Type 0} (f : A → B) (b : Bool) (x : A) → option_map f (cond b (Some x) None) ≡ cond b (Some (f x)) None
-option_map-cond f true x = refl
-option_map-cond f false x = refl
-
--- a map that has what is found first has it still after one more item
-pub finds_more : {A V B : Type 0} (f : V → B) (find : ℕ → A → Option B) (old new : BTreeMap ℕ V) (xs : List A) (x : A) (k : ℕ) (v : V)
-    → ((q : ℕ) → option_map f (get nat_cmp old q) ≡ first_found (find q) xs) → PutsFirst old new k v
-    → ((q : ℕ) → find q x ≡ cond (q == k) (Some (f v)) None)
-    → (q : ℕ) → option_map f (get nat_cmp new q) ≡ first_found (find q) (xs ++ x ∷ [])
-finds_more f find old new xs x k v has puts says q =
-    ap (option_map f) (puts q) ∙ option_map-or f (get nat_cmp old q) (at_key k v q)
-    ∙ ap (λ o. option_or o (option_map f (at_key k v q))) (has q)
-    ∙ ap (option_or (first_found (find q) xs)) (option_map-cond f (q == k) v ∙ sym (says q))
-    ∙ sym (first_found-push (find q) xs x)
+-- a table that has what is found first has it still after one more item, which is the first for its key
+pub finds_more : {A V B : Type 0} (f : V → B) (find : ℕ → A → Option B) (old new : ℕ → Option V) (xs : List A) (x : A) (k : ℕ) (v : V)
+    → ((q : ℕ) → option_map f (old q) ≡ first_found (find q) xs) → first_found (find k) xs ≡ None
+    → ((q : ℕ) → new q ≡ cond (eqb q k) (Some v) (old q))
+    → ((q : ℕ) → find q x ≡ cond (eqb q k) (Some (f v)) None)
+    → (q : ℕ) → option_map f (new q) ≡ first_found (find q) (xs ++ x ∷ [])
+finds_more {A} {V} {B} f find old new xs x k v has absent puts says q = by (eqb q k) refl ∙ sym (first_found-push (find q) xs x)
+  where
+    by : (b : Bool) → eqb q k ≡ b → option_map f (new q) ≡ option_or (first_found (find q) xs) (find q x)
+    by true e =
+        ap (option_map f) (puts q ∙ ap (λ (b : Bool). cond b (Some v) (old q)) e)
+        ∙ sym (ap (λ (o : Option B). option_or o (find q x)) (subst (λ (n : ℕ). first_found (find n) xs ≡ None) (sym (eqb-true q k e)) absent)
+        ∙ says q ∙ ap (λ (b : Bool). cond {A = Option B} b (Some (f v)) None) e)
+    by false e =
+        ap (option_map f) (puts q ∙ ap (λ (b : Bool). cond b (Some v) (old q)) e) ∙ has q
+        ∙ sym (ap (λ (o : Option B). option_or (first_found (find q) xs) o) (says q ∙ ap (λ (b : Bool). cond {A = Option B} b (Some (f v)) None) e)
+        ∙ option_or-none (first_found (find q) xs))
 
 option_map-same : {A : Type 0} (o : Option A) → option_map (λ x. x) o ≡ o
 option_map-same None = refl
 option_map-same (Some x) = refl
 
 -- the same for values as they are
-pub finds_more_same : {A V : Type 0} (find : ℕ → A → Option V) (old new : BTreeMap ℕ V) (xs : List A) (x : A) (k : ℕ) (v : V)
-    → ((q : ℕ) → get nat_cmp old q ≡ first_found (find q) xs) → PutsFirst old new k v
-    → ((q : ℕ) → find q x ≡ cond (q == k) (Some v) None)
-    → (q : ℕ) → get nat_cmp new q ≡ first_found (find q) (xs ++ x ∷ [])
-finds_more_same find old new xs x k v has puts says q =
-    sym (option_map-same (get nat_cmp new q))
-    ∙ finds_more (λ y. y) find old new xs x k v (λ p. option_map-same (get nat_cmp old p) ∙ has p) puts says q
+pub finds_more_same : {A V : Type 0} (find : ℕ → A → Option V) (old new : ℕ → Option V) (xs : List A) (x : A) (k : ℕ) (v : V)
+    → ((q : ℕ) → old q ≡ first_found (find q) xs) → first_found (find k) xs ≡ None
+    → ((q : ℕ) → new q ≡ cond (eqb q k) (Some v) (old q))
+    → ((q : ℕ) → find q x ≡ cond (eqb q k) (Some v) None)
+    → (q : ℕ) → new q ≡ first_found (find q) (xs ++ x ∷ [])
+finds_more_same find old new xs x k v has absent puts says q =
+    sym (option_map-same (new q))
+    ∙ finds_more (λ y. y) find old new xs x k v (λ p. option_map-same (old p) ∙ has p) absent puts says q
 
 -- what follows where there is a value
-pub OnOk-then : {T E : Type 0} (r : Result T E) {P Q : Type 0} → OnOk r P → (P → Q) → OnOk r Q
-OnOk-then (Ok x) h f = f h
-OnOk-then (Err e) h f = tt
+pub OnOk-both : {T E : Type 0} (r : Result T E) {P Q R : Type 0} → OnOk r P → OnOk r Q → (P → Q → R) → OnOk r R
+OnOk-both (Ok x) h i f = f h i
+OnOk-both (Err e) h i f = tt
 
 -- what holds of each line holds of the line at a place
 pub All-map_at : {A B : Type 0} (P : B → Type 0) (f : A → B) (xs ys : List A) (i : ℕ) (x : A)

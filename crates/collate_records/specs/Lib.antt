@@ -1,4 +1,5 @@
 pub mod Accepted
+pub mod CharacterTables
 pub mod Facts
 pub mod Files
 pub mod Grammar

@@ -1,25 +1,46 @@
 -- The look-up tables of records, and the list that a call adds to.
-use Rattle.std.specs.Prelude.{◌≡◌, ℕ, cond, ◌==◌, List, ◌++◌, Option, Some, None, option_map}
-use Rattle.std.specs.Option.{option_or}
-use Rattle.std.specs.Ordering.{nat_cmp}
-use Rattle.std.specs.BTreeMap.{BTreeMap, get}
+use Rattle.std.specs.Prelude.{◌≡◌, ℕ, ◌<◌, ◌++◌, List, [], ◌∷◌, length, flat_map, option_map}
 use Rattle.icu_normalizer_core.specs.Properties.{mapped_to}
-use Rattle.collate_records.specs.Sayings.{Saying, first_found, class_in, mapping_in, elements_in}
-use Rattle.collate_records.specs.declared.records.Tables.{Tables}
-
--- what an entry says of a key
-abbrev pub at_key : {V : Type 0} → ℕ → V → ℕ → Option V
-at_key k v q = cond (q == k) (Some v) None
-
--- a map has what it had, and for one key, if it was absent, a value
-abbrev pub PutsFirst : {V : Type 0} → BTreeMap ℕ V → BTreeMap ℕ V → ℕ → V → Type 0
-PutsFirst old new k v = (q : ℕ) → get nat_cmp new q ≡ option_or (get nat_cmp old q) (at_key k v q)
+use Rattle.collate_records.specs.CharacterTables.{looked_up, placed, most_values}
+use Rattle.collate_records.specs.Sayings.{Saying, class, mapping, weights, first_found, class_in, mapping_in, elements_in}
+use Rattle.collate_records.specs.declared.tables.Tables.{Tables}
+use Rattle.collate_records.specs.declared.tables.TablesBuilder.{TablesBuilder}
 
 -- the tables have what is found first in the lines
 pub record AreTablesOf (tables : Tables) (lines : List Saying) : Type 0 where
-  pub classes : (c : ℕ) → get nat_cmp tables.classes c ≡ first_found (class_in c) lines
-  pub mappings : (c : ℕ) → option_map mapped_to (get nat_cmp tables.mappings c) ≡ first_found (mapping_in c) lines
-  pub weights : (c : ℕ) → option_map (λ v. v.items) (get nat_cmp tables.weights c) ≡ first_found (elements_in c) lines
+  pub classes : (c : ℕ) → looked_up tables.classes.places tables.classes.values.items c ≡ first_found (class_in c) lines
+  pub mappings : (c : ℕ) → option_map mapped_to (looked_up tables.mappings.places tables.mappings.values.items c) ≡ first_found (mapping_in c) lines
+  pub weights : (c : ℕ) → option_map (λ v. v.items) (looked_up tables.weights.places tables.weights.values.items c) ≡ first_found (elements_in c) lines
+
+-- the character of a line that gives a class
+abbrev pub class_key : Saying → List ℕ
+class_key (class c k) = c ∷ []
+class_key _ = []
+
+-- the character of a line that gives a mapping
+abbrev pub mapping_key : Saying → List ℕ
+mapping_key (mapping c ds is_excluded) = c ∷ []
+mapping_key _ = []
+
+-- the character of a line that gives weights
+abbrev pub weights_key : Saying → List ℕ
+weights_key (weights c es) = c ∷ []
+weights_key _ = []
+
+-- tables in the making have what is found first in the lines, a value a line
+pub record AreFilledWith (tables : TablesBuilder) (lines : List Saying) : Type 0 where
+  pub classes : (c : ℕ) → placed tables.classes.places tables.classes.values.items c ≡ first_found (class_in c) lines
+  pub mappings : (c : ℕ) → option_map mapped_to (placed tables.mappings.places tables.mappings.values.items c) ≡ first_found (mapping_in c) lines
+  pub weights : (c : ℕ) → option_map (λ v. v.items) (placed tables.weights.places tables.weights.values.items c) ≡ first_found (elements_in c) lines
+  pub class_count : length tables.classes.values.items ≡ length (flat_map class_key lines)
+  pub mapping_count : length tables.mappings.values.items ≡ length (flat_map mapping_key lines)
+  pub weights_count : length tables.weights.values.items ≡ length (flat_map weights_key lines)
+
+-- each of the tables takes one value more
+pub record HaveRoom (tables : TablesBuilder) : Type 0 where
+  pub classes : length tables.classes.values.items < most_values
+  pub mappings : length tables.mappings.values.items < most_values
+  pub weights : length tables.weights.values.items < most_values
 
 -- a list has some of the front of another behind what it had
 abbrev pub AddsFront : List ℕ → List ℕ → List ℕ → Type 0

@@ -1,6 +1,7 @@
 //! Records files: what their lines say, and whether they keep the rules.
 #![tactic(auto)]
 
+mod character_table;
 mod facts;
 mod fields;
 pub mod laws;
@@ -12,3 +13,4 @@ pub mod rule;
 mod rules;
 pub mod sayings;
 mod seen;
+mod tables;

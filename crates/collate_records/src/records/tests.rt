@@ -1,0 +1,193 @@
+use super::*;
+use crate::rule::{RecordFault, Rule};
+use std::process::Abort;
+use std::test::Fail;
+
+/// Letters, three marks of which two have classes by lines, and two letters with a mark.
+const LETTERS: &[u8] = b"class 0302 230
+class 0323 220
+map 00E1 0061 0301
+map 1EA1 0061 0323
+w 0061 ; [2A100000.0500.0.0500.0]
+w 0062 ; [2A200000.0500.0.0500.0]
+w 0063 ; [2A300000.0500.0.0500.0]
+w 0065 ; [2A500000.0500.0.0500.0]
+w 0068 ; [2A800000.0500.0.0500.0]
+w 006C ; [2AC00000.0500.0.0500.0]
+w 006F ; [2AF00000.0500.0.0500.0]
+w 0074 ; [2B400000.0500.0.0500.0]
+w 0301 ; [0.8800.0.0500.0]
+w 0302 ; [0.8A00.0.0500.0]
+w 0323 ; [0.8C00.0.0500.0]
+";
+
+/// Characters on either side of what a fast and a small trie find by one index cell.
+const SPREAD: &[u8] = b"class 0FFF 1
+class 1000 2
+class FFFF 3
+class 10000 4
+class 10FFFF 5
+map 0FFE 0061
+map 1001 0062
+map FFFE 0063
+map 10001 0064 0065
+map 10FFFE 0066
+w 0FFD ; [2A100000.0500.0.0500.0]
+w 1002 ;
+w 10002 ; [2A200000.0500.0.0500.0] [0.8000.0.0500.0]
+w 10FFFD ; [2A300000.0500.0.0500.0]
+";
+
+#[test]
+fn ok_read(rt: HostRuntime) -> Result<(), Fail> {
+    let records = Records::read(rt.alloc(), LETTERS)?;
+    assert_eq!(rt; records.class('\u{302}'), 230);
+    assert_eq!(rt; records.class('\u{323}'), 220);
+    assert_eq!(rt; records.class('a'), 0);
+    Ok(())
+}
+
+#[test]
+fn a_line_more_may_be_at_fault(rt: HostRuntime) -> Result<(), Fail> {
+    let alloc = rt.alloc();
+    let lines: [(&[u8], Rule); 3] = [
+        (b"class 0301 220", Rule::C8),
+        (b"w 0061 ;", Rule::V14),
+        (b"w 0061 0062 ;", Rule::Grammar),
+    ];
+    for (line, rule) in lines {
+        let mut file = Vec::from_slice(alloc, LETTERS)?;
+        file.extend_from_slice(line)?;
+        let fault = RecordFault { line: 16, rule };
+        assert_eq!(rt;
+            Records::read(alloc, &file).err(),
+            Some(RecordsError::Fault(fault))
+        );
+    }
+    Ok(())
+}
+
+#[test]
+fn letters_over_fast_tries(rt: HostRuntime) -> Result<(), Fail> {
+    letters_are_looked_up(rt.alloc(), &rt, TrieType::Fast)
+}
+
+#[test]
+fn letters_over_small_tries(rt: HostRuntime) -> Result<(), Fail> {
+    letters_are_looked_up(rt.alloc(), &rt, TrieType::Small)
+}
+
+fn letters_are_looked_up(alloc: Global, rt: &impl Abort, trie_type: TrieType) -> Result<(), Fail> {
+    let records = Records::read_over(alloc, LETTERS, trie_type)?;
+    classes_are_said_or_built_in(rt, &records);
+    mappings_are_one_step(rt, &records);
+    elements_are_those_of_the_line(rt, &records);
+    full_lists_are_appended(alloc, rt, &records)
+}
+
+fn classes_are_said_or_built_in(rt: &impl Abort, records: &Records) {
+    assert_eq!(rt; records.class('\u{302}'), 230);
+    assert_eq!(rt; records.class('\u{323}'), 220);
+    assert_eq!(rt; records.class('a'), 0);
+    assert_eq!(rt; records.class('\u{301}'), 230);
+    assert_eq!(rt; records.class('\u{3099}'), 8);
+    assert_eq!(rt; records.class('\u{f71}'), 129);
+    assert_eq!(rt; records.class('\u{ac00}'), 0);
+}
+
+fn mappings_are_one_step(rt: &impl Abort, records: &Records) {
+    assert_eq!(rt;
+        records.mapping('\u{e1}'),
+        Decomposed::Expansion('a', '\u{301}')
+    );
+    assert_eq!(rt;
+        records.mapping('\u{ac01}'),
+        Decomposed::Expansion('\u{ac00}', '\u{11a8}')
+    );
+    assert_eq!(rt;
+        records.mapping('\u{340}'),
+        Decomposed::Singleton('\u{300}')
+    );
+    assert_eq!(rt; records.mapping('a'), Decomposed::Default);
+}
+
+fn elements_are_those_of_the_line(rt: &impl Abort, records: &Records) {
+    assert!(rt; records.elements32(0x7a).is_none());
+    let elements = records.elements32(0x301).unwrap_or(&[]);
+    assert_eq!(rt; elements.len(), 1);
+    assert_eq!(rt; elements[0].secondary, 0x8800);
+}
+
+fn full_lists_are_appended(alloc: Global, rt: &impl Abort, records: &Records) -> Result<(), Fail> {
+    let mut list = Vec::new(alloc);
+    for c in [0xe1, 0x1ea1, 0xac00, 0xac01, 0x344, 0x7a] {
+        records.append_full_list(c, &mut list)?;
+    }
+    let expected = [
+        0x61, 0x301, 0x61, 0x323, 0x1100, 0x1161, 0x1100, 0x1161, 0x11a8, 0x308, 0x301, 0x7a,
+    ];
+    assert_eq!(rt; list.as_slice(), expected.as_slice());
+    Ok(())
+}
+
+#[test]
+fn ok_append_full_list(rt: HostRuntime) -> Result<(), Fail> {
+    full_lists_are_appended(rt.alloc(), &rt, &Records::read(rt.alloc(), LETTERS)?)
+}
+
+#[test]
+fn numbers_over_fast_tries(rt: HostRuntime) -> Result<(), Fail> {
+    numbers_are_looked_up(rt.alloc(), &rt, TrieType::Fast)
+}
+
+#[test]
+fn numbers_over_small_tries(rt: HostRuntime) -> Result<(), Fail> {
+    numbers_are_looked_up(rt.alloc(), &rt, TrieType::Small)
+}
+
+fn numbers_are_looked_up(alloc: Global, rt: &impl Abort, trie_type: TrieType) -> Result<(), Fail> {
+    let records = Records::read_over(alloc, SPREAD, trie_type)?;
+    assert_eq!(rt; records.class32(0xfff), 1);
+    assert_eq!(rt; records.class32(0x1000), 2);
+    assert_eq!(rt; records.class32(0xffff), 3);
+    assert_eq!(rt; records.class32(0x1_0000), 4);
+    assert_eq!(rt; records.class32(0x10_ffff), 5);
+    assert_eq!(rt; records.class32(0x11_0000), 0);
+    assert_eq!(rt; records.class32(0xffff_ffff), 0);
+    assert_eq!(rt; records.mapping32(0xffe), Decomposed::Singleton('a'));
+    assert_eq!(rt; records.mapping32(0x1001), Decomposed::Singleton('b'));
+    assert_eq!(rt; records.mapping32(0xfffe), Decomposed::Singleton('c'));
+    assert_eq!(rt;
+        records.mapping32(0x1_0001),
+        Decomposed::Expansion('d', 'e')
+    );
+    assert_eq!(rt; records.mapping32(0x10_fffe), Decomposed::Singleton('f'));
+    assert_eq!(rt; records.mapping32(0x11_0000), Decomposed::Default);
+    assert_eq!(rt; count_at(&records, 0xffd), Some(1));
+    assert_eq!(rt; count_at(&records, 0x1002), Some(0));
+    assert_eq!(rt; count_at(&records, 0x1_0002), Some(2));
+    assert_eq!(rt; count_at(&records, 0x10_fffd), Some(1));
+    assert_eq!(rt; count_at(&records, 0x11_0000), None);
+    Ok(())
+}
+
+fn count_at(records: &Records, c: u32) -> Option<usize> {
+    records.elements32(c).map(|elements| elements.len())
+}
+
+#[test]
+fn as_many_characters_as_a_file_names(rt: HostRuntime) -> Result<(), Fail> {
+    let alloc = rt.alloc();
+    let mut file = String::new(alloc);
+    for i in 0..150u32 {
+        let code = 0xe000 + 0x1000 * i;
+        file.push_str(&format!(in alloc; "w {code:04X} ;\n")?)?;
+    }
+    for trie_type in [TrieType::Fast, TrieType::Small] {
+        let records = Records::read_over(alloc, file.as_bytes(), trie_type)?;
+        assert!(rt; records.elements32(0xe000).is_some());
+        assert!(rt; records.elements32(0xe001).is_none());
+        assert!(rt; records.elements32(0xe000 + 0x1000 * 149).is_some());
+    }
+    Ok(())
+}
