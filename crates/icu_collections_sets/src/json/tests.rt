@@ -4,7 +4,7 @@ ghost use Rattle.icu_collections_sets.specs.declared.json.error.JsonError.TheVar
 use super::*;
 use crate::codepointinvlist::CodePointInversionList;
 use crate::codepointinvliststringlist::CodePointInversionListAndStringList;
-use serde_json::{Value, json};
+use serde_json::Value;
 use std::alloc::{AllocError, Global};
 use std::test::Fail;
 
@@ -70,112 +70,58 @@ fn ok_to_json(rt: HostRuntime) -> Result<(), Fail> {
     Ok(())
 }
 
+/// Whether JSON text is read as this list, or refused with this text.
+fn reads(alloc: Global, text: &str, expected: &str) -> Result<bool, AllocError> {
+    let Ok(value) = Value::from_str(alloc, text) else {
+        return Ok(false);
+    };
+    Ok(read(alloc, &value)?.as_str() == expected)
+}
+
+const LISTS: &[(&str, &str)] = &[
+    (r#"["A-E","K-T"]"#, "[65, 70, 75, 85]"),
+    ("[]", "[]"),
+    (r#"["---","a-a"]"#, "[45, 46, 97, 98]"),
+    (r#"["--A","U"]"#, "[45, 66, 85, 86]"),
+    (r#"["A-E","G"]"#, "[65, 70, 71, 72]"),
+    (r#"["U+D800"]"#, "[55296, 55297]"),
+    (r#"["U+D8AB-U+DFFF"]"#, "[55467, 57344]"),
+    (r#"["U-U+D800"]"#, "[85, 55297]"),
+    ("[\"\u{10000}-\u{10FFFF}\"]", "[65536, 1114112]"),
+];
+
 #[test]
 fn ok_from_json(rt: HostRuntime) -> Result<(), Fail> {
-    let alloc = rt.alloc();
-    assert_eq!(rt;
-        read(alloc, &json!(in alloc; ["A-E", "K-T"])?)?.as_str(),
-        "[65, 70, 75, 85]"
-    );
-    assert_eq!(rt; read(alloc, &json!(in alloc; [])?)?.as_str(), "[]");
-    assert_eq!(rt;
-        read(alloc, &json!(in alloc; ["---", "a-a"])?)?.as_str(),
-        "[45, 46, 97, 98]"
-    );
-    assert_eq!(rt;
-        read(alloc, &json!(in alloc; ["--A", "U"])?)?.as_str(),
-        "[45, 66, 85, 86]"
-    );
-    assert_eq!(rt;
-        read(alloc, &json!(in alloc; ["U+D800"])?)?.as_str(),
-        "[55296, 55297]"
-    );
-    assert_eq!(rt;
-        read(alloc, &json!(in alloc; ["U+D8AB-U+DFFF"])?)?.as_str(),
-        "[55467, 57344]"
-    );
-    assert_eq!(rt;
-        read(alloc, &json!(in alloc; ["U-U+D800"])?)?.as_str(),
-        "[85, 55297]"
-    );
-    assert_eq!(rt;
-        read(alloc, &json!(in alloc; ["\u{10000}-\u{10FFFF}"])?)?.as_str(),
-        "[65536, 1114112]"
-    );
+    for (text, expected) in LISTS {
+        assert!(rt; reads(rt.alloc(), text, expected)?);
+    }
     Ok(())
 }
 
+const REFUSED: &[(&str, &str)] = &[
+    ("{}", "not the shape of a set"),
+    (r#""A""#, "not the shape of a set"),
+    ("[1]", "no range at item 0"),
+    (r#"["A-E","C-F"]"#, "not sorted at item 1"),
+    (r#"["A-E","F"]"#, "not sorted at item 1"),
+    (r#"["A-E","F-C"]"#, "no range at item 1"),
+    (r#"["E-A"]"#, "no range at item 0"),
+    (r#"[""]"#, "no range at item 0"),
+    (r#"["a","bc"]"#, "no range at item 1"),
+    (r#"["a","b-"]"#, "no range at item 1"),
+    (r#"["--"]"#, "no range at item 0"),
+    (r#"["U+D8"]"#, "no range at item 0"),
+    (r#"["U+d800"]"#, "no range at item 0"),
+    (r#"["U+0041"]"#, "no range at item 0"),
+    (r#"["U+E000"]"#, "no range at item 0"),
+    (r#"["A-EF"]"#, "no range at item 0"),
+];
+
 #[test]
 fn refused_values(rt: HostRuntime) -> Result<(), Fail> {
-    let alloc = rt.alloc();
-    assert_eq!(rt;
-        read(alloc, &json!(in alloc; {})?)?.as_str(),
-        "not the shape of a set"
-    );
-    assert_eq!(rt;
-        read(alloc, &json!(in alloc; "A")?)?.as_str(),
-        "not the shape of a set"
-    );
-    assert_eq!(rt;
-        read(alloc, &json!(in alloc; [1])?)?.as_str(),
-        "no range at item 0"
-    );
-    assert_eq!(rt;
-        read(alloc, &json!(in alloc; ["A-E", "C-F"])?)?.as_str(),
-        "not sorted at item 1"
-    );
-    assert_eq!(rt;
-        read(alloc, &json!(in alloc; ["A-E", "F"])?)?.as_str(),
-        "not sorted at item 1"
-    );
-    assert_eq!(rt;
-        read(alloc, &json!(in alloc; ["A-E", "G"])?)?.as_str(),
-        "[65, 70, 71, 72]"
-    );
-    assert_eq!(rt;
-        read(alloc, &json!(in alloc; ["A-E", "F-C"])?)?.as_str(),
-        "no range at item 1"
-    );
-    assert_eq!(rt;
-        read(alloc, &json!(in alloc; ["E-A"])?)?.as_str(),
-        "no range at item 0"
-    );
-    assert_eq!(rt;
-        read(alloc, &json!(in alloc; [""])?)?.as_str(),
-        "no range at item 0"
-    );
-    assert_eq!(rt;
-        read(alloc, &json!(in alloc; ["a", "bc"])?)?.as_str(),
-        "no range at item 1"
-    );
-    assert_eq!(rt;
-        read(alloc, &json!(in alloc; ["a", "b-"])?)?.as_str(),
-        "no range at item 1"
-    );
-    assert_eq!(rt;
-        read(alloc, &json!(in alloc; ["--"])?)?.as_str(),
-        "no range at item 0"
-    );
-    assert_eq!(rt;
-        read(alloc, &json!(in alloc; ["U+D8"])?)?.as_str(),
-        "no range at item 0"
-    );
-    assert_eq!(rt;
-        read(alloc, &json!(in alloc; ["U+d800"])?)?.as_str(),
-        "no range at item 0"
-    );
-    assert_eq!(rt;
-        read(alloc, &json!(in alloc; ["U+0041"])?)?.as_str(),
-        "no range at item 0"
-    );
-    assert_eq!(rt;
-        read(alloc, &json!(in alloc; ["U+E000"])?)?.as_str(),
-        "no range at item 0"
-    );
-    assert_eq!(rt;
-        read(alloc, &json!(in alloc; ["A-EF"])?)?.as_str(),
-        "no range at item 0"
-    );
+    for (text, expected) in REFUSED {
+        assert!(rt; reads(rt.alloc(), text, expected)?);
+    }
     Ok(())
 }
 
@@ -190,62 +136,78 @@ fn read_string_list(alloc: Global, value: &Value) -> Result<String, AllocError> 
     }
 }
 
+/// Whether JSON text is read as this set with strings, or refused with this text.
+fn reads_string_list(alloc: Global, text: &str, expected: &str) -> Result<bool, AllocError> {
+    let Ok(value) = Value::from_str(alloc, text) else {
+        return Ok(false);
+    };
+    Ok(read_string_list(alloc, &value)?.as_str() == expected)
+}
+
+const STRING_LISTS: &[(&str, &str)] = &[
+    (
+        r#"{"strings":["","ab","b2"],"code_points":["A-E","U+D800"]}"#,
+        r#"{"code_points":["A-E","U+D800"],"strings":["","ab","b2"]}"#,
+    ),
+    (
+        r#"{"code_points":[],"strings":[]}"#,
+        r#"{"code_points":[],"strings":[]}"#,
+    ),
+];
+
 #[test]
 fn ok_from_json_string_list(rt: HostRuntime) -> Result<(), Fail> {
-    let alloc = rt.alloc();
-    let value = json!(in alloc; {"strings": ["", "ab", "b2"], "code_points": ["A-E", "U+D800"]})?;
-    assert_eq!(rt;
-        read_string_list(alloc, &value)?.as_str(),
-        r#"{"code_points":["A-E","U+D800"],"strings":["","ab","b2"]}"#
-    );
-    let value = json!(in alloc; {"code_points": [], "strings": []})?;
-    assert_eq!(rt;
-        read_string_list(alloc, &value)?.as_str(),
-        r#"{"code_points":[],"strings":[]}"#
-    );
+    for (text, expected) in STRING_LISTS {
+        assert!(rt; reads_string_list(rt.alloc(), text, expected)?);
+    }
     Ok(())
 }
 
+const REFUSED_STRING_LISTS: &[(&str, &str)] = &[
+    (r#"["A"]"#, "not the shape of a set"),
+    (r#"{"code_points":["A"]}"#, "not the shape of a set"),
+    (
+        r#"{"code_points":["A"],"strings":[],"more":1}"#,
+        "not the shape of a set",
+    ),
+    (
+        r#"{"code_points":["A"],"string":[]}"#,
+        "not the shape of a set",
+    ),
+    (
+        r#"{"code_points":[1],"strings":[1]}"#,
+        "not the shape of a set",
+    ),
+    (
+        r#"{"code_points":"A","strings":["x"]}"#,
+        "not the shape of a set",
+    ),
+    (
+        r#"{"code_points":["B-A"],"strings":["x"]}"#,
+        "no range at item 0",
+    ),
+    (
+        r#"{"code_points":["A","A"],"strings":["x"]}"#,
+        "not sorted at item 1",
+    ),
+    (
+        r#"{"code_points":["A"],"strings":["x"]}"#,
+        "one character alone: x",
+    ),
+    (
+        r#"{"code_points":["A"],"strings":["ab","ab"]}"#,
+        "twice in the list: ab",
+    ),
+    (
+        r#"{"code_points":["A"],"strings":["b2","ab"]}"#,
+        "not sorted: b2, ab",
+    ),
+];
+
 #[test]
 fn refused_string_lists(rt: HostRuntime) -> Result<(), Fail> {
-    let alloc = rt.alloc();
-    let shape = "not the shape of a set";
-    let value = json!(in alloc; ["A"])?;
-    assert_eq!(rt; read_string_list(alloc, &value)?.as_str(), shape);
-    let value = json!(in alloc; {"code_points": ["A"]})?;
-    assert_eq!(rt; read_string_list(alloc, &value)?.as_str(), shape);
-    let value = json!(in alloc; {"code_points": ["A"], "strings": [], "more": 1})?;
-    assert_eq!(rt; read_string_list(alloc, &value)?.as_str(), shape);
-    let value = json!(in alloc; {"code_points": ["A"], "string": []})?;
-    assert_eq!(rt; read_string_list(alloc, &value)?.as_str(), shape);
-    let value = json!(in alloc; {"code_points": [1], "strings": [1]})?;
-    assert_eq!(rt; read_string_list(alloc, &value)?.as_str(), shape);
-    let value = json!(in alloc; {"code_points": "A", "strings": ["x"]})?;
-    assert_eq!(rt; read_string_list(alloc, &value)?.as_str(), shape);
-    let value = json!(in alloc; {"code_points": ["B-A"], "strings": ["x"]})?;
-    assert_eq!(rt;
-        read_string_list(alloc, &value)?.as_str(),
-        "no range at item 0"
-    );
-    let value = json!(in alloc; {"code_points": ["A", "A"], "strings": ["x"]})?;
-    assert_eq!(rt;
-        read_string_list(alloc, &value)?.as_str(),
-        "not sorted at item 1"
-    );
-    let value = json!(in alloc; {"code_points": ["A"], "strings": ["x"]})?;
-    assert_eq!(rt;
-        read_string_list(alloc, &value)?.as_str(),
-        "one character alone: x"
-    );
-    let value = json!(in alloc; {"code_points": ["A"], "strings": ["ab", "ab"]})?;
-    assert_eq!(rt;
-        read_string_list(alloc, &value)?.as_str(),
-        "twice in the list: ab"
-    );
-    let value = json!(in alloc; {"code_points": ["A"], "strings": ["b2", "ab"]})?;
-    assert_eq!(rt;
-        read_string_list(alloc, &value)?.as_str(),
-        "not sorted: b2, ab"
-    );
+    for (text, expected) in REFUSED_STRING_LISTS {
+        assert!(rt; reads_string_list(rt.alloc(), text, expected)?);
+    }
     Ok(())
 }
