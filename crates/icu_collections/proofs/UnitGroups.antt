@@ -1,6 +1,6 @@
 -- Keys cut into groups of those that go on with the same unit.
 use Rattle.std.proofs.Common.{◌≡◌, ℕ, ℤ, ◌+◌, ◌^◌, ◌<◌, ◌≤◌, ⊎_elim, List, [], ◌∷◌, ◌++◌, length, take, drop, Option, Some, None, refl, ap, ◌∙◌, sym, subst, arith, Bor, append_assoc, length-append, add_assoc}
-use Rattle.std.proofs.lemmas.List.{map-append, append-nil, take-append-drop, drop-drop}
+use Rattle.std.proofs.lemmas.List.{map-append, append-nil, take-append-drop, drop-drop, length-drop}
 use Rattle.std.proofs.Math.Seq.{take-length}
 use Rattle.std.specs.Option.{MatchOption, IsSome}
 use Rattle.icu_collections.specs.UnitPairs.{FirstEnds, Below, ComesFirst, AreSorted, HaveUnits, rests, prefixed, spread, AreGroups, parts, StartsOther, StartsWith, GoesOnOther}
@@ -154,3 +154,53 @@ pub first_some : (pairs : List (List ℕ × ℤ)) (o : Option ℕ) → 0 < lengt
 first_some pairs (Some unit) positive longer h = refl
 first_some [] None positive longer h = absurd (omega (arith, positive))
 first_some (pair ∷ pairs) None positive longer h = let l = ap length h in absurd (omega (arith, l, longer.0))
+
+-- where a run ends, no unit is left that all keys go on with
+
+abbrev GoOn : ℕ → List (List ℕ × ℤ) → Type 0
+GoOn unit [] = Unit {0}
+GoOn unit (pair ∷ pairs) = (rest : List ℕ) × (pair.0 ≡ unit ∷ rest) × GoOn unit pairs
+
+prefixed_go_on : (unit : ℕ) (pairs : List (List ℕ × ℤ)) → GoOn unit (prefixed (unit ∷ []) pairs)
+prefixed_go_on unit [] = tt
+prefixed_go_on unit (pair ∷ pairs) = (pair.0, refl, prefixed_go_on unit pairs)
+
+go_on_behind : (unit : ℕ) (xs ys : List (List ℕ × ℤ)) → GoOn unit (xs ++ ys) → GoOn unit ys
+go_on_behind unit [] ys h = h
+go_on_behind unit (x ∷ xs) ys h = go_on_behind unit xs ys h.2
+
+ends_not : (unit : ℕ) (pairs : List (List ℕ × ℤ)) → 0 < length pairs → FirstEnds pairs → GoOn unit pairs → ⊥
+ends_not unit [] positive ends h = omega (arith, positive)
+ends_not unit (pair ∷ pairs) positive ends h = let l = ap length (sym ends ∙ h.1) in omega (arith, l)
+
+other_not : (unit : ℕ) (pairs : List (List ℕ × ℤ)) → 0 < length pairs → StartsOther unit pairs → GoOn unit pairs → ⊥
+other_not unit [] positive other h = omega (arith, positive)
+other_not unit (pair ∷ pairs) positive other h = subst (λ key. GoesOnOther unit key) h.1 other refl
+
+head_of : List ℕ → ℕ
+head_of [] = 0
+head_of (unit ∷ units) = unit
+
+same_first : (unit other : ℕ) (xs ys : List ℕ) → unit ∷ xs ≡ other ∷ ys → unit ≡ other
+unfolding head_of
+same_first unit other xs ys e = ap head_of e
+
+with_same : (unit other : ℕ) (pairs : List (List ℕ × ℤ)) → StartsWith other pairs → GoOn unit pairs → unit ≡ other
+with_same unit other [] starts h = absurd starts
+with_same unit other (pair ∷ pairs) starts h = same_first unit other h.0 starts.0 (sym h.1 ∙ starts.1)
+
+pub run_ends : (depth : ℕ) (pairs : List (Bor (List ℕ) × ℤ)) → 0 < length pairs → FirstEnds (rests depth pairs)
+    → (unit : ℕ) → rests depth pairs ≡ prefixed (unit ∷ []) (rests (depth + 1) pairs) → ⊥
+run_ends depth pairs positive ends unit e =
+    let l = rests_length depth pairs in
+    ends_not unit (rests depth pairs) (omega (arith, l, positive)) ends (subst (λ pairs. GoOn unit pairs) (sym e) (prefixed_go_on unit (rests (depth + 1) pairs)))
+
+pub run_parts : (depth n other : ℕ) (pairs : List (Bor (List ℕ) × ℤ)) → n < length pairs → StartsWith other (rests depth pairs) → StartsOther other (rests depth (drop n pairs))
+    → (unit : ℕ) → rests depth pairs ≡ prefixed (unit ∷ []) (rests (depth + 1) pairs) → ⊥
+run_parts depth n other pairs short starts differs unit e =
+    let all : GoOn unit (rests depth pairs) = subst (λ pairs. GoOn unit pairs) (sym e) (prefixed_go_on unit (rests (depth + 1) pairs)) in
+    let same = with_same unit other (rests depth pairs) starts all in
+    let behind : GoOn unit (rests depth (drop n pairs)) = go_on_behind unit (rests depth (take n pairs)) (rests depth (drop n pairs)) (subst (λ pairs. GoOn unit pairs) (rests_split depth n pairs) all) in
+    let l = rests_length depth (drop n pairs) in
+    let d = length-drop n pairs in
+    other_not other (rests depth (drop n pairs)) (omega (arith, l, d, short)) differs (subst (λ unit. GoOn unit (rests depth (drop n pairs))) same behind)

@@ -36,6 +36,7 @@ pub(super) fn run_length(pairs: &[(&[u16], i32)], depth: usize) -> usize
     requires deep { depth < 2 ^ 32 }
     ensures bound { result ≤ 16 }
     ensures same { (run : List ℕ) × (length run ≡ result) × (rests depth pairs.now ≡ prefixed run (rests (depth + result) pairs.now)) }
+    ensures longest { result < 16 → (unit : ℕ) → rests (depth + result) pairs.now ≡ prefixed (unit ∷ []) (rests (depth + result + 1) pairs.now) → ⊥ }
 {
     for run in 0..16 {
         let Some(unit) = first_unit(pairs, depth + run) else {
@@ -62,7 +63,7 @@ pub(super) fn ended_value(pairs: &[(&[u16], i32)], depth: usize) -> Option<i32>
 
 /// The value of the only key, if it ends at the depth.
 pub(super) fn lone_value(pairs: &[(&[u16], i32)], depth: usize) -> Option<i32>
-    ensures pairs { IfSome result (λ value. rests depth pairs.now ≡ ([], value) ∷ []) }
+    ensures pairs { MatchOption result (length pairs.now ≡ 1 → FirstGoesOn (rests depth pairs.now)) (λ value. rests depth pairs.now ≡ ([], value) ∷ []) }
     ensures value { IfSome result (λ value. cast_signed w32 (cast_unsigned w32 value) ≡ value) }
 {
     match pairs {

@@ -1,7 +1,7 @@
 use Rattle.std.proofs.Common.{◌+◌, [], ◌∷◌, ◌++◌, refl, ap, ◌∙◌, sym, arith, length-append}
 use Rattle.icu_collections.specs.UnitPairs.{rests}
 use Rattle.icu_collections.proofs.UnitPairs.{prefixed_none}
-use Rattle.icu_collections.proofs.UnitGroups.{run_more}
+use Rattle.icu_collections.proofs.UnitGroups.{run_more, run_ends, run_parts}
 use Rattle.icu_collections.proofs.char16trie.writer.groups.run_length.Goals as goal
 
 pub loop-run-init : goal.loop-run-init
@@ -17,3 +17,10 @@ loop-run-preserved c =
       run_more c.args.depth c.loop-run.run c.group_length.result c.in-Some.unit c.args.pairs.now (omega (arith, c.group_length.ensures.bound, c.if-group_length-pairs.false))
           c.group_length.ensures.same units c.loop-run.invariant.2,
     )
+
+pub returns-in_default-clause-longest : goal.returns-in_default-clause-longest
+returns-in_default-clause-longest c = λ less. run_ends (c.args.depth + c.loop-run.run) c.args.pairs.now c.requires.some c.in_default.ensures
+
+pub returns-then-group_length-pairs-clause-longest : goal.returns-then-group_length-pairs-clause-longest
+returns-then-group_length-pairs-clause-longest c = λ less.
+    run_parts (c.args.depth + c.loop-run.run) c.group_length.result c.in-Some.unit c.args.pairs.now c.if-group_length-pairs.true c.in-Some.ensures c.group_length.ensures.other
