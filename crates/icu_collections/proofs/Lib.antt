@@ -31,3 +31,4 @@ mod UnitRead
 mod UnitListings
 pub mod RangeWalks
 pub mod PlaneLemmas
+mod UnitSame

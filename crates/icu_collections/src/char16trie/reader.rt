@@ -54,9 +54,11 @@ impl From<AllocError> for ReadUnitsError {
 }
 
 /// The keys and values that the units of a unit trie spell, sorted by the units of the keys. No units
-/// give the empty list. Refused are units that break the grammar, units whose first node has a value,
-/// and units that spell a key of more than `limit` units. Nodes may be shared by jumps, so the list
-/// may be far longer than the units.
+/// give the empty list. `BadUnits` where the units break the grammar, where the first node has a
+/// value, and where a key has more than `limit` units; the place is that of the value, of the unit
+/// that does not rise in its branch or that makes a key too long, or else the end of the units.
+/// `Memory` where memory is refused: nodes may be shared by jumps, so the list may be far longer than
+/// the units.
 pub fn read_units(
     alloc: Global,
     units: &PackedVec<'_, u16>,

@@ -20,40 +20,47 @@ fn stops_at(alloc: Global, units: &[u16], limit: usize, place: usize) -> bool {
     }
 }
 
-#[test]
-fn ok_read_units(rt: HostRuntime) -> Result<(), Fail> {
-    let list = read(rt.alloc(), &[0x30, 0x61, 0xb0, 0x62, 0x8002], 2)?;
-    assert_eq!(rt; list.len(), 2);
-    assert_eq!(rt; list[0].0.as_slice(), &[0x61u16][..]);
-    assert_eq!(rt; list[0].1, 1);
-    assert_eq!(rt; list[1].0.as_slice(), &[0x61u16, 0x62][..]);
-    assert_eq!(rt; list[1].1, 2);
-    let single = read(rt.alloc(), &[0x30, 0x61, 0x8005], 1)?;
-    assert_eq!(rt; single.len(), 1);
-    assert_eq!(rt; single[0].1, 5);
-    assert_eq!(rt; read(rt.alloc(), &[], 0)?.len(), 0);
-    Ok(())
+/// Whether units are read as these keys and values.
+fn lists(alloc: Global, units: &[u16], limit: usize, expected: &[(&[u16], i32)]) -> bool {
+    let Ok(list) = read(alloc, units, limit) else {
+        return false;
+    };
+    for (entry, wanted) in list.iter().zip(expected) {
+        if entry.0.as_slice() != wanted.0 || entry.1 != wanted.1 {
+            return false;
+        }
+    }
+    list.len() == expected.len()
 }
 
 #[test]
-fn a_branch_in_halves(rt: HostRuntime) -> Result<(), Fail> {
+fn ok_read_units(rt: HostRuntime) {
+    let alloc = rt.alloc();
+    let pairs = [(&[0x61u16][..], 1), (&[0x61, 0x62][..], 2)];
+    assert!(rt; lists(alloc, &[0x30, 0x61, 0xb0, 0x62, 0x8002], 2, &pairs));
+    assert!(rt; lists(alloc, &[0x30, 0x61, 0x8005], 1, &[(&[0x61], 5)]));
+    assert!(rt; lists(alloc, &[], 0, &[]));
+}
+
+#[test]
+fn a_branch_in_halves(rt: HostRuntime) {
     let units = [
         5u16, 100, 6, 100, 0x8004, 101, 0x8005, 102, 0x8006, 97, 0x8001, 98, 0x8002, 99, 0xffff,
         0xffff, 0xffff,
     ];
-    let list = read(rt.alloc(), &units, 1)?;
-    let mut sum = 0;
-    for (key, value) in &list {
-        assert_eq!(rt; key.len(), 1);
-        sum += i64::from(*value);
-    }
-    assert_eq!(rt; list.len(), 6);
-    assert_eq!(rt; sum, 17);
-    Ok(())
+    let pairs = [
+        (&[97u16][..], 1),
+        (&[98][..], 2),
+        (&[99][..], -1),
+        (&[100][..], 4),
+        (&[101][..], 5),
+        (&[102][..], 6),
+    ];
+    assert!(rt; lists(rt.alloc(), &units, 1, &pairs));
 }
 
 #[test]
-fn units_that_are_refused(rt: HostRuntime) -> Result<(), Fail> {
+fn units_that_are_refused(rt: HostRuntime) {
     let alloc = rt.alloc();
     // an end inside
     assert!(rt; stops_at(alloc, &[0x30, 0x61], 9, 2));
@@ -81,7 +88,6 @@ fn units_that_are_refused(rt: HostRuntime) -> Result<(), Fail> {
         5u16, 101, 6, 100, 0x8004, 101, 0x8005, 102, 0x8006, 97, 0x8001, 98, 0x8002, 99, 0x8003,
     ];
     assert!(rt; stops_at(alloc, &second, 9, 3));
-    Ok(())
 }
 
 #[test]
