@@ -32,3 +32,4 @@ mod UnitListings
 pub mod RangeWalks
 pub mod PlaneLemmas
 mod UnitSame
+pub mod UnitRoundTrips

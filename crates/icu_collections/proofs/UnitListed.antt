@@ -21,7 +21,8 @@ use Rattle.icu_collections.specs.declared.char16trie.node.State.{State}
 use Rattle.icu_collections.specs.declared.char16trie.node.State.TheVariants as state
 use Rattle.icu_collections.proofs.UnitBranches.{some-same}
 use Rattle.icu_collections.proofs.UnitGrammars.{fewer, last_target, entry_found, leads_listed, leads_half}
-use Rattle.icu_collections.proofs.UnitListing.{Pair, behind_unit, with_value, listing, Has, has-left, has-right, has-behind, SpelledIn}
+use Rattle.icu_collections.specs.UnitPairs.{Has}
+use Rattle.icu_collections.proofs.UnitListing.{Pair, behind_unit, with_value, listing, has-left, has-right, has-behind, SpelledIn}
 
 -- a node has one value, and one thing follows it
 pub node_unique : (units : List ℕ) {place : ℕ} {value other : Option ℕ} {next following : Option State} → IsNode units place value next → IsNode units place other following

@@ -4,6 +4,7 @@ use Rattle.std.specs.Int.{cast_signed, w32}
 use Rattle.icu_collections.specs.UnitCells.{delta, landing}
 use Rattle.icu_collections.specs.UnitSteps.{entry_at, entry_target}
 use Rattle.icu_collections.specs.UnitMaps.{at_node, behind, Spells, ends, goes_on, run_on, run_out, branch_value, branch_node, Leads, listed, lower, upper, Lists, last, here, later, IsNode, final, valued, bare}
+use Rattle.icu_collections.specs.UnitPairs.{Has}
 use Rattle.icu_collections.specs.UnitGrammar.{Part, spot, within, IsSound, sound_end, sound_node, sound_run, sound_run_end, sound_branch, sound_last, sound_value, sound_jump, sound_halves}
 use Rattle.icu_collections.specs.declared.char16trie.cells.Number.{Number}
 use Rattle.icu_collections.specs.declared.char16trie.node.Branch.{Branch}
@@ -40,11 +41,6 @@ listing units (sound_last branch low high unit one e above below rest) = behind_
 listing units (sound_value branch low high value entry more few e to above below rest) = (entry.unit ∷ [], cast_signed w32 value) ∷ listing units rest
 listing units (sound_jump branch low high place entry more few e to above below node rest) = behind_unit entry.unit (listing units node) ++ listing units rest
 listing units (sound_halves branch low high middle place jump many e d lands above below first second) = listing units first ++ listing units second
-
--- the key has the value among the pairs
-abbrev pub Has : List Pair → List ℕ → ℤ → Type 0
-Has [] key number = ⊥
-Has (pair ∷ rest) key number = ((pair.0 ≡ key) × (pair.1 ≡ number)) ⊎ Has rest key number
 
 pub has-left : (xs ys : List Pair) (key : List ℕ) (number : ℤ) → Has xs key number → Has (xs ++ ys) key number
 has-left [] ys key number h = absurd h

@@ -18,7 +18,8 @@ use Rattle.icu_collections.proofs.UnitLemmas.{if_ltb}
 use Rattle.icu_collections.proofs.UnitBranches.{some-same}
 use Rattle.icu_collections.proofs.UnitAnswers.{stopped_none}
 use Rattle.icu_collections.proofs.UnitGrammars.{leads_on}
-use Rattle.icu_collections.proofs.UnitListing.{Pair, listing, Has, listed_spelled}
+use Rattle.icu_collections.specs.UnitPairs.{Has}
+use Rattle.icu_collections.proofs.UnitListing.{Pair, listing, listed_spelled}
 use Rattle.icu_collections.proofs.UnitListed.{node_unique, lists_all, rising, rising_sorted}
 use Rattle.icu_collections.proofs.UnitReadings.{under, under-nil, reads-sound}
 use Rattle.icu_collections.proofs.UnitRead.{sound-reads, reads_stops, reads_short, Short, short-has, fits-all, has_contains, contains_has, root-trie, trie-root}

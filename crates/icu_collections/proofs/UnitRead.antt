@@ -23,7 +23,8 @@ use Rattle.icu_collections.specs.declared.char16trie.reader.part.Step.{Step}
 use Rattle.icu_collections.proofs.UnitLemmas.{if_leb, if_not_leb}
 use Rattle.icu_collections.proofs.UnitBranches.{some-same}
 use Rattle.icu_collections.proofs.UnitStands.{behind_node, node_stands, run_stands, last_stands, entry_stands, halves_stand, step_of}
-use Rattle.icu_collections.proofs.UnitListing.{Pair, behind_unit, with_value, listing, Has, listed_spelled}
+use Rattle.icu_collections.specs.UnitPairs.{Has}
+use Rattle.icu_collections.proofs.UnitListing.{Pair, behind_unit, with_value, listing, listed_spelled}
 use Rattle.icu_collections.proofs.UnitListed.{lists_all, rising, rising_sorted}
 use Rattle.icu_collections.proofs.UnitReadings.{under, under-append, under-unit, under-nil, reads-sound}
 

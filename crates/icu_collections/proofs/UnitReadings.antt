@@ -28,7 +28,8 @@ use Rattle.icu_collections.proofs.UnitLemmas.{if_leb, if_not_leb}
 use Rattle.icu_collections.proofs.UnitBranches.{some-same}
 use Rattle.icu_collections.proofs.UnitStands.{behind_node, Stands, node_stands, run_stands, last_stands, entry_stands, halves_stand, stands, step_of}
 use Rattle.icu_collections.proofs.UnitAhead.{IsBehind, opened-behind}
-use Rattle.icu_collections.proofs.UnitListing.{Pair, behind_unit, with_value, listing, Has, listed_spelled}
+use Rattle.icu_collections.specs.UnitPairs.{Has}
+use Rattle.icu_collections.proofs.UnitListing.{Pair, behind_unit, with_value, listing, listed_spelled}
 use Rattle.icu_collections.proofs.UnitListed.{lists_all, rising, rising_sorted}
 
 -- the rule that a part is about

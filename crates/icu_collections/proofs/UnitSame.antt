@@ -5,7 +5,8 @@ use Rattle.std.specs.Cmp.Lexicographic.{slice_cmp}
 use Rattle.std.specs.List.{AllByRecursion, Contains}
 use Rattle.std.specs.List.Sorted.{IsStrictlySortedBy}
 use Rattle.std.specs.Ordering.{nat_cmp}
-use Rattle.icu_collections.proofs.UnitListing.{Pair, Has}
+use Rattle.icu_collections.specs.UnitPairs.{Has}
+use Rattle.icu_collections.proofs.UnitListing.{Pair}
 use Rattle.icu_collections.proofs.UnitRead.{has_contains, contains_has}
 
 abbrev keys : List Pair → List (List ℕ)

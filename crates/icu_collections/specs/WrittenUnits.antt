@@ -32,6 +32,11 @@ NoneBefore pairs place = (other : ℕ) → other < place → IsEmptyKey pairs ot
 abbrev pub AreWritten : List (List ℕ × ℤ) → Type 0
 AreWritten pairs = NoneBefore pairs (length pairs) × (total pairs ≤ 268_435_456)
 
+-- no key has more than so many units
+abbrev pub AreShort : ℕ → List (List ℕ × ℤ) → Type 0
+AreShort limit [] = Unit {0}
+AreShort limit (pair ∷ pairs) = (length pair.0 ≤ limit) × AreShort limit pairs
+
 -- why the keys are refused
 abbrev pub Explains : List (List ℕ × ℤ) → WriteUnitsError → Type 0
 Explains pairs (EmptyKey place) = NoneBefore pairs place × IsEmptyKey pairs place

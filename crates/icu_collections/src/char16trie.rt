@@ -9,6 +9,7 @@ ghost use Rattle.icu_collections.specs.UnitSteps.{start, step};
 use icu_collections_sets::packed_vector::PackedVec;
 
 mod cells;
+pub mod laws;
 mod node;
 mod reader;
 mod writer;
