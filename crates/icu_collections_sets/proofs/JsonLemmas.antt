@@ -1,12 +1,11 @@
 -- Facts on the texts of an array that spell the ranges of a set.
-use Rattle.std.proofs.Common.{◌≡◌, ℕ, zero, suc, ◌+◌, ◌-◌, ◌*◌, ◌/◌, ◌%◌, ◌<◌, ◌≤◌, Bool, true, false, List, [], ◌∷◌, ◌++◌, length, get_or, take, map, Option, None, Some, refl, sym, ap, ◌∙◌, subst, arith, inl, inr}
-use Rattle.std.proofs.lemmas.Bool.{cases_lt}
+use Rattle.std.proofs.Common.{◌≡◌, ℕ, zero, suc, ◌+◌, ◌-◌, ◌%◌, ◌<◌, ◌≤◌, List, [], ◌∷◌, ◌++◌, length, get_or, take, map, None, Some, refl, sym, ap, ◌∙◌, subst, arith}
 use Rattle.std.proofs.lemmas.List.{get_or-map, take_more, length-append, take_all}
-use Rattle.serde_json.specs.Data.{Data, null, string, Items, no_items, item as put_item}
-use Rattle.serde_json.specs.Find.{as_str, as_array}
+use Rattle.serde_json.specs.Data.{Data, null, string, no_items, item as put_item}
+use Rattle.serde_json.specs.Find.{as_array}
 use Rattle.serde_json.specs.View.{items_of, view}
 use Rattle.serde_json.specs.declared.value.Value.{Value}
-use Rattle.icu_collections_sets.specs.CodePoints.{Rises, IsInversionList, holds, ranges_of, in_ranges}
+use Rattle.icu_collections_sets.specs.CodePoints.{Rises, IsInversionList, ranges_of, in_ranges}
 use Rattle.icu_collections_sets.specs.Json.{IsItem, SpellRanges, SpellSet, IsJson, item_at, IsItemFault, IsOrderFault, json_of}
 use Rattle.icu_collections_sets.specs.JsonFaults.{IsRefusedItems, IsRefusedJson}
 use Rattle.icu_collections_sets.specs.Spelling.{Spells, range_text}

@@ -1,10 +1,10 @@
 -- Facts on the JSON objects that stand for a set with strings.
-use Rattle.std.proofs.Common.{◌≡◌, ℕ, suc, ◌+◌, ◌-◌, ◌<◌, ◌≤◌, List, [], ◌∷◌, ◌++◌, length, get_or, take, map, Option, None, Some, String, Global, string_bytes, codes, nat_cmp, Less, Equal, Greater, refl, sym, ap, ◌∙◌, subst, arith}
+use Rattle.std.proofs.Common.{◌≡◌, ℕ, ◌+◌, ◌-◌, ◌<◌, List, [], ◌∷◌, ◌++◌, length, get_or, take, map, None, Some, String, Global, string_bytes, codes, nat_cmp, Less, Equal, Greater, refl, sym, ap, ◌∙◌, subst, arith}
 use Rattle.std.proofs.lemmas.Cmp.{nat_list_cmp_total, tied_itself}
 use Rattle.std.proofs.lemmas.List.{get_or-map, length-map, map-append, take_more}
 use Rattle.std.specs.Cmp.Lexicographic.{slice_cmp}
 use Rattle.serde_json.proofs.Views.{Entry, members_len-members_view}
-use Rattle.serde_json.specs.Data.{Data, null, string, boolean, number, array, object, Members}
+use Rattle.serde_json.specs.Data.{Data, null, string, boolean, number, array, object}
 use Rattle.serde_json.specs.Events.{members_len}
 use Rattle.serde_json.specs.Find.{as_str, as_array, as_object, get}
 use Rattle.serde_json.specs.View.{view, items_of, members_view}
@@ -19,7 +19,7 @@ use Rattle.icu_collections_sets.specs.declared.codepointinvliststringlist.Invali
 use Rattle.icu_collections_sets.specs.declared.codepointinvliststringlist.InvalidStringList.TheVariants.{InvalidStringLength, StringListNotUnique, StringListNotSorted}
 use Rattle.icu_collections_sets.specs.declared.json.error.JsonError.{JsonError}
 use Rattle.icu_collections_sets.specs.declared.json.error.JsonError.TheVariants.{JsonShape, JsonItem, JsonOrder, Strings, Memory}
-use Rattle.icu_collections_sets.proofs.JsonLemmas.{some_same, items_of-same, same_items, item_at-map, no_item_fault, no_order_fault, one_list, one_set, IsJson-json_of}
+use Rattle.icu_collections_sets.proofs.JsonLemmas.{some_same, same_items, item_at-map, no_item_fault, no_order_fault, one_list, one_set, IsJson-json_of}
 use Rattle.icu_collections_sets.proofs.StringListLemmas.{text_at-map}
 
 -- ---- members and texts

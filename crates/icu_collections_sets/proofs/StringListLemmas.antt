@@ -1,5 +1,5 @@
 -- Facts on texts, and on strings that are sorted by bytes.
-use Rattle.std.proofs.Common.{◌≡◌, ℕ, zero, suc, ◌+◌, ◌-◌, ◌<◌, List, [], ◌∷◌, ◌++◌, length, get_or, map, Ordering, Less, Equal, Greater, Result, Ok, Err, None, Some, String, Global, string_bytes, nat_cmp, bytes_eq, true, false, IsTrue, is_ok, ◌↔◌, refl, sym, ap, ◌∙◌, subst, arith, inl, inr}
+use Rattle.std.proofs.Common.{◌≡◌, ℕ, ◌+◌, ◌-◌, ◌<◌, List, [], ◌∷◌, ◌++◌, length, get_or, map, Ordering, Less, Equal, Greater, Result, Ok, Err, None, Some, String, Global, string_bytes, nat_cmp, false, IsTrue, is_ok, ◌↔◌, refl, sym, ap, ◌∙◌, subst, arith, inl, inr}
 use Rattle.std.proofs.lemmas.Bool.{cases_lt, false≢true}
 use Rattle.std.proofs.lemmas.Cmp.{nat_list_cmp_total, tied_itself}
 use Rattle.std.proofs.lemmas.List.{get_or-map, length-map}

@@ -1,5 +1,5 @@
 -- Sets of code points as JSON: an array of texts that spell the ranges of the set.
-use Rattle.std.specs.Prelude.{◌≡◌, ◌≢◌, ℕ, ◌-◌, ◌<◌, ◌≤◌, List, [], ◌∷◌, length, map, take, slice_index, slice_index_or, Option, Some, None}
+use Rattle.std.specs.Prelude.{◌≡◌, ◌≢◌, ℕ, ◌-◌, ◌<◌, ◌≤◌, List, [], ◌∷◌, length, map, take, slice_index, slice_index_or, Some}
 use Rattle.serde_json.specs.Data.{Data, null, string, array}
 use Rattle.serde_json.specs.Find.{as_str, as_array}
 use Rattle.serde_json.specs.View.{items_of}

@@ -1,4 +1,4 @@
-use Rattle.std.proofs.Common.{◌↔◌, String, Global, Contains, IsTrue, is_ok, map, string_bytes, nat_cmp, rules}
+use Rattle.std.proofs.Common.{String, Global, map, string_bytes, nat_cmp, rules}
 use Rattle.std.proofs.lemmas.Fn.{always_returns_same}
 use Rattle.std.specs.Cmp.Lexicographic.{slice_cmp}
 use Rattle.icu_collections_sets.specs.StringList.{AreStrings}
