@@ -1,6 +1,6 @@
 -- Keys cut into groups of those that go on with the same unit.
-use Rattle.std.proofs.Common.{◌≡◌, ℕ, ℤ, ◌+◌, ◌^◌, ◌<◌, ◌≤◌, ⊎_elim, List, [], ◌∷◌, ◌++◌, length, take, drop, Option, Some, None, refl, ap, ◌∙◌, sym, subst, arith, Bor, append_assoc, length-append, add_assoc}
-use Rattle.std.proofs.lemmas.List.{map-append, append-nil, take-append-drop, drop-drop, length-drop}
+use Rattle.std.proofs.Common.{◌≡◌, ℕ, ℤ, ◌+◌, ◌^◌, ◌<◌, ◌≤◌, ⊎_elim, List, [], ◌∷◌, ◌++◌, length, take, drop, Option, Some, None, refl, ap, ◌∙◌, sym, subst, arith, Bor, append_assoc, add_assoc}
+use Rattle.std.proofs.lemmas.List.{map-append, append-nil, drop-drop, length-drop}
 use Rattle.std.proofs.Math.Seq.{take-length}
 use Rattle.std.specs.Option.{MatchOption, IsSome}
 use Rattle.icu_collections.specs.UnitPairs.{FirstEnds, Below, ComesFirst, AreSorted, HaveUnits, rests, prefixed, spread, AreGroups, parts, StartsOther, StartsWith, GoesOnOther}

@@ -1,6 +1,6 @@
 -- Units that are written in front of others lay what they are written for.
 use Rattle.std.proofs.Common.{◌≡◌, ℕ, ℤ, ◌+◌, ◌-◌, ◌*◌, ◌/◌, ◌<◌, ◌≤◌, List, [], ◌∷◌, ◌++◌, length, take, drop, refl, ap, ◌∙◌, sym, subst, arith, Bor, Result, Ok, Err, slice_range, slice_index_or, length-append}
-use Rattle.std.proofs.lemmas.List.{map-append, length-map, length-drop, take-append-drop}
+use Rattle.std.proofs.lemmas.List.{map-append, length-map, take-append-drop}
 use Rattle.std.proofs.Math.Seq.{take-append_seam, drop-append_seam}
 use Rattle.std.proofs.lemmas.Option.{slice_get_within}
 use Rattle.std.specs.Result.{OnOk}
