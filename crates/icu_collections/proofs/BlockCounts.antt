@@ -1,25 +1,24 @@
 -- How many different blocks there are.
-use Rattle.std.proofs.Common.{◌≡◌, ℕ, suc, ◌+◌, ◌-◌, ◌*◌, ◌/◌, ◌<◌, ◌≤◌, ◌≢◌, ◌==◌, ◌||◌, Bool, true, false, cond, List, [], ◌∷◌, length, map, get_or, take, drop, refl, sym, ap, ◌∙◌, subst, arith, ⊎_elim}
-use Rattle.std.specs.Prelude.{slice_index, slice_index_or, nat_eq}
+use Rattle.std.proofs.Common.{◌≡◌, ℕ, ◌+◌, ◌-◌, ◌*◌, ◌/◌, ◌<◌, ◌≤◌, ◌||◌, Bool, true, false, cond, List, [], ◌∷◌, length, map, take, drop, refl, sym, ap, ◌∙◌, subst, arith}
+use Rattle.std.specs.Prelude.{slice_index, nat_eq}
 use Rattle.std.specs.List.{IsDistinct, Contains, range_with_len}
 use Rattle.std.specs.Set.{unique_keys, distinct_count, is_member}
 use Rattle.std.specs.Cmp.Lexicographic.{pointwise}
-use Rattle.std.proofs.lemmas.Bool.{false_from_ne_true, both_ways, ne_eqb, cases_eq}
+use Rattle.std.proofs.lemmas.Bool.{false_from_ne_true, both_ways}
 use Rattle.std.proofs.lemmas.Cmp.{nat_list_eq_equiv}
-use Rattle.std.proofs.lemmas.List.{get_or-take, get_or-drop, get_or-map, length-map, length-take, length-drop, length-take-le, drop-take, take-take, drop-drop, take-map, drop-map, ext_get_or}
+use Rattle.std.proofs.lemmas.List.{get_or-map, length-map, length-drop, length-take-le, drop-take, take-take, drop-drop, take-map, drop-map}
 use Rattle.std.proofs.lemmas.List.Folds.{list_any_at}
 use Rattle.std.proofs.lemmas.List.Elements.{recursion_from_All}
 use Rattle.std.proofs.lemmas.List.FromFn.{length-map-range_with_len, get_or-map-range_with_len}
 use Rattle.std.proofs.lemmas.Map.Made.{length-le_from_is_member, is_member-Decides, distinct_count-le}
 use Rattle.std.proofs.lemmas.Map.Steps.{list_any_congr}
-use Rattle.std.proofs.lemmas.Nat.{mul-le, div-mul-add, div-add-mod'}
+use Rattle.std.proofs.lemmas.Nat.{mul-le, div-add-mod'}
 use Rattle.std.proofs.lemmas.Slice.Eq.{bytes_eq-Decides}
 use Rattle.icu_collections.specs.Blocks.{block, blocks, different_blocks, AreKept, HasMore}
 use Rattle.icu_collections.specs.Places.{fast_limit}
 use Rattle.icu_collections.specs.Layouts.{IsLayout}
 use Rattle.icu_collections.specs.declared.codepointtrie.builder.layout.Layout.{Layout}
 use Rattle.icu_collections.proofs.BuiltTries.{type_facts}
-use Rattle.icu_collections.specs.CodePointMaps.{CodePointMap, mapped, IsWritten}
 
 -- whether two blocks have the same numbers
 abbrev pub Same : List ℕ → List ℕ → Bool
@@ -135,22 +134,6 @@ more_different number width first end limit values all (kept, are, more) =
     let count : length kept ≤ distinct_count Same (blocks width (map number values)) =
     kept_count width first end (map number values) (map number values) kept are (λ b from inside. (b, rw (length-map values number) (all b inside), refl)) in
     omega arith
-
--- two blocks are alike where their values have the same numbers
-pub blocks_alike : (width : ℕ) (xs ys : List ℕ) (i j : ℕ) → i * width + width ≤ length xs → j * width + width ≤ length ys
-    → ((r : ℕ) → r < width → slice_index xs (i * width + r) ≡ slice_index ys (j * width + r)) → block width xs i ≡ block width ys j
-blocks_alike width xs ys i j one other same =
-    ext_get_or 0 (block width xs i) (block width ys j) (block_length xs i one ∙ sym (block_length ys j other))
-    (λ r inside. let below : r < width = omega (arith, block_length xs i one) in block_at xs i r below ∙ same r below ∙ sym (block_at ys j r below)) where
-      block_length : (zs : List ℕ) (k : ℕ) → k * width + width ≤ length zs → length (block width zs k) ≡ width
-      block_length zs k whole = omega (arith, length-take (k * width + width - k * width) (drop (k * width) zs), length-drop (k * width) zs)
-
-      block_at : (zs : List ℕ) (k r : ℕ) → r < width → get_or (block width zs k) r 0 ≡ slice_index zs (k * width + r)
-      block_at zs k r below = get_or-take (k * width + width - k * width) (drop (k * width) zs) r 0 (omega arith) ∙ get_or-drop (k * width) zs r 0
-
--- the number at a place
-pub number_at : {T : Type 0} (number : T → ℕ) (values : List T) (c : ℕ) (default : T) → c < length values → slice_index (map number values) c ≡ number (slice_index_or values c default)
-number_at number values c default inside = get_or-map number values c default 0 inside
 
 -- where each block is one of so many
 pub different_blocks-few : {T : Type 0} (number : T → ℕ) (width n : ℕ) (values : List T) (some : ℕ → List ℕ)

@@ -20,7 +20,7 @@ length-block width xs i whole =
     length-take-le (i * width + width - i * width) (drop (i * width) xs) (omega (arith, length-drop (i * width) xs)) ∙ one
 
 -- blocks that have the same numbers are the same
-same_block : (width : ℕ) (xs ys : List ℕ) (i j : ℕ) → i * width + width ≤ length xs → j * width + width ≤ length ys
+pub same_block : (width : ℕ) (xs ys : List ℕ) (i j : ℕ) → i * width + width ≤ length xs → j * width + width ≤ length ys
     → ((k : ℕ) → k < width → get_or xs (i * width + k) 0 ≡ get_or ys (j * width + k) 0) → block width xs i ≡ block width ys j
 same_block width xs ys i j whole other same =
     let count = length-block width xs i whole in

@@ -1,10 +1,15 @@
 -- The planes are few different blocks.
-use Rattle.std.proofs.Common.{◌≡◌, ℕ, ◌+◌, ◌*◌, ◌/◌, ◌<◌, ◌≤◌, length, map, sym, ap, ◌∙◌, arith}
-use Rattle.std.specs.Prelude.{slice_index}
-use Rattle.std.proofs.lemmas.List.{length-map}
+use Rattle.std.proofs.Common.{◌≡◌, ℕ, ◌+◌, ◌*◌, ◌/◌, ◌<◌, ◌≤◌, List, length, map, sym, ap, ◌∙◌, arith}
+use Rattle.std.specs.Prelude.{slice_index, slice_index_or}
+use Rattle.std.proofs.lemmas.List.{length-map, get_or-map}
 use Rattle.icu_collections.specs.Blocks.{block, different_blocks}
 use Rattle.icu_collections.specs.CodePointMaps.{CodePointMap, mapped}
-use Rattle.icu_collections.proofs.BlockCounts.{different_blocks-few, blocks_alike, number_at}
+use Rattle.icu_collections.proofs.BlockCounts.{different_blocks-few}
+use Rattle.icu_collections.proofs.BlockLaws.{same_block}
+
+-- the number at a place
+number_at : {T : Type 0} (number : T → ℕ) (values : List T) (c : ℕ) (default : T) → c < length values → slice_index (map number values) c ≡ number (slice_index_or values c default)
+number_at number values c default inside = get_or-map number values c default 0 inside
 
 -- a block that lies in one plane is like the first of that plane
 in_plane : (m : CodePointMap ℕ) (number : ℕ → ℕ) (width first start : ℕ) → length m.values ≡ 0x11_0000
@@ -17,7 +22,7 @@ in_plane m number width first start all planes plane few begins from to =
     λ c low high.
     let here : c / 0x1_0000 ≡ plane = omega arith in
     number_at number m.values c m.default (omega arith) ∙ ap number (planes c (omega arith) ∙ here) in
-    blocks_alike width (map number m.values) (map number m.values) first start (omega arith) (omega arith)
+    same_block width (map number m.values) (map number m.values) first start (omega arith) (omega arith)
     (λ r below. at (first * width + r) (omega arith) (omega arith) ∙ sym (at (start * width + r) (omega arith) (omega arith)))
 
 -- so there are as many blocks of 512 as planes

@@ -4,6 +4,8 @@ ghost use Rattle.icu_collections.specs.Blocks.{block, AreKept, ArePlaces, IsKept
 ghost use Rattle.icu_collections.specs.declared.codepointtrie.builder.compaction.CodePointTrieBuildError.TheVariants.{TooLarge, Memory};
 
 use std::alloc::{AllocError, Global};
+use std::error::Error;
+use std::fmt;
 
 /// Why no trie is built.
 #[derive(Clone, Copy, Debug, PartialEq, Eq)]
@@ -14,6 +16,17 @@ pub enum CodePointTrieBuildError {
     /// Memory was refused.
     Memory,
 }
+
+impl fmt::Display for CodePointTrieBuildError {
+    fn fmt<W: fmt::Write>(&self, f: &mut fmt::Formatter<W>) -> fmt::Result {
+        match self {
+            CodePointTrieBuildError::TooLarge => f.write_str("too many different blocks"),
+            CodePointTrieBuildError::Memory => f.write_str("out of memory"),
+        }
+    }
+}
+
+impl Error for CodePointTrieBuildError {}
 
 impl From<AllocError> for CodePointTrieBuildError {
     ghost use Rattle.std.specs.Prelude.{◌≡◌};
