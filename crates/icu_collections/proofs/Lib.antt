@@ -32,4 +32,4 @@ mod UnitListings
 pub mod RangeWalks
 pub mod PlaneLemmas
 mod UnitSame
-pub mod UnitRoundTrips
+mod UnitRoundTrips

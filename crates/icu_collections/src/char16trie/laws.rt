@@ -7,7 +7,6 @@ ghost use Rattle.icu_collections.specs.WrittenUnits.{AreShort, AreWritten};
 
 /// Units that spell just the pairs that were written, as those of `write_units` do, are read as
 /// these pairs and no others, in their order.
-#[tactic(auto, using(crate::proofs::UnitRoundTrips::read_back))]
 pub fn written_pairs_are_read()
     ensures { (pairs list : List (List ℕ × ℤ)) (units : List ℕ) (limit : ℕ)
         → ((key : List ℕ) (number : ℤ) → Spells units (at_node 0) key number ↔ Has pairs key number)
@@ -16,7 +15,6 @@ pub fn written_pairs_are_read()
 
 /// Such units are not refused by `read_units` for a key that is too long where no key that was
 /// written is.
-#[tactic(auto, using(crate::proofs::UnitRoundTrips::within_limit))]
 pub fn written_keys_are_within_the_limit()
     ensures { (pairs : List (List ℕ × ℤ)) (units : List ℕ) (limit : ℕ)
         → ((key : List ℕ) (number : ℤ) → Spells units (at_node 0) key number ↔ Has pairs key number)
