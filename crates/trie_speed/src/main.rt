@@ -1,0 +1,54 @@
+//! Measures code point tries: builds one of 12,000 different small blocks, and reads all code points
+//! of one of either type 100 times. `bench/tries.sh` takes the times; the program prints a sum.
+#![tactic(auto)]
+
+use icu_collections::codepointtrie::{
+    CodePointTrie, CodePointTrieBuildError, CodePointTrieBuilder, TrieType,
+};
+use std::alloc::Global;
+use std::{env, io};
+
+/// How many small blocks have a value of their own: with that of all others 12,000 are different.
+const BLOCKS: u32 = 11_999;
+
+/// How often all code points are read.
+const ROUNDS: u32 = 100;
+
+/// The trie whose first code points of small blocks have values of their own.
+fn build(
+    alloc: Global,
+    trie_type: TrieType,
+) -> Result<CodePointTrie<'static, u32>, CodePointTrieBuildError> {
+    let mut map = CodePointTrieBuilder::new(alloc, 0u32, 0, trie_type)?;
+    for number in 0..BLOCKS {
+        let _ = map.set_value(0x1_0000 + 0x10 * number, number + 1);
+    }
+    map.build(alloc)
+}
+
+/// The sum of the values of all code points, round by round.
+fn sum_of_rounds(trie: &CodePointTrie<'_, u32>) -> u32 {
+    let mut sum: u32 = 0;
+    for _round in 0..ROUNDS {
+        for code_point in 0..0x11_0000u32 {
+            sum = sum.wrapping_add(trie.get32(code_point));
+        }
+    }
+    sum
+}
+
+fn main(rt: HostRuntime) -> io::Result<()> {
+    let alloc = rt.alloc();
+    let task = env::args(&rt)?.nth(1);
+    let word = task.as_ref().map_or("build", |task| task.as_str());
+    let trie_type = if word == "small" {
+        TrieType::Small
+    } else {
+        TrieType::Fast
+    };
+    match build(alloc, trie_type) {
+        Ok(trie) if word == "build" => println!(rt; "{}", trie.get32(0x1_0000 + 0x10 * 11_998)),
+        Ok(trie) => println!(rt; "{}", sum_of_rounds(&trie)),
+        Err(error) => println!(rt; "{error:?}"),
+    }
+}
