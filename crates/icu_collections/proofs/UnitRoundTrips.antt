@@ -28,8 +28,10 @@ module _ (pairs : List (List ℕ × ℤ)) (units : List ℕ) (limit : ℕ)
   pub read_back : (list : List (List ℕ × ℤ)) → AreWritten pairs → IsListing units limit list → list ≡ pairs
   read_back list written listing =
       same_list list pairs listing.sorted (strictly-sorted pairs (sorted_from pairs written.0))
-      (λ key number. ((λ m. has_contains pairs key number ((entries key number).0 ((listing.entries key number).0 m))),
-      (λ m. (listing.entries key number).1 ((entries key number).1 (contains_has pairs (key, number) m)))))
+      (λ key number. (
+        (λ m. has_contains pairs key number ((entries key number).0 ((listing.entries key number).0 m))),
+        (λ m. (listing.entries key number).1 ((entries key number).1 (contains_has pairs (key, number) m))),
+      ))
 
   short-has : (rest : List (List ℕ × ℤ)) → AreShort limit rest → (key : List ℕ) (number : ℤ) → Has rest key number → length key ≤ limit
   short-has [] h key number k = absurd k

@@ -129,9 +129,9 @@ length_filter : (p : ℕ → Bool) (n s : ℕ) → length (filter p (range_with_
 length_filter p zero s = omega arith
 length_filter p (suc n) s = counted (p s) s (filter p (range_with_len (s + 1) n)) n (length_filter p n (s + 1))
   where
-  counted : (b : Bool) (x : ℕ) (xs : List ℕ) (n : ℕ) → length xs ≤ n → length (cond b (x ∷ xs) xs) ≤ suc n
-  counted true x xs n h = omega (arith, h)
-  counted false x xs n h = omega (arith, h)
+    counted : (b : Bool) (x : ℕ) (xs : List ℕ) (n : ℕ) → length xs ≤ n → length (cond b (x ∷ xs) xs) ≤ suc n
+    counted true x xs n h = omega (arith, h)
+    counted false x xs n h = omega (arith, h)
 
 -- there are no more than there are code points
 pub length_passing : (p : ℕ → Bool) → length (passing p) ≤ 0x110000
