@@ -1,5 +1,5 @@
 //! Measures sets of code points: adds 10,000 ranges in rising or in random order, or asks a set of
-//! them 10 million times. `bench/sets.sh` takes the times; the program prints what it counted.
+//! them 10 million times. `bench/libraries.sh` takes the times; the program prints what it counted.
 #![tactic(auto)]
 
 ghost use Rattle.std.specs.Prelude.{◌<◌};

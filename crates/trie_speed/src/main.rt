@@ -1,5 +1,5 @@
 //! Measures code point tries: builds one of 12,000 different small blocks, and reads all code points
-//! of one of either type 100 times. `bench/tries.sh` takes the times; the program prints a sum.
+//! of one of either type 100 times. `bench/libraries.sh` takes the times; the program prints a sum.
 #![tactic(auto)]
 
 use icu_collections::codepointtrie::{
