@@ -147,28 +147,52 @@ fn numbers_over_small_tries(rt: HostRuntime) -> Result<(), Fail> {
 
 fn numbers_are_looked_up(alloc: Global, rt: &impl Abort, trie_type: TrieType) -> Result<(), Fail> {
     let records = Records::read_over(alloc, SPREAD, trie_type)?;
-    assert_eq!(rt; records.class32(0xfff), 1);
-    assert_eq!(rt; records.class32(0x1000), 2);
-    assert_eq!(rt; records.class32(0xffff), 3);
-    assert_eq!(rt; records.class32(0x1_0000), 4);
-    assert_eq!(rt; records.class32(0x10_ffff), 5);
-    assert_eq!(rt; records.class32(0x11_0000), 0);
-    assert_eq!(rt; records.class32(0xffff_ffff), 0);
-    assert_eq!(rt; records.mapping32(0xffe), Decomposed::Singleton('a'));
-    assert_eq!(rt; records.mapping32(0x1001), Decomposed::Singleton('b'));
-    assert_eq!(rt; records.mapping32(0xfffe), Decomposed::Singleton('c'));
-    assert_eq!(rt;
-        records.mapping32(0x1_0001),
-        Decomposed::Expansion('d', 'e')
-    );
-    assert_eq!(rt; records.mapping32(0x10_fffe), Decomposed::Singleton('f'));
-    assert_eq!(rt; records.mapping32(0x11_0000), Decomposed::Default);
-    assert_eq!(rt; count_at(&records, 0xffd), Some(1));
-    assert_eq!(rt; count_at(&records, 0x1002), Some(0));
-    assert_eq!(rt; count_at(&records, 0x1_0002), Some(2));
-    assert_eq!(rt; count_at(&records, 0x10_fffd), Some(1));
-    assert_eq!(rt; count_at(&records, 0x11_0000), None);
+    classes_are_those_of_numbers(rt, &records);
+    mappings_are_those_of_numbers(rt, &records);
+    elements_are_those_of_numbers(rt, &records);
     Ok(())
+}
+
+fn classes_are_those_of_numbers(rt: &impl Abort, records: &Records) {
+    let classes: [(u32, u8); 7] = [
+        (0xfff, 1),
+        (0x1000, 2),
+        (0xffff, 3),
+        (0x1_0000, 4),
+        (0x10_ffff, 5),
+        (0x11_0000, 0),
+        (0xffff_ffff, 0),
+    ];
+    for (code, class) in classes {
+        assert_eq!(rt; records.class32(code), class);
+    }
+}
+
+fn mappings_are_those_of_numbers(rt: &impl Abort, records: &Records) {
+    let mappings: [(u32, Decomposed); 6] = [
+        (0xffe, Decomposed::Singleton('a')),
+        (0x1001, Decomposed::Singleton('b')),
+        (0xfffe, Decomposed::Singleton('c')),
+        (0x1_0001, Decomposed::Expansion('d', 'e')),
+        (0x10_fffe, Decomposed::Singleton('f')),
+        (0x11_0000, Decomposed::Default),
+    ];
+    for (code, mapping) in mappings {
+        assert_eq!(rt; records.mapping32(code), mapping);
+    }
+}
+
+fn elements_are_those_of_numbers(rt: &impl Abort, records: &Records) {
+    let counts: [(u32, Option<usize>); 5] = [
+        (0xffd, Some(1)),
+        (0x1002, Some(0)),
+        (0x1_0002, Some(2)),
+        (0x10_fffd, Some(1)),
+        (0x11_0000, None),
+    ];
+    for (code, count) in counts {
+        assert_eq!(rt; count_at(records, code), count);
+    }
 }
 
 fn count_at(records: &Records, c: u32) -> Option<usize> {
