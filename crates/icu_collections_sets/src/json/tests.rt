@@ -110,7 +110,7 @@ const REFUSED: &[(&str, &str)] = &[
     (r#"["a","bc"]"#, "no range at item 1"),
     (r#"["a","b-"]"#, "no range at item 1"),
     (r#"["--"]"#, "no range at item 0"),
-    (r#"["U+D8"]"#, "no range at item 0"),
+    (r#"["U+DC"]"#, "no range at item 0"),
     (r#"["U+d800"]"#, "no range at item 0"),
     (r#"["U+0041"]"#, "no range at item 0"),
     (r#"["U+E000"]"#, "no range at item 0"),
