@@ -1,5 +1,6 @@
-//! Maps from code points and from texts.
+//! Maps from code points and from texts, under the names of ICU4X's `icu_collections`. Each module
+//! is a crate of its own, passed on here: `icu_codepointtrie` and `icu_char16trie`.
 #![tactic(auto)]
 
-pub mod char16trie;
-pub mod codepointtrie;
+pub use icu_char16trie as char16trie;
+pub use icu_codepointtrie as codepointtrie;

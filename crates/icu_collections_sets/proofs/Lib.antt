@@ -1,4 +1,3 @@
-pub mod ItemLemmas
 pub mod SetLemmas
 pub mod EditLemmas
 pub mod MergeLemmas

@@ -1,14 +1,10 @@
-pub mod Bytes
 pub mod Characters
-pub mod ByteLaws
 pub mod CodePoints
 pub mod Gaps
-pub mod Items
 pub mod Operations
 pub mod RangeErrors
 pub mod SetEdits
 pub mod SetErrors
-pub mod Stored
 pub mod StringList
 pub mod StringListFaults
 pub mod StringListOffences
@@ -16,3 +12,7 @@ pub mod Spelling
 pub mod Json
 pub mod JsonFaults
 pub mod JsonStringList
+pub use Rattle.icu_packed_vector.specs.Bytes
+pub use Rattle.icu_packed_vector.specs.ByteLaws
+pub use Rattle.icu_packed_vector.specs.Items
+pub use Rattle.icu_packed_vector.specs.Stored

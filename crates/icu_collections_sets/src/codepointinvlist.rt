@@ -15,8 +15,3 @@ pub use characters::Chars;
 pub use gaps::ComplementedRanges;
 pub use inversion_list::{CodePointInversionList, InvalidSetError, SetError};
 pub use ranges::CodePointRanges;
-
-#[cfg(test)]
-mod builder_tests;
-#[cfg(test)]
-mod tests;

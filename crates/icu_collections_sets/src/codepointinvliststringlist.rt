@@ -13,9 +13,6 @@ use std::error::Error;
 use std::fmt;
 use std::marker::Model;
 
-#[cfg(test)]
-mod tests;
-
 /// A set of code points and a sorted list of strings, none of them one character. It is seen as the
 /// set and the strings, each by its UTF-8 bytes.
 #[derive(Drop)]

@@ -6,6 +6,3 @@ mod spelling;
 mod string_list;
 
 pub use error::JsonError;
-
-#[cfg(test)]
-mod tests;

@@ -1,7 +1,9 @@
-//! Packed vectors, and sets of code points and strings over them.
+//! Packed vectors, and sets of code points and strings over them, under the names of ICU4X's
+//! `icu_collections`. Packed vectors are a crate of their own, `icu_packed_vector`, passed on here.
 #![tactic(auto)]
 
 pub mod codepointinvlist;
 pub mod codepointinvliststringlist;
 pub mod json;
-pub mod packed_vector;
+
+pub use icu_packed_vector as packed_vector;

@@ -349,7 +349,7 @@ const BMP: &[u8] = &[0, 0, 0, 0, 0, 0, 1, 0];
 
 impl CodePointInversionList<'static> {
     /// The set of all code points. It takes no memory.
-    #[tactic(auto, unfolding(crate::specs::Items::items_of))]
+    #[tactic(auto, unfolding(icu_packed_vector::specs::Items::items_of))]
     pub fn all() -> CodePointInversionList<'static>
         ensures { result ≡ 0 ∷ 0x110000 ∷ [] }
     {
@@ -360,7 +360,7 @@ impl CodePointInversionList<'static> {
     }
 
     /// The set of the code points up to FFFF hex. It takes no memory.
-    #[tactic(auto, unfolding(crate::specs::Items::items_of))]
+    #[tactic(auto, unfolding(icu_packed_vector::specs::Items::items_of))]
     pub fn bmp() -> CodePointInversionList<'static>
         ensures { result ≡ 0 ∷ 0x10000 ∷ [] }
     {

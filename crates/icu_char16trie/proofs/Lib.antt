@@ -1,0 +1,26 @@
+mod UnitLemmas
+mod UnitBranches
+mod UnitAnswers
+mod UnitKeys
+mod UnitWhole
+mod UnitSays
+mod UnitTexts
+mod UnitExamples
+mod UnitGrammars
+mod UnitPairs
+mod UnitGroups
+mod UnitReads
+mod UnitMeanings
+mod UnitSpreads
+mod UnitWrites
+pub mod UnitRoots
+mod UnitJobsLeft
+mod UnitStands
+mod UnitAhead
+mod UnitListing
+mod UnitListed
+mod UnitReadings
+mod UnitRead
+mod UnitListings
+mod UnitSame
+mod UnitRoundTrips

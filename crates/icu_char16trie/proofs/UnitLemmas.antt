@@ -1,0 +1,93 @@
+-- The searches within a branch, one step at a time.
+use Rattle.std.proofs.Common.{◌≡◌, ℕ, ◌<◌, ◌≤◌, ltb, suc, zero, ◌+◌, ◌-◌, leb, ◌==◌, if◌then◌else◌, List, slice_get, Some, None, refl, ap, ◌∙◌, arith}
+use Rattle.icu_char16trie.specs.UnitCells.{after}
+use Rattle.icu_char16trie.specs.UnitSteps.{half_of, small_part, entry_at, entry_target, target_in}
+use Rattle.icu_char16trie.specs.declared.node.Branch.{Branch}
+use Rattle.icu_char16trie.specs.declared.node.Entry.{Entry}
+use Rattle.icu_char16trie.specs.declared.node.Target.TheVariants.{Node}
+
+pred-suc : (n : ℕ) → n ≡ suc n - 1
+pred-suc n = omega arith
+
+if_suc : {A : Type 0} (n : ℕ) (a b : A) → b ≡ (if suc n == 0 then a else b)
+if_suc n a b = grind arith
+
+pub small_part_step : (units : List ℕ) (unit halvings : ℕ) (branch : Branch) →
+    small_part units unit halvings branch ≡
+    (if leb branch.count 5 then Some branch
+    else (if halvings == 0 then None else after (half_of units unit branch) (λ half. small_part units unit (halvings - 1) half)))
+unfolding small_part
+small_part_step units unit zero branch = refl
+small_part_step units unit (suc halvings) branch =
+    ap (λ fewer. if leb branch.count 5 then Some branch else after (half_of units unit branch) (λ half. small_part units unit fewer half)) (pred-suc halvings)
+    ∙ ap (λ more. if leb branch.count 5 then Some branch else more) (if_suc halvings None (after (half_of units unit branch) (λ half. small_part units unit (suc halvings - 1) half)))
+
+pub target_in_step : (units : List ℕ) (unit entries place : ℕ) →
+    target_in units unit entries place ≡
+    (if entries == 0 then after (slice_get units place) (λ last. if last == unit then Some (Node (place + 1)) else None)
+    else after (entry_at units place) (λ entry.
+    if entry.unit == unit then entry_target units entry
+    else target_in units unit (entries - 1) entry.number.end))
+unfolding target_in
+target_in_step units unit zero place = refl
+target_in_step units unit (suc entries) place =
+    ap (λ fewer. after (entry_at units place) (λ entry. if entry.unit == unit then entry_target units entry else target_in units unit fewer entry.number.end)) (pred-suc entries)
+    ∙ if_suc entries (after (slice_get units place) (λ last. if last == unit then Some (Node (place + 1)) else None))
+    (after (entry_at units place) (λ entry. if entry.unit == unit then entry_target units entry else target_in units unit (suc entries - 1) entry.number.end))
+
+pub if_not_leb : {A : Type 0} (m n : ℕ) (a b : A) → n < m → (if leb m n then a else b) ≡ b
+if_not_leb m n a b h = grind arith
+
+if_zero : {A : Type 0} (n : ℕ) (a b : A) → (n ≡ 0 → ⊥) → (if n == 0 then a else b) ≡ b
+if_zero n a b h = grind arith
+
+pub if_eq : {A : Type 0} (m n : ℕ) (a b : A) → m ≡ n → (if m == n then a else b) ≡ a
+if_eq m n a b h = grind arith
+
+pub if_not_eq : {A : Type 0} (m n : ℕ) (a b : A) → (m ≡ n → ⊥) → (if m == n then a else b) ≡ b
+if_not_eq m n a b h = grind arith
+
+pub small_part-half : (units : List ℕ) (unit halvings : ℕ) (branch half : Branch) → 5 < branch.count → (halvings ≡ 0 → ⊥) →
+    half_of units unit branch ≡ Some half → small_part units unit halvings branch ≡ small_part units unit (halvings - 1) half
+small_part-half units unit halvings branch half big more is =
+    small_part_step units unit halvings branch
+    ∙ if_not_leb branch.count 5 (Some branch) (if halvings == 0 then None else after (half_of units unit branch) (λ half. small_part units unit (halvings - 1) half)) big
+    ∙ if_zero halvings None (after (half_of units unit branch) (λ half. small_part units unit (halvings - 1) half)) more
+    ∙ ap (λ found. after found (λ half. small_part units unit (halvings - 1) half)) is
+
+module _ (units : List ℕ) (unit entries place : ℕ) (entry : Entry) (more : entries ≡ 0 → ⊥) (is : entry_at units place ≡ Some entry) where
+  entered : target_in units unit entries place ≡ (if entry.unit == unit then entry_target units entry else target_in units unit (entries - 1) entry.number.end)
+  entered =
+      target_in_step units unit entries place
+      ∙ if_zero entries (after (slice_get units place) (λ last. if last == unit then Some (Node (place + 1)) else None))
+      (after (entry_at units place) (λ entry. if entry.unit == unit then entry_target units entry else target_in units unit (entries - 1) entry.number.end)) more
+      ∙ ap (λ found. after found (λ entry. if entry.unit == unit then entry_target units entry else target_in units unit (entries - 1) entry.number.end)) is
+
+  pub target_in-found : entry.unit ≡ unit → target_in units unit entries place ≡ entry_target units entry
+  target_in-found same = entered ∙ if_eq entry.unit unit (entry_target units entry) (target_in units unit (entries - 1) entry.number.end) same
+
+  pub target_in-on : (entry.unit ≡ unit → ⊥) → target_in units unit entries place ≡ target_in units unit (entries - 1) entry.number.end
+  target_in-on other = entered ∙ if_not_eq entry.unit unit (entry_target units entry) (target_in units unit (entries - 1) entry.number.end) other
+
+pub if_leb : {A : Type 0} (m n : ℕ) (a b : A) → m ≤ n → (if leb m n then a else b) ≡ a
+if_leb m n a b h = grind arith
+
+pub if_ltb : {A : Type 0} (m n : ℕ) (a b : A) → m < n → (if ltb m n then a else b) ≡ a
+if_ltb m n a b h = grind arith
+
+pub if_not_ltb : {A : Type 0} (m n : ℕ) (a b : A) → n ≤ m → (if ltb m n then a else b) ≡ b
+if_not_ltb m n a b h = grind arith
+
+pub small_part-small : (units : List ℕ) (unit halvings : ℕ) (branch : Branch) → branch.count ≤ 5 → small_part units unit halvings branch ≡ Some branch
+small_part-small units unit halvings branch few =
+    small_part_step units unit halvings branch
+    ∙ if_leb branch.count 5 (Some branch) (if halvings == 0 then None else after (half_of units unit branch) (λ half. small_part units unit (halvings - 1) half)) few
+
+pub small_part-none : (units : List ℕ) (unit : ℕ) (branch : Branch) → 5 < branch.count → small_part units unit zero branch ≡ None
+unfolding small_part
+small_part-none units unit branch many = if_not_leb branch.count 5 (Some branch) None many
+
+pub small_part-on : (units : List ℕ) (unit halvings : ℕ) (branch : Branch) → 5 < branch.count
+    → small_part units unit (suc halvings) branch ≡ after (half_of units unit branch) (λ half. small_part units unit halvings half)
+unfolding small_part
+small_part-on units unit halvings branch many = if_not_leb branch.count 5 (Some branch) (after (half_of units unit branch) (λ half. small_part units unit halvings half)) many

@@ -1,0 +1,49 @@
+use Rattle.std.proofs.Common.{◌≡◌, ℕ, ℤ, [], map, Err, Result, ap, ◌∙◌, sym, subst}
+use Rattle.icu_char16trie.specs.UnitGrammar.{IsListing}
+use Rattle.icu_char16trie.specs.UnitJobs.{StopsAt, root_valued, jobs_left, pairs_read}
+use Rattle.icu_char16trie.specs.declared.reader.ReadUnitsError.{ReadUnitsError}
+use Rattle.icu_char16trie.specs.declared.reader.ReadUnitsError.TheVariants.{BadUnits}
+use Rattle.icu_char16trie.proofs.UnitListings.{empty_listing, first_jobs, listing_read, stops_read, refused_read}
+use Rattle.icu_char16trie.proofs.reader.read_units.Goals as goal
+
+abbrev failed : (A : Type 0) → ReadUnitsError → Result A ReadUnitsError
+failed A error = Err error
+
+error-same : {A : Type 0} (error other : ReadUnitsError) → failed A error ≡ Err other → error ≡ other
+error-same error other e = cc
+
+place-same : (a b : ℕ) → BadUnits a ≡ BadUnits b → a ≡ b
+place-same a b e = cc
+
+-- one error of two calls
+error_at : {A B : Type 0} (error : ReadUnitsError) (place : ℕ) → failed A error ≡ Err (BadUnits place) → failed B error ≡ Err (BadUnits place)
+error_at error place e = ap (λ error. Err error) (error-same error (BadUnits place) e)
+
+pub returns-in_default-clause-listing : goal.returns-in_default-clause-listing
+returns-in_default-clause-listing c =
+    subst (λ pairs. IsListing c.args.units.now c.args.limit pairs) (sym (ap (λ items. map (λ entry. (entry.0.items, entry.1)) items) c.new.ensures.items))
+    (empty_listing c.args.units.now c.args.limit (sym c.unit_at.ensures.unit ∙ c.in_default.is))
+
+pub returns-then-lead-ge64-clause-place : goal.returns-then-lead-ge64-clause-place
+returns-then-lead-ge64-clause-place c place e =
+    subst (λ place. StopsAt c.args.units.now c.args.limit place) (place-same 0 place (error-same (BadUnits 0) (BadUnits place) e))
+    (root_valued c.in-Some.lead (sym c.unit_at.ensures.unit ∙ c.in-Some.is) c.if-lead-ge64.true)
+
+pub returns-in-Err-clause-refused : goal.returns-in-Err-clause-refused
+returns-in-Err-clause-refused c place e =
+    refused_read c.args.units.now c.args.limit c.in-Some.lead (jobs_left c.put.new.self) (sym c.unit_at.ensures.unit ∙ c.in-Some.is) c.if-lead-ge64.false
+    (first_jobs (jobs_left c.put.new.self) (jobs_left c.new-queue.result) c.new-2.result.items c.in_ok-put.ensures.jobs c.new-2.ensures.items c.new-queue.ensures.jobs)
+    place (c.in-Err.ensures.stops place (error_at c.in-Err.error place e))
+
+pub returns-in-Err-clause-place : goal.returns-in-Err-clause-place
+returns-in-Err-clause-place c place e =
+    stops_read c.args.units.now c.args.limit c.in-Some.lead (jobs_left c.put.new.self) (sym c.unit_at.ensures.unit ∙ c.in-Some.is) c.if-lead-ge64.false
+    (first_jobs (jobs_left c.put.new.self) (jobs_left c.new-queue.result) c.new-2.result.items c.in_ok-put.ensures.jobs c.new-2.ensures.items c.new-queue.ensures.jobs)
+    place (c.in-Err.ensures.stops place (error_at c.in-Err.error place e))
+
+pub returns-clause-listing : goal.returns-clause-listing
+returns-clause-listing c =
+    listing_read c.args.units.now c.args.limit c.in-Some.lead (jobs_left c.put.new.self) (sym c.unit_at.ensures.unit ∙ c.in-Some.is) c.if-lead-ge64.false
+    (first_jobs (jobs_left c.put.new.self) (jobs_left c.new-queue.result) c.new-2.result.items c.in_ok-put.ensures.jobs c.new-2.ensures.items c.new-queue.ensures.jobs)
+    (pairs_read c.put.new.self) (pairs_read c.take_all.new.self) (map (λ entry. (entry.0.items, entry.1)) c.into_entries.result.items)
+    (c.put.ensures.pairs ∙ c.new-queue.ensures.pairs) c.in_default-take_all.ensures.read c.into_entries.ensures

@@ -1,0 +1,70 @@
+-- Cursors in a unit trie: what they answer, and where they stand then.
+use Rattle.std.specs.Prelude.{◌≡◌, ℕ, ℤ, ◌+◌, ◌-◌, ◌/◌, ◌%◌, ltb, if◌then◌else◌, List, [], ◌∷◌, Option, Some, None}
+use Rattle.icu_char16trie.specs.UnitSteps.{start, step}
+use Rattle.icu_char16trie.specs.UnitMaps.{behind, Spells, IsWhole}
+use Rattle.icu_char16trie.specs.declared.Char16Trie.{Char16Trie}
+use Rattle.icu_char16trie.specs.declared.Char16TrieIterator.{Char16TrieIterator}
+use Rattle.icu_char16trie.specs.declared.node.State.{State}
+use Rattle.icu_char16trie.specs.declared.node.State.TheVariants.{Stopped}
+use Rattle.icu_char16trie.specs.declared.node.Arrival.{Arrival}
+use Rattle.icu_char16trie.specs.declared.TrieResult.{TrieResult}
+use Rattle.icu_char16trie.specs.declared.TrieResult.TheVariants.{NoMatch}
+
+-- the units of a trie
+abbrev pub trie_units : Char16Trie → List ℕ
+trie_units trie = trie.units
+
+-- the units that a cursor reads
+abbrev pub cursor_units : Char16TrieIterator → List ℕ
+cursor_units cursor = cursor.units.now
+
+-- where a cursor stands
+abbrev pub cursor_state : Char16TrieIterator → State
+cursor_state cursor = cursor.state
+
+-- the trie maps the key to the number
+abbrev pub IsEntry : Char16Trie → List ℕ → ℤ → Type 0
+IsEntry trie key number = Spells (trie_units trie) (behind (start (trie_units trie))) key number
+
+-- the key is mapped to the number from where the cursor stands
+abbrev pub IsEntryFrom : Char16TrieIterator → List ℕ → ℤ → Type 0
+IsEntryFrom cursor key number = Spells (cursor_units cursor) (behind (cursor_state cursor)) key number
+
+-- the units of the trie keep the grammar
+abbrev pub IsWholeTrie : Char16Trie → Type 0
+IsWholeTrie trie = IsWhole (trie_units trie) (behind (start (trie_units trie)))
+
+-- the units keep the grammar from where the cursor stands
+abbrev pub IsWholeFrom : Char16TrieIterator → Type 0
+IsWholeFrom cursor = IsWhole (cursor_units cursor) (behind (cursor_state cursor))
+
+-- no further unit matches
+abbrev pub IsStopped : Char16TrieIterator → Type 0
+IsStopped cursor = cursor_state cursor ≡ Stopped
+
+-- what a cursor answers
+abbrev pub answer_of : Option Arrival → TrieResult
+answer_of (Some arrived) = arrived.answer
+answer_of None = NoMatch
+
+-- where a cursor stands then
+abbrev pub state_of : Option Arrival → State
+state_of (Some arrived) = arrived.state
+state_of None = Stopped
+
+-- the units of a code point
+abbrev pub units_of : ℕ → List ℕ
+units_of code =
+    if ltb code 0x10000 then code ∷ []
+    else (0xd800 + (code - 0x10000) / 0x400) ∷ (0xdc00 + code % 0x400) ∷ []
+
+-- where a cursor stands after the units
+abbrev pub follow : List ℕ → State → List ℕ → State
+follow units state [] = state
+follow units state (unit ∷ rest) = follow units (state_of (step units state unit)) rest
+
+-- what a cursor answers to the last of the units
+abbrev pub answer_to : List ℕ → State → List ℕ → TrieResult
+answer_to units state [] = NoMatch
+answer_to units state (unit ∷ []) = answer_of (step units state unit)
+answer_to units state (unit ∷ next ∷ rest) = answer_to units (state_of (step units state unit)) (next ∷ rest)

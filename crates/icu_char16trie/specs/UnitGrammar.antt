@@ -1,0 +1,69 @@
+-- Units that keep the grammar of unit tries, by cases on the units.
+use Rattle.std.specs.Prelude.{◌≡◌, ◌≢◌, ℕ, ℤ, ◌+◌, ◌-◌, ◌/◌, ◌<◌, ◌≤◌, ◌↔◌, List, [], length, map, slice_get, Option, Some, None}
+use Rattle.std.specs.Cmp.Lexicographic.{slice_cmp}
+use Rattle.std.specs.List.{Contains}
+use Rattle.std.specs.List.Sorted.{IsStrictlySortedBy}
+use Rattle.std.specs.Ordering.{nat_cmp}
+use Rattle.icu_char16trie.specs.UnitCells.{delta, landing}
+use Rattle.icu_char16trie.specs.UnitSteps.{entry_at, entry_target, start}
+use Rattle.icu_char16trie.specs.UnitMaps.{IsNode, Spells, IsWhole, Spot, at_node, behind}
+use Rattle.icu_char16trie.specs.declared.cells.Number.{Number}
+use Rattle.icu_char16trie.specs.declared.node.Branch.{Branch}
+use Rattle.icu_char16trie.specs.declared.node.Entry.{Entry}
+use Rattle.icu_char16trie.specs.declared.node.Match.{Match}
+use Rattle.icu_char16trie.specs.declared.node.Target.TheVariants.{Value, Node}
+use Rattle.icu_char16trie.specs.declared.node.State.{State}
+use Rattle.icu_char16trie.specs.declared.node.State.TheVariants as state
+
+-- what a rule of the grammar is about: a spot, or a branch whose units go from a low bound to below a high one
+pub data Part : Type 0 where
+  spot : Spot → Part
+  within : Branch → ℕ → ℕ → Part
+
+-- the units keep the grammar there: all that can be reached is read to its end and within the units, and
+-- the units of a branch rise, those of its first half below the unit at which it is halved
+pub data IsSound (units : List ℕ) : Part → Type 0 where
+  sound_end : (place value : ℕ) → IsNode units place (Some value) None → IsSound units (spot (at_node place))
+  sound_node : (place : ℕ) (value : Option ℕ) (next : State) → IsNode units place value (Some next) → IsSound units (spot (behind next))
+      → IsSound units (spot (at_node place))
+  sound_run : (run : Match) (unit : ℕ) → slice_get units run.place ≡ Some unit → 1 < run.left
+      → IsSound units (spot (behind (state.Match (record { left = run.left - 1; place = run.place + 1 }))))
+      → IsSound units (spot (behind (state.Match run)))
+  sound_run_end : (run : Match) (unit : ℕ) → slice_get units run.place ≡ Some unit → run.left ≤ 1
+      → IsSound units (spot (at_node (run.place + 1))) → IsSound units (spot (behind (state.Match run)))
+  sound_branch : (branch : Branch) → IsSound units (within branch 0 0x10000) → IsSound units (spot (behind (state.Branch branch)))
+  sound_last : (branch : Branch) (low high unit : ℕ) → branch.count ≤ 1 → slice_get units branch.place ≡ Some unit
+      → low ≤ unit → unit < high → IsSound units (spot (at_node (branch.place + 1))) → IsSound units (within branch low high)
+  sound_value : (branch : Branch) (low high value : ℕ) (entry : Entry) → 1 < branch.count → branch.count ≤ 5
+      → entry_at units branch.place ≡ Some entry → entry_target units entry ≡ Some (Value value) → low ≤ entry.unit → entry.unit < high
+      → IsSound units (within (record { count = branch.count - 1; place = entry.number.end }) (entry.unit + 1) high)
+      → IsSound units (within branch low high)
+  sound_jump : (branch : Branch) (low high place : ℕ) (entry : Entry) → 1 < branch.count → branch.count ≤ 5
+      → entry_at units branch.place ≡ Some entry → entry_target units entry ≡ Some (Node place) → low ≤ entry.unit → entry.unit < high
+      → IsSound units (spot (at_node place))
+      → IsSound units (within (record { count = branch.count - 1; place = entry.number.end }) (entry.unit + 1) high)
+      → IsSound units (within branch low high)
+  sound_halves : (branch : Branch) (low high middle place : ℕ) (jump : Number) → 5 < branch.count
+      → slice_get units branch.place ≡ Some middle → delta units (branch.place + 1) ≡ Some jump → landing units jump ≡ Some place
+      → low < middle → middle < high
+      → IsSound units (within (record { count = branch.count / 2; place = place }) low middle)
+      → IsSound units (within (record { count = branch.count - branch.count / 2; place = jump.end }) middle high)
+      → IsSound units (within branch low high)
+
+-- units that keep the grammar: none, or those whose first node has no value
+pub data IsUnitTrie (units : List ℕ) : Type 0 where
+  no_units : units ≡ [] → IsUnitTrie units
+  rooted : (next : State) → IsNode units 0 None (Some next) → IsSound units (spot (behind next)) → IsUnitTrie units
+
+-- no key is longer than so many units
+abbrev pub IsWithin : List ℕ → ℕ → Type 0
+IsWithin units limit = (key : List ℕ) (number : ℤ) → Spells units (at_node 0) key number → length key ≤ limit
+
+-- the keys and values that the units spell, in order, no key longer than so many units
+pub record IsListing (units : List ℕ) (limit : ℕ) (pairs : List (List ℕ × ℤ)) : Type 0 where
+  pub trie : IsUnitTrie units
+  pub entries : (key : List ℕ) (number : ℤ) → Contains pairs (key, number) ↔ Spells units (at_node 0) key number
+  pub sorted : IsStrictlySortedBy (slice_cmp nat_cmp) (map (λ pair. pair.0) pairs)
+  pub bound : IsWithin units limit
+  pub from_start : (key : List ℕ) (number : ℤ) → Spells units (behind (start units)) key number ↔ Spells units (at_node 0) key number
+  pub whole : units ≢ [] → IsWhole units (behind (start units))

@@ -1,0 +1,111 @@
+//! The numbers in the units of a unit trie. A final value, a jump, an intermediate value and a
+//! delta each take one to three units; there is no number where the units end before.
+ghost use Rattle.std.specs.Prelude.{◌≡◌, ◌+◌, ◌*◌, ◌^◌, ◌<◌, ◌≤◌, slice_get, IfSome, length};
+ghost use Rattle.icu_char16trie.specs.UnitCells.{with_unit, two_units, final_number, intermediate_number, delta, landing};
+
+use icu_packed_vector::PackedVec;
+
+/// A number and the place behind it.
+#[derive(Clone, Copy)]
+pub(super) struct Number {
+    pub(super) value: u32,
+    pub(super) end: usize,
+}
+
+/// The unit at a place, or `None` past the end.
+pub(super) fn unit_at(units: &PackedVec<'_, u16>, place: usize) -> Option<u16>
+    ensures unit { result ≡ slice_get units.now place }
+    ensures size { IfSome result (λ unit. unit < 2 ^ 16) }
+    ensures room { IfSome result (λ unit. place + 1 < 2 ^ 64) }
+{
+    if place < units.len() {
+        units.get(place)
+    } else {
+        None
+    }
+}
+
+/// One unit more, below a number of high bits.
+fn with_unit(units: &PackedVec<'_, u16>, high: u16, place: usize) -> Option<Number>
+    ensures { result ≡ with_unit units.now high place }
+{
+    let low = unit_at(units, place)?;
+    Some(Number {
+        value: high as u32 * 0x1_0000 + low as u32,
+        end: place + 1,
+    })
+}
+
+/// Two units, the high one first.
+fn two_units(units: &PackedVec<'_, u16>, place: usize) -> Option<Number>
+    ensures { result ≡ two_units units.now place }
+{
+    let high = unit_at(units, place)?;
+    with_unit(units, high, place + 1)
+}
+
+/// A final value or a jump, whose lead, without its highest bit, ends before the place.
+pub(super) fn final_number(units: &PackedVec<'_, u16>, lead: u16, place: usize) -> Option<Number>
+    ensures { result ≡ final_number units.now lead place }
+{
+    if lead < 0x4000 {
+        Some(Number {
+            value: lead as u32,
+            end: place,
+        })
+    } else if lead < 0x7fff {
+        with_unit(units, lead - 0x4000, place)
+    } else {
+        two_units(units, place)
+    }
+}
+
+/// An intermediate value, whose lead of 40 to 7FFF ends before the place.
+pub(super) fn intermediate_number(
+    units: &PackedVec<'_, u16>,
+    lead: u16,
+    place: usize,
+) -> Option<Number>
+    requires { 0x40 ≤ lead }
+    ensures { result ≡ intermediate_number units.now lead place }
+{
+    if lead < 0x4040 {
+        Some(Number {
+            value: (lead >> 6) as u32 - 1,
+            end: place,
+        })
+    } else if lead < 0x7fc0 {
+        with_unit(units, (lead >> 6) - 0x101, place)
+    } else {
+        two_units(units, place)
+    }
+}
+
+/// How far a branch jumps to its first half.
+pub(super) fn delta(units: &PackedVec<'_, u16>, place: usize) -> Option<Number>
+    ensures { result ≡ delta units.now place }
+{
+    let lead = unit_at(units, place)?;
+    if lead < 0xfc00 {
+        Some(Number {
+            value: lead as u32,
+            end: place + 1,
+        })
+    } else if lead < 0xffff {
+        with_unit(units, lead - 0xfc00, place + 1)
+    } else {
+        two_units(units, place + 1)
+    }
+}
+
+/// The place behind a jump, or `None` where it leaves the units.
+pub(super) fn landing(units: &PackedVec<'_, u16>, jump: Number) -> Option<usize>
+    ensures { result ≡ landing units.now jump }
+{
+    let length = units.len();
+    if jump.end < length && (jump.value as usize) < length - jump.end {
+        Some(jump.end + jump.value as usize)
+    } else {
+        None
+    }
+}

@@ -1,0 +1,149 @@
+//! Maps from texts in UTF-16 units to numbers, packed into units: a trie that a cursor follows one
+//! unit or character at a time. The form is that of ICU4X's `Char16Trie`.
+#![tactic(auto)]
+
+ghost use Rattle.std.specs.Prelude.{◌≡◌, ◌+◌, ◌*◌, ◌^◌, ◌<◌, ◌≤◌, ◌-◌, ◌/◌, ◌%◌, [], ◌∷◌, ◌++◌, ◌↔◌, ◌⊎◌, ℕ, ℤ, List};
+ghost use Rattle.icu_char16trie.specs.Cursors.{IsEntry, IsEntryFrom, IsStopped, IsWholeFrom, IsWholeTrie, trie_units, cursor_units, cursor_state, follow, answer_of, answer_to, state_of, units_of};
+ghost use Rattle.icu_char16trie.specs.UnitAnswers.{IsAnswer};
+ghost use Rattle.icu_char16trie.specs.UnitMaps.{HasValue, IsLast};
+ghost use Rattle.icu_char16trie.specs.UnitSteps.{start, step};
+
+use icu_packed_vector::PackedVec;
+
+mod cells;
+pub mod laws;
+mod node;
+mod reader;
+mod writer;
+
+use node::{State, start, step};
+pub use reader::{ReadUnitsError, read_units};
+pub use writer::{WriteUnitsError, write_units};
+
+/// What a cursor says of the units that it was given.
+#[derive(Clone, Copy, Debug, PartialEq, Eq)]
+pub enum TrieResult {
+    /// The units begin no key.
+    NoMatch,
+    /// The units begin keys and are none.
+    NoValue,
+    /// The units are a key with this value, and begin longer ones.
+    Intermediate(i32),
+    /// The units are a key with this value, and begin no longer one.
+    FinalValue(i32),
+}
+
+/// A map from texts to numbers, in units that are borrowed or owned.
+#[derive(Drop)]
+pub struct Char16Trie<'a> {
+    units: PackedVec<'a, u16>,
+}
+
+/// A cursor in a unit trie: it is given the units of a text one after another, and says of all of
+/// them so far whether they are a key and whether longer keys begin with them.
+#[derive(Drop)]
+pub struct Char16TrieIterator<'t> {
+    units: &'t PackedVec<'t, u16>,
+    state: State,
+}
+
+impl<'a> Char16Trie<'a> {
+    /// The trie of these units, whatever they are: units that break the grammar match nothing.
+    pub fn new(units: PackedVec<'a, u16>) -> Char16Trie<'a>
+        ensures { trie_units result ≡ units.entry }
+    {
+        Char16Trie { units }
+    }
+
+    /// A cursor before the first unit.
+    pub fn iter(&self) -> Char16TrieIterator<'_>
+        ensures units { cursor_units result ≡ trie_units self.now }
+        ensures start { cursor_state result ≡ start (trie_units self.now) }
+        ensures entries { (key : List ℕ) (number : ℤ) → IsEntryFrom result key number ↔ IsEntry self.now key number }
+        ensures whole { IsWholeFrom result ↔ IsWholeTrie self.now }
+    {
+        Char16TrieIterator {
+            units: &self.units,
+            state: start(&self.units),
+        }
+    }
+}
+
+impl Char16TrieIterator<'_> {
+    /// What the units so far and this one are. After `NoMatch` or `FinalValue` every answer is
+    /// `NoMatch`, and so it is where the units of the trie break the grammar.
+    pub fn next16(&mut self, unit: u16) -> TrieResult
+        ensures units { cursor_units self.new ≡ cursor_units self.old }
+        ensures says { IsWholeFrom self.old → IsAnswer (IsEntryFrom self.old) (unit ∷ []) result }
+        ensures value { (number : ℤ) → HasValue result number ↔ IsEntryFrom self.old (unit ∷ []) number }
+        ensures longer { (next : ℕ) (key : List ℕ) (number : ℤ) → IsEntryFrom self.new (next ∷ key) number ↔ IsEntryFrom self.old (unit ∷ next ∷ key) number }
+        ensures whole { IsWholeFrom self.old → IsLast result ⊎ IsWholeFrom self.new }
+        ensures more { IsWholeFrom self.old → (IsLast result → ⊥) → (next : ℕ) × (key : List ℕ) × (number : ℤ) × IsEntryFrom self.new (next ∷ key) number }
+        ensures last { IsLast result → (key : List ℕ) (number : ℤ) → IsEntryFrom self.new key number → ⊥ }
+        ensures stops { IsLast result → IsStopped self.new }
+        ensures stopped { IsStopped self.old → result ≡ TrieResult.NoMatch }
+        ensures answer { result ≡ answer_of (step (cursor_units self.old) (cursor_state self.old) unit) }
+        ensures state { cursor_state self.new ≡ state_of (step (cursor_units self.old) (cursor_state self.old) unit) }
+    {
+        match step(self.units, self.state, unit) {
+            Some(arrival) => {
+                self.state = arrival.state;
+                arrival.answer
+            }
+            None => {
+                self.state = State::Stopped;
+                TrieResult::NoMatch
+            }
+        }
+    }
+
+    /// What the units so far and those of this code point are: one unit up to FFFF, a surrogate pair
+    /// up to 10FFFF. Past it, `NoMatch`, as of a unit that matches nothing. After `NoMatch` or
+    /// `FinalValue` every answer is `NoMatch`.
+    pub fn next32(&mut self, code: u32) -> TrieResult
+        ensures units { cursor_units self.new ≡ cursor_units self.old }
+        ensures says { code ≤ 0x10ffff → IsWholeFrom self.old → IsAnswer (IsEntryFrom self.old) (units_of code) result }
+        ensures value { code ≤ 0x10ffff → (number : ℤ) → HasValue result number ↔ IsEntryFrom self.old (units_of code) number }
+        ensures longer { code ≤ 0x10ffff → (next : ℕ) (key : List ℕ) (number : ℤ) → IsEntryFrom self.new (next ∷ key) number ↔ IsEntryFrom self.old (units_of code ++ (next ∷ key)) number }
+        ensures whole { code ≤ 0x10ffff → IsWholeFrom self.old → IsLast result ⊎ IsWholeFrom self.new }
+        ensures more { code ≤ 0x10ffff → IsWholeFrom self.old → (IsLast result → ⊥) → (next : ℕ) × (key : List ℕ) × (number : ℤ) × IsEntryFrom self.new (next ∷ key) number }
+        ensures stops { IsLast result → IsStopped self.new }
+        ensures stopped { IsStopped self.old → result ≡ TrieResult.NoMatch }
+        ensures past { 0x10ffff < code → result ≡ TrieResult.NoMatch }
+    {
+        if code > 0x10_ffff {
+            self.state = State::Stopped;
+            return TrieResult::NoMatch;
+        }
+        self.follow_code(code)
+    }
+
+    /// What the units so far and those of this character are: one unit, or two past U+FFFF. After
+    /// `NoMatch` or `FinalValue` every answer is `NoMatch`.
+    pub fn next(&mut self, character: char) -> TrieResult
+        ensures units { cursor_units self.new ≡ cursor_units self.old }
+        ensures says { IsWholeFrom self.old → IsAnswer (IsEntryFrom self.old) (units_of character) result }
+        ensures value { (number : ℤ) → HasValue result number ↔ IsEntryFrom self.old (units_of character) number }
+        ensures longer { (next : ℕ) (key : List ℕ) (number : ℤ) → IsEntryFrom self.new (next ∷ key) number ↔ IsEntryFrom self.old (units_of character ++ (next ∷ key)) number }
+        ensures whole { IsWholeFrom self.old → IsLast result ⊎ IsWholeFrom self.new }
+        ensures more { IsWholeFrom self.old → (IsLast result → ⊥) → (next : ℕ) × (key : List ℕ) × (number : ℤ) × IsEntryFrom self.new (next ∷ key) number }
+        ensures stops { IsLast result → IsStopped self.new }
+        ensures stopped { IsStopped self.old → result ≡ TrieResult.NoMatch }
+    {
+        self.follow_code(character as u32)
+    }
+
+    /// Follows the units of a code point.
+    fn follow_code(&mut self, code: u32) -> TrieResult
+        requires { code ≤ 0x10ffff }
+        ensures units { cursor_units self.new ≡ cursor_units self.old }
+        ensures answer { result ≡ answer_to (cursor_units self.old) (cursor_state self.old) (units_of code) }
+        ensures state { cursor_state self.new ≡ follow (cursor_units self.old) (cursor_state self.old) (units_of code) }
+    {
+        if code < 0x1_0000 {
+            return self.next16(code as u16);
+        }
+        self.next16((0xd800 + (code - 0x1_0000) / 0x400) as u16);
+        self.next16((0xdc00 + code % 0x400) as u16)
+    }
+}

@@ -1,0 +1,256 @@
+//! The nodes of a unit trie, and what a unit leads to at one. There is nothing where the units
+//! match no key or break the grammar.
+ghost use Rattle.std.specs.Prelude.{◌≡◌, ◌+◌, ◌*◌, ◌^◌, ◌<◌, ◌≤◌, ◌-◌, slice_get, IfSome, length};
+ghost use Rattle.icu_char16trie.specs.UnitSteps.{half_of, small_part, entry_at, entry_target, target_in, opened, arrive_at, reached, matched, branched, step, start_node, start};
+
+use super::TrieResult;
+use super::cells::{Number, delta, final_number, intermediate_number, landing, unit_at};
+use icu_packed_vector::PackedVec;
+
+/// A branch: how many units it tells apart, and where it begins.
+#[derive(Clone, Copy)]
+pub(super) struct Branch {
+    pub(super) count: usize,
+    pub(super) place: usize,
+}
+
+/// Units that must match: how many are left, and where they begin.
+#[derive(Clone, Copy)]
+pub(super) struct Match {
+    pub(super) left: usize,
+    pub(super) place: usize,
+}
+
+/// A branch unit before the last, and its number: a value, or else a jump.
+#[derive(Clone, Copy)]
+pub(super) struct Entry {
+    pub(super) unit: u16,
+    pub(super) is_value: bool,
+    pub(super) number: Number,
+}
+
+/// What a branch unit leads to.
+#[derive(Clone, Copy)]
+pub(super) enum Target {
+    Value(u32),
+    Node(usize),
+}
+
+/// Where a cursor stands.
+#[derive(Clone, Copy)]
+pub(super) enum State {
+    /// No further unit matches.
+    Stopped,
+    /// A branch follows.
+    Branch(Branch),
+    /// A unit must match.
+    Match(Match),
+}
+
+/// What a unit led to: the answer, and where the cursor stands then.
+#[derive(Clone, Copy)]
+pub(super) struct Arrival {
+    pub(super) answer: TrieResult,
+    pub(super) state: State,
+}
+
+/// The half of a branch of over five units in which the unit is looked for.
+fn half_of(units: &PackedVec<'_, u16>, unit: u16, branch: Branch) -> Option<Branch>
+    ensures { result ≡ half_of units.now unit branch }
+{
+    let middle = unit_at(units, branch.place)?;
+    let jump = delta(units, branch.place + 1)?;
+    if unit < middle {
+        let place = landing(units, jump)?;
+        Some(Branch {
+            count: branch.count / 2,
+            place,
+        })
+    } else {
+        Some(Branch {
+            count: branch.count - branch.count / 2,
+            place: jump.end,
+        })
+    }
+}
+
+/// The part of at most five units in which the unit is looked for, within so many halvings.
+#[tactic(auto, using(crate::proofs::UnitLemmas::small_part_step))]
+fn small_part(
+    units: &PackedVec<'_, u16>,
+    unit: u16,
+    halvings: usize,
+    branch: Branch,
+) -> Option<Branch>
+    ensures { result ≡ small_part units.now unit halvings branch }
+{
+    if branch.count <= 5 {
+        return Some(branch);
+    }
+    if halvings == 0 {
+        return None;
+    }
+    let half = half_of(units, unit, branch)?;
+    small_part(units, unit, halvings - 1, half)
+}
+
+/// A branch unit before the last, and the number behind it.
+pub(super) fn entry_at(units: &PackedVec<'_, u16>, place: usize) -> Option<Entry>
+    ensures { result ≡ entry_at units.now place }
+{
+    let unit = unit_at(units, place)?;
+    let lead = unit_at(units, place + 1)?;
+    let number = final_number(units, lead % 0x8000, place + 2)?;
+    Some(Entry {
+        unit,
+        is_value: lead >= 0x8000,
+        number,
+    })
+}
+
+/// What a branch unit leads to: its value, or the node that it jumps to.
+pub(super) fn entry_target(units: &PackedVec<'_, u16>, entry: Entry) -> Option<Target>
+    ensures { result ≡ entry_target units.now entry }
+{
+    if entry.is_value {
+        return Some(Target::Value(entry.number.value));
+    }
+    let place = landing(units, entry.number)?;
+    Some(Target::Node(place))
+}
+
+/// What the unit leads to among so many entries, the last unit and the node behind it.
+#[tactic(auto, using(crate::proofs::UnitLemmas::target_in_step))]
+fn target_in(units: &PackedVec<'_, u16>, unit: u16, entries: usize, place: usize) -> Option<Target>
+    ensures { result ≡ target_in units.now unit entries place }
+{
+    if entries == 0 {
+        let last = unit_at(units, place)?;
+        if last == unit {
+            return Some(Target::Node(place + 1));
+        }
+        return None;
+    }
+    let entry = entry_at(units, place)?;
+    if entry.unit == unit {
+        return entry_target(units, entry);
+    }
+    target_in(units, unit, entries - 1, entry.number.end)
+}
+
+/// A node of a type below 40, whose units begin at the place.
+pub(super) fn opened(units: &PackedVec<'_, u16>, kind: u16, place: usize) -> Option<State>
+    ensures { result ≡ opened units.now kind place }
+{
+    if kind >= 0x30 {
+        return Some(State::Match(Match {
+            left: kind as usize - 0x2f,
+            place,
+        }));
+    }
+    if kind == 0 {
+        let last = unit_at(units, place)?;
+        return Some(State::Branch(Branch {
+            count: last as usize + 1,
+            place: place + 1,
+        }));
+    }
+    Some(State::Branch(Branch {
+        count: kind as usize + 1,
+        place,
+    }))
+}
+
+/// What the node at a place says.
+fn arrive_at(units: &PackedVec<'_, u16>, place: usize) -> Option<Arrival>
+    ensures { result ≡ arrive_at units.now place }
+{
+    let lead = unit_at(units, place)?;
+    if lead >= 0x8000 {
+        let number = final_number(units, lead - 0x8000, place + 1)?;
+        return Some(Arrival {
+            answer: TrieResult::FinalValue(number.value.cast_signed()),
+            state: State::Stopped,
+        });
+    }
+    if lead >= 0x40 {
+        let number = intermediate_number(units, lead, place + 1)?;
+        let state = opened(units, lead % 0x40, number.end)?;
+        return Some(Arrival {
+            answer: TrieResult::Intermediate(number.value.cast_signed()),
+            state,
+        });
+    }
+    let state = opened(units, lead, place + 1)?;
+    Some(Arrival {
+        answer: TrieResult::NoValue,
+        state,
+    })
+}
+
+/// What a unit leads to where a unit must match.
+fn matched(units: &PackedVec<'_, u16>, run: Match, unit: u16) -> Option<Arrival>
+    ensures { result ≡ matched units.now run unit }
+{
+    let expected = unit_at(units, run.place)?;
+    if expected != unit {
+        return None;
+    }
+    if run.left <= 1 {
+        return arrive_at(units, run.place + 1);
+    }
+    Some(Arrival {
+        answer: TrieResult::NoValue,
+        state: State::Match(Match {
+            left: run.left - 1,
+            place: run.place + 1,
+        }),
+    })
+}
+
+/// What a unit leads to at a branch.
+fn branched(units: &PackedVec<'_, u16>, branch: Branch, unit: u16) -> Option<Arrival>
+    ensures { result ≡ branched units.now branch unit }
+{
+    let part = small_part(units, unit, branch.count, branch)?;
+    match target_in(units, unit, part.count.saturating_sub(1), part.place)? {
+        Target::Value(value) => Some(Arrival {
+            answer: TrieResult::FinalValue(value.cast_signed()),
+            state: State::Stopped,
+        }),
+        Target::Node(place) => arrive_at(units, place),
+    }
+}
+
+/// What a unit leads to.
+pub(super) fn step(units: &PackedVec<'_, u16>, state: State, unit: u16) -> Option<Arrival>
+    ensures { result ≡ step units.now state unit }
+{
+    match state {
+        State::Stopped => None,
+        State::Match(run) => matched(units, run, unit),
+        State::Branch(branch) => branched(units, branch, unit),
+    }
+}
+
+/// Where a cursor starts: at a node with no value.
+fn start_node(units: &PackedVec<'_, u16>) -> Option<State>
+    ensures { result ≡ start_node units.now }
+{
+    let lead = unit_at(units, 0)?;
+    if lead < 0x40 {
+        opened(units, lead, 1)
+    } else {
+        None
+    }
+}
+
+/// Where a cursor starts, stopped where there is no node with no value.
+pub(super) fn start(units: &PackedVec<'_, u16>) -> State
+    ensures { result ≡ start units.now }
+{
+    match start_node(units) {
+        Some(state) => state,
+        None => State::Stopped,
+    }
+}

@@ -1,0 +1,9 @@
+pub mod RangeLemmas
+pub mod TomlLemmas
+pub mod Blocks
+pub mod Layouts
+pub mod BuiltTries
+pub mod BlockCounts
+pub mod BlockLaws
+pub mod RangeWalks
+pub mod PlaneLemmas

@@ -1,0 +1,12 @@
+pub mod TrieValues
+pub mod TrieValueLaws
+pub mod Places
+pub mod Ranges
+pub mod RangeIterators
+pub mod CodePointMaps
+pub mod TomlTables
+pub mod MappedRanges
+pub mod Blocks
+pub mod Layouts
+pub mod BuiltTries
+pub mod MaximalRanges

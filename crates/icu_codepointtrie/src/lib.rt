@@ -1,0 +1,20 @@
+//! Maps from code points to values in compact tables that are read by a few loads and shifts.
+#![tactic(auto)]
+
+mod builder;
+mod iterators;
+pub mod laws;
+pub mod planes;
+mod ranges;
+mod toml_text;
+mod trie;
+mod typed;
+mod value;
+
+pub use builder::{CodePointTrieBuildError, CodePointTrieBuilder, CodePointTrieBuilderError};
+pub use iterators::{CodePointMapRangeIterator, CodePointMappedRanges, CodePointRangesForValue};
+pub use ranges::CodePointMapRange;
+pub use toml_text::CodePointTrieTomlError;
+pub use trie::{CodePointTrie, CodePointTrieError, CodePointTrieHeader, TrieType};
+pub use typed::{FastCodePointTrie, SmallCodePointTrie, TypedCodePointTrie};
+pub use value::TrieValue;

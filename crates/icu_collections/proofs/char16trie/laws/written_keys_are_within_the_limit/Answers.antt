@@ -1,5 +1,0 @@
-use Rattle.icu_collections.proofs.UnitRoundTrips.{within_limit}
-use Rattle.icu_collections.proofs.char16trie.laws.written_keys_are_within_the_limit.Goals as goal
-
-pub returns : goal.returns
-returns c pairs units limit entries short = within_limit pairs units limit entries short

@@ -1,5 +1,0 @@
-use Rattle.icu_collections.proofs.UnitRoundTrips.{read_back}
-use Rattle.icu_collections.proofs.char16trie.laws.written_pairs_are_read.Goals as goal
-
-pub returns : goal.returns
-returns c pairs list units limit entries written listing = read_back pairs units limit entries list written listing

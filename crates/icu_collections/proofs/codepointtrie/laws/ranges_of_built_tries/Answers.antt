@@ -1,5 +1,0 @@
-use Rattle.icu_collections.proofs.RangeWalks.{maximal_walk}
-use Rattle.icu_collections.proofs.codepointtrie.laws.ranges_of_built_tries.Goals as goal
-
-pub returns : goal.returns
-returns g c = λ map start end ranges. maximal_walk map start end ranges

@@ -1,5 +1,0 @@
-use Rattle.icu_collections.specs.Places.{HasFastCells}
-use Rattle.icu_collections.proofs.codepointtrie.trie.has_fast_cells.Given as goal
-
-abbrev pub invariant-loop-block : goal.invariant-loop-block
-invariant-loop-block l = HasFastCells l.index l.block l.count

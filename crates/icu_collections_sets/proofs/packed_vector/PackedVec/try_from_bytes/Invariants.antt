@@ -1,6 +1,0 @@
-use Rattle.std.proofs.Common.{ℕ, ◌<◌}
-use Rattle.icu_collections_sets.specs.Items.{item_bytes}
-use Rattle.icu_collections_sets.proofs.packed_vector.PackedVec.try_from_bytes.Given as goal
-
-abbrev pub invariant-loop-place : goal.invariant-loop-place
-invariant-loop-place g l = (k : ℕ) → k < l.place → g.T.PackedItem.is_encoding (item_bytes g.T.PackedItem.WIDTH l.bytes k)

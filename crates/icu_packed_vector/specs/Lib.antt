@@ -1,0 +1,4 @@
+pub mod Bytes
+pub mod ByteLaws
+pub mod Items
+pub mod Stored
