@@ -1,8 +1,8 @@
-use icu_collections::codepointtrie::planes::get_planes_trie;
+use icu_collections::codepointtrie::planes;
 use icu_collections::codepointtrie::{
     CodePointMapRange, CodePointTrie, CodePointTrieBuildError, CodePointTrieBuilder,
     CodePointTrieBuilderError, CodePointTrieError, CodePointTrieHeader, FastCodePointTrie,
-    SmallCodePointTrie, TrieType, TypedCodePointTrie,
+    SmallCodePointTrie, TrieType, TrieValue, TypedCodePointTrie,
 };
 use icu_collections_sets::packed_vector::PackedVec;
 use std::alloc::Global;
