@@ -62,6 +62,3 @@ pub fn keys_order_as_levels()
         → slice_cmp nat_cmp (key_bytes collation options (levels_of collation options first first_list)) (key_bytes collation options (levels_of collation options second second_list))
         ≡ levels_order options (levels_of collation options first first_list) (levels_of collation options second second_list) }
 {}
-
-#[cfg(test)]
-mod tests;

@@ -108,6 +108,3 @@ pub fn equal_levels_have_equal_keys()
         in levels_order options a b ≡ Equal
         → key_bytes collation options a ≡ key_bytes collation options b }
 {}
-
-#[cfg(test)]
-mod tests;

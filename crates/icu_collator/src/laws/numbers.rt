@@ -67,6 +67,3 @@ pub fn number_keys_order_by_value()
         → run_value collation.weights r ≡ run_value collation.weights s
         → key_of_text collation options (x ++ (r ++ y)) ≡ key_of_text collation options (x ++ (s ++ y)) }
 {}
-
-#[cfg(test)]
-mod tests;

@@ -1,0 +1,6 @@
+pub mod Letters
+pub mod LettersPairs
+pub mod Examples
+pub mod LettersDigits
+pub mod KeyExamples
+pub mod LevelExamples
