@@ -1,14 +1,23 @@
 -- The composed pairs of the canonical data of the worked examples.
 use Rattle.std.proofs.Common.{◌≡◌, ℕ, ◌+◌, ◌-◌, ◌*◌, ◌%◌, ◌/◌, ◌<◌, ◌≤◌, true, false, List, [], ◌∷◌, ◌++◌, refl, sym, subst, ◌==◌, ◌&&◌, ◌⊎◌, inl, inr, arith, Option, Some, None}
 use Rattle.std.specs.Prelude.{◌≢◌, IfSome}
-use Rattle.std.proofs.lemmas.Bool.{cond_both, eqb-true}
+use Rattle.std.proofs.lemmas.Bool.{cond_both}
 use Rattle.std.proofs.lemmas.Bool.Decides.{nat_tests}
 use Rattle.std.proofs.Math.Utf8.{low_scalar}
 use Rattle.std.specs.Char.{IsScalar}
-use Rattle.icu_normalizer_core.specs.BuiltIn.{built_in_step, built_in_class, is_open_syllable, is_syllable, is_within, singled_out, syllable_of}
+use Rattle.icu_normalizer_core.specs.BuiltIn.{built_in_step, built_in_compatibility_step, built_in_class, is_open_syllable, is_syllable, is_within, singled_out, syllable_of}
 use Rattle.icu_normalizer_core.specs.Canonical.{IsComposing, IsCanonical, composed, composing, decomposed, marks_in_order, put_in_order, recomposed}
-use Rattle.icu_collator_examples.proofs.Letters.{letters_is_decomposing, open_step, closed_step}
-use Rattle.icu_collator_examples.specs.Letters.{letters, letters_class, letters_step, letters_full, letters_pair, own_pair}
+use Rattle.worked_rows.specs.Tables.{class_of, step_of, pair_of, expanded, composed_by, first_found}
+use Rattle.worked_rows.specs.Letters.{letters as letters_table}
+use Rattle.icu_collator_examples.proofs.Letters.{letters_class, letters_step, letters_full, by_full, letters_is_decomposing, open_step, closed_step}
+use Rattle.icu_collator_examples.specs.Letters.{letters}
+
+abbrev letters_pair : ℕ → ℕ → Option ℕ
+letters_pair = letters.pair
+
+-- what the lines compose
+abbrev own_pair : ℕ → ℕ → Option ℕ
+own_pair a b = first_found (composed_by a b) letters_table.mappings
 
 -- what composes: two jamo, an open syllable and a trailing jamo, or "a" and an acute or a dot below
 abbrev IsPair : ℕ → ℕ → ℕ → Type 0
@@ -27,12 +36,8 @@ syllable_pair a b c =
     (λ _ e. cc))
 
 accented_pair : (a b c : ℕ) → own_pair a b ≡ Some c → ((a ≡ 0x61) × (b ≡ 0x301) × (c ≡ 0xe1)) ⊎ ((a ≡ 0x61) × (b ≡ 0x323) × (c ≡ 0x1ea1))
-accented_pair a b c =
-    let IsOwn : Option ℕ → Type 0 = λ o. o ≡ Some c → ((a ≡ 0x61) × (b ≡ 0x301) × (c ≡ 0xe1)) ⊎ ((a ≡ 0x61) × (b ≡ 0x323) × (c ≡ 0x1ea1))
-    in cond_both (a == 0x61) _ _ IsOwn
-    (λ s. cond_both (b == 0x301) _ _ IsOwn (λ t e. inl (eqb-true a 0x61 s, eqb-true b 0x301 t, cc))
-    (λ _. cond_both (b == 0x323) _ _ IsOwn (λ t e. inr (eqb-true a 0x61 s, eqb-true b 0x323 t, cc)) (λ _ e. cc)))
-    (λ _ e. cc)
+unfolding built_in_step built_in_compatibility_step singled_out
+accented_pair a b c h = grind (arith, nat_tests)
 
 either_pair : (a b c : ℕ) (o : Option ℕ) → (o ≡ Some c → IsPair a b c)
     → elim o as (λ _. Option ℕ) [ Some z ↦ Some z | None ↦ own_pair a b ] ≡ Some c → IsPair a b c
@@ -40,11 +45,11 @@ either_pair a b c (Some z) h e = h e
 either_pair a b c None h e = inr (inr (accented_pair a b c e))
 
 letters_pair_is : (a b c : ℕ) → letters_pair a b ≡ Some c → IsPair a b c
-unfolding letters_pair
+unfolding pair_of
 letters_pair_is a b c = either_pair a b c (syllable_of a b) (syllable_pair a b c)
 
 accented_step : (letters_step 0xe1 ≡ 0x61 ∷ 0x301 ∷ []) × (letters_step 0x1ea1 ≡ 0x61 ∷ 0x323 ∷ [])
-unfolding letters_step built_in_step singled_out
+unfolding step_of built_in_step built_in_compatibility_step singled_out
 accented_step = (refl, refl)
 
 letters_mapped : (a b c : ℕ) → letters_pair a b ≡ Some c → letters_step c ≡ a ∷ b ∷ []
@@ -91,7 +96,7 @@ letters_seconds a b c h =
     elim (letters_pair_is a b c h) [ inl x ↦ omega arith | inr (inl x) ↦ omega arith | inr (inr (inl x)) ↦ omega arith | inr (inr (inr x)) ↦ omega arith ]
 
 letters_syllables : (a b : ℕ) → IfSome (syllable_of a b) (λ c. letters_pair a b ≡ Some c)
-unfolding letters_pair
+unfolding pair_of
 letters_syllables a b =
     elim (syllable_of a b) as (λ o. IfSome o (λ c. elim o as (λ _. Option ℕ) [ Some z ↦ Some z | None ↦ own_pair a b ] ≡ Some c)) [
       | None ↦ tt
@@ -99,27 +104,27 @@ letters_syllables a b =
     ]
 
 letters_jamo : (a b c : ℕ) → letters_pair a b ≡ Some c → syllable_of a b ≡ None → is_within 0x1161 0x11ff b ≡ false
-unfolding letters_pair
+unfolding pair_of
 letters_jamo a b c h e =
     let is = subst (λ (o : Option ℕ). elim o as (λ _. Option ℕ) [ Some z ↦ Some z | None ↦ own_pair a b ] ≡ Some c) e h
     in elim (accented_pair a b c is) [ inl parts ↦ grind (arith, nat_tests) | inr parts ↦ grind (arith, nat_tests) ]
 
 pub letters_low_starters : (c : ℕ) → c < 0x300 → letters_class c ≡ 0
-unfolding letters_class built_in_class
+unfolding class_of built_in_class
 letters_low_starters c h = grind (arith, nat_tests)
 
 letters_low_steps : (c : ℕ) → c < 0x300 → (c ≡ 0xe1) ⊎ (letters_step c ≡ [])
-unfolding letters_step built_in_step singled_out
+unfolding step_of built_in_step built_in_compatibility_step singled_out
 letters_low_steps c h = grind (arith, nat_tests)
 
 pub letters_unmapped : (c : ℕ) → c < 0xc0 → letters_step c ≡ []
 letters_unmapped c h = elim (letters_low_steps c (omega arith)) [ inl e ↦ absurd (omega arith) | inr e ↦ e ]
 
 pub letters_full_unmapped : (c : ℕ) → c < 0x300 → letters_step c ≡ [] → letters_full c ≡ c ∷ []
-unfolding letters_full
 letters_full_unmapped c h e =
-    cond_both (is_syllable c) _ _ (λ (ds : List ℕ). ds ≡ c ∷ []) (λ s. let low : 0xac00 ≤ c = grind (arith, nat_tests) in absurd (omega arith))
+    by_full (λ (ds : List ℕ). ds ≡ c ∷ []) c
     (λ _. subst (λ (ds : List ℕ). elim ds as (λ _. List ℕ) [ [] ↦ c ∷ [] | d ∷ ds ↦ d ∷ ds ] ≡ c ∷ []) (sym e) refl)
+    (λ s _. let low : 0xac00 ≤ c = grind (arith, nat_tests) in absurd (omega arith))
 
 recomposed_alone : (c : ℕ) → recomposed letters (c ∷ []) ≡ c ∷ []
 unfolding recomposed composing
@@ -131,7 +136,7 @@ own_unmapped c e =
     subst (λ (ds : List ℕ). recomposed letters (marks_in_order letters_class (ds ++ [])) ≡ c ∷ []) (sym e) (recomposed_alone c)
 
 own_accented : composed letters (0xe1 ∷ []) ≡ 0xe1 ∷ []
-unfolding composed composing decomposed marks_in_order put_in_order recomposed letters_full letters_pair letters_step letters_class built_in_step built_in_class singled_out syllable_of
+unfolding composed composing decomposed marks_in_order put_in_order recomposed expanded pair_of step_of class_of built_in_step built_in_compatibility_step built_in_class singled_out syllable_of
 own_accented = refl
 
 letters_own : (c : ℕ) → c < 0x300 → composed letters (c ∷ []) ≡ c ∷ []

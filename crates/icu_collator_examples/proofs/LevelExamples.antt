@@ -8,38 +8,39 @@ use Rattle.icu_collator_types.specs.declared.options.Strength.TheVariants.{Prima
 use Rattle.icu_collator_core.specs.Numbers.{significant, pairs_of, without_last_zeros, pair_bytes, elements_of_bytes, long_number, number_part, number_parts}
 use Rattle.icu_collator_core.specs.SoundElements.{IsSoundSequence, single, nothing, number, of_record}
 use Rattle.icu_collator_core.specs.WeightRules.{IsRecorded}
-use Rattle.icu_collator_examples.specs.Letters.{character_elements, further_elements, digits_collation, plain_options, numeric_options}
+use Rattle.icu_collator_examples.specs.Letters.{digits_collation, plain_options, numeric_options}
 use Rattle.icu_collator_examples.specs.LetterLevels.{small_a, small_b, small_c, capital_a, space, acute, circumflex, seven, case_options, shifted_options, levels_of_a, levels_of_b, levels_of_capital_a, levels_of_a_acute, levels_of_a_circumflex, levels_of_a_space_c, levels_of_ac, levels_of_7, levels_of_07}
 use Rattle.icu_collator.specs.LevelOrders.{primaries_order, secondaries_order, cases_order, tertiaries_order, quaternaries_order, characters_order}
 use Rattle.icu_collator.specs.Order.{levels_order}
+use Rattle.worked_rows.specs.Tables.{recorded_of}
 use Rattle.icu_collator_examples.proofs.Examples.{computing}
 
 small_a_is_recorded : IsRecorded digits_collation.weights small_a
-unfolding character_elements further_elements
+unfolding recorded_of
 small_a_is_recorded = ([], 0x61 ∷ [], small_a ∷ [], refl, (0, omega arith, refl))
 
 small_b_is_recorded : IsRecorded digits_collation.weights small_b
-unfolding character_elements further_elements
+unfolding recorded_of
 small_b_is_recorded = ([], 0x62 ∷ [], small_b ∷ [], refl, (0, omega arith, refl))
 
 small_c_is_recorded : IsRecorded digits_collation.weights small_c
-unfolding character_elements further_elements
+unfolding recorded_of
 small_c_is_recorded = ([], 0x63 ∷ [], small_c ∷ [], refl, (0, omega arith, refl))
 
 capital_a_is_recorded : IsRecorded digits_collation.weights capital_a
-unfolding character_elements further_elements
+unfolding recorded_of
 capital_a_is_recorded = ([], 0x41 ∷ [], capital_a ∷ [], refl, (0, omega arith, refl))
 
 space_is_recorded : IsRecorded digits_collation.weights space
-unfolding character_elements further_elements
+unfolding recorded_of
 space_is_recorded = ([], 0x20 ∷ [], space ∷ [], refl, (0, omega arith, refl))
 
 acute_is_recorded : IsRecorded digits_collation.weights acute
-unfolding character_elements further_elements
+unfolding recorded_of
 acute_is_recorded = ([], 0x301 ∷ [], acute ∷ [], refl, (0, omega arith, refl))
 
 circumflex_is_recorded : IsRecorded digits_collation.weights circumflex
-unfolding character_elements further_elements
+unfolding recorded_of
 circumflex_is_recorded = ([], 0x302 ∷ [], circumflex ∷ [], refl, (0, omega arith, refl))
 
 -- the sequences of elements

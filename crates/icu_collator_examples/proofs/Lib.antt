@@ -1,3 +1,4 @@
+pub mod Found
 pub mod Letters
 pub mod LettersPairs
 pub mod Examples

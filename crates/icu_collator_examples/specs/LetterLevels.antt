@@ -9,6 +9,7 @@ use Rattle.icu_collator_core.specs.Defaults.{primary_element}
 use Rattle.icu_collator_core.specs.Numbers.{number_elements}
 use Rattle.icu_collator_examples.specs.Letters.{digits_collation, plain_options}
 use Rattle.icu_collator.specs.Levels.{Levels, levels_of}
+use Rattle.worked_rows.specs.Letters.{accent_element, upper_element}
 
 -- the elements of "a", "b" and "c"
 abbrev pub small_a : Element
@@ -22,7 +23,7 @@ small_c = primary_element 0x2a300000
 
 -- the element of "A"
 abbrev pub capital_a : Element
-capital_a = record { primary = 0x2a100000; secondary = 0x500; case = 2; tertiary = 0x900; quaternary = 0 }
+capital_a = upper_element 0x2a100000
 
 -- the element of a space
 abbrev pub space : Element
@@ -30,10 +31,10 @@ space = primary_element 0x3040000
 
 -- the elements of an acute and a circumflex
 abbrev pub acute : Element
-acute = record { primary = 0; secondary = 0x8800; case = 0; tertiary = 0x500; quaternary = 0 }
+acute = accent_element 0x8800
 
 abbrev pub circumflex : Element
-circumflex = record { primary = 0; secondary = 0x8a00; case = 0; tertiary = 0x500; quaternary = 0 }
+circumflex = accent_element 0x8a00
 
 -- the elements of the number 7
 abbrev pub seven : List Element
