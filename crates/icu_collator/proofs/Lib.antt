@@ -4,7 +4,6 @@ pub mod MarksSorted
 pub mod Left
 pub mod Equivalence
 pub mod Identical
-pub mod Examples
 pub mod Composed
 pub mod NormalForms
 pub mod Codes
@@ -25,16 +24,11 @@ pub mod SoundWeights
 pub mod CountedPlaces
 pub mod SoundLevels
 pub mod TextKeys
-pub mod KeyExamples
 pub mod NumberLevels
 pub mod NumberDecomposed
 pub mod ReadingsApart
 pub mod ReadingsSplit
 pub mod ReadingsAlike
 pub mod NumbersInTexts
-pub mod Letters
-pub mod LettersPairs
-pub mod LettersDigits
 pub mod NumberKeys
 pub mod DecidingLevels
-pub mod LevelExamples

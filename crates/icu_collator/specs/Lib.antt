@@ -6,6 +6,4 @@ pub mod Equivalence
 pub mod KeyBytes
 pub mod Settings
 pub mod NumbersInTexts
-pub mod Letters
 pub mod LevelOrders
-pub mod LetterLevels

@@ -117,5 +117,3 @@ pub fn normalising_first_keeps_order()
 {}
 
 pub mod numbers;
-#[cfg(test)]
-mod tests;

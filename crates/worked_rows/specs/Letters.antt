@@ -56,6 +56,17 @@ letters =
 abbrev pub with_records : List Recorded → Table → Table
 with_records records table = record table { records = records ++ table.records }
 
+-- "A" as an "a" in upper case
+abbrev pub upper_a : Recorded
+upper_a = text_with (0x41 ∷ []) (upper_element 0x2a100000 ∷ [])
+
+-- a table with a space and a full stop too, each the last of a variable group
+abbrev pub with_stops : Table → Table
+with_stops table =
+    record (with_records (text_at (0x20 ∷ []) 0x304 ∷ text_at (0x2e ∷ []) 0x308 ∷ []) table) {
+      groups = 0x306 ∷ 0x30a ∷ 0x30a ∷ 0x30a ∷ [];
+    }
+
 -- a table with the ten digits too, which by themselves are letters at 1110 to 1119
 abbrev pub with_digits : Table → Table
 with_digits table =

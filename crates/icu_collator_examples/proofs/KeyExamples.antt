@@ -1,0 +1,96 @@
+-- The records of the worked examples keep the rules, so the laws of keys speak of them.
+use Rattle.std.proofs.Common.{◌≡◌, ℕ, Bool, true, false, List, [], ◌∷◌, refl, arith}
+use Rattle.std.proofs.lemmas.Bool.Decides.{nat_tests}
+use Rattle.std.proofs.lemmas.List.Elements.{All-from_recursion, All-contains}
+use Rattle.std.proofs.lemmas.List.Sums.{AllPass-from_list_all}
+use Rattle.std.specs.Prelude.{◌==◌, ◌||◌}
+use Rattle.std.specs.List.{All, AllByRecursion, Contains, list_all}
+use Rattle.std.specs.Char.{IsScalar}
+use Rattle.std.specs.declared.cmp.Ordering.TheVariants.{Less}
+use Rattle.icu_collator_types.specs.declared.elements.Element.{Element}
+use Rattle.icu_collator_types.specs.declared.options.Strength.TheVariants.{Tertiary}
+use Rattle.icu_collator_core.specs.SoundElements.{IsSoundSequence, single, nothing, of_record}
+use Rattle.icu_collator_core.specs.Numbers.{without_last_zeros}
+use Rattle.icu_collator_core.specs.WeightRules.{AreSoundWeights, IsRecorded, has_widths, is_sound_element, are_apart_elements, is_letter_lead, is_proper_beginning}
+use Rattle.icu_collator_examples.specs.Letters.{digits_collation, digits_table, plain_options}
+use Rattle.icu_collator_examples.specs.LetterLevels.{small_a, small_b}
+use Rattle.worked_rows.specs.Tables.{recorded_of}
+use Rattle.icu_collator_examples.proofs.Found.{elements_of, found_elements}
+use Rattle.icu_collator.specs.Levels.{levels_of}
+use Rattle.icu_collator.specs.Order.{levels_order}
+use Rattle.icu_collator.specs.Settings.{AreSoundSettings}
+use Rattle.worked_rows.proofs.Computing.{computing}
+use Rattle.icu_collator_examples.proofs.LettersDigits.{digit_values}
+
+-- the elements of all records: of ten digits, eight letters, three accents, a capital, a space and a full stop
+abbrev all_elements : List Element
+all_elements = elements_of digits_table.records
+
+ours : (e : Element) → IsRecorded digits_collation.weights e → Contains all_elements e
+ours e (before, text, es, h, k) = found_elements digits_table.records before text es e h k
+
+-- what each of those passes, each recorded element passes
+every : (p : Element → Bool) → list_all p all_elements ≡ true → (e : Element) → IsRecorded digits_collation.weights e → p e ≡ true
+every p h e is =
+    All-contains (λ x. p x ≡ true) all_elements e (AllPass-from_list_all p all_elements h) (ours e is)
+
+apart : (d e : Element) → IsRecorded digits_collation.weights d → IsRecorded digits_collation.weights e → are_apart_elements d e ≡ true
+unfolding is_proper_beginning without_last_zeros
+apart d e is also =
+    every (λ x. are_apart_elements x e) (every (λ y. list_all (λ x. are_apart_elements x y) all_elements) refl e also) d is
+
+pub digits_weights_sound : AreSoundWeights digits_collation.weights
+unfolding without_last_zeros
+digits_weights_sound =
+    record {
+      widths = every has_widths refl;
+      elements = every (is_sound_element digits_collation.weights) refl;
+      apart = apart;
+      held = λ c range h. cc;
+      ranges = λ c range h. cc;
+      leads = λ c range e h is. cc;
+      digits = digit_values;
+    }
+
+implicit_alone : (lead : ℕ) → ((lead == 0xfe) || false) ≡ true → (is_letter_lead lead || (lead == 0xfe)) ≡ true
+implicit_alone lead h = grind (arith, nat_tests)
+
+pub digits_settings_sound : AreSoundSettings digits_collation
+digits_settings_sound =
+    record {
+      numeric_lead = refl;
+      groups = refl;
+      implicit = refl;
+      compressible = implicit_alone;
+      outside = λ lead h. refl;
+      inside = λ lead h. h;
+      one_to_one = λ a b h. h;
+      alike = λ lead. refl;
+    }
+
+-- the elements of "a" and "b" are single ones, alone and one after the other
+a_is_recorded : IsRecorded digits_collation.weights small_a
+unfolding recorded_of
+a_is_recorded = ([], 0x61 ∷ [], small_a ∷ [], refl, (0, omega arith, refl))
+
+b_is_recorded : IsRecorded digits_collation.weights small_b
+unfolding recorded_of
+b_is_recorded = ([], 0x62 ∷ [], small_b ∷ [], refl, (0, omega arith, refl))
+
+pub only_b : IsSoundSequence digits_collation.weights false (small_b ∷ [])
+only_b = single _ _ (of_record _ b_is_recorded) nothing
+
+pub a_then_b : IsSoundSequence digits_collation.weights false (small_a ∷ small_b ∷ [])
+a_then_b = single _ _ (of_record _ a_is_recorded) only_b
+
+pub only_b_scalars : All IsScalar (0x62 ∷ [])
+only_b_scalars = let each : AllByRecursion IsScalar (0x62 ∷ []) = (refl, tt) in All-from_recursion IsScalar (0x62 ∷ []) each
+
+pub a_then_b_scalars : All IsScalar (0x61 ∷ 0x62 ∷ [])
+a_then_b_scalars =
+    let each : AllByRecursion IsScalar (0x61 ∷ 0x62 ∷ []) = (refl, (refl, tt)) in All-from_recursion IsScalar (0x61 ∷ 0x62 ∷ []) each
+
+-- the levels of those elements
+pub a_then_b_is_below : levels_order (plain_options Tertiary) (levels_of digits_collation (plain_options Tertiary) (small_a ∷ small_b ∷ []) (0x61 ∷ 0x62 ∷ [])) (levels_of digits_collation (plain_options Tertiary) (small_b ∷ []) (0x62 ∷ [])) ≡ Less
+unfolding computing
+a_then_b_is_below = refl

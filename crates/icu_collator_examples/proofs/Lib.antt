@@ -1,0 +1,7 @@
+pub mod Found
+pub mod Letters
+pub mod LettersPairs
+pub mod Examples
+pub mod LettersDigits
+pub mod KeyExamples
+pub mod LevelExamples

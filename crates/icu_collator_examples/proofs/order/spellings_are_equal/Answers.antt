@@ -1,0 +1,15 @@
+use Rattle.icu_collator_examples.specs.Letters.{letters_collation, dot_composed, acute_composed}
+use Rattle.icu_collator_examples.proofs.Letters.{letters_is_decomposing}
+use Rattle.icu_collator_examples.proofs.Examples.{dot_composed_scalars, acute_composed_scalars}
+use Rattle.icu_collator_examples.proofs.order.spellings_are_equal.Goals as goal
+
+pub returns-clause-equal : goal.returns-clause-equal
+returns-clause-equal c options =
+    c.equivalent_texts_are_equal.ensures letters_collation options dot_composed acute_composed letters_is_decomposing dot_composed_scalars acute_composed_scalars
+    c.spellings_are_equivalent.ensures
+
+pub returns-clause-alike : goal.returns-clause-alike
+returns-clause-alike c options text =
+    (c.order_is_total.ensures letters_collation options).congr dot_composed acute_composed text
+    (c.equivalent_texts_are_equal.ensures letters_collation options dot_composed acute_composed letters_is_decomposing dot_composed_scalars acute_composed_scalars
+    c.spellings_are_equivalent.ensures)

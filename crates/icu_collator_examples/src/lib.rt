@@ -1,0 +1,11 @@
+//! The laws of `icu_collator` applied to texts over the records of the worked examples.
+#![tactic(auto)]
+
+#[cfg(test)]
+mod keys;
+#[cfg(test)]
+mod levels;
+#[cfg(test)]
+mod numbers;
+#[cfg(test)]
+mod order;
