@@ -18,7 +18,7 @@ use Rattle.icu_codepointtrie.specs.Blocks.{block, blocks, different_blocks, AreK
 use Rattle.icu_codepointtrie.specs.Places.{fast_limit}
 use Rattle.icu_codepointtrie.specs.Layouts.{IsLayout}
 use Rattle.icu_codepointtrie.specs.declared.builder.layout.Layout.{Layout}
-use Rattle.icu_codepointtrie.proofs.BuiltTries.{type_facts}
+use Rattle.icu_codepointtrie.proofs.Layouts.{type_facts}
 
 -- whether two blocks have the same numbers
 abbrev pub Same : List ℕ → List ℕ → Bool

@@ -12,6 +12,8 @@ use Rattle.std.proofs.lemmas.Map.Keys.{IsDistinct-push}
 use Rattle.std.proofs.lemmas.Slice.Eq.{bytes_eq-Decides}
 use Rattle.std.proofs.lemmas.Option.{slice_get_within, get_or_from_slice_get}
 use Rattle.std.specs.Prelude.{IfSome, slice_get, Option, Some, None}
+use Rattle.icu_codepointtrie.specs.declared.builder.compaction.Compaction.{Compaction}
+use Rattle.icu_codepointtrie.specs.Layouts.{IsBounded}
 use Rattle.icu_codepointtrie.specs.Blocks.{block, AreKept, ArePlaces, IsKeptAt}
 
 -- what holds of each kept number and of one more
@@ -81,3 +83,8 @@ last_inside width values first number places kept (Some place) from h same =
     let within : length places - 1 < length places = slice_get_within places (length places - 1) place (sym same) in
     let value : slice_index places (length places - 1) ≡ place = get_or_from_slice_get places (length places - 1) place 0 (sym same) in
     rw value at (h.inside (length places - 1) within)
+
+-- kept blocks and their places are in bounds
+pub IsBounded-kept : (width : ℕ) (values : List ℕ) {first end limit : ℕ} (c : Compaction) → AreKept width values first end c.kept.items → ArePlaces width values first end c.places.items c.kept.items
+    → length c.kept.items ≤ limit → IsBounded first end limit c
+IsBounded-kept width values c kept places few = record { count = places.count; inside = places.inside; few = few; from = kept.from; before = kept.before }

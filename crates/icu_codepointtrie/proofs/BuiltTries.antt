@@ -4,20 +4,13 @@ use Rattle.std.specs.Prelude.{Some, slice_get, slice_index}
 use Rattle.std.proofs.lemmas.Bool.{lt-ltb, le-ltb, ne_eqb, eq-eqb, cases_lt}
 use Rattle.std.proofs.lemmas.List.{get_or-take, get_or-drop, get_or-map}
 use Rattle.std.proofs.lemmas.Option.{slice_get-get_or}
-use Rattle.icu_codepointtrie.specs.declared.trie.TrieType.{TrieType}
-use Rattle.icu_codepointtrie.specs.declared.trie.TrieType.TheVariants.{Fast, Small}
 use Rattle.icu_codepointtrie.specs.declared.builder.layout.Layout.{Layout}
 use Rattle.icu_codepointtrie.specs.Places.{fast_limit, fast_blocks, first_step, fast_place, wide_offset, small_place, named_place, TrieTables, value_at, has_cell, IsTrie}
 use Rattle.icu_codepointtrie.specs.CodePointMaps.{CodePointMap, mapped}
 use Rattle.icu_codepointtrie.specs.BuiltTries.{IsTrieOf, AreCells}
 use Rattle.icu_codepointtrie.specs.Blocks.{block}
 use Rattle.icu_codepointtrie.specs.Layouts.{AreBounded, IsLayout, second_start, third_start, small_offset, upper_cell, group_block, third_cell, index_cell, index_count, value_count, source, HasIndex}
-use Rattle.icu_codepointtrie.proofs.Layouts.{joined_bits}
-
--- the two types by one number
-pub type_facts : (t : TrieType) → (x : ℕ) × (x ≤ 1) × (fast_limit t ≡ 61440 * x + 4096) × (first_step t ≡ 956 * x + 64)
-type_facts Fast = (1, omega arith, refl, refl)
-type_facts Small = (0, omega arith, refl, refl)
+use Rattle.icu_codepointtrie.proofs.Layouts.{type_facts, joined_bits}
 
 -- alike blocks have alike values
 block_at : (width : ℕ) (values : List ℕ) (a b r : ℕ) → block width values a ≡ block width values b → r < width → slice_index values (a * width + r) ≡ slice_index values (b * width + r)

@@ -1,7 +1,30 @@
--- Numbers of two bits one behind another.
-use Rattle.std.proofs.Common.{◌≡◌, ℕ, zero, suc, ◌+◌, ◌-◌, ◌*◌, ◌/◌, ◌%◌, ◌^◌, ◌<◌, ◌≤◌, refl, add-one, arith}
+-- The two types of tries, and numbers of two bits one behind another.
+use Rattle.std.proofs.Common.{◌≡◌, ℕ, zero, suc, ◌+◌, ◌-◌, ◌*◌, ◌/◌, ◌%◌, ◌^◌, ◌<◌, ◌≤◌, length, get_or, refl, ◌∙◌, add-one, arith}
+use Rattle.std.specs.Prelude.{slice_index}
+use Rattle.std.proofs.lemmas.List.{get_or_default}
 use Rattle.std.proofs.Math.Nat.{pow-suc, pow-le-pow_right}
-use Rattle.icu_codepointtrie.specs.Layouts.{joined}
+use Rattle.icu_codepointtrie.specs.declared.trie.TrieType.{TrieType}
+use Rattle.icu_codepointtrie.specs.declared.trie.TrieType.TheVariants.{Fast, Small}
+use Rattle.icu_codepointtrie.specs.Places.{fast_limit, first_step}
+use Rattle.icu_codepointtrie.specs.declared.builder.compaction.Compaction.{Compaction}
+use Rattle.icu_codepointtrie.specs.Layouts.{joined, IsBounded}
+
+-- the two types by one number
+pub type_facts : (t : TrieType) → (x : ℕ) × (x ≤ 1) × (fast_limit t ≡ 61440 * x + 4096) × (first_step t ≡ 956 * x + 64)
+type_facts Fast = (1, omega arith, refl, refl)
+type_facts Small = (0, omega arith, refl, refl)
+
+-- a kept block that was read is between the two numbers
+pub kept_bounds : {first end limit : ℕ} (c : Compaction) (i number : ℕ) → IsBounded first end limit c → i < length c.kept.items → number ≡ get_or c.kept.items i number → (first ≤ number) × (number < end)
+kept_bounds c i number bounds inside here =
+    let same : number ≡ slice_index c.kept.items i = here ∙ get_or_default c.kept.items i number 0 inside in
+    (omega (arith, same, bounds.from i inside), omega (arith, same, bounds.before i inside))
+
+-- a place that was read is among the kept blocks
+pub place_bounds : {first end limit : ℕ} (c : Compaction) (i place : ℕ) → IsBounded first end limit c → i < length c.places.items → place ≡ get_or c.places.items i place → place < limit
+place_bounds c i place bounds inside here =
+    let same : place ≡ slice_index c.places.items i = here ∙ get_or_default c.places.items i place 0 inside in
+    omega (arith, same, bounds.inside i inside, bounds.few)
 
 pub joined_more : (f : ℕ → ℕ) (n : ℕ) → joined f (n + 1) ≡ joined f n * 4 + f n
 joined_more f n = rw add-one refl

@@ -2,6 +2,7 @@ pub mod RangeLemmas
 pub mod TomlLemmas
 pub mod Blocks
 pub mod Layouts
+pub mod BuiltCells
 pub mod BuiltTries
 pub mod BlockCounts
 pub mod BlockLaws

@@ -8,6 +8,15 @@ fn list_of(alloc: Global, builder: &CodePointInversionListBuilder) -> Result<Vec
     builder.build(alloc)?.get_inversion_list_vec(alloc)
 }
 
+/// Whether a builder's set has these ends.
+fn has_edges(
+    alloc: Global,
+    builder: &CodePointInversionListBuilder,
+    edges: &[u32],
+) -> Result<bool, AllocError> {
+    Ok(list_of(alloc, builder)?.as_slice() == edges)
+}
+
 fn two_ranges(alloc: Global) -> Result<CodePointInversionListBuilder, AllocError> {
     let mut builder = CodePointInversionListBuilder::new(alloc);
     builder.add_range32(0x0A..=0x13)?;
@@ -29,10 +38,7 @@ fn ok_build(rt: HostRuntime) -> Result<(), Fail> {
     assert!(rt; empty.is_empty());
     assert!(rt; list_of(rt.alloc(), &empty)?.is_empty());
     let builder = two_ranges(rt.alloc())?;
-    assert_eq!(rt;
-        list_of(rt.alloc(), &builder)?.as_slice(),
-        [0x0A, 0x14, 0x28, 0x32].as_slice()
-    );
+    assert!(rt; has_edges(rt.alloc(), &builder, &[0x0A, 0x14, 0x28, 0x32])?);
     Ok(())
 }
 
@@ -40,10 +46,7 @@ fn ok_build(rt: HostRuntime) -> Result<(), Fail> {
 fn ok_add_set(rt: HostRuntime) -> Result<(), Fail> {
     let mut builder = two_ranges(rt.alloc())?;
     builder.add_set(&six_edges(rt.alloc())?)?;
-    assert_eq!(rt;
-        list_of(rt.alloc(), &builder)?.as_slice(),
-        [0x05, 0x14, 0x16, 0x21, 0x28, 0x33].as_slice()
-    );
+    assert!(rt; has_edges(rt.alloc(), &builder, &[0x05, 0x14, 0x16, 0x21, 0x28, 0x33])?);
     Ok(())
 }
 
@@ -51,10 +54,7 @@ fn ok_add_set(rt: HostRuntime) -> Result<(), Fail> {
 fn ok_add_char(rt: HostRuntime) -> Result<(), Fail> {
     let mut builder = two_ranges(rt.alloc())?;
     builder.add_char('\u{14}')?;
-    assert_eq!(rt;
-        list_of(rt.alloc(), &builder)?.as_slice(),
-        [0x0A, 0x15, 0x28, 0x32].as_slice()
-    );
+    assert!(rt; has_edges(rt.alloc(), &builder, &[0x0A, 0x15, 0x28, 0x32])?);
     Ok(())
 }
 
@@ -62,10 +62,7 @@ fn ok_add_char(rt: HostRuntime) -> Result<(), Fail> {
 fn ok_add32(rt: HostRuntime) -> Result<(), Fail> {
     let mut builder = two_ranges(rt.alloc())?;
     builder.add32(0x27)?;
-    assert_eq!(rt;
-        list_of(rt.alloc(), &builder)?.as_slice(),
-        [0x0A, 0x14, 0x27, 0x32].as_slice()
-    );
+    assert!(rt; has_edges(rt.alloc(), &builder, &[0x0A, 0x14, 0x27, 0x32])?);
     Ok(())
 }
 
@@ -73,10 +70,7 @@ fn ok_add32(rt: HostRuntime) -> Result<(), Fail> {
 fn ok_add_range(rt: HostRuntime) -> Result<(), Fail> {
     let mut builder = two_ranges(rt.alloc())?;
     builder.add_range('\u{10}'..='\u{27}')?;
-    assert_eq!(rt;
-        list_of(rt.alloc(), &builder)?.as_slice(),
-        [0x0A, 0x32].as_slice()
-    );
+    assert!(rt; has_edges(rt.alloc(), &builder, &[0x0A, 0x32])?);
     Ok(())
 }
 
@@ -84,9 +78,12 @@ fn ok_add_range(rt: HostRuntime) -> Result<(), Fail> {
 fn ok_add_range32(rt: HostRuntime) -> Result<(), Fail> {
     let mut builder = two_ranges(rt.alloc())?;
     builder.add_range32(0x40..=0xFFFF_FFFF)?;
-    assert_eq!(rt;
-        list_of(rt.alloc(), &builder)?.as_slice(),
-        [0x0A, 0x14, 0x28, 0x32, 0x40, 0x11_0000].as_slice()
+    assert!(rt;
+        has_edges(
+            rt.alloc(),
+            &builder,
+            &[0x0A, 0x14, 0x28, 0x32, 0x40, 0x11_0000]
+        )?
     );
     Ok(())
 }
@@ -95,10 +92,7 @@ fn ok_add_range32(rt: HostRuntime) -> Result<(), Fail> {
 fn ok_remove_set(rt: HostRuntime) -> Result<(), Fail> {
     let mut builder = two_ranges(rt.alloc())?;
     builder.remove_set(&six_edges(rt.alloc())?)?;
-    assert_eq!(rt;
-        list_of(rt.alloc(), &builder)?.as_slice(),
-        [0x0A, 0x14, 0x28, 0x2C].as_slice()
-    );
+    assert!(rt; has_edges(rt.alloc(), &builder, &[0x0A, 0x14, 0x28, 0x2C])?);
     Ok(())
 }
 
@@ -106,10 +100,7 @@ fn ok_remove_set(rt: HostRuntime) -> Result<(), Fail> {
 fn ok_remove_char(rt: HostRuntime) -> Result<(), Fail> {
     let mut builder = two_ranges(rt.alloc())?;
     builder.remove_char('\u{0A}')?;
-    assert_eq!(rt;
-        list_of(rt.alloc(), &builder)?.as_slice(),
-        [0x0B, 0x14, 0x28, 0x32].as_slice()
-    );
+    assert!(rt; has_edges(rt.alloc(), &builder, &[0x0B, 0x14, 0x28, 0x32])?);
     Ok(())
 }
 
@@ -117,10 +108,7 @@ fn ok_remove_char(rt: HostRuntime) -> Result<(), Fail> {
 fn ok_remove32(rt: HostRuntime) -> Result<(), Fail> {
     let mut builder = two_ranges(rt.alloc())?;
     builder.remove32(0x31)?;
-    assert_eq!(rt;
-        list_of(rt.alloc(), &builder)?.as_slice(),
-        [0x0A, 0x14, 0x28, 0x31].as_slice()
-    );
+    assert!(rt; has_edges(rt.alloc(), &builder, &[0x0A, 0x14, 0x28, 0x31])?);
     Ok(())
 }
 
@@ -128,10 +116,7 @@ fn ok_remove32(rt: HostRuntime) -> Result<(), Fail> {
 fn ok_remove_range(rt: HostRuntime) -> Result<(), Fail> {
     let mut builder = two_ranges(rt.alloc())?;
     builder.remove_range('\u{10}'..='\u{11}')?;
-    assert_eq!(rt;
-        list_of(rt.alloc(), &builder)?.as_slice(),
-        [0x0A, 0x10, 0x12, 0x14, 0x28, 0x32].as_slice()
-    );
+    assert!(rt; has_edges(rt.alloc(), &builder, &[0x0A, 0x10, 0x12, 0x14, 0x28, 0x32])?);
     Ok(())
 }
 
@@ -139,10 +124,7 @@ fn ok_remove_range(rt: HostRuntime) -> Result<(), Fail> {
 fn ok_remove_range32(rt: HostRuntime) -> Result<(), Fail> {
     let mut builder = two_ranges(rt.alloc())?;
     builder.remove_range32(0x13..=0x28)?;
-    assert_eq!(rt;
-        list_of(rt.alloc(), &builder)?.as_slice(),
-        [0x0A, 0x13, 0x29, 0x32].as_slice()
-    );
+    assert!(rt; has_edges(rt.alloc(), &builder, &[0x0A, 0x13, 0x29, 0x32])?);
     Ok(())
 }
 
@@ -150,10 +132,7 @@ fn ok_remove_range32(rt: HostRuntime) -> Result<(), Fail> {
 fn ok_retain_set(rt: HostRuntime) -> Result<(), Fail> {
     let mut builder = two_ranges(rt.alloc())?;
     builder.retain_set(&six_edges(rt.alloc())?)?;
-    assert_eq!(rt;
-        list_of(rt.alloc(), &builder)?.as_slice(),
-        [0x2C, 0x32].as_slice()
-    );
+    assert!(rt; has_edges(rt.alloc(), &builder, &[0x2C, 0x32])?);
     Ok(())
 }
 
@@ -161,10 +140,7 @@ fn ok_retain_set(rt: HostRuntime) -> Result<(), Fail> {
 fn ok_retain_char(rt: HostRuntime) -> Result<(), Fail> {
     let mut builder = two_ranges(rt.alloc())?;
     builder.retain_char('\u{0A}')?;
-    assert_eq!(rt;
-        list_of(rt.alloc(), &builder)?.as_slice(),
-        [0x0A, 0x0B].as_slice()
-    );
+    assert!(rt; has_edges(rt.alloc(), &builder, &[0x0A, 0x0B])?);
     Ok(())
 }
 
@@ -172,10 +148,7 @@ fn ok_retain_char(rt: HostRuntime) -> Result<(), Fail> {
 fn ok_retain32(rt: HostRuntime) -> Result<(), Fail> {
     let mut builder = two_ranges(rt.alloc())?;
     builder.retain32(0x31)?;
-    assert_eq!(rt;
-        list_of(rt.alloc(), &builder)?.as_slice(),
-        [0x31, 0x32].as_slice()
-    );
+    assert!(rt; has_edges(rt.alloc(), &builder, &[0x31, 0x32])?);
     Ok(())
 }
 
@@ -183,10 +156,7 @@ fn ok_retain32(rt: HostRuntime) -> Result<(), Fail> {
 fn ok_retain_range(rt: HostRuntime) -> Result<(), Fail> {
     let mut builder = two_ranges(rt.alloc())?;
     builder.retain_range('\u{10}'..='\u{29}')?;
-    assert_eq!(rt;
-        list_of(rt.alloc(), &builder)?.as_slice(),
-        [0x10, 0x14, 0x28, 0x2A].as_slice()
-    );
+    assert!(rt; has_edges(rt.alloc(), &builder, &[0x10, 0x14, 0x28, 0x2A])?);
     Ok(())
 }
 
@@ -202,9 +172,12 @@ fn ok_retain_range32(rt: HostRuntime) -> Result<(), Fail> {
 fn ok_complement_set(rt: HostRuntime) -> Result<(), Fail> {
     let mut builder = two_ranges(rt.alloc())?;
     builder.complement_set(&six_edges(rt.alloc())?)?;
-    assert_eq!(rt;
-        list_of(rt.alloc(), &builder)?.as_slice(),
-        [0x05, 0x14, 0x16, 0x21, 0x28, 0x2C, 0x32, 0x33].as_slice()
+    assert!(rt;
+        has_edges(
+            rt.alloc(),
+            &builder,
+            &[0x05, 0x14, 0x16, 0x21, 0x28, 0x2C, 0x32, 0x33]
+        )?
     );
     Ok(())
 }
@@ -213,10 +186,7 @@ fn ok_complement_set(rt: HostRuntime) -> Result<(), Fail> {
 fn ok_complement_char(rt: HostRuntime) -> Result<(), Fail> {
     let mut builder = two_ranges(rt.alloc())?;
     builder.complement_char('\u{0A}')?;
-    assert_eq!(rt;
-        list_of(rt.alloc(), &builder)?.as_slice(),
-        [0x0B, 0x14, 0x28, 0x32].as_slice()
-    );
+    assert!(rt; has_edges(rt.alloc(), &builder, &[0x0B, 0x14, 0x28, 0x32])?);
     Ok(())
 }
 
@@ -224,10 +194,7 @@ fn ok_complement_char(rt: HostRuntime) -> Result<(), Fail> {
 fn ok_complement32(rt: HostRuntime) -> Result<(), Fail> {
     let mut builder = two_ranges(rt.alloc())?;
     builder.complement32(0x14)?;
-    assert_eq!(rt;
-        list_of(rt.alloc(), &builder)?.as_slice(),
-        [0x0A, 0x15, 0x28, 0x32].as_slice()
-    );
+    assert!(rt; has_edges(rt.alloc(), &builder, &[0x0A, 0x15, 0x28, 0x32])?);
     Ok(())
 }
 
@@ -235,10 +202,7 @@ fn ok_complement32(rt: HostRuntime) -> Result<(), Fail> {
 fn ok_complement_range(rt: HostRuntime) -> Result<(), Fail> {
     let mut builder = two_ranges(rt.alloc())?;
     builder.complement_range('\u{10}'..='\u{2F}')?;
-    assert_eq!(rt;
-        list_of(rt.alloc(), &builder)?.as_slice(),
-        [0x0A, 0x10, 0x14, 0x28, 0x30, 0x32].as_slice()
-    );
+    assert!(rt; has_edges(rt.alloc(), &builder, &[0x0A, 0x10, 0x14, 0x28, 0x30, 0x32])?);
     Ok(())
 }
 
@@ -246,10 +210,7 @@ fn ok_complement_range(rt: HostRuntime) -> Result<(), Fail> {
 fn ok_complement_range32(rt: HostRuntime) -> Result<(), Fail> {
     let mut builder = two_ranges(rt.alloc())?;
     builder.complement_range32(0x14..=0x27)?;
-    assert_eq!(rt;
-        list_of(rt.alloc(), &builder)?.as_slice(),
-        [0x0A, 0x32].as_slice()
-    );
+    assert!(rt; has_edges(rt.alloc(), &builder, &[0x0A, 0x32])?);
     Ok(())
 }
 
@@ -257,9 +218,12 @@ fn ok_complement_range32(rt: HostRuntime) -> Result<(), Fail> {
 fn ok_complement(rt: HostRuntime) -> Result<(), Fail> {
     let mut builder = two_ranges(rt.alloc())?;
     builder.complement()?;
-    assert_eq!(rt;
-        list_of(rt.alloc(), &builder)?.as_slice(),
-        [0, 0x0A, 0x14, 0x28, 0x32, 0x11_0000].as_slice()
+    assert!(rt;
+        has_edges(
+            rt.alloc(),
+            &builder,
+            &[0, 0x0A, 0x14, 0x28, 0x32, 0x11_0000]
+        )?
     );
     Ok(())
 }

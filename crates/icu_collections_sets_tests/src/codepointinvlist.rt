@@ -9,6 +9,16 @@ fn set_of(alloc: Global, list: &[u32]) -> Result<CodePointInversionList<'static>
     CodePointInversionList::try_from_u32_inversion_list_slice(alloc, list)
 }
 
+/// Whether each of these lists makes a set, or none of them.
+fn make_sets(alloc: Global, lists: &[&[u32]], expected: bool) -> bool {
+    for list in lists {
+        if set_of(alloc, list).is_ok() != expected {
+            return false;
+        }
+    }
+    true
+}
+
 #[test]
 fn lists_that_are_none(rt: HostRuntime) -> Result<(), Fail> {
     let list = PackedVec::from_slice(rt.alloc(), &[0x42u32, 0x41])?;
@@ -17,52 +27,77 @@ fn lists_that_are_none(rt: HostRuntime) -> Result<(), Fail> {
         Ok(_) => assert!(rt; false),
         Err(error) => assert!(rt; error.0 == same),
     }
-    assert!(rt; set_of(rt.alloc(), &[0x41, 0x42, 0x43]).is_err());
-    assert!(rt; set_of(rt.alloc(), &[0x41, 0x11_0001]).is_err());
-    assert!(rt; set_of(rt.alloc(), &[0x41, 0x11_0000]).is_ok());
+    assert!(rt; make_sets(rt.alloc(), &[&[0x41, 0x42, 0x43], &[0x41, 0x11_0001]], false));
+    assert!(rt; make_sets(rt.alloc(), &[&[0x41, 0x11_0000]], true));
     Ok(())
+}
+
+/// Whether the set holds each of these code points, or none of them.
+fn holds_each(set: &CodePointInversionList<'_>, code_points: &[u32], expected: bool) -> bool {
+    for code_point in code_points {
+        if set.contains32(*code_point) != expected {
+            return false;
+        }
+    }
+    true
+}
+
+/// Whether the set holds each range of characters, or none of them.
+fn holds_ranges(set: &CodePointInversionList<'_>, ends: &[(char, char)], expected: bool) -> bool {
+    for (start, end) in ends {
+        if set.contains_range(*start..=*end) != expected {
+            return false;
+        }
+    }
+    true
+}
+
+/// Whether the range of this number begins and ends so.
+fn has_range(set: &CodePointInversionList<'_>, number: usize, start: u32, end: u32) -> bool {
+    set.get_nth_range(number)
+        .is_some_and(|range| *range.start() == start && *range.end() == end)
+}
+
+/// Whether these members have these positions.
+fn has_positions(set: &CodePointInversionList<'_>, table: &[(u32, Option<usize>)]) -> bool {
+    for (code_point, position) in table {
+        if set.position32(*code_point) != *position {
+            return false;
+        }
+    }
+    true
 }
 
 #[test]
 fn ok_try_from_u32_inversion_list_slice(rt: HostRuntime) -> Result<(), Fail> {
-    let Ok(set) = set_of(rt.alloc(), &[0x41, 0x46, 0x4B, 0x55]) else {
-        assert!(rt; false);
-        return Ok(());
-    };
-    assert!(rt; set.contains('A') && set.contains('E') && set.contains32(0x4B));
-    assert!(rt; !set.contains('F') && !set.contains('@') && !set.contains32(0x11_0000));
-    assert_eq!(rt; set.get_range_count(), 2);
-    assert!(rt;
-        set.get_nth_range(1)
-            .is_some_and(|range| *range.start() == 0x4B && *range.end() == 0x54)
-    );
-    assert!(rt; set.get_nth_range(2).is_none());
-    assert_eq!(rt; set.size(), 15);
-    assert_eq!(rt; set.position32(0x4C), Some(6));
-    assert_eq!(rt; set.position32(0x46), None);
-    assert!(rt;
-        set.contains_range('K'..='T')
-            && !set.contains_range('A'..='K')
-            && !set.contains_range('B'..='A')
-    );
+    let set = set_of(rt.alloc(), &[0x41, 0x46, 0x4B, 0x55])?;
+    assert!(rt; holds_each(&set, &[0x41, 0x45, 0x4B], true));
+    assert!(rt; holds_each(&set, &[0x40, 0x46, 0x11_0000], false));
+    assert!(rt; set.contains('E') && !set.contains('F'));
+    assert!(rt; set.get_range_count() == 2 && set.size() == 15);
+    assert!(rt; has_range(&set, 1, 0x4B, 0x54) && set.get_nth_range(2).is_none());
+    assert!(rt; has_positions(&set, &[(0x4C, Some(6)), (0x46, None)]));
+    assert!(rt; holds_ranges(&set, &[('K', 'T')], true));
+    assert!(rt; holds_ranges(&set, &[('A', 'K'), ('B', 'A')], false));
     Ok(())
+}
+
+/// Whether the set of one list holds all of another.
+fn holds_set(alloc: Global, outer: &[u32], inner: &[u32]) -> Result<bool, SetError> {
+    Ok(set_of(alloc, outer)?.contains_set(&set_of(alloc, inner)?))
 }
 
 #[test]
 fn sets_in_sets(rt: HostRuntime) -> Result<(), Fail> {
-    let outer = set_of(rt.alloc(), &[0x41, 0x46]);
-    let inner = set_of(rt.alloc(), &[0x41, 0x44]);
-    let longer = set_of(rt.alloc(), &[0x41, 0x47]);
-    match (outer, inner, longer) {
-        (Ok(outer), Ok(inner), Ok(longer)) => {
-            assert!(rt; outer.contains_set(&inner));
-            assert!(rt; !outer.contains_set(&longer));
-        }
-        _ => assert!(rt; false),
-    }
+    assert!(rt; holds_set(rt.alloc(), &[0x41, 0x46], &[0x41, 0x44])?);
+    assert!(rt; !holds_set(rt.alloc(), &[0x41, 0x46], &[0x41, 0x47])?);
+    Ok(())
+}
+
+#[test]
+fn all_code_points(rt: HostRuntime) {
     assert!(rt; CodePointInversionList::all().contains_set(&CodePointInversionList::bmp()));
     assert_eq!(rt; CodePointInversionList::all().size(), 0x11_0000);
-    Ok(())
 }
 
 #[test]
@@ -167,21 +202,25 @@ fn stretches_of_texts(rt: HostRuntime) -> Result<(), Fail> {
 }
 
 #[test]
-fn printed(rt: HostRuntime) -> Result<(), Fail> {
+fn a_set_printed(rt: HostRuntime) -> Result<(), Fail> {
     let set = set_of(rt.alloc(), &[0x41, 0x43])?;
-    assert_eq!(rt;
-        format!(in rt.alloc(); "{set:?}")?.as_str(),
-        "CodePointInversionList { edges: [65, 67] }"
-    );
+    let text = format!(in rt.alloc(); "{set:?}")?;
+    assert_eq!(rt; text.as_str(), "CodePointInversionList { edges: [65, 67] }");
+    Ok(())
+}
+
+#[test]
+fn a_refused_list_printed(rt: HostRuntime) -> Result<(), Fail> {
     let error = set_of(rt.alloc(), &[0x42, 0x41]).err().ok_or("a set")?;
-    assert_eq!(rt;
-        format!(in rt.alloc(); "{error}")?.as_str(),
-        "Invalid set: [66, 65]"
-    );
+    let text = format!(in rt.alloc(); "{error}")?;
+    assert_eq!(rt; text.as_str(), "Invalid set: [66, 65]");
+    Ok(())
+}
+
+#[test]
+fn a_refused_range_printed(rt: HostRuntime) -> Result<(), Fail> {
     let error = RangeError(65, 65);
-    assert_eq!(rt;
-        format!(in rt.alloc(); "{error}")?.as_str(),
-        "Invalid range: 65..65"
-    );
+    let text = format!(in rt.alloc(); "{error}")?;
+    assert_eq!(rt; text.as_str(), "Invalid range: 65..65");
     Ok(())
 }

@@ -51,22 +51,21 @@ fn read(alloc: Global, value: &Value) -> Result<String, AllocError> {
     }
 }
 
+const WRITTEN: &[(&[u32], &str)] = &[
+    (&[0x41, 0x46, 0x4B, 0x55], r#"["A-E","K-T"]"#),
+    (&[], "[]"),
+    (&[0x2D, 0x2E, 0x61, 0x62], r#"["-","a"]"#),
+    (
+        &[0xD7FF, 0xD801, 0xD8AB, 0xD8AC, 0xDFFF, 0xE001],
+        "[\"\u{D7FF}-U+D800\",\"U+D8AB\",\"U+DFFF-\u{E000}\"]",
+    ),
+];
+
 #[test]
 fn ok_to_json(rt: HostRuntime) -> Result<(), Fail> {
-    let alloc = rt.alloc();
-    assert_eq!(rt;
-        compact(alloc, &[0x41, 0x46, 0x4B, 0x55])?.as_str(),
-        r#"["A-E","K-T"]"#
-    );
-    assert_eq!(rt; compact(alloc, &[])?.as_str(), "[]");
-    assert_eq!(rt;
-        compact(alloc, &[0x2D, 0x2E, 0x61, 0x62])?.as_str(),
-        r#"["-","a"]"#
-    );
-    assert_eq!(rt;
-        compact(alloc, &[0xD7FF, 0xD801, 0xD8AB, 0xD8AC, 0xDFFF, 0xE001])?.as_str(),
-        "[\"\u{D7FF}-U+D800\",\"U+D8AB\",\"U+DFFF-\u{E000}\"]"
-    );
+    for (edges, expected) in WRITTEN {
+        assert!(rt; compact(rt.alloc(), edges)?.as_str() == *expected, "of {expected}");
+    }
     Ok(())
 }
 

@@ -1,12 +1,12 @@
 //! The trie of a map.
 ghost use Rattle.std.specs.Prelude.{◌≡◌, ℕ, ◌+◌, ◌*◌, ◌/◌, ◌<◌, ◌≤◌, ◌⊎◌, length, map, take, drop, slice_get, slice_index, slice_index_or, IfOk, IfErr, Some};
 ghost use Rattle.icu_codepointtrie.specs.Places.{fast_limit, TrieTables};
-ghost use Rattle.icu_codepointtrie.specs.Blocks.{different_blocks};
-ghost use Rattle.icu_codepointtrie.specs.Layouts.{AreBounded, value_count, source};
+ghost use Rattle.icu_codepointtrie.specs.Blocks.{different_blocks, HasMore};
+ghost use Rattle.icu_codepointtrie.specs.Layouts.{AreBounded, IsLayout, HasIndex, value_count, source};
 ghost use Rattle.icu_codepointtrie.specs.BuiltTries.{IsTrieOf, AreCells};
 ghost use Rattle.icu_codepointtrie.specs.declared.builder.compaction.CodePointTrieBuildError.TheVariants.{TooLarge, Memory};
 
-use super::super::trie::{CodePointTrie, CodePointTrieHeader};
+use super::super::trie::{CodePointTrie, CodePointTrieHeader, TrieType};
 use super::super::value::TrieValue;
 use super::CodePointTrieBuilder;
 use super::compaction::CodePointTrieBuildError;
@@ -46,6 +46,46 @@ fn cells_of<T: TrieValue>(
     Ok(cells)
 }
 
+/// The same, packed.
+fn packed_cells_of<T: TrieValue>(
+    alloc: Global,
+    layout: &Layout,
+    values: &[T],
+    error: T,
+) -> Result<PackedVec<'static, T>, AllocError>
+    requires bounds { AreBounded layout.now }
+    requires values { length values.now ≡ 0x110000 }
+    ensures { IfOk result (λ cells. AreCells layout.now values.now error cells) }
+{
+    let cells = cells_of(alloc, layout, values, error)?;
+    PackedVec::from_slice(alloc, cells.as_slice())
+}
+
+/// The index cells, packed. The only error is want of memory.
+fn packed_index_of(alloc: Global, layout: &Layout) -> Result<PackedVec<'static, u16>, AllocError>
+    requires { AreBounded layout.now }
+    ensures { IfOk result (HasIndex layout.now) }
+{
+    let index = layout.index(alloc)?;
+    PackedVec::from_slice(alloc, index.as_slice())
+}
+
+/// The layout of the numbers of values, refused as `Layout::new` refuses it.
+fn layout_of<T: TrieValue>(
+    alloc: Global,
+    values: &[T],
+    trie_type: TrieType,
+) -> Result<Layout, CodePointTrieBuildError>
+    requires { length values.now ≡ 0x110000 }
+    ensures layout { IfOk result (IsLayout (map T.number values.now)) }
+    ensures bounds { IfOk result AreBounded }
+    ensures trie_type { IfOk result (λ layout. layout.trie_type ≡ trie_type) }
+    ensures refused { IfErr result (λ e. (e ≡ Memory) ⊎ ((e ≡ TooLarge) × (HasMore 512 (map T.number values.now) (fast_limit trie_type / 512) 0x880 800 ⊎ HasMore 16 (map T.number values.now) (fast_limit trie_type / 16) 0x1_1000 12000))) }
+{
+    let numbers = numbers_of(alloc, values)?;
+    Layout::new(alloc, numbers.as_slice(), trie_type)
+}
+
 impl<T: TrieValue> CodePointTrieBuilder<T> {
     /// The trie that reads the map: for each code point the map's value, and the error value past
     /// 10FFFF (hex). Equal blocks of 64 code points below the fast limit, and of 16 from there on,
@@ -58,15 +98,12 @@ impl<T: TrieValue> CodePointTrieBuilder<T> {
         ensures refused { IfErr result (λ error. (error ≡ Memory) ⊎ ((error ≡ TooLarge) × ((800 < different_blocks T.number 512 self.now.values) ⊎ (12000 < different_blocks T.number 16 self.now.values)))) }
     {
         let values = self.values.as_slice();
-        let numbers = numbers_of(alloc, values)?;
-        let layout = match Layout::new(alloc, numbers.as_slice(), self.trie_type) {
+        let layout = match layout_of(alloc, values, self.trie_type) {
             Ok(layout) => layout,
             Err(error) => return Err(error),
         };
-        let index = layout.index(alloc)?;
-        let cells = cells_of(alloc, &layout, values, self.error_value)?;
-        let index = PackedVec::from_slice(alloc, index.as_slice())?;
-        let cells = PackedVec::from_slice(alloc, cells.as_slice())?;
+        let index = packed_index_of(alloc, &layout)?;
+        let cells = packed_cells_of(alloc, &layout, values, self.error_value)?;
         let header = CodePointTrieHeader {
             high_start: 0x11_0000,
             shifted12_high_start: 0x110,

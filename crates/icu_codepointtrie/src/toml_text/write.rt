@@ -1,12 +1,12 @@
 //! A trie as the text of a TOML table.
-ghost use Rattle.std.specs.Prelude.{◌≡◌, false, Some, IfOk, OnOk, string_bytes};
-ghost use Rattle.toml.specs.Data.{integer, string};
+ghost use Rattle.std.specs.Prelude.{◌≡◌, pos, codes, false, Some, IfOk, OnOk, string_bytes};
+ghost use Rattle.toml.specs.Data.{integer, string, member, no_members};
 ghost use Rattle.toml.specs.View.{view, table_view, array_view};
 ghost use Rattle.toml.specs.Parse.{parse_document};
 ghost use Rattle.toml.specs.Text.{IsDocumentText};
 ghost use Rattle.icu_codepointtrie.specs.TomlTables.{values_in, integers_of, name_of, table_of, tables_in, tables_of_text, with_member};
 
-use super::super::trie::{CodePointTrie, TrieType};
+use super::super::trie::{CodePointTrie, CodePointTrieHeader, TrieType};
 use super::super::value::TrieValue;
 use icu_packed_vector::PackedVec;
 use std::alloc::{AllocError, Global};
@@ -35,6 +35,47 @@ impl TrieType {
     }
 }
 
+/// Puts the fields of a header into an empty table.
+fn put_header(
+    alloc: Global,
+    table: &mut Table,
+    header: CodePointTrieHeader,
+) -> Result<(), AllocError>
+    requires { table_view table.old ≡ no_members }
+    ensures { OnOk result (table_view table.new ≡
+        member (codes "data_null_offset") (integer (pos header.data_null_offset)) (
+        member (codes "high_start") (integer (pos header.high_start)) (
+        member (codes "index3_null_offset") (integer (pos header.index3_null_offset)) (
+        member (codes "null_value") (integer (pos header.null_value)) (
+        member (codes "shifted12_high_start") (integer (pos header.shifted12_high_start)) (
+        member (codes "trie_type") (string (name_of header.trie_type)) no_members)))))) }
+{
+    put(alloc, table, "high_start", header.high_start.into())?;
+    let shifted12_high_start = u32::from(header.shifted12_high_start);
+    put(
+        alloc,
+        table,
+        "shifted12_high_start",
+        shifted12_high_start.into(),
+    )?;
+    let index3_null_offset = u32::from(header.index3_null_offset);
+    put(
+        alloc,
+        table,
+        "index3_null_offset",
+        index3_null_offset.into(),
+    )?;
+    put(
+        alloc,
+        table,
+        "data_null_offset",
+        header.data_null_offset.into(),
+    )?;
+    put(alloc, table, "null_value", header.null_value.into())?;
+    let trie_type = Value::string(alloc, header.trie_type.name())?;
+    put(alloc, table, "trie_type", trie_type)
+}
+
 /// The numbers of values as TOML integers.
 fn integers_of<T: TrieValue>(
     alloc: Global,
@@ -57,34 +98,12 @@ impl<T: TrieValue> CodePointTrie<'_, T> {
         ensures table { IfOk result (λ table. table_view table ≡ table_of T.number self.now) }
         ensures reads_back { IfOk result (λ table. tables_in T.of_number (table_view table) ≡ Some self.now) }
     {
-        let header = self.header();
-        let trie_type = Value::string(alloc, header.trie_type.name())?;
-        let index = Value::Array(integers_of(alloc, self.index())?);
-        let cells = Value::Array(integers_of(alloc, self.cells())?);
         let mut table = Table::new(alloc);
-        put(alloc, &mut table, "high_start", header.high_start.into())?;
-        put(
-            alloc,
-            &mut table,
-            "shifted12_high_start",
-            u32::from(header.shifted12_high_start).into(),
-        )?;
-        put(
-            alloc,
-            &mut table,
-            "index3_null_offset",
-            u32::from(header.index3_null_offset).into(),
-        )?;
-        put(
-            alloc,
-            &mut table,
-            "data_null_offset",
-            header.data_null_offset.into(),
-        )?;
-        put(alloc, &mut table, "null_value", header.null_value.into())?;
-        put(alloc, &mut table, "trie_type", trie_type)?;
-        put(alloc, &mut table, "index", index)?;
-        put(alloc, &mut table, "data", cells)?;
+        put_header(alloc, &mut table, self.header())?;
+        let index = integers_of(alloc, self.index())?;
+        put(alloc, &mut table, "index", Value::Array(index))?;
+        let cells = integers_of(alloc, self.cells())?;
+        put(alloc, &mut table, "data", Value::Array(cells))?;
         Ok(table)
     }
 

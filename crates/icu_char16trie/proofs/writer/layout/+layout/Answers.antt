@@ -401,3 +401,98 @@ write_entries-returns-clause-room t c =
     let form = number_length 0 (c.len.result - c.len-jumped.result) in
     let put = ap length c.in_ok-put_jump.ensures ∙ length-append (number_form 0 (c.len.result - c.len-jumped.result)) c.write_entries-2.new.out in
     put_room c.put-2.result _ c.put_jump.new.self c.put-2.new.self _ c.put-2.ensures (omega (arith, sum, some, rest, node, entries, form, put))
+
+pub write_entries-overflow_add-depth : goal.write_entries-overflow_add-depth
+write_entries-overflow_add-depth t c = omega (arith, c.requires.deep)
+
+pub write_entries-overflow_add-depth-2 : goal.write_entries-overflow_add-depth-2
+write_entries-overflow_add-depth-2 t c = omega (arith, c.requires.deep)
+
+pub write_entries-overflow_add-depth-3 : goal.write_entries-overflow_add-depth-3
+write_entries-overflow_add-depth-3 t c = omega (arith, c.requires.deep)
+
+pub write_branch-write_entries-requires : goal.write_branch-write_entries-requires
+write_branch-write_entries-requires t c = (omega (arith, c.decreases), (c.requires.some, (omega arith, (c.requires.groups, (c.requires.fits, c.requires.deep)))))
+
+pub write_branch-returns-then-groups-le5-clause-lays : goal.write_branch-returns-then-groups-le5-clause-lays
+write_branch-returns-then-groups-le5-clause-lays t c = c.write_entries.ensures.lays
+
+pub write_branch-overflow_sub-len : goal.write_branch-overflow_sub-len
+write_branch-overflow_sub-len t c =
+    let more = c.in_ok-write_branch-2.ensures.extends in
+    omega (arith, c.len.ensures, c.len-jumped.ensures, ap length more.1, length-append more.0 c.write_branch.new.out)
+
+pub write_entries-overflow_sub-len : goal.write_entries-overflow_sub-len
+write_entries-overflow_sub-len t c =
+    let more = c.in_ok-write_entries-2.ensures.extends in
+    omega (arith, c.len.ensures, c.len-jumped.ensures, ap length more.1, length-append more.0 c.write_node-2.new.out)
+
+pub write_following-run_length-run-requires-clause-deep : goal.write_following-run_length-run-requires-clause-deep
+write_following-run_length-run-requires-clause-deep t c = omega (arith, c.requires.deep)
+
+pub write_following-overflow_add-depth : goal.write_following-overflow_add-depth
+write_following-overflow_add-depth t c = omega (arith, c.requires.deep, c.run_length-run.ensures.bound)
+
+pub write_following-overflow_add-depth-then-run-gt0 : goal.write_following-overflow_add-depth-then-run-gt0
+write_following-overflow_add-depth-then-run-gt0 t c = omega (arith, c.requires.deep, c.run_length-run.ensures.bound)
+
+pub write_following-overflow_cast-result : goal.write_following-overflow_cast-result
+write_following-overflow_cast-result t c = omega (arith, c.run_length-run.ensures.bound)
+
+pub write_following-overflow_add-result : goal.write_following-overflow_add-result
+write_following-overflow_add-result t c = omega (arith, c.run_length-run.ensures.bound)
+
+pub write_following-returns-then-run-gt0-clause-kind : goal.write_following-returns-then-run-gt0-clause-kind
+write_following-returns-then-run-gt0-clause-kind t c = omega (arith, c.run_length-run.ensures.bound)
+
+pub write_following-groups_of-requires-clause-sorted : goal.write_following-groups_of-requires-clause-sorted
+write_following-groups_of-requires-clause-sorted t c = c.requires.sorted
+
+pub write_following-groups_of-requires-clause-longer : goal.write_following-groups_of-requires-clause-longer
+write_following-groups_of-requires-clause-longer t c = c.requires.longer
+
+pub write_following-write_branch-requires : goal.write_following-write_branch-requires
+write_following-write_branch-requires t c =
+    let value = c.deref.ensures.value in
+    let pairs : spread (parts c.args.depth c.deref.result.now) ≡ rests c.args.depth c.args.pairs.now = ap (λ groups. spread (parts c.args.depth groups)) value ∙ c.in_ok-groups.ensures.pairs in
+    let groups : AreGroups 0 0x10000 (parts c.args.depth c.deref.result.now) = subst (λ groups. AreGroups 0 0x10000 (parts c.args.depth groups)) (sym value) c.in_ok-groups.ensures.groups in
+    let length_is = parts_length c.args.depth c.deref.result.now in
+    let count = rests_length c.args.depth c.args.pairs.now in
+    let given = c.requires.some in
+    let some = groups_some (parts c.args.depth c.deref.result.now) (rests c.args.depth c.args.pairs.now) pairs (omega (arith, count, given)) in
+    let room_is = ap (λ pairs. room pairs) pairs in
+    (omega (arith, c.decreases, room_is), (omega (arith, length_is, some), (groups, (omega (arith, c.requires.fits, room_is), omega (arith, c.requires.deep, room_is)))))
+
+pub write_following-overflow_sub-last : goal.write_following-overflow_sub-last
+write_following-overflow_sub-last t c =
+    let value = c.deref.ensures.value in
+    let pairs : spread (parts c.args.depth c.deref.result.now) ≡ rests c.args.depth c.args.pairs.now = ap (λ groups. spread (parts c.args.depth groups)) value ∙ c.in_ok-groups.ensures.pairs in
+    let length_is = parts_length c.args.depth c.deref.result.now in
+    let count = rests_length c.args.depth c.args.pairs.now in
+    let given = c.requires.some in
+    let some = groups_some (parts c.args.depth c.deref.result.now) (rests c.args.depth c.args.pairs.now) pairs (omega (arith, count, given)) in
+    let len = c.deref.ensures.len in
+    omega (arith, c.len-last.ensures, len, length_is, some)
+
+pub write_following-returns-then-last-lt48-clause-extends : goal.write_following-returns-then-last-lt48-clause-extends
+write_following-returns-then-last-lt48-clause-extends t c = c.in_ok-write_branch.ensures.extends
+
+pub write_following-returns-then-last-lt48-clause-room : goal.write_following-returns-then-last-lt48-clause-room
+write_following-returns-then-last-lt48-clause-room t c =
+    let value = c.deref.ensures.value in
+    let pairs : spread (parts c.args.depth c.deref.result.now) ≡ rests c.args.depth c.args.pairs.now = ap (λ groups. spread (parts c.args.depth groups)) value ∙ c.in_ok-groups.ensures.pairs in
+    let room_is = ap (λ pairs. room pairs) pairs in
+    omega (arith, c.in_ok-write_branch.ensures.room, room_is)
+
+pub write_following-returns-clause-kind : goal.write_following-returns-clause-kind
+write_following-returns-clause-kind t c = omega arith
+
+pub write_following-returns-clause-room : goal.write_following-returns-clause-room
+write_following-returns-clause-room t c =
+    let value = c.deref.ensures.value in
+    let pairs : spread (parts c.args.depth c.deref.result.now) ≡ rests c.args.depth c.args.pairs.now = ap (λ groups. spread (parts c.args.depth groups)) value ∙ c.in_ok-groups.ensures.pairs in
+    let room_is = ap (λ pairs. room pairs) pairs in
+    omega (arith, c.in_ok-write_branch.ensures.room, room_is, ap length c.in_ok-put.ensures)
+
+pub write_node-put_intermediate-requires : goal.write_node-put_intermediate-requires
+write_node-put_intermediate-requires t c = c.in_ok-kind-2.ensures.kind

@@ -1,5 +1,6 @@
 use Rattle.std.proofs.Common.{◌≡◌, ◌<◌, ◌^◌, Some, pos, sym, ap, ◌∙◌, arith, rules}
 use Rattle.std.specs.List.{slice_get}
+use Rattle.std.proofs.lemmas.List.{take_all}
 use Rattle.toml.specs.Data.{integer}
 use Rattle.toml.specs.View.{view}
 use Rattle.icu_codepointtrie.proofs.TomlLemmas.{integers_of-more, values_in-found, value_in-number}
@@ -17,3 +18,13 @@ loop-place-preserved g c =
       integers = rw c.in_ok-push.ensures.items (integers_of-more g.T.TrieValue.number c.args.values.now c.loop-place.place v c.loop-place.array.items c.from.result here (seen ∙ ap (λ n. integer (pos n)) c.to_u32.ensures) c.loop-place.invariant.integers);
       reads_back = rw c.in_ok-push.ensures.items (values_in-found g.T.TrieValue.of_number c.args.values.now c.loop-place.place v c.loop-place.array.items c.from.result here means c.loop-place.invariant.reads_back);
     }
+
+pub returns-clause-integers : goal.returns-clause-integers
+returns-clause-integers g c =
+    let whole = take_all c.loop-place.place c.args.values.now (omega arith) in
+    rw whole at c.loop-place.invariant.integers
+
+pub returns-clause-reads_back : goal.returns-clause-reads_back
+returns-clause-reads_back g c =
+    let whole = take_all c.loop-place.place c.args.values.now (omega arith) in
+    rw whole at c.loop-place.invariant.reads_back

@@ -27,3 +27,16 @@ loop-number-preserved c =
       places = rw (c.push.ensures.items, ok) (ArePlaces-push c.args.width c.args.values.now c.args.first c.loop-number.number c.loop-number.places.items c.loop-number.kept.items c.keep.new.kept.items c.in_ok-place.place (omega arith) c.loop-number.invariant.places c.in_ok-place.ensures.grown c.in_ok-place.ensures.place);
       few = omega arith;
     }
+
+pub keep-requires-clause-number : goal.keep-requires-clause-number
+keep-requires-clause-number c = c.requires.whole c.loop-number.number (omega arith)
+
+pub returns-clause-kept : goal.returns-clause-kept
+returns-clause-kept c =
+    let done : c.loop-number.number ≡ c.args.end = omega arith in
+    rw done at c.loop-number.invariant.kept
+
+pub returns-clause-places : goal.returns-clause-places
+returns-clause-places c =
+    let done : c.loop-number.number ≡ c.args.end = omega arith in
+    rw done at c.loop-number.invariant.places
