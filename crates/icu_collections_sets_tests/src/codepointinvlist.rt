@@ -27,7 +27,13 @@ fn lists_that_are_none(rt: HostRuntime) -> Result<(), Fail> {
         Ok(_) => assert!(rt; false),
         Err(error) => assert!(rt; error.0 == same),
     }
-    assert!(rt; make_sets(rt.alloc(), &[&[0x41, 0x42, 0x43], &[0x41, 0x11_0001]], false));
+    assert!(rt;
+        make_sets(
+            rt.alloc(),
+            &[&[0x41, 0x42, 0x43], &[0x41, 0x11_0001]],
+            false
+        )
+    );
     assert!(rt; make_sets(rt.alloc(), &[&[0x41, 0x11_0000]], true));
     Ok(())
 }

@@ -64,7 +64,10 @@ const WRITTEN: &[(&[u32], &str)] = &[
 #[test]
 fn ok_to_json(rt: HostRuntime) -> Result<(), Fail> {
     for (edges, expected) in WRITTEN {
-        assert!(rt; compact(rt.alloc(), edges)?.as_str() == *expected, "of {expected}");
+        assert!(rt;
+            compact(rt.alloc(), edges)?.as_str() == *expected,
+            "of {expected}"
+        );
     }
     Ok(())
 }

@@ -32,7 +32,10 @@ fn refusal(bytes: &[u8]) -> Option<PackedVecError> {
 #[test]
 fn bytes_of_a_character(rt: HostRuntime) -> Result<(), Fail> {
     assert_eq!(rt; refusal(&[0, 0xD8, 0]), Some(PackedVecError::BadValue(0)));
-    assert_eq!(rt; refusal(&[0x61, 0, 0, 0, 0, 0x11]), Some(PackedVecError::BadValue(1)));
+    assert_eq!(rt;
+        refusal(&[0x61, 0, 0, 0, 0, 0x11]),
+        Some(PackedVecError::BadValue(1))
+    );
     let items = PackedVec::<char>::try_from_bytes(&[0x61, 0, 0])?;
     assert!(rt; items.len() == 1 && items.get(0) == Some('a'));
     Ok(())

@@ -1,11 +1,10 @@
-use icu_collections::codepointtrie::planes;
 use icu_collections::codepointtrie::{
     CodePointMapRange, CodePointTrie, CodePointTrieBuildError, CodePointTrieBuilder,
-    CodePointTrieBuilderError, CodePointTrieError, CodePointTrieHeader, FastCodePointTrie,
-    SmallCodePointTrie, TrieType, TrieValue, TypedCodePointTrie,
+    CodePointTrieError, CodePointTrieHeader, FastCodePointTrie, SmallCodePointTrie, TrieType,
+    TrieValue, TypedCodePointTrie, planes,
 };
 use icu_collections_sets::packed_vector::PackedVec;
-use std::alloc::Global;
+use std::alloc::{AllocError, Global};
 use std::test::Fail;
 
 fn header(trie_type: TrieType, high_start: u32) -> CodePointTrieHeader {
@@ -74,15 +73,43 @@ fn refused_tables(rt: HostRuntime) -> Result<(), Fail> {
     Ok(())
 }
 
+/// Whether a trie reads these values.
+fn reads_all<T: TrieValue>(trie: &CodePointTrie<'_, T>, table: &[(u32, T)]) -> bool {
+    for (code_point, value) in table {
+        if trie.get32(*code_point) != *value {
+            return false;
+        }
+    }
+    true
+}
+
+/// Whether a trie has a cell for each of these numbers.
+fn has_cells<T: TrieValue>(trie: &CodePointTrie<'_, T>, numbers: &[u32]) -> bool {
+    for number in numbers {
+        if !trie.has_cell(*number) {
+            return false;
+        }
+    }
+    true
+}
+
 #[test]
 fn cells_of_one_step(rt: HostRuntime) -> Result<(), Fail> {
     let trie = small_trie(rt.alloc())?;
-    assert_eq!(rt; trie.get32(0x3F), 5);
-    assert_eq!(rt; trie.get('A'), 6);
-    assert_eq!(rt; trie.get32_u32(0x44), 8);
-    assert_eq!(rt; trie.get32(0x10_FFFF), 8);
-    assert_eq!(rt; trie.get32(0x11_0000), 9);
-    assert!(rt; trie.has_cell(0x11_0000));
+    assert!(rt;
+        reads_all(
+            &trie,
+            &[
+                (0x3F, 5),
+                (0x41, 6),
+                (0x44, 8),
+                (0x10_FFFF, 8),
+                (0x11_0000, 9)
+            ]
+        )
+    );
+    assert!(rt; trie.get('A') == 6 && trie.get32_u32(0x44) == 8);
+    assert!(rt; has_cells(&trie, &[0x11_0000]));
     Ok(())
 }
 
@@ -112,11 +139,19 @@ fn cells_of_wide_offsets(rt: HostRuntime) -> Result<(), Fail> {
         wide_index(rt.alloc())?,
         PackedVec::try_from_bytes(cells.as_slice())?,
     )?;
-    assert_eq!(rt; trie.get32(0x1005), 7);
-    assert_eq!(rt; trie.get32(0x1004), 0);
-    assert_eq!(rt; trie.get32(0x1015), 0);
-    assert!(rt; trie.has_cell(0x1005));
+    assert!(rt; reads_all(&trie, &[(0x1005, 7), (0x1004, 0), (0x1015, 0)]));
+    assert!(rt; has_cells(&trie, &[0x1005]));
     Ok(())
+}
+
+/// Whether a typed trie reads these values, by character and by number.
+fn small_reads(trie: &SmallCodePointTrie<'_, u8>, table: &[(char, u8)]) -> bool {
+    for (character, value) in table {
+        if trie.get(*character) != *value || trie.get32(*character as u32) != *value {
+            return false;
+        }
+    }
+    true
 }
 
 #[test]
@@ -127,9 +162,11 @@ fn values_from_the_limit_on(rt: HostRuntime) -> Result<(), Fail> {
         index,
         PackedVec::try_from_bytes(&[3; 64])?,
     )?;
-    assert!(rt; trie.has_cell(0x1000));
-    let typed = SmallCodePointTrie::try_from(trie);
-    assert!(rt; typed.is_ok_and(|small| small.get32(0x1000) == 3 && small.get('a') == 3));
+    assert!(rt; has_cells(&trie, &[0x1000]));
+    let Ok(small) = SmallCodePointTrie::try_from(trie) else {
+        return Err("a small trie is a small one".into());
+    };
+    assert!(rt; small_reads(&small, &[('\u{1000}', 3), ('a', 3)]));
     Ok(())
 }
 
@@ -142,7 +179,7 @@ fn typed_tries(rt: HostRuntime) -> Result<(), Fail> {
     let Ok(small) = SmallCodePointTrie::try_from(trie) else {
         return Err("a small trie is a small one".into());
     };
-    assert_eq!(rt; small.get('A'), 6);
+    assert!(rt; small_reads(&small, &[('A', 6)]));
     assert!(rt; *small.as_untyped_ref() == small_trie(rt.alloc())?);
     Ok(())
 }
@@ -170,8 +207,7 @@ fn what_tries_print(rt: HostRuntime) -> Result<(), Fail> {
 fn ok_clone(rt: HostRuntime) -> Result<(), Fail> {
     let trie = small_trie(rt.alloc())?;
     let copy = trie.clone(rt.alloc())?;
-    assert!(rt; copy == trie);
-    assert_eq!(rt; copy.get('B'), 6);
+    assert!(rt; copy == trie && reads_all(&copy, &[(0x42, 6)]));
     Ok(())
 }
 
@@ -193,16 +229,26 @@ fn ranges_of_a_trie(rt: HostRuntime) -> Result<(), Fail> {
     Ok(())
 }
 
-#[test]
-fn ranges_of_a_value(rt: HostRuntime) -> Result<(), Fail> {
-    let trie = small_trie(rt.alloc())?;
-    let mut ends = Vec::new(rt.alloc());
-    for range in trie.iter_ranges_for_value(8) {
+/// The ends of the ranges with a value.
+fn ends_for_value(
+    alloc: Global,
+    trie: &CodePointTrie<'_, u8>,
+    value: u8,
+) -> Result<Vec<u32>, AllocError> {
+    let mut ends = Vec::new(alloc);
+    for range in trie.iter_ranges_for_value(value) {
         ends.push(*range.start())?;
         ends.push(*range.end())?;
     }
-    assert_eq!(rt; ends.as_slice(), [0x40, 0x40, 0x44, 0x10_FFFF].as_slice());
-    assert!(rt; trie.iter_ranges_for_value(9).next().is_none());
+    Ok(ends)
+}
+
+#[test]
+fn ranges_of_a_value(rt: HostRuntime) -> Result<(), Fail> {
+    let trie = small_trie(rt.alloc())?;
+    let ends = ends_for_value(rt.alloc(), &trie, 8)?;
+    assert!(rt; ends.as_slice() == [0x40, 0x40, 0x44, 0x10_FFFF].as_slice());
+    assert!(rt; ends_for_value(rt.alloc(), &trie, 9)?.is_empty());
     Ok(())
 }
 
@@ -217,24 +263,39 @@ fn ok_get_set_for_value(rt: HostRuntime) -> Result<(), Fail> {
     Ok(())
 }
 
+/// Whether each number is that of this value, or of none.
+fn are_values<T: TrieValue>(table: &[(u32, Option<T>)]) -> bool {
+    for (number, value) in table {
+        if T::try_from_u32(*number) != *value || value.is_some_and(|v| v.to_u32() != *number) {
+            return false;
+        }
+    }
+    true
+}
+
 #[test]
 fn numbers_of_values(rt: HostRuntime) {
-    assert_eq!(rt; u8::try_from_u32(0x100), None);
-    assert_eq!(rt; u16::try_from_u32(0xFFFF), Some(0xFFFF));
-    assert_eq!(rt; char::try_from_u32(0xD800), None);
-    assert_eq!(rt; 'a'.to_u32(), 0x61);
-    assert_eq!(rt; u32::try_from_u32(0xFFFF_FFFF), Some(0xFFFF_FFFF));
+    assert!(rt; are_values::<u8>(&[(0x100, None), (0xFF, Some(0xFF))]));
+    assert!(rt; are_values::<u16>(&[(0x1_0000, None), (0xFFFF, Some(0xFFFF))]));
+    assert!(rt; are_values::<char>(&[(0xD800, None), (0x61, Some('a'))]));
+    assert!(rt; are_values::<u32>(&[(0xFFFF_FFFF, Some(0xFFFF_FFFF))]));
+}
+
+/// Whether these writes of single code points are taken, or all refused.
+fn takes(map: &mut CodePointTrieBuilder<u32>, writes: &[(u32, u32)], expected: bool) -> bool {
+    for (code_point, value) in writes {
+        if map.set_value(*code_point, *value).is_ok() != expected {
+            return false;
+        }
+    }
+    true
 }
 
 #[test]
 fn ok_new(rt: HostRuntime) -> Result<(), Fail> {
     let mut map = CodePointTrieBuilder::new(rt.alloc(), 0u32, 9, TrieType::Small)?;
-    assert_eq!(rt; map.set_value(0x41, 7), Ok(()));
-    assert_eq!(rt; map.set_value(0x41, 0), Ok(()));
-    assert_eq!(rt;
-        map.set_value(0x11_0000, 1),
-        Err(CodePointTrieBuilderError::OutOfRange)
-    );
+    assert!(rt; takes(&mut map, &[(0x41, 7), (0x41, 0)], true));
+    assert!(rt; takes(&mut map, &[(0x11_0000, 1)], false));
     Ok(())
 }
 
@@ -252,14 +313,21 @@ fn ranges_of_an_image(rt: HostRuntime) -> Result<(), Fail> {
     Ok(())
 }
 
+/// Whether these writes of the value 7 from one end to the other are taken, or all refused.
+fn takes_ranges(map: &mut CodePointTrieBuilder<u8>, ends: &[(u32, u32)], expected: bool) -> bool {
+    for (start, end) in ends {
+        if map.set_range_value(*start..=*end, 7).is_ok() != expected {
+            return false;
+        }
+    }
+    true
+}
+
 #[test]
 fn writes_of_ranges(rt: HostRuntime) -> Result<(), Fail> {
     let mut map = CodePointTrieBuilder::new(rt.alloc(), 0u8, 9, TrieType::Fast)?;
-    let refused = Err(CodePointTrieBuilderError::OutOfRange);
-    assert_eq!(rt; map.set_range_value(0x41..=0x10_FFFF, 7), Ok(()));
-    assert_eq!(rt; map.set_range_value(0x41..=0x11_0000, 7), refused);
-    assert_eq!(rt; map.set_range_value(0x11_0000..=0x41, 7), refused);
-    assert_eq!(rt; map.set_range_value(0x42..=0x41, 7), Ok(()));
+    assert!(rt; takes_ranges(&mut map, &[(0x41, 0x10_FFFF), (0x42, 0x41)], true));
+    assert!(rt; takes_ranges(&mut map, &[(0x41, 0x11_0000), (0x11_0000, 0x41)], false));
     Ok(())
 }
 
@@ -275,11 +343,13 @@ fn one_value(alloc: Global, trie_type: TrieType) -> Result<CodePointTrie<'static
 fn ok_build(rt: HostRuntime) -> Result<(), Fail> {
     for trie_type in [TrieType::Fast, TrieType::Small] {
         let trie = one_value(rt.alloc(), trie_type)?;
-        assert_eq!(rt; trie.get32(0x41), 7);
-        assert_eq!(rt; trie.get32(0x42), 0);
-        assert_eq!(rt; trie.get32(0x10_FFFF), 0);
-        assert_eq!(rt; trie.get32(0x11_0000), 9);
-        assert!(rt; trie.has_cell(0x10_FFFF));
+        assert!(rt;
+            reads_all(
+                &trie,
+                &[(0x41, 7), (0x42, 0), (0x10_FFFF, 0), (0x11_0000, 9)]
+            )
+        );
+        assert!(rt; has_cells(&trie, &[0x10_FFFF]));
     }
     Ok(())
 }
@@ -360,7 +430,7 @@ fn random_maps(rt: HostRuntime) -> Result<(), Fail> {
             }
         }
         assert_eq!(rt; wrong, None);
-        assert_eq!(rt; trie.get32(0xFFFF_FFFF), 8);
+        assert!(rt; reads_all(&trie, &[(0xFFFF_FFFF, 8)]));
     }
     Ok(())
 }
@@ -368,9 +438,7 @@ fn random_maps(rt: HostRuntime) -> Result<(), Fail> {
 #[test]
 fn ok_get_planes_trie(rt: HostRuntime) -> Result<(), Fail> {
     let planes = planes::get_planes_trie(rt.alloc())?;
-    assert_eq!(rt; planes.get32(0x41), 0);
-    assert_eq!(rt; planes.get('\u{1F600}'), 1);
-    assert_eq!(rt; planes.get32(0x10_FFFF), 16);
-    assert_eq!(rt; planes.get32(0x11_0000), 0);
+    let table = [(0x41, 0), (0x1F600, 1), (0x10_FFFF, 16), (0x11_0000, 0)];
+    assert!(rt; reads_all(&planes, &table));
     Ok(())
 }
