@@ -1,5 +1,11 @@
-use super::*;
-use crate::rule::{RecordFault, Rule};
+// What the records of an accepted file answer.
+
+use crate::reader::{at, fault_of};
+use collate_records::records::Records;
+use collate_records::rule::Rule;
+use icu_collections::codepointtrie::TrieType;
+use icu_normalizer_core::properties::Decomposed;
+use std::alloc::Global;
 use std::process::Abort;
 use std::test::Fail;
 
@@ -40,10 +46,7 @@ w 10FFFD ; [2A300000.0500.0.0500.0]
 
 #[test]
 fn ok_read(rt: HostRuntime) -> Result<(), Fail> {
-    let records = Records::read(rt.alloc(), LETTERS)?;
-    assert_eq!(rt; records.class('\u{302}'), 230);
-    assert_eq!(rt; records.class('\u{323}'), 220);
-    assert_eq!(rt; records.class('a'), 0);
+    classes_are_said_or_built_in(&rt, &Records::read(rt.alloc(), LETTERS)?);
     Ok(())
 }
 
@@ -58,11 +61,7 @@ fn a_line_more_may_be_at_fault(rt: HostRuntime) -> Result<(), Fail> {
     for (line, rule) in lines {
         let mut file = Vec::from_slice(alloc, LETTERS)?;
         file.extend_from_slice(line)?;
-        let fault = RecordFault { line: 16, rule };
-        assert_eq!(rt;
-            Records::read(alloc, &file).err(),
-            Some(RecordsError::Fault(fault))
-        );
+        assert_eq!(rt; fault_of(alloc, &file), at(16, rule));
     }
     Ok(())
 }
@@ -86,29 +85,28 @@ fn letters_are_looked_up(alloc: Global, rt: &impl Abort, trie_type: TrieType) ->
 }
 
 fn classes_are_said_or_built_in(rt: &impl Abort, records: &Records) {
-    assert_eq!(rt; records.class('\u{302}'), 230);
-    assert_eq!(rt; records.class('\u{323}'), 220);
-    assert_eq!(rt; records.class('a'), 0);
-    assert_eq!(rt; records.class('\u{301}'), 230);
-    assert_eq!(rt; records.class('\u{3099}'), 8);
-    assert_eq!(rt; records.class('\u{f71}'), 129);
-    assert_eq!(rt; records.class('\u{ac00}'), 0);
+    for (character, class) in [
+        ('\u{302}', 230),
+        ('\u{323}', 220),
+        ('a', 0),
+        ('\u{301}', 230),
+        ('\u{3099}', 8),
+        ('\u{f71}', 129),
+        ('\u{ac00}', 0),
+    ] {
+        assert_eq!(rt; records.class(character), class);
+    }
 }
 
 fn mappings_are_one_step(rt: &impl Abort, records: &Records) {
-    assert_eq!(rt;
-        records.mapping('\u{e1}'),
-        Decomposed::Expansion('a', '\u{301}')
-    );
-    assert_eq!(rt;
-        records.mapping('\u{ac01}'),
-        Decomposed::Expansion('\u{ac00}', '\u{11a8}')
-    );
-    assert_eq!(rt;
-        records.mapping('\u{340}'),
-        Decomposed::Singleton('\u{300}')
-    );
-    assert_eq!(rt; records.mapping('a'), Decomposed::Default);
+    for (character, mapping) in [
+        ('\u{e1}', Decomposed::Expansion('a', '\u{301}')),
+        ('\u{ac01}', Decomposed::Expansion('\u{ac00}', '\u{11a8}')),
+        ('\u{340}', Decomposed::Singleton('\u{300}')),
+        ('a', Decomposed::Default),
+    ] {
+        assert_eq!(rt; records.mapping(character), mapping);
+    }
 }
 
 fn elements_are_those_of_the_line(rt: &impl Abort, records: &Records) {
