@@ -80,15 +80,11 @@ with_digits table =
 
 -- "A" as an "a" in upper case
 abbrev pub with_upper_a : Table
-with_upper_a = with_records (text_with (codes "A") (upper_element 0x2a100000 ∷ []) ∷ []) letters
+with_upper_a = with_records (upper_a ∷ []) letters
 
 -- a space and a full stop, which the file's last variable group holds
 abbrev pub with_punctuation : Table
-with_punctuation =
-    record (with_records (text_at (codes " ") 0x304 ∷ text_at (codes ".") 0x308 ∷ []) letters) {
-      groups = 0x306 ∷ 0x30a ∷ 0x30a ∷ 0x30a ∷ [];
-      settings = record default_settings { max_variable = Punctuation };
-    }
+with_punctuation = record (with_stops letters) { settings = record default_settings { max_variable = Punctuation } }
 
 -- a range of ideographs
 abbrev pub with_ideographs : Table
