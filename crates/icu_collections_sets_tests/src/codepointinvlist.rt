@@ -2,7 +2,7 @@ use icu_collections_sets::codepointinvlist::{
     CodePointInversionList, FromRangeError, RangeError, SetError,
 };
 use icu_collections_sets::packed_vector::PackedVec;
-use std::alloc::Global;
+use std::alloc::{AllocError, Global};
 use std::test::Fail;
 
 fn set_of(alloc: Global, list: &[u32]) -> Result<CodePointInversionList<'static>, SetError> {
@@ -139,32 +139,39 @@ fn ok_into_owned(rt: HostRuntime) -> Result<(), Fail> {
     Ok(())
 }
 
+/// The ends of the ranges of a set, one after another.
+fn ends_held(alloc: Global, set: &CodePointInversionList<'_>) -> Result<Vec<u32>, AllocError> {
+    let mut ends = Vec::new(alloc);
+    for range in set.iter_ranges() {
+        ends.push(*range.start())?;
+        ends.push(*range.end())?;
+    }
+    Ok(ends)
+}
+
+/// The ends of the ranges that a set leaves out.
+fn ends_left_out(alloc: Global, set: &CodePointInversionList<'_>) -> Result<Vec<u32>, AllocError> {
+    let mut ends = Vec::new(alloc);
+    for range in set.iter_ranges_complemented() {
+        ends.push(*range.start())?;
+        ends.push(*range.end())?;
+    }
+    Ok(ends)
+}
+
+#[test]
+fn ranges_of_a_set(rt: HostRuntime) -> Result<(), Fail> {
+    let set = CodePointInversionList::try_from_range(rt.alloc(), 'A'..='E')?;
+    assert!(rt; ends_held(rt.alloc(), &set)?.as_slice() == [0x41, 0x45].as_slice());
+    Ok(())
+}
+
 #[test]
 fn ranges_left_out(rt: HostRuntime) -> Result<(), Fail> {
     let set = CodePointInversionList::try_from_range(rt.alloc(), 'A'..='E')?;
-    let mut ranges = set.iter_ranges_complemented();
-    assert!(rt;
-        ranges
-            .next()
-            .is_some_and(|range| *range.start() == 0 && *range.end() == 0x40)
-    );
-    assert!(rt;
-        ranges.next().is_some_and(|range| *range.start() == 0x46 && *range.end() == 0x10_FFFF)
-    );
-    assert!(rt; ranges.next().is_none());
-    assert!(rt;
-        CodePointInversionList::all()
-            .iter_ranges_complemented()
-            .next()
-            .is_none()
-    );
-    let mut ranges = set.iter_ranges();
-    assert!(rt;
-        ranges
-            .next()
-            .is_some_and(|range| *range.start() == 0x41 && *range.end() == 0x45)
-    );
-    assert!(rt; ranges.next().is_none());
+    let ends = ends_left_out(rt.alloc(), &set)?;
+    assert!(rt; ends.as_slice() == [0, 0x40, 0x46, 0x10_FFFF].as_slice());
+    assert!(rt; ends_left_out(rt.alloc(), &CodePointInversionList::all())?.is_empty());
     Ok(())
 }
 
@@ -190,20 +197,34 @@ fn characters_of_a_set(rt: HostRuntime) -> Result<(), Fail> {
     Ok(())
 }
 
+/// Texts, whether what is held is asked for, and where the longest stretch from the front ends.
+const SPANS: &[(&str, bool, usize)] = &[
+    ("CABXYZ", true, 3),
+    ("XYZC", false, 3),
+    ("XYZ", true, 0),
+    ("ABC", false, 0),
+    ("\u{E9}\u{1F600}A", false, 6),
+    ("", true, 0),
+];
+
+/// The same, and where the longest stretch before the end begins.
+const SPANS_BACK: &[(&str, bool, usize)] = &[
+    ("XYZCAB", true, 3),
+    ("ABCXYZ", true, 6),
+    ("CABXYZ", false, 3),
+    ("A\u{E9}\u{1F600}", false, 1),
+    ("ABC", true, 0),
+];
+
 #[test]
 fn stretches_of_texts(rt: HostRuntime) -> Result<(), Fail> {
     let set = CodePointInversionList::try_from_range(rt.alloc(), 'A'..'D')?;
-    assert_eq!(rt; set.span("CABXYZ", true), 3);
-    assert_eq!(rt; set.span("XYZC", false), 3);
-    assert_eq!(rt; set.span("XYZ", true), 0);
-    assert_eq!(rt; set.span("ABC", false), 0);
-    assert_eq!(rt; set.span("\u{E9}\u{1F600}A", false), 6);
-    assert_eq!(rt; set.span("", true), 0);
-    assert_eq!(rt; set.span_back("XYZCAB", true), 3);
-    assert_eq!(rt; set.span_back("ABCXYZ", true), 6);
-    assert_eq!(rt; set.span_back("CABXYZ", false), 3);
-    assert_eq!(rt; set.span_back("A\u{E9}\u{1F600}", false), 1);
-    assert_eq!(rt; set.span_back("ABC", true), 0);
+    for (text, held, end) in SPANS {
+        assert!(rt; set.span(text, *held) == *end, "{text}");
+    }
+    for (text, held, start) in SPANS_BACK {
+        assert!(rt; set.span_back(text, *held) == *start, "back in {text}");
+    }
     Ok(())
 }
 

@@ -25,46 +25,52 @@ fn printed(alloc: Global, texts: &[&str]) -> Result<String, AllocError> {
     }
 }
 
+/// Texts, and what is said of the first at fault.
+const REFUSED: &[(&[&str], &str)] = &[
+    (&["x"], "one character alone: x"),
+    (&["ab", "ab"], "twice in the list: ab"),
+    (&["b2", "ab"], "not sorted: b2, ab"),
+    (&["b2", "é"], "one character alone: é"),
+    (&["", "ab", "b2", "éa"], "none"),
+    (&["éa", "b2"], "not sorted: éa, b2"),
+];
+
 #[test]
 fn refused_strings(rt: HostRuntime) -> Result<(), Fail> {
-    let alloc = rt.alloc();
-    assert_eq!(rt; printed(alloc, &["x"])?.as_str(), "one character alone: x");
-    assert_eq!(rt;
-        printed(alloc, &["ab", "ab"])?.as_str(),
-        "twice in the list: ab"
-    );
-    assert_eq!(rt;
-        printed(alloc, &["b2", "ab"])?.as_str(),
-        "not sorted: b2, ab"
-    );
-    assert_eq!(rt;
-        printed(alloc, &["b2", "é"])?.as_str(),
-        "one character alone: é"
-    );
-    assert_eq!(rt; printed(alloc, &["", "ab", "b2", "éa"])?.as_str(), "none");
-    assert_eq!(rt;
-        printed(alloc, &["éa", "b2"])?.as_str(),
-        "not sorted: éa, b2"
-    );
+    for (texts, expected) in REFUSED {
+        assert!(rt;
+            printed(rt.alloc(), texts)?.as_str() == *expected,
+            "{expected}"
+        );
+    }
     Ok(())
+}
+
+/// Whether the set holds each of these texts, or none of them.
+fn holds_texts(set: &CodePointInversionListAndStringList<'_>, texts: &[&str], held: bool) -> bool {
+    for text in texts {
+        if set.contains_str(text) != held {
+            return false;
+        }
+    }
+    true
+}
+
+/// Whether the set holds the first code point, and not the second.
+fn tells_apart(set: &CodePointInversionListAndStringList<'_>, held: u32, other: u32) -> bool {
+    set.contains32(held) && !set.contains32(other) && set.code_points().contains32(held)
 }
 
 #[test]
 fn sets_with_strings(rt: HostRuntime) -> Result<(), Fail> {
-    let alloc = rt.alloc();
-    let strings = strings_of(alloc, &["", "ab", "b2", "éa"])?;
+    let strings = strings_of(rt.alloc(), &["", "ab", "b2", "éa"])?;
     let list = CodePointInversionList::bmp();
     let Ok(set) = CodePointInversionListAndStringList::try_from(list, strings) else {
-        assert!(rt; false);
-        return Ok(());
+        return Err("these strings are good".into());
     };
-    assert_eq!(rt; set.size(), 0x1_0004);
-    assert!(rt; set.has_strings());
-    assert_eq!(rt; set.strings().len(), 4);
-    assert!(rt; set.contains_str("") && set.contains_str("ab") && set.contains_str("éa"));
-    assert!(rt; set.contains_str("a") && set.contains_str("é") && !set.contains_str("\u{10000}"));
-    assert!(rt; !set.contains_str("abc") && !set.contains_str("aa"));
-    assert!(rt; set.contains('a') && set.contains32(0xD800) && !set.contains32(0x1_0000));
-    assert!(rt; set.code_points().contains('a'));
+    assert!(rt; set.size() == 0x1_0004 && set.has_strings() && set.strings().len() == 4);
+    assert!(rt; holds_texts(&set, &["", "ab", "éa", "a", "é"], true));
+    assert!(rt; holds_texts(&set, &["\u{10000}", "abc", "aa"], false));
+    assert!(rt; set.contains('a') && tells_apart(&set, 0xD800, 0x1_0000));
     Ok(())
 }
