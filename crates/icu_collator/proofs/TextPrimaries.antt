@@ -8,9 +8,8 @@ use Rattle.icu_normalizer_core.specs.BuiltIn.{is_within}
 use Rattle.icu_collator_types.specs.declared.elements.Element.{Element}
 use Rattle.icu_collator_types.specs.declared.options.ResolvedCollatorOptions.{ResolvedCollatorOptions}
 use Rattle.icu_collator_core.specs.Weights.{Range, Weights}
-use Rattle.icu_collator_core.specs.Collation.{Collation}
+use Rattle.icu_collator_core.specs.Collation.{Collation, reordered_lead}
 use Rattle.icu_collator_core.specs.WeightRules.{AreSoundWeights, IsRecorded, primary_bytes, primary_rest, is_proper_beginning, is_letter_lead, is_sound_primary}
-use Rattle.icu_collator.specs.Levels.{reordered}
 use Rattle.icu_collator.specs.Settings.{AreSoundSettings, has_plain_leads}
 use Rattle.icu_collator_types.specs.Options.{is_numeric}
 use Rattle.icu_collator.proofs.CommonAlone.{and_true}
@@ -215,7 +214,7 @@ module _ (collation : Collation) (sound : AreSoundWeights collation.weights) (se
 
   -- a primary of a text at its place, with its lead reordered
   abbrev pub IsPrimaryAt : Place → ℕ → Type 0
-  IsPrimaryAt place p = (q : ℕ) × IsOriginal collation.weights sound numeric_on place q × (p ≡ reordered collation q)
+  IsPrimaryAt place p = (q : ℕ) × IsOriginal collation.weights sound numeric_on place q × (p ≡ collation.reordered q)
 
   letter_lead : (lead : ℕ) → is_letter_lead lead ≡ true → (3 ≤ lead) × (lead ≤ 0xfc)
   letter_lead lead h = within_bounds 3 0xfc lead h
@@ -244,16 +243,19 @@ module _ (collation : Collation) (sound : AreSoundWeights collation.weights) (se
   original_lead outside q (inr number) = number_lead q (number.0)
   original_lead inside q number = number_lead q (number.0)
 
-  reordered_small : (lead : ℕ) → 2 ≤ lead → lead < 256 → (2 ≤ collation.reordered_lead lead) × (collation.reordered_lead lead < 256)
+  reordered_small : (lead : ℕ) → 2 ≤ lead → lead < 256 → (2 ≤ reordered_lead collation lead) × (reordered_lead collation lead < 256)
   reordered_small lead low high =
       ⊎_elim
-      (λ h. let bounds = letter_lead (collation.reordered_lead lead) (settings.inside lead h) in (omega (arith, bounds.0), omega (arith, bounds.1)))
-      (λ h. let e : collation.reordered_lead lead ≡ lead = settings.outside lead h in (omega (arith, e, low), omega (arith, e, high)))
+      (λ h. let bounds = letter_lead (reordered_lead collation lead) (settings.inside lead h) in (omega (arith, bounds.0), omega (arith, bounds.1)))
+      (λ h. let e : reordered_lead collation lead ≡ lead = settings.outside lead h in (omega (arith, e, low), omega (arith, e, high)))
       (cases_Bool (is_letter_lead lead))
 
+  new_lead : (a b : ℕ) → (a * 2 ^ 24 + b % 2 ^ 24) / 2 ^ 24 ≡ a
+  new_lead a b = omega arith
+
   -- the bytes of a reordered primary: another lead, and the same behind it
-  pub reordered_lead_is : (p : ℕ) → reordered collation p / 2 ^ 24 ≡ collation.reordered_lead (p / 2 ^ 24)
-  reordered_lead_is p = omega arith
+  pub reordered_lead_is : (p : ℕ) → collation.reordered p / 2 ^ 24 ≡ reordered_lead collation (p / 2 ^ 24)
+  reordered_lead_is p = ap (λ (x : ℕ). x / 2 ^ 24) (settings.rest p) ∙ new_lead (reordered_lead collation (p / 2 ^ 24)) p
 
   same_low : (a b : ℕ) → (a * 2 ^ 24 + b % 2 ^ 24) / 2 ^ 16 % 256 ≡ b / 2 ^ 16 % 256
   same_low a b = omega arith
@@ -264,18 +266,24 @@ module _ (collation : Collation) (sound : AreSoundWeights collation.weights) (se
   same_last : (a b : ℕ) → (a * 2 ^ 24 + b % 2 ^ 24) % 256 ≡ b % 256
   same_last a b = omega arith
 
-  pub reordered_rest : (p : ℕ) → primary_rest (reordered collation p) ≡ primary_rest p
-  reordered_rest p = rw (same_low (collation.reordered_lead (p / 2 ^ 24)) p, same_middle (collation.reordered_lead (p / 2 ^ 24)) p, same_last (collation.reordered_lead (p / 2 ^ 24)) p) refl
+  rest_stays : (a b : ℕ) → primary_rest (a * 2 ^ 24 + b % 2 ^ 24) ≡ primary_rest b
+  rest_stays a b = rw (same_low a b, same_middle a b, same_last a b) refl
 
-  reordered_apart : (p q : ℕ) → is_proper_beginning (primary_bytes p) (primary_bytes q) ≡ false → is_proper_beginning (primary_bytes (reordered collation p)) (primary_bytes (reordered collation q)) ≡ false
+  pub reordered_rest : (p : ℕ) → primary_rest (collation.reordered p) ≡ primary_rest p
+  reordered_rest p = ap primary_rest (settings.rest p) ∙ rest_stays (reordered_lead collation (p / 2 ^ 24)) p
+
+  pub reordered_second : (p : ℕ) → collation.reordered p / 2 ^ 16 % 256 ≡ p / 2 ^ 16 % 256
+  reordered_second p = ap (λ (x : ℕ). x / 2 ^ 16 % 256) (settings.rest p) ∙ same_low (reordered_lead collation (p / 2 ^ 24)) p
+
+  reordered_apart : (p q : ℕ) → is_proper_beginning (primary_bytes p) (primary_bytes q) ≡ false → is_proper_beginning (primary_bytes (collation.reordered p)) (primary_bytes (collation.reordered q)) ≡ false
   unfolding is_proper_beginning
   reordered_apart p q apart =
       ⊎_elim
       (λ h.
       let rests : is_proper_beginning (primary_rest p) (primary_rest q) ≡ false = begins_tests (p / 2 ^ 24) (q / 2 ^ 24) _ (tested_equal _ _ h) apart in
-      let moved : is_proper_beginning (primary_rest (reordered collation p)) (primary_rest (reordered collation q)) ≡ false = rw (reordered_rest p, reordered_rest q) rests in
-      rw moved (and_false (reordered collation p / 2 ^ 24 == reordered collation q / 2 ^ 24)))
-      (λ h. other_first_apart (reordered collation p / 2 ^ 24) (reordered collation q / 2 ^ 24) (primary_rest (reordered collation p)) (primary_rest (reordered collation q))
+      let moved : is_proper_beginning (primary_rest (collation.reordered p)) (primary_rest (collation.reordered q)) ≡ false = rw (reordered_rest p, reordered_rest q) rests in
+      rw moved (and_false (collation.reordered p / 2 ^ 24 == collation.reordered q / 2 ^ 24)))
+      (λ h. other_first_apart (collation.reordered p / 2 ^ 24) (collation.reordered q / 2 ^ 24) (primary_rest (collation.reordered p)) (primary_rest (collation.reordered q))
       (λ e. true≢false (sym (equal_tested (p / 2 ^ 24) (q / 2 ^ 24) (settings.one_to_one _ _ (sym (reordered_lead_is p) ∙ e ∙ reordered_lead_is q))) ∙ h)))
       (cases_Bool (p / 2 ^ 24 == q / 2 ^ 24))
 
@@ -293,7 +301,7 @@ module _ (collation : Collation) (sound : AreSoundWeights collation.weights) (se
   original_second plain outside q (inr number) h = absurd (number_second plain q (number.0) (number.3) h)
   original_second plain inside q number h = absurd (number_second plain q (number.0) (number.3) h)
 
-  lead_bounds : (place : Place) (q : ℕ) → IsOriginal collation.weights sound numeric_on place q → (2 ≤ collation.reordered_lead (q / 2 ^ 24)) × (collation.reordered_lead (q / 2 ^ 24) < 256)
+  lead_bounds : (place : Place) (q : ℕ) → IsOriginal collation.weights sound numeric_on place q → (2 ≤ reordered_lead collation (q / 2 ^ 24)) × (reordered_lead collation (q / 2 ^ 24) < 256)
   lead_bounds place q is = let small = original_small place q is in reordered_small (q / 2 ^ 24) (original_lead place q is) (omega (arith, small))
 
   -- whatever the lead of numbers is, no primary begins another
@@ -301,7 +309,7 @@ module _ (collation : Collation) (sound : AreSoundWeights collation.weights) (se
   primaries_apart =
       record {
         lead = λ s p is. let bounds = lead_bounds s (is.0) (is.1) in omega (arith, is.2, bounds.0, reordered_lead_is (is.0));
-        small = λ s p is. let bounds = lead_bounds s (is.0) (is.1) in omega (arith, is.2, bounds.1);
+        small = λ s p is. let bounds = lead_bounds s (is.0) (is.1) in omega (arith, is.2, bounds.1, reordered_lead_is (is.0));
         apart = λ s p q is other. rw (is.2, other.2) (reordered_apart (is.0) (other.0) (originals_apart collation.weights sound numeric_on s (is.0) (other.0) (is.1) (other.1)));
         second = λ s p is h. absurd (true≢false (sym h));
       }
@@ -314,8 +322,8 @@ module _ (collation : Collation) (sound : AreSoundWeights collation.weights) (se
         apart = primaries_apart.apart;
         second = λ s p is h.
             let q : ℕ = is.0 in
-            let lead : p / 2 ^ 24 ≡ collation.reordered_lead (q / 2 ^ 24) = ap (λ (x : ℕ). x / 2 ^ 24) (is.2) ∙ reordered_lead_is q in
-            let same : p / 2 ^ 16 % 256 ≡ q / 2 ^ 16 % 256 = ap (λ (x : ℕ). x / 2 ^ 16 % 256) (is.2) ∙ same_low (collation.reordered_lead (q / 2 ^ 24)) q in
+            let lead : p / 2 ^ 24 ≡ reordered_lead collation (q / 2 ^ 24) = ap (λ (x : ℕ). x / 2 ^ 24) (is.2) ∙ reordered_lead_is q in
+            let same : p / 2 ^ 16 % 256 ≡ q / 2 ^ 16 % 256 = ap (λ (x : ℕ). x / 2 ^ 16 % 256) (is.2) ∙ reordered_second q in
             let room = original_second plain s q (is.1) (sym (settings.alike (q / 2 ^ 24)) ∙ sym (ap collation.weights.is_compressible lead) ∙ h) in
             (omega (arith, same, room.0), omega (arith, same, room.1));
       }

@@ -8,7 +8,7 @@ use Rattle.icu_collator_types.specs.declared.elements.Element.{Element}
 use Rattle.icu_collator_types.specs.declared.options.FileSettings.{FileSettings}
 use Rattle.icu_collator_types.specs.Options.{default_settings}
 use Rattle.icu_collator_core.specs.Weights.{Range, Weights}
-use Rattle.icu_collator_core.specs.Collation.{Collation}
+use Rattle.icu_collator_core.specs.Collation.{Collation, with_lead}
 
 -- a character's canonical combining class
 pub record Class : Type 0 where
@@ -155,6 +155,6 @@ collation_of table =
       options = table.settings;
       backward = table.backward;
       groups = table.groups;
-      reordered_lead =
-          λ lead. unwrap_or (first_found (λ r. cond (r.lead == lead) (Some r.place) None) table.reordering) lead;
+      reordered =
+          with_lead (λ lead. unwrap_or (first_found (λ r. cond (r.lead == lead) (Some r.place) None) table.reordering) lead);
     }
