@@ -4,5 +4,6 @@ pub mod NumbersBytes
 pub mod NumbersOrder
 pub mod NumbersExamples
 pub mod Reordering
+pub mod RangePrimaries
 pub mod DecomposedScalars
 pub mod SoundReadings

@@ -18,9 +18,8 @@ empty_weights_are_sound =
       widths = λ e is. absurd (nothing_recorded e is);
       elements = λ e is. absurd (nothing_recorded e is);
       apart = λ d e is also. absurd (nothing_recorded d is);
-      held = λ c range h. cc;
-      ranges = λ c range h. cc;
-      leads = λ c range e h is. absurd (nothing_recorded e is);
+      ranged = λ c p h. cc;
+      beside = λ c p e h is. absurd (nothing_recorded e is);
       digits = λ c d h. cc;
     }
 
