@@ -23,7 +23,6 @@ ghost use Rattle.icu_collator.specs.Settings.{AreSoundSettings, has_plain_leads}
 /// The keys of two texts compare, byte by byte, as the texts do, with every option: whatever
 /// collation data say that keep the rules on canonical data, weights and settings (our profile). With
 /// numeric ordering the lead byte of numbers must not be compressible.
-#[tactic(auto, using(crate::proofs::TextKeys::text_keys_order))]
 pub fn keys_order_as_texts()
     ensures { (collation : Collation) (options : ResolvedCollatorOptions) (a b : List ℕ)
         → IsDecomposing collation.canonical → AreSoundWeights collation.weights → AreSoundSettings collation
@@ -32,7 +31,6 @@ pub fn keys_order_as_texts()
 {}
 
 /// Under the same premises two texts have one key exactly where they compare equal.
-#[tactic(auto, using(crate::proofs::TextKeys::equal_text_keys))]
 pub fn equal_keys_are_of_equal_texts()
     ensures { (collation : Collation) (options : ResolvedCollatorOptions) (a b : List ℕ)
         → IsDecomposing collation.canonical → AreSoundWeights collation.weights → AreSoundSettings collation
@@ -42,7 +40,6 @@ pub fn equal_keys_are_of_equal_texts()
 
 /// Under the same premises, and at strength `Identical`, two texts have one key exactly where they are
 /// canonically equivalent.
-#[tactic(auto, using(crate::proofs::TextKeys::identical_text_keys))]
 pub fn equal_keys_at_identical_are_of_equivalent_texts()
     ensures { (collation : Collation) (options : ResolvedCollatorOptions) (a b : List ℕ)
         → IsDecomposing collation.canonical → AreSoundWeights collation.weights → AreSoundSettings collation
@@ -53,7 +50,6 @@ pub fn equal_keys_at_identical_are_of_equivalent_texts()
 /// The keys of two sequences of elements, each with the decomposed list it was read from, compare as
 /// their levels do. The elements are single ones, recorded or default, and, with numeric ordering,
 /// whole numbers, one after another, as those of every text are.
-#[tactic(auto, using(crate::proofs::TextKeys::sequence_keys_order))]
 pub fn keys_order_as_levels()
     ensures { (collation : Collation) (options : ResolvedCollatorOptions) (first second : List Element) (first_list second_list : List ℕ)
         → AreSoundWeights collation.weights → AreSoundSettings collation → has_plain_leads collation options ≡ true

@@ -21,7 +21,6 @@ ghost use Rattle.icu_collator.specs.Settings.{AreSoundSettings, has_plain_leads}
 /// Where the primaries differ, the keys compare, byte by byte, as the primaries do: with every option,
 /// whatever weights and settings say that keep the rules (UTS 10; our profile). With numeric ordering
 /// the lead byte of numbers must not be compressible.
-#[tactic(auto, using(crate::proofs::DecidingLevels::primaries_decide))]
 pub fn primaries_decide()
     ensures { (collation : Collation) (options : ResolvedCollatorOptions) (first second : List Element) (first_list second_list : List ℕ)
         → AreSoundWeights collation.weights → AreSoundSettings collation
@@ -34,7 +33,6 @@ pub fn primaries_decide()
 
 /// Under the same rules, and with any lead byte of numbers: where the primaries are equal, and the
 /// secondaries are in force and differ, the keys compare as the secondaries do, also backward.
-#[tactic(auto, using(crate::proofs::DecidingLevels::secondaries_decide))]
 pub fn secondaries_decide()
     ensures { (collation : Collation) (options : ResolvedCollatorOptions) (first second : List Element) (first_list second_list : List ℕ)
         → AreSoundWeights collation.weights → AreSoundSettings collation
@@ -47,7 +45,6 @@ pub fn secondaries_decide()
 
 /// Under the same rules: where the levels before it that are in force are equal, and the case level is
 /// in force and differs, the keys compare as the cases do, also with upper case first.
-#[tactic(auto, using(crate::proofs::DecidingLevels::cases_decide))]
 pub fn cases_decide()
     ensures { (collation : Collation) (options : ResolvedCollatorOptions) (first second : List Element) (first_list second_list : List ℕ)
         → AreSoundWeights collation.weights → AreSoundSettings collation
@@ -60,7 +57,6 @@ pub fn cases_decide()
 
 /// Under the same rules: where the levels before them that are in force are equal, and the tertiaries
 /// are in force and differ, the keys compare as the tertiaries do, with case bits or without.
-#[tactic(auto, using(crate::proofs::DecidingLevels::tertiaries_decide))]
 pub fn tertiaries_decide()
     ensures { (collation : Collation) (options : ResolvedCollatorOptions) (first second : List Element) (first_list second_list : List ℕ)
         → AreSoundWeights collation.weights → AreSoundSettings collation
@@ -73,7 +69,6 @@ pub fn tertiaries_decide()
 
 /// Under the same rules: where the levels before them that are in force are equal, and the quaternaries
 /// are in force and differ, the keys compare as the quaternaries do, shifted primaries among them.
-#[tactic(auto, using(crate::proofs::DecidingLevels::quaternaries_decide))]
 pub fn quaternaries_decide()
     ensures { (collation : Collation) (options : ResolvedCollatorOptions) (first second : List Element) (first_list second_list : List ℕ)
         → AreSoundWeights collation.weights → AreSoundSettings collation
@@ -86,7 +81,6 @@ pub fn quaternaries_decide()
 
 /// Under the same rules, and at strength `Identical`: where all levels before them that are in force
 /// are equal, and the characters differ, the keys compare as the characters do, U+FFFE below all.
-#[tactic(auto, using(crate::proofs::DecidingLevels::characters_decide))]
 pub fn characters_decide()
     ensures { (collation : Collation) (options : ResolvedCollatorOptions) (first second : List Element) (first_list second_list : List ℕ)
         → AreSoundWeights collation.weights → AreSoundSettings collation
@@ -98,7 +92,6 @@ pub fn characters_decide()
 {}
 
 /// Under the same rules: where no level that is in force differs, the two keys are the same bytes.
-#[tactic(auto, using(crate::proofs::DecidingLevels::equal_levels_have_equal_keys))]
 pub fn equal_levels_have_equal_keys()
     ensures { (collation : Collation) (options : ResolvedCollatorOptions) (first second : List Element) (first_list second_list : List ℕ)
         → AreSoundWeights collation.weights → AreSoundSettings collation

@@ -8,26 +8,10 @@ use Rattle.std.proofs.lemmas.List.Elements.{All-from_recursion}
 use Rattle.icu_collator_types.specs.declared.options.Strength.{Strength}
 use Rattle.icu_collator_types.specs.declared.options.Strength.TheVariants.{Primary, Secondary, Tertiary, Quaternary, Identical}
 use Rattle.icu_collator_types.specs.Options.{is_at_least}
-use Rattle.icu_normalizer_core.specs.BuiltIn.{built_in_step, built_in_compatibility_step, built_in_class, singled_out, syllable_of}
-use Rattle.icu_normalizer_core.specs.Canonical.{composed, composing, decomposed, marks_in_order, put_in_order, recomposed}
-use Rattle.icu_collator_core.specs.Defaults.{default_primary, implicit_primary, special_primary}
-use Rattle.icu_collator_core.specs.Numbers.{significant, number_part, number_parts}
-use Rattle.icu_collator_core.specs.Elements.{placed_behind, at_greatest, joining, text_match, text_reading, number_reading, reading, elements_within}
-use Rattle.icu_collator.specs.Shifted.{counted_behind}
-use Rattle.icu_collator.specs.Levels.{levels_of}
-use Rattle.icu_collator.specs.Order.{levels_order, collation_order}
+use Rattle.icu_normalizer_core.specs.Canonical.{composed, decomposed}
+use Rattle.icu_collator.specs.Order.{collation_order}
 use Rattle.icu_collator_examples.specs.Letters.{letters, letters_collation, digits_collation, plain_options, numeric_options, acute_composed, dot_composed, acute_before_dot, dot_before_acute, cote_with_acute, cote_with_circumflex}
-use Rattle.worked_rows.specs.Tables.{class_of, step_of, pair_of, expanded, recorded_of}
-
-unfoldable pub computing : Unit {0}
-unfolding
-    class_of step_of pair_of expanded recorded_of
-    built_in_step built_in_compatibility_step built_in_class singled_out syllable_of
-    composed composing decomposed marks_in_order put_in_order recomposed
-    default_primary implicit_primary special_primary significant number_part number_parts
-    placed_behind at_greatest joining text_match text_reading number_reading reading elements_within
-    counted_behind levels_of levels_order
-computing = tt
+use Rattle.worked_rows.proofs.Computing.{computing}
 
 pub acute_composed_scalars : All IsScalar acute_composed
 acute_composed_scalars =

@@ -25,7 +25,7 @@ use Rattle.icu_collator.specs.Levels.{levels_of}
 use Rattle.icu_collator.specs.NumbersInTexts.{AreNumbersTogether}
 use Rattle.icu_collator.specs.Order.{levels_order}
 use Rattle.icu_collator.specs.Settings.{AreSoundSettings}
-use Rattle.icu_collator_examples.proofs.Examples.{computing}
+use Rattle.worked_rows.proofs.Computing.{computing}
 use Rattle.icu_collator_examples.proofs.LettersDigits.{digit_values}
 
 -- the elements of all records: of ten digits, eight letters, three accents, a capital, a space and a full stop

@@ -13,7 +13,7 @@ use Rattle.icu_collator_examples.specs.LetterLevels.{small_a, small_b, small_c, 
 use Rattle.icu_collator.specs.LevelOrders.{primaries_order, secondaries_order, cases_order, tertiaries_order, quaternaries_order, characters_order}
 use Rattle.icu_collator.specs.Order.{levels_order}
 use Rattle.worked_rows.specs.Tables.{recorded_of}
-use Rattle.icu_collator_examples.proofs.Examples.{computing}
+use Rattle.worked_rows.proofs.Computing.{computing}
 
 small_a_is_recorded : IsRecorded digits_collation.weights small_a
 unfolding recorded_of

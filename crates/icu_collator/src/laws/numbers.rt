@@ -53,7 +53,6 @@ pub fn numbers_order_by_value()
 /// The keys of such texts order alike, byte by byte, over weights and settings that keep the rules,
 /// where the lead byte of numbers is not compressible: the lower value has the lower key, and equal
 /// values have one key at every strength but `Identical`.
-#[tactic(auto, using(crate::proofs::NumberKeys::lower_key_first, crate::proofs::NumberKeys::equal_value_keys))]
 pub fn number_keys_order_by_value()
     ensures lower { (collation : Collation) (options : ResolvedCollatorOptions) (x r s y : List ℕ)
         → IsDecomposing collation.canonical → AreSoundWeights collation.weights → AreSoundSettings collation → has_plain_leads collation options ≡ true

@@ -26,6 +26,26 @@ fn collected_utf16(alloc: Global, units: &[u16]) -> Result<Vec<char>, AllocError
     decode_utf16(units).collect(alloc)
 }
 
+// Whether these bytes read as these characters: from the front, from the back, and kept.
+fn reads_utf8(alloc: Global, bytes: &[u8], want: &[char]) -> Result<bool, AllocError> {
+    let kept = kept_utf8(alloc, bytes)?;
+    Ok(
+        decode_utf8(bytes).eq(want.iter().copied())
+            && decode_utf8(bytes).rev().eq(want.iter().copied().rev())
+            && kept.as_slice() == want,
+    )
+}
+
+// Whether these units do.
+fn reads_utf16(alloc: Global, units: &[u16], want: &[char]) -> Result<bool, AllocError> {
+    let collected = collected_utf16(alloc, units)?;
+    Ok(
+        decode_utf16(units).eq(want.iter().copied())
+            && decode_utf16(units).rev().eq(want.iter().copied().rev())
+            && collected.as_slice() == want,
+    )
+}
+
 #[test]
 fn ok_decode_utf8(rt: HostRuntime) -> Result<(), AllocError> {
     let vectors: [(&[u8], &[char]); 9] = [
@@ -52,10 +72,7 @@ fn ok_decode_utf8(rt: HostRuntime) -> Result<(), AllocError> {
         ),
     ];
     for (bytes, want) in vectors {
-        assert!(rt; decode_utf8(bytes).eq(want.iter().copied()));
-        assert!(rt; decode_utf8(bytes).rev().eq(want.iter().copied().rev()));
-        let kept = kept_utf8(rt.alloc(), bytes)?;
-        assert_eq!(rt; kept.as_slice(), want);
+        assert!(rt; reads_utf8(rt.alloc(), bytes, want)?);
     }
     Ok(())
 }
@@ -81,10 +98,7 @@ fn ok_decode_utf16(rt: HostRuntime) -> Result<(), AllocError> {
         ),
     ];
     for (units, want) in vectors {
-        assert!(rt; decode_utf16(units).eq(want.iter().copied()));
-        assert!(rt; decode_utf16(units).rev().eq(want.iter().copied().rev()));
-        let collected = collected_utf16(rt.alloc(), units)?;
-        assert_eq!(rt; collected.as_slice(), want);
+        assert!(rt; reads_utf16(rt.alloc(), units, want)?);
     }
     Ok(())
 }
@@ -100,22 +114,21 @@ fn ok_decode_latin1(rt: HostRuntime) {
 
 // What is taken from one end is not there at the other.
 #[test]
-fn ends_meet(rt: HostRuntime) -> Result<(), AllocError> {
+fn ends_of_utf16_meet(rt: HostRuntime) -> Result<(), AllocError> {
     let mut chars = decode_utf16(&[0xD83D, 0xD83D, 0xDE00, 0xDE00]);
-    assert_eq!(rt; chars.next_back(), Some('\u{FFFD}'));
-    assert_eq!(rt; chars.next(), Some('\u{FFFD}'));
+    assert!(rt; chars.next_back() == Some('\u{FFFD}') && chars.next() == Some('\u{FFFD}'));
     let mut copy = chars.clone()?;
-    assert_eq!(rt; chars.next(), Some('\u{1F600}'));
-    assert_eq!(rt; chars.next_back(), None);
-    assert_eq!(rt; copy.next_back(), Some('\u{1F600}'));
-    assert_eq!(rt; copy.next(), None);
+    assert!(rt; chars.next() == Some('\u{1F600}') && chars.next_back() == None);
+    assert!(rt; copy.next_back() == Some('\u{1F600}') && copy.next() == None);
+    Ok(())
+}
 
+#[test]
+fn ends_of_utf8_meet(rt: HostRuntime) -> Result<(), AllocError> {
     let mut chars = decode_utf8(b"\xE1\x80a\xF0\x90");
-    assert_eq!(rt; chars.next_back(), Some('\u{FFFD}'));
-    assert_eq!(rt; chars.next_back(), Some('a'));
+    assert!(rt; chars.next_back() == Some('\u{FFFD}') && chars.next_back() == Some('a'));
     let copy = chars.clone()?;
-    assert_eq!(rt; chars.next(), Some('\u{FFFD}'));
-    assert_eq!(rt; chars.next_back(), None);
+    assert!(rt; chars.next() == Some('\u{FFFD}') && chars.next_back() == None);
     assert!(rt; copy.eq(['\u{FFFD}']));
     Ok(())
 }

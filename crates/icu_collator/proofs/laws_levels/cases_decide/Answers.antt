@@ -1,0 +1,5 @@
+use Rattle.icu_collator.proofs.DecidingLevels.{cases_decide}
+use Rattle.icu_collator.proofs.laws_levels.cases_decide.Goals as goal
+
+pub returns : goal.returns
+returns c = cases_decide

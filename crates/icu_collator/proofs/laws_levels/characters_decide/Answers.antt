@@ -1,0 +1,5 @@
+use Rattle.icu_collator.proofs.DecidingLevels.{characters_decide}
+use Rattle.icu_collator.proofs.laws_levels.characters_decide.Goals as goal
+
+pub returns : goal.returns
+returns c = characters_decide

@@ -1,0 +1,5 @@
+use Rattle.icu_collator.proofs.DecidingLevels.{primaries_decide}
+use Rattle.icu_collator.proofs.laws_levels.primaries_decide.Goals as goal
+
+pub returns : goal.returns
+returns c = primaries_decide
