@@ -6,4 +6,7 @@ pub mod NumbersExamples
 pub mod Reordering
 pub mod RangePrimaries
 pub mod DecomposedScalars
+pub mod ReadingsLeft
+pub mod SameDecomposed
+pub mod SameReadings
 pub mod SoundReadings

@@ -21,7 +21,7 @@ pub fn texts_have_sound_elements()
         → IsSoundSequence weights numeric (elements_of_list canonical weights numeric (decomposed canonical text)) }
 {}
 
-/// Where a range keeps the rule V6, the primaries of its characters keep what the sound weights ask of
+/// Where a range keeps the rule on ranges (our profile), the primaries of its characters keep what the sound weights ask of
 /// them, and an element with another lead keeps what they ask beside them.
 #[tactic(auto, using(crate::proofs::RangePrimaries::range_primary_sound, crate::proofs::RangePrimaries::other_lead_beside))]
 pub fn ranges_have_sound_primaries()
