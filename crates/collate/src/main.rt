@@ -1,27 +1,13 @@
 //! `collate`: names in collation order, by the records of a file (our profile).
 #![tactic(auto)]
 
-mod choice;
-mod comparison;
-pub mod index;
-mod key;
-pub mod laws;
-#[cfg(test)]
-mod name_tests;
-mod replies;
-mod run;
-mod serve;
-#[cfg(test)]
-mod tests;
-mod watched;
-
-use choice::Choice;
-use serve::FileFault;
+use collate_run::choice::Choice;
+use collate_run::serve::{self, FileFault};
+use collate_run::watched::Watched;
 use std::env;
 use std::fs::File;
 use std::io::{self, BufReader, Read, Write};
 use std::process::ExitCode;
-use watched::Watched;
 
 /// The most bytes of FILE that are read: one more than a file of records may have.
 const FILE_LIMIT: u64 = 1_048_577;

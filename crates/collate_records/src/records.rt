@@ -52,9 +52,14 @@ impl Records {
         Records::read_over(alloc, bytes, TrieType::Fast)
     }
 
-    /// Reads a records file, as `read` does, into tables over tries of this type.
+    /// Reads a records file, as `read` does, into tables over tries of this type: small ones take less memory, fast ones
+    /// less time a look-up.
     #[tactic(auto, using(crate::proofs::Classes::accepted_classes, crate::proofs::Keys::accepted_once))]
-    fn read_over(alloc: Global, bytes: &[u8], trie_type: TrieType) -> Result<Records, RecordsError>
+    pub fn read_over(
+        alloc: Global,
+        bytes: &[u8],
+        trie_type: TrieType,
+    ) -> Result<Records, RecordsError>
         ensures { IsReadFrom bytes.now result }
     {
         let sayings = read_sayings(alloc, bytes)?;
@@ -154,6 +159,3 @@ impl Records {
         }
     }
 }
-
-#[cfg(test)]
-mod tests;

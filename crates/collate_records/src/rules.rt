@@ -4,5 +4,3 @@ pub mod lines;
 pub mod lists;
 pub mod loops;
 pub mod marks;
-#[cfg(test)]
-mod tests;

@@ -1,17 +1,11 @@
 -- Keys of short texts, level by level.
-use Rattle.std.specs.Prelude.{◌≡◌, ℕ, true, List, [], ◌∷◌, ◌++◌, replicate, Some, refl, codes}
+use Rattle.std.specs.Prelude.{◌≡◌, ℕ, true, List, [], ◌∷◌, ◌++◌, replicate, refl, codes}
 use Rattle.std.specs.List.{flat_map}
 use Rattle.std.specs.declared.cmp.Ordering.TheVariants.{Less}
 use Rattle.icu_normalizer_core.specs.Decoding.{utf8_chars}
 use Rattle.icu_collator_types.specs.declared.options.Strength.TheVariants.{Primary, Secondary, Tertiary, Quaternary, Identical}
-use Rattle.icu_collator_types.specs.declared.options.AlternateHandling.TheVariants.{Shifted}
-use Rattle.icu_collator_types.specs.declared.options.CaseLevel.TheVariants.{On}
-use Rattle.icu_collator_types.specs.declared.options.CollationCaseFirst.TheVariants.{Upper}
-use Rattle.icu_collator_types.specs.declared.options.MaxVariable.TheVariants.{Punctuation}
-use Rattle.icu_collator_types.specs.Options.{default_settings}
-use Rattle.worked_rows.specs.Tables.{Table}
-use Rattle.worked_rows.specs.Asked.{Asked, at_strength}
-use Rattle.worked_rows.specs.Letters.{letters, with_records, text_with, upper_element, text_at, behind_at}
+use Rattle.worked_rows.specs.Asked.{at_strength, shifted_at, accents_then_upper_first}
+use Rattle.worked_rows.specs.Letters.{letters, with_upper_a, with_punctuation, with_ideographs, with_e_behind_abc, with_two_prefixes}
 use Rattle.key_rows.specs.Keys.{key, hex, last_bytes, bytes_order}
 use Rattle.key_rows.proofs.Computing.{computing}
 
@@ -79,14 +73,6 @@ pub earlier_end_has_the_lower_key :
 unfolding computing
 earlier_end_has_the_lower_key = refl
 
--- "A" as an "a" in upper case
-abbrev with_upper_a : Table
-with_upper_a = with_records (text_with (codes "A") (upper_element 0x2a100000 ∷ []) ∷ []) letters
-
--- case as a level of its own above accents, upper case first
-abbrev accents_then_upper_first : Asked
-accents_then_upper_first = record (at_strength Secondary) { case_level = Some On; case_first = Some Upper }
-
 -- fourteen times the primary of "a"
 abbrev fourteen_letters : List ℕ
 fourteen_letters = flat_map (λ b. b) (replicate 14 (0x2a ∷ 0x10 ∷ []))
@@ -123,10 +109,6 @@ pub key_of_two_jamo : key letters (at_strength Primary) (0x1100 ∷ 0x1161 ∷ [
 unfolding computing
 key_of_two_jamo = refl
 
--- a range of ideographs
-abbrev with_ideographs : Table
-with_ideographs = record letters { ranges = record { first = 0x4e00; last = 0x9fff; primary = 0xe0020200; step = 1 } ∷ [] }
-
 pub key_of_the_first_ideograph : key with_ideographs (at_strength Primary) (0x4e00 ∷ []) ≡ hex (codes "e00202")
 unfolding computing
 key_of_the_first_ideograph = refl
@@ -135,24 +117,13 @@ pub key_of_an_ideograph : key with_ideographs (at_strength Primary) (0x4efe ∷ 
 unfolding computing
 key_of_an_ideograph = refl
 
--- a space and a full stop, which the file's last variable group holds
-abbrev with_punctuation : Table
-with_punctuation =
-    record (with_records (text_at (codes " ") 0x304 ∷ text_at (codes ".") 0x308 ∷ []) letters) {
-      groups = 0x306 ∷ 0x30a ∷ 0x30a ∷ 0x30a ∷ [];
-      settings = record default_settings { max_variable = Punctuation };
-    }
-
-abbrev shifted_quaternary : Asked
-shifted_quaternary = record (at_strength Quaternary) { alternate = Some Shifted }
-
 -- A space counts at the quaternary level alone, between two runs of common weights.
 pub key_of_a_space_c :
-    key with_punctuation shifted_quaternary (codes "a c") ≡ hex (codes "2a102a30010601010601011c03041c01")
+    key with_punctuation (shifted_at Quaternary) (codes "a c") ≡ hex (codes "2a102a30010601010601011c03041c01")
 unfolding computing
 key_of_a_space_c = refl
 
-pub key_of_ac : key with_punctuation shifted_quaternary (codes "ac") ≡ hex (codes "2a102a30010601010601011d01")
+pub key_of_ac : key with_punctuation (shifted_at Quaternary) (codes "ac") ≡ hex (codes "2a102a30010601010601011d01")
 unfolding computing
 key_of_ac = refl
 
@@ -161,10 +132,6 @@ pub quaternary_key_of_ac : key with_punctuation (at_strength Quaternary) (codes 
 unfolding computing
 quaternary_key_of_ac = refl
 
--- "e" behind "abc" as a letter between "h" and "l"
-abbrev with_e_behind_abc : Table
-with_e_behind_abc = with_records (behind_at (codes "abc") 0x65 0x2aa0 ∷ []) letters
-
 -- Behind a prefix of three letters "e" has another primary.
 pub key_behind_a_prefix : key with_e_behind_abc (at_strength Primary) (codes "abce") ≡ hex (codes "2a102a202a302aa0")
 unfolding computing
@@ -172,7 +139,7 @@ key_behind_a_prefix = refl
 
 -- Besides, "e" behind "c" alone is a letter between "e" and "h". Behind "bc" only that prefix is there.
 pub key_behind_the_shorter_prefix :
-    key (with_records (behind_at (codes "c") 0x65 0x2a70 ∷ []) with_e_behind_abc) (at_strength Primary) (codes "bce")
+    key with_two_prefixes (at_strength Primary) (codes "bce")
     ≡ hex (codes "2a202a302a70")
 unfolding computing
 key_behind_the_shorter_prefix = refl

@@ -5,17 +5,9 @@ use Rattle.icu_collator_types.specs.declared.options.Strength.TheVariants.{Prima
 use Rattle.icu_collator_types.specs.declared.options.CaseLevel.TheVariants.{On}
 use Rattle.icu_collator_types.specs.declared.options.CollationCaseFirst.TheVariants.{Lower, Upper}
 use Rattle.worked_rows.specs.Tables.{Table}
-use Rattle.worked_rows.specs.Asked.{Asked, at_strength, order}
-use Rattle.worked_rows.specs.Letters.{letters, with_records, text_at, text_with, accent_at, upper_element, case_element, composed_of}
+use Rattle.worked_rows.specs.Asked.{Asked, at_strength, accents_then_upper_first, order}
+use Rattle.worked_rows.specs.Letters.{letters, with_records, with_upper_a, text_at, text_with, accent_at, case_element, composed_of}
 use Rattle.worked_rows.proofs.Computing.{computing}
-
--- "A" as an "a" in upper case
-abbrev with_upper_a : Table
-with_upper_a = with_records (text_with (codes "A") (upper_element 0x2a100000 ∷ []) ∷ []) letters
-
--- case as a level of its own above accents, upper case first
-abbrev accents_then_upper_first : Asked
-accents_then_upper_first = record (at_strength Secondary) { case_level = Some On; case_first = Some Upper }
 
 -- Upper case is below lower case, in the fourteenth place too.
 pub upper_in_fourteenth_place_is_first :

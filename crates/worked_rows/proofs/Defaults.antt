@@ -3,9 +3,8 @@ use Rattle.std.specs.Prelude.{◌≡◌, [], ◌∷◌, refl, codes}
 use Rattle.std.specs.declared.cmp.Ordering.TheVariants.{Less, Equal}
 use Rattle.icu_collator_types.specs.declared.options.Strength.TheVariants.{Primary, Identical}
 use Rattle.icu_collator_core.specs.Defaults.{primary_element}
-use Rattle.worked_rows.specs.Tables.{Table}
 use Rattle.worked_rows.specs.Asked.{at_strength, order, elements}
-use Rattle.worked_rows.specs.Letters.{letters}
+use Rattle.worked_rows.specs.Letters.{letters, with_ideographs}
 use Rattle.worked_rows.proofs.Computing.{computing}
 
 -- U+FFFE is below all other characters, so an earlier one is below a later one.
@@ -28,10 +27,6 @@ pub elements_of_a_syllable :
     elements letters (at_strength Primary) (0xac00 ∷ []) ≡ primary_element 0xfd040200 ∷ primary_element 0xfd046300 ∷ []
 unfolding computing
 elements_of_a_syllable = refl
-
--- a range of ideographs
-abbrev with_ideographs : Table
-with_ideographs = record letters { ranges = record { first = 0x4e00; last = 0x9fff; primary = 0xe0020200; step = 1 } ∷ [] }
 
 -- The first of a range has its primary, and 254 further on the second byte has moved.
 pub elements_of_the_first_ideograph :

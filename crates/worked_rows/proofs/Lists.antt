@@ -5,7 +5,7 @@ use Rattle.icu_collator_types.specs.declared.options.Strength.TheVariants.{Prima
 use Rattle.icu_normalizer_core.specs.Decoding.{utf8_chars}
 use Rattle.worked_rows.specs.Tables.{Table}
 use Rattle.worked_rows.specs.Asked.{at_strength, order, list_of}
-use Rattle.worked_rows.specs.Names.{equal_names}
+use Rattle.collate_names.specs.Names.{equal_names}
 use Rattle.worked_rows.specs.Letters.{letters, with_records, text_at}
 use Rattle.worked_rows.proofs.Computing.{computing}
 

@@ -1,21 +1,15 @@
 -- Runs of digits, digit by digit and by value.
-use Rattle.std.specs.Prelude.{◌≡◌, [], ◌∷◌, ◌++◌, replicate, Some, refl, codes}
+use Rattle.std.specs.Prelude.{◌≡◌, [], ◌∷◌, ◌++◌, replicate, refl, codes}
 use Rattle.std.specs.declared.cmp.Ordering.TheVariants.{Less, Equal, Greater}
 use Rattle.icu_collator_types.specs.declared.options.Strength.TheVariants.{Primary, Tertiary, Quaternary, Identical}
-use Rattle.icu_collator_types.specs.declared.options.Strength.{Strength}
-use Rattle.icu_collator_types.specs.declared.options.CollationNumericOrdering.TheVariants.{True as Numeric}
 use Rattle.icu_collator_core.specs.Defaults.{primary_element}
 use Rattle.worked_rows.specs.Tables.{Table}
-use Rattle.worked_rows.specs.Asked.{Asked, at_strength, order, elements, list_of}
+use Rattle.worked_rows.specs.Asked.{at_strength, by_value, order, elements, list_of}
 use Rattle.worked_rows.specs.Letters.{letters, with_digits}
 use Rattle.worked_rows.proofs.Computing.{computing}
 
 abbrev digits : Table
 digits = with_digits letters
-
--- numbers by value, at a strength
-abbrev by_value : Strength → Asked
-by_value strength = record (at_strength strength) { numeric = Some Numeric }
 
 -- Digit by digit 2 is above 1.
 pub a2_is_above_a10 : order digits (at_strength Tertiary) (codes "a2") (codes "a10") ≡ Greater

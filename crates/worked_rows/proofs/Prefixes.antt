@@ -4,7 +4,7 @@ use Rattle.std.specs.declared.cmp.Ordering.TheVariants.{Less, Greater}
 use Rattle.icu_collator_types.specs.declared.options.Strength.TheVariants.{Primary, Tertiary}
 use Rattle.worked_rows.specs.Tables.{Table}
 use Rattle.worked_rows.specs.Asked.{at_strength, order, list_of}
-use Rattle.worked_rows.specs.Letters.{letters, with_records, behind_at}
+use Rattle.worked_rows.specs.Letters.{letters, with_records, with_e_behind_abc, with_two_prefixes, behind_at}
 use Rattle.worked_rows.proofs.Computing.{computing}
 
 -- "c" behind "ab" as a letter between "e" and "h"
@@ -16,18 +16,10 @@ pub abc_is_above_abe : order with_c_behind_ab (at_strength Tertiary) (codes "abc
 unfolding computing
 abc_is_above_abe = refl
 
--- "e" behind "abc" as a letter between "h" and "l"
-abbrev with_e_behind_abc : Table
-with_e_behind_abc = with_records (behind_at (codes "abc") 0x65 0x2aa0 ∷ []) letters
-
 -- Behind "abc" the letter "e" is above "h".
 pub abce_is_above_abch : order with_e_behind_abc (at_strength Tertiary) (codes "abce") (codes "abch") ≡ Greater
 unfolding computing
 abce_is_above_abch = refl
-
--- Besides, "e" behind "c" alone is a letter between "e" and "h".
-abbrev with_two_prefixes : Table
-with_two_prefixes = with_records (behind_at (codes "c") 0x65 0x2a70 ∷ []) with_e_behind_abc
 
 -- The longest prefix counts.
 pub abce_is_above_abch_by_longest : order with_two_prefixes (at_strength Tertiary) (codes "abce") (codes "abch") ≡ Greater

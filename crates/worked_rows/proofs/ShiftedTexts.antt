@@ -2,25 +2,10 @@
 use Rattle.std.specs.Prelude.{◌≡◌, [], ◌∷◌, Some, refl, codes}
 use Rattle.std.specs.declared.cmp.Ordering.TheVariants.{Less, Equal}
 use Rattle.icu_collator_types.specs.declared.options.Strength.TheVariants.{Tertiary, Quaternary}
-use Rattle.icu_collator_types.specs.declared.options.Strength.{Strength}
-use Rattle.icu_collator_types.specs.declared.options.AlternateHandling.TheVariants.{Shifted}
-use Rattle.icu_collator_types.specs.declared.options.MaxVariable.TheVariants.{Space, Punctuation}
-use Rattle.icu_collator_types.specs.Options.{default_settings}
-use Rattle.worked_rows.specs.Tables.{Table}
-use Rattle.worked_rows.specs.Asked.{Asked, at_strength, order}
-use Rattle.worked_rows.specs.Letters.{letters, with_records, text_at}
+use Rattle.icu_collator_types.specs.declared.options.MaxVariable.TheVariants.{Space}
+use Rattle.worked_rows.specs.Asked.{shifted_at, order}
+use Rattle.worked_rows.specs.Letters.{with_punctuation}
 use Rattle.worked_rows.proofs.Computing.{computing}
-
--- a space and a full stop, which the file's last variable group holds
-abbrev with_punctuation : Table
-with_punctuation =
-    record (with_records (text_at (codes " ") 0x304 ∷ text_at (codes ".") 0x308 ∷ []) letters) {
-      groups = 0x306 ∷ 0x30a ∷ 0x30a ∷ 0x30a ∷ [];
-      settings = record default_settings { max_variable = Punctuation };
-    }
-
-abbrev shifted_at : Strength → Asked
-shifted_at strength = record (at_strength strength) { alternate = Some Shifted }
 
 -- A space counts for nothing up to the tertiary level.
 pub a_space_c_is_ac : order with_punctuation (shifted_at Tertiary) (codes "a c") (codes "ac") ≡ Equal

@@ -3,11 +3,16 @@ use Rattle.std.specs.Prelude.{ℕ, List, [], Option, Some, None}
 use Rattle.std.specs.declared.cmp.Ordering.{Ordering}
 use Rattle.icu_normalizer_core.specs.Decoding.{utf8_chars}
 use Rattle.icu_collator_types.specs.declared.options.AlternateHandling.{AlternateHandling}
+use Rattle.icu_collator_types.specs.declared.options.AlternateHandling.TheVariants.{Shifted}
 use Rattle.icu_collator_types.specs.declared.options.CaseLevel.{CaseLevel}
+use Rattle.icu_collator_types.specs.declared.options.CaseLevel.TheVariants.{On}
 use Rattle.icu_collator_types.specs.declared.options.CollationCaseFirst.{CollationCaseFirst}
+use Rattle.icu_collator_types.specs.declared.options.CollationCaseFirst.TheVariants.{Upper}
 use Rattle.icu_collator_types.specs.declared.options.CollationNumericOrdering.{CollationNumericOrdering}
+use Rattle.icu_collator_types.specs.declared.options.CollationNumericOrdering.TheVariants.{True as Numeric}
 use Rattle.icu_collator_types.specs.declared.options.MaxVariable.{MaxVariable}
 use Rattle.icu_collator_types.specs.declared.options.Strength.{Strength}
+use Rattle.icu_collator_types.specs.declared.options.Strength.TheVariants.{Secondary}
 use Rattle.icu_collator_types.specs.declared.options.CollatorOptions.{CollatorOptions}
 use Rattle.icu_collator_types.specs.declared.options.CollatorPreferences.{CollatorPreferences}
 use Rattle.icu_collator_types.specs.declared.options.ResolvedCollatorOptions.{ResolvedCollatorOptions}
@@ -16,7 +21,7 @@ use Rattle.icu_collator_types.specs.Options.{resolved_options}
 use Rattle.icu_collator.specs.Levels.{elements_of_text}
 use Rattle.icu_collator.specs.Order.{collation_order}
 use Rattle.worked_rows.specs.Tables.{Table, collation_of}
-use Rattle.worked_rows.specs.Names.{in_order}
+use Rattle.collate_names.specs.Names.{in_order}
 
 -- the options and the preferences of a caller; what is None is not asked
 pub record Asked : Type 0 where
@@ -38,6 +43,18 @@ at_strength strength =
       case_first = None;
       numeric = None;
     }
+
+-- numbers by value, at a strength
+abbrev pub by_value : Strength → Asked
+by_value strength = record (at_strength strength) { numeric = Some Numeric }
+
+-- spaces and punctuation shifted, at a strength
+abbrev pub shifted_at : Strength → Asked
+shifted_at strength = record (at_strength strength) { alternate = Some Shifted }
+
+-- case as a level of its own above accents, upper case first
+abbrev pub accents_then_upper_first : Asked
+accents_then_upper_first = record (at_strength Secondary) { case_level = Some On; case_first = Some Upper }
 
 -- what a caller asks as options
 abbrev pub asked_options : Asked → CollatorOptions

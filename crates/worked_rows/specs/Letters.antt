@@ -1,6 +1,8 @@
--- A table of eight letters and three accents, and lines to put with it.
-use Rattle.std.specs.Prelude.{ℕ, ◌*◌, ◌+◌, ◌^◌, true, List, [], ◌∷◌, ◌++◌, map}
+-- A table of eight letters and three accents, lines to put with it, and the tables with more lines that orders and keys share.
+use Rattle.std.specs.Prelude.{ℕ, ◌*◌, ◌+◌, ◌^◌, true, List, [], ◌∷◌, ◌++◌, map, codes}
 use Rattle.icu_collator_types.specs.declared.elements.Element.{Element}
+use Rattle.icu_collator_types.specs.declared.options.MaxVariable.TheVariants.{Punctuation}
+use Rattle.icu_collator_types.specs.Options.{default_settings}
 use Rattle.icu_collator_core.specs.Defaults.{primary_element}
 use Rattle.worked_rows.specs.Tables.{Table, Recorded, Class, Mapping, empty_table}
 
@@ -75,3 +77,27 @@ with_digits table =
       digits = map (λ v. record { character = 0x30 + v; value = v }) values;
       records = map (λ v. text_at ((0x30 + v) ∷ []) (0x1110 + v)) values ++ table.records;
     }
+
+-- "A" as an "a" in upper case
+abbrev pub with_upper_a : Table
+with_upper_a = with_records (text_with (codes "A") (upper_element 0x2a100000 ∷ []) ∷ []) letters
+
+-- a space and a full stop, which the file's last variable group holds
+abbrev pub with_punctuation : Table
+with_punctuation =
+    record (with_records (text_at (codes " ") 0x304 ∷ text_at (codes ".") 0x308 ∷ []) letters) {
+      groups = 0x306 ∷ 0x30a ∷ 0x30a ∷ 0x30a ∷ [];
+      settings = record default_settings { max_variable = Punctuation };
+    }
+
+-- a range of ideographs
+abbrev pub with_ideographs : Table
+with_ideographs = record letters { ranges = record { first = 0x4e00; last = 0x9fff; primary = 0xe0020200; step = 1 } ∷ [] }
+
+-- "e" behind "abc" as a letter between "h" and "l"
+abbrev pub with_e_behind_abc : Table
+with_e_behind_abc = with_records (behind_at (codes "abc") 0x65 0x2aa0 ∷ []) letters
+
+-- besides, "e" behind "c" alone as a letter between "e" and "h"
+abbrev pub with_two_prefixes : Table
+with_two_prefixes = with_records (behind_at (codes "c") 0x65 0x2a70 ∷ []) with_e_behind_abc

@@ -1,5 +1,0 @@
-use Rattle.collate.proofs.Progress.{ran-nothing}
-use Rattle.collate.proofs.run.run.Goals as goal
-
-pub returns-in-Err-clause-ran : goal.returns-in-Err-clause-ran
-returns-in-Err-clause-ran g c = ran-nothing _ _ _

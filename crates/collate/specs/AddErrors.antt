@@ -1,8 +1,0 @@
--- the texts of an error of an add
-use Rattle.std.specs.Prelude.{ℕ, List, codes}
-use Rattle.collate.specs.declared.index.AddError.{AddError}
-use Rattle.collate.specs.declared.index.AddError.TheVariants.{Duplicate, Memory}
-
-abbrev pub add_error_text : AddError → List ℕ
-add_error_text Duplicate = codes "duplicate"
-add_error_text Memory = codes "memory"

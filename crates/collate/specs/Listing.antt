@@ -1,7 +1,0 @@
--- what a walk over an index's names has yet to give
-use Rattle.std.specs.Prelude.{ℕ, List, drop}
-use Rattle.collate.specs.Catalogue.{sorted_names}
-use Rattle.collate.specs.declared.index.Names.TheInside.{Inside}
-
-abbrev pub names_left : Inside → List (List ℕ)
-names_left s = drop s.next (sorted_names s.index.now)

@@ -1,0 +1,11 @@
+pub mod ContextFree
+pub mod Kept
+pub mod Listing
+pub mod Marks
+pub mod OfRecords
+pub mod Order
+pub mod PlainKeys
+pub mod PlainLevels
+pub mod PlainOrder
+pub mod Searching
+pub mod Simple

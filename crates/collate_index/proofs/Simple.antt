@@ -1,0 +1,32 @@
+-- Options that are served resolve to simple ones.
+use Rattle.std.proofs.Common.{◌≡◌, Option, Some, None, refl, false}
+use Rattle.std.specs.Option.{unwrap_or}
+use Rattle.icu_collator_types.specs.declared.options.CollatorOptions.{CollatorOptions}
+use Rattle.icu_collator_types.specs.declared.options.CollatorPreferences.{CollatorPreferences}
+use Rattle.icu_collator_types.specs.declared.options.FileSettings.{FileSettings}
+use Rattle.icu_collator_types.specs.declared.options.Strength.{Strength}
+use Rattle.icu_collator_types.specs.declared.options.Strength.TheVariants.{Primary, Secondary, Tertiary, Quaternary, Identical}
+use Rattle.icu_collator_types.specs.Options.{default_settings, is_at_least, resolved_options}
+use Rattle.collate_index.specs.Plain.{AreSimple}
+use Rattle.collate_index.specs.Settings.{ArePlain, GiveStrengthOnly}
+use Rattle.collate_index.specs.Strengths.{IsServedStrength}
+
+served_below : (s : Option Strength) → IsServedStrength s → is_at_least (unwrap_or s Tertiary) Quaternary ≡ false
+served_below None h = refl
+served_below (Some Primary) h = refl
+served_below (Some Secondary) h = refl
+served_below (Some Tertiary) h = refl
+served_below (Some Quaternary) h = absurd h
+served_below (Some Identical) h = absurd h
+
+pub resolved_simple : (preferences : CollatorPreferences) (options : CollatorOptions) (settings : FileSettings) → ArePlain preferences → GiveStrengthOnly options
+    → settings ≡ default_settings → AreSimple (resolved_options options preferences settings)
+resolved_simple preferences options settings p o e =
+    rw (e)
+    record {
+      alternate_handling = rw (o.alternate_handling) refl;
+      case_first = rw (p.case_first) refl;
+      case_level = rw (o.case_level) refl;
+      numeric = rw (p.numeric_ordering) refl;
+      strength = served_below options.strength o.strength;
+    }

@@ -1,0 +1,8 @@
+-- the texts of an error of an add
+use Rattle.std.specs.Prelude.{ℕ, List, codes}
+use Rattle.collate_index.specs.declared.index.AddError.{AddError}
+use Rattle.collate_index.specs.declared.index.AddError.TheVariants.{Duplicate, Memory}
+
+abbrev pub add_error_text : AddError → List ℕ
+add_error_text Duplicate = codes "duplicate"
+add_error_text Memory = codes "memory"

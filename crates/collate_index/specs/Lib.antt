@@ -1,0 +1,11 @@
+pub mod AddErrors
+pub mod Catalogue
+pub mod Index
+pub mod Keys
+pub mod Listing
+pub mod Meaning
+pub mod Plain
+pub mod Search
+pub mod Settings
+pub mod Strengths
+pub use Rattle.collate_names.specs.Names

@@ -1,0 +1,340 @@
+//! An index: names in collation order, found by binary search over their keys.
+//!
+//! It keeps the names as they arrived, and their places sorted. Nothing here reads a key but by comparing two.
+
+ghost use Rattle.std.specs.Prelude.{◌≡◌, ◌≢◌, ℕ, ◌+◌, ◌*◌, ◌^◌, ◌<◌, ◌≤◌, ◌↔◌, ◌==◌, true, false, List, [], ◌∷◌, ◌++◌, length, min, Some, Err, IfOk, OnOk, OnErr, IsTrue, slice_get, slice_index_or, slice_range};
+ghost use Rattle.std.specs.List.{Contains};
+ghost use Rattle.std.specs.Iterator.{YieldsFirstRef, item_count};
+ghost use Rattle.std.specs.Option.{option_copied};
+ghost use Rattle.collate_index.specs.declared.index.AddError.TheVariants.{Memory};
+ghost use Rattle.collate_index.specs.AddErrors.{add_error_text};
+ghost use Rattle.collate_names.specs.Names.{equal_names};
+ghost use Rattle.collate_index.specs.Catalogue.{AreDistinct, opened, order_of, sorted_names, with_name};
+ghost use Rattle.collate_index.specs.Settings.{ArePlain, GiveStrengthOnly};
+ghost use Rattle.collate_index.specs.Search.{IsPlaceOf, stands_before};
+
+use crate::key::IndexKey;
+use collate_records::records::Records;
+use icu_collator_types::options::{
+    CollatorOptions, CollatorPreferences, FileSettings, ResolvedCollatorOptions,
+};
+use std::alloc::{AllocError, Global};
+use std::cmp::Ordering;
+use std::fmt;
+use std::marker::Model;
+use std::ops::Range;
+
+// A name that an index keeps, with its key.
+#[derive(Drop)]
+struct Name {
+    bytes: Vec<u8>,
+    key: IndexKey,
+}
+
+/// Names in collation order under records and options. Names that compare as equal stand as they arrived, and no name is
+/// there twice.
+#[derive(Drop)]
+pub struct Index {
+    alloc: Global,
+    records: Records,
+    options: ResolvedCollatorOptions,
+    // In order of arrival.
+    names: Vec<Name>,
+    // Places in `names`, in collation order.
+    order: Vec<usize>,
+}
+
+impl Model for Index {
+    ghost use Rattle.collate_index.specs.Catalogue.{Catalogue};
+
+    ghost Value = { Catalogue };
+
+    ghost use Rattle.collate_index.specs.Index.{catalogue_of, IsKept};
+
+    ghost view = { catalogue_of };
+
+    ghost invariant = { IsKept };
+}
+
+impl Index {
+    ghost use Rattle.collate_index.specs.Keys.{IsKeyOf};
+
+    /// An index with no names, over records, preferences and options (our profile). It asks for no memory.
+    #[tactic(auto, unfolding(collate_names::specs::Names::in_order), using(crate::proofs::Simple::resolved_simple))]
+    pub fn new(
+        alloc: Global,
+        records: Records,
+        preferences: &CollatorPreferences<'_>,
+        options: &CollatorOptions,
+    ) -> Result<Index, AllocError>
+        requires preferences { ArePlain preferences.now }
+        requires options { GiveStrengthOnly options.now }
+        ensures { IfOk result (λ index. index ≡ opened records preferences.now options.now) }
+    {
+        let settings: FileSettings = Default::default();
+        let options = ResolvedCollatorOptions::resolve(options, preferences, &settings);
+        Ok(Index {
+            alloc,
+            records,
+            options,
+            names: Vec::new(alloc),
+            order: Vec::new(alloc),
+        })
+    }
+
+    /// Adds a name, which stands behind all names that aren't above it (our profile). It is `Duplicate` where the same
+    /// bytes are there already, and `Memory` where memory is refused; then the index is as before. A name that compares as
+    /// equal and has other bytes is another name.
+    pub fn add(&mut self, name: &[u8]) -> Result<(), AddError>
+        ensures added { OnOk result (self.new ≡ with_name name.now self.old) }
+        ensures new { OnOk result (¬ Contains self.old.arrivals name.now) }
+        ensures duplicate { result ≡ Err AddError.Duplicate → Contains self.old.arrivals name.now }
+        ensures unchanged { OnErr result (self.new ≡ self.old) }
+    {
+        let key = IndexKey::make(self.alloc, &self.records, self.options, name)?;
+        let sought = Sought { bytes: name, key };
+        let mut count = 0;
+        let equal = self.equal_range(&sought, &mut count);
+        if self.holds(&equal, name) {
+            return Err(AddError::Duplicate);
+        }
+        let bytes = Vec::from_slice(self.alloc, name)?;
+        let key = sought.key;
+        self.insert(equal.end, Name { bytes, key })?;
+        Ok(())
+    }
+
+    /// The places of the names that compare as equal to a name, `0..0` where there are none, and how many comparisons of
+    /// keys that took: at most twice as many as the number of names has binary digits (our profile). An error where memory
+    /// is refused.
+    pub fn find(&self, name: &[u8]) -> Result<Found, AllocError>
+        ensures bound { IfOk result (λ found. (found.names.start ≤ found.names.end) × (found.names.end ≤ length (sorted_names self.now))) }
+        ensures names { IfOk result (λ found. slice_range (sorted_names self.now) found.names.start found.names.end ≡ equal_names (order_of self.now) name.now (sorted_names self.now)) }
+        ensures none { IfOk result (λ found. found.names.start ≡ found.names.end → found.names.end ≡ 0) }
+        ensures few { IfOk result (λ found. (digits : ℕ) → length (sorted_names self.now) < 2 ^ digits → found.comparisons ≤ 2 * digits) }
+    {
+        let key = IndexKey::make(self.alloc, &self.records, self.options, name)?;
+        let sought = Sought { bytes: name, key };
+        let mut comparisons = 0;
+        let names = or_nothing(self.equal_range(&sought, &mut comparisons));
+        Ok(Found { names, comparisons })
+    }
+
+    /// The name at a place of the order, counted from 0; `None` past the last (our profile).
+    pub fn get(&self, i: usize) -> Option<&[u8]>
+        ensures { option_copied result ≡ slice_get (sorted_names self.now) i }
+    {
+        let place = *self.order.get(i)?;
+        let name = &self.names[place];
+        Some(name.bytes.as_slice())
+    }
+
+    /// The names in order (our profile).
+    pub fn list(&self) -> Names<'_>
+        ensures { result ≡ sorted_names self.now }
+    {
+        Names {
+            index: self,
+            next: 0,
+        }
+    }
+
+    /// The number of names, none of which is there twice (our profile).
+    pub fn len(&self) -> usize
+        ensures sorted { result ≡ length (sorted_names self.now) }
+        ensures arrived { result ≡ length self.now.arrivals }
+        ensures distinct { AreDistinct self.now.arrivals }
+    {
+        self.names.len()
+    }
+
+    /// Whether there are no names (our profile).
+    pub fn is_empty(&self) -> bool
+        ensures { result ≡ (length self.now.arrivals == 0) }
+    {
+        self.names.is_empty()
+    }
+
+    // Puts a name at its place, and keeps it as the newest.
+    fn insert(&mut self, at: usize, name: Name) -> Result<(), AllocError>
+        requires key { IsKeyOf self.old.meaning name.bytes.items name.key }
+        requires bound { at ≤ length (sorted_names self.old) }
+        requires new { ¬ Contains self.old.arrivals name.bytes.items }
+        requires place { IsPlaceOf (order_of self.old) name.bytes.items true (sorted_names self.old) at }
+        ensures added { OnOk result (self.new ≡ with_name name.bytes.items self.old) }
+        ensures unchanged { OnErr result (self.new ≡ self.old) }
+    {
+        self.names.reserve(1)?;
+        self.order.insert(at, self.names.len())?;
+        self.names.push(name).unwrap();
+        Ok(())
+    }
+
+    // Whether a name is there, byte for byte; the places are those of the names that are equal to it.
+    fn holds(&self, places: &Range<usize>, name: &[u8]) -> bool
+        requires bound { places.now.end ≤ length (sorted_names self.now) }
+        requires start { IsPlaceOf (order_of self.now) name.now false (sorted_names self.now) places.now.start }
+        requires end { IsPlaceOf (order_of self.now) name.now true (sorted_names self.now) places.now.end }
+        ensures { IsTrue result ↔ Contains self.now.arrivals name.now }
+    {
+        for place in places.start..places.end {
+            if self.get(place) == Some(name) {
+                return true;
+            }
+        }
+        false
+    }
+
+    // The places of the names that are equal to the one that is looked for; the place behind which it belongs, where
+    // there are none.
+    fn equal_range(&self, sought: &Sought<'_>, count: &mut usize) -> Range<usize>
+        requires { IsKeyOf self.now.meaning sought.now.bytes.now sought.now.key }
+        ensures range { result.start ≤ result.end }
+        ensures bound { result.end ≤ length (sorted_names self.now) }
+        ensures start { IsPlaceOf (order_of self.now) sought.now.bytes.now false (sorted_names self.now) result.start }
+        ensures end { IsPlaceOf (order_of self.now) sought.now.bytes.now true (sorted_names self.now) result.end }
+        ensures equal { slice_range (sorted_names self.now) result.start result.end ≡ equal_names (order_of self.now) sought.now.bytes.now (sorted_names self.now) }
+        ensures few { (digits : ℕ) → length (sorted_names self.now) < 2 ^ digits → count.new ≤ count.old + 2 * digits }
+    {
+        let start = self.place(sought, false, count);
+        let end = self.place(sought, true, count);
+        start..end
+    }
+
+    // The first place of a name that isn't below the one that is looked for, or, past equal ones, of a name above it.
+    fn place(&self, sought: &Sought<'_>, past_equal: bool, count: &mut usize) -> usize
+        requires { IsKeyOf self.now.meaning sought.now.bytes.now sought.now.key }
+        ensures bound { result ≤ length (sorted_names self.now) }
+        ensures place { IsPlaceOf (order_of self.now) sought.now.bytes.now past_equal (sorted_names self.now) result }
+        ensures few { (digits : ℕ) → length (sorted_names self.now) < 2 ^ digits → count.new ≤ count.old + digits }
+    {
+        let mut low = 0;
+        let mut high = self.len();
+        while low < high {
+            let middle = low + (high - low) / 2;
+            if stands_before(self.compare(middle, sought, count), past_equal) {
+                low = middle + 1;
+            } else {
+                high = middle;
+            }
+        }
+        low
+    }
+
+    // How the name at a place of the order compares with the one that is looked for.
+    fn compare(&self, place: usize, sought: &Sought<'_>, count: &mut usize) -> Ordering
+        requires key { IsKeyOf self.now.meaning sought.now.bytes.now sought.now.key }
+        requires place { place < length (sorted_names self.now) }
+        ensures order { result ≡ order_of self.now (slice_index_or (sorted_names self.now) place []) sought.now.bytes.now }
+        ensures count { count.new ≡ min (count.old + 1) usize.MAX }
+    {
+        let name = &self.names[self.order[place]];
+        name.key.compare(&sought.key, count)
+    }
+}
+
+// The same places, and none as `0..0`.
+fn or_nothing(places: Range<usize>) -> Range<usize>
+    requires { places.start ≤ places.end }
+    ensures range { result.start ≤ result.end }
+    ensures bound { result.end ≤ places.end }
+    ensures same { (names : List (List ℕ)) → slice_range names result.start result.end ≡ slice_range names places.start places.end }
+    ensures none { result.start ≡ result.end → result.end ≡ 0 }
+{
+    if places.start == places.end {
+        0..0
+    } else {
+        places
+    }
+}
+
+// Whether a name that compares so stands before the place that is looked for.
+fn stands_before(ordering: Ordering, past_equal: bool) -> bool
+    ensures { result ≡ stands_before past_equal ordering }
+{
+    match ordering {
+        Ordering::Less => true,
+        Ordering::Equal => past_equal,
+        Ordering::Greater => false,
+    }
+}
+
+/// Why a name isn't added.
+#[derive(Clone, Copy, Debug, PartialEq, Eq)]
+pub enum AddError {
+    /// The same bytes are there already.
+    Duplicate,
+    /// Memory was refused.
+    Memory,
+}
+
+impl fmt::Display for AddError {
+    ghost output = { λ e. Some (add_error_text e) };
+
+    fn fmt<W: fmt::Write>(&self, f: &mut fmt::Formatter<W>) -> fmt::Result {
+        match self {
+            AddError::Duplicate => write!(f, "duplicate"),
+            AddError::Memory => write!(f, "memory"),
+        }
+    }
+}
+
+impl std::error::Error for AddError {}
+
+impl From<AllocError> for AddError {
+    ghost from_gives = { λ _ e. e ≡ Memory };
+
+    fn from(_error: AllocError) -> AddError {
+        AddError::Memory
+    }
+}
+
+/// The names of an index in order, from the first to the last (our profile).
+#[derive(Drop)]
+pub struct Names<'a> {
+    index: &'a Index,
+    next: usize,
+}
+
+impl<'a> Model for Names<'a> {
+    ghost use Rattle.std.specs.Prelude.{List, ℕ};
+
+    ghost Value = { List (List ℕ) };
+
+    ghost use Rattle.collate_index.specs.Listing.{names_left};
+
+    ghost view = { names_left };
+}
+
+impl<'a> Iterator for Names<'a> {
+    type Item = &'a [u8];
+
+    ghost next_gives = { YieldsFirstRef (λ rest. rest) };
+
+    ghost remaining = { item_count (λ rest. rest) };
+
+    fn next(&mut self) -> Option<&'a [u8]> {
+        if self.next >= self.index.len() {
+            return None;
+        }
+        let name = self.index.get(self.next);
+        self.next += 1;
+        name
+    }
+}
+
+/// What a search has found.
+#[derive(Clone, Debug, Drop)]
+pub struct Found {
+    /// The places of the equal names in the order; `0..0` where there are none.
+    pub names: Range<usize>,
+    /// How many comparisons of keys were made.
+    pub comparisons: usize,
+}
+
+// A name that is looked for, with its key.
+#[derive(Drop)]
+struct Sought<'a> {
+    bytes: &'a [u8],
+    key: IndexKey,
+}

@@ -1,0 +1,170 @@
+// Files of a few lines: what they say, and the first fault of each that is refused.
+
+use collate_records::records::Records;
+use collate_records::rule::{RecordFault, RecordsError, Rule};
+use std::alloc::Global;
+use std::test::Fail;
+
+/// The fault of a file, or none where it is accepted.
+pub fn fault_of(alloc: Global, file: &[u8]) -> Option<RecordsError> {
+    Records::read(alloc, file).err()
+}
+
+/// A fault as the reader answers it.
+pub fn at(line: usize, rule: Rule) -> Option<RecordsError> {
+    Some(RecordsError::Fault(RecordFault { line, rule }))
+}
+
+/// The most bytes of a line.
+const LINE_LIMIT: usize = 1024;
+
+#[test]
+fn reads_what_lines_say(rt: HostRuntime) -> Result<(), Fail> {
+    let records = Records::read(rt.alloc(), b"# two lines\n\nclass 0327 202\nw 0000 ;")?;
+    assert_eq!(rt; records.class('\u{327}'), 202);
+    let elements = records.elements32(0).ok_or("no elements")?;
+    assert_eq!(rt; elements.len(), 0);
+    assert!(rt; records.elements32(1).is_none());
+    // each of the four lines counts
+    let file = b"# two lines\n\nclass 0327 202\nw 0000 ;\nx";
+    assert_eq!(rt; fault_of(rt.alloc(), file), at(5, Rule::Grammar));
+    Ok(())
+}
+
+#[test]
+fn accepts_lines(rt: HostRuntime) {
+    let alloc = rt.alloc();
+    for file in [
+        b"".as_slice(),
+        b"\n".as_slice(),
+        b"#".as_slice(),
+        b"class 0301 230\n".as_slice(),
+        b"class 10FFFF 9".as_slice(),
+        b"class 1F600 9\nclass D7FF 9\nclass E000 9".as_slice(),
+        b"class 0350 254".as_slice(),
+        b"map 00C5 0041 030A".as_slice(),
+        b"map 00C5 0041 030A x".as_slice(),
+        b"map 00C5 0041\nmap 00C6 0041 x".as_slice(),
+        b"w 0061 ; [00000000.8000.0.0500.0] [0.8000.2.0500.3]".as_slice(),
+    ] {
+        assert_eq!(rt; fault_of(alloc, file), None);
+    }
+}
+
+#[test]
+fn refuses_lines_outside_the_grammar(rt: HostRuntime) {
+    let alloc = rt.alloc();
+    for file in [
+        b"x".as_slice(),
+        b"\x80".as_slice(),
+        b"# \x80".as_slice(),
+        b" w 0061 ;".as_slice(),
+        b"w 0061 ; ".as_slice(),
+        b"w  0061 ;".as_slice(),
+        b"w 0061 ;\r\n".as_slice(),
+        b"w 0061".as_slice(),
+        b"w 0061;".as_slice(),
+        b"W 0061 ;".as_slice(),
+        b"class 301 230".as_slice(),
+        b"class 030a 230".as_slice(),
+        b"class 00301 230".as_slice(),
+        b"class 110000 9".as_slice(),
+        b"class D800 9".as_slice(),
+        b"class DFFF 9".as_slice(),
+        b"class 0350 01".as_slice(),
+        b"class 0350 1000".as_slice(),
+        b"class 0350 ".as_slice(),
+        b"class 0350".as_slice(),
+        b"map 00C5 x".as_slice(),
+        b"map 00C5 0041 030A X".as_slice(),
+        b"map 00C5 0041 030A 030B".as_slice(),
+        b"map 00C5 0041 x x".as_slice(),
+    ] {
+        assert_eq!(rt; fault_of(alloc, file), at(1, Rule::Grammar));
+    }
+}
+
+#[test]
+fn refuses_elements_outside_the_grammar(rt: HostRuntime) {
+    let alloc = rt.alloc();
+    for file in [
+        b"w 0061 ; [2a000000.0500.0.0500.0]".as_slice(),
+        b"w 0061 ; [00.8000.0.0500.0]".as_slice(),
+        b"w 0061 ; [.8000.0.0500.0]".as_slice(),
+        b"w 0061 ; [0.800.0.0500.0]".as_slice(),
+        b"w 0061 ; [0.8000.3.0500.0]".as_slice(),
+        b"w 0061 ; [0.8000..0500.0]".as_slice(),
+        b"w 0061 ; [0.8000.0.0500.4]".as_slice(),
+        b"w 0061 ; [0.8000.0.0500.0".as_slice(),
+        b"w 0061 ; 0.8000.0.0500.0]".as_slice(),
+        b"w 0061 ; [0.8000.0.0500]".as_slice(),
+        b"w 0061 ; [0.8000.0.0500.0.0]".as_slice(),
+        b"w 0061 ; [".as_slice(),
+    ] {
+        assert_eq!(rt; fault_of(alloc, file), at(1, Rule::Grammar));
+    }
+}
+
+#[test]
+fn names_the_first_fault(rt: HostRuntime) {
+    let alloc = rt.alloc();
+    for (file, line, rule) in [
+        (b"\n\nx\n".as_slice(), 3, Rule::Grammar),
+        (b"w 0061 ;\nw 0061 ;".as_slice(), 2, Rule::V14),
+        (
+            b"w 0061 ;\nw 0062 ;\n\nw 0061 ;\nx".as_slice(),
+            4,
+            Rule::V14,
+        ),
+        (b"w 0061 ;\nx\nw 0061 ;".as_slice(), 2, Rule::Grammar),
+        (b"class 0350 9\nclass 0350 9".as_slice(), 2, Rule::V14),
+        (b"map 00C5 0041\nmap 00C5 0042".as_slice(), 2, Rule::V14),
+        (b"class 0350 0".as_slice(), 1, Rule::C3),
+        (b"class 0301 220".as_slice(), 1, Rule::C8),
+        (b"class 0301 220\nclass 0350 0".as_slice(), 2, Rule::C3),
+        (b"map 00C5 00C6\nmap 00C6 00C5".as_slice(), 2, Rule::C2),
+    ] {
+        assert_eq!(rt; fault_of(alloc, file), at(line, rule));
+    }
+}
+
+#[test]
+fn keeps_the_limits_of_lines(rt: HostRuntime) -> Result<(), Fail> {
+    let alloc = rt.alloc();
+    let mut comment = vec![in alloc; b'#'; LINE_LIMIT]?;
+    assert_eq!(rt; fault_of(alloc, &comment), None);
+    comment.push(b'#')?;
+    assert_eq!(rt; fault_of(alloc, &comment), at(1, Rule::Grammar));
+    let mut line = Vec::new(alloc);
+    line.extend_from_slice(b"w 0061 ;")?;
+    for _ in 0..8 {
+        line.extend_from_slice(b" [0.8000.0.0500.0]")?;
+    }
+    assert_eq!(rt; fault_of(alloc, &line), None);
+    line.extend_from_slice(b" [0.8000.0.0500.0]")?;
+    assert_eq!(rt; fault_of(alloc, &line), at(1, Rule::Limit));
+    Ok(())
+}
+
+#[test]
+fn keeps_the_size_of_files(rt: HostRuntime) -> Result<(), Fail> {
+    let alloc = rt.alloc();
+    let mut file = vec![in alloc; b'\n'; 1048576]?;
+    assert_eq!(rt; fault_of(alloc, &file), None);
+    file.push(b'\n')?;
+    assert_eq!(rt; fault_of(alloc, &file), at(1048577, Rule::Grammar));
+    Ok(())
+}
+
+#[test]
+fn counts_code_points(rt: HostRuntime) -> Result<(), Fail> {
+    let alloc = rt.alloc();
+    let mut file = String::new(alloc);
+    for code in 0x4e00..0x4e96u32 {
+        file.push_str(&format!(in alloc; "w {code:04X} ;\n")?)?;
+    }
+    assert_eq!(rt; fault_of(alloc, file.as_bytes()), None);
+    file.push_str("w 4E96 ;")?;
+    assert_eq!(rt; fault_of(alloc, file.as_bytes()), at(151, Rule::Limit));
+    Ok(())
+}

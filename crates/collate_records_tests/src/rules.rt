@@ -1,0 +1,91 @@
+// Small files and the first fault that the rules find in each. The answers are those of another reading of the rules.
+
+use crate::reader::{at, fault_of};
+use collate_records::rule::Rule;
+
+#[test]
+fn mapped_marks(rt: HostRuntime) {
+    for (file, line) in [
+        (b"map 0350 0061\n\nclass 0350 10".as_slice(), 3),
+        (b"class 0350 10\nmap 0350 0061".as_slice(), 2),
+        (b"map 0300 0061".as_slice(), 1),
+    ] {
+        assert_eq!(rt; fault_of(rt.alloc(), file), at(line, Rule::C1));
+    }
+    assert_eq!(rt; fault_of(rt.alloc(), b"map 0340 0300"), None);
+}
+
+#[test]
+fn loops(rt: HostRuntime) {
+    for (file, line, rule) in [
+        (
+            b"map 0402 0400\nmap 0401 0402\nmap 0400 0403 0401 x".as_slice(),
+            3,
+            Rule::C2,
+        ),
+        (b"map 0400 0400".as_slice(), 1, Rule::C2),
+        // no loop, or it would come before a full list that begins with a mark
+        (b"map 0400 0341\nmap 0403 0400".as_slice(), 1, Rule::C4),
+    ] {
+        assert_eq!(rt; fault_of(rt.alloc(), file), at(line, rule));
+    }
+}
+
+#[test]
+fn bad_lists(rt: HostRuntime) {
+    for (file, line) in [
+        (
+            b"map 0404 0403 0400 x
+map 0402 0403 0403 x
+map 0401 0402 0402 x
+map 0400 0401 0401 x"
+                .as_slice(),
+            4,
+        ),
+        (b"map 0400 0350\nclass 0350 9".as_slice(), 2),
+        (b"map 0400 FF9E".as_slice(), 1),
+    ] {
+        assert_eq!(rt; fault_of(rt.alloc(), file), at(line, Rule::C4));
+    }
+    let eight = b"map 0402 0403 0403 x\nmap 0401 0402 0402 x\nmap 0400 0401 0401 x";
+    assert_eq!(rt; fault_of(rt.alloc(), eight), None);
+}
+
+#[test]
+fn bad_classes(rt: HostRuntime) {
+    for (file, line) in [
+        (b"class 0350 254\nclass 0351 255".as_slice(), 2),
+        (b"class 0350 0".as_slice(), 1),
+        (b"class 0301 255".as_slice(), 1),
+    ] {
+        assert_eq!(rt; fault_of(rt.alloc(), file), at(line, Rule::C3));
+    }
+    assert_eq!(rt; fault_of(rt.alloc(), b"class 0F73 0"), None);
+}
+
+#[test]
+fn contradictions(rt: HostRuntime) {
+    for (file, line) in [
+        (b"class 0350 9\nclass 0301 220".as_slice(), 2),
+        (b"map 0344 0308 0301".as_slice(), 1),
+        (b"map AC00 1100 1161 x".as_slice(), 1),
+        (b"map FF9E 3099".as_slice(), 1),
+        (b"map FFFD 0400".as_slice(), 1),
+        (b"class AC00 0\nclass 1100 1".as_slice(), 2),
+    ] {
+        assert_eq!(rt; fault_of(rt.alloc(), file), at(line, Rule::C8));
+    }
+    assert_eq!(rt; fault_of(rt.alloc(), b"map 0344 0308 0301 x"), None);
+}
+
+#[test]
+fn mapped_hangul(rt: HostRuntime) {
+    for (file, line) in [
+        (b"map AC00 1100 1161\nmap 0400 1100".as_slice(), 2),
+        (b"map 0400 AC00".as_slice(), 1),
+        (b"map 0400 0401 11FF x".as_slice(), 1),
+    ] {
+        assert_eq!(rt; fault_of(rt.alloc(), file), at(line, Rule::C9));
+    }
+    assert_eq!(rt; fault_of(rt.alloc(), b"map 0400 0401 1200 x"), None);
+}

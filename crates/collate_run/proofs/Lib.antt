@@ -1,0 +1,11 @@
+pub mod Among
+pub mod Answered
+pub mod Commands
+pub mod Examples
+pub mod Known
+pub mod Lines
+pub mod NamesReply
+pub mod Progress
+pub mod ReadLines
+pub mod Sent
+pub mod Told

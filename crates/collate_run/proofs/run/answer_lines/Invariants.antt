@@ -1,0 +1,18 @@
+use Rattle.std.proofs.Common.{◌≡◌, ◌-◌, false}
+use Rattle.collate_run.specs.Runs.{input_limit}
+use Rattle.collate_run.specs.Watched.{watched_inner, watched_failed}
+use Rattle.collate_run.proofs.Progress.{Progress}
+use Rattle.collate_run.proofs.run.answer_lines.Given as goal
+
+abbrev pub invariant-lines : goal.invariant-lines
+invariant-lines g l = record {
+  reader : watched_failed l.reader ≡ false;
+  writer : watched_failed l.writer ≡ false;
+  progress : Progress l.fn.index l.index
+      (g.R.Read.remaining (watched_inner l.fn.reader)) (g.R.Read.remaining (watched_inner l.reader))
+      (g.W.Write.contents (watched_inner l.fn.writer)) (g.W.Write.contents (watched_inner l.writer))
+      l.count;
+}
+
+abbrev pub decreases-lines : goal.decreases-lines
+decreases-lines g l = input_limit - l.count

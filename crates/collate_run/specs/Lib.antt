@@ -1,0 +1,12 @@
+pub mod Choices
+pub mod OptionWords
+pub mod Reading
+pub mod Replies
+pub mod ReplyText
+pub mod Runs
+pub mod Sending
+pub mod Served
+pub mod Watched
+pub use Rattle.collate_index.specs.Catalogue
+pub use Rattle.collate_index.specs.Settings
+pub use Rattle.collate_index.specs.Strengths

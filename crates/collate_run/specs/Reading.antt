@@ -1,0 +1,39 @@
+-- a line as it is read, byte by byte
+use Rattle.std.specs.Prelude.{◌≡◌, ◌≢◌, ℕ, Bool, true, false, ◌+◌, ◌<◌, ◌≤◌, MatchBool, Option, None, Some, Result, Ok, Err, List, [], ◌∷◌, ◌++◌, length, All}
+use Rattle.std.specs.Io.KnownBytes.{Consumes, Keeps, IsAtEnd}
+use Rattle.collate_run.specs.Runs.{line_limit, input_limit}
+use Rattle.collate_run.specs.declared.run.Line.{Line}
+use Rattle.collate_run.specs.declared.run.RunFault.{RunFault}
+use Rattle.collate_run.specs.declared.run.RunFault.TheVariants.{Read, Write, LineTooLong, InputTooLong}
+
+-- a byte was consumed, or the end was told, or nothing happened
+abbrev pub GivesByte : Option (List ℕ) → Option (List ℕ) → Result (Option ℕ) RunFault → Type 0
+GivesByte old new (Ok None) = Keeps old new × IsAtEnd new
+GivesByte old new (Ok (Some byte)) = Consumes old new (byte ∷ [])
+GivesByte old new (Err _) = Keeps old new
+
+-- no byte of a line is its LF
+abbrev pub IsUnended : List ℕ → Type 0
+IsUnended line = All (λ byte. byte ≢ 10) line
+
+-- these bytes are a line with its LF, or without where it is the last
+abbrev pub SpellsLine : Line → Option (List ℕ) → List ℕ → Type 0
+SpellsLine line left bytes = IsUnended line.bytes.items × MatchBool line.is_ended (bytes ≡ line.bytes.items ++ 10 ∷ []) ((bytes ≡ line.bytes.items) × (0 < length bytes) × IsAtEnd left)
+
+-- what was read where no line came of it
+abbrev pub CutsLine : RunFault → ℕ → List ℕ → Type 0
+CutsLine LineTooLong count bytes = IsUnended bytes × (line_limit < length bytes) × (count + length bytes ≤ input_limit)
+CutsLine InputTooLong count bytes = (line : List ℕ) × (last : ℕ) × IsUnended line × (bytes ≡ line ++ last ∷ []) × (count + length line ≡ input_limit)
+CutsLine Write count bytes = ⊥
+CutsLine _ count bytes = IsUnended bytes × (count + length bytes ≤ input_limit)
+
+-- what reading a line did: left is what the reader has left, and the counts are of the bytes before and after
+abbrev pub ReadsLine : Result (Option Line) RunFault → Option (List ℕ) → ℕ → ℕ → List ℕ → Type 0
+ReadsLine (Ok None) left before after bytes = (bytes ≡ []) × IsAtEnd left
+ReadsLine (Ok (Some line)) left before after bytes = SpellsLine line left bytes × (after ≡ before + length bytes) × (after ≤ input_limit)
+ReadsLine (Err fault) left before after bytes = CutsLine fault before bytes
+
+-- a call that failed for the reader
+abbrev pub is_read_fault : {T : Type 0} → Result T RunFault → Bool
+is_read_fault (Err Read) = true
+is_read_fault _ = false

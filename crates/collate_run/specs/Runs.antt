@@ -1,0 +1,62 @@
+-- what a run does, by the bytes that it read and those that it wrote
+use Rattle.std.specs.Prelude.{◌≡◌, ◌==◌, ℕ, ◌<◌, if◌then◌else◌, Option, Result, Ok, Err, List, [], ◌∷◌, ◌++◌, length, take}
+use Rattle.std.specs.Io.KnownBytes.{Appends, Consumes, IsAtEnd}
+use Rattle.collate_index.specs.Catalogue.{Catalogue}
+use Rattle.collate_run.specs.Replies.{AreReplies}
+use Rattle.collate_run.specs.declared.run.RunFault.{RunFault}
+use Rattle.collate_run.specs.declared.run.RunFault.TheVariants.{Memory, Read, Write, LineTooLong, InputTooLong}
+
+-- a byte put in front of the first line
+abbrev pub onto : ℕ → List (List ℕ) → List (List ℕ)
+onto b [] = (b ∷ []) ∷ []
+onto b (line ∷ lines) = (b ∷ line) ∷ lines
+
+-- a byte put in front of the first line, where there is one
+abbrev pub onto_whole : ℕ → List (List ℕ) → List (List ℕ)
+onto_whole b [] = []
+onto_whole b (line ∷ lines) = (b ∷ line) ∷ lines
+
+-- the lines of these bytes, without their LF; the last line may lack it
+unfoldable pub lines_of : List ℕ → List (List ℕ)
+lines_of [] = []
+lines_of (b ∷ bs) = let later = lines_of bs in if b == 10 then [] ∷ later else onto b later
+
+-- the lines of these bytes that end in LF
+unfoldable pub whole_lines : List ℕ → List (List ℕ)
+whole_lines [] = []
+whole_lines (b ∷ bs) = let later = whole_lines bs in if b == 10 then [] ∷ later else onto_whole b later
+
+-- how many bytes a line may have
+abbrev pub line_limit : ℕ
+line_limit = 65536
+
+-- how many bytes a run reads
+abbrev pub input_limit : ℕ
+input_limit = 4294967295
+
+-- the bytes end in a line past the limit, and the lines before it are these
+pub record EndsTooLong (told : List ℕ) (lines : List (List ℕ)) : Type 0 where
+  pub front : List ℕ
+  pub line : List ℕ
+  pub told_is : told ≡ front ++ line
+  pub too_long : line_limit < length line
+  pub unended : whole_lines line ≡ []
+  pub whole : lines_of front ≡ lines
+
+-- What a run that read these bytes (told) and wrote those (out) has done; left is what the reader
+-- has left.
+abbrev pub Does : Catalogue → Result (Unit {0}) RunFault → Option (List ℕ) → List ℕ → List ℕ → Type 0
+Does start (Ok _) left told out = AreReplies start (lines_of told) out × IsAtEnd left
+Does start (Err Memory) left told out = AreReplies start (whole_lines told) out
+Does start (Err Read) left told out = AreReplies start (whole_lines told) out
+Does start (Err Write) left told out = (unsent : List ℕ) × AreReplies start (lines_of told) (out ++ unsent)
+Does start (Err LineTooLong) left told out = AreReplies start (whole_lines told) out × EndsTooLong told (whole_lines told)
+Does start (Err InputTooLong) left told out = AreReplies start (whole_lines (take input_limit told)) out × (input_limit < length told)
+
+-- a run's result, with what it took from the reader and gave to the writer
+pub record Ran (start : Catalogue) (result : Result (Unit {0}) RunFault) (reader_old reader_new writer_old writer_new : Option (List ℕ)) : Type 0 where
+  pub told : List ℕ
+  pub out : List ℕ
+  pub consumes : Consumes reader_old reader_new told
+  pub appends : Appends writer_old writer_new out
+  pub does : Does start result reader_new told out

@@ -1,0 +1,91 @@
+-- what the program does, but for reading its words and FILE
+use Rattle.std.specs.Prelude.{◌≡◌, ℕ, Option, Result, Ok, Err, List, [], ◌++◌, codes, MatchOption, MatchResult}
+use denote.Bor.{Bor}
+use Rattle.std.specs.Io.KnownBytes.{Appends, Keeps}
+use Rattle.collate_records.specs.Files.{IsReadFrom}
+use Rattle.collate_records.specs.Sayings.{Saying}
+use Rattle.collate_records.specs.Rule.{fault_text}
+use Rattle.collate_records.specs.declared.rule.RecordsError.{RecordsError}
+use Rattle.collate_records.specs.declared.rule.RecordsError.TheVariants.{Fault, Memory as NoMemory}
+use Rattle.collate_index.specs.Catalogue.{Catalogue, opened}
+use Rattle.collate_run.specs.Runs.{Ran}
+use Rattle.collate_index.specs.Settings.{ArePlain, GiveStrengthOnly}
+use Rattle.collate_run.specs.declared.choice.Choice.{Choice}
+use Rattle.collate_run.specs.declared.run.RunFault.{RunFault}
+use Rattle.collate_run.specs.declared.run.RunFault.TheVariants.{Memory, Read, Write, LineTooLong, InputTooLong}
+use Rattle.collate_run.specs.declared.serve.FileFault.{FileFault}
+use Rattle.collate_run.specs.declared.serve.FileFault.TheVariants.{Unreadable, Memory as NoRoom}
+
+-- the line that asks for other words
+abbrev pub usage_line : List ℕ
+usage_line = codes "usage: collate FILE [OPTION=VALUE]..\n"
+
+-- the line of a file that wasn't read
+abbrev pub file_line : List ℕ → FileFault → List ℕ
+file_line path Unreadable = codes "collate: cannot read " ++ path ++ codes "\n"
+file_line path NoRoom = codes "collate: memory\n"
+
+-- the line of records that were refused
+abbrev pub records_line : RecordsError → List ℕ
+records_line (Fault fault) = codes "collate: refused " ++ fault_text fault.line fault.rule ++ codes "\n"
+records_line NoMemory = codes "collate: memory\n"
+
+-- the line of a run that ended by a fault
+abbrev pub run_line : RunFault → List ℕ
+run_line Memory = codes "collate: memory\n"
+run_line Read = codes "collate: read\n"
+run_line Write = codes "collate: write\n"
+run_line LineTooLong = codes "collate: line too long\n"
+run_line InputTooLong = codes "collate: input too long\n"
+
+-- what a writer of errors got of this text: a front of it, where the writer stopped taking
+pub record Tells (old new : Option (List ℕ)) (text : List ℕ) : Type 0 where
+  pub told : List ℕ
+  pub untold : List ℕ
+  pub text_is : text ≡ told ++ untold
+  pub appends : Appends old new told
+
+-- The program stopped before its run: its status, and the text for the writer of errors. Nothing was
+-- read, nothing was written.
+pub record Stops (wanted : ℕ) (text : List ℕ) (status : ℕ) (reader_old reader_new writer_old writer_new errors_old errors_new : Option (List ℕ)) : Type 0 where
+  pub status_is : status ≡ wanted
+  pub reader : Keeps reader_old reader_new
+  pub writer : Keeps writer_old writer_new
+  pub tells : Tells errors_old errors_new text
+
+-- the status and the text of a run
+abbrev pub run_status : Result (Unit {0}) RunFault → ℕ
+run_status (Ok _) = 0
+run_status (Err _) = 1
+
+abbrev pub run_text : Result (Unit {0}) RunFault → List ℕ
+run_text (Ok _) = []
+run_text (Err fault) = run_line fault
+
+-- The program ran: its status and the text for the writer of errors are those of the run's result.
+pub record Runs (start : Catalogue) (status : ℕ) (reader_old reader_new writer_old writer_new errors_old errors_new : Option (List ℕ)) : Type 0 where
+  pub result : Result (Unit {0}) RunFault
+  pub ran : Ran start result reader_old reader_new writer_old writer_new
+  pub status_is : status ≡ run_status result
+  pub tells : Tells errors_old errors_new (run_text result)
+
+module _ (status : ℕ) (reader_old reader_new writer_old writer_new errors_old errors_new : Option (List ℕ)) where
+  -- what is served of a file of records: a run over them, or their refusal
+  pub record ServesFile (choice : Choice) (bytes : List ℕ) : Type 0 where
+    pub read : Result (List Saying) RecordsError
+    pub read_is : IsReadFrom bytes read
+    pub served : MatchResult read
+        (λ records. Runs (opened records choice.preferences choice.options) status reader_old reader_new writer_old writer_new errors_old errors_new)
+        (λ refusal. Stops 1 (records_line refusal) status reader_old reader_new writer_old writer_new errors_old errors_new)
+
+  -- what is served of the words and of FILE: usage, then what ails FILE, then its records, then the run
+  abbrev pub Serves : Option (Bor Choice) → Result (Bor (List ℕ)) FileFault → Type 0
+  Serves choice file = MatchOption choice
+      (Stops 2 usage_line status reader_old reader_new writer_old writer_new errors_old errors_new)
+      (λ chosen. MatchResult file
+      (λ bytes. ServesFile chosen.now bytes.now)
+      (λ fault. Stops 1 (file_line chosen.now.file.now fault) status reader_old reader_new writer_old writer_new errors_old errors_new))
+
+-- the preferences and options of a choice are served
+abbrev pub IsServed : Bor Choice → Type 0
+IsServed choice = ArePlain choice.now.preferences × GiveStrengthOnly choice.now.options

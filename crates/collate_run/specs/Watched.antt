@@ -1,0 +1,16 @@
+-- a reader or a writer that notes whether a call of it failed
+use Rattle.std.specs.Prelude.{ℕ, Bool, true, ◌==◌, Result, Ok, Err}
+use Rattle.collate_run.specs.declared.watched.Watched.{Watched}
+
+-- the reader or writer itself
+abbrev pub watched_inner : {T : Type 0} → Watched T → T
+watched_inner watched = watched.inner
+
+-- whether a call of it failed
+abbrev pub watched_failed : {T : Type 0} → Watched T → Bool
+watched_failed watched = watched.failed
+
+-- a write that failed or took no byte
+abbrev pub took_none : {E : Type 0} → Result ℕ E → Bool
+took_none (Ok n) = n == 0
+took_none (Err e) = true

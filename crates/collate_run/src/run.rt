@@ -1,0 +1,190 @@
+//! A run: the lines of a reader, each answered to a writer.
+
+ghost use Rattle.std.specs.Prelude.{◌≡◌, ◌+◌, ◌≤◌, ◌↔◌, ℕ, List, length, false, true, Ok, Err, OnOk, IfErr, is_err, ◌||◌};
+ghost use Rattle.std.specs.Io.KnownBytes.{Consumes, Appends};
+ghost use Rattle.collate_index.specs.Catalogue.{opened};
+ghost use Rattle.collate_index.specs.Settings.{ArePlain, GiveStrengthOnly};
+ghost use Rattle.collate_run.specs.Reading.{GivesByte, ReadsLine, is_read_fault};
+ghost use Rattle.collate_run.specs.Runs.{Ran, input_limit};
+ghost use Rattle.collate_run.specs.Sending.{Sends};
+ghost use Rattle.collate_run.specs.Watched.{watched_inner, watched_failed};
+
+use crate::replies::answer;
+use crate::watched::Watched;
+use collate_index::index::Index;
+use collate_records::records::Records;
+use icu_collator_types::options::{CollatorOptions, CollatorPreferences};
+use std::alloc::Global;
+use std::io::{Read, Write};
+
+/// The most bytes that a line may have, its LF not counted.
+const LINE_LIMIT: usize = 65_536;
+
+/// The most bytes that a run reads.
+const INPUT_LIMIT: u64 = 4_294_967_295;
+
+/// Why a run ended before its input did.
+#[derive(Clone, Copy, Debug, PartialEq, Eq)]
+pub enum RunFault {
+    /// Memory was refused: the index can't be opened, or a line can't be held.
+    Memory,
+    /// A call of the reader failed.
+    Read,
+    /// A call of the writer failed, or took no byte.
+    Write,
+    /// A line has more than 65,536 bytes.
+    LineTooLong,
+    /// The input has more than 4,294,967,295 bytes.
+    InputTooLong,
+}
+
+/// A line that was read, without its LF. The last line of an input may lack the LF.
+#[derive(Drop)]
+struct Line {
+    bytes: Vec<u8>,
+    is_ended: bool,
+}
+
+/// Reads one byte, or tells that the reader is at its end.
+fn read_byte<R: Read>(reader: &mut Watched<R>) -> Result<Option<u8>, RunFault>
+    ensures bytes { GivesByte
+        (R.remaining (watched_inner reader.old)) (R.remaining (watched_inner reader.new)) result }
+    ensures failed { watched_failed reader.new ≡ watched_failed reader.old || is_err result }
+    ensures fault { IfErr result (λ fault. fault ≡ RunFault.Read) }
+{
+    let mut byte = [0];
+    match reader.read(&mut byte) {
+        Ok(0) => Ok(None),
+        Ok(_) => Ok(Some(byte[0])),
+        Err(_) => Err(RunFault::Read),
+    }
+}
+
+/// Reads the next line. `count` is how many bytes were read so far.
+fn next_line<R: Read>(
+    alloc: Global,
+    reader: &mut Watched<R>,
+    count: &mut u64,
+) -> Result<Option<Line>, RunFault>
+    requires within { count.old ≤ input_limit }
+    ensures bytes { (bytes : List ℕ)
+        × Consumes (R.remaining (watched_inner reader.old)) (R.remaining (watched_inner reader.new)) bytes
+        × ReadsLine result (R.remaining (watched_inner reader.new)) count.old count.new bytes }
+    ensures failed { watched_failed reader.new ≡ watched_failed reader.old || is_read_fault result }
+{
+    let mut bytes = Vec::new(alloc);
+    'bytes: loop {
+        let byte = match read_byte(reader) {
+            Ok(Some(byte)) => byte,
+            Ok(None) if bytes.is_empty() => return Ok(None),
+            Ok(None) => {
+                return Ok(Some(Line {
+                    bytes,
+                    is_ended: false,
+                }));
+            }
+            Err(fault) => return Err(fault),
+        };
+        if *count >= INPUT_LIMIT {
+            return Err(RunFault::InputTooLong);
+        }
+        *count += 1;
+        if byte == b'\n' {
+            return Ok(Some(Line {
+                bytes,
+                is_ended: true,
+            }));
+        }
+        if bytes.len() >= LINE_LIMIT {
+            return Err(RunFault::LineTooLong);
+        }
+        if bytes.push(byte).is_err() {
+            return Err(RunFault::Memory);
+        }
+    }
+}
+
+/// Writes all bytes. A call that fails, an interrupted one too, or takes no byte ends it.
+fn write_whole<W: Write>(writer: &mut Watched<W>, bytes: &[u8]) -> Result<(), RunFault>
+    ensures bytes { Sends result
+        (W.contents (watched_inner writer.old)) (W.contents (watched_inner writer.new)) bytes.now }
+    ensures failed { watched_failed writer.new ≡ watched_failed writer.old || is_err result }
+    ensures fault { IfErr result (λ fault. fault ≡ RunFault.Write) }
+{
+    let mut rest = bytes;
+    'writes: while !rest.is_empty() {
+        match writer.write(rest) {
+            Ok(taken) if taken > 0 => rest = &rest[taken..],
+            Ok(_) | Err(_) => return Err(RunFault::Write),
+        }
+    }
+    Ok(())
+}
+
+/// Answers each line of the reader, by the index and its changes.
+fn answer_lines<R: Read, W: Write>(
+    alloc: Global,
+    index: &mut Index,
+    reader: &mut Watched<R>,
+    writer: &mut Watched<W>,
+) -> Result<(), RunFault>
+    requires reader { watched_failed reader.old ≡ false }
+    requires writer { watched_failed writer.old ≡ false }
+    ensures ran { Ran index.old result
+        (R.remaining (watched_inner reader.old)) (R.remaining (watched_inner reader.new))
+        (W.contents (watched_inner writer.old)) (W.contents (watched_inner writer.new)) }
+    ensures read { (watched_failed reader.new ≡ true) ↔ (result ≡ Err RunFault.Read) }
+    ensures write { (watched_failed writer.new ≡ true) ↔ (result ≡ Err RunFault.Write) }
+{
+    let mut count = 0;
+    'lines: loop {
+        let line = match next_line(alloc, reader, &mut count) {
+            Ok(Some(line)) => line,
+            Ok(None) => return Ok(()),
+            Err(fault) => return Err(fault),
+        };
+        let reply = answer(alloc, index, &line.bytes);
+        match write_whole(writer, reply.as_bytes()) {
+            Ok(()) => {}
+            Err(fault) => return Err(fault),
+        }
+        if !line.is_ended {
+            return Ok(());
+        }
+    }
+}
+
+/// Opens an index over the records and answers each line of the reader to the writer, one reply a
+/// line, until the reader tells its end (our profile).
+///
+/// A line is `add NAME`, `find NAME` or `list`, of at most 65,536 bytes; any other line is
+/// answered by `bad`, and a command to which memory was refused by `memory`. A fault ends the run;
+/// the replies to all whole lines before it stand, and at `RunFault::Write` a prefix of them.
+/// An interrupted call of the reader or of the writer is a fault as any other.
+pub fn run<R: Read, W: Write>(
+    alloc: Global,
+    records: Records,
+    preferences: &CollatorPreferences<'_>,
+    options: &CollatorOptions,
+    reader: &mut Watched<R>,
+    writer: &mut Watched<W>,
+) -> Result<(), RunFault>
+    requires preferences { ArePlain preferences.now }
+    requires options { GiveStrengthOnly options.now }
+    requires reader { watched_failed reader.old ≡ false }
+    requires writer { watched_failed writer.old ≡ false }
+
+    // What it wrote is the replies to the lines that it read.
+    ensures ran { Ran (opened records preferences.now options.now) result
+        (R.remaining (watched_inner reader.old)) (R.remaining (watched_inner reader.new))
+        (W.contents (watched_inner writer.old)) (W.contents (watched_inner writer.new)) }
+
+    // A fault of the reader or of the writer has its cause.
+    ensures read { (watched_failed reader.new ≡ true) ↔ (result ≡ Err RunFault.Read) }
+    ensures write { (watched_failed writer.new ≡ true) ↔ (result ≡ Err RunFault.Write) }
+{
+    match Index::new(alloc, records, preferences, options) {
+        Ok(mut index) => answer_lines(alloc, &mut index, reader, writer),
+        Err(_) => Err(RunFault::Memory),
+    }
+}

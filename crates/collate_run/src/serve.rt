@@ -1,0 +1,143 @@
+//! All that the program does but reading its words and FILE.
+
+ghost use Rattle.std.specs.Prelude.{◌≡◌, false, flat_map};
+ghost use Rattle.std.specs.Option.{ForSome};
+ghost use Rattle.collate_run.specs.Sending.{Sends};
+ghost use Rattle.collate_run.specs.Served.{IsServed, Serves, Tells, records_line, run_line};
+ghost use Rattle.collate_run.specs.Watched.{watched_failed, watched_inner};
+
+use crate::choice::Choice;
+use crate::run::{RunFault, run};
+use crate::watched::Watched;
+use collate_records::records::Records;
+use collate_records::rule::RecordsError;
+use itoa::Buffer;
+use std::alloc::Global;
+use std::io::{Read, Write};
+
+/// Why FILE has no bytes to read.
+#[derive(Clone, Copy, Debug, PartialEq, Eq)]
+pub enum FileFault {
+    /// It can't be opened or read.
+    Unreadable,
+    /// Memory was refused.
+    Memory,
+}
+
+/// The writer of errors took no more.
+#[derive(Clone, Copy)]
+struct Untold;
+
+/// Writes all bytes, up to the first call that fails or takes no byte.
+fn tell_part<E: Write>(errors: &mut E, part: &[u8]) -> Result<(), Untold>
+    ensures { Sends result (E.contents errors.old) (E.contents errors.new) part.now }
+{
+    let mut rest = part;
+    'writes: while !rest.is_empty() {
+        match errors.write(rest) {
+            Ok(taken) if taken > 0 => rest = &rest[taken..],
+            Ok(_) | Err(_) => return Err(Untold),
+        }
+    }
+    Ok(())
+}
+
+/// Writes the parts of a text, one after another, up to the first call that fails or takes no
+/// byte.
+fn tell<E: Write>(errors: &mut E, parts: &[&[u8]])
+    ensures { Tells (E.contents errors.old) (E.contents errors.new)
+        (flat_map (λ part. part.now) parts.now) }
+{
+    for part in parts {
+        match tell_part(errors, part) {
+            Ok(()) => {}
+            Err(Untold) => return,
+        }
+    }
+}
+
+/// Tells why records were refused.
+fn tell_refusal<E: Write>(errors: &mut E, error: RecordsError)
+    ensures { Tells (E.contents errors.old) (E.contents errors.new) (records_line error) }
+{
+    match error {
+        RecordsError::Fault(fault) => {
+            let mut buffer = Buffer::new();
+            let line = buffer.format(fault.line).as_bytes();
+            let rule = fault.rule.as_str().as_bytes();
+            tell(errors, &[b"collate: refused ", line, b" ", rule, b"\n"]);
+        }
+        RecordsError::Memory => tell(errors, &[b"collate: memory\n"]),
+    }
+}
+
+/// Tells why a run ended before its input did, in one line.
+pub fn tell_run_fault<E: Write>(errors: &mut E, fault: RunFault)
+    ensures { Tells (E.contents errors.old) (E.contents errors.new) (run_line fault) }
+{
+    let line: &[u8] = match fault {
+        RunFault::Memory => b"collate: memory\n",
+        RunFault::Read => b"collate: read\n",
+        RunFault::Write => b"collate: write\n",
+        RunFault::LineTooLong => b"collate: line too long\n",
+        RunFault::InputTooLong => b"collate: input too long\n",
+    };
+    tell(errors, &[line]);
+}
+
+/// Serves the words of the program and the bytes of FILE: a run over the records of FILE, from the
+/// reader to the writer. Answers the status of the program (our profile).
+///
+/// Status 2 and the usage line to `errors` where `choice` is `None`; then `file` counts for
+/// nothing. Status 1 and a line that begins with `collate: ` where FILE wasn't read, its records
+/// are refused, or the run ends by a fault; they are looked for in this order. Else status 0. An
+/// error of `errors` is dropped. Before the run nothing is read or written.
+pub fn serve<R: Read, W: Write, E: Write>(
+    alloc: Global,
+    choice: Option<&Choice<'_>>,
+    file: Result<&[u8], FileFault>,
+    reader: &mut Watched<R>,
+    writer: &mut Watched<W>,
+    errors: &mut E,
+) -> u8
+    requires choice { ForSome choice IsServed }
+    requires reader { watched_failed reader.old ≡ false }
+    requires writer { watched_failed writer.old ≡ false }
+    ensures { Serves result
+        (R.remaining (watched_inner reader.old)) (R.remaining (watched_inner reader.new))
+        (W.contents (watched_inner writer.old)) (W.contents (watched_inner writer.new))
+        (E.contents errors.old) (E.contents errors.new)
+        choice.entry file.entry }
+{
+    let Some(choice) = choice else {
+        tell(errors, &[b"usage: collate FILE [OPTION=VALUE]..\n"]);
+        return 2;
+    };
+    let bytes = match file {
+        Ok(bytes) => bytes,
+        Err(FileFault::Unreadable) => {
+            let path = choice.file.as_bytes();
+            tell(errors, &[b"collate: cannot read ", path, b"\n"]);
+            return 1;
+        }
+        Err(FileFault::Memory) => {
+            tell(errors, &[b"collate: memory\n"]);
+            return 1;
+        }
+    };
+    let records = match Records::read(alloc, bytes) {
+        Ok(records) => records,
+        Err(error) => {
+            tell_refusal(errors, error);
+            return 1;
+        }
+    };
+    let (preferences, options) = (&choice.preferences, &choice.options);
+    match run(alloc, records, preferences, options, reader, writer) {
+        Ok(()) => 0,
+        Err(fault) => {
+            tell_run_fault(errors, fault);
+            1
+        }
+    }
+}
