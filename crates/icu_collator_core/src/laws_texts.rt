@@ -21,8 +21,8 @@ pub fn texts_have_sound_elements()
         → IsSoundSequence weights numeric (elements_of_list canonical weights numeric (decomposed canonical text)) }
 {}
 
-/// Where a range keeps the rule on ranges (our profile), the primaries of its characters keep what the sound weights ask of
-/// them, and an element with another lead keeps what they ask beside them.
+/// Where a range keeps the rule on ranges (our profile), the primaries of its characters keep what
+/// sound weights ask of them, and an element with another lead what they ask beside them.
 #[tactic(auto, using(crate::proofs::RangePrimaries::range_primary_sound, crate::proofs::RangePrimaries::other_lead_beside))]
 pub fn ranges_have_sound_primaries()
     ensures sound { (weights : Weights) (range : Range) (c : ℕ)
