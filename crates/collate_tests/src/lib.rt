@@ -1,0 +1,8 @@
+//! Tests of the program `collate` below its `main`, by public calls. They stand here so that the index and the run are
+//! proved once.
+#![tactic(auto)]
+
+#[cfg(test)]
+mod names;
+#[cfg(test)]
+mod runs;

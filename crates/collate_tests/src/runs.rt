@@ -1,0 +1,354 @@
+// Runs over fakes of a reader and a writer that fail in mid-stream, and the program's texts and statuses.
+
+ghost use Rattle.std.specs.Option.{ForSome};
+ghost use Rattle.collate_run.specs.Served.{IsServed};
+
+use collate_records::records::Records;
+use collate_run::choice::Choice;
+use collate_run::run::{self, RunFault};
+use collate_run::serve::{self, FileFault};
+use collate_run::watched::Watched;
+use icu_collator_types::options::{CollatorOptions, CollatorPreferences, Strength};
+use std::alloc::{AllocError, Global};
+use std::io::{self, Read, Write};
+use std::process::Abort;
+use std::test::Fail;
+
+const TEXT: &[u8] = b"add b\nadd b\nlist\nfind b\n\nreload 1\nremove b\nadd\nfind";
+
+const REPLIES: &[u8] = b"added\nduplicate\nnames 1\nb\nnames 1\nb\nbad\nbad\nbad\nbad\nbad\n";
+
+const OPTIONS: CollatorOptions = CollatorOptions {
+    strength: Some(Strength::Primary),
+    alternate_handling: None,
+    max_variable: None,
+    case_level: None,
+};
+
+const PREFERENCES: CollatorPreferences<'static> = CollatorPreferences {
+    locale: "",
+    collation_type: None,
+    case_first: None,
+    numeric_ordering: None,
+};
+
+/// How a fake fails.
+#[derive(Clone, Copy)]
+enum Failure {
+    Error(io::ErrorKind),
+    NoByte,
+}
+
+/// A reader of a text that fails after some calls.
+#[derive(Drop)]
+struct FailingReader<'a> {
+    text: &'a [u8],
+    calls: usize,
+    kind: io::ErrorKind,
+}
+
+impl Read for FailingReader<'_> {
+    fn read(&mut self, buf: &mut [u8]) -> io::Result<usize> {
+        if self.calls == 0 {
+            return Err(io::Error::from(self.kind));
+        }
+        self.calls -= 1;
+        Read::read(&mut self.text, buf)
+    }
+}
+
+/// A writer that takes up to four bytes a call, and fails after some calls.
+#[derive(Drop)]
+struct FailingWriter<'a> {
+    written: &'a mut Vec<u8>,
+    calls: usize,
+    failure: Failure,
+}
+
+impl Write for FailingWriter<'_> {
+    fn write(&mut self, buf: &[u8]) -> io::Result<usize> {
+        if self.calls == 0 {
+            return match self.failure {
+                Failure::Error(kind) => Err(io::Error::from(kind)),
+                Failure::NoByte => Ok(0),
+            };
+        }
+        self.calls -= 1;
+        let count = buf.len().min(4);
+        self.written.extend_from_slice(&buf[..count])?;
+        Ok(count)
+    }
+
+    fn flush(&mut self) -> io::Result<()> {
+        Ok(())
+    }
+}
+
+/// Runs over no records.
+fn run_plain<R: Read, W: Write>(
+    rt: &impl Abort,
+    alloc: Global,
+    reader: R,
+    writer: W,
+) -> Result<(), RunFault>
+where
+    R: Drop,
+    W: Drop,
+{
+    let records = Records::read(alloc, b"")
+        .ok()
+        .expect(rt, "no line is accepted");
+    let mut reader = Watched::new(reader);
+    let mut writer = Watched::new(writer);
+    let result = run::run(
+        alloc,
+        records,
+        &PREFERENCES,
+        &OPTIONS,
+        &mut reader,
+        &mut writer,
+    );
+    assert_eq!(rt; reader.failed(), result == Err(RunFault::Read));
+    assert_eq!(rt; writer.failed(), result == Err(RunFault::Write));
+    result
+}
+
+#[test]
+fn ok_run(rt: HostRuntime) {
+    let alloc = rt.alloc();
+    let mut written = Vec::new(alloc);
+    let result = run_plain(&rt, alloc, TEXT, &mut written);
+    assert_eq!(rt; result, Ok(()));
+    assert_eq!(rt; written.as_slice(), REPLIES);
+}
+
+#[test]
+fn run_ends_where_a_read_fails(rt: HostRuntime) {
+    let alloc = rt.alloc();
+    // The replies to the lines that end within so many bytes.
+    let stands = [
+        (0, 0),
+        (5, 0),
+        (6, 6),
+        (11, 6),
+        (12, 16),
+        (17, 26),
+        (25, 40),
+        (47, 52),
+        (51, 52),
+    ];
+    for kind in [io::ErrorKind::Interrupted, io::ErrorKind::Other] {
+        for (calls, bytes) in stands {
+            let mut written = Vec::new(alloc);
+            let reader = FailingReader {
+                text: TEXT,
+                calls,
+                kind,
+            };
+            let result = run_plain(&rt, alloc, reader, &mut written);
+            assert_eq!(rt; result, Err(RunFault::Read), "after {calls}");
+            assert_eq!(rt;
+                Some(written.as_slice()),
+                REPLIES.get(..bytes),
+                "after {calls}"
+            );
+        }
+    }
+}
+
+#[test]
+fn run_ends_where_a_write_fails(rt: HostRuntime) {
+    let alloc = rt.alloc();
+    let failures = [
+        Failure::Error(io::ErrorKind::Interrupted),
+        Failure::Error(io::ErrorKind::Other),
+        Failure::NoByte,
+    ];
+    for failure in failures {
+        // What stands after so many calls of up to four bytes.
+        for (calls, bytes) in [(0, 0), (1, 4), (2, 6), (3, 10), (4, 14), (5, 16)] {
+            let mut written = Vec::new(alloc);
+            let writer = FailingWriter {
+                written: &mut written,
+                calls,
+                failure,
+            };
+            let result = run_plain(&rt, alloc, TEXT, writer);
+            assert_eq!(rt; result, Err(RunFault::Write), "after {calls}");
+            assert_eq!(rt;
+                Some(written.as_slice()),
+                REPLIES.get(..bytes),
+                "after {calls}"
+            );
+        }
+    }
+}
+
+#[test]
+fn run_ends_at_a_long_line(rt: HostRuntime) -> Result<(), Fail> {
+    let alloc = rt.alloc();
+    let mut text = vec![in alloc; b'x'; 65_536]?;
+    text.push(b'\n')?;
+    let longest = text.len();
+    text.extend_from_slice(&vec![in alloc; b'x'; 65_537]?)?;
+    let mut written = Vec::new(alloc);
+    let result = run_plain(&rt, alloc, text.as_slice(), &mut written);
+    assert_eq!(rt; result, Err(RunFault::LineTooLong));
+    assert_eq!(rt; written.as_slice(), b"bad\n".as_slice());
+    written.clear();
+    let result = run_plain(&rt, alloc, text.get(..longest).unwrap_or(b""), &mut written);
+    assert_eq!(rt; result, Ok(()));
+    assert_eq!(rt; written.as_slice(), b"bad\n".as_slice());
+    Ok(())
+}
+
+/// The words of a program.
+fn words_of(alloc: Global, texts: &[&str]) -> Result<Vec<String>, AllocError> {
+    let mut words = Vec::new(alloc);
+    for text in texts {
+        words.push(String::from_str(alloc, text)?)?;
+    }
+    Ok(words)
+}
+
+#[test]
+fn words_choose_a_file_and_a_strength(rt: HostRuntime) -> Result<(), Fail> {
+    let alloc = rt.alloc();
+    let rows = [
+        (["R", "strength=primary"], Strength::Primary),
+        (["R", "strength=secondary"], Strength::Secondary),
+        (
+            ["strength=primary", "strength=tertiary"],
+            Strength::Tertiary,
+        ),
+    ];
+    for (texts, strength) in rows {
+        let words = words_of(alloc, &texts)?;
+        let choice = Choice::read(&words).ok_or("no choice")?;
+        assert_eq!(rt; choice.file, texts[0]);
+        assert_eq!(rt; choice.options.strength, Some(strength));
+    }
+    let words = words_of(alloc, &["R"])?;
+    let choice = Choice::read(&words).ok_or("no choice")?;
+    assert_eq!(rt; choice.file, "R");
+    assert_eq!(rt; choice.options.strength, None);
+    let others: [&[&str]; 8] = [
+        &[],
+        &["R", "strength=loud"],
+        &["R", "strength=quaternary"],
+        &["R", "strength"],
+        &["R", "numeric=on"],
+        &["R", ""],
+        &["R", "strength=primary", "strength=primary"],
+        &["R", "strength=primary", "x"],
+    ];
+    for texts in others {
+        let words = words_of(alloc, texts)?;
+        assert!(rt; Choice::read(&words).is_none(), "{texts:?}");
+    }
+    Ok(())
+}
+
+/// Serves a choice with a reader and a writer that fail after some calls, and looks at the status
+/// and at what the writer of errors got.
+fn assert_served(
+    rt: &impl Abort,
+    alloc: Global,
+    choice: Option<&Choice<'_>>,
+    file: Result<&[u8], FileFault>,
+    reads: usize,
+    writes: usize,
+    wanted: (u8, &[u8]),
+)
+    requires { ForSome choice IsServed }
+{
+    let mut written = Vec::new(alloc);
+    let mut errors = Vec::new(alloc);
+    let mut reader = Watched::new(FailingReader {
+        text: b"list\n",
+        calls: reads,
+        kind: io::ErrorKind::Interrupted,
+    });
+    let mut writer = Watched::new(FailingWriter {
+        written: &mut written,
+        calls: writes,
+        failure: Failure::NoByte,
+    });
+    let status = serve::serve(alloc, choice, file, &mut reader, &mut writer, &mut errors);
+    assert_eq!(rt; status, wanted.0);
+    assert_eq!(rt; errors.as_slice(), wanted.1);
+}
+
+#[test]
+fn serve_answers_status_and_text(rt: HostRuntime) -> Result<(), Fail> {
+    let alloc = rt.alloc();
+    let usage = (2, b"usage: collate FILE [OPTION=VALUE]..\n".as_slice());
+    let loud = words_of(alloc, &["R", "strength=loud"])?;
+    for choice in [Choice::read(&[]), Choice::read(&loud)] {
+        assert_served(
+            &rt,
+            alloc,
+            choice.as_ref(),
+            Err(FileFault::Unreadable),
+            9,
+            9,
+            usage,
+        );
+        assert_served(&rt, alloc, choice.as_ref(), Ok(b"x"), 9, 9, usage);
+    }
+    let words = words_of(alloc, &["R"])?;
+    let choice = Choice::read(&words);
+    let choice = choice.as_ref();
+    let unreadable = (1, b"collate: cannot read R\n".as_slice());
+    assert_served(
+        &rt,
+        alloc,
+        choice,
+        Err(FileFault::Unreadable),
+        9,
+        9,
+        unreadable,
+    );
+    let memory = (1, b"collate: memory\n".as_slice());
+    assert_served(&rt, alloc, choice, Err(FileFault::Memory), 9, 9, memory);
+    let refused = (1, b"collate: refused 1 grammar\n".as_slice());
+    assert_served(&rt, alloc, choice, Ok(b"x"), 9, 9, refused);
+    assert_served(&rt, alloc, choice, Ok(b""), 9, 9, (0, b""));
+    assert_served(&rt, alloc, choice, Ok(b""), 3, 9, (1, b"collate: read\n"));
+    assert_served(&rt, alloc, choice, Ok(b""), 9, 1, (1, b"collate: write\n"));
+    Ok(())
+}
+
+#[test]
+fn serve_drops_an_error_of_the_writer_of_errors(rt: HostRuntime) {
+    let alloc = rt.alloc();
+    let (mut written, mut told) = (Vec::new(alloc), Vec::new(alloc));
+    let mut errors = FailingWriter {
+        written: &mut told,
+        calls: 2,
+        failure: Failure::Error(io::ErrorKind::Other),
+    };
+    let mut reader = Watched::new(b"list\n".as_slice());
+    let mut writer = Watched::new(&mut written);
+    let file = Err(FileFault::Unreadable);
+    let status = serve::serve(alloc, None, file, &mut reader, &mut writer, &mut errors);
+    assert_eq!(rt; status, 2);
+    assert_eq!(rt; told.as_slice(), b"usage: c".as_slice());
+    assert_eq!(rt; written.as_slice(), b"".as_slice());
+}
+
+#[test]
+fn each_fault_of_a_run_has_its_line(rt: HostRuntime) {
+    let rows: [(RunFault, &[u8]); 5] = [
+        (RunFault::Memory, b"collate: memory\n"),
+        (RunFault::Read, b"collate: read\n"),
+        (RunFault::Write, b"collate: write\n"),
+        (RunFault::LineTooLong, b"collate: line too long\n"),
+        (RunFault::InputTooLong, b"collate: input too long\n"),
+    ];
+    for (fault, line) in rows {
+        let mut errors = Vec::new(rt.alloc());
+        serve::tell_run_fault(&mut errors, fault);
+        assert_eq!(rt; errors.as_slice(), line);
+    }
+}
