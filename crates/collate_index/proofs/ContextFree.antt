@@ -8,7 +8,7 @@ use Rattle.icu_normalizer_core.specs.Canonical.{Canonical}
 use Rattle.icu_collator_types.specs.declared.elements.Element.{Element}
 use Rattle.icu_collator_core.specs.Weights.{Weights}
 use Rattle.icu_normalizer_core.specs.BuiltIn.{is_jamo}
-use Rattle.icu_collator_core.specs.Defaults.{special_primary, primary_element, default_elements, default_primary, jamo_primary, implicit_primary, range_primary}
+use Rattle.icu_collator_core.specs.Defaults.{special_primary, primary_element, default_elements, default_primary, jamo_primary, implicit_primary}
 use Rattle.icu_collator_core.specs.Elements.{Placed, Reading, Joining, at_greatest, behind_prefix, prefix_match, recorded_length, match_length, joining, text_match, text_reading, reading, elements_within, placed_behind, characters_of, longest_prefix, is_before_accent}
 use Rattle.collate_index.specs.Plain.{IsContextFree, elements_of_character}
 
@@ -157,10 +157,11 @@ at_none f y None e = refl
 at_none f y (Some x) e = absurd (cc)
 
 -- the elements of a character without a record
-pub elements_unrecorded : (weights : Weights) (c : ℕ) → special_primary c ≡ None → weights.recorded [] (c ∷ []) ≡ None → weights.range c ≡ None
+pub elements_unrecorded : (weights : Weights) (c : ℕ) → special_primary c ≡ None → weights.recorded [] (c ∷ []) ≡ None → weights.ranged_primary c ≡ None
     → elements_of_character weights c ≡ primary_element (cond (is_jamo c) (jamo_primary c) (implicit_primary c)) ∷ []
 unfolding default_primary
 elements_unrecorded weights c s r o =
     at_none (λ p. primary_element p ∷ []) _ (special_primary c) s
     ∙ ap (λ es. unwrap_or es (default_elements weights c)) r
-    ∙ ap (λ p. primary_element p ∷ []) (at_none (λ p. p) _ (special_primary c) s ∙ at_none (λ range. range_primary weights range c) _ (weights.range c) o)
+    ∙ ap (λ (p : Option ℕ). primary_element (unwrap_or p (unwrap_or (weights.ranged_primary c) (cond (is_jamo c) (jamo_primary c) (implicit_primary c)))) ∷ []) s
+    ∙ ap (λ (p : Option ℕ). primary_element (unwrap_or p (cond (is_jamo c) (jamo_primary c) (implicit_primary c))) ∷ []) o

@@ -47,6 +47,6 @@ keys_order m a b x y hx hy =
     in then_then (slice_cmp nat_cmp x.primaries.items y.primaries.items) (slice_cmp nat_cmp x.secondaries.items y.secondaries.items) (slice_cmp nat_cmp x.tertiaries.items y.tertiaries.items)
     ∙ rw (hx.primaries, hy.primaries, hx.secondaries, hy.secondaries, hx.tertiaries, hy.tertiaries)
     (levels_order_plain o hx.plain (levels_of_text d o (utf8_chars a)) (levels_of_text d o (utf8_chars b)) _ _ _ _ _ _
-    (primaries_plain d o la s (λ lead. refl) ea) (primaries_plain d o lb s (λ lead. refl) eb)
+    (primaries_plain d o la s (λ p. refl) ea) (primaries_plain d o lb s (λ p. refl) eb)
     (secondaries_plain d o la s refl ea) (secondaries_plain d o lb s refl eb)
     (tertiaries_plain d o la s t ea) (tertiaries_plain d o lb s t eb))

@@ -1,6 +1,6 @@
 -- The levels of elements under options that leave out cases, numbers and shifting, over a collation that neither reorders
 -- nor reads backward.
-use Rattle.std.proofs.Common.{◌≡◌, ℕ, ◌+◌, ◌*◌, ◌/◌, ◌%◌, ◌^◌, Bool, true, false, cond, List, [], ◌∷◌, map, Option, Some, None, refl, ◌∙◌, ap, arith, ◌==◌}
+use Rattle.std.proofs.Common.{◌≡◌, ℕ, Bool, true, false, cond, List, [], ◌∷◌, map, Option, Some, None, refl, ◌∙◌, ap, ◌==◌}
 use Rattle.std.specs.List.{filter_map, cons_option}
 use Rattle.std.specs.Option.{option_map}
 use Rattle.icu_collator_types.specs.declared.elements.Element.{Element}
@@ -24,18 +24,14 @@ filter_map_whole : {A : Type 0} (at : Counted → Option A) (f : Element → Opt
 filter_map_whole at f h [] = refl
 filter_map_whole at f h (e ∷ es) = rw (h e, filter_map_whole at f h es) refl
 
--- a number is its lead byte and what is below it
-lead_and_rest : (p : ℕ) → p / 2 ^ 24 * 2 ^ 24 + p % 2 ^ 24 ≡ p
-lead_and_rest p = omega arith
-
--- the primaries, where leads stay
+-- the primaries, where none is reordered
 pub primaries_plain : (collation : Collation) (options : ResolvedCollatorOptions) (list : List ℕ) → is_shifted options.alternate_handling ≡ false
-    → ((lead : ℕ) → collation.reordered_lead lead ≡ lead) → (es : List Element)
+    → ((p : ℕ) → collation.reordered p ≡ p) → (es : List Element)
     → (levels_of collation options es list).primaries ≡ weights_at (λ e. e.primary) es
 unfolding levels_of
-primaries_plain collation options list e leads es =
+primaries_plain collation options list e stay es =
     let g : (x : Element) → primary_at collation (whole x) ≡ unless_zero x.primary x.primary =
-    λ x. ap (λ w. unless_zero x.primary w) (ap (λ l. l * 2 ^ 24 + x.primary % 2 ^ 24) (leads (x.primary / 2 ^ 24)) ∙ lead_and_rest x.primary)
+    λ x. ap (unless_zero x.primary) (stay x.primary)
     in ap (filter_map (primary_at collation)) (counted_whole collation options e es) ∙ filter_map_whole (primary_at collation) _ g es
 
 cond_map : {A B : Type 0} (f : A → B) (t : Bool) (x : A) → cond t None (Some (f x)) ≡ option_map f (cond t None (Some x))

@@ -93,7 +93,7 @@ weights_of sayings =
     record {
       recorded = recorded_in sayings;
       digit = λ c. None;
-      range = λ c. None;
+      ranged_primary = λ c. None;
       is_compressible = λ lead. lead == 0xfe;
       numeric_lead = 0x10;
       dot_above = false;
@@ -108,5 +108,5 @@ collation_of sayings =
       options = default_settings;
       backward = false;
       groups = replicate 4 0x300;
-      reordered_lead = λ lead. lead;
+      reordered = λ p. p;
     }

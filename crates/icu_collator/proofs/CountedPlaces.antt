@@ -1,6 +1,6 @@
 -- Elements that count, at their places: numbers are shifted whole or not at all.
 use Rattle.std.proofs.Common.{◌≡◌, ◌≢◌, ℕ, zero, suc, ◌<◌, ◌≤◌, ◌+◌, ◌*◌, ◌/◌, ◌%◌, ◌^◌, Bool, true, false, cond, List, [], ◌∷◌, refl, sym, ◌∙◌, ap, subst, arith, inl, inr, ◌⊎◌}
-use Rattle.std.proofs.lemmas.Bool.{cases_eq, cases_lt, cond_both, and_parts, ltb-true, eqb-true, eqb-false, ne_eqb}
+use Rattle.std.proofs.lemmas.Bool.{cases_eq, cases_lt, cond_both, and_parts, ltb-true, lt-ltb, eqb-true, eqb-false, eq-eqb, ne_eqb}
 use Rattle.std.proofs.lemmas.Bool.Decides.{nat_tests}
 use mathlib.Core.Bool.{true≢false}
 use Rattle.std.specs.Prelude.{◌==◌, ◌&&◌, ◌||◌, not, leb, ltb, get_or}
@@ -9,13 +9,12 @@ use Rattle.icu_normalizer_core.specs.BuiltIn.{is_within}
 use Rattle.icu_collator_types.specs.declared.elements.Element.{Element}
 use Rattle.icu_collator_types.specs.declared.options.ResolvedCollatorOptions.{ResolvedCollatorOptions}
 use Rattle.icu_collator_types.specs.Options.{is_numeric, is_shifted, group_index}
-use Rattle.icu_collator_core.specs.Collation.{Collation}
+use Rattle.icu_collator_core.specs.Collation.{Collation, reordered_lead}
 use Rattle.icu_collator_core.specs.Defaults.{primary_element}
 use Rattle.icu_collator_core.specs.WeightRules.{AreSoundWeights, IsRecorded}
-use Rattle.icu_collator.specs.Levels.{reordered}
 use Rattle.icu_collator.specs.Settings.{AreSoundSettings, is_sound_group}
 use Rattle.icu_collator.specs.Shifted.{Counted, whole, variable, is_variable, counted_behind}
-use Rattle.icu_collator.proofs.TextPrimaries.{Place, outside, inside, place_behind, IsLetter, recorded, fixed, IsOriginal, IsPrimaryAt, recorded_lead}
+use Rattle.icu_collator.proofs.TextPrimaries.{Place, outside, inside, place_behind, IsLetter, recorded, fixed, IsOriginal, IsPrimaryAt, recorded_lead, within_bounds, reordered_lead_is, reordered_second}
 use Rattle.icu_collator.proofs.NumberPlaces.{IsElement, element_behind, Reaches}
 use Rattle.icu_collator.proofs.SoundWeights.{IsSecondaryWeight, IsTertiaryWeight, sound_kind, case_small, quaternary_small}
 
@@ -78,7 +77,7 @@ module _ (collation : Collation) (sound : AreSoundWeights collation.weights) (se
 
   -- the place behind a primary with its lead reordered
   abbrev pub next : Place → ℕ → Place
-  next place q = place_behind (q / 2 ^ 24 == collation.reordered_lead numeric_lead) q place
+  next place q = place_behind (q / 2 ^ 24 == reordered_lead collation numeric_lead) q place
 
   abbrev pub IsOutside : Place → Type 0
   IsOutside place = place ≡ outside
@@ -87,7 +86,7 @@ module _ (collation : Collation) (sound : AreSoundWeights collation.weights) (se
   behind place e = element_behind collation.weights sound numeric_on place e
 
   lead_high : 3 ≤ numeric_lead
-  lead_high = let is = settings.numeric_lead in grind (arith, nat_tests)
+  lead_high = (within_bounds 3 0xfc numeric_lead settings.numeric_lead).0
 
   groups_sound : list_all (is_sound_group numeric_lead) collation.groups ≡ true
   groups_sound = (and_parts _ _ settings.groups).1
@@ -104,7 +103,7 @@ module _ (collation : Collation) (sound : AreSoundWeights collation.weights) (se
   number_varies : (e : Element) → e.primary / 2 ^ 24 ≡ numeric_lead → is_variable collation options e ≡ numbers_vary
   number_varies e h =
       let high = lead_high
-      in three_tests (is_shifted options.alternate_handling) _ _ _ (let above : 0x02000000 < e.primary = omega (arith, high, h) in grind (arith, nat_tests))
+      in three_tests (is_shifted options.alternate_handling) _ _ _ (lt-ltb 0x02000000 e.primary (omega (arith, high, h)))
       (group_side numeric_lead (get_or collation.groups (group_index options.max_variable) 0) e.primary (each_group (is_sound_group numeric_lead) collation.groups (group_index options.max_variable) groups_sound) h)
 
   -- an element stands alone, or is of a number
@@ -113,7 +112,7 @@ module _ (collation : Collation) (sound : AreSoundWeights collation.weights) (se
     part : e.primary / 2 ^ 24 ≡ numeric_lead → Step place e
 
   not_numeric : (place : Place) (p : ℕ) → p / 2 ^ 24 ≢ numeric_lead → place_behind (p / 2 ^ 24 == numeric_lead) p place ≡ outside
-  not_numeric place p h = let other : (p / 2 ^ 24 == numeric_lead) ≡ false = grind (arith, nat_tests) in rw other refl
+  not_numeric place p h = rw (ne_eqb (p / 2 ^ 24) numeric_lead h) refl
 
   recorded_step : (e : Element) → IsRecorded collation.weights e → e.primary / 2 ^ 24 ≢ numeric_lead
   recorded_step e is h =
@@ -171,39 +170,39 @@ module _ (collation : Collation) (sound : AreSoundWeights collation.weights) (se
       never h = cc
   original_at place e (inr (p, is, same)) some = subst (λ (d : Element). IsOriginal collation.weights sound numeric_on place d.primary) (sym same) is
 
-  primary_stands : (place : Place) (e : Element) → IsElement collation.weights sound numeric_on place e → e.primary ≢ 0 → IsAt place (reordered collation e.primary)
+  primary_stands : (place : Place) (e : Element) → IsElement collation.weights sound numeric_on place e → e.primary ≢ 0 → IsAt place (collation.reordered e.primary)
   primary_stands place e is some = (e.primary, original_at place e is some, refl)
 
   -- reordering moves no place
-  same_lead : (p : ℕ) → (reordered collation p / 2 ^ 24 == collation.reordered_lead numeric_lead) ≡ (p / 2 ^ 24 == numeric_lead)
+  same_lead : (p : ℕ) → (collation.reordered p / 2 ^ 24 == reordered_lead collation numeric_lead) ≡ (p / 2 ^ 24 == numeric_lead)
   same_lead p =
-      let at : reordered collation p / 2 ^ 24 ≡ collation.reordered_lead (p / 2 ^ 24) = omega arith
+      let at : collation.reordered p / 2 ^ 24 ≡ reordered_lead collation (p / 2 ^ 24) = reordered_lead_is collation sound settings options p
       in elim (cases_eq (p / 2 ^ 24) numeric_lead) [
-        | inl e ↦ let is : collation.reordered_lead (p / 2 ^ 24) ≡ collation.reordered_lead numeric_lead = ap collation.reordered_lead e in grind (arith, nat_tests)
-        | inr ne ↦ let is : collation.reordered_lead (p / 2 ^ 24) ≢ collation.reordered_lead numeric_lead = λ h. ne (settings.one_to_one _ _ h) in grind (arith, nat_tests)
+        | inl e ↦ eq-eqb _ _ (at ∙ ap (reordered_lead collation) e) ∙ sym (eq-eqb _ _ e)
+        | inr ne ↦ ne_eqb _ _ (λ h. ne (settings.one_to_one _ _ (sym at ∙ h))) ∙ sym (ne_eqb _ _ ne)
       ]
 
-  same_parity : (p : ℕ) → reordered collation p % 2 ≡ p % 2
-  same_parity p = omega arith
+  parity_stays : (a b : ℕ) → (a * 2 ^ 24 + b % 2 ^ 24) % 2 ≡ b % 2
+  parity_stays a b = omega arith
 
-  same_second : (p : ℕ) → reordered collation p / 2 ^ 16 % 256 ≡ p / 2 ^ 16 % 256
-  same_second p = omega arith
+  same_parity : (p : ℕ) → collation.reordered p % 2 ≡ p % 2
+  same_parity p = ap (λ (x : ℕ). x % 2) (settings.rest p) ∙ parity_stays (reordered_lead collation (p / 2 ^ 24)) p
 
-  same_behind : (is : Bool) (p : ℕ) (place : Place) → place_behind is (reordered collation p) place ≡ place_behind is p place
-  same_behind is p outside = rw (same_parity p, same_second p) refl
+  same_behind : (is : Bool) (p : ℕ) (place : Place) → place_behind is (collation.reordered p) place ≡ place_behind is p place
+  same_behind is p outside = rw (same_parity p, reordered_second collation sound settings options p) refl
   same_behind is p inside = rw (same_parity p) refl
 
-  next_is : (place : Place) (e : Element) → next place (reordered collation e.primary) ≡ behind place e
-  next_is place e = ap (λ is. place_behind is (reordered collation e.primary) place) (same_lead e.primary) ∙ same_behind (e.primary / 2 ^ 24 == numeric_lead) e.primary place
+  next_is : (place : Place) (e : Element) → next place (collation.reordered e.primary) ≡ behind place e
+  next_is place e = ap (λ is. place_behind is (collation.reordered e.primary) place) (same_lead e.primary) ∙ same_behind (e.primary / 2 ^ 24 == numeric_lead) e.primary place
 
   -- ---- elements that count, at their places: of shifted primaries, and of the others
   abbrev pub whole_behind : Place → Element → Place
-  whole_behind place e = cond (e.primary == 0) place (next place (reordered collation e.primary))
+  whole_behind place e = cond (e.primary == 0) place (next place (collation.reordered e.primary))
 
   abbrev pub Flow : Place → Place → List Counted → Type 0
   Flow s w [] = Unit {0}
-  Flow s w (variable p ∷ cs) = (is_shifted options.alternate_handling ≡ true) × IsAt s (reordered collation p) × Flow (next s (reordered collation p)) w cs
-  Flow s w (whole e ∷ cs) = (s ≡ outside) × IsWeighed e × (e.primary ≢ 0 → IsAt w (reordered collation e.primary)) × Flow s (whole_behind w e) cs
+  Flow s w (variable p ∷ cs) = (is_shifted options.alternate_handling ≡ true) × IsAt s (collation.reordered p) × Flow (next s (collation.reordered p)) w cs
+  Flow s w (whole e ∷ cs) = (s ≡ outside) × IsWeighed e × (e.primary ≢ 0 → IsAt w (collation.reordered e.primary)) × Flow s (whole_behind w e) cs
 
   varied : (v : Bool) (place : Place) (e : Element) (cs : List Counted) → IsElement collation.weights sound numeric_on place e → is_shifted options.alternate_handling ≡ true → e.primary ≢ 0
       → (e.primary / 2 ^ 24 ≡ numeric_lead → v ≡ true)
@@ -214,9 +213,9 @@ module _ (collation : Collation) (sound : AreSoundWeights collation.weights) (se
       by_step (alone out gone) =
           let here : shifted_side v place ≡ outside = rw out (same_side v)
           in let there : whole_side v place ≡ outside = rw out (same_whole v)
-          in let after : next outside (reordered collation e.primary) ≡ shifted_side v (behind place e) = subst (λ p. next p (reordered collation e.primary) ≡ behind p e) out (next_is place e) ∙ subst (λ p. behind p e ≡ outside) out gone ∙ sym (same_side v) ∙ ap (shifted_side v) (sym gone)
+          in let after : next outside (collation.reordered e.primary) ≡ shifted_side v (behind place e) = subst (λ p. next p (collation.reordered e.primary) ≡ behind p e) out (next_is place e) ∙ subst (λ p. behind p e ≡ outside) out gone ∙ sym (same_side v) ∙ ap (shifted_side v) (sym gone)
           in let after_whole : outside ≡ whole_side v (behind place e) = sym (same_whole v) ∙ ap (whole_side v) (sym gone)
-          in rw (here, there) (on, subst (λ p. IsAt p (reordered collation e.primary)) out (primary_stands place e is some), subst (λ s. Flow s outside cs) (sym after) (subst (λ w. Flow (shifted_side v (behind place e)) w cs) (sym after_whole) h))
+          in rw (here, there) (on, subst (λ p. IsAt p (collation.reordered e.primary)) out (primary_stands place e is some), subst (λ s. Flow s outside cs) (sym after) (subst (λ w. Flow (shifted_side v (behind place e)) w cs) (sym after_whole) h))
       by_step (part lead) = by_answer v (vary lead) h
         where
           by_answer : (v : Bool) → v ≡ true → Flow (shifted_side v (behind place e)) (whole_side v (behind place e)) cs → Flow (shifted_side v place) (whole_side v place) (variable e.primary ∷ cs)
@@ -229,10 +228,10 @@ module _ (collation : Collation) (sound : AreSoundWeights collation.weights) (se
   whole_stands v place e cs is vary h = by_step (step place e is)
     where
       none_behind : (p : Place) → p ≡ outside → e.primary ≡ 0 → p ≡ behind place e → whole_behind p e ≡ behind place e
-      none_behind p out none same = let test : (e.primary == 0) ≡ true = grind (arith, nat_tests) in rw test same
+      none_behind p out none same = rw (eq-eqb e.primary 0 none) same
 
       some_behind : (p : Place) → p ≡ place → e.primary ≢ 0 → whole_behind p e ≡ behind place e
-      some_behind p same some = let test : (e.primary == 0) ≡ false = grind (arith, nat_tests) in rw test (ap (λ q. next q (reordered collation e.primary)) same ∙ next_is place e)
+      some_behind p same some = rw (ne_eqb e.primary 0 some) (ap (λ q. next q (collation.reordered e.primary)) same ∙ next_is place e)
 
       moved : (p : Place) → p ≡ place → (e.primary ≡ 0 → (place ≡ outside) × (behind place e ≡ outside)) → whole_behind p e ≡ behind place e
       moved p same zero_primary =
@@ -247,7 +246,7 @@ module _ (collation : Collation) (sound : AreSoundWeights collation.weights) (se
           in let there : whole_side v place ≡ place = ap (whole_side v) out ∙ same_whole v ∙ sym out
           in let after : whole_side v (behind place e) ≡ whole_behind (whole_side v place) e = ap (whole_side v) gone ∙ same_whole v ∙ sym gone ∙ sym (moved (whole_side v place) there (λ none. (out, gone)))
           in let side : shifted_side v (behind place e) ≡ shifted_side v place = ap (shifted_side v) (gone ∙ sym out)
-          in (here, weighed place e is, λ some. subst (λ p. IsAt p (reordered collation e.primary)) (sym there) (primary_stands place e is some), subst (λ s. Flow s (whole_behind (whole_side v place) e) cs) side (subst (λ w. Flow (shifted_side v (behind place e)) w cs) after h))
+          in (here, weighed place e is, λ some. subst (λ p. IsAt p (collation.reordered e.primary)) (sym there) (primary_stands place e is some), subst (λ s. Flow s (whole_behind (whole_side v place) e) cs) side (subst (λ w. Flow (shifted_side v (behind place e)) w cs) after h))
       by_step (part lead) = by_answer v (vary lead) h
         where
           high : 0 < e.primary

@@ -32,3 +32,4 @@ pub mod ReadingsAlike
 pub mod NumbersInTexts
 pub mod NumberKeys
 pub mod DecidingLevels
+pub mod SameLevels

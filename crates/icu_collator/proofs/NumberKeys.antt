@@ -24,7 +24,7 @@ pub lower_key_first : (collation : Collation) (options : ResolvedCollatorOptions
     → slice_cmp nat_cmp (key_of_text collation options (x ++ (r ++ y))) (key_of_text collation options (x ++ (s ++ y))) ≡ Less
 lower_key_first collation options x r s y d sound settings plain apart numeric count hr hs first second below =
     text_keys_order collation options (x ++ (r ++ y)) (x ++ (s ++ y)) d sound settings plain first second
-    ∙ lower_first collation options x r s y d apart numeric count hr hs below
+    ∙ lower_first collation options x r s y d apart (λ p _. settings.rest p) numeric count hr hs below
 
 pub equal_value_keys : (collation : Collation) (options : ResolvedCollatorOptions) (x r s y : List ℕ)
     → IsDecomposing collation.canonical → AreSoundWeights collation.weights → AreSoundSettings collation → has_plain_leads collation options ≡ true

@@ -11,7 +11,7 @@ use Rattle.icu_collator_types.specs.declared.elements.Element.{Element}
 use Rattle.icu_collator_types.specs.declared.options.ResolvedCollatorOptions.{ResolvedCollatorOptions}
 use Rattle.icu_collator_types.specs.declared.options.Strength.TheVariants.{Identical}
 use Rattle.icu_collator_types.specs.Options.{is_at_least, is_shifted, group_index}
-use Rattle.icu_collator_core.specs.Collation.{Collation}
+use Rattle.icu_collator_core.specs.Collation.{Collation, with_lead, reordered_lead}
 use Rattle.icu_collator_core.specs.Defaults.{primary_of}
 use Rattle.icu_collator_core.specs.Numbers.{value_of, significant, elements_of_bytes, number_elements}
 use Rattle.icu_collator_core.specs.WholeNumbers.{IsWholeNumber, primaries_of}
@@ -20,9 +20,9 @@ use Rattle.icu_collator_core.proofs.NumbersDigits.{AreBelow}
 use Rattle.icu_collator_core.proofs.NumbersBytes.{number_bytes, number_bytes_below}
 use Rattle.icu_collator_core.proofs.NumbersOrder.{whole_elements, counted as digits_counted, numbers_order, same_front}
 use Rattle.icu_collator.specs.Shifted.{Counted, is_variable, counted_behind, counted}
-use Rattle.icu_collator.specs.Levels.{Levels, reordered, primary_at, levels_of}
+use Rattle.icu_collator.specs.Levels.{Levels, primary_at, levels_of}
 use Rattle.icu_collator.specs.Order.{levels_order, list_order}
-use Rattle.icu_collator.specs.NumbersInTexts.{do_numbers_count}
+use Rattle.icu_collator.specs.NumbersInTexts.{AreNumbersTogether, do_numbers_count}
 use Rattle.icu_collator.proofs.OrderTotal.{levels_total}
 
 -- elements of one lead byte
@@ -40,23 +40,30 @@ bytes_of_lead lead (a ∷ []) h = (lead_of lead a 0 0 h.0 (omega arith) (omega a
 bytes_of_lead lead (a ∷ b ∷ []) h = (lead_of lead a b 0 h.0 h.1.0 (omega arith), tt)
 bytes_of_lead lead (a ∷ b ∷ c ∷ bs) h = (lead_of lead a b c h.0 h.1.0 h.1.1.0, bytes_of_lead lead bs h.1.1.1)
 
--- a primary of bytes, with its lead reordered
-moved_primary : (collation : Collation) (lead a b c : ℕ) → a < 256 → b < 256 → c < 256
-    → reordered collation (primary_of lead a b c) ≡ primary_of (collation.reordered_lead lead) a b c
-moved_primary collation lead a b c h i j =
-    let first = lead_of lead a b c h i j
-    in let rest : primary_of lead a b c % 2 ^ 24 ≡ a * 2 ^ 16 + b * 2 ^ 8 + c = omega arith
-    in let moved = ap collation.reordered_lead first
-    in omega (arith, moved)
+-- primaries of this lead have one lead when they are reordered, and keep their rest
+abbrev StaysTogether : Collation → ℕ → Type 0
+StaysTogether collation lead = (p : ℕ) → p / 2 ^ 24 ≡ lead → collation.reordered p ≡ with_lead (reordered_lead collation) p
 
-moved_bytes : (collation : Collation) (lead : ℕ) (bs : List ℕ) → AreBelow 256 bs
-    → map (reordered collation) (primaries_of (elements_of_bytes lead bs)) ≡ primaries_of (elements_of_bytes (collation.reordered_lead lead) bs)
+bytes_stay : (lead moved a b c : ℕ) → a < 256 → b < 256 → c < 256 → moved * 2 ^ 24 + primary_of lead a b c % 2 ^ 24 ≡ primary_of moved a b c
+bytes_stay lead moved a b c h i j = omega arith
+
+-- a primary of bytes, with its lead reordered
+moved_primary : (collation : Collation) (lead a b c : ℕ) → StaysTogether collation lead → a < 256 → b < 256 → c < 256
+    → collation.reordered (primary_of lead a b c) ≡ primary_of (reordered_lead collation lead) a b c
+moved_primary collation lead a b c t h i j =
+    let first = lead_of lead a b c h i j
+    in t (primary_of lead a b c) first
+    ∙ ap (λ l. reordered_lead collation l * 2 ^ 24 + primary_of lead a b c % 2 ^ 24) first
+    ∙ bytes_stay lead (reordered_lead collation lead) a b c h i j
+
+moved_bytes : (collation : Collation) (lead : ℕ) (bs : List ℕ) → StaysTogether collation lead → AreBelow 256 bs
+    → map collation.reordered (primaries_of (elements_of_bytes lead bs)) ≡ primaries_of (elements_of_bytes (reordered_lead collation lead) bs)
 unfolding elements_of_bytes
-moved_bytes collation lead [] h = refl
-moved_bytes collation lead (a ∷ []) h = ap (λ p. p ∷ []) (moved_primary collation lead a 0 0 h.0 (omega arith) (omega arith))
-moved_bytes collation lead (a ∷ b ∷ []) h = ap (λ p. p ∷ []) (moved_primary collation lead a b 0 h.0 h.1.0 (omega arith))
-moved_bytes collation lead (a ∷ b ∷ c ∷ bs) h =
-    cc (moved_primary collation lead a b c h.0 h.1.0 h.1.1.0, moved_bytes collation lead bs h.1.1.1)
+moved_bytes collation lead [] t h = refl
+moved_bytes collation lead (a ∷ []) t h = ap (λ p. p ∷ []) (moved_primary collation lead a 0 0 t h.0 (omega arith) (omega arith))
+moved_bytes collation lead (a ∷ b ∷ []) t h = ap (λ p. p ∷ []) (moved_primary collation lead a b 0 t h.0 h.1.0 (omega arith))
+moved_bytes collation lead (a ∷ b ∷ c ∷ bs) t h =
+    cc (moved_primary collation lead a b c t h.0 h.1.0 h.1.1.0, moved_bytes collation lead bs t h.1.1.1)
 
 -- a number is of its lead, and with that reordered it is the number of the other lead
 number_of_lead : (lead : ℕ) (ds : List ℕ) → IsWholeNumber ds → AreOfLead lead (number_elements lead ds)
@@ -65,12 +72,12 @@ number_of_lead lead ds h =
     in subst (AreOfLead lead) (sym (whole_elements lead ds h))
     (bytes_of_lead lead (number_bytes (significant ds)) (number_bytes_below (significant ds) g.digits g.is g.short))
 
-moved_number : (collation : Collation) (lead : ℕ) (ds : List ℕ) → IsWholeNumber ds
-    → map (reordered collation) (primaries_of (number_elements lead ds)) ≡ primaries_of (number_elements (collation.reordered_lead lead) ds)
-moved_number collation lead ds h =
+moved_number : (collation : Collation) (lead : ℕ) (ds : List ℕ) → StaysTogether collation lead → IsWholeNumber ds
+    → map collation.reordered (primaries_of (number_elements lead ds)) ≡ primaries_of (number_elements (reordered_lead collation lead) ds)
+moved_number collation lead ds t h =
     let g = digits_counted ds h
-    in rw (whole_elements lead ds h, whole_elements (collation.reordered_lead lead) ds h)
-    (moved_bytes collation lead (number_bytes (significant ds)) (number_bytes_below (significant ds) g.digits g.is g.short))
+    in rw (whole_elements lead ds h, whole_elements (reordered_lead collation lead) ds h)
+    (moved_bytes collation lead (number_bytes (significant ds)) t (number_bytes_below (significant ds) g.digits g.is g.short))
 
 -- whether elements behind these stand behind a variable one
 unfoldable behind_after : Collation → ResolvedCollatorOptions → Bool → List Element → Bool
@@ -111,7 +118,7 @@ number_counted : (collation : Collation) (options : ResolvedCollatorOptions) (le
     → AreOfLead lead es → 3 ≤ lead
     → (not (is_shifted options.alternate_handling) || leb (get_or collation.groups (group_index options.max_variable) 0) (lead * 256)) ≡ true
     → filter_map (primary_at collation) (counted_behind collation options b (es ++ ys))
-    ≡ map (reordered collation) (primaries_of es) ++ filter_map (primary_at collation) (counted_behind collation options (behind_number b es) ys)
+    ≡ map collation.reordered (primaries_of es) ++ filter_map (primary_at collation) (counted_behind collation options (behind_number b es) ys)
 unfolding counted_behind
 number_counted collation options lead b [] ys h l n = refl
 number_counted collation options lead b (e ∷ es) ys h l n =
@@ -121,7 +128,7 @@ number_counted collation options lead b (e ∷ es) ys h l n =
     in let skipped : (b && (e.primary == 0)) ≡ false = simp (filled, and_false)
     in let rest = number_counted collation options lead false es ys h.1 l n
     in let same : counted_behind collation options (behind_number false es) ys ≡ counted_behind collation options false ys = ap (λ (c : Bool). counted_behind collation options c ys) (behind_none es)
-    in rw (plain, skipped) (rw filled (ap (λ (w : List ℕ). reordered collation e.primary ∷ w) (rest ∙ ap (λ (w : List Counted). map (reordered collation) (primaries_of es) ++ filter_map (primary_at collation) w) same)))
+    in rw (plain, skipped) (rw filled (ap (λ (w : List ℕ). collation.reordered e.primary ∷ w) (rest ∙ ap (λ (w : List Counted). map collation.reordered (primaries_of es) ++ filter_map (primary_at collation) w) same)))
 
 -- a difference at the first level decides
 first_decides : (options : ResolvedCollatorOptions) (a b : Levels) (o : Ordering) → list_order (λ w. w) a.primaries b.primaries ≡ o → o ≢ Equal
@@ -136,7 +143,7 @@ primaries_split : (collation : Collation) (options : ResolvedCollatorOptions) (x
     → AreOfLead collation.weights.numeric_lead es → is_letter_lead collation.weights.numeric_lead ≡ true → do_numbers_count collation options ≡ true
     → (levels_of collation options (xs ++ (es ++ ys)) list).primaries
     ≡ filter_map (primary_at collation) (counted collation options xs)
-    ++ (map (reordered collation) (primaries_of es)
+    ++ (map collation.reordered (primaries_of es)
     ++ filter_map (primary_at collation) (counted_behind collation options (behind_number (behind_after collation options false xs) es) ys))
 unfolding levels_of
 primaries_split collation options xs es ys list h l n =
@@ -157,20 +164,20 @@ decided Greater p n = refl
 
 -- where two lists of elements differ in a number, the values of the numbers decide, whatever stands behind
 pub different_numbers : (collation : Collation) (options : ResolvedCollatorOptions) (xs ys zs : List Element) (ds es list other : List ℕ)
-    → is_letter_lead collation.weights.numeric_lead ≡ true → do_numbers_count collation options ≡ true
+    → is_letter_lead collation.weights.numeric_lead ≡ true → do_numbers_count collation options ≡ true → AreNumbersTogether collation
     → IsWholeNumber ds → IsWholeNumber es → value_of ds ≢ value_of es
     → levels_order options
     (levels_of collation options (xs ++ (number_elements collation.weights.numeric_lead ds ++ ys)) list)
     (levels_of collation options (xs ++ (number_elements collation.weights.numeric_lead es ++ zs)) other)
     ≡ nat_cmp (value_of ds) (value_of es)
-different_numbers collation options xs ys zs ds es list other l n h g ne =
+different_numbers collation options xs ys zs ds es list other l n t h g ne =
     let lead = collation.weights.numeric_lead
-    in let moved = collation.reordered_lead lead
+    in let moved = reordered_lead collation lead
     in let unequal = unequal_values (value_of ds) (value_of es) ne
     in let front = filter_map (primary_at collation) (counted collation options xs)
     in let first = primaries_split collation options xs (number_elements lead ds) ys list (number_of_lead lead ds h) l n
     in let second = primaries_split collation options xs (number_elements lead es) zs other (number_of_lead lead es g) l n
-    in first_decides options _ _ _ (rw (first, second, moved_number collation lead ds h, moved_number collation lead es g)
+    in first_decides options _ _ _ (rw (first, second, moved_number collation lead ds t h, moved_number collation lead es t g)
     (same_front front _ _ ∙ numbers_order moved ds es _ _ h g ∙ decided (nat_cmp (value_of ds) (value_of es)) _ unequal)) unequal
 
 -- the characters count at Identical alone

@@ -22,7 +22,7 @@ use Rattle.icu_collator_core.specs.Elements.{Placed, Reading, placed_behind, cha
 use Rattle.icu_collator_core.proofs.NumbersOrder.{equal_numbers}
 use Rattle.icu_collator.specs.Levels.{levels_of, elements_of_text, levels_of_text}
 use Rattle.icu_collator.specs.Order.{levels_order, collation_order}
-use Rattle.icu_collator.specs.NumbersInTexts.{AreDigitsApart, IsRunOfDigits, IsNumberBetween, is_digit, begins_with_digit, ends_with_digit, digits_of, run_value, do_numbers_count}
+use Rattle.icu_collator.specs.NumbersInTexts.{AreNumbersTogether, AreDigitsApart, IsRunOfDigits, IsNumberBetween, is_digit, begins_with_digit, ends_with_digit, digits_of, run_value, do_numbers_count}
 use Rattle.icu_collator.proofs.NumberDecomposed.{decomposed_run}
 use Rattle.icu_collator.proofs.NumberLevels.{different_numbers, same_elements}
 use Rattle.icu_collator.proofs.ReadingsApart.{reading_is, EndsPlain}
@@ -207,38 +207,38 @@ text_split collation options x run y d a c n h e g =
 
 -- numbers of different values decide
 different_runs : (collation : Collation) (options : ResolvedCollatorOptions) (x r s y : List ℕ)
-    → IsDecomposing collation.canonical → AreDigitsApart collation
+    → IsDecomposing collation.canonical → AreDigitsApart collation → AreNumbersTogether collation
     → is_numeric options.numeric ≡ true → do_numbers_count collation options ≡ true
     → IsNumberBetween collation x r y → IsNumberBetween collation x s y
     → run_value collation.weights r ≢ run_value collation.weights s
     → collation_order collation options (x ++ (r ++ y)) (x ++ (s ++ y)) ≡ nat_cmp (run_value collation.weights r) (run_value collation.weights s)
-different_runs collation options x [] s y c a n v hr hs ne = let filled = hr.number.filled in absurd (omega arith)
-different_runs collation options x (d ∷ r) [] y c a n v hr hs ne = let filled = hs.number.filled in absurd (omega arith)
-different_runs collation options x (d ∷ r) (b ∷ s) y c a n v hr hs ne =
+different_runs collation options x [] s y c a t n v hr hs ne = let filled = hr.number.filled in absurd (omega arith)
+different_runs collation options x (d ∷ r) [] y c a t n v hr hs ne = let filled = hs.number.filled in absurd (omega arith)
+different_runs collation options x (d ∷ r) (b ∷ s) y c a t n v hr hs ne =
     rw (text_split collation options x r y d a c n hr.number.digits hr.before hr.behind, text_split collation options x s y b a c n hs.number.digits hs.before hs.behind)
-    (different_numbers collation options _ _ _ (digits_of collation.weights (d ∷ r)) (digits_of collation.weights (b ∷ s)) _ _ a.lead v
+    (different_numbers collation options _ _ _ (digits_of collation.weights (d ∷ r)) (digits_of collation.weights (b ∷ s)) _ _ a.lead v t
     (whole_number collation (d ∷ r) a hr.number) (whole_number collation (b ∷ s) a hs.number) ne)
 
 -- a number of a lower value comes first, and one of a higher value comes behind
 pub lower_first : (collation : Collation) (options : ResolvedCollatorOptions) (x r s y : List ℕ)
-    → IsDecomposing collation.canonical → AreDigitsApart collation
+    → IsDecomposing collation.canonical → AreDigitsApart collation → AreNumbersTogether collation
     → is_numeric options.numeric ≡ true → do_numbers_count collation options ≡ true
     → IsNumberBetween collation x r y → IsNumberBetween collation x s y
     → run_value collation.weights r < run_value collation.weights s
     → collation_order collation options (x ++ (r ++ y)) (x ++ (s ++ y)) ≡ Less
-lower_first collation options x r s y c a n v hr hs below =
+lower_first collation options x r s y c a t n v hr hs below =
     let less : nat_cmp (run_value collation.weights r) (run_value collation.weights s) ≡ Less = grind (arith, nat_tests)
-    in different_runs collation options x r s y c a n v hr hs (λ e. omega arith) ∙ less
+    in different_runs collation options x r s y c a t n v hr hs (λ e. omega arith) ∙ less
 
 pub higher_behind : (collation : Collation) (options : ResolvedCollatorOptions) (x r s y : List ℕ)
-    → IsDecomposing collation.canonical → AreDigitsApart collation
+    → IsDecomposing collation.canonical → AreDigitsApart collation → AreNumbersTogether collation
     → is_numeric options.numeric ≡ true → do_numbers_count collation options ≡ true
     → IsNumberBetween collation x r y → IsNumberBetween collation x s y
     → run_value collation.weights s < run_value collation.weights r
     → collation_order collation options (x ++ (r ++ y)) (x ++ (s ++ y)) ≡ Greater
-higher_behind collation options x r s y c a n v hr hs below =
+higher_behind collation options x r s y c a t n v hr hs below =
     let greater : nat_cmp (run_value collation.weights r) (run_value collation.weights s) ≡ Greater = grind (arith, nat_tests)
-    in different_runs collation options x r s y c a n v hr hs (λ e. omega arith) ∙ greater
+    in different_runs collation options x r s y c a t n v hr hs (λ e. omega arith) ∙ greater
 
 -- numbers of one value are the same below Identical
 pub equal_runs : (collation : Collation) (options : ResolvedCollatorOptions) (x r s y : List ℕ)

@@ -4,19 +4,20 @@ use Rattle.std.proofs.lemmas.Bool.{cases_lt}
 use Rattle.std.proofs.lemmas.Bool.Decides.{nat_tests}
 use mathlib.Core.Bool.{true≢false}
 use Rattle.std.specs.Prelude.{◌==◌}
+use Rattle.std.specs.Option.{unwrap_or}
 use Rattle.icu_normalizer_core.specs.BuiltIn.{is_jamo}
 use Rattle.icu_collator_types.specs.declared.elements.Element.{Element}
-use Rattle.icu_collator_core.specs.Weights.{Range, Weights}
+use Rattle.icu_collator_core.specs.Weights.{Weights}
 use Rattle.icu_collator_core.specs.Collation.{Collation}
-use Rattle.icu_collator_core.specs.Defaults.{primary_of, primary_element, special_primary, moved_primary, range_primary, jamo_primary, implicit_primary, default_primary, default_elements}
+use Rattle.icu_collator_core.specs.Defaults.{primary_of, primary_element, special_primary, jamo_primary, implicit_primary, default_primary, default_elements}
 use Rattle.icu_collator_core.specs.Numbers.{without_last_zeros}
 use Rattle.icu_collator_core.specs.SoundElements.{IsSingle, of_record, by_default, IsSoundSequence, nothing, single, number}
 use Rattle.std.proofs.lemmas.List.Elements.{recursion_from_All}
-use Rattle.icu_collator_core.specs.WeightRules.{AreSoundWeights, IsRecorded, primary_bytes, is_letter_lead, is_sound_primary}
+use Rattle.icu_collator_core.specs.WeightRules.{AreSoundWeights, IsRecorded, primary_bytes, is_letter_lead, is_sound_primary, has_three_bytes}
 use Rattle.icu_collator.specs.Settings.{AreSoundSettings}
 use Rattle.icu_collator.proofs.CommonAlone.{and_true}
 use Rattle.icu_collator.proofs.WeightBytes.{rest_two, rest_three}
-use Rattle.icu_collator.proofs.TextPrimaries.{Place, outside, place_behind, IsLetter, fixed, IsFixedLead, recorded_lead, equal_tested, within_bounds, or_second, not_true, fixed_length}
+use Rattle.icu_collator.proofs.TextPrimaries.{Place, outside, place_behind, IsLetter, fixed, recorded_lead, within_bounds, or_second, fixed_length, letters_three, three_bytes_long, sound_primary}
 use Rattle.icu_collator.proofs.NumberPlaces.{IsElement, element_behind, Reaches, reaches_both, number_reaches}
 
 pub untested : (a b : ℕ) → a ≢ b → (a == b) ≡ false
@@ -122,58 +123,15 @@ module _ (collation : Collation) (sound : AreSoundWeights collation.weights) (se
           (outside_letters _ none) (λ is. (omega (arith, same, low), omega (arith, same, high))))
           (outside_letters _ none)
 
-  fixed_three : (lead : ℕ) → 3 ≤ lead → lead ≤ 0xfc → fixed_length lead ≡ 3
-  fixed_three lead low high = rw (untested lead 0x02 (λ e. omega (arith, low, e)), untested lead 0xff (λ e. omega (arith, high, e)), untested lead 0xfe (λ e. omega (arith, high, e))) refl
-
-  ranged : (l : ℕ) (k : Bool) (n m : ℕ) → weights.is_compressible l ≡ k → 3 ≤ l → l ≤ 0xfc → l ≢ weights.numeric_lead → IsFixedLead weights l
-      → StandOutside (primary_element (primary_of l (cond k 4 2 + n % cond k 251 254) (2 + m % 254) 0) ∷ [])
-  ranged l true n m is low high other fixed_lead = at_low (4 + n % 251) (2 + m % 254) (omega arith) (omega arith) (omega arith) (omega arith)
-    where
-      at_low : (a b : ℕ) → 4 ≤ a → a ≤ 0xfe → b < 256 → 0 < b → StandOutside (primary_element (primary_of l a b 0) ∷ [])
-      at_low a b from to hb some =
-          let lead : primary_of l a b 0 / 2 ^ 24 ≡ l = lead_of l a b 0 (omega (arith, to)) hb (omega arith) in
-          let same : primary_of l a b 0 / 2 ^ 16 % 256 ≡ a = second_of l a b 0 (omega (arith, to)) hb (omega arith) in
-          own_stands (primary_of l a b 0)
-          (fixed (primary_of l a b 0) (subst (IsFixedLead weights) (sym lead) fixed_lead) (three_long l a b (omega (arith, to)) hb some ∙ sym (fixed_three l low high) ∙ ap fixed_length (sym lead))
-          (omega (arith, lead, low)) (small_of l a b 0 (omega (arith, high)) (omega (arith, to)) hb (omega arith)) (λ e. other (sym lead ∙ e)) (λ yes_is. (omega (arith, same, from), omega (arith, same, to))))
-          (λ e. other (sym lead ∙ e))
-  ranged l false n m is low high other fixed_lead = at_any (2 + n % 254) (2 + m % 254) (omega arith) (omega arith) (omega arith)
-    where
-      at_any : (a b : ℕ) → a < 256 → b < 256 → 0 < b → StandOutside (primary_element (primary_of l a b 0) ∷ [])
-      at_any a b ha hb some =
-          let lead : primary_of l a b 0 / 2 ^ 24 ≡ l = lead_of l a b 0 ha hb (omega arith) in
-          own_stands (primary_of l a b 0)
-          (fixed (primary_of l a b 0) (subst (IsFixedLead weights) (sym lead) fixed_lead) (three_long l a b ha hb some ∙ sym (fixed_three l low high) ∙ ap fixed_length (sym lead))
-          (omega (arith, lead, low)) (small_of l a b 0 (omega (arith, high)) ha hb (omega arith)) (λ e. other (sym lead ∙ e))
-          (λ compresses. absurd (true≢false (sym compresses ∙ ap weights.is_compressible lead ∙ is))))
-          (λ e. other (sym lead ∙ e))
-
-  range_is_primary : (c : ℕ) (range : Range) → weights.range c ≡ Some range → is_sound_primary weights (range.primary) ≡ true
-  range_is_primary c range h =
-      let all = and_true _ _ (sound.ranges c range h) in
-      let sixth = and_true _ _ (all.0) in
-      let fifth = and_true _ _ (sixth.0) in
-      let fourth = and_true _ _ (fifth.0) in
-      (and_true _ _ (fourth.0)).1
-
-  range_lead : (c : ℕ) (range : Range) → weights.range c ≡ Some range → (3 ≤ range.primary / 2 ^ 24) × (range.primary / 2 ^ 24 ≤ 0xfc) × (range.primary / 2 ^ 24 ≢ weights.numeric_lead)
-  range_lead c range h =
-      let all = and_true _ _ (range_is_primary c range h) in
-      let fourth = and_true _ _ (all.0) in
-      let third = and_true _ _ (fourth.0) in
-      let both = and_true _ _ (third.0) in
-      let bounds = within_bounds 3 0xfc (range.primary / 2 ^ 24) (both.0) in
-      let other : (range.primary / 2 ^ 24 == weights.numeric_lead) ≡ false = not_true _ (both.1) in
-      (bounds.0, bounds.1, λ e. true≢false (sym (equal_tested _ _ e) ∙ other))
-
-  range_stands : (c : ℕ) (range : Range) → weights.range c ≡ Some range → StandOutside (primary_element (range_primary weights range c) ∷ [])
-  unfolding range_primary moved_primary
-  range_stands c range h =
-      let lead : ℕ = range.primary / 2 ^ 24 in
-      let k : Bool = weights.is_compressible lead in
-      let third : ℕ = range.primary / 2 ^ 8 % 256 - 2 + (c - range.first) * range.step in
-      let bounds = range_lead c range h in
-      ranged lead k (range.primary / 2 ^ 16 % 256 - cond k 4 2 + third / 254) third refl (bounds.0) (bounds.1) (bounds.2) (inr (c, range, h, refl))
+  ranged_stands : (c p : ℕ) → weights.ranged_primary c ≡ Some p → StandOutside (primary_element p ∷ [])
+  ranged_stands c p h =
+      let both = and_true (is_sound_primary weights p) (has_three_bytes p) (sound.ranged c p h) in
+      let parts = sound_primary weights p both.0 in
+      let letter = parts.letter in
+      let bounds = within_bounds 3 0xfc (p / 2 ^ 24) letter in
+      own_stands p
+      (fixed p (inr (c, p, h, refl)) (three_bytes_long p both.1 ∙ sym (letters_three (p / 2 ^ 24) letter)) (omega (arith, bounds.0)) (omega (arith, bounds.1)) parts.differs parts.room)
+      parts.differs
 
   default_stands : (c : ℕ) → StandOutside (default_elements weights c)
   unfolding default_primary
@@ -183,13 +141,13 @@ module _ (collation : Collation) (sound : AreSoundWeights collation.weights) (se
       unranged true is = jamo_stands c is
       unranged false is = implicit_stands c
 
-      by_range : (r : Option Range) → weights.range c ≡ r → StandOutside (primary_element (elim r [ Some range ↦ range_primary weights range c | None ↦ cond (is_jamo c) (jamo_primary c) (implicit_primary c) ]) ∷ [])
-      by_range (Some range) h = range_stands c range h
+      by_range : (r : Option ℕ) → weights.ranged_primary c ≡ r → StandOutside (primary_element (unwrap_or r (cond (is_jamo c) (jamo_primary c) (implicit_primary c))) ∷ [])
+      by_range (Some p) h = ranged_stands c p h
       by_range None h = unranged (is_jamo c) refl
 
-      by_special : (s : Option ℕ) → special_primary c ≡ s → StandOutside (primary_element (elim s [ Some p ↦ p | None ↦ elim (weights.range c) [ Some range ↦ range_primary weights range c | None ↦ cond (is_jamo c) (jamo_primary c) (implicit_primary c) ] ]) ∷ [])
+      by_special : (s : Option ℕ) → special_primary c ≡ s → StandOutside (primary_element (unwrap_or s (unwrap_or (weights.ranged_primary c) (cond (is_jamo c) (jamo_primary c) (implicit_primary c)))) ∷ [])
       by_special (Some p) h = special_stands c p h
-      by_special None h = by_range (weights.range c) refl
+      by_special None h = by_range (weights.ranged_primary c) refl
 
   -- ---- sequences
 

@@ -12,7 +12,7 @@ use Rattle.icu_collator_types.specs.declared.options.ResolvedCollatorOptions.{Re
 use Rattle.icu_collator_types.specs.Options.{has_case_bits, is_at_least, is_numeric, is_shifted, is_upper_first}
 use Rattle.icu_collator_core.specs.Collation.{Collation}
 use Rattle.icu_collator_core.specs.WeightRules.{AreSoundWeights}
-use Rattle.icu_collator.specs.Levels.{Levels, SecondaryPlace, segment_end, secondary, QuaternaryPlace, quaternary, reordered, unless_zero, primary_at, secondary_at, backward_from, secondaries_of, case_at, tertiary_weight, tertiary_at, quaternary_at, levels_of}
+use Rattle.icu_collator.specs.Levels.{Levels, SecondaryPlace, segment_end, secondary, QuaternaryPlace, quaternary, unless_zero, primary_at, secondary_at, backward_from, secondaries_of, case_at, tertiary_weight, tertiary_at, quaternary_at, levels_of}
 use Rattle.icu_collator.specs.Order.{quaternary_rank}
 use Rattle.icu_collator.specs.Settings.{AreSoundSettings}
 use Rattle.icu_collator.specs.Shifted.{Counted, whole, variable, counted}
@@ -62,12 +62,12 @@ module _ (collation : Collation) (sound : AreSoundWeights collation.weights) (se
 
   primaries_sound : (s w : Place) (cs : List Counted) → Flow s w cs → AllFrom IsAt next w (filter_map (primary_at collation) cs)
   primaries_sound s w [] h = tt
-  primaries_sound s w (variable p ∷ cs) h = primaries_sound (next s (reordered collation p)) w cs h.2
+  primaries_sound s w (variable p ∷ cs) h = primaries_sound (next s (collation.reordered p)) w cs h.2
   primaries_sound s w (whole e ∷ cs) h =
       let later = primaries_sound s (whole_behind w e) cs h.3
-      in from_option IsAt next w e.primary (reordered collation e.primary) (filter_map (primary_at collation) cs)
-      (λ some. (h.2 some, subst (λ p. AllFrom IsAt next p (filter_map (primary_at collation) cs)) (ap (λ is. cond is w (next w (reordered collation e.primary))) (ne_eqb e.primary 0 some)) later))
-      (λ none. subst (λ p. AllFrom IsAt next p (filter_map (primary_at collation) cs)) (ap (λ is. cond is w (next w (reordered collation e.primary))) (eq-eqb e.primary 0 none)) later)
+      in from_option IsAt next w e.primary (collation.reordered e.primary) (filter_map (primary_at collation) cs)
+      (λ some. (h.2 some, subst (λ p. AllFrom IsAt next p (filter_map (primary_at collation) cs)) (ap (λ is. cond is w (next w (collation.reordered e.primary))) (ne_eqb e.primary 0 some)) later))
+      (λ none. subst (λ p. AllFrom IsAt next p (filter_map (primary_at collation) cs)) (ap (λ is. cond is w (next w (collation.reordered e.primary))) (eq-eqb e.primary 0 none)) later)
 
   abbrev IsSecond : Unit {0} → SecondaryPlace → Type 0
   IsSecond = IsSecondaryAt (IsSecondaryWeight collation.weights sound) (secondaries_are collation.weights sound)
@@ -84,7 +84,7 @@ module _ (collation : Collation) (sound : AreSoundWeights collation.weights) (se
 
   forward_sound : (s w : Place) (cs : List Counted) → Flow s w cs → AreSecond (filter_map secondary_at cs)
   forward_sound s w [] h = tt
-  forward_sound s w (variable p ∷ cs) h = forward_sound (next s (reordered collation p)) w cs h.2
+  forward_sound s w (variable p ∷ cs) h = forward_sound (next s (collation.reordered p)) w cs h.2
   forward_sound s w (whole e ∷ cs) h =
       let later = forward_sound s (whole_behind w e) cs h.3
       in from_option IsSecond past_second tt e.secondary (secondary e.secondary) (filter_map secondary_at cs) (λ some. (h.1.secondary some, later)) (λ none. later)
@@ -92,7 +92,7 @@ module _ (collation : Collation) (sound : AreSoundWeights collation.weights) (se
   backward_sound : (s w : Place) (before : List SecondaryPlace) (cs : List Counted) → AreSecond before → Flow s w cs → AreSecond (backward_from before cs)
   unfolding backward_from
   backward_sound s w before [] b h = b
-  backward_sound s w before (variable p ∷ cs) b h = backward_sound (next s (reordered collation p)) w before cs b h.2
+  backward_sound s w before (variable p ∷ cs) b h = backward_sound (next s (collation.reordered p)) w before cs b h.2
   backward_sound s w before (whole e ∷ cs) b h =
       let ended = backward_sound s (whole_behind w e) [] cs tt h.3
       in let skipped = backward_sound s (whole_behind w e) before cs b h.3
@@ -111,7 +111,7 @@ module _ (collation : Collation) (sound : AreSoundWeights collation.weights) (se
 
   cases_sound : (s w : Place) (cs : List Counted) → Flow s w cs → AllFrom IsCase past_case tt (filter_map (case_at options) cs)
   cases_sound s w [] h = tt
-  cases_sound s w (variable p ∷ cs) h = cases_sound (next s (reordered collation p)) w cs h.2
+  cases_sound s w (variable p ∷ cs) h = cases_sound (next s (collation.reordered p)) w cs h.2
   cases_sound s w (whole e ∷ cs) h =
       let later = cases_sound s (whole_behind w e) cs h.3
       in let own = case_of (is_upper_first options.case_first) e.case h.1.case
@@ -142,7 +142,7 @@ module _ (collation : Collation) (sound : AreSoundWeights collation.weights) (se
 
   tertiaries_sound : (s w : Place) (cs : List Counted) → Flow s w cs → AllFrom IsThird past_third tt (filter_map (tertiary_at options) cs)
   tertiaries_sound s w [] h = tt
-  tertiaries_sound s w (variable p ∷ cs) h = tertiaries_sound (next s (reordered collation p)) w cs h.2
+  tertiaries_sound s w (variable p ∷ cs) h = tertiaries_sound (next s (collation.reordered p)) w cs h.2
   tertiaries_sound s w (whole e ∷ cs) h =
       let later = tertiaries_sound s (whole_behind w e) cs h.3
       in from_option IsThird past_third tt e.tertiary (tertiary_weight options e) (filter_map (tertiary_at options) cs)
@@ -168,9 +168,9 @@ module _ (collation : Collation) (sound : AreSoundWeights collation.weights) (se
   -- a case for each primary
   case_primary : (s w : Place) (cs : List Counted) → is_at_least options.strength Secondary ≡ false → Flow s w cs → length (filter_map (case_at options) cs) ≡ length (filter_map (primary_at collation) cs)
   case_primary s w [] low h = refl
-  case_primary s w (variable p ∷ cs) low h = case_primary (next s (reordered collation p)) w cs low h.2
+  case_primary s w (variable p ∷ cs) low h = case_primary (next s (collation.reordered p)) w cs low h.2
   case_primary s w (whole e ∷ cs) low h =
-      both_long (e.secondary == 0) (is_at_least options.strength Secondary) (e.primary == 0) (cond (is_upper_first options.case_first) (2 - e.case) e.case) (reordered collation e.primary) _ _ low
+      both_long (e.secondary == 0) (is_at_least options.strength Secondary) (e.primary == 0) (cond (is_upper_first options.case_first) (2 - e.case) e.case) (collation.reordered e.primary) _ _ low
       (λ some. ne_eqb e.secondary 0 (h.1.with_secondary (eqb-false e.primary 0 some))) (case_primary s (whole_behind w e) cs low h.3)
     where
       both_long : (b a p : Bool) (c q : ℕ) (xs ys : List ℕ) → a ≡ false → (p ≡ false → b ≡ false) → length xs ≡ length ys
@@ -190,7 +190,7 @@ module _ (collation : Collation) (sound : AreSoundWeights collation.weights) (se
 
   case_forward : (s w : Place) (cs : List Counted) → is_at_least options.strength Secondary ≡ true → Flow s w cs → length (filter_map (case_at options) cs) ≡ length (filter_map secondary_at cs)
   case_forward s w [] high h = refl
-  case_forward s w (variable p ∷ cs) high h = case_forward (next s (reordered collation p)) w cs high h.2
+  case_forward s w (variable p ∷ cs) high h = case_forward (next s (collation.reordered p)) w cs high h.2
   case_forward s w (whole e ∷ cs) high h =
       second_long (e.secondary == 0) (is_at_least options.strength Secondary) (e.primary == 0) _ (secondary e.secondary) _ _ high (case_forward s (whole_behind w e) cs high h.3)
 
@@ -203,7 +203,7 @@ module _ (collation : Collation) (sound : AreSoundWeights collation.weights) (se
       → length (backward_from before cs) ≡ length before + length (filter_map (case_at options) cs)
   unfolding backward_from
   case_backward s w before [] high h = omega arith
-  case_backward s w before (variable p ∷ cs) high h = case_backward (next s (reordered collation p)) w before cs high h.2
+  case_backward s w before (variable p ∷ cs) high h = case_backward (next s (collation.reordered p)) w before cs high h.2
   case_backward s w before (whole e ∷ cs) high h =
       let rest = filter_map (case_at options) cs
       in let all : ℕ = length (filter_map (case_at options) (whole e ∷ cs))
@@ -248,7 +248,7 @@ module _ (collation : Collation) (sound : AreSoundWeights collation.weights) (se
 
   quaternaries_sound : (s w : Place) (cs : List Counted) → Flow s w cs → AllFrom IsPlaced next_placed s (filter_map (quaternary_at collation) cs)
   quaternaries_sound s w [] h = tt
-  quaternaries_sound s w (variable p ∷ cs) h = (h.1, quaternaries_sound (next s (reordered collation p)) w cs h.2)
+  quaternaries_sound s w (variable p ∷ cs) h = (h.1, quaternaries_sound (next s (collation.reordered p)) w cs h.2)
   quaternaries_sound s w (whole e ∷ cs) h =
       let later = quaternaries_sound s (whole_behind w e) cs h.3
       in from_option IsPlaced next_placed s e.tertiary (quaternary e.quaternary) (filter_map (quaternary_at collation) cs) (λ some. ((h.0, h.1.quaternary), later)) (λ none. later)

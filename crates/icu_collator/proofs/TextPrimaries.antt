@@ -1,21 +1,20 @@
 -- The primaries of texts keep the rules that the levels of a key need: of letters and of numbers, each at its place.
 use Rattle.std.proofs.Common.{◌≡◌, ◌≢◌, ℕ, ◌<◌, ◌≤◌, ◌+◌, ◌*◌, ◌/◌, ◌%◌, ◌^◌, Bool, true, false, cond, List, [], ◌∷◌, length, Some, refl, sym, ◌∙◌, ap, arith, inl, inr, ◌⊎◌, ⊎_elim}
-use Rattle.std.proofs.lemmas.Bool.{cases_Bool, ltb-true}
+use Rattle.std.proofs.lemmas.Bool.{cases_Bool, cases_eq, and_parts, eqb-true, eqb-false, eq-eqb, ne_eqb, ltb-true}
 use Rattle.std.proofs.lemmas.Bool.Decides.{nat_tests}
 use mathlib.Core.Bool.{true≢false}
 use Rattle.std.specs.Prelude.{◌==◌, ◌&&◌, ◌||◌, not, leb}
 use Rattle.icu_normalizer_core.specs.BuiltIn.{is_within}
 use Rattle.icu_collator_types.specs.declared.elements.Element.{Element}
 use Rattle.icu_collator_types.specs.declared.options.ResolvedCollatorOptions.{ResolvedCollatorOptions}
-use Rattle.icu_collator_core.specs.Weights.{Range, Weights}
-use Rattle.icu_collator_core.specs.Collation.{Collation}
-use Rattle.icu_collator_core.specs.WeightRules.{AreSoundWeights, IsRecorded, primary_bytes, primary_rest, is_proper_beginning, is_letter_lead, is_sound_primary}
-use Rattle.icu_collator.specs.Levels.{reordered}
+use Rattle.icu_collator_core.specs.Weights.{Weights}
+use Rattle.icu_collator_core.specs.Collation.{Collation, reordered_lead}
+use Rattle.icu_collator_core.specs.WeightRules.{AreSoundWeights, IsRecorded, primary_bytes, primary_rest, is_proper_beginning, is_letter_lead, is_sound_primary, has_three_bytes}
 use Rattle.icu_collator.specs.Settings.{AreSoundSettings, has_plain_leads}
 use Rattle.icu_collator_types.specs.Options.{is_numeric}
 use Rattle.icu_collator.proofs.CommonAlone.{and_true}
 use Rattle.icu_collator.proofs.PrimaryKeys.{ArePrimaries, none_compressible}
-use Rattle.icu_collator.proofs.WeightBytes.{apart_begins, begins_tests}
+use Rattle.icu_collator.proofs.WeightBytes.{apart_begins, begins_tests, rest_two}
 
 and_false : (b : Bool) → (b && false) ≡ false
 and_false true = refl
@@ -40,6 +39,35 @@ other_first_apart : (x y : ℕ) (xs ys : List ℕ) → x ≢ y → is_proper_beg
 unfolding is_proper_beginning
 other_first_apart x y xs ys h = let other : (x == y) ≡ false = grind (arith, nat_tests) in rw other refl
 
+pub within_bounds : (a b n : ℕ) → is_within a b n ≡ true → (a ≤ n) × (n ≤ b)
+within_bounds a b n h = (grind (arith, nat_tests), grind (arith, nat_tests))
+
+pub not_true : (b : Bool) → not b ≡ true → b ≡ false
+not_true true h = sym h
+not_true false h = refl
+
+pub or_second : (a b : Bool) → a ≡ false → (a || b) ≡ true → b ≡ true
+or_second true b h k = absurd (true≢false h)
+or_second false b h k = k
+
+-- what the rules say of a primary
+pub record IsSoundPrimary (weights : Weights) (p : ℕ) : Type 0 where
+  pub letter : is_letter_lead (p / 2 ^ 24) ≡ true
+  pub differs : p / 2 ^ 24 ≢ weights.numeric_lead
+  pub room : weights.is_compressible (p / 2 ^ 24) ≡ true → (4 ≤ p / 2 ^ 16 % 256) × (p / 2 ^ 16 % 256 ≤ 0xfe)
+
+pub sound_primary : (weights : Weights) (p : ℕ) → is_sound_primary weights p ≡ true → IsSoundPrimary weights p
+sound_primary weights p h =
+    let all = and_true _ _ h
+    in let first = and_true _ _ all.0
+    in let second = and_true _ _ first.0
+    in let third = and_true _ _ second.0
+    in record {
+      letter = third.0;
+      differs = eqb-false (p / 2 ^ 24) weights.numeric_lead (not_true _ third.1);
+      room = λ is. within_bounds _ _ _ (or_second (not (weights.is_compressible (p / 2 ^ 24))) _ (ap not is) all.1);
+    }
+
 -- the places of numbers: at the beginning of one, where letters stand too, or in one
 pub data Place : Type 0 where
   outside : Place
@@ -49,10 +77,22 @@ pub data Place : Type 0 where
 abbrev pub fixed_length : ℕ → ℕ
 fixed_length lead = cond (lead == 0x02) 1 (cond (lead == 0xff) 2 (cond (lead == 0xfe) 4 3))
 
+-- under the leads of letters three
+pub letters_three : (lead : ℕ) → is_letter_lead lead ≡ true → fixed_length lead ≡ 3
+letters_three lead h =
+    let bounds = within_bounds 3 0xfc lead h
+    in rw (ne_eqb lead 0x02 (λ e. omega (arith, bounds.0, e)), ne_eqb lead 0xff (λ e. omega (arith, bounds.1, e)), ne_eqb lead 0xfe (λ e. omega (arith, bounds.1, e))) refl
+
+pub three_bytes_long : (p : ℕ) → has_three_bytes p ≡ true → length (primary_bytes p) ≡ 3
+three_bytes_long p h =
+    let both = and_parts (p % 256 == 0) _ h
+    in let third = eqb-false (p / 2 ^ 8 % 256) 0 (not_true _ both.1)
+    in rw (eqb-true (p % 256) 0 both.0, rest_two (p / 2 ^ 16 % 256) (p / 2 ^ 8 % 256) (omega (arith, third))) refl
+
 module _ (weights : Weights) where
   -- a lead of the special, jamo and implicit primaries, or of a range
   abbrev pub IsFixedLead : ℕ → Type 0
-  IsFixedLead lead = (is_letter_lead lead ≡ false) ⊎ ((c : ℕ) × (range : Range) × (weights.range c ≡ Some range) × (range.primary / 2 ^ 24 ≡ lead))
+  IsFixedLead lead = (is_letter_lead lead ≡ false) ⊎ ((c : ℕ) × (p : ℕ) × (weights.ranged_primary c ≡ Some p) × (p / 2 ^ 24 ≡ lead))
 
   -- the primaries of letters: of records, or with the length of their lead
   pub data IsLetter : ℕ → Type 0 where
@@ -114,17 +154,6 @@ numbers_apart (third i0 i1 i2 i3 i4) (first j0 j1) = other_first_apart _ _ _ _ (
 numbers_apart (third i0 i1 i2 i3 i4) (second j0 j1 j2 j3) = second_apart _ _ _ _ _ _ (λ e. omega (arith, e, i0, i1, i2, i3, i4, j0, j1, j2, j3))
 numbers_apart (third i0 i1 i2 i3 i4) (third j0 j1 j2 j3 j4) = same_length_apart _ _ refl
 
-pub within_bounds : (a b n : ℕ) → is_within a b n ≡ true → (a ≤ n) × (n ≤ b)
-within_bounds a b n h = (grind (arith, nat_tests), grind (arith, nat_tests))
-
-pub or_second : (a b : Bool) → a ≡ false → (a || b) ≡ true → b ≡ true
-or_second true b h k = absurd (true≢false h)
-or_second false b h k = k
-
-pub not_true : (b : Bool) → not b ≡ true → b ≡ false
-not_true true h = sym h
-not_true false h = refl
-
 not_zero : (n : ℕ) → n ≢ 0 → (n == 0) ≡ false
 not_zero n h = grind (arith, nat_tests)
 
@@ -139,18 +168,10 @@ module _ (weights : Weights) (sound : AreSoundWeights weights) (numeric_on : Boo
 
   pub recorded_lead : (e : Element) → IsRecorded weights e → e.primary ≢ 0 → (is_letter_lead (e.primary / 2 ^ 24) ≡ true) × (e.primary / 2 ^ 24 ≢ weights.numeric_lead)
   recorded_lead e is some =
-      let all = and_true _ _ (recorded_primary e is some) in
-      let first = and_true _ _ (all.0) in
-      let second = and_true _ _ (first.0) in
-      let third = and_true _ _ (second.0) in
-      let other : (e.primary / 2 ^ 24 == weights.numeric_lead) ≡ false = not_true _ (third.1) in
-      (third.0, λ k. let never : (e.primary / 2 ^ 24 == weights.numeric_lead) ≡ true = rw k (grind (arith, nat_tests)) in true≢false (sym never ∙ other))
+      let parts = sound_primary weights e.primary (recorded_primary e is some) in (parts.letter, parts.differs)
 
   recorded_second : (e : Element) → IsRecorded weights e → e.primary ≢ 0 → weights.is_compressible (e.primary / 2 ^ 24) ≡ true → (4 ≤ e.primary / 2 ^ 16 % 256) × (e.primary / 2 ^ 16 % 256 ≤ 0xfe)
-  recorded_second e is some h =
-      let all = and_true _ _ (recorded_primary e is some) in
-      let room : is_within 0x04 0xfe (e.primary / 2 ^ 16 % 256) ≡ true = or_second (not (weights.is_compressible (e.primary / 2 ^ 24))) _ (ap not h) (all.1) in
-      within_bounds _ _ _ room
+  recorded_second e is some = (sound_primary weights e.primary (recorded_primary e is some)).room
 
   abbrev pub IsNumber : Place → ℕ → Type 0
   IsNumber place p = (p / 2 ^ 24 ≡ weights.numeric_lead) × NumberBytes place (primary_rest p) × (p < 2 ^ 32) × (numeric_on ≡ true)
@@ -160,20 +181,32 @@ module _ (weights : Weights) (sound : AreSoundWeights weights) (numeric_on : Boo
   IsOriginal outside p = IsLetter weights p ⊎ IsNumber outside p
   IsOriginal inside p = IsNumber inside p
 
-  fixed_lead_differs : (e : Element) → IsRecorded weights e → e.primary ≢ 0 → (lead : ℕ) → IsFixedLead weights lead → e.primary / 2 ^ 24 ≢ lead
-  fixed_lead_differs e is some lead (inl none) h = true≢false (sym (recorded_lead e is some).0 ∙ ap is_letter_lead h ∙ none)
-  fixed_lead_differs e is some lead (inr (c, range, holds, at)) h =
-      let other : not (e.primary / 2 ^ 24 == range.primary / 2 ^ 24) ≡ true = or_second (e.primary == 0) _ (not_zero (e.primary) some) (sound.leads c range e holds is) in
-      let same : (e.primary / 2 ^ 24 == range.primary / 2 ^ 24) ≡ true = rw (h, at) (grind (arith, nat_tests)) in
-      true≢false (sym same ∙ not_true _ other)
+  -- an element's primary under such a lead is as long as the others there
+  recorded_as_long : (e : Element) → IsRecorded weights e → e.primary ≢ 0 → (lead : ℕ) → IsFixedLead weights lead → e.primary / 2 ^ 24 ≡ lead
+      → length (primary_bytes e.primary) ≡ fixed_length lead
+  recorded_as_long e is some lead (inl none) h = absurd (true≢false (sym (recorded_lead e is some).0 ∙ ap is_letter_lead h ∙ none))
+  recorded_as_long e is some lead (inr (c, p, ranged, at)) h =
+      let long : has_three_bytes e.primary ≡ true = or_second (not (e.primary / 2 ^ 24 == p / 2 ^ 24)) _ (ap not (eq-eqb _ _ (h ∙ sym at))) (sound.beside c p e ranged is) in
+      let letter : is_letter_lead lead ≡ true = sym (ap is_letter_lead h) ∙ (recorded_lead e is some).0 in
+      three_bytes_long e.primary long ∙ sym (letters_three lead letter)
+
+  recorded_fixed_apart : (e : Element) (q : ℕ) → IsRecorded weights e → e.primary ≢ 0 → IsFixedLead weights (q / 2 ^ 24) → length (primary_bytes q) ≡ fixed_length (q / 2 ^ 24)
+      → (is_proper_beginning (primary_bytes e.primary) (primary_bytes q) ≡ false) × (is_proper_beginning (primary_bytes q) (primary_bytes e.primary) ≡ false)
+  recorded_fixed_apart e q is some lead wide =
+      elim (cases_eq (e.primary / 2 ^ 24) (q / 2 ^ 24)) [
+        | inl h ↦
+            let same = recorded_as_long e is some (q / 2 ^ 24) lead h ∙ sym wide
+            in (same_length_apart _ _ same, same_length_apart _ _ (sym same))
+        | inr ne ↦ (other_first_apart _ _ _ _ ne, other_first_apart _ _ _ _ (λ h. ne (sym h)))
+      ]
 
   letters_apart : (p q : ℕ) → IsLetter weights p → IsLetter weights q → is_proper_beginning (primary_bytes p) (primary_bytes q) ≡ false
   letters_apart p q (recorded d is some) (recorded e also any) =
       let all = and_true _ _ (sound.apart d e is also) in
       let first = and_true _ _ (all.0) in
       (apart_begins primary_bytes (d.primary) (e.primary) (omega (arith, some)) (omega (arith, any)) (first.0)).0
-  letters_apart p q (recorded d is some) (fixed q' lead wide low small numeric room) = other_first_apart _ _ _ _ (fixed_lead_differs d is some (q' / 2 ^ 24) lead)
-  letters_apart p q (fixed p' lead wide low small numeric room) (recorded e is some) = other_first_apart _ _ _ _ (λ h. fixed_lead_differs e is some (p' / 2 ^ 24) lead (sym h))
+  letters_apart p q (recorded d is some) (fixed q' lead wide low small numeric room) = (recorded_fixed_apart d q' is some lead wide).0
+  letters_apart p q (fixed p' lead wide low small numeric room) (recorded e is some) = (recorded_fixed_apart e p' is some lead wide).1
   letters_apart p q (fixed p' lead wide low small numeric room) (fixed q' lead' wide' low' small' numeric' room') =
       ⊎_elim
       (λ h. let e : p' / 2 ^ 24 ≡ q' / 2 ^ 24 = tested_equal _ _ h in same_length_apart _ _ (wide ∙ ap fixed_length e ∙ sym wide'))
@@ -215,7 +248,7 @@ module _ (collation : Collation) (sound : AreSoundWeights collation.weights) (se
 
   -- a primary of a text at its place, with its lead reordered
   abbrev pub IsPrimaryAt : Place → ℕ → Type 0
-  IsPrimaryAt place p = (q : ℕ) × IsOriginal collation.weights sound numeric_on place q × (p ≡ reordered collation q)
+  IsPrimaryAt place p = (q : ℕ) × IsOriginal collation.weights sound numeric_on place q × (p ≡ collation.reordered q)
 
   letter_lead : (lead : ℕ) → is_letter_lead lead ≡ true → (3 ≤ lead) × (lead ≤ 0xfc)
   letter_lead lead h = within_bounds 3 0xfc lead h
@@ -244,16 +277,19 @@ module _ (collation : Collation) (sound : AreSoundWeights collation.weights) (se
   original_lead outside q (inr number) = number_lead q (number.0)
   original_lead inside q number = number_lead q (number.0)
 
-  reordered_small : (lead : ℕ) → 2 ≤ lead → lead < 256 → (2 ≤ collation.reordered_lead lead) × (collation.reordered_lead lead < 256)
+  reordered_small : (lead : ℕ) → 2 ≤ lead → lead < 256 → (2 ≤ reordered_lead collation lead) × (reordered_lead collation lead < 256)
   reordered_small lead low high =
       ⊎_elim
-      (λ h. let bounds = letter_lead (collation.reordered_lead lead) (settings.inside lead h) in (omega (arith, bounds.0), omega (arith, bounds.1)))
-      (λ h. let e : collation.reordered_lead lead ≡ lead = settings.outside lead h in (omega (arith, e, low), omega (arith, e, high)))
+      (λ h. let bounds = letter_lead (reordered_lead collation lead) (settings.inside lead h) in (omega (arith, bounds.0), omega (arith, bounds.1)))
+      (λ h. let e : reordered_lead collation lead ≡ lead = settings.outside lead h in (omega (arith, e, low), omega (arith, e, high)))
       (cases_Bool (is_letter_lead lead))
 
+  new_lead : (a b : ℕ) → (a * 2 ^ 24 + b % 2 ^ 24) / 2 ^ 24 ≡ a
+  new_lead a b = omega arith
+
   -- the bytes of a reordered primary: another lead, and the same behind it
-  pub reordered_lead_is : (p : ℕ) → reordered collation p / 2 ^ 24 ≡ collation.reordered_lead (p / 2 ^ 24)
-  reordered_lead_is p = omega arith
+  pub reordered_lead_is : (p : ℕ) → collation.reordered p / 2 ^ 24 ≡ reordered_lead collation (p / 2 ^ 24)
+  reordered_lead_is p = ap (λ (x : ℕ). x / 2 ^ 24) (settings.rest p) ∙ new_lead (reordered_lead collation (p / 2 ^ 24)) p
 
   same_low : (a b : ℕ) → (a * 2 ^ 24 + b % 2 ^ 24) / 2 ^ 16 % 256 ≡ b / 2 ^ 16 % 256
   same_low a b = omega arith
@@ -264,18 +300,24 @@ module _ (collation : Collation) (sound : AreSoundWeights collation.weights) (se
   same_last : (a b : ℕ) → (a * 2 ^ 24 + b % 2 ^ 24) % 256 ≡ b % 256
   same_last a b = omega arith
 
-  pub reordered_rest : (p : ℕ) → primary_rest (reordered collation p) ≡ primary_rest p
-  reordered_rest p = rw (same_low (collation.reordered_lead (p / 2 ^ 24)) p, same_middle (collation.reordered_lead (p / 2 ^ 24)) p, same_last (collation.reordered_lead (p / 2 ^ 24)) p) refl
+  rest_stays : (a b : ℕ) → primary_rest (a * 2 ^ 24 + b % 2 ^ 24) ≡ primary_rest b
+  rest_stays a b = rw (same_low a b, same_middle a b, same_last a b) refl
 
-  reordered_apart : (p q : ℕ) → is_proper_beginning (primary_bytes p) (primary_bytes q) ≡ false → is_proper_beginning (primary_bytes (reordered collation p)) (primary_bytes (reordered collation q)) ≡ false
+  pub reordered_rest : (p : ℕ) → primary_rest (collation.reordered p) ≡ primary_rest p
+  reordered_rest p = ap primary_rest (settings.rest p) ∙ rest_stays (reordered_lead collation (p / 2 ^ 24)) p
+
+  pub reordered_second : (p : ℕ) → collation.reordered p / 2 ^ 16 % 256 ≡ p / 2 ^ 16 % 256
+  reordered_second p = ap (λ (x : ℕ). x / 2 ^ 16 % 256) (settings.rest p) ∙ same_low (reordered_lead collation (p / 2 ^ 24)) p
+
+  reordered_apart : (p q : ℕ) → is_proper_beginning (primary_bytes p) (primary_bytes q) ≡ false → is_proper_beginning (primary_bytes (collation.reordered p)) (primary_bytes (collation.reordered q)) ≡ false
   unfolding is_proper_beginning
   reordered_apart p q apart =
       ⊎_elim
       (λ h.
       let rests : is_proper_beginning (primary_rest p) (primary_rest q) ≡ false = begins_tests (p / 2 ^ 24) (q / 2 ^ 24) _ (tested_equal _ _ h) apart in
-      let moved : is_proper_beginning (primary_rest (reordered collation p)) (primary_rest (reordered collation q)) ≡ false = rw (reordered_rest p, reordered_rest q) rests in
-      rw moved (and_false (reordered collation p / 2 ^ 24 == reordered collation q / 2 ^ 24)))
-      (λ h. other_first_apart (reordered collation p / 2 ^ 24) (reordered collation q / 2 ^ 24) (primary_rest (reordered collation p)) (primary_rest (reordered collation q))
+      let moved : is_proper_beginning (primary_rest (collation.reordered p)) (primary_rest (collation.reordered q)) ≡ false = rw (reordered_rest p, reordered_rest q) rests in
+      rw moved (and_false (collation.reordered p / 2 ^ 24 == collation.reordered q / 2 ^ 24)))
+      (λ h. other_first_apart (collation.reordered p / 2 ^ 24) (collation.reordered q / 2 ^ 24) (primary_rest (collation.reordered p)) (primary_rest (collation.reordered q))
       (λ e. true≢false (sym (equal_tested (p / 2 ^ 24) (q / 2 ^ 24) (settings.one_to_one _ _ (sym (reordered_lead_is p) ∙ e ∙ reordered_lead_is q))) ∙ h)))
       (cases_Bool (p / 2 ^ 24 == q / 2 ^ 24))
 
@@ -293,7 +335,7 @@ module _ (collation : Collation) (sound : AreSoundWeights collation.weights) (se
   original_second plain outside q (inr number) h = absurd (number_second plain q (number.0) (number.3) h)
   original_second plain inside q number h = absurd (number_second plain q (number.0) (number.3) h)
 
-  lead_bounds : (place : Place) (q : ℕ) → IsOriginal collation.weights sound numeric_on place q → (2 ≤ collation.reordered_lead (q / 2 ^ 24)) × (collation.reordered_lead (q / 2 ^ 24) < 256)
+  lead_bounds : (place : Place) (q : ℕ) → IsOriginal collation.weights sound numeric_on place q → (2 ≤ reordered_lead collation (q / 2 ^ 24)) × (reordered_lead collation (q / 2 ^ 24) < 256)
   lead_bounds place q is = let small = original_small place q is in reordered_small (q / 2 ^ 24) (original_lead place q is) (omega (arith, small))
 
   -- whatever the lead of numbers is, no primary begins another
@@ -301,7 +343,7 @@ module _ (collation : Collation) (sound : AreSoundWeights collation.weights) (se
   primaries_apart =
       record {
         lead = λ s p is. let bounds = lead_bounds s (is.0) (is.1) in omega (arith, is.2, bounds.0, reordered_lead_is (is.0));
-        small = λ s p is. let bounds = lead_bounds s (is.0) (is.1) in omega (arith, is.2, bounds.1);
+        small = λ s p is. let bounds = lead_bounds s (is.0) (is.1) in omega (arith, is.2, bounds.1, reordered_lead_is (is.0));
         apart = λ s p q is other. rw (is.2, other.2) (reordered_apart (is.0) (other.0) (originals_apart collation.weights sound numeric_on s (is.0) (other.0) (is.1) (other.1)));
         second = λ s p is h. absurd (true≢false (sym h));
       }
@@ -314,8 +356,8 @@ module _ (collation : Collation) (sound : AreSoundWeights collation.weights) (se
         apart = primaries_apart.apart;
         second = λ s p is h.
             let q : ℕ = is.0 in
-            let lead : p / 2 ^ 24 ≡ collation.reordered_lead (q / 2 ^ 24) = ap (λ (x : ℕ). x / 2 ^ 24) (is.2) ∙ reordered_lead_is q in
-            let same : p / 2 ^ 16 % 256 ≡ q / 2 ^ 16 % 256 = ap (λ (x : ℕ). x / 2 ^ 16 % 256) (is.2) ∙ same_low (collation.reordered_lead (q / 2 ^ 24)) q in
+            let lead : p / 2 ^ 24 ≡ reordered_lead collation (q / 2 ^ 24) = ap (λ (x : ℕ). x / 2 ^ 24) (is.2) ∙ reordered_lead_is q in
+            let same : p / 2 ^ 16 % 256 ≡ q / 2 ^ 16 % 256 = ap (λ (x : ℕ). x / 2 ^ 16 % 256) (is.2) ∙ reordered_second q in
             let room = original_second plain s q (is.1) (sym (settings.alike (q / 2 ^ 24)) ∙ sym (ap collation.weights.is_compressible lead) ∙ h) in
             (omega (arith, same, room.0), omega (arith, same, room.1));
       }

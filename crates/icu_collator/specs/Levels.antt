@@ -1,6 +1,6 @@
 -- The levels of a text: lists of weights that are compared in turn (UTS 10; reordering, case level, case first and
 -- U+FFFE follow ICU4X).
-use Rattle.std.specs.Prelude.{ℕ, ◌+◌, ◌-◌, ◌*◌, ◌/◌, ◌%◌, ◌^◌, Bool, false, cond, not, ◌==◌, ◌&&◌, ◌||◌, List, [], ◌∷◌, ◌++◌, filter_map, Option, Some, None}
+use Rattle.std.specs.Prelude.{ℕ, ◌+◌, ◌-◌, ◌*◌, ◌^◌, Bool, false, cond, not, ◌==◌, ◌&&◌, ◌||◌, List, [], ◌∷◌, ◌++◌, filter_map, Option, Some, None}
 use Rattle.icu_normalizer_core.specs.Canonical.{decomposed}
 use Rattle.icu_collator_types.specs.declared.elements.Element.{Element}
 use Rattle.icu_collator_types.specs.declared.options.Strength.TheVariants.{Secondary}
@@ -28,16 +28,12 @@ pub record Levels : Type 0 where
   pub quaternaries : List QuaternaryPlace
   pub characters : List ℕ
 
--- a primary with its lead byte reordered
-abbrev pub reordered : Collation → ℕ → ℕ
-reordered collation p = collation.reordered_lead (p / 2 ^ 24) * 2 ^ 24 + p % 2 ^ 24
-
 -- a weight that counts unless it is 0
 abbrev pub unless_zero : {A : Type 0} → ℕ → A → Option A
 unless_zero w x = cond (w == 0) None (Some x)
 
 abbrev pub primary_at : Collation → Counted → Option ℕ
-primary_at collation (whole e) = unless_zero e.primary (reordered collation e.primary)
+primary_at collation (whole e) = unless_zero e.primary (collation.reordered e.primary)
 primary_at collation (variable p) = None
 
 abbrev pub secondary_at : Counted → Option SecondaryPlace
@@ -86,7 +82,7 @@ tertiary_at options (variable p) = None
 
 abbrev pub quaternary_at : Collation → Counted → Option QuaternaryPlace
 quaternary_at collation (whole e) = unless_zero e.tertiary (quaternary e.quaternary)
-quaternary_at collation (variable p) = Some (shifted (reordered collation p))
+quaternary_at collation (variable p) = Some (shifted (collation.reordered p))
 
 -- the levels of elements, and of the decomposed list that they were read from
 unfoldable pub levels_of : Collation → ResolvedCollatorOptions → List Element → List ℕ → Levels

@@ -7,3 +7,4 @@ pub mod KeyBytes
 pub mod Settings
 pub mod NumbersInTexts
 pub mod LevelOrders
+pub mod Sameness

@@ -1,11 +1,11 @@
 -- Runs of digits in a text: when they are read as numbers that count, and what their values are.
-use Rattle.std.specs.Prelude.{◌≡◌, ℕ, ◌*◌, ◌<◌, ◌≤◌, Bool, true, false, not, ◌||◌, leb, get_or, List, [], ◌∷◌, length, filter_map, Some, None}
+use Rattle.std.specs.Prelude.{◌≡◌, ℕ, ◌*◌, ◌/◌, ◌^◌, ◌<◌, ◌≤◌, Bool, true, false, not, ◌||◌, leb, get_or, List, [], ◌∷◌, length, filter_map, Some, None}
 use Rattle.std.specs.List.{list_all, list_any}
 use Rattle.std.specs.Option.{is_some}
 use Rattle.icu_normalizer_core.specs.Canonical.{decomposed}
 use Rattle.icu_collator_types.specs.declared.options.ResolvedCollatorOptions.{ResolvedCollatorOptions}
 use Rattle.icu_collator_types.specs.Options.{is_shifted, group_index}
-use Rattle.icu_collator_core.specs.Collation.{Collation}
+use Rattle.icu_collator_core.specs.Collation.{Collation, with_lead, reordered_lead}
 use Rattle.icu_collator_core.specs.Defaults.{special_primary}
 use Rattle.icu_collator_core.specs.Numbers.{significant, value_of}
 use Rattle.icu_collator_core.specs.WeightRules.{is_letter_lead}
@@ -52,6 +52,11 @@ abbrev pub do_numbers_count : Collation → ResolvedCollatorOptions → Bool
 do_numbers_count collation options =
     not (is_shifted options.alternate_handling)
     || leb (get_or collation.groups (group_index options.max_variable) 0) (collation.weights.numeric_lead * 256)
+
+-- Reordering gives the primaries of numbers one lead, and keeps their rest.
+abbrev pub AreNumbersTogether : Collation → Type 0
+AreNumbersTogether collation =
+    (p : ℕ) → p / 2 ^ 24 ≡ collation.weights.numeric_lead → collation.reordered p ≡ with_lead (reordered_lead collation) p
 
 -- What collation data must keep for a digit to be read as part of a number wherever it stands, and to change nothing
 -- that is read before or behind the number.

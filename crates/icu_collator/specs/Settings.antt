@@ -5,7 +5,7 @@ use Rattle.icu_normalizer_core.specs.BuiltIn.{is_within}
 use Rattle.icu_collator_types.specs.declared.options.ResolvedCollatorOptions.{ResolvedCollatorOptions}
 use Rattle.icu_collator_types.specs.Options.{is_numeric}
 use Rattle.icu_collator_core.specs.WeightRules.{is_letter_lead}
-use Rattle.icu_collator_core.specs.Collation.{Collation}
+use Rattle.icu_collator_core.specs.Collation.{Collation, with_lead, reordered_lead}
 
 -- whether a group may end here: not amid the special characters, nor amid numbers, which are all variable or none
 abbrev pub is_sound_group : ℕ → ℕ → Bool
@@ -30,12 +30,14 @@ pub record AreSoundSettings (collation : Collation) : Type 0 where
   pub implicit : collation.weights.is_compressible 0xfe ≡ true
   pub compressible :
       (lead : ℕ) → collation.weights.is_compressible lead ≡ true → (is_letter_lead lead || (lead == 0xfe)) ≡ true
-  -- reordering exchanges leads of letters, each for one as compressible as itself
-  pub outside : (lead : ℕ) → is_letter_lead lead ≡ false → collation.reordered_lead lead ≡ lead
-  pub inside : (lead : ℕ) → is_letter_lead lead ≡ true → is_letter_lead (collation.reordered_lead lead) ≡ true
-  pub one_to_one : (a b : ℕ) → collation.reordered_lead a ≡ collation.reordered_lead b → a ≡ b
+  -- reordering gives a primary another lead, and keeps its rest
+  pub rest : (p : ℕ) → collation.reordered p ≡ with_lead (reordered_lead collation) p
+  -- it exchanges leads of letters, each for one as compressible as itself
+  pub outside : (lead : ℕ) → is_letter_lead lead ≡ false → reordered_lead collation lead ≡ lead
+  pub inside : (lead : ℕ) → is_letter_lead lead ≡ true → is_letter_lead (reordered_lead collation lead) ≡ true
+  pub one_to_one : (a b : ℕ) → reordered_lead collation a ≡ reordered_lead collation b → a ≡ b
   pub alike :
-      (lead : ℕ) → collation.weights.is_compressible (collation.reordered_lead lead) ≡ collation.weights.is_compressible lead
+      (lead : ℕ) → collation.weights.is_compressible (reordered_lead collation lead) ≡ collation.weights.is_compressible lead
 
 -- Plain leads: numeric ordering is off, or the lead of numbers isn't compressible. The second bytes of numbers begin at
 -- 02, so under a compressible lead they would meet the bytes that end a run.

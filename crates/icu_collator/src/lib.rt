@@ -4,3 +4,4 @@
 pub mod laws;
 pub mod laws_keys;
 pub mod laws_levels;
+pub mod laws_same;

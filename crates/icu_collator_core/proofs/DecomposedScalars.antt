@@ -20,7 +20,7 @@ leaves_scalars step cs xs s h (mapped c d ds es ys e l) =
     let first : AreScalar (d ∷ ds) = subst AreScalar e (recursion_from_All IsScalar (step c) (s c h.0))
     in leaves_scalars step ((d ∷ ds) ++ es) ys s (all_behind IsScalar (d ∷ ds) es first h.1) l
 
-full_scalars : (canonical : Canonical) (cs : List ℕ) → IsDecomposing canonical → AreScalar cs → AreScalar (flat_map canonical.full cs)
+pub full_scalars : (canonical : Canonical) (cs : List ℕ) → IsDecomposing canonical → AreScalar cs → AreScalar (flat_map canonical.full cs)
 full_scalars canonical [] d h = tt
 full_scalars canonical (c ∷ cs) d h =
     all_behind IsScalar (canonical.full c) (flat_map canonical.full cs)
@@ -32,7 +32,7 @@ put_scalars class c [] s h = (s, tt)
 put_scalars class c (d ∷ ds) s h =
     cond_both (ltb 0 (class d) && ltb (class d) (class c)) (d ∷ put_in_order class c ds) (c ∷ d ∷ ds) AreScalar (λ _. (h.0, put_scalars class c ds s h.1)) (λ _. (s, h))
 
-order_scalars : (class : ℕ → ℕ) (cs : List ℕ) → AreScalar cs → AreScalar (marks_in_order class cs)
+pub order_scalars : (class : ℕ → ℕ) (cs : List ℕ) → AreScalar cs → AreScalar (marks_in_order class cs)
 unfolding marks_in_order
 order_scalars class [] h = tt
 order_scalars class (c ∷ cs) h = put_scalars class c (marks_in_order class cs) h.0 (order_scalars class cs h.1)

@@ -3,5 +3,10 @@ pub mod NumbersPairs
 pub mod NumbersBytes
 pub mod NumbersOrder
 pub mod NumbersExamples
+pub mod Reordering
+pub mod RangePrimaries
 pub mod DecomposedScalars
+pub mod ReadingsLeft
+pub mod SameDecomposed
+pub mod SameReadings
 pub mod SoundReadings

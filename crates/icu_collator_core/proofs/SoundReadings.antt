@@ -1,29 +1,25 @@
 -- The elements of a text of scalar values are single elements and whole numbers.
-use Rattle.std.proofs.Common.{◌≡◌, ℕ, zero, suc, ◌<◌, ◌≤◌, Bool, true, leb, ltb, ◌==◌, ◌&&◌, List, [], ◌∷◌, ◌++◌, length, take, drop, refl, sym, ◌∙◌, subst, arith, Option, Some, None}
+use Rattle.std.proofs.Common.{◌≡◌, ℕ, zero, suc, ◌<◌, ◌≤◌, Bool, true, leb, ltb, ◌==◌, ◌&&◌, List, [], ◌∷◌, ◌++◌, length, take, refl, sym, ◌∙◌, subst, arith, Option, Some, None}
 use Rattle.std.proofs.lemmas.Bool.{cond_both, leb-true, and_parts}
 use Rattle.std.proofs.lemmas.List.Elements.{All-from_recursion, recursion_from_All, All-contains_itself}
 use Rattle.std.specs.Prelude.{filter_map}
 use Rattle.std.specs.Char.{IsScalar}
-use Rattle.std.specs.List.{All, AllByRecursion, Contains, list_all, cons_option}
+use Rattle.std.specs.List.{All, AllByRecursion, Contains, cons_option}
 use Rattle.std.specs.Option.{is_some, unwrap_or}
 use Rattle.icu_normalizer_core.specs.Canonical.{Canonical, IsDecomposing, decomposed}
 use Rattle.icu_collator_types.specs.declared.elements.Element.{Element}
 use Rattle.icu_collator_core.specs.Weights.{Weights}
 use Rattle.icu_collator_core.specs.Defaults.{special_primary, primary_element, default_primary, default_elements}
-use Rattle.icu_collator_core.specs.Elements.{Placed, placed_behind, longest_prefix, at_greatest, behind_prefix, prefix_match, Reading, Joining, joining, text_match, text_reading, match_length, characters_of, digit_count, number_reading, is_before_accent, reading, elements_within, elements_of_list}
+use Rattle.icu_collator_core.specs.Elements.{Placed, placed_behind, longest_prefix, at_greatest, behind_prefix, prefix_match, Reading, text_match, text_reading, digit_count, number_reading, is_before_accent, reading, elements_within, elements_of_list}
 use Rattle.icu_collator_core.specs.WeightRules.{IsRecorded, AreSoundWeights}
 use Rattle.icu_collator_core.specs.SoundElements.{of_record, by_default, AreDigits, IsSoundSequence, nothing, single, number}
-use Rattle.icu_collator_core.proofs.DecomposedScalars.{AreScalar, all_behind, decomposed_scalars}
+use Rattle.icu_collator_core.proofs.DecomposedScalars.{AreScalar, decomposed_scalars}
+use Rattle.icu_collator_core.proofs.ReadingsLeft.{text_left, number_left}
 
 by_option : {A R : Type 0} (o : Option A) (f : A → R) (n : R) (P : R → Type 0) → ((x : A) → o ≡ Some x → P (f x)) → (o ≡ None → P n)
     → P (elim o as (λ _. R) [ Some x ↦ f x | None ↦ n ])
 by_option (Some x) f n P h g = h x refl
 by_option None f n P h g = g refl
-
-all_left : {X : Type 0} (P : X → Type 0) (n : ℕ) (xs : List X) → AllByRecursion P xs → AllByRecursion P (drop n xs)
-all_left P zero xs h = h
-all_left P (suc n) [] h = tt
-all_left P (suc n) (x ∷ xs) h = all_left P n xs h.1
 
 -- what is found somewhere
 found_at : {A : Type 0} (found : ℕ → Option A) (n : ℕ) (x : A) → at_greatest found n ≡ Some x → (k : ℕ) × (found k ≡ Some x)
@@ -74,19 +70,6 @@ module _ (canonical : Canonical) (weights : Weights) (numeric : Bool) where
       in cond_both (ltb 0 there.0 && leb there.0 (length p.before)) _ None (λ o. o ≡ Some front → Continue front)
       (λ _ f. recorded_continue _ _ front f) (λ _ f. cc) there.1
 
-  joining_left : (text : List ℕ) (between ms : List Placed) → ArePlaced between → ArePlaced ms → ArePlaced (joining canonical weights text between ms).left
-  unfolding joining
-  joining_left text between [] h g = h
-  joining_left text between (m ∷ ms) h g =
-      let longer = text ++ m.character ∷ []
-      in let done : Joining = record { text = text; left = between ++ m ∷ ms }
-      in let joined = joining canonical weights longer between ms
-      in let stays = joining canonical weights text (between ++ m ∷ []) ms
-      in cond_both (canonical.class m.character == 0) done _ (λ (j : Joining). ArePlaced j.left)
-      (λ _. all_behind _ between (m ∷ ms) h g)
-      (λ _. cond_both (list_all (λ (b : Placed). ltb (canonical.class b.character) (canonical.class m.character)) between && is_some (weights.recorded [] longer)) joined stays (λ (j : Joining). ArePlaced j.left)
-      (λ _. joining_left longer between ms h g.1) (λ _. joining_left text (between ++ m ∷ []) ms (all_behind _ between (m ∷ []) h (g.0, tt)) g.1))
-
   or_default : (o : Option (List Element)) (c : ℕ) → IsScalar c → ((es : List Element) → o ≡ Some es → Continue es) → Continue (unwrap_or o (default_elements weights c))
   or_default (Some es) c s h = h es refl
   or_default None c s h = default_continue c s
@@ -94,7 +77,7 @@ module _ (canonical : Canonical) (weights : Weights) (numeric : Bool) where
   text_good : (c : ℕ) (ps : List Placed) → IsScalar c → ArePlaced ps → IsGood (text_reading canonical weights c ps)
   unfolding text_reading text_match
   text_good c ps s h =
-      (or_default (weights.recorded [] (text_match canonical weights ps).text) c s (λ es e. recorded_continue [] (text_match canonical weights ps).text es e), joining_left _ [] _ tt (all_left _ (match_length weights (characters_of ps)) ps h))
+      (or_default (weights.recorded [] (text_match canonical weights ps).text) c s (λ es e. recorded_continue [] (text_match canonical weights ps).text es e), text_left canonical weights (λ (p : Placed). IsScalar p.character) c ps h)
 
   abbrev digits_of : List Placed → List ℕ
   digits_of ps = filter_map (λ (p : Placed). weights.digit p.character) ps
@@ -129,7 +112,7 @@ module _ (canonical : Canonical) (weights : Weights) (numeric : Bool) where
   number_good w p ps on is h =
       let digits = digits_of (take (digit_count weights (p ∷ ps)) (p ∷ ps))
       in let are : AreDigits digits = record { filled = first_digit p ps is; up_to_nine = All-from_recursion (λ d. d ≤ 9) digits (digits_sound w _) }
-      in (λ es s. number digits es on are s, all_left _ (digit_count weights (p ∷ ps)) (p ∷ ps) h)
+      in (λ es s. number digits es on are s, number_left canonical weights (λ (p : Placed). IsScalar p.character) (p ∷ ps) h)
 
   special_default : (c s : ℕ) → special_primary c ≡ Some s → default_primary weights c ≡ s
   unfolding default_primary

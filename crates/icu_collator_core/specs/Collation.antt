@@ -1,5 +1,5 @@
 -- What collation data say, whole: characters, weights and settings.
-use Rattle.std.specs.Prelude.{ℕ, Bool, List}
+use Rattle.std.specs.Prelude.{ℕ, ◌+◌, ◌*◌, ◌/◌, ◌%◌, ◌^◌, Bool, List}
 use Rattle.icu_normalizer_core.specs.Canonical.{Canonical}
 use Rattle.icu_collator_types.specs.declared.options.FileSettings.{FileSettings}
 use Rattle.icu_collator_core.specs.Weights.{Weights}
@@ -13,5 +13,13 @@ pub record Collation : Type 0 where
   pub backward : Bool
   -- the upper halves of the first primaries behind spaces, punctuation, symbols and currency signs
   pub groups : List ℕ
-  -- the lead byte that stands in the place of another
-  pub reordered_lead : ℕ → ℕ
+  -- the primary that stands in the place of another
+  pub reordered : ℕ → ℕ
+
+-- a primary with another lead byte in the place of its own, and the same rest
+abbrev pub with_lead : (ℕ → ℕ) → ℕ → ℕ
+with_lead place p = place (p / 2 ^ 24) * 2 ^ 24 + p % 2 ^ 24
+
+-- the lead byte that stands in the place of another, by the primary of that one alone
+abbrev pub reordered_lead : Collation → ℕ → ℕ
+reordered_lead collation lead = collation.reordered (lead * 2 ^ 24) / 2 ^ 24

@@ -1,5 +1,6 @@
 -- The elements of a character that no record names: special, of a range, jamo or implicit.
 use Rattle.std.specs.Prelude.{ℕ, ◌+◌, ◌-◌, ◌*◌, ◌/◌, ◌%◌, ◌^◌, Bool, cond, ◌==◌, List, [], ◌∷◌, Option, Some, None}
+use Rattle.std.specs.Option.{unwrap_or}
 use Rattle.icu_normalizer_core.specs.BuiltIn.{is_jamo}
 use Rattle.icu_collator_types.specs.declared.elements.Element.{Element}
 use Rattle.icu_collator_core.specs.Weights.{Range, Weights}
@@ -32,10 +33,10 @@ moved_primary compressible primary by =
     in let second = primary / 2 ^ 16 % 256 - lowest + third / 254
     in primary_of (primary / 2 ^ 24) (lowest + second % count) (2 + third % 254) 0
 
--- the primary of a character in a range
-unfoldable pub range_primary : Weights → Range → ℕ → ℕ
-range_primary weights range c =
-    moved_primary (weights.is_compressible (range.primary / 2 ^ 24)) range.primary ((c - range.first) * range.step)
+-- the primary of a character in a range, by what leads are compressible
+unfoldable pub range_primary : (ℕ → Bool) → Range → ℕ → ℕ
+range_primary is_compressible range c =
+    moved_primary (is_compressible (range.primary / 2 ^ 24)) range.primary ((c - range.first) * range.step)
 
 -- the primary of a jamo
 unfoldable pub jamo_primary : ℕ → ℕ
@@ -50,10 +51,7 @@ implicit_primary c =
 unfoldable pub default_primary : Weights → ℕ → ℕ
 default_primary weights c =
     let unranged = cond (is_jamo c) (jamo_primary c) (implicit_primary c)
-    in elim (special_primary c) [
-      | Some p ↦ p
-      | None ↦ elim (weights.range c) [ Some range ↦ range_primary weights range c | None ↦ unranged ]
-    ]
+    in unwrap_or (special_primary c) (unwrap_or (weights.ranged_primary c) unranged)
 
 -- the elements of a character without a record
 abbrev pub default_elements : Weights → ℕ → List Element

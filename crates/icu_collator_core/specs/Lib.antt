@@ -6,3 +6,4 @@ pub mod Collation
 pub mod WholeNumbers
 pub mod WeightRules
 pub mod SoundElements
+pub mod Sameness

@@ -133,6 +133,18 @@ are_disjoint a b = ltb a.last b.first || ltb b.last a.first
 abbrev pub is_of_other_lead : Range → Element → Bool
 is_of_other_lead range e = (e.primary == 0) || not (e.primary / 2 ^ 24 == range.primary / 2 ^ 24)
 
+-- whether a primary has three bytes: its fourth is 00, and its third isn't
+abbrev pub has_three_bytes : ℕ → Bool
+has_three_bytes p = (p % 256 == 0) && not (p / 2 ^ 8 % 256 == 0)
+
+-- what V6 gives of the primary of a character in a range
+abbrev pub is_sound_ranged : Weights → ℕ → Bool
+is_sound_ranged weights p = is_sound_primary weights p && has_three_bytes p
+
+-- and of an element beside it: its primary has another lead, or three bytes too
+abbrev pub is_beside_ranged : ℕ → Element → Bool
+is_beside_ranged p e = not (e.primary / 2 ^ 24 == p / 2 ^ 24) || has_three_bytes e.primary
+
 -- whether the numbers of an element are of their widths; a line of a file can't say others
 abbrev pub has_widths : Element → Bool
 has_widths e =
@@ -150,8 +162,7 @@ pub record AreSoundWeights (weights : Weights) : Type 0 where
   pub widths : (e : Element) → IsRecorded weights e → has_widths e ≡ true
   pub elements : (e : Element) → IsRecorded weights e → is_sound_element weights e ≡ true
   pub apart : AreApart (IsRecorded weights)
-  pub held : (c : ℕ) (range : Range) → weights.range c ≡ Some range → is_within range.first range.last c ≡ true
-  pub ranges : (c : ℕ) (range : Range) → weights.range c ≡ Some range → is_sound_range weights range ≡ true
-  pub leads :
-      (c : ℕ) (range : Range) (e : Element) → weights.range c ≡ Some range → IsRecorded weights e → is_of_other_lead range e ≡ true
+  pub ranged : (c p : ℕ) → weights.ranged_primary c ≡ Some p → is_sound_ranged weights p ≡ true
+  pub beside :
+      (c p : ℕ) (e : Element) → weights.ranged_primary c ≡ Some p → IsRecorded weights e → is_beside_ranged p e ≡ true
   pub digits : (c d : ℕ) → weights.digit c ≡ Some d → leb d 9 ≡ true

@@ -16,8 +16,8 @@ pub record Weights : Type 0 where
   pub recorded : List ℕ → List ℕ → Option (List Element)
   -- the value of a digit
   pub digit : ℕ → Option ℕ
-  -- the range that holds a character
-  pub range : ℕ → Option Range
+  -- the primary of a character in a range
+  pub ranged_primary : ℕ → Option ℕ
   -- whether a primary's lead byte is left out of a key behind a primary with the same lead
   pub is_compressible : ℕ → Bool
   -- the lead byte of numbers

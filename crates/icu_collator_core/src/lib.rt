@@ -3,4 +3,5 @@
 
 pub mod elements;
 pub mod laws;
+pub mod laws_same;
 pub mod laws_texts;

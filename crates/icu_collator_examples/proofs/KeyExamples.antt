@@ -1,5 +1,6 @@
 -- The records of the worked examples keep the rules, so the laws of keys speak of them.
-use Rattle.std.proofs.Common.{◌≡◌, ℕ, Bool, true, false, List, [], ◌∷◌, refl, arith}
+use Rattle.std.proofs.Common.{◌≡◌, ℕ, Bool, true, false, List, [], ◌∷◌, refl, sym, ◌∙◌, ap, subst, arith, Option, Some, None}
+use Rattle.std.proofs.lemmas.Bool.{cond_both}
 use Rattle.std.proofs.lemmas.Bool.Decides.{nat_tests}
 use Rattle.std.proofs.lemmas.List.Elements.{All-from_recursion, All-contains}
 use Rattle.std.proofs.lemmas.List.Sums.{AllPass-from_list_all}
@@ -9,14 +10,19 @@ use Rattle.std.specs.Char.{IsScalar}
 use Rattle.std.specs.declared.cmp.Ordering.TheVariants.{Less}
 use Rattle.icu_collator_types.specs.declared.elements.Element.{Element}
 use Rattle.icu_collator_types.specs.declared.options.Strength.TheVariants.{Tertiary}
+use Rattle.icu_normalizer_core.specs.BuiltIn.{is_within}
+use Rattle.icu_collator_core.specs.Defaults.{range_primary}
 use Rattle.icu_collator_core.specs.SoundElements.{IsSoundSequence, single, nothing, of_record}
 use Rattle.icu_collator_core.specs.Numbers.{without_last_zeros}
-use Rattle.icu_collator_core.specs.WeightRules.{AreSoundWeights, IsRecorded, has_widths, is_sound_element, are_apart_elements, is_letter_lead, is_proper_beginning}
-use Rattle.icu_collator_examples.specs.Letters.{digits_collation, digits_table, plain_options}
+use Rattle.icu_collator_core.specs.Collation.{reordered_lead}
+use Rattle.icu_collator_core.proofs.Reordering.{given_lead, given_rest}
+use Rattle.icu_collator_core.specs.WeightRules.{AreSoundWeights, IsRecorded, has_widths, is_sound_element, is_sound_range, is_of_other_lead, are_apart_elements, is_letter_lead, is_proper_beginning}
+use Rattle.icu_collator_examples.specs.Letters.{digits_collation, digits_table, ideographs, ideographs_collation, plain_options}
 use Rattle.icu_collator_examples.specs.LetterLevels.{small_a, small_b}
 use Rattle.worked_rows.specs.Tables.{recorded_of}
 use Rattle.icu_collator_examples.proofs.Found.{elements_of, found_elements}
 use Rattle.icu_collator.specs.Levels.{levels_of}
+use Rattle.icu_collator.specs.NumbersInTexts.{AreNumbersTogether}
 use Rattle.icu_collator.specs.Order.{levels_order}
 use Rattle.icu_collator.specs.Settings.{AreSoundSettings}
 use Rattle.worked_rows.proofs.Computing.{computing}
@@ -46,14 +52,37 @@ digits_weights_sound =
       widths = every has_widths refl;
       elements = every (is_sound_element digits_collation.weights) refl;
       apart = apart;
-      held = λ c range h. cc;
-      ranges = λ c range h. cc;
-      leads = λ c range e h is. cc;
+      ranged = λ c p h. cc;
+      beside = λ c p e h is. cc;
       digits = digit_values;
     }
 
+-- the primary of an ideograph is that of its range
+pub ideograph_primary : (P : ℕ → Type 0) (c p : ℕ) → ideographs_collation.weights.ranged_primary c ≡ Some p
+    → P (range_primary ideographs_collation.weights.is_compressible ideographs c) → P p
+ideograph_primary P c p h k =
+    let q = range_primary ideographs_collation.weights.is_compressible ideographs c
+    in cond_both (is_within ideographs.first ideographs.last c) (Some q) None
+    (λ (o : Option ℕ). elim o as (λ _. Option ℕ) [ Some y ↦ Some y | None ↦ None ] ≡ Some p → P p)
+    (λ _ is. let same : q ≡ p = cc in subst P same k) (λ _ is. cc) h
+
+-- the range keeps the rule, and no element has its lead
+pub ideographs_sound : is_sound_range ideographs_collation.weights ideographs ≡ true
+unfolding without_last_zeros
+ideographs_sound = refl
+
+pub other_leads : (e : Element) → IsRecorded digits_collation.weights e → is_of_other_lead ideographs e ≡ true
+other_leads = every (is_of_other_lead ideographs) refl
+
 implicit_alone : (lead : ℕ) → ((lead == 0xfe) || false) ≡ true → (is_letter_lead lead || (lead == 0xfe)) ≡ true
 implicit_alone lead h = grind (arith, nat_tests)
+
+-- no lead is reordered
+abbrev same_lead : ℕ → ℕ
+same_lead lead = lead
+
+lead_stays : (lead : ℕ) → reordered_lead digits_collation lead ≡ lead
+lead_stays = given_lead digits_collation same_lead (λ p. refl)
 
 pub digits_settings_sound : AreSoundSettings digits_collation
 digits_settings_sound =
@@ -62,11 +91,15 @@ digits_settings_sound =
       groups = refl;
       implicit = refl;
       compressible = implicit_alone;
-      outside = λ lead h. refl;
-      inside = λ lead h. h;
-      one_to_one = λ a b h. h;
-      alike = λ lead. refl;
+      rest = given_rest digits_collation same_lead (λ p. refl);
+      outside = λ lead h. lead_stays lead;
+      inside = λ lead h. ap is_letter_lead (lead_stays lead) ∙ h;
+      one_to_one = λ a b h. sym (lead_stays a) ∙ h ∙ lead_stays b;
+      alike = λ lead. ap digits_collation.weights.is_compressible (lead_stays lead);
     }
+
+pub numbers_together : AreNumbersTogether digits_collation
+numbers_together p h = digits_settings_sound.rest p
 
 -- the elements of "a" and "b" are single ones, alone and one after the other
 a_is_recorded : IsRecorded digits_collation.weights small_a

@@ -4,4 +4,5 @@ pub mod LettersPairs
 pub mod Examples
 pub mod LettersDigits
 pub mod KeyExamples
+pub mod SameTables
 pub mod LevelExamples

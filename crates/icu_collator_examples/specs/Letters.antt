@@ -9,6 +9,7 @@ use Rattle.icu_collator_types.specs.declared.options.MaxVariable.TheVariants.{Sp
 use Rattle.icu_collator_types.specs.declared.options.Strength.{Strength}
 use Rattle.icu_collator_types.specs.declared.options.ResolvedCollatorOptions.{ResolvedCollatorOptions}
 use Rattle.icu_collator_core.specs.Collation.{Collation}
+use Rattle.icu_collator_core.specs.Weights.{Range}
 use Rattle.worked_rows.specs.Tables.{Table, canonical_of, collation_of}
 use Rattle.worked_rows.specs.Letters.{letters as letters_table, upper_a, with_records, with_stops, with_digits}
 
@@ -25,6 +26,13 @@ digits_table = with_digits (with_records (upper_a ∷ []) (with_stops letters_ta
 
 abbrev pub digits_collation : Collation
 digits_collation = collation_of digits_table
+
+-- a range of ideographs, and the same records with it
+abbrev pub ideographs : Range
+ideographs = record { first = 0x4e00; last = 0x9fff; primary = 0xe0020200; step = 1 }
+
+abbrev pub ideographs_collation : Collation
+ideographs_collation = collation_of (record digits_table { ranges = ideographs ∷ [] })
 
 -- the options of such a collation at a strength, where nothing else is asked for
 abbrev pub plain_options : Strength → ResolvedCollatorOptions

@@ -14,7 +14,7 @@ ghost use Rattle.icu_collator_core.specs.SoundElements.{IsSoundSequence};
 ghost use Rattle.icu_collator_core.specs.WeightRules.{AreSoundWeights};
 ghost use Rattle.icu_collator.specs.Equivalence.{IsEquivalent};
 ghost use Rattle.icu_collator.specs.KeyBytes.{key_bytes, key_of_text};
-ghost use Rattle.icu_collator_examples.specs.Letters.{letters, digits_collation, plain_options, numeric_options, acute_composed, dot_composed, cote_with_acute, cote_with_circumflex};
+ghost use Rattle.icu_collator_examples.specs.Letters.{letters, digits_collation, ideographs_collation, plain_options, numeric_options, acute_composed, dot_composed, cote_with_acute, cote_with_circumflex};
 ghost use Rattle.icu_collator.specs.Levels.{levels_of};
 ghost use Rattle.icu_collator.specs.Settings.{AreSoundSettings};
 
@@ -23,7 +23,7 @@ use icu_collator::laws_keys::{
     equal_keys_are_of_equal_texts, equal_keys_at_identical_are_of_equivalent_texts,
     keys_order_as_levels, keys_order_as_texts,
 };
-use icu_collator_core::laws_texts::texts_have_sound_elements;
+use icu_collator_core::laws_texts::{ranges_have_sound_primaries, texts_have_sound_elements};
 
 // The records meet what the laws ask for, so the laws speak of them.
 #[tactic(auto, using(crate::proofs::KeyExamples::digits_weights_sound, crate::proofs::KeyExamples::digits_settings_sound))]
@@ -31,6 +31,13 @@ fn rules_are_kept()
     ensures weights { AreSoundWeights digits_collation.weights }
     ensures settings { AreSoundSettings digits_collation }
 {}
+
+// So do they with a range of ideographs beside them.
+fn rules_are_kept_with_a_range()
+    ensures { AreSoundWeights ideographs_collation.weights }
+{
+    ranges_have_sound_primaries();
+}
 
 // An acute composed with the letter and a dot below are a dot below composed with it and an acute.
 fn spellings_are_equivalent()
@@ -109,4 +116,9 @@ fn ok_keys_order_as_levels() {
 #[test]
 fn ok_texts_have_sound_elements() {
     elements_are_sound();
+}
+
+#[test]
+fn ok_ranges_have_sound_primaries() {
+    rules_are_kept_with_a_range();
 }

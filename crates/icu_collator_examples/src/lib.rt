@@ -9,3 +9,5 @@ mod levels;
 mod numbers;
 #[cfg(test)]
 mod order;
+#[cfg(test)]
+mod same;

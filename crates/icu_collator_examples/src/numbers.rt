@@ -9,15 +9,16 @@ ghost use Rattle.icu_collator_types.specs.declared.options.Strength.TheVariants.
 ghost use Rattle.icu_collator_types.specs.Options.{is_at_least};
 ghost use Rattle.icu_collator.specs.KeyBytes.{key_of_text};
 ghost use Rattle.icu_collator_examples.specs.Letters.{digits_collation, numeric_options};
-ghost use Rattle.icu_collator.specs.NumbersInTexts.{AreDigitsApart};
+ghost use Rattle.icu_collator.specs.NumbersInTexts.{AreDigitsApart, AreNumbersTogether};
 ghost use Rattle.icu_collator.specs.Order.{collation_order};
 
 use icu_collator::laws::numbers::{number_keys_order_by_value, numbers_order_by_value};
 
 // The digits there keep what the law asks, so it speaks of something.
-#[tactic(auto, using(crate::proofs::LettersDigits::letters_digits_apart))]
+#[tactic(auto, using(crate::proofs::LettersDigits::letters_digits_apart, crate::proofs::KeyExamples::numbers_together))]
 fn digits_are_apart()
-    ensures { AreDigitsApart digits_collation }
+    ensures apart { AreDigitsApart digits_collation }
+    ensures together { AreNumbersTogether digits_collation }
 {}
 
 // "a2" is below "a10" at every strength.

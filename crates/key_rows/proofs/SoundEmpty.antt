@@ -1,7 +1,9 @@
 -- The table of a file with no line keeps the rules, so the laws of keys speak of something.
-use Rattle.std.proofs.Common.{◌≡◌, Bool, true, false, List, Option, None, Some, refl}
+use Rattle.std.proofs.Common.{◌≡◌, ℕ, Bool, true, false, List, Option, None, Some, refl, sym, ◌∙◌, ap}
 use Rattle.std.specs.Prelude.{◌==◌, ◌||◌}
 use Rattle.icu_collator_types.specs.declared.elements.Element.{Element}
+use Rattle.icu_collator_core.specs.Collation.{reordered_lead}
+use Rattle.icu_collator_core.proofs.Reordering.{given_lead, given_rest}
 use Rattle.icu_collator_core.specs.WeightRules.{AreSoundWeights, IsRecorded, is_letter_lead}
 use Rattle.icu_collator.specs.Settings.{AreSoundSettings}
 use Rattle.worked_rows.specs.Tables.{empty_table, weights_of, collation_of, recorded_of}
@@ -16,9 +18,8 @@ empty_weights_are_sound =
       widths = λ e is. absurd (nothing_recorded e is);
       elements = λ e is. absurd (nothing_recorded e is);
       apart = λ d e is also. absurd (nothing_recorded d is);
-      held = λ c range h. cc;
-      ranges = λ c range h. cc;
-      leads = λ c range e h is. absurd (nothing_recorded e is);
+      ranged = λ c p h. cc;
+      beside = λ c p e h is. absurd (nothing_recorded e is);
       digits = λ c d h. cc;
     }
 
@@ -27,6 +28,13 @@ or_self true b h = refl
 or_self false true h = refl
 or_self false false h = h
 
+-- no lead is reordered
+abbrev same_lead : ℕ → ℕ
+same_lead lead = lead
+
+lead_stays : (lead : ℕ) → reordered_lead (collation_of empty_table) lead ≡ lead
+lead_stays = given_lead (collation_of empty_table) same_lead (λ p. refl)
+
 pub empty_settings_are_sound : AreSoundSettings (collation_of empty_table)
 empty_settings_are_sound =
     record {
@@ -34,8 +42,9 @@ empty_settings_are_sound =
       groups = refl;
       implicit = refl;
       compressible = λ lead h. or_self (is_letter_lead lead) (lead == 0xfe) h;
-      outside = λ lead h. refl;
-      inside = λ lead h. h;
-      one_to_one = λ a b h. h;
-      alike = λ lead. refl;
+      rest = given_rest (collation_of empty_table) same_lead (λ p. refl);
+      outside = λ lead h. lead_stays lead;
+      inside = λ lead h. ap is_letter_lead (lead_stays lead) ∙ h;
+      one_to_one = λ a b h. sym (lead_stays a) ∙ h ∙ lead_stays b;
+      alike = λ lead. ap (weights_of empty_table).is_compressible (lead_stays lead);
     }

@@ -8,7 +8,8 @@ use Rattle.icu_collator_types.specs.declared.elements.Element.{Element}
 use Rattle.icu_collator_types.specs.declared.options.FileSettings.{FileSettings}
 use Rattle.icu_collator_types.specs.Options.{default_settings}
 use Rattle.icu_collator_core.specs.Weights.{Range, Weights}
-use Rattle.icu_collator_core.specs.Collation.{Collation}
+use Rattle.icu_collator_core.specs.Defaults.{range_primary}
+use Rattle.icu_collator_core.specs.Collation.{Collation, with_lead}
 
 -- a character's canonical combining class
 pub record Class : Type 0 where
@@ -134,14 +135,25 @@ recorded_of records prefix text =
     (λ r. cond (is_same_text r.prefix prefix && is_same_text r.text text) (Some r.elements) None)
     records
 
+-- whether the lead byte of primaries is left out of keys behind the same
+abbrev pub is_compressible_in : Table → ℕ → Bool
+is_compressible_in table lead = (lead == 0xfe) || list_any (λ other. other == lead) table.compressible_leads
+
+-- the primary of a character in one of the ranges
+abbrev pub ranged_primary_in : Table → ℕ → Option ℕ
+ranged_primary_in table c =
+    first_found
+    (λ r. cond (is_within r.first r.last c) (Some (range_primary (is_compressible_in table) r c)) None)
+    table.ranges
+
 -- what a table says of weights
 abbrev pub weights_of : Table → Weights
 weights_of table =
     record {
       recorded = recorded_of table.records;
       digit = λ c. first_found (λ d. cond (d.character == c) (Some d.value) None) table.digits;
-      range = λ c. first_found (λ r. cond (is_within r.first r.last c) (Some r) None) table.ranges;
-      is_compressible = λ lead. (lead == 0xfe) || list_any (λ other. other == lead) table.compressible_leads;
+      ranged_primary = ranged_primary_in table;
+      is_compressible = is_compressible_in table;
       numeric_lead = table.numeric_lead;
       dot_above = table.dot_above;
     }
@@ -155,6 +167,6 @@ collation_of table =
       options = table.settings;
       backward = table.backward;
       groups = table.groups;
-      reordered_lead =
-          λ lead. unwrap_or (first_found (λ r. cond (r.lead == lead) (Some r.place) None) table.reordering) lead;
+      reordered =
+          with_lead (λ lead. unwrap_or (first_found (λ r. cond (r.lead == lead) (Some r.place) None) table.reordering) lead);
     }

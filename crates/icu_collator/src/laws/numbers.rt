@@ -14,14 +14,15 @@ ghost use Rattle.icu_collator_core.specs.Collation.{Collation};
 ghost use Rattle.icu_collator_core.specs.WeightRules.{AreSoundWeights};
 ghost use Rattle.icu_collator.specs.KeyBytes.{key_of_text};
 ghost use Rattle.icu_collator.specs.Settings.{AreSoundSettings, has_plain_leads};
-ghost use Rattle.icu_collator.specs.NumbersInTexts.{AreDigitsApart, IsNumberBetween, do_numbers_count, run_value};
+ghost use Rattle.icu_collator.specs.NumbersInTexts.{AreDigitsApart, AreNumbersTogether, IsNumberBetween, do_numbers_count, run_value};
 ghost use Rattle.icu_collator.specs.Order.{collation_order};
 
 /// With numeric ordering on, let two texts be alike but for one run of digits, which in each has at
 /// most 254 digits from the first on that isn't 0, and beside which neither text goes on with a digit
-/// once it is decomposed. Where no number is variable, the text whose run has the lower value is
-/// below the other, at every strength. Where the values are the same, the texts are equal at every
-/// strength but `Identical`, whatever zeros lead the digits and whatever is variable.
+/// once it is decomposed. Where no number is variable, and reordering keeps numbers together, the text
+/// whose run has the lower value is below the other, at every strength. Where the values are the same,
+/// the texts are equal at every strength but `Identical`, whatever zeros lead the digits, whatever is
+/// variable and whatever is reordered.
 ///
 /// The collation data must keep what `AreDigitsApart` says; among it is that a tilde (U+0303) is no
 /// digit where a dot above is dropped before accents: else a dot above at the end of the text before
@@ -30,13 +31,13 @@ ghost use Rattle.icu_collator.specs.Order.{collation_order};
 #[tactic(auto, using(crate::proofs::NumbersInTexts::lower_first, crate::proofs::NumbersInTexts::higher_behind, crate::proofs::NumbersInTexts::equal_runs))]
 pub fn numbers_order_by_value()
     ensures lower { (collation : Collation) (options : ResolvedCollatorOptions) (x r s y : List ℕ)
-        → IsDecomposing collation.canonical → AreDigitsApart collation
+        → IsDecomposing collation.canonical → AreDigitsApart collation → AreNumbersTogether collation
         → is_numeric options.numeric ≡ true → do_numbers_count collation options ≡ true
         → IsNumberBetween collation x r y → IsNumberBetween collation x s y
         → run_value collation.weights r < run_value collation.weights s
         → collation_order collation options (x ++ (r ++ y)) (x ++ (s ++ y)) ≡ Less }
     ensures higher { (collation : Collation) (options : ResolvedCollatorOptions) (x r s y : List ℕ)
-        → IsDecomposing collation.canonical → AreDigitsApart collation
+        → IsDecomposing collation.canonical → AreDigitsApart collation → AreNumbersTogether collation
         → is_numeric options.numeric ≡ true → do_numbers_count collation options ≡ true
         → IsNumberBetween collation x r y → IsNumberBetween collation x s y
         → run_value collation.weights s < run_value collation.weights r

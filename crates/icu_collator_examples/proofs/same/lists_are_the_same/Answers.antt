@@ -1,0 +1,14 @@
+use Rattle.std.proofs.Common.{true}
+use Rattle.icu_collator_examples.specs.SameTables.{other_collation, ranged_collation}
+use Rattle.icu_collator_examples.proofs.Letters.{letters_is_decomposing}
+use Rattle.icu_collator_examples.proofs.SameTables.{same_characters, same_weights}
+use Rattle.icu_collator_examples.proofs.same.lists_are_the_same.Goals as goal
+
+pub returns-clause-lists : goal.returns-clause-lists
+returns-clause-lists c text scalars =
+    c.same_characters_have_same_decomposed_lists.ensures other_collation.canonical ranged_collation.canonical text same_characters letters_is_decomposing scalars
+
+pub returns-clause-elements : goal.returns-clause-elements
+returns-clause-elements c list scalars =
+    c.same_weights_have_same_elements.ensures other_collation.canonical ranged_collation.canonical other_collation.weights ranged_collation.weights true list
+    same_characters same_weights scalars

@@ -1,0 +1,24 @@
+-- Two tables that say the same in other lines.
+use Rattle.std.specs.Prelude.{[], ◌∷◌, reverse}
+use Rattle.icu_collator_core.specs.Collation.{Collation}
+use Rattle.worked_rows.specs.Tables.{Table, collation_of}
+use Rattle.worked_rows.specs.Letters.{text_at, with_records}
+use Rattle.icu_collator_examples.specs.Letters.{digits_table, ideographs}
+
+-- a range whose first character has a record of its own, which counts before the range
+abbrev pub ranged_table : Table
+ranged_table = record (with_records (text_at (0x4e00 ∷ []) 0x2c10 ∷ []) digits_table) { ranges = ideographs ∷ [] }
+
+-- the range without that character, and the classes in another order
+abbrev pub other_table : Table
+other_table =
+    record ranged_table {
+      classes = reverse ranged_table.classes;
+      ranges = record { first = 0x4e01; last = 0x9fff; primary = 0xe0020300; step = 1 } ∷ [];
+    }
+
+abbrev pub ranged_collation : Collation
+ranged_collation = collation_of ranged_table
+
+abbrev pub other_collation : Collation
+other_collation = collation_of other_table

@@ -1,0 +1,66 @@
+//! The laws of sameness applied to two tables that say the same in other lines.
+
+ghost use Rattle.std.specs.Char.{IsScalar};
+ghost use Rattle.std.specs.Prelude.{◌≡◌, ℕ, true, All, List};
+ghost use Rattle.icu_normalizer_core.specs.Canonical.{decomposed};
+ghost use Rattle.icu_collator_types.specs.declared.options.Strength.{Strength};
+ghost use Rattle.icu_collator_core.specs.Elements.{elements_of_list};
+ghost use Rattle.icu_collator_core.specs.Sameness.{AreSameCanonical, AreSameWeights};
+ghost use Rattle.icu_collator.specs.KeyBytes.{key_of_text};
+ghost use Rattle.icu_collator.specs.Levels.{levels_of_text};
+ghost use Rattle.icu_collator.specs.Order.{collation_order};
+ghost use Rattle.icu_collator.specs.Sameness.{AreSameSettings};
+ghost use Rattle.icu_collator_examples.specs.Letters.{numeric_options};
+ghost use Rattle.icu_collator_examples.specs.SameTables.{other_collation, ranged_collation};
+
+use icu_collator::laws_same::{
+    same_data_have_same_keys, same_data_have_same_levels, same_data_order_alike,
+};
+use icu_collator_core::laws_same::{
+    same_characters_have_same_decomposed_lists, same_weights_have_same_elements,
+};
+
+// The tables say the same of each character, so the laws speak of them.
+#[tactic(auto, using(crate::proofs::SameTables::same_characters, crate::proofs::SameTables::same_weights, crate::proofs::SameTables::same_settings))]
+fn tables_are_the_same()
+    ensures characters { AreSameCanonical other_collation.canonical ranged_collation.canonical }
+    ensures weights { AreSameWeights other_collation.weights ranged_collation.weights }
+    ensures settings { AreSameSettings other_collation ranged_collation }
+{}
+
+// So each text of scalar values has one decomposed list under both, and each list the same elements.
+fn lists_are_the_same()
+    ensures lists { (text : List ℕ) → All IsScalar text
+        → decomposed other_collation.canonical text ≡ decomposed ranged_collation.canonical text }
+    ensures elements { (list : List ℕ) → All IsScalar list
+        → elements_of_list other_collation.canonical other_collation.weights true list
+        ≡ elements_of_list ranged_collation.canonical ranged_collation.weights true list }
+{
+    same_characters_have_same_decomposed_lists();
+    same_weights_have_same_elements();
+}
+
+// A text has the same levels and the same key under both, and two texts compare alike.
+fn answers_are_the_same()
+    ensures levels { (strength : Strength) (text : List ℕ) → All IsScalar text
+        → levels_of_text other_collation (numeric_options strength) text ≡ levels_of_text ranged_collation (numeric_options strength) text }
+    ensures keys { (strength : Strength) (text : List ℕ) → All IsScalar text
+        → key_of_text other_collation (numeric_options strength) text ≡ key_of_text ranged_collation (numeric_options strength) text }
+    ensures order { (strength : Strength) (x y : List ℕ) → All IsScalar x → All IsScalar y
+        → collation_order other_collation (numeric_options strength) x y ≡ collation_order ranged_collation (numeric_options strength) x y }
+{
+    same_data_have_same_levels();
+    same_data_have_same_keys();
+    same_data_order_alike();
+}
+
+#[test]
+fn ok_same_characters_have_same_decomposed_lists() {
+    tables_are_the_same();
+    lists_are_the_same();
+}
+
+#[test]
+fn ok_same_data_have_same_keys() {
+    answers_are_the_same();
+}
