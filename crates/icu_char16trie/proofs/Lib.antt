@@ -13,6 +13,7 @@ mod UnitReads
 mod UnitMeanings
 mod UnitSpreads
 mod UnitWrites
+mod UnitPlans
 pub mod UnitRoots
 mod UnitJobsLeft
 mod UnitStands

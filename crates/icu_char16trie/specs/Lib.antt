@@ -7,6 +7,7 @@ pub mod UnitGrammar
 pub mod UnitForms
 pub mod UnitPairs
 pub mod UnitLayouts
+pub mod UnitPlans
 pub mod WrittenUnits
 pub mod UnitReading
 pub mod UnitJobs

@@ -1,6 +1,6 @@
 //! Sorted keys and their values, written as the units of a unit trie.
 ghost use Rattle.std.specs.Prelude.{◌≡◌, ◌≢◌, ◌<◌, ◌≤◌, ◌↔◌, [], ℕ, ℤ, List, length, IsTrue, IfOk, MatchOption, MatchResult};
-ghost use Rattle.icu_char16trie.specs.UnitPairs.{Below, Has};
+ghost use Rattle.icu_char16trie.specs.UnitPairs.{Below, Has, room};
 ghost use Rattle.icu_char16trie.specs.UnitMaps.{Spells, IsWhole, at_node, behind};
 ghost use Rattle.icu_char16trie.specs.UnitSteps.{start};
 ghost use Rattle.icu_char16trie.specs.UnitGrammar.{IsUnitTrie};
@@ -15,9 +15,11 @@ mod backward;
 mod group;
 mod groups;
 mod layout;
+mod marks;
+mod plan;
+mod task;
 
-use backward::Backward;
-use layout::write_node;
+use layout::write_pairs;
 
 /// How many units all keys together may have.
 const MOST_UNITS: usize = 268_435_456;
@@ -117,6 +119,7 @@ pub fn write_units(alloc: Global, pairs: &[(&[u16], i32)]) -> Result<Vec<u16>, W
     ensures whole { IfOk result (λ units. 0 < length pairs.now → IsWhole units.items (at_node 0)) }
     ensures whole_start { IfOk result (λ units. 0 < length pairs.now → IsWhole units.items (behind (start units.items))) }
     ensures grammar { IfOk result (λ units. IsUnitTrie units.items) }
+    ensures size { IfOk result (λ units. length units.items ≤ room (keyed pairs.now)) }
     ensures none { IfOk result (λ units. pairs.now ≡ [] → units.items ≡ []) }
 {
     if let Some(fault) = first_fault(pairs) {
@@ -128,7 +131,6 @@ pub fn write_units(alloc: Global, pairs: &[(&[u16], i32)]) -> Result<Vec<u16>, W
     if pairs.is_empty() {
         return Ok(Vec::new(alloc));
     }
-    let mut out = Backward::new(alloc);
-    write_node(alloc, &mut out, pairs, 0)?;
+    let out = write_pairs(alloc, pairs)?;
     Ok(out.into_units())
 }
