@@ -195,20 +195,11 @@ parts_split depth n groups =
     ap (λ groups. parts depth groups) (sym (take-append-drop n groups))
     ∙ map-append (λ group. (group.unit, rests (depth + 1) group.pairs.now)) (take n groups) (drop n groups)
 
-spread_some : (low high : ℕ) (groups : List (ℕ × List (List ℕ × ℤ))) → 0 < length groups → AreGroups low high groups → 10 ≤ room (spread groups)
-spread_some low high [] some g = absurd (omega (arith, some))
-spread_some low high (group ∷ groups) some g =
-    let a = room_append (prefixed (group.0 ∷ []) group.1) (spread groups) in
-    let b = room_behind group.0 group.1 in
-    omega (arith, a, b, g.2)
-
 -- what halves of groups ask for
 pub record Halves (unit : ℕ) (lowers uppers all : List (ℕ × List (List ℕ × ℤ))) : Type 0 where
   pub lower : AreGroups 0 0x10000 lowers
   pub upper : AreGroups 0 0x10000 uppers
   pub sum : room (spread all) ≡ room (spread lowers) + room (spread uppers)
-  pub lower_room : 10 ≤ room (spread lowers)
-  pub upper_room : 10 ≤ room (spread uppers)
   pub between : (low high : ℕ) → AreGroups low high all → (low < unit) × (unit < high) × AreGroups low unit lowers × AreGroups unit high uppers
 
 pub halves_of : (unit : ℕ) (pairs : List (List ℕ × ℤ)) (lowers groups all : List (ℕ × List (List ℕ × ℤ))) → all ≡ lowers ++ (unit, pairs) ∷ groups → 0 < length lowers → AreGroups 0 0x10000 all
@@ -222,8 +213,6 @@ halves_of unit pairs lowers groups all e some g =
       lower = groups_wider 0 unit 0 0x10000 lowers (omega arith) (omega (arith, below)) c.0;
       upper = groups_wider unit 0x10000 0 0x10000 ((unit, pairs) ∷ groups) (omega arith) (omega arith) c.1;
       sum = ap (λ all. room (spread all)) e ∙ ap room (spread_append lowers ((unit, pairs) ∷ groups)) ∙ room_append (spread lowers) (spread ((unit, pairs) ∷ groups));
-      lower_room = spread_some 0 unit lowers some c.0;
-      upper_room = spread_some unit 0x10000 ((unit, pairs) ∷ groups) (omega arith) c.1;
       between = λ low high g.
           let c = cut low high g in
           let b = groups_bounds low unit lowers c.0 in

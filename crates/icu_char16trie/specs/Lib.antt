@@ -1,8 +1,8 @@
 pub mod UnitCells
 pub mod UnitSteps
-pub mod Cursors
 pub mod UnitMaps
 pub mod UnitAnswers
+pub mod Cursors
 pub mod UnitGrammar
 pub mod UnitForms
 pub mod UnitPairs

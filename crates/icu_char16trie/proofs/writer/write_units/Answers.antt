@@ -1,6 +1,6 @@
-use Rattle.std.proofs.Common.{arith}
+use Rattle.std.proofs.Common.{length, ap, arith}
 use Rattle.icu_char16trie.specs.WrittenUnits.{keyed}
-use Rattle.icu_char16trie.proofs.UnitRoots.{can_write, total_few, writes_some, keyed_length}
+use Rattle.icu_char16trie.proofs.UnitRoots.{can_write, total_few, writes_some, keyed_length, keyed_room}
 use Rattle.icu_char16trie.proofs.writer.write_units.Goals as goal
 
 pub write_pairs-requires-clause-sorted : goal.write_pairs-requires-clause-sorted
@@ -37,3 +37,10 @@ pub returns-clause-grammar : goal.returns-clause-grammar
 returns-clause-grammar c =
     let can = can_write c.args.pairs.now (c.in_default.ensures, total_few (keyed c.args.pairs.now) c.is_too_large.result c.is_too_large.ensures c.if-is_too_large.false) in
     (writes_some _ c.into_units.result.items c.args.pairs.now c.in_ok-out.ensures.lays can.longer c.into_units.ensures).grammar
+
+pub returns-clause-size : goal.returns-clause-size
+returns-clause-size c =
+    let written = c.in_ok-out.ensures.room in
+    let units = ap length c.into_units.ensures in
+    let bound = keyed_room c.args.pairs.now in
+    omega (arith, written, units, bound)
