@@ -2,11 +2,12 @@
 //! unit or character at a time. The form is that of ICU4X's `Char16Trie`.
 #![tactic(auto)]
 
-ghost use Rattle.std.specs.Prelude.{◌≡◌, ◌+◌, ◌*◌, ◌^◌, ◌<◌, ◌≤◌, ◌-◌, ◌/◌, ◌%◌, [], ◌∷◌, ◌↔◌, ℕ, ℤ, List};
+ghost use Rattle.std.specs.Prelude.{◌≡◌, ◌+◌, ◌*◌, ◌^◌, ◌<◌, ◌≤◌, ◌-◌, ◌/◌, ◌%◌, [], ◌∷◌, ◌↔◌, ℕ, ℤ, List, IfOk};
 ghost use Rattle.icu_char16trie.specs.Cursors.{IsEntry, IsEntryFrom, IsStopped, IsWholeFrom, IsWholeTrie, Follows, trie_units, cursor_units, cursor_state, follow, answer_of, answer_to, state_of, units_of};
 ghost use Rattle.icu_char16trie.specs.UnitSteps.{start, step};
 
 use icu_packed_vector::PackedVec;
+use std::alloc::{AllocError, Global};
 
 mod cells;
 pub mod laws;
@@ -32,14 +33,14 @@ pub enum TrieResult {
 }
 
 /// A map from texts to numbers, in units that are borrowed or owned.
-#[derive(Drop)]
+#[derive(Debug, PartialEq, Eq, Drop)]
 pub struct Char16Trie<'a> {
     units: PackedVec<'a, u16>,
 }
 
 /// A cursor in a unit trie: it is given the units of a text one after another, and says of all of
 /// them so far whether they are a key and whether longer keys begin with them.
-#[derive(Drop)]
+#[derive(Clone, Copy, Debug)]
 pub struct Char16TrieIterator<'t> {
     units: &'t PackedVec<'t, u16>,
     state: State,
@@ -64,6 +65,15 @@ impl<'a> Char16Trie<'a> {
             units: &self.units,
             state: start(&self.units),
         }
+    }
+
+    /// The same trie: borrowed units are borrowed again, others copied. The only error is want of
+    /// memory.
+    pub fn clone(&self, alloc: Global) -> Result<Char16Trie<'a>, AllocError>
+        ensures { IfOk result (λ trie. trie_units trie ≡ trie_units self.now) }
+    {
+        let units = self.units.clone(alloc)?;
+        Ok(Char16Trie { units })
     }
 }
 

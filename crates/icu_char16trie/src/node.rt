@@ -8,14 +8,14 @@ use super::cells::{Number, delta, final_number, intermediate_number, landing, un
 use icu_packed_vector::PackedVec;
 
 /// A branch: how many units it tells apart, and where it begins.
-#[derive(Clone, Copy)]
+#[derive(Clone, Copy, Debug)]
 pub(super) struct Branch {
     pub(super) count: usize,
     pub(super) place: usize,
 }
 
 /// Units that must match: how many are left, and where they begin.
-#[derive(Clone, Copy)]
+#[derive(Clone, Copy, Debug)]
 pub(super) struct Match {
     pub(super) left: usize,
     pub(super) place: usize,
@@ -37,7 +37,7 @@ pub(super) enum Target {
 }
 
 /// Where a cursor stands.
-#[derive(Clone, Copy)]
+#[derive(Clone, Copy, Debug)]
 pub(super) enum State {
     /// No further unit matches.
     Stopped,
