@@ -25,3 +25,6 @@ mod UnitRead
 mod UnitListings
 mod UnitSame
 mod UnitRoundTrips
+mod UnitValues
+mod UnitLonger
+mod UnitKept

@@ -56,7 +56,7 @@ module _ (units : List ℕ) where
     (λ h. absurd (no-spells none h)),
   )
 
-  start-spells : IsUnitTrie units → (key : List ℕ) (number : ℤ) → Spells units (behind (start units)) key number ↔ Spells units (at_node 0) key number
+  pub start-spells : IsUnitTrie units → (key : List ℕ) (number : ℤ) → Spells units (behind (start units)) key number ↔ Spells units (at_node 0) key number
   start-spells (no_units e) key number = empty-spells e key number
   start-spells (rooted next node rest) key number =
       subst (λ s. Spells units (behind s) key number ↔ Spells units (at_node 0) key number) (sym (start-is next node)) (behind-root next key number node)

@@ -9,7 +9,7 @@ use Rattle.icu_char16trie.specs.declared.node.State.{State}
 use Rattle.icu_char16trie.specs.declared.node.State.TheVariants.{Stopped}
 use Rattle.icu_char16trie.specs.declared.node.Arrival.{Arrival}
 use Rattle.icu_char16trie.specs.declared.TrieResult.{TrieResult}
-use Rattle.icu_char16trie.specs.declared.TrieResult.TheVariants.{NoMatch}
+use Rattle.icu_char16trie.specs.declared.TrieResult.TheVariants.{NoMatch, NoValue, Intermediate, FinalValue}
 
 -- the units of a trie
 abbrev pub trie_units : Char16Trie → List ℕ
@@ -69,6 +69,17 @@ abbrev pub answer_to : List ℕ → State → List ℕ → TrieResult
 answer_to units state [] = NoMatch
 answer_to units state (unit ∷ []) = answer_of (step units state unit)
 answer_to units state (unit ∷ next ∷ rest) = answer_to units (state_of (step units state unit)) (next ∷ rest)
+
+-- the value of an answer, if it has one
+abbrev pub answered : TrieResult → Option ℤ
+answered NoMatch = None
+answered NoValue = None
+answered (Intermediate value) = Some value
+answered (FinalValue value) = Some value
+
+-- the value of a key in a unit trie, if it has one there
+unfoldable pub value_of_key : List ℕ → List ℕ → Option ℤ
+value_of_key units key = answered (answer_to units (start units) key)
 
 -- a cursor was given the units of a key, which is not empty, one after another: the answer to the last of
 -- them, and the cursor then. The first three parts fix both, whatever the units of the trie are
