@@ -126,6 +126,7 @@ impl Char16TrieIterator<'_> {
     }
 
     /// Follows a unit.
+    #[inline(always)]
     fn take_unit(&mut self, unit: u16) -> TrieResult
         ensures units { cursor_units self.new ≡ cursor_units self.old }
         ensures found { result ≡ answer_of (step (cursor_units self.old) (cursor_state self.old) unit) }
