@@ -13,6 +13,7 @@ mod UnitReads
 mod UnitMeanings
 mod UnitSpreads
 mod UnitWrites
+mod UnitPlans
 pub mod UnitRoots
 mod UnitJobsLeft
 mod UnitStands
@@ -24,3 +25,6 @@ mod UnitRead
 mod UnitListings
 mod UnitSame
 mod UnitRoundTrips
+mod UnitValues
+mod UnitLonger
+mod UnitKept

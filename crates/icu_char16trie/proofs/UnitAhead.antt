@@ -1,5 +1,5 @@
 -- What is left of a part stands ahead of it, so reading ends.
-use Rattle.std.proofs.Common.{◌≡◌, ◌≢◌, ℕ, ℤ, suc, zero, ◌+◌, ◌-◌, ◌*◌, ◌/◌, ◌%◌, ◌^◌, ◌<◌, ◌≤◌, ltb, leb, Bool, true, false, ◌==◌, if◌then◌else◌, ◌++◌, List, [], ◌∷◌, length, slice_get, Option, Some, None, Ok, refl, ap, ◌∙◌, sym, subst, arith, ⊎_elim}
+use Rattle.std.proofs.Common.{◌≡◌, ◌≢◌, ℕ, ℤ, suc, ◌+◌, ◌-◌, ◌*◌, ◌/◌, ◌%◌, ◌^◌, ◌<◌, ◌≤◌, ltb, leb, Bool, true, false, ◌==◌, if◌then◌else◌, ◌++◌, List, [], ◌∷◌, length, slice_get, Option, Some, None, refl, ap, ◌∙◌, sym, subst, arith, ⊎_elim}
 use Rattle.std.specs.Option.{IfSome}
 use Rattle.std.proofs.Math.Nat.{pow-le-pow_right, pow-suc, one-le-pow}
 use Rattle.std.proofs.lemmas.Bool.{cases_lt, cases_eq}
@@ -7,17 +7,14 @@ use Rattle.std.proofs.lemmas.Option.{none-some, slice_get_within}
 use Rattle.icu_char16trie.specs.UnitCells.{after, with_unit, two_units, final_number, intermediate_number, delta, landing}
 use Rattle.icu_char16trie.specs.UnitSteps.{entry_at, entry_target, opened}
 use Rattle.icu_char16trie.specs.UnitMaps.{IsNode, final, valued, bare}
-use Rattle.icu_char16trie.specs.UnitReading.{bounded, part_behind, target_part, part_step, part_place, run_on}
-use Rattle.icu_char16trie.specs.UnitJobs.{Job, jobs_of, onward, extended, IsTaken}
+use Rattle.icu_char16trie.specs.UnitReading.{part_behind, target_part, part_place}
+use Rattle.icu_char16trie.specs.UnitJobs.{Job, onward, extended, IsTaken}
 use Rattle.icu_char16trie.specs.declared.cells.Number.{Number}
-use Rattle.icu_char16trie.specs.declared.node.Branch.{Branch}
 use Rattle.icu_char16trie.specs.declared.node.Entry.{Entry}
-use Rattle.icu_char16trie.specs.declared.node.Match.{Match}
 use Rattle.icu_char16trie.specs.declared.node.Target.{Target}
 use Rattle.icu_char16trie.specs.declared.node.Target.TheVariants.{Value, Node}
 use Rattle.icu_char16trie.specs.declared.node.State.{State}
 use Rattle.icu_char16trie.specs.declared.node.State.TheVariants as state
-use Rattle.icu_char16trie.specs.declared.reader.part.Bounded.{Bounded}
 use Rattle.icu_char16trie.specs.declared.reader.part.Part.{Part}
 use Rattle.icu_char16trie.specs.declared.reader.part.Part.TheVariants as part
 use Rattle.icu_char16trie.specs.declared.reader.part.Step.{Step}

@@ -1,5 +1,5 @@
 -- What a cursor answers to a unit, by the keys that units spell.
-use Rattle.std.proofs.Common.{◌≡◌, ◌∙◌, ℕ, ℤ, ◌+◌, ◌-◌, ◌%◌, Bool, true, false, leb, ◌==◌, if◌then◌else◌, ◌↔◌, List, [], ◌∷◌, length, slice_get, Option, Some, None, refl, ap, sym, subst, arith, inl, inr, ⊎_elim}
+use Rattle.std.proofs.Common.{◌≡◌, ℕ, ℤ, ◌+◌, ◌-◌, ◌%◌, Bool, true, false, leb, ◌==◌, if◌then◌else◌, ◌↔◌, List, [], ◌∷◌, length, slice_get, Option, Some, None, refl, ap, subst, arith, inl, inr, ⊎_elim}
 use Rattle.icu_char16trie.specs.UnitCells.{after, final_number, intermediate_number}
 use Rattle.icu_char16trie.specs.UnitSteps.{small_part, target_in, opened, ended, passed, begun, arrive_at, reached, step}
 use Rattle.icu_char16trie.specs.Cursors.{answer_of, state_of}
@@ -9,7 +9,6 @@ use Rattle.icu_char16trie.specs.declared.node.Target.TheVariants.{Value, Node}
 use Rattle.icu_char16trie.specs.declared.node.State.{State}
 use Rattle.icu_char16trie.specs.declared.node.State.TheVariants as state
 use Rattle.icu_char16trie.specs.declared.node.Arrival.{Arrival}
-use Rattle.icu_char16trie.specs.declared.TrieResult.TheVariants.{NoMatch}
 use Rattle.icu_char16trie.proofs.UnitAnswers.{Says, behind_key, stopped_none, step_forth, step_back}
 
 cons-not-empty : (unit : ℕ) (key : List ℕ) → unit ∷ key ≡ [] → ⊥
@@ -86,34 +85,9 @@ calm-step units (state.Branch branch) unit = calm-after (small_part units unit b
     after (target_in units unit (part.count - 1) part.place) (λ target. reached units target))
     (λ part. calm-after (target_in units unit (part.count - 1) part.place) (λ target. reached units target) (λ target. calm-reached units target))
 
-calm-none : (units : List ℕ) (o : Option Arrival) (key : List ℕ) (number : ℤ) → IsCalm o → IsLast (answer_of o) → Spells units (behind (state_of o)) key number → ⊥
-calm-none units None key number calm last h = stopped_none units key number h
-calm-none units (Some a) key number calm last h = stopped_none units key number (subst (λ next. Spells units (behind next) key number) (calm last) h)
-
-pub last_law : (units : List ℕ) (next : State) (unit : ℕ) → IsLast (answer_of (step units next unit))
-    → (key : List ℕ) (number : ℤ) → Spells units (behind (state_of (step units next unit))) key number → ⊥
-last_law units next unit last key number h = calm-none units (step units next unit) key number (calm-step units next unit) last h
-
--- the three laws, of what the step came to
-module _ (units : List ℕ) (next : State) (unit : ℕ) (o : Option Arrival) (is : step units next unit ≡ o) where
-  pub value_of : (number : ℤ) → HasValue (answer_of o) number ↔ Spells units (behind next) (unit ∷ []) number
-  value_of number = subst (λ o. HasValue (answer_of o) number ↔ Spells units (behind next) (unit ∷ []) number) is (value_law units next unit number)
-
-  pub longer_of : (more : ℕ) (key : List ℕ) (number : ℤ) →
-      Spells units (behind (state_of o)) (more ∷ key) number ↔ Spells units (behind next) (unit ∷ more ∷ key) number
-  longer_of more key number =
-      subst (λ o. Spells units (behind (state_of o)) (more ∷ key) number ↔ Spells units (behind next) (unit ∷ more ∷ key) number) is
-      (longer_law units next unit more key number)
-
-  pub last_of : IsLast (answer_of o) → (key : List ℕ) (number : ℤ) → Spells units (behind (state_of o)) key number → ⊥
-  last_of = subst (λ o. IsLast (answer_of o) → (key : List ℕ) (number : ℤ) → Spells units (behind (state_of o)) key number → ⊥) is (last_law units next unit)
-
 calm-stops : (o : Option Arrival) → IsCalm o → IsLast (answer_of o) → state_of o ≡ state.Stopped
 calm-stops None calm last = refl
 calm-stops (Some a) calm last = calm last
 
 pub stopped_of : (units : List ℕ) (next : State) (unit : ℕ) (o : Option Arrival) → step units next unit ≡ o → IsLast (answer_of o) → state_of o ≡ state.Stopped
 stopped_of units next unit o is = subst (λ o. IsLast (answer_of o) → state_of o ≡ state.Stopped) is (calm-stops (step units next unit) (calm-step units next unit))
-
-pub no_match_of : (units : List ℕ) (next : State) (unit : ℕ) (o : Option Arrival) → step units next unit ≡ o → next ≡ state.Stopped → answer_of o ≡ NoMatch
-no_match_of units next unit o is stopped = ap answer_of (sym is) ∙ ap (λ next. answer_of (step units next unit)) stopped

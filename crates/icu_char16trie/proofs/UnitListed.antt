@@ -1,5 +1,5 @@
 -- All that units in the grammar spell is listed, and the list rises.
-use Rattle.std.proofs.Common.{◌≡◌, ◌≢◌, ℕ, ℤ, ◌+◌, ◌-◌, ◌/◌, ◌%◌, ◌<◌, ◌≤◌, ◌++◌, List, [], ◌∷◌, length, map, slice_get, Option, Some, None, Ordering, Less, Equal, Greater, refl, ap, ◌∙◌, sym, subst, arith, inl, inr, ◌⊎◌, ⊎_elim}
+use Rattle.std.proofs.Common.{◌≡◌, ℕ, ℤ, ◌+◌, ◌-◌, ◌/◌, ◌%◌, ◌<◌, ◌≤◌, ◌++◌, List, [], ◌∷◌, map, slice_get, Option, Some, None, Less, Equal, refl, ap, ◌∙◌, sym, subst, arith, inl, inr, ◌⊎◌, ⊎_elim}
 use Rattle.std.specs.Int.{cast_signed, w32}
 use Rattle.std.specs.Cmp.{nat_cmp_is}
 use Rattle.std.specs.Cmp.Lexicographic.{slice_cmp}
@@ -7,13 +7,12 @@ use Rattle.std.specs.List.{AllByRecursion}
 use Rattle.std.specs.List.Sorted.{IsStrictlySortedBy}
 use Rattle.std.proofs.lemmas.Option.{none-some}
 use Rattle.std.specs.Ordering.{nat_cmp, ordering_then}
-use Rattle.icu_char16trie.specs.UnitCells.{delta, landing, final_number, intermediate_number}
-use Rattle.icu_char16trie.specs.UnitSteps.{entry_at, entry_target, opened}
+use Rattle.icu_char16trie.specs.UnitCells.{final_number, intermediate_number}
+use Rattle.icu_char16trie.specs.UnitSteps.{entry_target, opened}
 use Rattle.icu_char16trie.specs.UnitMaps.{at_node, behind, Spells, ends, goes_on, run_on, run_out, branch_value, branch_node, Leads, listed, Lists, IsNode, final, valued, bare}
 use Rattle.icu_char16trie.specs.UnitGrammar.{Part, spot, within, IsSound, sound_end, sound_node, sound_run, sound_run_end, sound_branch, sound_last, sound_value, sound_jump, sound_halves}
 use Rattle.icu_char16trie.specs.declared.cells.Number.{Number}
 use Rattle.icu_char16trie.specs.declared.node.Branch.{Branch}
-use Rattle.icu_char16trie.specs.declared.node.Entry.{Entry}
 use Rattle.icu_char16trie.specs.declared.node.Match.{Match}
 use Rattle.icu_char16trie.specs.declared.node.Target.{Target}
 use Rattle.icu_char16trie.specs.declared.node.Target.TheVariants.{Value, Node}
@@ -22,7 +21,7 @@ use Rattle.icu_char16trie.specs.declared.node.State.TheVariants as state
 use Rattle.icu_char16trie.proofs.UnitBranches.{some-same}
 use Rattle.icu_char16trie.proofs.UnitGrammars.{fewer, last_target, entry_found, leads_listed, leads_half}
 use Rattle.icu_char16trie.specs.UnitPairs.{Has}
-use Rattle.icu_char16trie.proofs.UnitListing.{Pair, behind_unit, with_value, listing, has-left, has-right, has-behind, SpelledIn}
+use Rattle.icu_char16trie.proofs.UnitListing.{Pair, behind_unit, with_value, listing, has-left, has-right, has-behind}
 
 -- a node has one value, and one thing follows it
 pub node_unique : (units : List ℕ) {place : ℕ} {value other : Option ℕ} {next following : Option State} → IsNode units place value next → IsNode units place other following

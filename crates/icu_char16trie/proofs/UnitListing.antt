@@ -1,21 +1,18 @@
 -- The keys and values that units in the grammar spell, in order.
-use Rattle.std.proofs.Common.{◌≡◌, ◌≢◌, ℕ, ℤ, ◌+◌, ◌-◌, ◌/◌, ◌<◌, ◌≤◌, ◌++◌, List, [], ◌∷◌, length, slice_get, Option, Some, None, refl, ap, ◌∙◌, sym, subst, arith, inl, inr, ◌⊎◌, ⊎_elim}
+use Rattle.std.proofs.Common.{◌≡◌, ℕ, ℤ, ◌+◌, ◌-◌, ◌/◌, ◌<◌, ◌≤◌, ◌++◌, List, [], ◌∷◌, Option, Some, None, refl, ap, ◌∙◌, sym, subst, arith, inl, inr, ◌⊎◌, ⊎_elim}
 use Rattle.std.specs.Int.{cast_signed, w32}
-use Rattle.icu_char16trie.specs.UnitCells.{delta, landing}
 use Rattle.icu_char16trie.specs.UnitSteps.{entry_at, entry_target}
-use Rattle.icu_char16trie.specs.UnitMaps.{at_node, behind, Spells, ends, goes_on, run_on, run_out, branch_value, branch_node, Leads, listed, lower, upper, Lists, last, here, later, IsNode, final, valued, bare}
+use Rattle.icu_char16trie.specs.UnitMaps.{at_node, behind, Spells, ends, goes_on, run_on, run_out, branch_value, branch_node, Leads, listed, lower, upper, Lists, later, IsNode}
 use Rattle.icu_char16trie.specs.UnitPairs.{Has}
 use Rattle.icu_char16trie.specs.UnitGrammar.{Part, spot, within, IsSound, sound_end, sound_node, sound_run, sound_run_end, sound_branch, sound_last, sound_value, sound_jump, sound_halves}
-use Rattle.icu_char16trie.specs.declared.cells.Number.{Number}
 use Rattle.icu_char16trie.specs.declared.node.Branch.{Branch}
 use Rattle.icu_char16trie.specs.declared.node.Entry.{Entry}
-use Rattle.icu_char16trie.specs.declared.node.Match.{Match}
 use Rattle.icu_char16trie.specs.declared.node.Target.{Target}
 use Rattle.icu_char16trie.specs.declared.node.Target.TheVariants.{Value, Node}
 use Rattle.icu_char16trie.specs.declared.node.State.{State}
 use Rattle.icu_char16trie.specs.declared.node.State.TheVariants as state
 use Rattle.icu_char16trie.proofs.UnitBranches.{some-same}
-use Rattle.icu_char16trie.proofs.UnitGrammars.{fewer, last_leads, entry_leads, last_target, entry_found, leads_listed, leads_half, InHalf}
+use Rattle.icu_char16trie.proofs.UnitGrammars.{fewer, last_leads, entry_leads, last_target, entry_found, leads_listed, leads_half}
 
 abbrev pub Pair : Type 0
 Pair = List ℕ × ℤ

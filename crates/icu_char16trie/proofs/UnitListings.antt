@@ -1,7 +1,6 @@
 -- The list of units that were read, and units that are refused.
-use Rattle.std.proofs.Common.{◌≡◌, ◌≢◌, ℕ, ℤ, ◌+◌, ◌<◌, ◌≤◌, ltb, if◌then◌else◌, ◌++◌, List, [], ◌∷◌, length, map, slice_get, Option, Some, None, refl, ap, ◌∙◌, sym, subst, arith, inl, inr, ◌⊎◌, ◌↔◌}
+use Rattle.std.proofs.Common.{◌≡◌, ◌≢◌, ℕ, ℤ, ◌<◌, ◌≤◌, ltb, if◌then◌else◌, ◌++◌, List, [], ◌∷◌, map, slice_get, Option, Some, None, refl, ap, ◌∙◌, sym, subst, arith, ◌↔◌}
 use Rattle.std.specs.Cmp.Lexicographic.{slice_cmp}
-use Rattle.std.specs.List.{Contains}
 use Rattle.std.specs.List.Sorted.{IsStrictlySortedBy}
 use Rattle.std.specs.Ordering.{nat_cmp}
 use Rattle.std.proofs.lemmas.List.{append-nil}
@@ -12,7 +11,6 @@ use Rattle.icu_char16trie.specs.UnitMaps.{at_node, behind, Spells, ends, goes_on
 use Rattle.icu_char16trie.specs.UnitGrammar.{spot, IsSound, IsUnitTrie, no_units, rooted, IsWithin, IsListing}
 use Rattle.icu_char16trie.specs.UnitJobs.{Job, Reads, done, StopsIn, StopsAt, in_parts, HasRead}
 use Rattle.icu_char16trie.specs.declared.node.State.{State}
-use Rattle.icu_char16trie.specs.declared.node.State.TheVariants as state
 use Rattle.icu_char16trie.specs.declared.reader.part.Part.TheVariants as part
 use Rattle.icu_char16trie.proofs.UnitLemmas.{if_ltb}
 use Rattle.icu_char16trie.proofs.UnitBranches.{some-same}
@@ -58,7 +56,7 @@ module _ (units : List ℕ) where
     (λ h. absurd (no-spells none h)),
   )
 
-  start-spells : IsUnitTrie units → (key : List ℕ) (number : ℤ) → Spells units (behind (start units)) key number ↔ Spells units (at_node 0) key number
+  pub start-spells : IsUnitTrie units → (key : List ℕ) (number : ℤ) → Spells units (behind (start units)) key number ↔ Spells units (at_node 0) key number
   start-spells (no_units e) key number = empty-spells e key number
   start-spells (rooted next node rest) key number =
       subst (λ s. Spells units (behind s) key number ↔ Spells units (at_node 0) key number) (sym (start-is next node)) (behind-root next key number node)

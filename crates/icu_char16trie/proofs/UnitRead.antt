@@ -1,17 +1,15 @@
 -- Units in the grammar are read, and what is read is their list.
-use Rattle.std.proofs.Common.{◌≡◌, ◌≢◌, ℕ, ℤ, ◌+◌, ◌-◌, ◌/◌, ◌%◌, ◌<◌, ◌≤◌, leb, if◌then◌else◌, ◌++◌, List, [], ◌∷◌, length, map, slice_get, Option, Some, None, Result, Ok, Err, refl, ap, ◌∙◌, sym, subst, arith, inl, inr, ◌⊎◌, ◌↔◌, ⊎_elim, append_assoc, length-append}
-use Rattle.std.proofs.lemmas.Bool.{cases_lt}
+use Rattle.std.proofs.Common.{◌≡◌, ℕ, ℤ, ◌+◌, ◌-◌, ◌/◌, ◌<◌, ◌≤◌, ◌++◌, List, [], ◌∷◌, length, slice_get, Option, Some, None, Result, Ok, Err, refl, ap, ◌∙◌, sym, subst, arith, inl, inr, ⊎_elim, append_assoc, length-append}
 use Rattle.std.proofs.lemmas.List.{append-nil}
 use Rattle.std.proofs.lemmas.List.Elements.{Contains-append_left, Contains-append_right, Contains-append_cases, Contains-push, Contains-push_cases}
 use Rattle.std.proofs.lemmas.Option.{none-some}
 use Rattle.std.specs.Int.{cast_signed, w32}
 use Rattle.std.specs.List.{Contains}
-use Rattle.icu_char16trie.specs.UnitMaps.{at_node, behind, Spells, IsNode, final, valued, bare}
-use Rattle.icu_char16trie.specs.UnitGrammar.{spot, within, IsSound, sound_end, sound_node, sound_run, sound_run_end, sound_branch, sound_last, sound_value, sound_jump, sound_halves, IsUnitTrie, no_units, rooted, IsWithin, IsListing}
+use Rattle.icu_char16trie.specs.UnitMaps.{at_node, behind, IsNode, final, valued, bare}
+use Rattle.icu_char16trie.specs.UnitGrammar.{spot, within, IsSound, sound_end, sound_node, sound_run, sound_run_end, sound_branch, sound_last, sound_value, sound_jump, sound_halves, IsUnitTrie, no_units, rooted}
 use Rattle.icu_char16trie.specs.UnitGrammar.{Part as Rule}
 use Rattle.icu_char16trie.specs.UnitReading.{at_node as node_of, bounded, part_behind, run_on, part_step}
-use Rattle.icu_char16trie.specs.UnitJobs.{Job, extended, onward, noted, HasRoom, jobs_of, pairs_of, IsStuck, Reads, done, on, StopsIn, here, beyond}
-use Rattle.icu_char16trie.specs.declared.node.Branch.{Branch}
+use Rattle.icu_char16trie.specs.UnitJobs.{Job, extended, onward, noted, HasRoom, jobs_of, Reads, done, on, StopsIn, here, beyond}
 use Rattle.icu_char16trie.specs.declared.node.Match.{Match}
 use Rattle.icu_char16trie.specs.declared.node.Target.TheVariants.{Value, Node}
 use Rattle.icu_char16trie.specs.declared.node.State.{State}
@@ -22,11 +20,10 @@ use Rattle.icu_char16trie.specs.declared.reader.part.Part.TheVariants as part
 use Rattle.icu_char16trie.specs.declared.reader.part.Step.{Step}
 use Rattle.icu_char16trie.proofs.UnitLemmas.{if_leb, if_not_leb}
 use Rattle.icu_char16trie.proofs.UnitBranches.{some-same}
-use Rattle.icu_char16trie.proofs.UnitStands.{behind_node, node_stands, run_stands, last_stands, entry_stands, halves_stand, step_of}
+use Rattle.icu_char16trie.proofs.UnitStands.{node_stands, run_stands, last_stands, entry_stands, halves_stand, step_of}
 use Rattle.icu_char16trie.specs.UnitPairs.{Has}
-use Rattle.icu_char16trie.proofs.UnitListing.{Pair, behind_unit, with_value, listing, listed_spelled}
-use Rattle.icu_char16trie.proofs.UnitListed.{lists_all, rising, rising_sorted}
-use Rattle.icu_char16trie.proofs.UnitReadings.{under, under-append, under-unit, under-nil, reads-sound}
+use Rattle.icu_char16trie.proofs.UnitListing.{Pair, behind_unit, with_value, listing}
+use Rattle.icu_char16trie.proofs.UnitReadings.{under, under-append, under-unit}
 
 -- some key is listed
 abbrev HasFirst : List Pair → Type 0

@@ -103,6 +103,10 @@ sorted_from (pair ∷ next ∷ pairs) h =
     (λ none. absurd (h 1 (omega arith) (inr (pair, next, omega arith, refl, refl, none)))) (below_or pair.0 next.0) in
     ((below, first_along pair.0 next.0 pairs below rest.0), rest)
 
+pub room_is : (pairs : List (List ℕ × ℤ)) → room pairs ≡ 10 * total pairs + 3 * length pairs
+room_is [] = omega arith
+room_is (pair ∷ pairs) = let r = room_is pairs in omega (arith, r)
+
 pub room_total : (pairs : List (List ℕ × ℤ)) → HaveUnits pairs → room pairs ≤ 13 * total pairs
 room_total [] h = omega arith
 room_total (pair ∷ pairs) h = let r = room_total pairs h.1 in let l = h.0 in omega (arith, r, l)
@@ -212,6 +216,9 @@ keyed_at (pair ∷ pairs) (suc place) d less = keyed_at pairs place d (omega (ar
 
 pub keyed_length : (pairs : List (Bor (List ℕ) × ℤ)) → length (keyed pairs) ≡ length pairs
 keyed_length pairs = length-map pairs (λ pair. (pair.0.now, pair.1))
+
+pub keyed_room : (pairs : List (Bor (List ℕ) × ℤ)) → room (rests 0 pairs) ≡ 10 * total (keyed pairs) + 3 * length pairs
+keyed_room pairs = let e = ap room (keyed_rests pairs) in let r = room_is (keyed pairs) in let l = keyed_length pairs in omega (arith, e, r, l)
 
 pub key_none : (key : List ℕ) (b : Bool) → b ≡ (length key == 0) → b ≡ true → key ≡ []
 key_none [] b e t = refl

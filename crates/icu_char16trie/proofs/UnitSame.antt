@@ -1,5 +1,5 @@
 -- Two sorted lists with the same keys and values are one.
-use Rattle.std.proofs.Common.{◌≡◌, ℕ, ℤ, List, [], ◌∷◌, map, Less, refl, ap, ◌∙◌, sym, subst, inl, inr, ◌⊎◌, ◌↔◌, ⊎_elim}
+use Rattle.std.proofs.Common.{◌≡◌, ℕ, ℤ, List, [], ◌∷◌, map, Less, refl, ap, ◌∙◌, sym, subst, inl, inr, ◌↔◌, ⊎_elim}
 use Rattle.std.proofs.lemmas.Cmp.{nat_list_cmp_total, tied_itself}
 use Rattle.std.specs.Cmp.Lexicographic.{slice_cmp}
 use Rattle.std.specs.List.{AllByRecursion, Contains}

@@ -1,5 +1,5 @@
 -- A cursor answers what the map says.
-use Rattle.std.proofs.Common.{◌≡◌, ℕ, ℤ, ◌↔◌, List, ◌∷◌, ◌++◌, refl}
+use Rattle.std.proofs.Common.{ℕ, ℤ, ◌↔◌, List, ◌∷◌, ◌++◌, refl}
 use Rattle.icu_char16trie.specs.UnitMaps.{HasValue, IsLast}
 use Rattle.icu_char16trie.specs.UnitAnswers.{BeginKey, IsAnswer}
 use Rattle.icu_char16trie.specs.declared.TrieResult.{TrieResult}

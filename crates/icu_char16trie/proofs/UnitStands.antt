@@ -1,23 +1,20 @@
 -- What stands first in a part of a unit trie, rule by rule.
-use Rattle.std.proofs.Common.{◌≡◌, ◌≢◌, ℕ, ◌+◌, ◌-◌, ◌/◌, ◌%◌, ◌<◌, ◌≤◌, ltb, leb, ◌==◌, if◌then◌else◌, List, length, slice_get, Option, Some, None, Result, Ok, Err, refl, ap, ◌∙◌, sym, subst, arith, ⊎_elim}
-use Rattle.std.proofs.lemmas.Bool.{cases_lt, cases_eq}
-use Rattle.std.proofs.lemmas.Option.{none-some}
+use Rattle.std.proofs.Common.{◌≡◌, ℕ, ◌+◌, ◌-◌, ◌/◌, ◌%◌, ◌<◌, ◌≤◌, leb, if◌then◌else◌, List, length, slice_get, Option, Some, None, Result, Ok, Err, refl, ap, ◌∙◌, sym, subst, arith, ⊎_elim}
+use Rattle.std.proofs.lemmas.Bool.{cases_lt}
 use Rattle.icu_char16trie.specs.UnitCells.{after, final_number, intermediate_number, delta, landing}
 use Rattle.icu_char16trie.specs.UnitSteps.{entry_at, entry_target, opened}
 use Rattle.icu_char16trie.specs.UnitMaps.{IsNode, final, valued, bare}
 use Rattle.icu_char16trie.specs.UnitReading.{or_end, or_here, bounded, part_behind, at_node, node_step, run_on, run_step, last_step, target_value, target_part, entry_step, halves_step, part_step}
 use Rattle.icu_char16trie.specs.declared.cells.Number.{Number}
-use Rattle.icu_char16trie.specs.declared.node.Branch.{Branch}
 use Rattle.icu_char16trie.specs.declared.node.Entry.{Entry}
 use Rattle.icu_char16trie.specs.declared.node.Match.{Match}
 use Rattle.icu_char16trie.specs.declared.node.Target.{Target}
 use Rattle.icu_char16trie.specs.declared.node.State.{State}
-use Rattle.icu_char16trie.specs.declared.node.State.TheVariants as state
 use Rattle.icu_char16trie.specs.declared.reader.part.Bounded.{Bounded}
 use Rattle.icu_char16trie.specs.declared.reader.part.Part.{Part}
 use Rattle.icu_char16trie.specs.declared.reader.part.Part.TheVariants as part
 use Rattle.icu_char16trie.specs.declared.reader.part.Step.{Step}
-use Rattle.icu_char16trie.proofs.UnitLemmas.{if_leb, if_not_leb, if_ltb, if_not_ltb, if_eq, if_not_eq}
+use Rattle.icu_char16trie.proofs.UnitLemmas.{if_leb, if_not_leb, if_ltb, if_not_ltb}
 use Rattle.icu_char16trie.proofs.UnitBranches.{after-some, some-same}
 
 -- the part behind a node, if anything follows it

@@ -1,13 +1,13 @@
 -- What a cursor answers to several units, by the keys that units spell.
-use Rattle.std.proofs.Common.{◌≡◌, ◌∙◌, ◌++◌, ℕ, ℤ, ◌+◌, ◌-◌, ◌/◌, ◌%◌, Bool, true, false, ltb, if◌then◌else◌, ◌↔◌, ◌⊎◌, List, [], ◌∷◌, refl, sym, subst, inl, ⊎_elim}
+use Rattle.std.proofs.Common.{◌≡◌, ◌∙◌, ◌++◌, ℕ, ℤ, ◌+◌, ◌-◌, ◌/◌, ◌%◌, ◌<◌, Bool, true, false, ltb, if◌then◌else◌, ◌↔◌, ◌⊎◌, List, [], ◌∷◌, length, refl, sym, subst, inl, ⊎_elim, arith}
 use Rattle.icu_char16trie.specs.UnitSteps.{step}
-use Rattle.icu_char16trie.specs.Cursors.{state_of, answer_to, follow, units_of}
+use Rattle.icu_char16trie.specs.Cursors.{state_of, answer_to, follow, units_of, cursor_units, cursor_state, Follows}
 use Rattle.icu_char16trie.specs.UnitMaps.{behind, Spells, HasValue, IsLast, IsWhole}
+use Rattle.icu_char16trie.specs.declared.Char16TrieIterator.{Char16TrieIterator}
 use Rattle.icu_char16trie.specs.declared.node.State.{State}
 use Rattle.icu_char16trie.specs.declared.node.State.TheVariants as state
 use Rattle.icu_char16trie.specs.declared.TrieResult.{TrieResult}
 use Rattle.icu_char16trie.specs.declared.TrieResult.TheVariants.{NoMatch}
-use Rattle.icu_char16trie.specs.UnitAnswers.{IsAnswer}
 use Rattle.icu_char16trie.proofs.UnitAnswers.{stopped_none}
 use Rattle.icu_char16trie.proofs.UnitSays.{answers}
 use Rattle.icu_char16trie.proofs.UnitKeys.{value_law, longer_law, stopped_of}
@@ -46,65 +46,48 @@ whole_to units next unit (second ∷ rest) whole =
     (λ still. whole_to units (state_of (step units next unit)) second rest still)
     (whole_of units next unit (step units next unit) refl whole)
 
-abbrev one_or_two : Bool → ℕ → ℕ → ℕ → List ℕ
-one_or_two b single high low = if b then single ∷ [] else high ∷ low ∷ []
-
-value-pick : (units : List ℕ) (next : State) (b : Bool) (single high low : ℕ) (number : ℤ) →
-    HasValue (answer_to units next (one_or_two b single high low)) number ↔ Spells units (behind next) (one_or_two b single high low) number
-value-pick units next true single high low number = value_to units next single [] number
-value-pick units next false single high low number = value_to units next high (low ∷ []) number
-
-longer-pick : (units : List ℕ) (next : State) (b : Bool) (single high low more : ℕ) (key : List ℕ) (number : ℤ) →
-    Spells units (behind (follow units next (one_or_two b single high low))) (more ∷ key) number
-    ↔ Spells units (behind next) (one_or_two b single high low ++ (more ∷ key)) number
-longer-pick units next true single high low more key number = longer_to units next single [] more key number
-longer-pick units next false single high low more key number = longer_to units next high (low ∷ []) more key number
-
-stopped-pick : (units : List ℕ) (next : State) (b : Bool) (single high low : ℕ) → IsLast (answer_to units next (one_or_two b single high low))
-    → follow units next (one_or_two b single high low) ≡ state.Stopped
-stopped-pick units next true single high low last = stopped_to units next single [] last
-stopped-pick units next false single high low last = stopped_to units next high (low ∷ []) last
-
-whole-pick : (units : List ℕ) (next : State) (b : Bool) (single high low : ℕ) → IsWhole units (behind next)
-    → IsLast (answer_to units next (one_or_two b single high low)) ⊎ IsWhole units (behind (follow units next (one_or_two b single high low)))
-whole-pick units next true single high low whole = whole_to units next single [] whole
-whole-pick units next false single high low whole = whole_to units next high (low ∷ []) whole
-
 no-match-to : (units : List ℕ) (unit : ℕ) (rest : List ℕ) → answer_to units state.Stopped (unit ∷ rest) ≡ NoMatch
 no-match-to units unit [] = refl
 no-match-to units unit (second ∷ rest) = no-match-to units second rest
 
-no-match-pick : (units : List ℕ) (b : Bool) (single high low : ℕ) → answer_to units state.Stopped (one_or_two b single high low) ≡ NoMatch
-no-match-pick units true single high low = no-match-to units single []
-no-match-pick units false single high low = no-match-to units high (low ∷ [])
+units-some : (b : Bool) (single high low : ℕ) → 0 < length (if b then single ∷ [] else high ∷ low ∷ [])
+units-some true single high low = omega arith
+units-some false single high low = omega arith
 
--- the same of the units of a code point, and what that came to
-module _ (units : List ℕ) (next : State) (code : ℕ) (answer : TrieResult) (read : List ℕ) (after : State) (read-is : read ≡ units)
-    (answer-is : answer ≡ answer_to units next (units_of code)) (after-is : after ≡ follow units next (units_of code)) where
-  pub value_units : (number : ℤ) → HasValue answer number ↔ Spells units (behind next) (units_of code) number
-  value_units number = subst (λ answer. HasValue answer number ↔ Spells units (behind next) (units_of code) number) (sym answer-is)
-      (value-pick units next (ltb code 0x10000) code (0xd800 + (code - 0x10000) / 0x400) (0xdc00 + code % 0x400) number)
+pub units_some : (code : ℕ) → 0 < length (units_of code)
+units_some code = units-some (ltb code 0x10000) code (0xd800 + (code - 0x10000) / 0x400) (0xdc00 + code % 0x400)
 
-  pub longer_units : (more : ℕ) (key : List ℕ) (number : ℤ) →
-      Spells read (behind after) (more ∷ key) number ↔ Spells units (behind next) (units_of code ++ (more ∷ key)) number
-  longer_units more key number = subst (λ read. Spells read (behind after) (more ∷ key) number ↔ Spells units (behind next) (units_of code ++ (more ∷ key)) number) (sym read-is) (subst (λ after. Spells units (behind after) (more ∷ key) number ↔ Spells units (behind next) (units_of code ++ (more ∷ key)) number) (sym after-is)
-      (longer-pick units next (ltb code 0x10000) code (0xd800 + (code - 0x10000) / 0x400) (0xdc00 + code % 0x400) more key number))
-
-  pub stopped_units : IsLast answer → after ≡ state.Stopped
-  stopped_units last = after-is ∙ stopped-pick units next (ltb code 0x10000) code (0xd800 + (code - 0x10000) / 0x400) (0xdc00 + code % 0x400) (subst IsLast answer-is last)
-
-  pub whole_units : IsWhole units (behind next) → IsLast answer ⊎ IsWhole read (behind after)
-  whole_units whole = subst (λ read. IsLast answer ⊎ IsWhole read (behind after)) (sym read-is) (subst (λ answer. IsLast answer ⊎ IsWhole units (behind after)) (sym answer-is)
-      (subst (λ after. IsLast (answer_to units next (units_of code)) ⊎ IsWhole units (behind after)) (sym after-is)
-      (whole-pick units next (ltb code 0x10000) code (0xd800 + (code - 0x10000) / 0x400) (0xdc00 + code % 0x400) whole)))
-
-  pub more_units : IsWhole units (behind next) → (IsLast answer → ⊥) → (more : ℕ) × (key : List ℕ) × (number : ℤ) × Spells read (behind after) (more ∷ key) number
-  more_units whole unlast = ⊎_elim (λ last. absurd (unlast last)) (λ rest. has_more read after rest) (whole_units whole)
-
-  pub no_match_units : next ≡ state.Stopped → answer ≡ NoMatch
-  no_match_units stopped = answer-is ∙ subst (λ next. answer_to units next (units_of code) ≡ NoMatch) (sym stopped)
-      (no-match-pick units (ltb code 0x10000) code (0xd800 + (code - 0x10000) / 0x400) (0xdc00 + code % 0x400))
-
-  pub says_units : IsWhole units (behind next) → IsAnswer (Spells units (behind next)) (units_of code) answer
-  says_units whole = answers (Spells units (behind next)) (Spells read (behind after)) (units_of code) longer_units answer value_units (more_units whole)
-      (λ last key number h. stopped_none read key number (subst (λ after. Spells read (behind after) key number) (stopped_units last) h))
+-- the same of a cursor
+pub follows_of : (before : Char16TrieIterator) (key : List ℕ) (answer : TrieResult) (after : Char16TrieIterator) → 0 < length key
+    → cursor_units after ≡ cursor_units before → answer ≡ answer_to (cursor_units before) (cursor_state before) key
+    → cursor_state after ≡ follow (cursor_units before) (cursor_state before) key → Follows before key answer after
+follows_of before [] answer after some same found stands = absurd (omega (arith, some))
+follows_of before (unit ∷ rest) answer after some same found stands =
+    let units = cursor_units before in
+    let from = cursor_state before in
+    let value : (number : ℤ) → HasValue answer number ↔ Spells units (behind from) (unit ∷ rest) number =
+    λ number. subst (λ answer. HasValue answer number ↔ Spells units (behind from) (unit ∷ rest) number) (sym found) (value_to units from unit rest number) in
+    let longer : (more : ℕ) (key : List ℕ) (number : ℤ) → Spells (cursor_units after) (behind (cursor_state after)) (more ∷ key) number ↔ Spells units (behind from) ((unit ∷ rest) ++ (more ∷ key)) number =
+    λ more key number. subst (λ read. Spells read (behind (cursor_state after)) (more ∷ key) number ↔ Spells units (behind from) ((unit ∷ rest) ++ (more ∷ key)) number) (sym same)
+    (subst (λ state. Spells units (behind state) (more ∷ key) number ↔ Spells units (behind from) ((unit ∷ rest) ++ (more ∷ key)) number) (sym stands) (longer_to units from unit rest more key number)) in
+    let stops : IsLast answer → cursor_state after ≡ state.Stopped = λ last. stands ∙ stopped_to units from unit rest (subst IsLast found last) in
+    let last : IsLast answer → (key : List ℕ) (number : ℤ) → Spells (cursor_units after) (behind (cursor_state after)) key number → ⊥ =
+    λ last key number h. stopped_none (cursor_units after) key number (subst (λ state. Spells (cursor_units after) (behind state) key number) (stops last) h) in
+    let whole : IsWhole units (behind from) → IsLast answer ⊎ IsWhole (cursor_units after) (behind (cursor_state after)) =
+    λ whole. subst (λ read. IsLast answer ⊎ IsWhole read (behind (cursor_state after))) (sym same) (subst (λ answer. IsLast answer ⊎ IsWhole units (behind (cursor_state after))) (sym found)
+    (subst (λ state. IsLast (answer_to units from (unit ∷ rest)) ⊎ IsWhole units (behind state)) (sym stands) (whole_to units from unit rest whole))) in
+    let more : IsWhole units (behind from) → (IsLast answer → ⊥) → (more : ℕ) × (key : List ℕ) × (number : ℤ) × Spells (cursor_units after) (behind (cursor_state after)) (more ∷ key) number =
+    λ w unlast. ⊎_elim (λ last. absurd (unlast last)) (λ still. has_more (cursor_units after) (cursor_state after) still) (whole w) in
+    record {
+      units = same;
+      found = found;
+      stands = stands;
+      says = λ w. answers (Spells units (behind from)) (Spells (cursor_units after) (behind (cursor_state after))) (unit ∷ rest) longer answer value (more w) last;
+      value = value;
+      longer = longer;
+      whole = whole;
+      more = more;
+      last = last;
+      stops = stops;
+      stopped = λ stopped. found ∙ subst (λ state. answer_to units state (unit ∷ rest) ≡ NoMatch) (sym stopped) (no-match-to units unit rest);
+    }

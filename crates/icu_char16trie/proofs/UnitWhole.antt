@@ -1,5 +1,5 @@
 -- On units that keep the grammar an answer that is not the last begins a longer key.
-use Rattle.std.proofs.Common.{◌≡◌, ℕ, ℤ, ◌+◌, ◌-◌, Bool, true, false, ◌==◌, if◌then◌else◌, ◌⊎◌, List, [], ◌∷◌, slice_get, Option, Some, None, refl, ap, sym, subst, inl, inr, ⊎_elim}
+use Rattle.std.proofs.Common.{◌≡◌, ℕ, ℤ, ◌+◌, ◌-◌, Bool, true, false, ◌==◌, if◌then◌else◌, ◌⊎◌, List, [], ◌∷◌, slice_get, Option, Some, None, refl, ap, sym, subst, inl, inr}
 use Rattle.std.specs.Int.{cast_signed, w32}
 use Rattle.icu_char16trie.specs.UnitCells.{after}
 use Rattle.icu_char16trie.specs.UnitSteps.{small_part, begun, arrive_at, reached, matched, step}
@@ -89,10 +89,3 @@ has_more units next whole = let found = has-key units whole in some-unit units n
 module _ (units : List ℕ) (next : State) (unit : ℕ) (o : Option Arrival) (is : step units next unit ≡ o) where
   pub whole_of : IsWhole units (behind next) → IsLast (answer_of o) ⊎ IsWhole units (behind (state_of o))
   whole_of whole = stays-last units o (subst (λ o. StaysWhole units o) is (stays-step units unit whole))
-
-  pub more_of : IsWhole units (behind next) → (IsLast (answer_of o) → ⊥)
-      → (more : ℕ) × (key : List ℕ) × (number : ℤ) × Spells units (behind (state_of o)) (more ∷ key) number
-  more_of whole unlast =
-      ⊎_elim (λ last. absurd (unlast last))
-      (λ rest. has_more units (state_of o) rest)
-      (whole_of whole)

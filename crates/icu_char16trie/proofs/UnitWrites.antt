@@ -1,9 +1,8 @@
 -- Units that are written in front of others lay what they are written for.
-use Rattle.std.proofs.Common.{◌≡◌, ℕ, ℤ, ◌+◌, ◌-◌, ◌*◌, ◌/◌, ◌<◌, ◌≤◌, List, [], ◌∷◌, ◌++◌, length, take, drop, refl, ap, ◌∙◌, sym, subst, arith, Bor, Result, Ok, Err, slice_range, slice_index_or, length-append}
+use Rattle.std.proofs.Common.{◌≡◌, ℕ, ℤ, ◌+◌, ◌-◌, ◌*◌, ◌/◌, ◌<◌, ◌≤◌, List, [], ◌∷◌, ◌++◌, length, take, drop, refl, ap, ◌∙◌, sym, subst, arith, Bor, pos, slice_range, slice_index_or, length-append}
 use Rattle.std.proofs.lemmas.List.{map-append, length-map, take-append-drop}
 use Rattle.std.proofs.Math.Seq.{take-append_seam, drop-append_seam}
 use Rattle.std.proofs.lemmas.Option.{slice_get_within}
-use Rattle.std.specs.Result.{OnOk}
 use Rattle.std.specs.Int.{cast_signed, w32}
 use Rattle.icu_char16trie.specs.UnitForms.{number_form, intermediate_form, delta_form}
 use Rattle.icu_char16trie.specs.UnitPairs.{AreSorted, HaveUnits, FirstGoesOn, rests, prefixed, spread, AreGroups, parts, room, Extends}
@@ -11,33 +10,23 @@ use Rattle.icu_char16trie.specs.UnitLayouts.{Lays, node, follows, within}
 use Rattle.icu_char16trie.specs.UnitLayouts as layout
 use Rattle.icu_char16trie.specs.declared.writer.group.Group.{Group}
 use Rattle.icu_char16trie.proofs.UnitReads.{reads_number, reads_intermediate}
-use Rattle.icu_char16trie.proofs.UnitPairs.{rests_length, sorted_longer, sorted_run, extends_more, room_append, room_behind, room_run}
+use Rattle.icu_char16trie.proofs.UnitPairs.{rests_length, sorted_longer, sorted_run, room_append, room_behind, room_run}
 use Rattle.icu_char16trie.proofs.UnitGroups.{groups_bounds, groups_wider, groups_halved, spread_append}
 
-pub extends_put : {T E : Type 0} (r : Result T E) (form old mid new : List ℕ) → OnOk r (new ≡ form ++ mid) → Extends old mid → OnOk r (Extends old new)
-extends_put (Ok x) form old mid new e h = extends_more old mid new h (form, e)
-extends_put (Err x) form old mid new e h = tt
+-- what stands at no place
+abbrev pub no_key : Bor (List ℕ) × ℤ
+no_key = (record { ref_ptr = (0, 0); now = [] }, pos 0)
+
+abbrev pub no_group : Group
+no_group = record { unit = 0; pairs = record { ref_ptr = (0, 0); now = [] } }
 
 -- a node
 
-pub bare_lays : {T E : Type 0} (r : Result T E) (kind : ℕ) (mid new : List ℕ) (pairs : List (List ℕ × ℤ)) → OnOk r (new ≡ kind ∷ mid) → kind < 0x40 → Lays mid (follows kind pairs)
-    → OnOk r (Lays new (node pairs))
-bare_lays (Ok x) kind mid new pairs e low h = subst (λ units. Lays units (node pairs)) (sym e) (layout.bare kind mid pairs low h)
-bare_lays (Err x) kind mid new pairs e low h = tt
-
-pub final_lays : {T E : Type 0} (r : Result T E) (number : ℕ) (value : ℤ) (old new : List ℕ) (pairs : List (List ℕ × ℤ)) → OnOk r (new ≡ number_form 0x8000 number ++ old)
-    → cast_signed w32 number ≡ value → pairs ≡ ([], value) ∷ [] → OnOk r (Lays new (node pairs))
-final_lays (Ok x) number value old new pairs e is p =
+pub final_lays : (number : ℕ) (value : ℤ) (old new : List ℕ) (pairs : List (List ℕ × ℤ)) → new ≡ number_form 0x8000 number ++ old
+    → cast_signed w32 number ≡ value → pairs ≡ ([], value) ∷ [] → Lays new (node pairs)
+final_lays number value old new pairs e is p =
     subst (λ units. Lays units (node pairs)) (sym e)
     (subst (λ pairs. Lays (number_form 0x8000 number ++ old) (node pairs)) (ap (λ value. ([], value) ∷ []) is ∙ sym p) (layout.final number old))
-final_lays (Err x) number value old new pairs e is p = tt
-
-pub valued_lays : {T E : Type 0} (r : Result T E) (kind number : ℕ) (value : ℤ) (mid new : List ℕ) (pairs all : List (List ℕ × ℤ)) → OnOk r (new ≡ intermediate_form kind number ++ mid)
-    → cast_signed w32 number ≡ value → kind < 0x40 → Lays mid (follows kind pairs) → all ≡ ([], value) ∷ pairs → OnOk r (Lays new (node all))
-valued_lays (Ok x) kind number value mid new pairs all e is low h p =
-    subst (λ units. Lays units (node all)) (sym e)
-    (subst (λ all. Lays (intermediate_form kind number ++ mid) (node all)) (ap (λ value. ([], value) ∷ pairs) is ∙ sym p) (layout.valued kind number mid pairs low h))
-valued_lays (Err x) kind number value mid new pairs all e is low h p = tt
 
 pub rests_one : (depth : ℕ) (pairs : List (Bor (List ℕ) × ℤ)) → length pairs ≡ 1 → rests depth (drop 1 pairs) ≡ []
 rests_one depth [] one = absurd (omega (arith, one))
@@ -51,14 +40,6 @@ longer_all (pair ∷ pairs) long sorted = (long, sorted_longer pair pairs sorted
 pub longer_rest : (depth : ℕ) (pairs : List (Bor (List ℕ) × ℤ)) → AreSorted (rests depth pairs) → HaveUnits (rests depth (drop 1 pairs))
 longer_rest depth [] sorted = tt
 longer_rest depth (pair ∷ pairs) sorted = sorted_longer (drop depth pair.0.now, pair.1) (rests depth pairs) sorted
-
-pub sorted_rest : (depth : ℕ) (pairs : List (Bor (List ℕ) × ℤ)) → AreSorted (rests depth pairs) → AreSorted (rests depth (drop 1 pairs))
-sorted_rest depth [] sorted = tt
-sorted_rest depth (pair ∷ pairs) sorted = sorted.1
-
-pub room_rest : (depth : ℕ) (pairs : List (Bor (List ℕ) × ℤ)) → 0 < length pairs → room (rests depth (drop 1 pairs)) + 3 ≤ room (rests depth pairs)
-room_rest depth [] some = absurd (omega (arith, some))
-room_rest depth (pair ∷ pairs) some = omega arith
 
 -- what all keys go on with
 
@@ -146,24 +127,22 @@ first_group unit pairs groups all e h =
 abbrev pub LaysGroups : List ℕ → List (ℕ × List (List ℕ × ℤ)) → Type 0
 LaysGroups units groups = (low high : ℕ) → AreGroups low high groups → Lays units (within low high groups)
 
-pub last_lays : {T E : Type 0} (r : Result T E) (unit : ℕ) (mid new : List ℕ) (pairs : List (List ℕ × ℤ)) (all : List (ℕ × List (List ℕ × ℤ))) → OnOk r (new ≡ unit ∷ mid)
-    → Lays mid (node pairs) → all ≡ (unit, pairs) ∷ [] → OnOk r (LaysGroups new all)
-last_lays (Ok x) unit mid new pairs all p h e = λ low high g.
+pub last_lays : (unit : ℕ) (mid new : List ℕ) (pairs : List (List ℕ × ℤ)) (all : List (ℕ × List (List ℕ × ℤ))) → new ≡ unit ∷ mid
+    → Lays mid (node pairs) → all ≡ (unit, pairs) ∷ [] → LaysGroups new all
+last_lays unit mid new pairs all p h e = λ low high g.
     let g : AreGroups low high ((unit, pairs) ∷ []) = subst (λ all. AreGroups low high all) e g in
     subst (λ new. Lays new (within low high all)) (sym p)
     (subst (λ all. Lays (unit ∷ mid) (within low high all)) (sym e) (layout.last low high unit mid pairs g.0 g.1 h))
-last_lays (Err x) unit mid new pairs all p h e = tt
 
-pub value_lays : {T E : Type 0} (r : Result T E) (unit number : ℕ) (value : ℤ) (mid put new : List ℕ) (pairs : List (List ℕ × ℤ)) (groups all : List (ℕ × List (List ℕ × ℤ)))
-    → OnOk r (new ≡ unit ∷ put) → put ≡ number_form 0x8000 number ++ mid → cast_signed w32 number ≡ value → pairs ≡ ([], value) ∷ [] → LaysGroups mid groups
-    → 0 < length groups → length groups < 5 → all ≡ (unit, pairs) ∷ groups → OnOk r (LaysGroups new all)
-value_lays (Ok x) unit number value mid put new pairs groups all p q is alone h some few e = λ low high g.
+pub value_lays : (unit number : ℕ) (value : ℤ) (mid put new : List ℕ) (pairs : List (List ℕ × ℤ)) (groups all : List (ℕ × List (List ℕ × ℤ)))
+    → new ≡ unit ∷ put → put ≡ number_form 0x8000 number ++ mid → cast_signed w32 number ≡ value → pairs ≡ ([], value) ∷ [] → LaysGroups mid groups
+    → 0 < length groups → length groups < 5 → all ≡ (unit, pairs) ∷ groups → LaysGroups new all
+value_lays unit number value mid put new pairs groups all p q is alone h some few e = λ low high g.
     let one : pairs ≡ ([], cast_signed w32 number) ∷ [] = alone ∙ ap (λ value. ([], value) ∷ []) (sym is) in
     let g : AreGroups low high ((unit, pairs) ∷ groups) = subst (λ all. AreGroups low high all) e g in
     subst (λ new. Lays new (within low high all)) (sym (p ∙ ap (λ put. unit ∷ put) q))
     (subst (λ all. Lays (unit ∷ (number_form 0x8000 number ++ mid)) (within low high all)) (sym (e ∙ ap (λ pairs. (unit, pairs) ∷ groups) one))
     (layout.value low high unit number mid groups g.0 g.1 some few (h (unit + 1) high g.4)))
-value_lays (Err x) unit number value mid put new pairs groups all p q is alone h some few e = tt
 
 number_some : (number : ℕ) (rest : List ℕ) → 0 < length (number_form 0x8000 number ++ rest)
 number_some number rest =
@@ -199,16 +178,15 @@ module _ (old new : List ℕ) (h : Extends old new) where
   pub extends_short : 0 < length old → length new - length old < length new
   extends_short some = let l = ap length h.1 ∙ length-append h.0 old in omega (arith, l, some)
 
-pub jump_lays : {T E : Type 0} (r : Result T E) (unit : ℕ) (child mid put new : List ℕ) (pairs : List (List ℕ × ℤ)) (groups all : List (ℕ × List (List ℕ × ℤ)))
-    → OnOk r (new ≡ unit ∷ put) → put ≡ number_form 0 (length mid - length child) ++ mid → Extends child mid → Lays child (node pairs) → LaysGroups mid groups
-    → 0 < length groups → length groups < 5 → all ≡ (unit, pairs) ∷ groups → OnOk r (LaysGroups new all)
-jump_lays (Ok x) unit child mid put new pairs groups all p q ext to h some few e = λ low high g.
+pub jump_lays : (unit : ℕ) (child mid put new : List ℕ) (pairs : List (List ℕ × ℤ)) (groups all : List (ℕ × List (List ℕ × ℤ)))
+    → new ≡ unit ∷ put → put ≡ number_form 0 (length mid - length child) ++ mid → Extends child mid → Lays child (node pairs) → LaysGroups mid groups
+    → 0 < length groups → length groups < 5 → all ≡ (unit, pairs) ∷ groups → LaysGroups new all
+jump_lays unit child mid put new pairs groups all p q ext to h some few e = λ low high g.
     let g : AreGroups low high ((unit, pairs) ∷ groups) = subst (λ all. AreGroups low high all) e g in
     subst (λ new. Lays new (within low high all)) (sym (p ∙ ap (λ put. unit ∷ put) q))
     (subst (λ all. Lays (unit ∷ (number_form 0 (length mid - length child) ++ mid)) (within low high all)) (sym e)
     (layout.jump low high unit (length mid - length child) mid pairs groups g.0 g.1 some few (extends_short child mid ext (node_some to))
     (subst (λ units. Lays units (node pairs)) (sym (extends_drop child mid ext)) to) (h (unit + 1) high g.4)))
-jump_lays (Err x) unit child mid put new pairs groups all p q ext to h some few e = tt
 
 -- the halves of a branch
 
@@ -217,20 +195,11 @@ parts_split depth n groups =
     ap (λ groups. parts depth groups) (sym (take-append-drop n groups))
     ∙ map-append (λ group. (group.unit, rests (depth + 1) group.pairs.now)) (take n groups) (drop n groups)
 
-spread_some : (low high : ℕ) (groups : List (ℕ × List (List ℕ × ℤ))) → 0 < length groups → AreGroups low high groups → 10 ≤ room (spread groups)
-spread_some low high [] some g = absurd (omega (arith, some))
-spread_some low high (group ∷ groups) some g =
-    let a = room_append (prefixed (group.0 ∷ []) group.1) (spread groups) in
-    let b = room_behind group.0 group.1 in
-    omega (arith, a, b, g.2)
-
 -- what halves of groups ask for
 pub record Halves (unit : ℕ) (lowers uppers all : List (ℕ × List (List ℕ × ℤ))) : Type 0 where
   pub lower : AreGroups 0 0x10000 lowers
   pub upper : AreGroups 0 0x10000 uppers
   pub sum : room (spread all) ≡ room (spread lowers) + room (spread uppers)
-  pub lower_room : 10 ≤ room (spread lowers)
-  pub upper_room : 10 ≤ room (spread uppers)
   pub between : (low high : ℕ) → AreGroups low high all → (low < unit) × (unit < high) × AreGroups low unit lowers × AreGroups unit high uppers
 
 pub halves_of : (unit : ℕ) (pairs : List (List ℕ × ℤ)) (lowers groups all : List (ℕ × List (List ℕ × ℤ))) → all ≡ lowers ++ (unit, pairs) ∷ groups → 0 < length lowers → AreGroups 0 0x10000 all
@@ -244,8 +213,6 @@ halves_of unit pairs lowers groups all e some g =
       lower = groups_wider 0 unit 0 0x10000 lowers (omega arith) (omega (arith, below)) c.0;
       upper = groups_wider unit 0x10000 0 0x10000 ((unit, pairs) ∷ groups) (omega arith) (omega arith) c.1;
       sum = ap (λ all. room (spread all)) e ∙ ap room (spread_append lowers ((unit, pairs) ∷ groups)) ∙ room_append (spread lowers) (spread ((unit, pairs) ∷ groups));
-      lower_room = spread_some 0 unit lowers some c.0;
-      upper_room = spread_some unit 0x10000 ((unit, pairs) ∷ groups) (omega arith) c.1;
       between = λ low high g.
           let c = cut low high g in
           let b = groups_bounds low unit lowers c.0 in
@@ -262,28 +229,22 @@ halves_at depth n groups lower (first ∷ upper) d l u some_lower some_upper g =
     (parts_split depth n groups ∙ ap (λ lower. parts depth lower ++ parts depth (drop n groups)) (sym l) ∙ ap (λ upper. parts depth lower ++ parts depth upper) (sym u))
     (omega (arith, c, some_lower)) g
 
-pub halves_lays : {T E : Type 0} (r : Result T E) (unit : ℕ) (child mid put new : List ℕ) (lowers uppers all : List (ℕ × List (List ℕ × ℤ))) → OnOk r (new ≡ unit ∷ put)
+pub halves_lays : (unit : ℕ) (child mid put new : List ℕ) (lowers uppers all : List (ℕ × List (List ℕ × ℤ))) → new ≡ unit ∷ put
     → put ≡ delta_form (length mid - length child) ++ mid → Extends child mid → LaysGroups child lowers → LaysGroups mid uppers → 5 < length lowers + length uppers
-    → length lowers ≡ (length lowers + length uppers) / 2 → all ≡ lowers ++ uppers → Halves unit lowers uppers all → OnOk r (LaysGroups new all)
-halves_lays (Ok x) unit child mid put new lowers uppers all p q ext to h many count e halves = λ low high g.
+    → length lowers ≡ (length lowers + length uppers) / 2 → all ≡ lowers ++ uppers → Halves unit lowers uppers all → LaysGroups new all
+halves_lays unit child mid put new lowers uppers all p q ext to h many count e halves = λ low high g.
     let b = halves.between low high g in
     let lower = to low unit b.2 in
     subst (λ new. Lays new (within low high all)) (sym (p ∙ ap (λ put. unit ∷ put) q))
     (subst (λ all. Lays (unit ∷ (delta_form (length mid - length child) ++ mid)) (within low high all)) (sym e)
     (layout.halves low high unit (length mid - length child) mid lowers uppers b.0 b.1 many count (extends_short child mid ext (within_some lower))
     (subst (λ units. Lays units (within low unit lowers)) (sym (extends_drop child mid ext)) lower) (h unit high b.3)))
-halves_lays (Err x) unit child mid put new lowers uppers all p q ext to h many count e halves = tt
 
 pub delta_length : (number : ℕ) → length (delta_form number) ≤ 3
 delta_length number = grind arith
 
 pub number_length : (highest number : ℕ) → length (number_form highest number) ≤ 3
 number_length highest number = grind arith
-
--- a unit more in front of what has room for it
-pub put_room : {T E : Type 0} (r : Result T E) (unit : ℕ) (mid new : List ℕ) (bound : ℕ) → OnOk r (new ≡ unit ∷ mid) → length mid + 5 ≤ bound → OnOk r (length new + 4 ≤ bound)
-put_room (Ok x) unit mid new bound e h = let l = ap length e in omega (arith, l, h)
-put_room (Err x) unit mid new bound e h = tt
 
 pub parts_alone : (depth : ℕ) (groups : List Group) (d : Group) → length groups ≡ 1
     → parts depth groups ≡ ((slice_index_or groups 0 d).unit, rests (depth + 1) (slice_index_or groups 0 d).pairs.now) ∷ []

@@ -1,14 +1,15 @@
 -- Cursors in a unit trie: what they answer, and where they stand then.
-use Rattle.std.specs.Prelude.{◌≡◌, ℕ, ℤ, ◌+◌, ◌-◌, ◌/◌, ◌%◌, ltb, if◌then◌else◌, List, [], ◌∷◌, Option, Some, None}
+use Rattle.std.specs.Prelude.{◌≡◌, ℕ, ℤ, ◌+◌, ◌-◌, ◌/◌, ◌%◌, ◌↔◌, ◌⊎◌, ltb, if◌then◌else◌, List, [], ◌∷◌, ◌++◌, Option, Some, None}
 use Rattle.icu_char16trie.specs.UnitSteps.{start, step}
-use Rattle.icu_char16trie.specs.UnitMaps.{behind, Spells, IsWhole}
+use Rattle.icu_char16trie.specs.UnitMaps.{behind, Spells, IsWhole, HasValue, IsLast}
+use Rattle.icu_char16trie.specs.UnitAnswers.{IsAnswer}
 use Rattle.icu_char16trie.specs.declared.Char16Trie.{Char16Trie}
 use Rattle.icu_char16trie.specs.declared.Char16TrieIterator.{Char16TrieIterator}
 use Rattle.icu_char16trie.specs.declared.node.State.{State}
 use Rattle.icu_char16trie.specs.declared.node.State.TheVariants.{Stopped}
 use Rattle.icu_char16trie.specs.declared.node.Arrival.{Arrival}
 use Rattle.icu_char16trie.specs.declared.TrieResult.{TrieResult}
-use Rattle.icu_char16trie.specs.declared.TrieResult.TheVariants.{NoMatch}
+use Rattle.icu_char16trie.specs.declared.TrieResult.TheVariants.{NoMatch, NoValue, Intermediate, FinalValue}
 
 -- the units of a trie
 abbrev pub trie_units : Char16Trie → List ℕ
@@ -68,3 +69,40 @@ abbrev pub answer_to : List ℕ → State → List ℕ → TrieResult
 answer_to units state [] = NoMatch
 answer_to units state (unit ∷ []) = answer_of (step units state unit)
 answer_to units state (unit ∷ next ∷ rest) = answer_to units (state_of (step units state unit)) (next ∷ rest)
+
+-- the value of an answer, if it has one
+abbrev pub answered : TrieResult → Option ℤ
+answered NoMatch = None
+answered NoValue = None
+answered (Intermediate value) = Some value
+answered (FinalValue value) = Some value
+
+-- the value of a key in a unit trie, if it has one there
+unfoldable pub value_of_key : List ℕ → List ℕ → Option ℤ
+value_of_key units key = answered (answer_to units (start units) key)
+
+-- a cursor was given the units of a key, which is not empty, one after another: the answer to the last of
+-- them, and the cursor then. The first three parts fix both, whatever the units of the trie are
+pub record Follows (before : Char16TrieIterator) (key : List ℕ) (answer : TrieResult) (after : Char16TrieIterator) : Type 0 where
+  -- the units that it reads are the same
+  pub units : cursor_units after ≡ cursor_units before
+  -- it goes from node to node, and answers `NoMatch` where the units match nothing or break the grammar
+  pub found : answer ≡ answer_to (cursor_units before) (cursor_state before) key
+  -- it stands where the units led it, stopped where they match nothing or break the grammar
+  pub stands : cursor_state after ≡ follow (cursor_units before) (cursor_state before) key
+  -- where the units keep the grammar, the answer says whether they are a key and whether longer ones begin with them
+  pub says : IsWholeFrom before → IsAnswer (IsEntryFrom before) key answer
+  -- a value is answered just where they are a key with it
+  pub value : (number : ℤ) → HasValue answer number ↔ IsEntryFrom before key number
+  -- longer keys go on from where it stands
+  pub longer : (next : ℕ) (rest : List ℕ) (number : ℤ) → IsEntryFrom after (next ∷ rest) number ↔ IsEntryFrom before (key ++ (next ∷ rest)) number
+  -- the units keep the grammar from there, unless nothing follows
+  pub whole : IsWholeFrom before → IsLast answer ⊎ IsWholeFrom after
+  -- some key goes on from there, unless nothing follows
+  pub more : IsWholeFrom before → (IsLast answer → ⊥) → (next : ℕ) × (rest : List ℕ) × (number : ℤ) × IsEntryFrom after (next ∷ rest) number
+  -- behind a last answer nothing follows
+  pub last : IsLast answer → (rest : List ℕ) (number : ℤ) → IsEntryFrom after rest number → ⊥
+  -- behind a last answer it is stopped
+  pub stops : IsLast answer → IsStopped after
+  -- once stopped it answers `NoMatch`
+  pub stopped : IsStopped before → answer ≡ NoMatch

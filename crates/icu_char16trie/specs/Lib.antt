@@ -1,12 +1,13 @@
 pub mod UnitCells
 pub mod UnitSteps
-pub mod Cursors
 pub mod UnitMaps
 pub mod UnitAnswers
+pub mod Cursors
 pub mod UnitGrammar
 pub mod UnitForms
 pub mod UnitPairs
 pub mod UnitLayouts
+pub mod UnitPlans
 pub mod WrittenUnits
 pub mod UnitReading
 pub mod UnitJobs

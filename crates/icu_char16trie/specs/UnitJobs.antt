@@ -1,5 +1,5 @@
 -- The order in which the parts of a unit trie are read, and where reading stops.
-use Rattle.std.specs.Prelude.{◌≡◌, ℕ, ℤ, ◌++◌, ◌<◌, ◌≤◌, ◌⊎◌, List, [], ◌∷◌, slice_get, length, map, reverse, Option, Some, None, Result, Ok, Err, codes}
+use Rattle.std.specs.Prelude.{◌≡◌, ℕ, ℤ, ◌++◌, ◌<◌, ◌≤◌, ◌⊎◌, List, [], ◌∷◌, slice_get, length, map, reverse, Option, Some, None, Ok, Err, codes}
 use Rattle.std.specs.Fmt.{decimal}
 use Rattle.std.specs.Int.{cast_signed, w32}
 use Rattle.icu_char16trie.specs.UnitReading.{part_step, part_place}

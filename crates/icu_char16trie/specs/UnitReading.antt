@@ -2,9 +2,6 @@
 use Rattle.std.specs.Prelude.{ℕ, ◌+◌, ◌-◌, ◌/◌, ◌%◌, ltb, leb, if◌then◌else◌, List, length, slice_get, Option, Some, None, Result, Ok, Err}
 use Rattle.icu_char16trie.specs.UnitCells.{after, final_number, intermediate_number, delta, landing}
 use Rattle.icu_char16trie.specs.UnitSteps.{entry_at, entry_target, opened}
-use Rattle.icu_char16trie.specs.declared.cells.Number.{Number}
-use Rattle.icu_char16trie.specs.declared.node.Branch.{Branch}
-use Rattle.icu_char16trie.specs.declared.node.Entry.{Entry}
 use Rattle.icu_char16trie.specs.declared.node.Match.{Match}
 use Rattle.icu_char16trie.specs.declared.node.Target.{Target}
 use Rattle.icu_char16trie.specs.declared.node.Target.TheVariants.{Value, Node}

@@ -13,6 +13,7 @@ pub(super) struct Number {
 }
 
 /// The unit at a place, or `None` past the end.
+#[inline(always)]
 pub(super) fn unit_at(units: &PackedVec<'_, u16>, place: usize) -> Option<u16>
     ensures unit { result ≡ slice_get units.now place }
     ensures size { IfSome result (λ unit. unit < 2 ^ 16) }
@@ -26,6 +27,7 @@ pub(super) fn unit_at(units: &PackedVec<'_, u16>, place: usize) -> Option<u16>
 }
 
 /// One unit more, below a number of high bits.
+#[inline(always)]
 fn with_unit(units: &PackedVec<'_, u16>, high: u16, place: usize) -> Option<Number>
     ensures { result ≡ with_unit units.now high place }
 {
@@ -37,6 +39,7 @@ fn with_unit(units: &PackedVec<'_, u16>, high: u16, place: usize) -> Option<Numb
 }
 
 /// Two units, the high one first.
+#[inline(always)]
 fn two_units(units: &PackedVec<'_, u16>, place: usize) -> Option<Number>
     ensures { result ≡ two_units units.now place }
 {
@@ -45,6 +48,7 @@ fn two_units(units: &PackedVec<'_, u16>, place: usize) -> Option<Number>
 }
 
 /// A final value or a jump, whose lead, without its highest bit, ends before the place.
+#[inline(always)]
 pub(super) fn final_number(units: &PackedVec<'_, u16>, lead: u16, place: usize) -> Option<Number>
     ensures { result ≡ final_number units.now lead place }
 {
@@ -61,6 +65,7 @@ pub(super) fn final_number(units: &PackedVec<'_, u16>, lead: u16, place: usize) 
 }
 
 /// An intermediate value, whose lead of 40 to 7FFF ends before the place.
+#[inline(always)]
 pub(super) fn intermediate_number(
     units: &PackedVec<'_, u16>,
     lead: u16,
@@ -82,6 +87,7 @@ pub(super) fn intermediate_number(
 }
 
 /// How far a branch jumps to its first half.
+#[inline(always)]
 pub(super) fn delta(units: &PackedVec<'_, u16>, place: usize) -> Option<Number>
     ensures { result ≡ delta units.now place }
 {
@@ -99,6 +105,7 @@ pub(super) fn delta(units: &PackedVec<'_, u16>, place: usize) -> Option<Number>
 }
 
 /// The place behind a jump, or `None` where it leaves the units.
+#[inline(always)]
 pub(super) fn landing(units: &PackedVec<'_, u16>, jump: Number) -> Option<usize>
     ensures { result ≡ landing units.now jump }
 {

@@ -1,7 +1,11 @@
 //! Laws of unit tries.
-ghost use Rattle.std.specs.Prelude.{◌≡◌, ℕ, ℤ, ◌↔◌, List};
-ghost use Rattle.icu_char16trie.specs.UnitMaps.{at_node, Spells};
-ghost use Rattle.icu_char16trie.specs.UnitGrammar.{IsListing, IsWithin};
+ghost use Rattle.std.specs.Prelude.{◌≡◌, ◌≢◌, ◌<◌, ℕ, ℤ, ◌↔◌, List, [], ◌++◌, length, Some};
+ghost use Rattle.icu_char16trie.specs.Cursors.{Follows, answered, cursor_state, cursor_units, value_of_key};
+ghost use Rattle.icu_char16trie.specs.UnitMaps.{at_node, behind, Spells};
+ghost use Rattle.icu_char16trie.specs.UnitSteps.{start};
+ghost use Rattle.icu_char16trie.specs.UnitGrammar.{IsListing, IsUnitTrie, IsWithin};
+ghost use Rattle.icu_char16trie.specs.declared.Char16TrieIterator.{Char16TrieIterator};
+ghost use Rattle.icu_char16trie.specs.declared.TrieResult.{TrieResult};
 ghost use Rattle.icu_char16trie.specs.UnitPairs.{Has};
 ghost use Rattle.icu_char16trie.specs.WrittenUnits.{AreShort, AreWritten};
 
@@ -19,4 +23,30 @@ pub fn written_keys_are_within_the_limit()
     ensures { (pairs : List (List ℕ × ℤ)) (units : List ℕ) (limit : ℕ)
         → ((key : List ℕ) (number : ℤ) → Spells units (at_node 0) key number ↔ Has pairs key number)
         → AreShort limit pairs → IsWithin units limit }
+{}
+
+/// The value of a key as a function is that of the map: from where a cursor starts, and in units that
+/// keep the grammar from the first node.
+pub fn values_are_those_of_the_map()
+    ensures followed { (units key : List ℕ) (number : ℤ) → (value_of_key units key ≡ Some number) ↔ Spells units (behind (start units)) key number }
+    ensures spelled { (units key : List ℕ) (number : ℤ) → IsUnitTrie units → (value_of_key units key ≡ Some number) ↔ Spells units (at_node 0) key number }
+{}
+
+/// A cursor that starts before the first unit, and was given all the units of a key, answers its value.
+pub fn cursors_answer_values()
+    ensures { (cursor after : Char16TrieIterator) (key : List ℕ) (answer : TrieResult)
+        → cursor_state cursor ≡ start (cursor_units cursor) → Follows cursor key answer after → answered answer ≡ value_of_key (cursor_units cursor) key }
+{}
+
+/// A cursor that was given one key and then another was given both as one.
+pub fn cursors_follow_on()
+    ensures { (first second third : Char16TrieIterator) (key rest : List ℕ) (answer last : TrieResult)
+        → 0 < length rest → Follows first key answer second → Follows second rest last third → Follows first (key ++ rest) last third }
+{}
+
+/// Units that keep the grammar, and are not none, keep it and the value of each key when other units
+/// follow them.
+pub fn values_stay_in_longer_units()
+    ensures grammar { (units more : List ℕ) → IsUnitTrie units → units ≢ [] → IsUnitTrie (units ++ more) }
+    ensures values { (units more key : List ℕ) → IsUnitTrie units → units ≢ [] → value_of_key (units ++ more) key ≡ value_of_key units key }
 {}

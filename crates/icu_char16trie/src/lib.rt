@@ -2,13 +2,12 @@
 //! unit or character at a time. The form is that of ICU4X's `Char16Trie`.
 #![tactic(auto)]
 
-ghost use Rattle.std.specs.Prelude.{◌≡◌, ◌+◌, ◌*◌, ◌^◌, ◌<◌, ◌≤◌, ◌-◌, ◌/◌, ◌%◌, [], ◌∷◌, ◌++◌, ◌↔◌, ◌⊎◌, ℕ, ℤ, List};
-ghost use Rattle.icu_char16trie.specs.Cursors.{IsEntry, IsEntryFrom, IsStopped, IsWholeFrom, IsWholeTrie, trie_units, cursor_units, cursor_state, follow, answer_of, answer_to, state_of, units_of};
-ghost use Rattle.icu_char16trie.specs.UnitAnswers.{IsAnswer};
-ghost use Rattle.icu_char16trie.specs.UnitMaps.{HasValue, IsLast};
+ghost use Rattle.std.specs.Prelude.{◌≡◌, ◌+◌, ◌*◌, ◌^◌, ◌<◌, ◌≤◌, ◌-◌, ◌/◌, ◌%◌, [], ◌∷◌, ◌↔◌, ℕ, ℤ, List, IfOk};
+ghost use Rattle.icu_char16trie.specs.Cursors.{IsEntry, IsEntryFrom, IsStopped, IsWholeFrom, IsWholeTrie, Follows, trie_units, cursor_units, cursor_state, follow, answer_of, answer_to, state_of, units_of};
 ghost use Rattle.icu_char16trie.specs.UnitSteps.{start, step};
 
 use icu_packed_vector::PackedVec;
+use std::alloc::{AllocError, Global};
 
 mod cells;
 pub mod laws;
@@ -34,14 +33,14 @@ pub enum TrieResult {
 }
 
 /// A map from texts to numbers, in units that are borrowed or owned.
-#[derive(Drop)]
+#[derive(Debug, PartialEq, Eq, Drop)]
 pub struct Char16Trie<'a> {
     units: PackedVec<'a, u16>,
 }
 
 /// A cursor in a unit trie: it is given the units of a text one after another, and says of all of
 /// them so far whether they are a key and whether longer keys begin with them.
-#[derive(Drop)]
+#[derive(Clone, Copy, Debug)]
 pub struct Char16TrieIterator<'t> {
     units: &'t PackedVec<'t, u16>,
     state: State,
@@ -67,23 +66,71 @@ impl<'a> Char16Trie<'a> {
             state: start(&self.units),
         }
     }
+
+    /// The same trie: borrowed units are borrowed again, others copied. The only error is want of
+    /// memory.
+    pub fn clone(&self, alloc: Global) -> Result<Char16Trie<'a>, AllocError>
+        ensures { IfOk result (λ trie. trie_units trie ≡ trie_units self.now) }
+    {
+        let units = self.units.clone(alloc)?;
+        Ok(Char16Trie { units })
+    }
 }
 
 impl Char16TrieIterator<'_> {
     /// What the units so far and this one are. After `NoMatch` or `FinalValue` every answer is
     /// `NoMatch`, and so it is where the units of the trie break the grammar.
     pub fn next16(&mut self, unit: u16) -> TrieResult
+        ensures { Follows self.old (unit ∷ []) result self.new }
+    {
+        self.take_unit(unit)
+    }
+
+    /// What the units so far and those of this code point are: one unit up to FFFF, a surrogate pair
+    /// up to 10FFFF. Past it, `NoMatch`, as of a unit that matches nothing. After `NoMatch` or
+    /// `FinalValue` every answer is `NoMatch`, and so it is where the units of the trie break the
+    /// grammar.
+    pub fn next32(&mut self, code: u32) -> TrieResult
         ensures units { cursor_units self.new ≡ cursor_units self.old }
-        ensures says { IsWholeFrom self.old → IsAnswer (IsEntryFrom self.old) (unit ∷ []) result }
-        ensures value { (number : ℤ) → HasValue result number ↔ IsEntryFrom self.old (unit ∷ []) number }
-        ensures longer { (next : ℕ) (key : List ℕ) (number : ℤ) → IsEntryFrom self.new (next ∷ key) number ↔ IsEntryFrom self.old (unit ∷ next ∷ key) number }
-        ensures whole { IsWholeFrom self.old → IsLast result ⊎ IsWholeFrom self.new }
-        ensures more { IsWholeFrom self.old → (IsLast result → ⊥) → (next : ℕ) × (key : List ℕ) × (number : ℤ) × IsEntryFrom self.new (next ∷ key) number }
-        ensures last { IsLast result → (key : List ℕ) (number : ℤ) → IsEntryFrom self.new key number → ⊥ }
-        ensures stops { IsLast result → IsStopped self.new }
-        ensures stopped { IsStopped self.old → result ≡ TrieResult.NoMatch }
-        ensures answer { result ≡ answer_of (step (cursor_units self.old) (cursor_state self.old) unit) }
-        ensures state { cursor_state self.new ≡ state_of (step (cursor_units self.old) (cursor_state self.old) unit) }
+        ensures follows { code ≤ 0x10ffff → Follows self.old (units_of code) result self.new }
+        ensures past { 0x10ffff < code → (result ≡ TrieResult.NoMatch) × IsStopped self.new }
+    {
+        if code > 0x10_ffff {
+            self.state = State::Stopped;
+            return TrieResult::NoMatch;
+        }
+        self.follow_code(code)
+    }
+
+    /// What the units so far and those of this character are: one unit, or two past U+FFFF. After
+    /// `NoMatch` or `FinalValue` every answer is `NoMatch`, and so it is where the units of the trie
+    /// break the grammar.
+    pub fn next(&mut self, character: char) -> TrieResult
+        ensures { Follows self.old (units_of character) result self.new }
+    {
+        self.follow_code(character as u32)
+    }
+
+    /// Follows the units of a code point.
+    fn follow_code(&mut self, code: u32) -> TrieResult
+        requires { code ≤ 0x10ffff }
+        ensures units { cursor_units self.new ≡ cursor_units self.old }
+        ensures found { result ≡ answer_to (cursor_units self.old) (cursor_state self.old) (units_of code) }
+        ensures stands { cursor_state self.new ≡ follow (cursor_units self.old) (cursor_state self.old) (units_of code) }
+    {
+        if code < 0x1_0000 {
+            return self.take_unit(code as u16);
+        }
+        self.take_unit((0xd800 + (code - 0x1_0000) / 0x400) as u16);
+        self.take_unit((0xdc00 + code % 0x400) as u16)
+    }
+
+    /// Follows a unit.
+    #[inline(always)]
+    fn take_unit(&mut self, unit: u16) -> TrieResult
+        ensures units { cursor_units self.new ≡ cursor_units self.old }
+        ensures found { result ≡ answer_of (step (cursor_units self.old) (cursor_state self.old) unit) }
+        ensures stands { cursor_state self.new ≡ state_of (step (cursor_units self.old) (cursor_state self.old) unit) }
     {
         match step(self.units, self.state, unit) {
             Some(arrival) => {
@@ -95,55 +142,5 @@ impl Char16TrieIterator<'_> {
                 TrieResult::NoMatch
             }
         }
-    }
-
-    /// What the units so far and those of this code point are: one unit up to FFFF, a surrogate pair
-    /// up to 10FFFF. Past it, `NoMatch`, as of a unit that matches nothing. After `NoMatch` or
-    /// `FinalValue` every answer is `NoMatch`.
-    pub fn next32(&mut self, code: u32) -> TrieResult
-        ensures units { cursor_units self.new ≡ cursor_units self.old }
-        ensures says { code ≤ 0x10ffff → IsWholeFrom self.old → IsAnswer (IsEntryFrom self.old) (units_of code) result }
-        ensures value { code ≤ 0x10ffff → (number : ℤ) → HasValue result number ↔ IsEntryFrom self.old (units_of code) number }
-        ensures longer { code ≤ 0x10ffff → (next : ℕ) (key : List ℕ) (number : ℤ) → IsEntryFrom self.new (next ∷ key) number ↔ IsEntryFrom self.old (units_of code ++ (next ∷ key)) number }
-        ensures whole { code ≤ 0x10ffff → IsWholeFrom self.old → IsLast result ⊎ IsWholeFrom self.new }
-        ensures more { code ≤ 0x10ffff → IsWholeFrom self.old → (IsLast result → ⊥) → (next : ℕ) × (key : List ℕ) × (number : ℤ) × IsEntryFrom self.new (next ∷ key) number }
-        ensures stops { IsLast result → IsStopped self.new }
-        ensures stopped { IsStopped self.old → result ≡ TrieResult.NoMatch }
-        ensures past { 0x10ffff < code → result ≡ TrieResult.NoMatch }
-    {
-        if code > 0x10_ffff {
-            self.state = State::Stopped;
-            return TrieResult::NoMatch;
-        }
-        self.follow_code(code)
-    }
-
-    /// What the units so far and those of this character are: one unit, or two past U+FFFF. After
-    /// `NoMatch` or `FinalValue` every answer is `NoMatch`.
-    pub fn next(&mut self, character: char) -> TrieResult
-        ensures units { cursor_units self.new ≡ cursor_units self.old }
-        ensures says { IsWholeFrom self.old → IsAnswer (IsEntryFrom self.old) (units_of character) result }
-        ensures value { (number : ℤ) → HasValue result number ↔ IsEntryFrom self.old (units_of character) number }
-        ensures longer { (next : ℕ) (key : List ℕ) (number : ℤ) → IsEntryFrom self.new (next ∷ key) number ↔ IsEntryFrom self.old (units_of character ++ (next ∷ key)) number }
-        ensures whole { IsWholeFrom self.old → IsLast result ⊎ IsWholeFrom self.new }
-        ensures more { IsWholeFrom self.old → (IsLast result → ⊥) → (next : ℕ) × (key : List ℕ) × (number : ℤ) × IsEntryFrom self.new (next ∷ key) number }
-        ensures stops { IsLast result → IsStopped self.new }
-        ensures stopped { IsStopped self.old → result ≡ TrieResult.NoMatch }
-    {
-        self.follow_code(character as u32)
-    }
-
-    /// Follows the units of a code point.
-    fn follow_code(&mut self, code: u32) -> TrieResult
-        requires { code ≤ 0x10ffff }
-        ensures units { cursor_units self.new ≡ cursor_units self.old }
-        ensures answer { result ≡ answer_to (cursor_units self.old) (cursor_state self.old) (units_of code) }
-        ensures state { cursor_state self.new ≡ follow (cursor_units self.old) (cursor_state self.old) (units_of code) }
-    {
-        if code < 0x1_0000 {
-            return self.next16(code as u16);
-        }
-        self.next16((0xd800 + (code - 0x1_0000) / 0x400) as u16);
-        self.next16((0xdc00 + code % 0x400) as u16)
     }
 }

@@ -8,14 +8,14 @@ use super::cells::{Number, delta, final_number, intermediate_number, landing, un
 use icu_packed_vector::PackedVec;
 
 /// A branch: how many units it tells apart, and where it begins.
-#[derive(Clone, Copy)]
+#[derive(Clone, Copy, Debug)]
 pub(super) struct Branch {
     pub(super) count: usize,
     pub(super) place: usize,
 }
 
 /// Units that must match: how many are left, and where they begin.
-#[derive(Clone, Copy)]
+#[derive(Clone, Copy, Debug)]
 pub(super) struct Match {
     pub(super) left: usize,
     pub(super) place: usize,
@@ -37,7 +37,7 @@ pub(super) enum Target {
 }
 
 /// Where a cursor stands.
-#[derive(Clone, Copy)]
+#[derive(Clone, Copy, Debug)]
 pub(super) enum State {
     /// No further unit matches.
     Stopped,
@@ -55,8 +55,11 @@ pub(super) struct Arrival {
 }
 
 /// The half of a branch of over five units in which the unit is looked for.
+#[inline(always)]
 fn half_of(units: &PackedVec<'_, u16>, unit: u16, branch: Branch) -> Option<Branch>
-    ensures { result ≡ half_of units.now unit branch }
+    requires { 5 < branch.count }
+    ensures half { result ≡ half_of units.now unit branch }
+    ensures fewer { IfSome result (λ half. half.count < branch.count) }
 {
     let middle = unit_at(units, branch.place)?;
     let jump = delta(units, branch.place + 1)?;
@@ -74,27 +77,20 @@ fn half_of(units: &PackedVec<'_, u16>, unit: u16, branch: Branch) -> Option<Bran
     }
 }
 
-/// The part of at most five units in which the unit is looked for, within so many halvings.
-#[tactic(auto, using(crate::proofs::UnitLemmas::small_part_step))]
-fn small_part(
-    units: &PackedVec<'_, u16>,
-    unit: u16,
-    halvings: usize,
-    branch: Branch,
-) -> Option<Branch>
-    ensures { result ≡ small_part units.now unit halvings branch }
+/// The part of at most five units in which the unit is looked for.
+#[inline(always)]
+fn small_part(units: &PackedVec<'_, u16>, unit: u16, branch: Branch) -> Option<Branch>
+    ensures { result ≡ small_part units.now unit branch.count branch }
 {
-    if branch.count <= 5 {
-        return Some(branch);
+    let mut part = branch;
+    while part.count > 5 {
+        part = half_of(units, unit, part)?;
     }
-    if halvings == 0 {
-        return None;
-    }
-    let half = half_of(units, unit, branch)?;
-    small_part(units, unit, halvings - 1, half)
+    Some(part)
 }
 
 /// A branch unit before the last, and the number behind it.
+#[inline(always)]
 pub(super) fn entry_at(units: &PackedVec<'_, u16>, place: usize) -> Option<Entry>
     ensures { result ≡ entry_at units.now place }
 {
@@ -109,6 +105,7 @@ pub(super) fn entry_at(units: &PackedVec<'_, u16>, place: usize) -> Option<Entry
 }
 
 /// What a branch unit leads to: its value, or the node that it jumps to.
+#[inline(always)]
 pub(super) fn entry_target(units: &PackedVec<'_, u16>, entry: Entry) -> Option<Target>
     ensures { result ≡ entry_target units.now entry }
 {
@@ -120,25 +117,29 @@ pub(super) fn entry_target(units: &PackedVec<'_, u16>, entry: Entry) -> Option<T
 }
 
 /// What the unit leads to among so many entries, the last unit and the node behind it.
-#[tactic(auto, using(crate::proofs::UnitLemmas::target_in_step))]
+#[inline(always)]
 fn target_in(units: &PackedVec<'_, u16>, unit: u16, entries: usize, place: usize) -> Option<Target>
     ensures { result ≡ target_in units.now unit entries place }
 {
-    if entries == 0 {
-        let last = unit_at(units, place)?;
-        if last == unit {
-            return Some(Target::Node(place + 1));
+    let mut left = entries;
+    let mut place = place;
+    while left > 0 {
+        let entry = entry_at(units, place)?;
+        if entry.unit == unit {
+            return entry_target(units, entry);
         }
-        return None;
+        place = entry.number.end;
+        left -= 1;
     }
-    let entry = entry_at(units, place)?;
-    if entry.unit == unit {
-        return entry_target(units, entry);
+    let last = unit_at(units, place)?;
+    if last == unit {
+        return Some(Target::Node(place + 1));
     }
-    target_in(units, unit, entries - 1, entry.number.end)
+    None
 }
 
 /// A node of a type below 40, whose units begin at the place.
+#[inline(always)]
 pub(super) fn opened(units: &PackedVec<'_, u16>, kind: u16, place: usize) -> Option<State>
     ensures { result ≡ opened units.now kind place }
 {
@@ -162,6 +163,7 @@ pub(super) fn opened(units: &PackedVec<'_, u16>, kind: u16, place: usize) -> Opt
 }
 
 /// What the node at a place says.
+#[inline(always)]
 fn arrive_at(units: &PackedVec<'_, u16>, place: usize) -> Option<Arrival>
     ensures { result ≡ arrive_at units.now place }
 {
@@ -189,6 +191,7 @@ fn arrive_at(units: &PackedVec<'_, u16>, place: usize) -> Option<Arrival>
 }
 
 /// What a unit leads to where a unit must match.
+#[inline(always)]
 fn matched(units: &PackedVec<'_, u16>, run: Match, unit: u16) -> Option<Arrival>
     ensures { result ≡ matched units.now run unit }
 {
@@ -209,10 +212,11 @@ fn matched(units: &PackedVec<'_, u16>, run: Match, unit: u16) -> Option<Arrival>
 }
 
 /// What a unit leads to at a branch.
+#[inline(always)]
 fn branched(units: &PackedVec<'_, u16>, branch: Branch, unit: u16) -> Option<Arrival>
     ensures { result ≡ branched units.now branch unit }
 {
-    let part = small_part(units, unit, branch.count, branch)?;
+    let part = small_part(units, unit, branch)?;
     match target_in(units, unit, part.count.saturating_sub(1), part.place)? {
         Target::Value(value) => Some(Arrival {
             answer: TrieResult::FinalValue(value.cast_signed()),
@@ -223,13 +227,14 @@ fn branched(units: &PackedVec<'_, u16>, branch: Branch, unit: u16) -> Option<Arr
 }
 
 /// What a unit leads to.
+#[inline(always)]
 pub(super) fn step(units: &PackedVec<'_, u16>, state: State, unit: u16) -> Option<Arrival>
     ensures { result ≡ step units.now state unit }
 {
     match state {
-        State::Stopped => None,
         State::Match(run) => matched(units, run, unit),
         State::Branch(branch) => branched(units, branch, unit),
+        State::Stopped => None,
     }
 }
 

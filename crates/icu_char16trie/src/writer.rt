@@ -1,5 +1,5 @@
 //! Sorted keys and their values, written as the units of a unit trie.
-ghost use Rattle.std.specs.Prelude.{◌≡◌, ◌≢◌, ◌<◌, ◌≤◌, ◌↔◌, [], ℕ, ℤ, List, length, IsTrue, IfOk, MatchOption, MatchResult};
+ghost use Rattle.std.specs.Prelude.{◌≡◌, ◌≢◌, ◌+◌, ◌*◌, ◌<◌, ◌≤◌, ◌↔◌, [], ℕ, ℤ, List, length, IsTrue, IfOk, MatchOption, MatchResult};
 ghost use Rattle.icu_char16trie.specs.UnitPairs.{Below, Has};
 ghost use Rattle.icu_char16trie.specs.UnitMaps.{Spells, IsWhole, at_node, behind};
 ghost use Rattle.icu_char16trie.specs.UnitSteps.{start};
@@ -15,9 +15,11 @@ mod backward;
 mod group;
 mod groups;
 mod layout;
+mod marks;
+mod plan;
+mod task;
 
-use backward::Backward;
-use layout::write_node;
+use layout::write_pairs;
 
 /// How many units all keys together may have.
 const MOST_UNITS: usize = 268_435_456;
@@ -105,7 +107,8 @@ fn is_too_large(pairs: &[(&[u16], i32)]) -> bool
 }
 
 /// The units of a unit trie that has these keys, in units, with these values: each key that the
-/// trie spells is one of them, and the units keep the grammar. No pairs give no units.
+/// trie spells is one of them, and the units keep the grammar. They are at most ten for each unit of
+/// the keys and three for each key, and none where there are no pairs.
 ///
 /// The keys are not empty and rise by their units. Else the answer is the first fault: `EmptyKey`
 /// or `NotSorted` of the first pair at fault, `TooLarge` where the keys have over 268,435,456 units
@@ -117,6 +120,7 @@ pub fn write_units(alloc: Global, pairs: &[(&[u16], i32)]) -> Result<Vec<u16>, W
     ensures whole { IfOk result (λ units. 0 < length pairs.now → IsWhole units.items (at_node 0)) }
     ensures whole_start { IfOk result (λ units. 0 < length pairs.now → IsWhole units.items (behind (start units.items))) }
     ensures grammar { IfOk result (λ units. IsUnitTrie units.items) }
+    ensures size { IfOk result (λ units. length units.items ≤ 10 * total (keyed pairs.now) + 3 * length pairs.now) }
     ensures none { IfOk result (λ units. pairs.now ≡ [] → units.items ≡ []) }
 {
     if let Some(fault) = first_fault(pairs) {
@@ -128,7 +132,6 @@ pub fn write_units(alloc: Global, pairs: &[(&[u16], i32)]) -> Result<Vec<u16>, W
     if pairs.is_empty() {
         return Ok(Vec::new(alloc));
     }
-    let mut out = Backward::new(alloc);
-    write_node(alloc, &mut out, pairs, 0)?;
+    let out = write_pairs(alloc, pairs)?;
     Ok(out.into_units())
 }

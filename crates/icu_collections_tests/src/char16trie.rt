@@ -72,6 +72,25 @@ fn a_character_of_two_units(rt: HostRuntime) -> Result<(), Fail> {
 }
 
 #[test]
+fn tries_and_cursors_are_copied(rt: HostRuntime) -> Result<(), Fail> {
+    let trie = Char16Trie::new(PackedVec::from_slice(rt.alloc(), &LINEAR)?);
+    let copy = trie.clone(rt.alloc())?;
+    assert_eq!(rt; copy, trie);
+    let other = Char16Trie::new(PackedVec::from_slice(rt.alloc(), &LINEAR[..3])?);
+    assert_ne!(rt; other, trie);
+    let mut cursor = copy.iter();
+    assert_eq!(rt; cursor.next('a'), TrieResult::Intermediate(1));
+    let mut again = cursor;
+    assert_eq!(rt; cursor.next('b'), TrieResult::FinalValue(2));
+    assert_eq!(rt; again.next('b'), TrieResult::FinalValue(2));
+    let text = format!(in rt.alloc(); "{other:?}")?;
+    assert_eq!(rt; text.as_str(), "Char16Trie { units: [48, 97, 176] }");
+    let text = format!(in rt.alloc(); "{:?}", other.iter())?;
+    assert!(rt; text.as_str().starts_with("Char16TrieIterator"));
+    Ok(())
+}
+
+#[test]
 fn units_that_break_the_grammar(rt: HostRuntime) -> Result<(), Fail> {
     for units in [
         &[][..],

@@ -176,3 +176,42 @@ fn short_lists_of_units(rt: HostRuntime) -> Result<(), Fail> {
     }
     Ok(())
 }
+
+#[test]
+fn all_lists_of_one_unit(rt: HostRuntime) -> Result<(), Fail> {
+    let alloc = rt.alloc();
+    for unit in 0..=u16::MAX {
+        assert!(rt; agrees(alloc, &[unit])?, "at {unit}");
+    }
+    Ok(())
+}
+
+#[test]
+fn lists_of_four_units(rt: HostRuntime) -> Result<(), Fail> {
+    let alloc = rt.alloc();
+    for a in EDGES {
+        for b in EDGES {
+            for c in EDGES {
+                for d in EDGES {
+                    assert!(rt; agrees(alloc, &[a, b, c, d])?);
+                }
+            }
+        }
+    }
+    Ok(())
+}
+
+#[test]
+fn branches_of_two_units(rt: HostRuntime) -> Result<(), Fail> {
+    let alloc = rt.alloc();
+    for a in EDGES {
+        for b in EDGES {
+            for c in EDGES {
+                for d in EDGES {
+                    assert!(rt; agrees(alloc, &[1, a, b, c, d])?);
+                }
+            }
+        }
+    }
+    Ok(())
+}

@@ -164,6 +164,18 @@ fn jumps_over_long_keys(rt: HostRuntime) -> Result<(), Fail> {
 }
 
 #[test]
+fn a_key_of_five_million_units(rt: HostRuntime) -> Result<(), Fail> {
+    let mut long = Vec::new(rt.alloc());
+    for _ in 0..5_000_000 {
+        long.push(0x61u16)?;
+    }
+    let units = write_units(rt.alloc(), &[(long.as_slice(), 7)])?;
+    assert_eq!(rt; units.len(), 5_312_501);
+    assert!(rt; reads_back(rt.alloc(), &[(long.as_slice(), 7)])?);
+    Ok(())
+}
+
+#[test]
 fn errors_print(rt: HostRuntime) -> Result<(), Fail> {
     let text = format!(in rt.alloc(); "{}", WriteUnitsError::NotSorted(12))?;
     assert_eq!(rt; text.as_str(), "key 12 is not above the one before");

@@ -1,5 +1,6 @@
-//! `unit_speed KEYS ROUNDS`: makes random keys of 1 to 12 units, the same each time, and so many
-//! times writes them as a unit trie and follows them all. It prints the counts, and is to be timed.
+//! `unit_speed KEYS ROUNDS [FOLLOWS]`: makes random keys of 1 to 12 units, the same each time, and so
+//! many times writes them as a unit trie and follows them all, `FOLLOWS` times if it is given. It
+//! prints the counts, and is to be timed.
 #![tactic(auto)]
 
 ghost use Rattle.std.specs.Prelude.{◌<◌};
@@ -66,35 +67,51 @@ fn answer_to(trie: &Char16Trie<'_>, key: &[u16]) -> TrieResult {
     answer
 }
 
-/// The units that are written, and of how many pairs a cursor gives the value.
-fn write_and_follow(alloc: Global, pairs: &[(&[u16], i32)]) -> Result<(usize, usize)> {
+/// Of how many pairs a cursor gives the value.
+fn found(trie: &Char16Trie<'_>, pairs: &[(&[u16], i32)]) -> usize {
+    pairs
+        .iter()
+        .filter(|(key, value)| {
+            let answer = answer_to(trie, key);
+            answer == TrieResult::FinalValue(*value) || answer == TrieResult::Intermediate(*value)
+        })
+        .count()
+}
+
+/// The units that are written, and of how many pairs a cursor gives the value each time.
+fn write_and_follow(
+    alloc: Global,
+    pairs: &[(&[u16], i32)],
+    follows: u32,
+) -> Result<(usize, usize)> {
     let units = write_units(alloc, pairs)?;
     let written = units.len();
     let trie = Char16Trie::new(PackedVec::from_slice(alloc, &units)?);
-    let found = pairs
-        .iter()
-        .filter(|(key, value)| {
-            let answer = answer_to(&trie, key);
-            answer == TrieResult::FinalValue(*value) || answer == TrieResult::Intermediate(*value)
-        })
-        .count();
-    Ok((written, found))
+    let mut least = pairs.len();
+    for _ in 0..follows {
+        least = least.min(found(&trie, pairs));
+    }
+    Ok((written, least))
 }
 
-/// The two numbers of the command line, if it has them.
-fn numbers(rt: &HostRuntime) -> Option<(u32, u32)> {
+/// The numbers of the command line, the third 1 if it is not there.
+fn numbers(rt: &HostRuntime) -> Option<(u32, u32, u32)> {
     let mut words = env::args(rt).ok()?.skip(1);
     let keys = words.next()?.as_str().parse::<u32>().ok()?;
     let rounds = words.next()?.as_str().parse::<u32>().ok()?;
-    Some((keys, rounds))
+    let follows = match words.next() {
+        Some(word) => word.as_str().parse::<u32>().ok()?,
+        None => 1,
+    };
+    Some((keys, rounds, follows))
 }
 
 fn main(rt: HostRuntime) -> Result<()> {
-    let (count, rounds) = numbers(&rt).context("usage: unit_speed KEYS ROUNDS")?;
+    let (count, rounds, follows) = numbers(&rt).context("usage: unit_speed KEYS ROUNDS [FOLLOWS]")?;
     let keys = random_keys(rt.alloc(), count)?;
     let pairs = with_values(rt.alloc(), &keys)?;
     for round in 0..rounds {
-        let (written, found) = write_and_follow(rt.alloc(), &pairs)?;
+        let (written, found) = write_and_follow(rt.alloc(), &pairs, follows)?;
         if round == 0 {
             println!(rt; "{} keys in {written} units, {found} found", keys.len())?;
         }

@@ -1,6 +1,5 @@
 //! Units that are written from the last to the first, and the numbers among them.
 ghost use Rattle.std.specs.Prelude.{◌≡◌, ◌+◌, ◌/◌, ◌^◌, ◌<◌, ◌≤◌, [], ◌∷◌, ◌++◌, OnOk, length, List, ℕ, reverse};
-ghost use Rattle.std.specs.Int.{cast_signed, cast_unsigned, w32};
 ghost use Rattle.icu_char16trie.specs.UnitForms.{two_unit_form, number_form, intermediate_form, delta_form};
 
 use std::alloc::{AllocError, Global};
@@ -96,20 +95,17 @@ impl Backward {
     }
 
     /// The value of a key with which no longer key begins.
-    pub(super) fn put_final(&mut self, value: i32) -> Result<(), AllocError>
-        ensures units { OnOk result (self.new ≡ number_form 0x8000 (cast_unsigned w32 value) ++ self.old) }
-        ensures value { cast_signed w32 (cast_unsigned w32 value) ≡ value }
+    pub(super) fn put_final(&mut self, number: u32) -> Result<(), AllocError>
+        ensures { OnOk result (self.new ≡ number_form 0x8000 number ++ self.old) }
     {
-        self.put_number(0x8000, value.cast_unsigned())
+        self.put_number(0x8000, number)
     }
 
     /// The value of a key with which longer keys begin, and the type of the node that follows.
-    pub(super) fn put_intermediate(&mut self, kind: u16, value: i32) -> Result<(), AllocError>
+    pub(super) fn put_intermediate(&mut self, kind: u16, number: u32) -> Result<(), AllocError>
         requires { kind < 0x40 }
-        ensures units { OnOk result (self.new ≡ intermediate_form kind (cast_unsigned w32 value) ++ self.old) }
-        ensures value { cast_signed w32 (cast_unsigned w32 value) ≡ value }
+        ensures { OnOk result (self.new ≡ intermediate_form kind number ++ self.old) }
     {
-        let number = value.cast_unsigned();
         if number < 0x100 {
             self.put((number as u16 + 1) * 0x40 + kind)
         } else if number < 0xfe_0000 {

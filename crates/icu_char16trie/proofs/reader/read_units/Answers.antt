@@ -1,4 +1,4 @@
-use Rattle.std.proofs.Common.{◌≡◌, ℕ, ℤ, [], map, Err, Result, ap, ◌∙◌, sym, subst}
+use Rattle.std.proofs.Common.{◌≡◌, ℕ, map, Err, Result, ap, ◌∙◌, sym, subst}
 use Rattle.icu_char16trie.specs.UnitGrammar.{IsListing}
 use Rattle.icu_char16trie.specs.UnitJobs.{StopsAt, root_valued, jobs_left, pairs_read}
 use Rattle.icu_char16trie.specs.declared.reader.ReadUnitsError.{ReadUnitsError}
