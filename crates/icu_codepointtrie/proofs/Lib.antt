@@ -1,6 +1,8 @@
 pub mod RangeLemmas
 pub mod TomlLemmas
 pub mod Blocks
+pub mod DataCells
+pub mod IndexBlocks
 pub mod Layouts
 pub mod BuiltTries
 pub mod BlockCounts

@@ -1,8 +1,7 @@
-use icu_collections::codepointtrie::planes::get_planes_trie;
 use icu_collections::codepointtrie::{
     CodePointMapRange, CodePointTrie, CodePointTrieBuildError, CodePointTrieBuilder,
     CodePointTrieBuilderError, CodePointTrieError, CodePointTrieHeader, FastCodePointTrie,
-    SmallCodePointTrie, TrieType, TypedCodePointTrie,
+    SmallCodePointTrie, TrieType, TrieValue, TypedCodePointTrie, planes,
 };
 use icu_collections_sets::packed_vector::PackedVec;
 use std::alloc::Global;
@@ -301,6 +300,31 @@ fn too_many_blocks(rt: HostRuntime) -> Result<(), Fail> {
     let refused = Some(CodePointTrieBuildError::TooLarge);
     assert_eq!(rt; each_its_own(rt.alloc(), TrieType::Fast)?, refused);
     assert_eq!(rt; each_its_own(rt.alloc(), TrieType::Small)?, refused);
+    Ok(())
+}
+
+// the value i + 1 at 10000 + 10 * i (hex) for each i below 11,999, else 0
+fn row_of_blocks(alloc: Global, trie_type: TrieType) -> Result<CodePointTrie<'static, u32>, Fail> {
+    let mut map = CodePointTrieBuilder::new(alloc, 0u32, 0, trie_type)?;
+    for number in 0..11_999u32 {
+        map.set_value(0x1_0000 + 0x10 * number, number + 1)?;
+    }
+    Ok(map.build(alloc)?)
+}
+
+#[test]
+fn as_many_blocks_as_are_taken(rt: HostRuntime) -> Result<(), Fail> {
+    for trie_type in [TrieType::Fast, TrieType::Small] {
+        let trie = row_of_blocks(rt.alloc(), trie_type)?;
+        let mut wrong = None;
+        for number in 0..11_999u32 {
+            let code_point = 0x1_0000 + 0x10 * number;
+            if trie.get32(code_point) != number + 1 || trie.get32(code_point + 1) != 0 {
+                wrong = Some(code_point);
+            }
+        }
+        assert_eq!(rt; wrong, None);
+    }
     Ok(())
 }
 
