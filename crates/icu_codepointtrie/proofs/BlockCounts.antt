@@ -16,9 +16,9 @@ use Rattle.std.proofs.lemmas.Nat.{mul-le, div-add-mod'}
 use Rattle.std.proofs.lemmas.Slice.Eq.{bytes_eq-Decides}
 use Rattle.icu_codepointtrie.specs.Blocks.{block, blocks, different_blocks, AreKept, HasMore}
 use Rattle.icu_codepointtrie.specs.Places.{fast_limit}
-use Rattle.icu_codepointtrie.specs.Layouts.{IsLayout}
-use Rattle.icu_codepointtrie.specs.declared.builder.layout.Layout.{Layout}
-use Rattle.icu_codepointtrie.proofs.Layouts.{type_facts}
+use Rattle.icu_codepointtrie.specs.Layouts.{AreFew}
+use Rattle.icu_codepointtrie.specs.declared.trie.TrieType.{TrieType}
+use Rattle.icu_codepointtrie.proofs.BuiltTries.{type_facts}
 
 -- whether two blocks have the same numbers
 abbrev pub Same : List ℕ → List ℕ → Bool
@@ -101,13 +101,14 @@ block_of_drop xs first j =
     let other : (first + j) * 16 + 16 - (first + j) * 16 ≡ 16 = omega arith in
     rw (one, other, drop-drop (j * 16) (first * 16) xs, start) refl
 
--- the kept blocks of a layout are at most as many as there are different ones on either side of the limit
-pub layout_count : {T : Type 0} (number : T → ℕ) (values : List T) (l : Layout) → length values ≡ 0x11_0000 → IsLayout (map number values) l
-    → 64 * length l.fast.kept.items + 16 * length l.small.kept.items ≤ 64 * different_blocks number 64 (take (fast_limit l.trie_type) values) + 16 * different_blocks number 16 (drop (fast_limit l.trie_type) values)
+-- the cells of a layout are few by how many different blocks there are on either side of the limit
+pub layout_count : {T : Type 0} (number : T → ℕ) (values : List T) (trie_type : TrieType) (wide_end count : ℕ) → length values ≡ 0x11_0000 → wide_end ≤ 0x880
+    → AreFew (map number values) trie_type wide_end count
+    → count ≤ 64 * different_blocks number 64 (take (fast_limit trie_type) values) + 16 * different_blocks number 16 (drop (fast_limit trie_type) values) + 128
 unfolding different_blocks
-layout_count number values l all layout =
-    let x = type_facts l.trie_type in
-    let limit : ℕ = fast_limit l.trie_type in
+layout_count number values trie_type wide_end count all to (fast, small, (fast_kept, fast_are, fast_few, fast_most), (small_kept, small_are, small_few, small_most), most) =
+    let x = type_facts trie_type in
+    let limit : ℕ = fast_limit trie_type in
     let xs : List ℕ = map number values in
     let count : length xs ≡ 0x11_0000 = length-map values number ∙ all in
     let before : map number (take limit values) ≡ take limit xs = sym (take-map number limit values) in
@@ -115,16 +116,16 @@ layout_count number values l all layout =
     let whole : limit / 16 * 16 ≡ limit = omega (arith, x.1, x.2) in
     let taken : length (take limit xs) ≡ limit = length-take-le limit xs (omega (arith, x.1, x.2)) in
     let dropped : length (drop limit xs) ≡ 0x11_0000 - limit = length-drop limit xs ∙ ap (λ n. n - limit) count in
-    let fast : length l.fast.kept.items ≤ distinct_count Same (blocks 64 (take limit xs)) =
-    kept_count 64 0 (limit / 64) xs (take limit xs) l.fast.kept.items layout.fast.kept
+    let fast_count : length fast_kept ≤ distinct_count Same (blocks 64 (take limit xs)) =
+    kept_count 64 2 (limit / 64) xs (take limit xs) fast_kept fast_are
     (λ b from inside. (b, omega (arith, x.1, x.2), block_of_take xs limit b (omega (arith, x.1, x.2)))) in
-    let small : length l.small.kept.items ≤ distinct_count Same (blocks 16 (drop limit xs)) =
-    kept_count 16 (limit / 16) 0x1_1000 xs (drop limit xs) l.small.kept.items layout.small.kept
+    let small_count : length small_kept ≤ distinct_count Same (blocks 16 (drop limit xs)) =
+    kept_count 16 (limit / 16) (32 * wide_end) xs (drop limit xs) small_kept small_are
     (λ b from inside.
     let j : ℕ = b - limit / 16 in
     let same : limit / 16 + j ≡ b = omega arith in
     (j, omega (arith, x.1, x.2), subst (λ n. block 16 (drop n xs) j ≡ block 16 xs b) whole (subst (λ n. block 16 (drop (limit / 16 * 16) xs) j ≡ block 16 xs n) same (block_of_drop xs (limit / 16) j)))) in
-    rw (before, behind) (omega arith)
+    rw (before, behind) (omega (arith, fast_count, small_count, fast_most, small_most, most))
 
 -- more kept blocks than the limit are so many different ones
 pub more_different : {T : Type 0} (number : T → ℕ) (width first end limit : ℕ) (values : List T) → ((b : ℕ) → b < end → b < length values / width)

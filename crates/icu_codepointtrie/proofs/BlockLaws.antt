@@ -1,31 +1,14 @@
 -- How many different blocks a new map has, and a map after a write for one code point.
-use Rattle.std.proofs.Common.{◌≡◌, ℕ, suc, ◌+◌, ◌-◌, ◌*◌, ◌/◌, ◌<◌, ◌≤◌, ◌≢◌, Bool, true, false, cond, List, [], ◌∷◌, length, map, get_or, drop, sym, ap, ◌∙◌, arith, ⊎_elim}
+use Rattle.std.proofs.Common.{◌≡◌, ℕ, suc, ◌+◌, ◌*◌, ◌/◌, ◌<◌, ◌≤◌, ◌≢◌, Bool, true, false, cond, List, [], ◌∷◌, length, map, get_or, sym, ap, ◌∙◌, arith, ⊎_elim}
 use Rattle.std.specs.Prelude.{slice_set}
 use Rattle.std.specs.List.{Contains}
 use Rattle.std.specs.Set.{unique_keys, distinct_count, is_member}
 use Rattle.std.proofs.lemmas.Bool.{cases_eq}
-use Rattle.std.proofs.lemmas.List.{get_or-take, get_or-drop, get_or-map, get_or-set_other, map-set, length-map, length-set, length-take-le, length-drop, ext_get_or}
+use Rattle.std.proofs.lemmas.List.{get_or-map, get_or-set_other, map-set, length-map, length-set}
 use Rattle.std.proofs.lemmas.Nat.{div-mul-add}
 use Rattle.icu_codepointtrie.specs.Blocks.{block, blocks, different_blocks}
+use Rattle.icu_codepointtrie.proofs.Blocks.{same_block}
 use Rattle.icu_codepointtrie.proofs.BlockCounts.{Same, among_blocks, block_among, count_below, whole_block}
-
--- a number of a block that is whole
-at_block : (width : ℕ) (xs : List ℕ) (i k : ℕ) → i * width + width ≤ length xs → k < width → get_or (block width xs i) k 0 ≡ get_or xs (i * width + k) 0
-at_block width xs i k whole inside =
-    get_or-take (i * width + width - i * width) (drop (i * width) xs) k 0 (omega arith) ∙ get_or-drop (i * width) xs k 0
-
-length-block : (width : ℕ) (xs : List ℕ) (i : ℕ) → i * width + width ≤ length xs → length (block width xs i) ≡ width
-length-block width xs i whole =
-    let one : i * width + width - i * width ≡ width = omega arith in
-    length-take-le (i * width + width - i * width) (drop (i * width) xs) (omega (arith, length-drop (i * width) xs)) ∙ one
-
--- blocks that have the same numbers are the same
-pub same_block : (width : ℕ) (xs ys : List ℕ) (i j : ℕ) → i * width + width ≤ length xs → j * width + width ≤ length ys
-    → ((k : ℕ) → k < width → get_or xs (i * width + k) 0 ≡ get_or ys (j * width + k) 0) → block width xs i ≡ block width ys j
-same_block width xs ys i j whole other same =
-    let count = length-block width xs i whole in
-    ext_get_or 0 (block width xs i) (block width ys j) (count ∙ sym (length-block width ys j other))
-    (λ k h. let inside : k < width = omega (arith, count) in at_block width xs i k whole inside ∙ same k inside ∙ sym (at_block width ys j k other inside))
 
 -- one list more than others
 one_more : (b : List ℕ) (bs : List (List ℕ)) → distinct_count Same (b ∷ bs) ≤ distinct_count Same bs + 1

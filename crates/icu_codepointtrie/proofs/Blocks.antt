@@ -1,20 +1,21 @@
 -- Blocks that are kept once each.
-use Rattle.std.proofs.Common.{◌≡◌, ℕ, ◌+◌, ◌-◌, ◌*◌, ◌<◌, ◌≤◌, ◌≢◌, List, [], ◌∷◌, ◌++◌, length, map, get_or, false, sym, ap, ◌∙◌, subst, arith, ⊎_elim}
+use Rattle.std.proofs.Common.{◌≡◌, ℕ, ◌+◌, ◌-◌, ◌*◌, ◌<◌, ◌≤◌, ◌≢◌, List, [], ◌∷◌, ◌++◌, length, map, get_or, drop, Bool, true, false, cond, refl, sym, ap, ◌∙◌, subst, arith, ⊎_elim}
 use Rattle.std.specs.Prelude.{slice_index, nat_eq}
 use Rattle.std.specs.List.{IsDistinct, All}
 use Rattle.std.specs.Cmp.Lexicographic.{pointwise}
+use mathlib.Core.Bool.{true≢false}
 use Rattle.std.proofs.lemmas.Bool.{cases_lt, false_from_ne_true}
 use Rattle.std.proofs.lemmas.Cmp.{nat_list_eq_equiv}
-use Rattle.std.proofs.lemmas.List.{get_or_append_left, get_or_push, length_push, map_push, get_or_default}
+use Rattle.std.proofs.lemmas.List.{get_or_append_left, get_or_push, length_push, map_push, get_or_default, get_or-take, get_or-drop, length-take-le, length-drop, ext_get_or}
 use Rattle.std.proofs.lemmas.List.Folds.{list_any_none}
 use Rattle.std.proofs.lemmas.List.Elements.{All-map}
 use Rattle.std.proofs.lemmas.Map.Keys.{IsDistinct-push}
 use Rattle.std.proofs.lemmas.Slice.Eq.{bytes_eq-Decides}
 use Rattle.std.proofs.lemmas.Option.{slice_get_within, get_or_from_slice_get}
 use Rattle.std.specs.Prelude.{IfSome, slice_get, Option, Some, None}
-use Rattle.icu_codepointtrie.specs.declared.builder.compaction.Compaction.{Compaction}
-use Rattle.icu_codepointtrie.specs.Layouts.{IsBounded}
-use Rattle.icu_codepointtrie.specs.Blocks.{block, AreKept, ArePlaces, IsKeptAt}
+use Rattle.icu_codepointtrie.specs.Blocks.{block, AreKept, ArePlaces, IsKeptAt, IsFound, FindsKept}
+use Rattle.icu_codepointtrie.specs.declared.builder.blocks.Block.{Block}
+use Rattle.std.specs.HashMap.{HashMap}
 
 -- what holds of each kept number and of one more
 push_all : (P : ℕ → Type 0) (kept : List ℕ) (number : ℕ) → ((i : ℕ) → i < length kept → P (slice_index kept i)) → P number → (i : ℕ) → i < length (kept ++ number ∷ []) → P (slice_index (kept ++ number ∷ []) i)
@@ -45,6 +46,10 @@ AreKept-push width values first number kept from whole before unlike =
 pub AreKept-none : (width : ℕ) (values : List ℕ) (first : ℕ) (kept : List ℕ) → kept ≡ [] → AreKept width values first first kept
 unfolding IsDistinct
 AreKept-none width values first kept none = rw none record { from = λ i h. absurd (omega arith); before = λ i h. absurd (omega arith); whole = λ i h. absurd (omega arith); few = omega arith; different = tt }
+
+-- none is found at first
+pub FindsKept-none : {S : Type 0} (width : ℕ) (values kept : List ℕ) (found : HashMap Block ℕ S) → kept ≡ [] → found.entries ≡ [] → FindsKept width values kept found
+FindsKept-none width values kept found none empty q = rw (none, empty) (λ i h. absurd (omega arith))
 
 -- no block is wanted at first
 pub ArePlaces-none : (width : ℕ) (values : List ℕ) (first : ℕ) (places kept : List ℕ) → places ≡ [] → ArePlaces width values first first places kept
@@ -84,7 +89,45 @@ last_inside width values first number places kept (Some place) from h same =
     let value : slice_index places (length places - 1) ≡ place = get_or_from_slice_get places (length places - 1) place 0 (sym same) in
     rw value at (h.inside (length places - 1) within)
 
--- kept blocks and their places are in bounds
-pub IsBounded-kept : (width : ℕ) (values : List ℕ) {first end limit : ℕ} (c : Compaction) → AreKept width values first end c.kept.items → ArePlaces width values first end c.places.items c.kept.items
-    → length c.kept.items ≤ limit → IsBounded first end limit c
-IsBounded-kept width values c kept places few = record { count = places.count; inside = places.inside; few = few; from = kept.from; before = kept.before }
+-- a number of a block that is whole
+pub at_block : (width : ℕ) (xs : List ℕ) (i k : ℕ) → i * width + width ≤ length xs → k < width → get_or (block width xs i) k 0 ≡ get_or xs (i * width + k) 0
+at_block width xs i k whole inside =
+    get_or-take (i * width + width - i * width) (drop (i * width) xs) k 0 (omega arith) ∙ get_or-drop (i * width) xs k 0
+
+length-block : (width : ℕ) (xs : List ℕ) (i : ℕ) → i * width + width ≤ length xs → length (block width xs i) ≡ width
+length-block width xs i whole =
+    let one : i * width + width - i * width ≡ width = omega arith in
+    length-take-le (i * width + width - i * width) (drop (i * width) xs) (omega (arith, length-drop (i * width) xs)) ∙ one
+
+-- blocks that have the same numbers are the same
+pub same_block : (width : ℕ) (xs ys : List ℕ) (i j : ℕ) → i * width + width ≤ length xs → j * width + width ≤ length ys
+    → ((k : ℕ) → k < width → get_or xs (i * width + k) 0 ≡ get_or ys (j * width + k) 0) → block width xs i ≡ block width ys j
+same_block width xs ys i j whole other same =
+    let count = length-block width xs i whole in
+    ext_get_or 0 (block width xs i) (block width ys j) (count ∙ sym (length-block width ys j other))
+    (λ k h. let inside : k < width = omega (arith, count) in at_block width xs i k whole inside ∙ same k inside ∙ sym (at_block width ys j k other inside))
+
+-- and where one number differs the blocks do
+pub other_block : (width : ℕ) (xs : List ℕ) (i j k : ℕ) → i * width + width ≤ length xs → j * width + width ≤ length xs → k < width
+    → get_or xs (i * width + k) 0 ≢ get_or xs (j * width + k) 0 → block width xs i ≢ block width xs j
+other_block width xs i j k whole other inside differ same =
+    differ (sym (at_block width xs i k whole inside) ∙ ap (λ (ys : List ℕ). get_or ys k 0) same ∙ at_block width xs j k other inside)
+
+-- what is not found is like no kept block
+pub not_found : (width : ℕ) (values kept : List ℕ) (number : ℕ) (key : List ℕ) (found : Option ℕ) → key ≡ block width values number → found ≡ None
+    → IsFound width values kept key found → (i : ℕ) → i < length kept → block width values (slice_index kept i) ≢ block width values number
+not_found width values kept number key found is none h i inside same = (rw none at h) i inside (same ∙ sym is)
+
+-- the place of one more kept block is found by its numbers
+pub IsFound-push : (width : ℕ) (values : List ℕ) (kept : List ℕ) (number place : ℕ) (numbers key : List ℕ) (old new : Option ℕ) → key ≡ block width values number
+    → place ≡ length kept → new ≡ cond (pointwise nat_eq key numbers) (Some place) old
+    → IsFound width values kept numbers old → IsFound width values (kept ++ number ∷ []) numbers new
+IsFound-push width values kept number place numbers key old new is count changed before = rw changed (by (pointwise nat_eq key numbers) refl old before) where
+  by : (t : Bool) → pointwise nat_eq key numbers ≡ t → (was : Option ℕ) → IsFound width values kept numbers was → IsFound width values (kept ++ number ∷ []) numbers (cond t (Some place) was)
+  by true same was h =
+      (omega (arith, length_push kept number), ap (block width values) (get_or_push kept number 0 place (sym count)) ∙ sym is ∙ (bytes_eq-Decides key numbers).0 same)
+  by false same None h =
+      push_all (λ n. block width values n ≢ numbers) kept number h
+      (λ e. true≢false (sym ((bytes_eq-Decides key numbers).1 (is ∙ e)) ∙ same))
+  by false same (Some was) h =
+      (omega (arith, length_push kept number, h.0), ap (block width values) (get_or_append_left kept (number ∷ []) 0 was h.0) ∙ h.1)

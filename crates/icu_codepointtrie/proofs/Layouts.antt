@@ -1,63 +1,114 @@
--- The two types of tries, and numbers of two bits one behind another.
-use Rattle.std.proofs.Common.{◌≡◌, ℕ, zero, suc, ◌+◌, ◌-◌, ◌*◌, ◌/◌, ◌%◌, ◌^◌, ◌<◌, ◌≤◌, length, get_or, refl, ◌∙◌, add-one, arith}
-use Rattle.std.specs.Prelude.{slice_index}
-use Rattle.std.proofs.lemmas.List.{get_or_default}
-use Rattle.std.proofs.Math.Nat.{pow-suc, pow-le-pow_right}
-use Rattle.icu_codepointtrie.specs.declared.trie.TrieType.{TrieType}
-use Rattle.icu_codepointtrie.specs.declared.trie.TrieType.TheVariants.{Fast, Small}
-use Rattle.icu_codepointtrie.specs.Places.{fast_limit, first_step}
-use Rattle.icu_codepointtrie.specs.declared.builder.compaction.Compaction.{Compaction}
-use Rattle.icu_codepointtrie.specs.Layouts.{joined, IsBounded}
+-- Blocks stand where a layout has them.
+use Rattle.std.proofs.Common.{◌≡◌, ℕ, ◌+◌, ◌-◌, ◌*◌, ◌/◌, ◌^◌, ◌<◌, ◌≤◌, nat_lt, List, ◌++◌, length, map, get_or, sym, ap, ◌∙◌, subst, arith, ⊎_elim, if◌then◌else◌}
+use Rattle.std.specs.Prelude.{slice_index, Some}
+use Rattle.std.proofs.lemmas.Bool.{lt-ltb, le-ltb, cases_lt}
+use Rattle.std.proofs.lemmas.List.{get_or-map, length-map}
+use Rattle.icu_codepointtrie.specs.Places.{fast_limit, data_offset}
+use Rattle.icu_codepointtrie.specs.declared.builder.layout.Layout.{Layout}
+use Rattle.icu_codepointtrie.specs.Layouts.{AreBounded, IsLayout, IsLastRun, third_start}
+use Rattle.icu_codepointtrie.proofs.BuiltTries.{type_facts}
+use Rattle.icu_codepointtrie.specs.Blocks.{AreKept, ArePlaces}
+use Rattle.icu_codepointtrie.specs.DataCells.{Stands, Grows, AllStand}
+use Rattle.icu_codepointtrie.specs.IndexBlocks.{Gives}
+use Rattle.icu_codepointtrie.proofs.Blocks.{at_block}
+use Rattle.icu_codepointtrie.proofs.DataCells.{Stands-grown}
 
--- the two types by one number
-pub type_facts : (t : TrieType) → (x : ℕ) × (x ≤ 1) × (fast_limit t ≡ 61440 * x + 4096) × (first_step t ≡ 956 * x + 64)
-type_facts Fast = (1, omega arith, refl, refl)
-type_facts Small = (0, omega arith, refl, refl)
+-- where blocks stand is within the cells
+pub places_inside : (width : ℕ) (values : List ℕ) (first end : ℕ) (cells places : List ℕ) → length places ≡ end - first → AllStand width values first end cells places
+    → (i : ℕ) → i < length places → slice_index places i + width ≤ length cells
+places_inside width values first end cells places count stand i h =
+    let sum : first + i - first ≡ i = omega arith in
+    rw sum at (stand (first + i) (omega arith) (omega arith)).inside
 
--- a kept block that was read is between the two numbers
-pub kept_bounds : {first end limit : ℕ} (c : Compaction) (i number : ℕ) → IsBounded first end limit c → i < length c.kept.items → number ≡ get_or c.kept.items i number → (first ≤ number) × (number < end)
-kept_bounds c i number bounds inside here =
-    let same : number ≡ slice_index c.kept.items i = here ∙ get_or_default c.kept.items i number 0 inside in
-    (omega (arith, same, bounds.from i inside), omega (arith, same, bounds.before i inside))
+-- the blocks of 64, of which the first two stand first
+pub fast_stands : (values one two three fast : List ℕ) (end a b : ℕ) → Stands values 0 one 0 128 → Grows one two a → AllStand 64 values 2 end two fast → Grows two three b
+    → (n : ℕ) → n < end → Stands values (n * 64) three (if nat_lt n 2 then 64 * n else slice_index fast (n - 2)) 64
+fast_stands values one two three fast end a b first more stand most n inside =
+    ⊎_elim
+    (λ low.
+    let bound = first.inside in
+    let here : Stands values (n * 64) one (64 * n) 64 =
+    record {
+      inside = omega arith;
+      same = λ i h.
+          let same : 64 * n + i ≡ n * 64 + i = omega arith in
+          let zero : 0 + (n * 64 + i) ≡ n * 64 + i = omega arith in
+          rw same (rw zero at (first.same (n * 64 + i) (omega arith)));
+    } in
+    rw (lt-ltb n 2 low) (Stands-grown values (n * 64) two three (64 * n) 64 b (Stands-grown values (n * 64) one two (64 * n) 64 a here more) most))
+    (λ high. rw (le-ltb n 2 high) (Stands-grown values (n * 64) two three (slice_index fast (n - 2)) 64 b (stand n high inside) most))
+    (cases_lt n 2)
 
--- a place that was read is among the kept blocks
-pub place_bounds : {first end limit : ℕ} (c : Compaction) (i place : ℕ) → IsBounded first end limit c → i < length c.places.items → place ≡ get_or c.places.items i place → place < limit
-place_bounds c i place bounds inside here =
-    let same : place ≡ slice_index c.places.items i = here ∙ get_or_default c.places.items i place 0 inside in
-    omega (arith, same, bounds.inside i inside, bounds.few)
+-- the blocks of 16, found by the third block that the second cell of a block of 512 names
+pub small_found : (values cells small entries kept at thirds : List ℕ) (start from end first : ℕ) → first ≡ 32 * from → ((b : ℕ) → b < end → b * 512 + 512 ≤ length values)
+    → AreKept 512 values from end kept → ArePlaces 512 values from end at kept → AllStand 16 values first (32 * end) cells small
+    → ((n : ℕ) → n < length kept → Gives start thirds (slice_index entries n) small ((slice_index kept n - from) * 32))
+    → (w i : ℕ) (head : List ℕ) → from ≤ w → w < end → i < 32 → length head ≡ start
+    → (place : ℕ) × (data_offset (head ++ thirds) (slice_index (map (slice_index entries) at) (w - from)) i ≡ Some place) × Stands values (w * 512 + i * 16) cells place 16
+small_found values cells small entries kept at thirds start from end first is whole are places stand gives w i head low high inside head_is =
+    let count : length at ≡ end - from = places.count in
+    let n : ℕ = slice_index at (w - from) in
+    let n_kept : n < length kept = places.inside (w - from) (omega arith) in
+    let second : slice_index (map (slice_index entries) at) (w - from) ≡ slice_index entries n = get_or-map (slice_index entries) at (w - from) 0 0 (omega arith) in
+    let k : ℕ = slice_index kept n in
+    let k_low : from ≤ k = are.from n n_kept in
+    let k_high : k < end = are.before n n_kept in
+    let b : ℕ = k * 32 + i in
+    let place : b - first ≡ (k - from) * 32 + i = omega arith in
+    let here : Stands values (b * 16) cells (slice_index small ((k - from) * 32 + i)) 16 = rw place at (stand b (omega arith) (omega arith)) in (
+      slice_index small ((k - from) * 32 + i),
+      rw second ((gives n n_kept).offsets head head_is i inside),
+      record {
+        inside = here.inside;
+        same = λ r h.
+            let one : b * 16 + r ≡ k * 512 + (i * 16 + r) = omega arith in
+            let other : w * 512 + (i * 16 + r) ≡ w * 512 + i * 16 + r = omega arith in
+            here.same r h ∙ ap (λ c. slice_index values c) one
+            ∙ sym (at_block 512 values k (i * 16 + r) (whole k k_high) (omega arith))
+            ∙ ap (λ (xs : List ℕ). get_or xs (i * 16 + r) 0) (places.alike w low high)
+            ∙ at_block 512 values w (i * 16 + r) (whole w high) (omega arith)
+            ∙ ap (λ c. slice_index values c) other;
+      },
+    )
 
-pub joined_more : (f : ℕ → ℕ) (n : ℕ) → joined f (n + 1) ≡ joined f n * 4 + f n
-joined_more f n = rw add-one refl
+-- what the second cells have fits a cell
+pub seconds_small : (small entries kept at thirds : List ℕ) (start from : ℕ) → ((i : ℕ) → i < length at → slice_index at i < length kept)
+    → ((n : ℕ) → n < length kept → Gives start thirds (slice_index entries n) small ((slice_index kept n - from) * 32))
+    → (i : ℕ) → i < length at → slice_index (map (slice_index entries) at) i < 2 ^ 16
+seconds_small small entries kept at thirds start from inside gives i h =
+    rw (get_or-map (slice_index entries) at i 0 0 h) ((gives (slice_index at i) (inside i h)).fits)
 
--- one more number of two bits
-pub four_more : (n cell bits : ℕ) → cell < 4 ^ n → bits < 4 → cell * 4 + bits < 4 ^ (n + 1)
-four_more n cell bits h small = rw add-one (omega (arith, pow-suc 4 n))
+-- so a layout of these parts has each block
+pub IsLayout-made : (values one two cells : List ℕ) (l : Layout) (limit : ℕ) (small entries kept at : List ℕ) → limit ≡ fast_limit l.trie_type → length values ≡ 0x11_0000 → l.wide_end ≤ 0x880
+    → Stands values 0 one 0 128 → Grows one two 65408 → AllStand 64 values 2 (limit / 64) two l.fast.items → Grows two cells 192000
+    → l.seconds.items ≡ map (slice_index entries) at
+    → AreKept 512 values (limit / 512) l.wide_end kept → ArePlaces 512 values (limit / 512) l.wide_end at kept → AllStand 16 values (limit / 16) (32 * l.wide_end) cells small
+    → ((n : ℕ) → n < length kept → Gives (third_start l.trie_type l.wide_end) l.thirds.items (slice_index entries n) small ((slice_index kept n - limit / 512) * 32))
+    → IsLastRun values l.wide_end → IsLayout values cells l
+IsLayout-made values one two cells l limit small entries kept at is count to first more fast most seconds are places stand gives run =
+    let x = type_facts l.trie_type in
+    record {
+      fast = fast_stands values one two cells l.fast.items (fast_limit l.trie_type / 64) 65408 192000 first more (subst (λ n. AllStand 64 values 2 (n / 64) two l.fast.items) is fast) most;
+      small = λ w i head low high inside head_is.
+          let from : limit / 512 ≤ w = omega arith in
+          let found = small_found values cells small entries kept at l.thirds.items (third_start l.trie_type l.wide_end) (limit / 512) l.wide_end (limit / 16) (omega (arith, x.1, x.2)) (λ b h. omega arith) are places stand gives w i head from high inside head_is in
+          subst (λ n. (place : ℕ) × (data_offset (head ++ l.thirds.items) (slice_index l.seconds.items (w - n / 512)) i ≡ Some place) × Stands values (w * 512 + i * 16) cells place 16) is (rw seconds found);
+      run = run;
+    }
 
--- eight of them fit into 16 bits
-pub four_bound : (n : ℕ) → n ≤ 8 → 4 ^ n ≤ 65536
-four_bound n h = pow-le-pow_right {n = 4} (omega arith) h
-
--- what holds of the numbers below eight
-by_eight : (P : ℕ → Type 0) → P 0 → P 1 → P 2 → P 3 → P 4 → P 5 → P 6 → P 7 → (i : ℕ) → i < 8 → P i
-by_eight P a b c d e f g h zero i = a
-by_eight P a b c d e f g h (suc zero) i = b
-by_eight P a b c d e f g h (suc (suc zero)) i = c
-by_eight P a b c d e f g h (suc (suc (suc zero))) i = d
-by_eight P a b c d e f g h (suc (suc (suc (suc zero)))) i = e
-by_eight P a b c d e f g h (suc (suc (suc (suc (suc zero))))) i = f
-by_eight P a b c d e f g h (suc (suc (suc (suc (suc (suc zero)))))) i = g
-by_eight P a b c d e f g h (suc (suc (suc (suc (suc (suc (suc zero))))))) i = h
-by_eight P a b c d e f g h (suc (suc (suc (suc (suc (suc (suc (suc n)))))))) i = absurd (omega arith)
-
--- each of eight is found again
-pub joined_bits : (f : ℕ → ℕ) (i : ℕ) → i < 8 → ((k : ℕ) → k < 8 → f k < 4) → joined f 8 / 2 ^ (14 - 2 * i) % 4 ≡ f i
-joined_bits f i h small =
-    let a : f 0 < 4 = small 0 (omega arith) in
-    let b : f 1 < 4 = small 1 (omega arith) in
-    let c : f 2 < 4 = small 2 (omega arith) in
-    let d : f 3 < 4 = small 3 (omega arith) in
-    let e : f 4 < 4 = small 4 (omega arith) in
-    let g : f 5 < 4 = small 5 (omega arith) in
-    let j : f 6 < 4 = small 6 (omega arith) in
-    let k : f 7 < 4 = small 7 (omega arith) in
-    by_eight (λ n. joined f 8 / 2 ^ (14 - 2 * n) % 4 ≡ f n) (omega arith) (omega arith) (omega arith) (omega arith) (omega arith) (omega arith) (omega arith) (omega arith) i h
+-- and its cells are bounded
+pub AreBounded-made : (values two : List ℕ) (l : Layout) (limit : ℕ) (small entries kept at : List ℕ) → limit ≡ fast_limit l.trie_type → limit / 512 ≤ l.wide_end → l.wide_end ≤ 0x880
+    → length two ≤ 65536 → length l.fast.items ≡ limit / 64 - 2 → AllStand 64 values 2 (limit / 64) two l.fast.items
+    → l.seconds.items ≡ map (slice_index entries) at → ArePlaces 512 values (limit / 512) l.wide_end at kept
+    → ((n : ℕ) → n < length kept → Gives (third_start l.trie_type l.wide_end) l.thirds.items (slice_index entries n) small ((slice_index kept n - limit / 512) * 32)) → AreBounded l
+AreBounded-made values two l limit small entries kept at is from to few count fast seconds places gives =
+    let longer = length-map at (slice_index entries) in
+    let wide : length at ≡ l.wide_end - limit / 512 = places.count in
+    record {
+      from = omega arith;
+      to = to;
+      fast_count = omega arith;
+      fast_small = λ i h. omega (arith, places_inside 64 values 2 (limit / 64) two l.fast.items count fast i h);
+      second_count = rw seconds (omega (arith, longer));
+      second_small = rw seconds (λ i h. seconds_small small entries kept at l.thirds.items (third_start l.trie_type l.wide_end) (limit / 512) places.inside gives i (omega (arith, longer)));
+    }

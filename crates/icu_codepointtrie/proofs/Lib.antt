@@ -1,8 +1,9 @@
 pub mod RangeLemmas
 pub mod TomlLemmas
 pub mod Blocks
+pub mod DataCells
+pub mod IndexBlocks
 pub mod Layouts
-pub mod BuiltCells
 pub mod BuiltTries
 pub mod BlockCounts
 pub mod BlockLaws

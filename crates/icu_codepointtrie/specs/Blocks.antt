@@ -1,8 +1,10 @@
 -- Aligned blocks of values, told apart by the values' numbers.
-use Rattle.std.specs.Prelude.{◌≡◌, ℕ, ◌+◌, ◌-◌, ◌*◌, ◌/◌, ◌<◌, ◌≤◌, List, length, map, slice_range, slice_index, nat_eq}
+use Rattle.std.specs.Prelude.{◌≡◌, ◌≢◌, ℕ, ◌+◌, ◌-◌, ◌*◌, ◌/◌, ◌<◌, ◌≤◌, Bool, Option, List, length, map, slice_range, slice_index, nat_eq, MatchOption}
 use Rattle.std.specs.List.{range_with_len, IsDistinct}
 use Rattle.std.specs.Set.{distinct_count}
 use Rattle.std.specs.Cmp.Lexicographic.{pointwise}
+use Rattle.std.specs.HashMap.{HashMap, get}
+use Rattle.icu_codepointtrie.specs.declared.builder.blocks.Block.{Block}
 
 -- the block of a width that begins at the block's number times the width
 abbrev pub block : ℕ → List ℕ → ℕ → List ℕ
@@ -37,3 +39,17 @@ IsKeptAt width values number kept place = (place < length kept) × (block width 
 -- more than so many different blocks are between two numbers
 abbrev pub HasMore : ℕ → List ℕ → ℕ → ℕ → ℕ → Type 0
 HasMore width values first end limit = (kept : List ℕ) × AreKept width values first end kept × (limit < length kept)
+
+-- whether two blocks have the same numbers
+abbrev pub has_same_numbers : Block → Block → Bool
+has_same_numbers x y = pointwise nat_eq x.numbers.items y.numbers.items
+
+-- the place of the kept block with these numbers, or none where no kept block has them
+abbrev pub IsFound : ℕ → List ℕ → List ℕ → List ℕ → Option ℕ → Type 0
+IsFound width values kept numbers found = MatchOption found
+    ((i : ℕ) → i < length kept → block width values (slice_index kept i) ≢ numbers)
+    (λ place. (place < length kept) × (block width values (slice_index kept place) ≡ numbers))
+
+-- the map finds the kept blocks, and nothing else, by their numbers
+abbrev pub FindsKept : {S : Type 0} → ℕ → List ℕ → List ℕ → HashMap Block ℕ S → Type 0
+FindsKept width values kept found = (q : Block) → IsFound width values kept q.numbers.items (get has_same_numbers found q)

@@ -7,6 +7,8 @@ pub mod CodePointMaps
 pub mod TomlTables
 pub mod MappedRanges
 pub mod Blocks
+pub mod DataCells
+pub mod IndexBlocks
 pub mod Layouts
 pub mod BuiltTries
 pub mod MaximalRanges

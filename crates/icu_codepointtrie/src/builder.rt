@@ -5,9 +5,12 @@ ghost use Rattle.icu_codepointtrie.specs.Blocks.{different_blocks};
 ghost use Rattle.icu_codepointtrie.specs.CodePointMaps.{CodePointMap, mapped, IsMap, IsWritten, covers};
 ghost use Rattle.icu_codepointtrie.specs.declared.builder.CodePointTrieBuilderError.TheVariants.{OutOfRange};
 
+mod blocks;
 mod build;
+mod cells;
 mod compaction;
 mod layout;
+mod thirds;
 
 use super::trie::TrieType;
 use super::value::TrieValue;

@@ -374,6 +374,31 @@ fn too_many_blocks(rt: HostRuntime) -> Result<(), Fail> {
     Ok(())
 }
 
+// the value i + 1 at 10000 + 10 * i (hex) for each i below 11,999, else 0
+fn row_of_blocks(alloc: Global, trie_type: TrieType) -> Result<CodePointTrie<'static, u32>, Fail> {
+    let mut map = CodePointTrieBuilder::new(alloc, 0u32, 0, trie_type)?;
+    for number in 0..11_999u32 {
+        map.set_value(0x1_0000 + 0x10 * number, number + 1)?;
+    }
+    Ok(map.build(alloc)?)
+}
+
+#[test]
+fn as_many_blocks_as_are_taken(rt: HostRuntime) -> Result<(), Fail> {
+    for trie_type in [TrieType::Fast, TrieType::Small] {
+        let trie = row_of_blocks(rt.alloc(), trie_type)?;
+        let mut wrong = None;
+        for number in 0..11_999u32 {
+            let code_point = 0x1_0000 + 0x10 * number;
+            if trie.get32(code_point) != number + 1 || trie.get32(code_point + 1) != 0 {
+                wrong = Some(code_point);
+            }
+        }
+        assert_eq!(rt; wrong, None);
+    }
+    Ok(())
+}
+
 // a number that looks random, from the one before it
 fn next_random(seed: &mut u32) -> u32 {
     *seed ^= *seed << 13;

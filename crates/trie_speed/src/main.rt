@@ -1,6 +1,9 @@
-//! Measures code point tries: builds one of 12,000 different small blocks, and reads all code points
-//! of one of either type 100 times. `bench/libraries.sh` takes the times; the program prints a sum.
+//! Measures code point tries: builds one of 12,000 different small blocks, or one of a single written
+//! range, and reads all code points of one of either type 100 times. `bench/libraries.sh` takes the
+//! times; the program prints a sum.
 #![tactic(auto)]
+
+ghost use Rattle.std.specs.Prelude.{◌≤◌, ◌<◌};
 
 use icu_collections::codepointtrie::{
     CodePointTrie, CodePointTrieBuildError, CodePointTrieBuilder, TrieType,
@@ -8,22 +11,77 @@ use icu_collections::codepointtrie::{
 use std::alloc::Global;
 use std::{env, io};
 
-/// How many small blocks have a value of their own: with that of all others 12,000 are different.
+/// How many small blocks have a value of their own at most: with that of all others 12,000 are
+/// different.
 const BLOCKS: u32 = 11_999;
 
 /// How often all code points are read.
 const ROUNDS: u32 = 100;
 
-/// The trie whose first code points of small blocks have values of their own.
+/// By what the small blocks of a map are told apart.
+#[derive(Clone, Copy)]
+enum Blocks {
+    /// By their first values.
+    First,
+    /// By their last values.
+    Last,
+    /// Two blocks that alternate.
+    Two,
+}
+
+/// The code point of the small block with this number that has a value, and the value.
+fn write_of(blocks: Blocks, number: u32) -> (u32, u32)
+    requires { number < 11999 }
+{
+    let start = 0x1_0000 + 0x10 * number;
+    match blocks {
+        Blocks::First => (start, number + 1),
+        Blocks::Last => (start + 0xf, number + 1),
+        Blocks::Two => (start, number % 2 + 1),
+    }
+}
+
+/// The trie of a map with so many written small blocks.
 fn build(
     alloc: Global,
     trie_type: TrieType,
-) -> Result<CodePointTrie<'static, u32>, CodePointTrieBuildError> {
+    blocks: Blocks,
+    count: u32,
+) -> Result<CodePointTrie<'static, u32>, CodePointTrieBuildError>
+    requires { count ≤ 11999 }
+{
     let mut map = CodePointTrieBuilder::new(alloc, 0u32, 0, trie_type)?;
-    for number in 0..BLOCKS {
-        let _ = map.set_value(0x1_0000 + 0x10 * number, number + 1);
+    for number in 0..count {
+        let (code_point, value) = write_of(blocks, number);
+        let _ = map.set_value(code_point, value);
     }
     map.build(alloc)
+}
+
+/// The sum of the values of the first small blocks with a value.
+fn sum_of_blocks(trie: &CodePointTrie<'_, u32>) -> u32 {
+    let mut sum: u32 = 0;
+    for code_point in 0x1_0000..0x4_0000u32 {
+        sum = sum.wrapping_add(trie.get32(code_point));
+    }
+    sum
+}
+
+/// The sum of a value of as many tries as asked for, each of a map with one written range that ends
+/// before the last code point.
+fn build_ranges(
+    alloc: Global,
+    trie_type: TrieType,
+    count: u32,
+) -> Result<u32, CodePointTrieBuildError> {
+    let mut sum: u32 = 0;
+    for _number in 0..count {
+        let mut map = CodePointTrieBuilder::new(alloc, 0u32, 0, trie_type)?;
+        let _ = map.set_range_value(0xF_0000..=0x10_FFFD, 1);
+        let trie = map.build(alloc)?;
+        sum = sum.wrapping_add(trie.get32(0xF_8000));
+    }
+    Ok(sum)
 }
 
 /// The sum of the values of all code points, round by round.
@@ -37,18 +95,30 @@ fn sum_of_rounds(trie: &CodePointTrie<'_, u32>) -> u32 {
     sum
 }
 
+/// The number that a task prints. The count is that of blocks or of tries.
+fn number_of(alloc: Global, task: &str, count: u32) -> Result<u32, CodePointTrieBuildError> {
+    let blocks = count.min(BLOCKS);
+    Ok(match task {
+        "last" => sum_of_blocks(&build(alloc, TrieType::Fast, Blocks::Last, blocks)?),
+        "two" => sum_of_blocks(&build(alloc, TrieType::Fast, Blocks::Two, blocks)?),
+        "range" => build_ranges(alloc, TrieType::Fast, count)?,
+        "fast" => sum_of_rounds(&build(alloc, TrieType::Fast, Blocks::First, blocks)?),
+        "small" => sum_of_rounds(&build(alloc, TrieType::Small, Blocks::First, blocks)?),
+        _ => sum_of_blocks(&build(alloc, TrieType::Fast, Blocks::First, blocks)?),
+    })
+}
+
 fn main(rt: HostRuntime) -> io::Result<()> {
     let alloc = rt.alloc();
-    let task = env::args(&rt)?.nth(1);
-    let word = task.as_ref().map_or("build", |task| task.as_str());
-    let trie_type = if word == "small" {
-        TrieType::Small
-    } else {
-        TrieType::Fast
-    };
-    match build(alloc, trie_type) {
-        Ok(trie) if word == "build" => println!(rt; "{}", trie.get32(0x1_0000 + 0x10 * 11_998)),
-        Ok(trie) => println!(rt; "{}", sum_of_rounds(&trie)),
+    let mut words = env::args(&rt)?.skip(1);
+    let task = words.next();
+    let task = task.as_ref().map_or("build", |task| task.as_str());
+    let count = words
+        .next()
+        .and_then(|count| count.as_str().parse::<u32>().ok())
+        .unwrap_or(BLOCKS);
+    match number_of(alloc, task, count) {
+        Ok(number) => println!(rt; "{number}"),
         Err(error) => println!(rt; "{error:?}"),
     }
 }

@@ -1,9 +1,12 @@
 //! Blocks of values that are kept once each.
-ghost use Rattle.std.specs.Prelude.{◌≡◌, ℕ, ◌+◌, ◌-◌, ◌*◌, ◌<◌, ◌≤◌, ◌⊎◌, ◌↔◌, IsTrue, length, slice_index, IfOk, IfErr, IfSome, MatchOption, ◌≢◌};
-ghost use Rattle.icu_codepointtrie.specs.Blocks.{block, AreKept, ArePlaces, IsKeptAt, HasMore};
+ghost use Rattle.std.specs.Prelude.{◌≡◌, ℕ, ◌+◌, ◌*◌, ◌<◌, ◌≤◌, ◌⊎◌, map, length, slice_index, IfOk, IfErr, IfSome};
+ghost use Rattle.icu_codepointtrie.specs.Blocks.{AreKept, ArePlaces, IsKeptAt, HasMore, FindsKept};
 ghost use Rattle.icu_codepointtrie.specs.declared.builder.compaction.CodePointTrieBuildError.TheVariants.{TooLarge, Memory};
 
-use std::alloc::{AllocError, Global};
+use super::super::value::TrieValue;
+use super::blocks::{Block, are_alike, block_of};
+use std::alloc::{AllocError, AllocFailed, Global};
+use std::collections::HashMap;
 use std::error::Error;
 use std::fmt;
 
@@ -48,49 +51,56 @@ pub(super) struct Compaction {
     pub(super) kept: Vec<usize>,
 }
 
-/// Whether two blocks are alike.
-fn are_alike(values: &[u32], width: usize, one: usize, other: usize) -> bool
-    requires one { one * width + width ≤ length values.now }
-    requires other { other * width + width ≤ length values.now }
-    ensures { IsTrue result ↔ (block width values.now one ≡ block width values.now other) }
-{
-    let first = one * width;
-    let second = other * width;
-    values[first..first + width] == values[second..second + width]
-}
-
-/// The place of the kept block that is like this one.
-fn kept_place(values: &[u32], width: usize, kept: &[usize], number: usize) -> Option<usize>
-    requires kept { (i : ℕ) → i < length kept.now → slice_index kept.now i * width + width ≤ length values.now }
+/// The place of the kept block that is like this one, which is kept if there is none. The map finds
+/// the kept blocks by their values.
+fn find_or_keep<T: TrieValue>(
+    alloc: Global,
+    values: &[T],
+    width: usize,
+    first: usize,
+    kept: &mut Vec<usize>,
+    found: &mut HashMap<Block, usize>,
+    number: usize,
+) -> Result<usize, AllocError>
+    requires first { first ≤ number }
     requires number { number * width + width ≤ length values.now }
-    ensures { MatchOption result
-        ((i : ℕ) → i < length kept.now → block width values.now (slice_index kept.now i) ≢ block width values.now number)
-        (IsKeptAt width values.now number kept.now) }
+    requires kept { AreKept width (map T.number values.now) first number kept.old.items }
+    requires found { FindsKept width (map T.number values.now) kept.old.items found.old }
+    ensures kept { IfOk result (λ _. AreKept width (map T.number values.now) first (number + 1) kept.new.items) }
+    ensures found { IfOk result (λ _. FindsKept width (map T.number values.now) kept.new.items found.new) }
+    ensures place { IfOk result (IsKeptAt width (map T.number values.now) number kept.new.items) }
+    ensures grown { IfOk result (λ _. (i : ℕ) → i < length kept.old.items → (i < length kept.new.items) × (slice_index kept.new.items i ≡ slice_index kept.old.items i)) }
 {
-    for place in 0..kept.len() {
-        if are_alike(values, width, kept[place], number) {
-            return Some(place);
-        }
+    let block = block_of(alloc, values, width, number)?;
+    if let Some(place) = found.get(&block).copied() {
+        return Ok(place);
     }
-    None
+    let place = kept.len();
+    kept.push(number)?;
+    found.insert(block, place)?;
+    Ok(place)
 }
 
 /// The place of the kept block that is like this one, which is kept if there is none. The place of
 /// the block before is tried first.
-fn keep(
-    values: &[u32],
+fn keep<T: TrieValue>(
+    alloc: Global,
+    values: &[T],
     width: usize,
     first: usize,
     kept: &mut Vec<usize>,
+    found: &mut HashMap<Block, usize>,
     last: Option<usize>,
     number: usize,
 ) -> Result<usize, AllocError>
     requires last { IfSome last (λ place. place < length kept.old.items) }
     requires first { first ≤ number }
     requires number { number * width + width ≤ length values.now }
-    requires kept { AreKept width values.now first number kept.old.items }
-    ensures kept { IfOk result (λ _. AreKept width values.now first (number + 1) kept.new.items) }
-    ensures place { IfOk result (IsKeptAt width values.now number kept.new.items) }
+    requires kept { AreKept width (map T.number values.now) first number kept.old.items }
+    requires found { FindsKept width (map T.number values.now) kept.old.items found.old }
+    ensures kept { IfOk result (λ _. AreKept width (map T.number values.now) first (number + 1) kept.new.items) }
+    ensures found { IfOk result (λ _. FindsKept width (map T.number values.now) kept.new.items found.new) }
+    ensures place { IfOk result (IsKeptAt width (map T.number values.now) number kept.new.items) }
     ensures grown { IfOk result (λ _. (i : ℕ) → i < length kept.old.items → (i < length kept.new.items) × (slice_index kept.new.items i ≡ slice_index kept.old.items i)) }
 {
     if let Some(place) = last {
@@ -98,20 +108,15 @@ fn keep(
             return Ok(place);
         }
     }
-    if let Some(place) = kept_place(values, width, kept.as_slice(), number) {
-        return Ok(place);
-    }
-    let place = kept.len();
-    kept.push(number)?;
-    Ok(place)
+    find_or_keep(alloc, values, width, first, kept, found, number)
 }
 
 impl Compaction {
     /// Keeps each of the blocks from the first to before the end once. Refused as `TooLarge` where
     /// more than the limit are different, or as `Memory`.
-    pub(super) fn new(
+    pub(super) fn new<T: TrieValue>(
         alloc: Global,
-        values: &[u32],
+        values: &[T],
         width: usize,
         first: usize,
         end: usize,
@@ -119,16 +124,19 @@ impl Compaction {
     ) -> Result<Compaction, CodePointTrieBuildError>
         requires order { first ≤ end }
         requires whole { (b : ℕ) → b < end → b * width + width ≤ length values.now }
-        ensures kept { IfOk result (λ blocks. AreKept width values.now first end blocks.kept.items) }
-        ensures places { IfOk result (λ blocks. ArePlaces width values.now first end blocks.places.items blocks.kept.items) }
+        ensures kept { IfOk result (λ blocks. AreKept width (map T.number values.now) first end blocks.kept.items) }
+        ensures places { IfOk result (λ blocks. ArePlaces width (map T.number values.now) first end blocks.places.items blocks.kept.items) }
         ensures few { IfOk result (λ blocks. length blocks.kept.items ≤ limit) }
-        ensures refused { IfErr result (λ e. (e ≡ Memory) ⊎ ((e ≡ TooLarge) × HasMore width values.now first end limit)) }
+        ensures refused { IfErr result (λ e. (e ≡ Memory) ⊎ ((e ≡ TooLarge) × HasMore width (map T.number values.now) first end limit)) }
     {
         let mut places = Vec::new(alloc);
         let mut kept = Vec::new(alloc);
+        let mut found = HashMap::new(alloc);
         for number in first..end {
             let last = places.last().copied();
-            let place = keep(values, width, first, &mut kept, last, number)?;
+            let place = keep(
+                alloc, values, width, first, &mut kept, &mut found, last, number,
+            )?;
             if kept.len() > limit {
                 return Err(CodePointTrieBuildError::TooLarge);
             }

@@ -1,121 +1,160 @@
 //! Where the tables of a built trie have what.
-ghost use Rattle.std.specs.Prelude.{◌≡◌, ℕ, ◌+◌, ◌-◌, ◌*◌, ◌/◌, ◌%◌, ◌^◌, ◌<◌, ◌≤◌, ◌⊎◌, length, slice_index, IfOk, IfErr};
-ghost use Rattle.icu_codepointtrie.specs.Places.{fast_limit, fast_blocks, first_step};
+ghost use Rattle.std.specs.Prelude.{◌≡◌, ℕ, ◌+◌, ◌-◌, ◌*◌, ◌/◌, ◌^◌, ◌<◌, ◌≤◌, ◌⊎◌, [], map, length, slice_index, IfOk, IfErr};
+ghost use Rattle.icu_codepointtrie.specs.Places.{fast_limit};
 ghost use Rattle.icu_codepointtrie.specs.Blocks.{HasMore};
-ghost use Rattle.icu_codepointtrie.specs.Layouts.{AreBounded, IsLayout, second_start, third_start, small_offset, upper_cell, group_block, third_cell, index_cell, index_count, HasIndex, value_count, source};
+ghost use Rattle.icu_codepointtrie.specs.DataCells.{Stands};
+ghost use Rattle.icu_codepointtrie.specs.Layouts.{AreBounded, IsLayout, IsLastRun, AreFew, second_start, third_start, index_cell, HasCells, HasIndex};
 ghost use Rattle.icu_codepointtrie.specs.declared.builder.compaction.CodePointTrieBuildError.TheVariants.{TooLarge, Memory};
 
-use super::super::trie::TrieType;
+use super::super::trie::{CodePointTrieHeader, TrieType};
+use super::super::value::TrieValue;
+use super::blocks::{has_only, number_at};
+use super::cells::{items_at, places_of, put_value};
 use super::compaction::{CodePointTrieBuildError, Compaction};
+use super::thirds::third_blocks;
 use std::alloc::{AllocError, Global};
 
 /// How many blocks of 512 there are up to 10FFFF (hex).
 const WIDE_BLOCKS: usize = 0x880;
 
-/// How many blocks of 16 there are up to 10FFFF (hex).
-const SMALL_BLOCKS: usize = 0x1_1000;
-
-/// The blocks that the tables of a trie are made of.
+/// What the index of a trie is made of.
 #[derive(Drop)]
 pub(super) struct Layout {
     trie_type: TrieType,
-    /// Those of 64 below the fast limit.
-    fast: Compaction,
-    /// Those of 512 from the fast limit on.
-    wide: Compaction,
-    /// Those of 16 from the fast limit on.
-    small: Compaction,
+    /// How many blocks of 512 there are before the last run of one value.
+    wide_end: usize,
+    /// Where the blocks of 64 from the third on up to the fast limit stand.
+    fast: Vec<usize>,
+    /// The second cell of each block of 512 from the fast limit on.
+    seconds: Vec<usize>,
+    /// The cells of the third blocks.
+    thirds: Vec<u16>,
+}
+
+/// How many blocks of 512 there are up to the last run of one value, at least those below the limit.
+fn end_of_blocks<T: TrieValue>(values: &[T], limit: usize) -> usize
+    requires values { length values.now ≡ 0x110000 }
+    requires limit { limit / 512 * 512 ≡ limit }
+    requires inside { limit ≤ 0x110000 }
+    ensures from { limit / 512 ≤ result }
+    ensures to { result ≤ 0x880 }
+    ensures run { IsLastRun (map T.number values.now) result }
+    ensures least { (n : ℕ) → limit / 512 ≤ n → IsLastRun (map T.number values.now) n → result ≤ n }
+{
+    let last = number_at(values, 0x10_FFFF);
+    for back in 0..WIDE_BLOCKS - limit / 512 {
+        let block = WIDE_BLOCKS - 1 - back;
+        if !has_only(values, 512, block, last) {
+            return block + 1;
+        }
+    }
+    limit / 512
+}
+
+/// Puts the first two blocks of 64. The only error is want of memory.
+fn put_first_blocks<T: TrieValue>(cells: &mut Vec<T>, values: &[T]) -> Result<(), AllocError>
+    requires none { cells.old.items ≡ [] }
+    requires values { 128 ≤ length values.now }
+    ensures count { IfOk result (λ _. length cells.new.items ≡ 128) }
+    ensures stand { IfOk result (λ _. Stands (map T.number values.now) 0 (map T.number cells.new.items) 0 128) }
+{
+    for place in 0..128 {
+        put_value(cells, values, place)?;
+    }
+    Ok(())
+}
+
+/// Where the second cells begin.
+fn second_start(trie_type: TrieType, wide_end: usize) -> usize
+    requires { wide_end ≤ 0x880 }
+    ensures { result ≡ second_start trie_type wide_end }
+{
+    trie_type.first_step() + (wide_end + 31) / 32
+}
+
+/// Where the third blocks begin.
+fn third_start(trie_type: TrieType, wide_end: usize) -> usize
+    requires from { fast_limit trie_type / 512 ≤ wide_end }
+    requires to { wide_end ≤ 0x880 }
+    ensures { result ≡ third_start trie_type wide_end }
+{
+    second_start(trie_type, wide_end) + (wide_end - trie_type.fast_limit() as usize / 512)
 }
 
 impl Layout {
-    /// The blocks of the values of all code points. Refused as `TooLarge` where more than 800 of
-    /// 512 or 12,000 of 16 are different, or as `Memory`.
-    pub(super) fn new(
+    /// Puts the values of all code points among the cells, equal blocks once. Refused as `TooLarge`
+    /// where more than 800 blocks of 512 or 12,000 of 16 are different, or as `Memory`.
+    pub(super) fn new<T: TrieValue>(
         alloc: Global,
-        values: &[u32],
+        cells: &mut Vec<T>,
+        values: &[T],
         trie_type: TrieType,
     ) -> Result<Layout, CodePointTrieBuildError>
-        requires { length values.now ≡ 0x110000 }
-        ensures layout { IfOk result (IsLayout values.now) }
+        requires none { cells.old.items ≡ [] }
+        requires all { length values.now ≡ 0x110000 }
+        ensures layout { IfOk result (IsLayout (map T.number values.now) (map T.number cells.new.items)) }
         ensures bounds { IfOk result AreBounded }
         ensures trie_type { IfOk result (λ layout. layout.trie_type ≡ trie_type) }
-        ensures refused { IfErr result (λ e. (e ≡ Memory) ⊎ ((e ≡ TooLarge) × (HasMore 512 values.now (fast_limit trie_type / 512) 0x880 800 ⊎ HasMore 16 values.now (fast_limit trie_type / 16) 0x1_1000 12000))) }
+        ensures few { IfOk result (λ layout. AreFew (map T.number values.now) trie_type layout.wide_end (length cells.new.items)) }
+        ensures refused { IfErr result (λ e. (e ≡ Memory) ⊎ ((e ≡ TooLarge) × (HasMore 512 (map T.number values.now) (fast_limit trie_type / 512) 0x880 800 ⊎ HasMore 16 (map T.number values.now) (fast_limit trie_type / 16) 0x1_1000 12000))) }
     {
         let limit = trie_type.fast_limit() as usize;
-        let fast = Compaction::new(alloc, values, 64, 0, limit / 64, 1024)?;
-        let wide = Compaction::new(alloc, values, 512, limit / 512, WIDE_BLOCKS, 800)?;
-        let small = Compaction::new(alloc, values, 16, limit / 16, SMALL_BLOCKS, 12_000)?;
+        put_first_blocks(cells, values)?;
+        let fast = places_of(alloc, cells, values, 64, 2, limit / 64, 1022)?;
+        let wide_end = end_of_blocks(values, limit);
+        let wide = Compaction::new(alloc, values, 512, limit / 512, wide_end, 800)?;
+        let small = places_of(alloc, cells, values, 16, limit / 16, 32 * wide_end, 12_000)?;
+        let start = third_start(trie_type, wide_end);
+        let blocks = third_blocks(
+            alloc,
+            start,
+            small.as_slice(),
+            limit / 512,
+            wide.kept.as_slice(),
+        )?;
+        let seconds = items_at(alloc, blocks.entries.as_slice(), wide.places.as_slice())?;
         Ok(Layout {
             trie_type,
+            wide_end,
             fast,
-            wide,
-            small,
+            seconds,
+            thirds: blocks.cells,
         })
     }
 
-    /// Where the data cells of a block of 16 begin.
-    fn small_offset(&self, block: usize) -> usize
-        requires bounds { AreBounded self.now }
-        requires from { fast_limit self.now.trie_type / 16 ≤ block }
-        requires before { block < 0x1_1000 }
-        ensures offset { result ≡ small_offset self.now block }
-        ensures bound { result < 2 ^ 18 }
-    {
-        let first = self.trie_type.fast_limit() as usize / 16;
-        64 * self.fast.kept.len() + 16 * self.small.places[block - first]
-    }
-
-    /// The cell with the upper two bits of the offsets of eight blocks of 16.
-    fn upper_cell(&self, block: usize) -> usize
-        requires bounds { AreBounded self.now }
-        requires from { fast_limit self.now.trie_type / 16 ≤ block }
-        requires before { block + 8 ≤ 0x1_1000 }
-        ensures cell { result ≡ upper_cell self.now block }
-        ensures bound { result < 2 ^ 16 }
-    {
-        let mut cell = 0;
-        for number in 0..8 {
-            cell = cell * 4 + (self.small_offset(block + number) >> 16);
-        }
-        cell
-    }
-
-    /// The cell at a place of the third blocks.
-    fn third_cell(&self, place: usize) -> usize
-        requires bounds { AreBounded self.now }
-        requires place { place < 36 * length self.now.wide.kept.items }
-        ensures cell { result ≡ third_cell self.now place }
-        ensures bound { result < 2 ^ 16 }
-    {
-        let group = place / 9;
-        let block = self.wide.kept[group / 4] * 32 + group % 4 * 8;
-        match place % 9 {
-            0 => self.upper_cell(block),
-            within => self.small_offset(block + (within - 1)) % 0x1_0000,
-        }
-    }
-
-    /// The index cell at a place.
+    /// The index cell at a place before the third blocks.
     #[tactic(auto, unfolding(crate::specs::Layouts::index_cell))]
     fn index_cell(&self, place: usize) -> u16
         requires bounds { AreBounded self.now }
-        requires place { place < index_count self.now }
+        requires place { place < third_start self.now.trie_type self.now.wide_end }
         ensures { result ≡ index_cell self.now place }
     {
-        let first_step = self.trie_type.first_step();
         let limit = self.trie_type.fast_limit() as usize;
-        let second = first_step + 68;
-        let third = second + (WIDE_BLOCKS - limit / 512);
+        let second = second_start(self.trie_type, self.wide_end);
         let cell = if place < limit / 64 {
-            64 * self.fast.places[place]
+            if place < 2 {
+                64 * place
+            } else {
+                self.fast[place - 2]
+            }
         } else if place < second {
-            second - limit / 512 + 32 * (place - first_step)
-        } else if place < third {
-            0x8000 + third + 36 * self.wide.places[place - second]
+            second - limit / 512 + 32 * (place - self.trie_type.first_step())
         } else {
-            self.third_cell(place - third)
+            self.seconds[place - second]
         };
         cell as u16
+    }
+
+    /// The index cells before the third blocks. The only error is want of memory.
+    fn head(&self, alloc: Global) -> Result<Vec<u16>, AllocError>
+        requires { AreBounded self.now }
+        ensures { IfOk result (λ head. HasCells self.now head.items) }
+    {
+        let mut head = Vec::new(alloc);
+        for place in 0..third_start(self.trie_type, self.wide_end) {
+            head.push(self.index_cell(place))?;
+        }
+        Ok(head)
     }
 
     /// The index cells. The only error is want of memory.
@@ -123,37 +162,26 @@ impl Layout {
         requires { AreBounded self.now }
         ensures { IfOk result (λ index. HasIndex self.now index.items) }
     {
-        let third = self.trie_type.first_step() + 68 + WIDE_BLOCKS
-            - self.trie_type.fast_limit() as usize / 512;
-        let mut index = Vec::new(alloc);
-        for place in 0..third + 36 * self.wide.kept.len() {
-            index.push(self.index_cell(place))?;
-        }
+        let mut index = self.head(alloc)?;
+        index.extend_from_slice(self.thirds.as_slice())?;
         Ok(index)
     }
 
-    /// How many data cells there are, but the last two.
-    pub(super) fn value_count(&self) -> usize
+    /// The header of the trie, whose blocks are no null blocks.
+    pub(super) fn header(&self, null_value: u32) -> CodePointTrieHeader
         requires { AreBounded self.now }
-        ensures count { result ≡ value_count self.now }
-        ensures bound { result < 2 ^ 18 }
+        ensures high_start { result.high_start ≡ self.now.wide_end * 512 }
+        ensures shifted { result.shifted12_high_start ≡ (result.high_start + 4095) / 4096 }
+        ensures null_value { result.null_value ≡ null_value }
+        ensures trie_type { result.trie_type ≡ self.now.trie_type }
     {
-        64 * self.fast.kept.len() + 16 * self.small.kept.len()
-    }
-
-    /// The code point whose value stands in a data cell.
-    #[tactic(auto, unfolding(crate::specs::Layouts::source))]
-    pub(super) fn source(&self, place: usize) -> usize
-        requires bounds { AreBounded self.now }
-        requires place { place < value_count self.now }
-        ensures source { result ≡ source self.now place }
-        ensures bound { result < 0x11_0000 }
-    {
-        let fast = 64 * self.fast.kept.len();
-        if place < fast {
-            self.fast.kept[place / 64] * 64 + place % 64
-        } else {
-            self.small.kept[(place - fast) / 16] * 16 + (place - fast) % 16
+        CodePointTrieHeader {
+            high_start: (self.wide_end * 512) as u32,
+            shifted12_high_start: ((self.wide_end + 7) / 8) as u16,
+            index3_null_offset: 0x7fff,
+            data_null_offset: 0xf_ffff,
+            null_value,
+            trie_type: self.trie_type,
         }
     }
 }

@@ -1,6 +1,7 @@
-use Rattle.std.proofs.Common.{◌≡◌, ◌+◌, ◌*◌, ◌≤◌, List, length, take, drop, sym, refl, inl, inr, ⊎_elim, arith}
-use Rattle.icu_codepointtrie.specs.Places.{fast_limit}
-use Rattle.icu_codepointtrie.specs.Blocks.{different_blocks}
+use Rattle.std.proofs.Common.{◌≡◌, ◌+◌, List, length, map, sym, ap, subst, ◌∙◌, inl, inr, ⊎_elim, arith}
+use Rattle.std.proofs.lemmas.List.{length-append}
+use Rattle.icu_codepointtrie.specs.Layouts.{HasIndex}
+use Rattle.icu_codepointtrie.specs.BuiltTries.{AreAllCells}
 use Rattle.icu_codepointtrie.proofs.BuiltTries.{IsTrieOf-built, IsTrie-built}
 use Rattle.icu_codepointtrie.proofs.BlockCounts.{layout_count, more_different}
 use Rattle.icu_codepointtrie.proofs.builder.CodePointTrieBuilder.build.Goals as goal
@@ -24,29 +25,34 @@ returns-in-Err-clause-refused g c =
 
 pub from_tables-requires : goal.from_tables-requires
 from_tables-requires g c =
+    let number = g.T.TrieValue.number in
     let layout = c.in-Ok.layout in
-    IsTrie-built layout c.as_slice-values.result.now c.self.inside.error_value _ (sym c.in-Ok.ensures.trie_type) c.in-Ok.ensures.bounds
-    c.in_ok-index.ensures
-    c.in_ok-cells.ensures
+    let index : c.in_ok-index-2.index ≡ c.in_ok-index.index.items = c.in_ok-index-2.ensures ∙ c.as_slice.ensures.value in
+    let cells : c.in_ok-cells.cells ≡ c.put_last_two.new.cells.items = c.in_ok-cells.ensures ∙ c.as_slice-2.ensures.value in
+    IsTrie-built number (map number c.as_slice-values.result.now) layout c.self.inside.error_value _ c.new.new.cells.items c.header-header.ensures.trie_type c.in-Ok.ensures.layout c.in-Ok.ensures.bounds
+    (subst (HasIndex layout) (sym index) c.in_ok-index.ensures)
+    (subst (AreAllCells number (map number c.as_slice-values.result.now) c.new.new.cells.items c.self.inside.error_value) (sym cells) c.in_ok-put_last_two.ensures)
 
 pub returns-clause-reads : goal.returns-clause-reads
 returns-clause-reads g c =
     let number = g.T.TrieValue.number in
-    let values : List g.row.T.Denot = c.self.inside.values.items in
     let layout = c.in-Ok.layout in
-    let given : c.as_slice-values.result.now ≡ values = c.as_slice-values.ensures.value in
-    rw (← c.self.view_is, c.from_tables.ensures) (IsTrieOf-built number g.met.T.TrieValue.tells_apart _ layout _ c.self.invariant.all refl c.in-Ok.ensures.trie_type refl
+    let given : c.as_slice-values.result.now ≡ c.self.inside.values.items = c.as_slice-values.ensures.value in
+    let index : c.in_ok-index-2.index ≡ c.in_ok-index.index.items = c.in_ok-index-2.ensures ∙ c.as_slice.ensures.value in
+    let cells : c.in_ok-cells.cells ≡ c.put_last_two.new.cells.items = c.in_ok-cells.ensures ∙ c.as_slice-2.ensures.value in
+    rw (← c.self.view_is, c.from_tables.ensures) (IsTrieOf-built number g.met.T.TrieValue.tells_apart _ layout _ c.new.new.cells.items c.self.invariant.all
+    (c.header-header.ensures.trie_type ∙ c.in-Ok.ensures.trie_type) c.in-Ok.ensures.trie_type c.header-header.ensures.high_start
     (rw given at c.in-Ok.ensures.layout) c.in-Ok.ensures.bounds
-    c.in_ok-index.ensures
-    (rw given at c.in_ok-cells.ensures))
+    (subst (HasIndex layout) (sym index) c.in_ok-index.ensures)
+    (rw given at (subst (AreAllCells number (map number c.as_slice-values.result.now) c.new.new.cells.items c.self.inside.error_value) (sym cells) c.in_ok-put_last_two.ensures)))
 
 pub returns-clause-cells : goal.returns-clause-cells
 returns-clause-cells g c =
     let number = g.T.TrieValue.number in
-    let values : List g.row.T.Denot = c.self.inside.values.items in
     let layout = c.in-Ok.layout in
-    let given : c.as_slice-values.result.now ≡ values = c.as_slice-values.ensures.value in
-    let count : length c.in_ok-cells.cells ≡ 64 * length layout.fast.kept.items + 16 * length layout.small.kept.items + 2 = c.in_ok-cells.ensures.count in
-    let most : 64 * length layout.fast.kept.items + 16 * length layout.small.kept.items ≤ 64 * different_blocks number 64 (take (fast_limit c.self.inside.trie_type) values) + 16 * different_blocks number 16 (drop (fast_limit c.self.inside.trie_type) values) =
-    rw c.in-Ok.ensures.trie_type at (layout_count number values layout c.self.invariant.all (rw given at c.in-Ok.ensures.layout)) in
+    let given : c.as_slice-values.result.now ≡ c.self.inside.values.items = c.as_slice-values.ensures.value in
+    let cells : c.in_ok-cells.cells ≡ c.put_last_two.new.cells.items = c.in_ok-cells.ensures ∙ c.as_slice-2.ensures.value in
+    let count : length c.in_ok-cells.cells ≡ length c.new.new.cells.items + 2 =
+    ap (λ (xs : List g.row.T.Denot). length xs) (cells ∙ c.in_ok-put_last_two.ensures.2) ∙ length-append c.new.new.cells.items _ in
+    let most = layout_count number c.self.inside.values.items c.self.inside.trie_type layout.wide_end (length c.new.new.cells.items) c.self.invariant.all c.in-Ok.ensures.bounds.to (rw given at c.in-Ok.ensures.few) in
     rw (← c.self.view_is, c.from_tables.ensures) (omega (arith, count, most))

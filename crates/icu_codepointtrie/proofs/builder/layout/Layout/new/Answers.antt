@@ -1,33 +1,53 @@
-use Rattle.std.proofs.Common.{arith}
-use Rattle.icu_codepointtrie.proofs.Blocks.{IsBounded-kept}
-use Rattle.icu_codepointtrie.proofs.Layouts.{type_facts}
+use Rattle.std.proofs.Common.{ℕ, ◌+◌, ◌*◌, ◌/◌, ◌≤◌, List, map, length, ◌∙◌, arith}
+use Rattle.std.specs.Prelude.{slice_index}
+use Rattle.std.proofs.lemmas.List.{length-map}
+use Rattle.icu_codepointtrie.proofs.Layouts.{places_inside, IsLayout-made, AreBounded-made}
 use Rattle.icu_codepointtrie.proofs.builder.layout.Layout.new.Goals as goal
 
-pub new-requires-clause-whole : goal.new-requires-clause-whole
-new-requires-clause-whole c b before =
-    let x = type_facts c.args.trie_type in
-    omega (arith, x.1, x.2, before)
-
-pub new-requires-2-clause-whole : goal.new-requires-2-clause-whole
-new-requires-2-clause-whole c b before = omega (arith, before)
-
-pub new-requires-3-clause-whole : goal.new-requires-3-clause-whole
-new-requires-3-clause-whole c b before = omega (arith, before)
-
-pub returns-clause-bounds : goal.returns-clause-bounds
-returns-clause-bounds c =
-    let limit = c.fast_limit-limit.ensures in
-    record {
-      fast = IsBounded-kept 64 c.args.values.now c.in_ok-fast.fast (rw limit at c.in_ok-fast.ensures.kept) (rw limit at c.in_ok-fast.ensures.places) c.in_ok-fast.ensures.few;
-      wide = IsBounded-kept 512 c.args.values.now c.in_ok-wide.wide (rw limit at c.in_ok-wide.ensures.kept) (rw limit at c.in_ok-wide.ensures.places) c.in_ok-wide.ensures.few;
-      small = IsBounded-kept 16 c.args.values.now c.in_ok-small.small (rw limit at c.in_ok-small.ensures.kept) (rw limit at c.in_ok-small.ensures.places) c.in_ok-small.ensures.few;
-    }
+pub third_blocks-requires-clause-small : goal.third_blocks-requires-clause-small
+third_blocks-requires-clause-small g c =
+    let number = g.T.TrieValue.number in
+    let cells : List ℕ = map number c.places_of-2.new.cells.items in
+    let one = c.in_ok-fast.ensures.grown in
+    let two = c.in_ok-small.ensures.grown in
+    let first = length-map c.put_first_blocks.new.cells.items number in
+    let bound : length cells ≤ 257536 = omega (arith, one.few, two.few, first, c.in_ok-put_first_blocks.ensures.count) in
+    rw c.as_slice.ensures.value (λ i h.
+    let inside : slice_index c.in_ok-small.small.items i + 16 ≤ length cells =
+    places_inside 16 (map number c.args.values.now) (c.fast_limit-limit.result / 16) (32 * c.end_of_blocks-wide_end.result) cells c.in_ok-small.small.items c.in_ok-small.ensures.count c.in_ok-small.ensures.stand i h in
+    omega arith)
 
 pub returns-clause-layout : goal.returns-clause-layout
-returns-clause-layout c =
-    let limit = c.fast_limit-limit.ensures in
-    record {
-      fast = record { kept = rw limit at c.in_ok-fast.ensures.kept; places = rw limit at c.in_ok-fast.ensures.places };
-      wide = record { kept = rw limit at c.in_ok-wide.ensures.kept; places = rw limit at c.in_ok-wide.ensures.places };
-      small = record { kept = rw limit at c.in_ok-small.ensures.kept; places = rw limit at c.in_ok-small.ensures.places };
-    }
+returns-clause-layout g c =
+    let number = g.T.TrieValue.number in
+    let numbers : List ℕ = map number c.args.values.now in
+    IsLayout-made numbers (map number c.put_first_blocks.new.cells.items) (map number c.places_of.new.cells.items) (map number c.places_of-2.new.cells.items) _ c.fast_limit-limit.result
+    c.in_ok-small.small.items c.in_ok-blocks.blocks.entries.items c.in_ok-wide.wide.kept.items c.in_ok-wide.wide.places.items
+    c.fast_limit-limit.ensures (length-map c.args.values.now number ∙ c.requires.all) c.end_of_blocks-wide_end.ensures.to
+    c.in_ok-put_first_blocks.ensures.stand c.in_ok-fast.ensures.grown c.in_ok-fast.ensures.stand c.in_ok-small.ensures.grown
+    (rw (c.as_slice-3.ensures.value, c.as_slice-4.ensures.value) at c.in_ok-seconds.ensures)
+    c.in_ok-wide.ensures.kept c.in_ok-wide.ensures.places c.in_ok-small.ensures.stand
+    (rw (c.as_slice.ensures.value, c.as_slice-2.ensures.value, c.third_start-start.ensures) at c.in_ok-blocks.ensures.gives)
+    c.end_of_blocks-wide_end.ensures.run
+
+pub returns-clause-bounds : goal.returns-clause-bounds
+returns-clause-bounds g c =
+    let number = g.T.TrieValue.number in
+    let one = c.in_ok-fast.ensures.grown in
+    let first = length-map c.put_first_blocks.new.cells.items number in
+    AreBounded-made (map number c.args.values.now) (map number c.places_of.new.cells.items) _ c.fast_limit-limit.result
+    c.in_ok-small.small.items c.in_ok-blocks.blocks.entries.items c.in_ok-wide.wide.kept.items c.in_ok-wide.wide.places.items
+    c.fast_limit-limit.ensures c.end_of_blocks-wide_end.ensures.from c.end_of_blocks-wide_end.ensures.to
+    (omega (arith, one.few, first, c.in_ok-put_first_blocks.ensures.count)) c.in_ok-fast.ensures.count c.in_ok-fast.ensures.stand
+    (rw (c.as_slice-3.ensures.value, c.as_slice-4.ensures.value) at c.in_ok-seconds.ensures) c.in_ok-wide.ensures.places
+    (rw (c.as_slice.ensures.value, c.as_slice-2.ensures.value, c.third_start-start.ensures) at c.in_ok-blocks.ensures.gives)
+
+pub returns-clause-few : goal.returns-clause-few
+returns-clause-few g c =
+    let number = g.T.TrieValue.number in
+    let one = c.in_ok-fast.ensures.grown in
+    let two = c.in_ok-small.ensures.grown in
+    let a = length-map c.put_first_blocks.new.cells.items number in
+    let b = length-map c.places_of.new.cells.items number in
+    let d = length-map c.places_of-2.new.cells.items number in
+    rw (← c.fast_limit-limit.ensures) (_, _, c.in_ok-fast.ensures.few, c.in_ok-small.ensures.few, omega (arith, one.longer, two.longer, a, b, d, c.in_ok-put_first_blocks.ensures.count))

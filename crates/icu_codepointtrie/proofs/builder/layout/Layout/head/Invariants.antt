@@ -1,0 +1,7 @@
+use Rattle.std.proofs.Common.{◌≡◌, ℕ, ◌<◌, length}
+use Rattle.std.specs.Prelude.{slice_index}
+use Rattle.icu_codepointtrie.specs.Layouts.{index_cell}
+use Rattle.icu_codepointtrie.proofs.builder.layout.Layout.head.Given as goal
+
+abbrev pub invariant-loop-place : goal.invariant-loop-place
+invariant-loop-place l = (length l.head.items ≡ l.place) × ((k : ℕ) → k < l.place → slice_index l.head.items k ≡ index_cell l.self k)

@@ -1,0 +1,182 @@
+//! The data cells of a trie in the making: blocks of values, each at a place of its own or where its
+//! values stand already.
+ghost use Rattle.std.specs.Prelude.{◌≡◌, ℕ, ◌+◌, ◌-◌, ◌*◌, ◌<◌, ◌≤◌, ◌⊎◌, ◌∷◌, [], ◌++◌, IsTrue, ◌↔◌, map, length, slice_index, IfOk, IfErr, IfSome};
+ghost use Rattle.icu_codepointtrie.specs.Blocks.{HasMore};
+ghost use Rattle.icu_codepointtrie.specs.DataCells.{Stands, Grows, AllStand, TakeFew};
+ghost use Rattle.icu_codepointtrie.specs.declared.builder.compaction.CodePointTrieBuildError.TheVariants.{TooLarge, Memory};
+
+use super::super::value::TrieValue;
+use super::blocks::number_at;
+use super::compaction::{CodePointTrieBuildError, Compaction};
+use std::alloc::{AllocError, AllocFailed, Global};
+
+/// Whether so many cells from the place on have the values from the first on.
+fn stands_at<T: TrieValue>(
+    cells: &[T],
+    place: usize,
+    values: &[T],
+    first: usize,
+    width: usize,
+) -> bool
+    requires { first + width ≤ length values.now }
+    ensures { IsTrue result ↔ Stands (map T.number values.now) first (map T.number cells.now) place width }
+{
+    if cells.len() < width || cells.len() - width < place {
+        return false;
+    }
+    for i in 0..width {
+        if number_at(cells, place + i) != number_at(values, first + i) {
+            return false;
+        }
+    }
+    true
+}
+
+/// How many of the last cells have the values from the first on, at most the width.
+fn overlap<T: TrieValue>(cells: &[T], values: &[T], first: usize, width: usize) -> usize
+    requires { first + width ≤ length values.now }
+    ensures width { result ≤ width }
+    ensures cells { result ≤ length cells.now }
+    ensures stands { Stands (map T.number values.now) first (map T.number cells.now) (length cells.now - result) result }
+    ensures most { (count : ℕ) → result < count → count ≤ width → count ≤ length cells.now → Stands (map T.number values.now) first (map T.number cells.now) (length cells.now - count) count → ⊥ }
+{
+    let most = width.min(cells.len());
+    for missing in 0..most {
+        let count = most - missing;
+        if stands_at(cells, cells.len() - count, values, first, count) {
+            return count;
+        }
+    }
+    0
+}
+
+/// The place of the values from the first on among the first cells, where ASCII stands.
+fn front_place<T: TrieValue>(cells: &[T], values: &[T], first: usize, width: usize) -> Option<usize>
+    requires { first + width ≤ length values.now }
+    ensures { IfSome result (λ place. Stands (map T.number values.now) first (map T.number cells.now) place width) }
+{
+    if stands_at(cells, 0, values, first, width) {
+        return Some(0);
+    }
+    if stands_at(cells, 64, values, first, width) {
+        return Some(64);
+    }
+    None
+}
+
+/// Puts a value behind the cells. The only error is want of memory.
+pub(super) fn put_value<T: TrieValue>(
+    cells: &mut Vec<T>,
+    values: &[T],
+    place: usize,
+) -> Result<(), AllocError>
+    requires { place < length values.now }
+    ensures { IfOk result (λ _. map T.number cells.new.items ≡ map T.number cells.old.items ++ slice_index (map T.number values.now) place ∷ []) }
+{
+    cells.push(values[place])?;
+    Ok(())
+}
+
+/// Puts the values from the first on behind the cells, the last of which have so many of them
+/// already. The only error is want of memory.
+fn put_behind<T: TrieValue>(
+    cells: &mut Vec<T>,
+    values: &[T],
+    first: usize,
+    width: usize,
+    common: usize,
+) -> Result<usize, AllocError>
+    requires values { first + width ≤ length values.now }
+    requires common { common ≤ width }
+    requires cells { common ≤ length cells.old.items }
+    requires stands { Stands (map T.number values.now) first (map T.number cells.old.items) (length cells.old.items - common) common }
+    ensures stands { IfOk result (λ place. Stands (map T.number values.now) first (map T.number cells.new.items) place width) }
+    ensures grown { IfOk result (λ _. Grows (map T.number cells.old.items) (map T.number cells.new.items) width) }
+{
+    let place = cells.len() - common;
+    for i in common..width {
+        put_value(cells, values, first + i)?;
+    }
+    Ok(place)
+}
+
+/// The place where the values from the first on stand among the cells. They are put behind them, and
+/// overlap their end as far as it agrees, unless the first cells have them. The only error is want
+/// of memory.
+fn put<T: TrieValue>(
+    cells: &mut Vec<T>,
+    values: &[T],
+    first: usize,
+    width: usize,
+) -> Result<usize, AllocError>
+    requires { first + width ≤ length values.now }
+    ensures stands { IfOk result (λ place. Stands (map T.number values.now) first (map T.number cells.new.items) place width) }
+    ensures grown { IfOk result (λ _. Grows (map T.number cells.old.items) (map T.number cells.new.items) width) }
+{
+    if let Some(place) = front_place(cells.as_slice(), values, first, width) {
+        return Ok(place);
+    }
+    let common = overlap(cells.as_slice(), values, first, width);
+    put_behind(cells, values, first, width, common)
+}
+
+/// Puts blocks, and tells the place of each. The only error is want of memory.
+fn put_blocks<T: TrieValue>(
+    alloc: Global,
+    cells: &mut Vec<T>,
+    values: &[T],
+    width: usize,
+    blocks: &[usize],
+) -> Result<Vec<usize>, AllocError>
+    requires { (i : ℕ) → i < length blocks.now → slice_index blocks.now i * width + width ≤ length values.now }
+    ensures count { IfOk result (λ places. length places.items ≡ length blocks.now) }
+    ensures stand { IfOk result (λ places. (i : ℕ) → i < length blocks.now → Stands (map T.number values.now) (slice_index blocks.now i * width) (map T.number cells.new.items) (slice_index places.items i) width) }
+    ensures grown { IfOk result (λ _. Grows (map T.number cells.old.items) (map T.number cells.new.items) (width * length blocks.now)) }
+{
+    let mut places = Vec::new(alloc);
+    for block in blocks {
+        let place = put(cells, values, *block * width, width)?;
+        places.push(place)?;
+    }
+    Ok(places)
+}
+
+/// For each number the item at that place. The only error is want of memory.
+pub(super) fn items_at(
+    alloc: Global,
+    items: &[usize],
+    places: &[usize],
+) -> Result<Vec<usize>, AllocError>
+    requires { (i : ℕ) → i < length places.now → slice_index places.now i < length items.now }
+    ensures { IfOk result (λ each. each.items ≡ map (slice_index items.now) places.now) }
+{
+    let mut each = Vec::new(alloc);
+    for place in places {
+        each.push(items[*place])?;
+    }
+    Ok(each)
+}
+
+/// Puts the blocks of a width from the first to before the end, equal ones once, and tells the place
+/// of each. Refused as `TooLarge` where more than the limit are different, or as `Memory`.
+pub(super) fn places_of<T: TrieValue>(
+    alloc: Global,
+    cells: &mut Vec<T>,
+    values: &[T],
+    width: usize,
+    first: usize,
+    end: usize,
+    limit: usize,
+) -> Result<Vec<usize>, CodePointTrieBuildError>
+    requires order { first ≤ end }
+    requires whole { (b : ℕ) → b < end → b * width + width ≤ length values.now }
+    ensures count { IfOk result (λ places. length places.items ≡ end - first) }
+    ensures stand { IfOk result (λ places. AllStand width (map T.number values.now) first end (map T.number cells.new.items) places.items) }
+    ensures grown { IfOk result (λ _. Grows (map T.number cells.old.items) (map T.number cells.new.items) (width * limit)) }
+    ensures few { IfOk result (λ _. TakeFew width (map T.number values.now) first end limit (length cells.new.items - length cells.old.items)) }
+    ensures refused { IfErr result (λ e. (e ≡ Memory) ⊎ ((e ≡ TooLarge) × HasMore width (map T.number values.now) first end limit)) }
+{
+    let blocks = Compaction::new(alloc, values, width, first, end, limit)?;
+    let places = put_blocks(alloc, cells, values, width, blocks.kept.as_slice())?;
+    Ok(items_at(alloc, places.as_slice(), blocks.places.as_slice())?)
+}
