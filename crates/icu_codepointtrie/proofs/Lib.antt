@@ -1,4 +1,5 @@
 pub mod RangeLemmas
+pub mod FastCells
 pub mod TomlLemmas
 pub mod Blocks
 pub mod Layouts

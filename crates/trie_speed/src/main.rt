@@ -1,5 +1,6 @@
 //! Measures code point tries: builds one of 12,000 different small blocks, and reads all code points
-//! of one of either type 100 times. `bench/libraries.sh` takes the times; the program prints a sum.
+//! of one of either type 100 times, or as often code points at random, up to FFFF (hex) or any.
+//! `bench/libraries.sh` takes the times; the program prints a sum.
 #![tactic(auto)]
 
 use icu_collections::codepointtrie::{
@@ -13,6 +14,9 @@ const BLOCKS: u32 = 11_999;
 
 /// How often all code points are read.
 const ROUNDS: u32 = 100;
+
+/// How many code points are read at random.
+const READS: u32 = 111_411_200;
 
 /// The trie whose first code points of small blocks have values of their own.
 fn build(
@@ -37,6 +41,18 @@ fn sum_of_rounds(trie: &CodePointTrie<'_, u32>) -> u32 {
     sum
 }
 
+/// The sum of the values of code points at random below a limit.
+fn sum_at_random(trie: &CodePointTrie<'_, u32>, limit: u32) -> u32 {
+    let mut sum: u32 = 0;
+    let mut random: u32 = 1;
+    for _read in 0..READS {
+        random = random.wrapping_mul(0x0019_660D).wrapping_add(0x3C6E_F35F);
+        let code_point = ((random as u64 * limit as u64) >> 32) as u32;
+        sum = sum.wrapping_add(trie.get32(code_point));
+    }
+    sum
+}
+
 fn main(rt: HostRuntime) -> io::Result<()> {
     let alloc = rt.alloc();
     let task = env::args(&rt)?.nth(1);
@@ -48,6 +64,8 @@ fn main(rt: HostRuntime) -> io::Result<()> {
     };
     match build(alloc, trie_type) {
         Ok(trie) if word == "build" => println!(rt; "{}", trie.get32(0x1_0000 + 0x10 * 11_998)),
+        Ok(trie) if word == "low" => println!(rt; "{}", sum_at_random(&trie, 0x1_0000)),
+        Ok(trie) if word == "random" => println!(rt; "{}", sum_at_random(&trie, 0x11_0000)),
         Ok(trie) => println!(rt; "{}", sum_of_rounds(&trie)),
         Err(error) => println!(rt; "{error:?}"),
     }
