@@ -1,6 +1,7 @@
 //! Measures code point tries: builds one of 12,000 different small blocks, and reads all code points
-//! of one of either type 100 times, or as often code points at random, up to FFFF (hex) or any.
-//! `bench/libraries.sh` takes the times; the program prints a sum.
+//! of one of either type 100 times, or as often code points at random, up to FFFF (hex) or any; or
+//! goes over the ranges of a map of one range 1,000 times. `bench/libraries.sh` takes the times; the
+//! program prints a sum.
 #![tactic(auto)]
 
 use icu_collections::codepointtrie::{
@@ -17,6 +18,9 @@ const ROUNDS: u32 = 100;
 
 /// How many code points are read at random.
 const READS: u32 = 111_411_200;
+
+/// How often the ranges of a map are gone over.
+const WALKS: u32 = 1_000;
 
 /// The trie whose first code points of small blocks have values of their own.
 fn build(
@@ -53,10 +57,30 @@ fn sum_at_random(trie: &CodePointTrie<'_, u32>, limit: u32) -> u32 {
     sum
 }
 
+/// How many ranges walks over those of a map of one range give.
+fn count_ranges(alloc: Global) -> Result<u32, CodePointTrieBuildError> {
+    let mut map = CodePointTrieBuilder::new(alloc, 0u32, 0, TrieType::Fast)?;
+    let _ = map.set_range_value(0x400..=0x1_FFFF, 1);
+    let trie = map.build(alloc)?;
+    let mut count: u32 = 0;
+    for _walk in 0..WALKS {
+        for _range in trie.iter_ranges() {
+            count = count.saturating_add(1);
+        }
+    }
+    Ok(count)
+}
+
 fn main(rt: HostRuntime) -> io::Result<()> {
     let alloc = rt.alloc();
     let task = env::args(&rt)?.nth(1);
     let word = task.as_ref().map_or("build", |task| task.as_str());
+    if word == "ranges" {
+        return match count_ranges(alloc) {
+            Ok(count) => println!(rt; "{count}"),
+            Err(error) => println!(rt; "{error:?}"),
+        };
+    }
     let trie_type = if word == "small" {
         TrieType::Small
     } else {
