@@ -367,7 +367,7 @@ fn random_maps(rt: HostRuntime) -> Result<(), Fail> {
 
 #[test]
 fn ok_get_planes_trie(rt: HostRuntime) -> Result<(), Fail> {
-    let planes = get_planes_trie(rt.alloc())?;
+    let planes = planes::get_planes_trie(rt.alloc())?;
     assert_eq!(rt; planes.get32(0x41), 0);
     assert_eq!(rt; planes.get('\u{1F600}'), 1);
     assert_eq!(rt; planes.get32(0x10_FFFF), 16);
