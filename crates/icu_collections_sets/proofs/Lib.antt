@@ -10,3 +10,4 @@ pub mod SpellingLemmas
 pub mod JsonLemmas
 pub mod JsonStringListLemmas
 pub mod ToggleLemmas
+pub mod TextLemmas

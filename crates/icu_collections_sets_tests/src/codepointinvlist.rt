@@ -185,3 +185,12 @@ fn printed(rt: HostRuntime) -> Result<(), Fail> {
     );
     Ok(())
 }
+
+#[test]
+fn how_many_ranges_are_left(rt: HostRuntime) {
+    let set = CodePointInversionList::bmp();
+    let mut ranges = set.iter_ranges();
+    assert_eq!(rt; ranges.len(), 1);
+    assert!(rt; ranges.next().is_some());
+    assert_eq!(rt; ranges.len(), 0);
+}
