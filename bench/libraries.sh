@@ -23,5 +23,11 @@ measure "10,000,000 times contains32, of 10,000 ranges" set_speed questions
 measure "a trie of 12,000 different small blocks built" trie_speed build
 measure "the same and 111,411,200 reads, type Fast" trie_speed fast
 measure "the same and 111,411,200 reads, type Small" trie_speed small
+measure "12,000 blocks that differ in their last cell" trie_speed last
+measure "two blocks that alternate, 12,000 times" trie_speed two
+measure "100 maps of one written range made and built" trie_speed range 100
+measure "111,411,200 reads at random up to FFFF" trie_speed low
+measure "111,411,200 reads at random" trie_speed random
+measure "1,000 walks over the ranges of a map of one" trie_speed ranges 1000
 measure "10,000 keys made, written and followed" unit_speed 10000 1
 measure "the same, and 100 times more written and followed" unit_speed 10000 101

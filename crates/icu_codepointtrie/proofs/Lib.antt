@@ -1,4 +1,6 @@
 pub mod RangeLemmas
+pub mod FastCells
+pub mod SharedBlocks
 pub mod TomlLemmas
 pub mod Blocks
 pub mod DataCells

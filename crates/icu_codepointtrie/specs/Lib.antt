@@ -2,6 +2,7 @@ pub mod TrieValues
 pub mod TrieValueLaws
 pub mod Places
 pub mod Ranges
+pub mod SharedBlocks
 pub mod RangeIterators
 pub mod CodePointMaps
 pub mod TomlTables

@@ -8,14 +8,14 @@ mod of_mapped;
 mod of_value;
 
 /// The ranges of one value of a trie in order, from 0 to 10FFFF (hex), each as far as it goes.
-#[derive(Drop)]
+#[derive(Debug, Drop)]
 pub struct CodePointMapRangeIterator<'a, T: TrieValue> {
     trie: &'a CodePointTrie<'a, T>,
     start: u32,
 }
 
 /// The ranges that have one value of a trie in order, each as far as it goes.
-#[derive(Drop)]
+#[derive(Debug, Drop)]
 pub struct CodePointRangesForValue<'a, T: TrieValue> {
     trie: &'a CodePointTrie<'a, T>,
     value: T,

@@ -6,6 +6,7 @@ mod iterators;
 pub mod laws;
 pub mod planes;
 mod ranges;
+mod shared_blocks;
 mod toml_text;
 mod trie;
 mod typed;

@@ -3,6 +3,7 @@ ghost use Rattle.std.specs.Prelude.{◌≡◌, ◌≤◌, ◌<◌, ◌+◌, Some
 ghost use Rattle.icu_codepointtrie.specs.Places.{TrieTables, value_at};
 ghost use Rattle.icu_codepointtrie.specs.Ranges.{IsConstant, IsRangeFrom, IsEndOfRange};
 
+use super::shared_blocks::key_width;
 use super::trie::CodePointTrie;
 use super::value::TrieValue;
 use std::ops::RangeInclusive;
@@ -24,18 +25,36 @@ impl<'a, T: TrieValue> CodePointTrie<'a, T> {
         self.get32(code_point).to_u32() == value.to_u32()
     }
 
-    /// The last code point that is reached from this one through code points of this value.
+    /// The last code point that is reached from this one through code points of this value. Of
+    /// blocks one behind another that share their index cell one is read.
     pub(super) fn end_of_range(&self, start: u32, value: T) -> u32
         requires start { start ≤ 0x10FFFF }
         requires has_value { value_at self.now start ≡ Some value }
         ensures { IsEndOfRange self.now start value result }
     {
-        for end in start..0x10_FFFF {
-            if !self.has_value(end + 1, value) {
-                return end;
+        let limit = self.tail_start();
+        let mut next = start + 1;
+        let mut uniform = None;
+        while next < limit {
+            let key = self.block_key(next);
+            let end = match key {
+                Some(key) => next + key_width(key),
+                None => (next / 64 * 64 + 64).min(limit),
+            };
+            if key.is_none() || key != uniform {
+                let stop = self.first_without(next, end, value);
+                if stop < end {
+                    return stop - 1;
+                }
+                uniform = key;
             }
+            next = end;
         }
-        0x10_FFFF
+        if next > 0x10_FFFF || self.has_value(next, value) {
+            0x10_FFFF
+        } else {
+            next - 1
+        }
     }
 
     /// The range of one value that begins at this code point and goes as far as it can, or `None`

@@ -87,6 +87,7 @@ impl<'a, T: TrieValue> Model for CodePointTrie<'a, T> {
 
 impl TrieType {
     /// The code point from which on a place is found in three steps.
+    #[inline]
     pub(super) fn fast_limit(self) -> u32
         ensures { result ≡ fast_limit self }
     {
@@ -97,6 +98,7 @@ impl TrieType {
     }
 
     /// Where the first of the three steps begins.
+    #[inline]
     pub(super) fn first_step(self) -> usize
         ensures { result ≡ first_step self }
     {
@@ -109,6 +111,7 @@ impl TrieType {
 
 /// The place of a code point below the fast limit.
 #[tactic(auto, unfolding(crate::specs::Places::fast_place))]
+#[inline]
 fn fast_place(index: &PackedVec<'_, u16>, code_point: u32) -> Option<usize>
     ensures { result ≡ fast_place index.now code_point }
 {
@@ -117,6 +120,7 @@ fn fast_place(index: &PackedVec<'_, u16>, code_point: u32) -> Option<usize>
 }
 
 /// The offset of the data block with this number of eight groups of four blocks, of 18 bits.
+#[inline]
 fn wide_offset(index: &PackedVec<'_, u16>, groups: usize, number: usize) -> Option<usize>
     requires groups { groups < 2 ^ 15 }
     requires number { number < 32 }
@@ -125,12 +129,13 @@ fn wide_offset(index: &PackedVec<'_, u16>, groups: usize, number: usize) -> Opti
 {
     let group = groups + number / 8 * 9;
     let within = number % 8;
-    let upper = index.get(group)? as usize;
     let lower = index.get(group + 1 + within)? as usize;
-    Some((((upper >> (14 - 2 * within)) & 3) << 16) + lower)
+    let upper = index.at(group) as usize;
+    Some((upper >> (14 - 2 * within)) % 4 * 0x1_0000 + lower)
 }
 
 /// The offset of the data block with this number of 32.
+#[inline]
 fn data_offset(index: &PackedVec<'_, u16>, block: u16, number: usize) -> Option<usize>
     requires { number < 32 }
     ensures offset { result ≡ data_offset index.now block number }
@@ -146,6 +151,7 @@ fn data_offset(index: &PackedVec<'_, u16>, block: u16, number: usize) -> Option<
 
 /// The place of a code point from the fast limit on.
 #[tactic(auto, unfolding(crate::specs::Places::small_place))]
+#[inline]
 fn small_place(trie_type: TrieType, index: &PackedVec<'_, u16>, code_point: u32) -> Option<usize>
     ensures { result ≡ small_place trie_type index.now code_point }
 {
@@ -217,15 +223,15 @@ impl<'a, T: TrieValue> CodePointTrie<'a, T> {
         }
     }
 
-    /// The place that header and index name.
-    fn named_place(&self, code_point: u32) -> Option<usize>
+    /// The place that header and index name from the fast limit on.
+    #[inline]
+    fn upper_place(&self, code_point: u32) -> Option<usize>
+        requires { fast_limit self.now.header.trie_type ≤ code_point }
         ensures { result ≡ named_place self.now.header self.now.index (length self.now.cells) code_point }
     {
         let count = self.cells.len();
         if code_point > 0x10_FFFF {
             Some(count - 1)
-        } else if code_point < self.header.trie_type.fast_limit() {
-            fast_place(&self.index, code_point)
         } else if code_point < self.header.high_start {
             small_place(self.header.trie_type, &self.index, code_point)
         } else if count < 2 {
@@ -233,6 +239,43 @@ impl<'a, T: TrieValue> CodePointTrie<'a, T> {
         } else {
             Some(count - 2)
         }
+    }
+
+    /// The place that header and index name.
+    fn named_place(&self, code_point: u32) -> Option<usize>
+        ensures { result ≡ named_place self.now.header self.now.index (length self.now.cells) code_point }
+    {
+        if code_point < self.header.trie_type.fast_limit() {
+            fast_place(&self.index, code_point)
+        } else {
+            self.upper_place(code_point)
+        }
+    }
+
+    /// The value of a number below the fast limit: all such places are inside, so none is checked.
+    #[inline]
+    pub(super) fn fast_value(&self, code_point: u32) -> T
+        requires { code_point < fast_limit self.now.header.trie_type }
+        ensures value { Some result ≡ value_at self.now code_point }
+        ensures is_value { T.is_value result }
+    {
+        let start = self.index.at((code_point / 64) as usize);
+        self.cells.at(start as usize + (code_point % 64) as usize)
+    }
+
+    /// The value of a number from the fast limit on.
+    #[inline]
+    pub(super) fn upper_value(&self, code_point: u32) -> T
+        requires { fast_limit self.now.header.trie_type ≤ code_point }
+        ensures value { Some result ≡ value_at self.now code_point }
+        ensures is_value { T.is_value result }
+    {
+        let last = self.cells.len() - 1;
+        let place = match self.upper_place(code_point) {
+            Some(place) if place <= last => place,
+            _ => last,
+        };
+        self.cells.at(place)
     }
 
     /// Whether the trie has a cell for the number: true past 10FFFF (hex). Where it is false,
@@ -247,19 +290,20 @@ impl<'a, T: TrieValue> CodePointTrie<'a, T> {
     }
 
     /// The value of a number, the last cell's past 10FFFF (hex) and where the trie has no cell.
+    #[inline]
     pub fn get32(&self, code_point: u32) -> T
         ensures value { Some result ≡ value_at self.now code_point }
         ensures is_value { T.is_value result }
     {
-        let last = self.cells.len() - 1;
-        let place = match self.named_place(code_point) {
-            Some(place) if place <= last => place,
-            _ => last,
-        };
-        self.cells.get(place).unwrap()
+        if code_point < self.header.trie_type.fast_limit() {
+            self.fast_value(code_point)
+        } else {
+            self.upper_value(code_point)
+        }
     }
 
     /// The value of a character.
+    #[inline]
     pub fn get(&self, character: char) -> T
         ensures value { Some result ≡ value_at self.now character }
         ensures is_value { T.is_value result }

@@ -78,12 +78,18 @@ impl<'a, T: TrieValue> TypedCodePointTrie<T> for FastCodePointTrie<'a, T> {
 
     ghost trie_type = { Fast };
 
+    #[inline]
     fn get(&self, character: char) -> T {
-        self.trie.get(character)
+        self.get32(character as u32)
     }
 
+    #[inline]
     fn get32(&self, code_point: u32) -> T {
-        self.trie.get32(code_point)
+        if code_point < 0x1_0000 {
+            self.trie.fast_value(code_point)
+        } else {
+            self.trie.upper_value(code_point)
+        }
     }
 
     fn as_untyped_ref(&self) -> &CodePointTrie<'_, T> {
@@ -98,12 +104,18 @@ impl<'a, T: TrieValue> TypedCodePointTrie<T> for SmallCodePointTrie<'a, T> {
 
     ghost trie_type = { Small };
 
+    #[inline]
     fn get(&self, character: char) -> T {
-        self.trie.get(character)
+        self.get32(character as u32)
     }
 
+    #[inline]
     fn get32(&self, code_point: u32) -> T {
-        self.trie.get32(code_point)
+        if code_point < 0x1000 {
+            self.trie.fast_value(code_point)
+        } else {
+            self.trie.upper_value(code_point)
+        }
     }
 
     fn as_untyped_ref(&self) -> &CodePointTrie<'_, T> {

@@ -9,3 +9,5 @@ pub mod StringListLemmas
 pub mod SpellingLemmas
 pub mod JsonLemmas
 pub mod JsonStringListLemmas
+pub mod ToggleLemmas
+pub mod TextLemmas

@@ -16,3 +16,4 @@ pub use Rattle.icu_packed_vector.specs.Bytes
 pub use Rattle.icu_packed_vector.specs.ByteLaws
 pub use Rattle.icu_packed_vector.specs.Items
 pub use Rattle.icu_packed_vector.specs.Stored
+pub mod StringListHash

@@ -3,6 +3,7 @@ use Rattle.std.specs.Prelude.{◌≡◌, ℕ, ◌<◌, ◌≤◌, Bool, not, nat
 use Rattle.std.specs.Range.{range_inclusive_start, range_inclusive_end, range_inclusive_exhausted}
 use Rattle.std.specs.declared.ops.RangeInclusive.{RangeInclusive}
 use Rattle.icu_collections_sets.specs.CodePoints.{holds}
+use Rattle.icu_collections_sets.specs.Operations.{differ}
 
 -- the code points from one number up to another, exclusive
 abbrev pub is_within : ℕ → ℕ → ℕ → Bool
@@ -11,6 +12,10 @@ is_within from till c = nat_le from c && nat_lt c till
 -- the new set holds these code points, or doesn't, and elsewhere what the old one held
 abbrev pub IsSetTo : Bool → (ℕ → Bool) → List ℕ → List ℕ → Type 0
 IsSetTo held these old new = (c : ℕ) → holds new c ≡ (if these c then held else holds old c)
+
+-- from the edge on what was in is out, and the other way round
+abbrev pub IsToggled : ℕ → List ℕ → List ℕ → Type 0
+IsToggled edge old new = (c : ℕ) → holds new c ≡ differ (nat_le edge c) (holds old c)
 
 -- the edges of a stretch: where it begins and where it ends, each if it is one
 abbrev pub stretch : Bool → ℕ → Bool → ℕ → List ℕ

@@ -1,21 +1,28 @@
 //! Sets of code points and strings, as ICU4X's `icu_collections::codepointinvliststringlist`.
 ghost use Rattle.std.specs.Prelude.{◌≡◌, ◌≢◌, ℕ, ◌+◌, ◌<◌, ◌↔◌, ◌∷◌, [], IsTrue, length, map, MatchOption, MatchResult, string_bytes};
+ghost use Rattle.std.specs.Prelude.{◌&&◌, ◌++◌, nat_eq, IfOk};
+ghost use Rattle.std.specs.Hash as fed;
+ghost use Rattle.std.specs.Cmp.{and_per, on_per, and_equiv, on_equiv, partial_equiv_from_equiv};
+ghost use Rattle.std.specs.Cmp.Lexicographic.{pointwise, lists_per, lists_equiv, nat_list_eq_equiv};
 ghost use Rattle.std.specs.Str.{chars};
 ghost use Rattle.std.specs.List.{Contains};
 ghost use Rattle.icu_collections_sets.specs.CodePoints.{holds, count_below};
 ghost use Rattle.icu_collections_sets.specs.StringList.{CodePointsAndStrings, AreStrings, AreStringsUpTo};
+ghost use Rattle.icu_collections_sets.specs.StringListHash.{fed_alike};
 ghost use Rattle.icu_collections_sets.specs.StringListFaults.{IsFirstFault};
 ghost use Rattle.icu_collections_sets.specs.StringListOffences.{IsOffence};
 
 use crate::codepointinvlist::CodePointInversionList;
+use std::alloc::{AllocError, Global};
 use std::cmp::Ordering;
 use std::error::Error;
 use std::fmt;
+use std::hash::{Hash, Hasher};
 use std::marker::Model;
 
 /// A set of code points and a sorted list of strings, none of them one character. It is seen as the
 /// set and the strings, each by its UTF-8 bytes.
-#[derive(Drop)]
+#[derive(Debug, Drop)]
 pub struct CodePointInversionListAndStringList<'a> {
     code_points: CodePointInversionList<'a>,
     strings: Vec<String>,
@@ -33,7 +40,7 @@ impl<'a> Model for CodePointInversionListAndStringList<'a> {
 }
 
 /// Why strings are no strings of a set: the first string that something is wrong with, and what.
-#[derive(Debug, Drop)]
+#[derive(Debug, PartialEq, Eq, Drop)]
 pub enum InvalidStringList {
     /// The string is one character, which belongs to the code points.
     InvalidStringLength(String),
@@ -161,6 +168,22 @@ impl<'a> CodePointInversionListAndStringList<'a> {
         &self.strings
     }
 
+    /// The same set and strings: borrowed code points are borrowed again, all else is copied. The only
+    /// error is want of memory.
+    pub fn clone(
+        &self,
+        alloc: Global,
+    ) -> Result<CodePointInversionListAndStringList<'a>, AllocError>
+        ensures { IfOk result (λ set. set ≡ self.now) }
+    {
+        let code_points = self.code_points.clone(alloc)?;
+        let strings = self.strings.clone()?;
+        Ok(CodePointInversionListAndStringList {
+            code_points,
+            strings,
+        })
+    }
+
     /// Whether there is a string.
     pub fn has_strings(&self) -> bool
         ensures { IsTrue result ↔ (self.now.strings ≢ []) }
@@ -203,5 +226,34 @@ impl<'a> CodePointInversionListAndStringList<'a> {
                 .binary_search_by(|string| string.as_str().cmp(text))
                 .is_ok(),
         }
+    }
+}
+
+impl PartialEq for CodePointInversionListAndStringList<'_> {
+    ghost eq = { λ a b. pointwise nat_eq a.code_points b.code_points && pointwise (pointwise nat_eq) a.strings b.strings };
+
+    ghost laws = { and_per
+        (on_per (λ set. set.code_points) (partial_equiv_from_equiv nat_list_eq_equiv))
+        (on_per (λ set. set.strings) (lists_per (partial_equiv_from_equiv nat_list_eq_equiv))) };
+
+    fn eq(&self, other: &Self) -> bool {
+        self.code_points == other.code_points && self.strings == other.strings
+    }
+}
+
+impl Eq for CodePointInversionListAndStringList<'_> {
+    ghost laws = { and_equiv
+        (on_equiv (λ set. set.code_points) nat_list_eq_equiv)
+        (on_equiv (λ set. set.strings) (lists_equiv nat_list_eq_equiv)) };
+}
+
+impl Hash for CodePointInversionListAndStringList<'_> {
+    ghost hash_input = { λ set. fed.slice fed.u32 set.code_points ++ fed.slice fed.str set.strings };
+
+    ghost respects_eq = { fed_alike.fed };
+
+    fn hash<H: Hasher>(&self, state: &mut H) {
+        self.code_points.hash(state);
+        self.strings.hash(state);
     }
 }

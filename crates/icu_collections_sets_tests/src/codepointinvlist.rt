@@ -251,3 +251,12 @@ fn a_refused_range_printed(rt: HostRuntime) -> Result<(), Fail> {
     assert_eq!(rt; text.as_str(), "Invalid range: 65..65");
     Ok(())
 }
+
+#[test]
+fn how_many_ranges_are_left(rt: HostRuntime) {
+    let set = CodePointInversionList::bmp();
+    let mut ranges = set.iter_ranges();
+    assert_eq!(rt; ranges.len(), 1);
+    assert!(rt; ranges.next().is_some());
+    assert_eq!(rt; ranges.len(), 0);
+}

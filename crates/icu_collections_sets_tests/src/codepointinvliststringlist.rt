@@ -74,3 +74,46 @@ fn sets_with_strings(rt: HostRuntime) -> Result<(), Fail> {
     assert!(rt; set.contains('a') && tells_apart(&set, 0xD800, 0x1_0000));
     Ok(())
 }
+
+#[test]
+fn copies_of_sets_with_strings(rt: HostRuntime) -> Result<(), Fail> {
+    let alloc = rt.alloc();
+    let strings = strings_of(alloc, &["ab", "éa"])?;
+    let made = CodePointInversionListAndStringList::try_from(
+        CodePointInversionList::bmp(),
+        strings,
+    );
+    let Ok(set) = made else {
+        return Err("strings of a set".into());
+    };
+    let copy = set.clone(alloc)?;
+    assert!(rt; copy == set);
+    let others = CodePointInversionListAndStringList::try_from(
+        CodePointInversionList::bmp(),
+        Vec::new(alloc),
+    );
+    assert!(rt; !others.is_ok_and(|other| other == set));
+    let fault = refusal(alloc, &["x"])?;
+    let text = String::from_str(alloc, "x")?;
+    assert!(rt; fault == Some(InvalidStringList::InvalidStringLength(text)));
+    Ok(())
+}
+
+#[test]
+fn what_sets_with_strings_print(rt: HostRuntime) -> Result<(), Fail> {
+    let alloc = rt.alloc();
+    let strings = strings_of(alloc, &["ab"])?;
+    let made = CodePointInversionListAndStringList::try_from(
+        CodePointInversionList::bmp(),
+        strings,
+    );
+    let Ok(set) = made else {
+        return Err("strings of a set".into());
+    };
+    let printed = format!(in alloc; "{set:?}")?;
+    assert_eq!(rt;
+        printed.as_str(),
+        "CodePointInversionListAndStringList { code_points: CodePointInversionList { edges: [0, 65536] }, strings: [\"ab\"] }"
+    );
+    Ok(())
+}

@@ -74,6 +74,7 @@ impl PackedItem for u8 {
         true
     }
 
+    #[inline]
     fn read(bytes: &[u8]) -> u8 {
         bytes[0]
     }
@@ -110,6 +111,7 @@ impl PackedItem for u16 {
         true
     }
 
+    #[inline]
     fn read(bytes: &[u8]) -> u16 {
         bytes[0] as u16 + 0x100 * bytes[1] as u16
     }
@@ -146,6 +148,7 @@ impl PackedItem for u32 {
         true
     }
 
+    #[inline]
     fn read(bytes: &[u8]) -> u32 {
         bytes[0] as u32
             + 0x100 * bytes[1] as u32
@@ -190,6 +193,7 @@ impl PackedItem for u64 {
         true
     }
 
+    #[inline]
     fn read(bytes: &[u8]) -> u64 {
         bytes[0] as u64
             + 0x100 * bytes[1] as u64
@@ -243,6 +247,7 @@ impl PackedItem for char {
         char::from_u32(code).is_some()
     }
 
+    #[inline]
     fn read(bytes: &[u8]) -> char {
         let code = bytes[0] as u32 + 0x100 * bytes[1] as u32 + 0x1_0000 * bytes[2] as u32;
         char::from_u32(code).unwrap()

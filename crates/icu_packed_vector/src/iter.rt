@@ -92,3 +92,9 @@ impl<T: PackedItem> DoubleEndedIterator for PackedIter<'_, T> {
 }
 
 impl<T: PackedItem> FusedIterator for PackedIter<'_, T> {}
+
+impl<T: PackedItem> ExactSizeIterator for PackedIter<'_, T> {
+    fn len(&self) -> usize {
+        self.rest.len() / T::WIDTH
+    }
+}

@@ -65,6 +65,7 @@ impl<'a, T: PackedItem> Model for PackedVec<'a, T> {
 }
 
 /// The item at a place of whole items.
+#[inline]
 fn read_at<T: PackedItem>(bytes: &[u8], place: usize) -> T
     requires items { AreItems T.WIDTH T.is_encoding bytes.now }
     requires place { place < length bytes.now / T.WIDTH }
@@ -119,6 +120,7 @@ impl<'a, T: PackedItem> PackedVec<'a, T> {
     }
 
     /// The bytes of the items.
+    #[inline]
     fn as_bytes(&self) -> &[u8]
         ensures items { AreItems T.WIDTH T.is_encoding result.now }
         ensures same { self.now ≡ items_of T.WIDTH T.meaning result.now }
@@ -131,6 +133,7 @@ impl<'a, T: PackedItem> PackedVec<'a, T> {
     }
 
     /// The number of items.
+    #[inline]
     pub fn len(&self) -> usize
         ensures { result ≡ length self.now }
     {
@@ -145,6 +148,7 @@ impl<'a, T: PackedItem> PackedVec<'a, T> {
     }
 
     /// The item at a place, which is a value of the type, or `None` past the end.
+    #[inline]
     pub fn get(&self, place: usize) -> Option<T>
         ensures item { result ≡ slice_get self.now place }
         ensures value { IfSome result T.is_value }
@@ -159,6 +163,7 @@ impl<'a, T: PackedItem> PackedVec<'a, T> {
 
     /// The item at a place before the end, as a slice is indexed: for readers who know the place to be
     /// one (`len`); `get` answers at every place. It takes no memory.
+    #[inline]
     pub fn at(&self, place: usize) -> T
         requires { place < length self.now }
         ensures item { (fallback : T) → result ≡ slice_index_or self.now place fallback }

@@ -1,6 +1,7 @@
 //! Measures code point tries: builds one of 12,000 different small blocks, or one of a single written
-//! range, and reads all code points of one of either type 100 times. `bench/libraries.sh` takes the
-//! times; the program prints a sum.
+//! range; reads all code points of one of either type 100 times, or as often code points at random, up to
+//! FFFF (hex) or any; or goes over the ranges of a map of one range. `bench/libraries.sh` takes the
+//! times; the program prints a number.
 #![tactic(auto)]
 
 ghost use Rattle.std.specs.Prelude.{◌≤◌, ◌<◌};
@@ -17,6 +18,9 @@ const BLOCKS: u32 = 11_999;
 
 /// How often all code points are read.
 const ROUNDS: u32 = 100;
+
+/// How many code points are read at random.
+const READS: u32 = 111_411_200;
 
 /// By what the small blocks of a map are told apart.
 #[derive(Clone, Copy)]
@@ -95,13 +99,42 @@ fn sum_of_rounds(trie: &CodePointTrie<'_, u32>) -> u32 {
     sum
 }
 
-/// The number that a task prints. The count is that of blocks or of tries.
+/// The sum of the values of code points at random below a limit.
+fn sum_at_random(trie: &CodePointTrie<'_, u32>, limit: u32) -> u32 {
+    let mut sum: u32 = 0;
+    let mut random: u32 = 1;
+    for _read in 0..READS {
+        random = random.wrapping_mul(0x0019_660D).wrapping_add(0x3C6E_F35F);
+        let code_point = ((random as u64 * limit as u64) >> 32) as u32;
+        sum = sum.wrapping_add(trie.get32(code_point));
+    }
+    sum
+}
+
+/// How many ranges so many walks over those of a map of one range give.
+fn count_ranges(alloc: Global, walks: u32) -> Result<u32, CodePointTrieBuildError> {
+    let mut map = CodePointTrieBuilder::new(alloc, 0u32, 0, TrieType::Fast)?;
+    let _ = map.set_range_value(0x400..=0x1_FFFF, 1);
+    let trie = map.build(alloc)?;
+    let mut count: u32 = 0;
+    for _walk in 0..walks {
+        for _range in trie.iter_ranges() {
+            count = count.saturating_add(1);
+        }
+    }
+    Ok(count)
+}
+
+/// The number that a task prints. The count is that of blocks, of tries or of walks.
 fn number_of(alloc: Global, task: &str, count: u32) -> Result<u32, CodePointTrieBuildError> {
     let blocks = count.min(BLOCKS);
     Ok(match task {
         "last" => sum_of_blocks(&build(alloc, TrieType::Fast, Blocks::Last, blocks)?),
         "two" => sum_of_blocks(&build(alloc, TrieType::Fast, Blocks::Two, blocks)?),
         "range" => build_ranges(alloc, TrieType::Fast, count)?,
+        "ranges" => count_ranges(alloc, count)?,
+        "low" => sum_at_random(&build(alloc, TrieType::Fast, Blocks::First, blocks)?, 0x1_0000),
+        "random" => sum_at_random(&build(alloc, TrieType::Fast, Blocks::First, blocks)?, 0x11_0000),
         "fast" => sum_of_rounds(&build(alloc, TrieType::Fast, Blocks::First, blocks)?),
         "small" => sum_of_rounds(&build(alloc, TrieType::Small, Blocks::First, blocks)?),
         _ => sum_of_blocks(&build(alloc, TrieType::Fast, Blocks::First, blocks)?),

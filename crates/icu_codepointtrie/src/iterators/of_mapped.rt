@@ -12,7 +12,7 @@ use std::ops::RangeInclusive;
 
 impl<'a, T: TrieValue> CodePointTrie<'a, T> {
     /// The ranges whose values the function maps to one, from 0 to 10FFFF (hex), each as far as it
-    /// goes. The function is called once or more for each code point.
+    /// goes. The function is called up to three times for each range of one value.
     pub fn iter_ranges_mapped<U, F: Fn(T) -> U>(&self, map: F) -> CodePointMappedRanges<'_, T, F>
         requires { F.IsAlwaysCallable map }
         ensures trie { mapped_trie result ≡ self.now }
@@ -51,12 +51,14 @@ impl<'a, T: TrieValue> CodePointTrie<'a, T> {
         requires start { start ≤ 0x10FFFF }
         ensures { IsEndOfMapped self.now (F.post map.now) U.eq start mapped.now result }
     {
-        for end in start..0x10_FFFF {
+        let mut end = start;
+        while end < 0x10_FFFF {
             if !self.is_mapped_alike(map, end + 1, mapped) {
                 return end;
             }
+            end = self.end_of_range(end + 1, self.get32(end + 1));
         }
-        0x10_FFFF
+        end
     }
 }
 

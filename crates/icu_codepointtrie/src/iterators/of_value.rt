@@ -48,10 +48,13 @@ impl<'a, T: TrieValue> CodePointTrie<'a, T> {
         ensures { MatchOption result (IsAbsent self.now start 0x110000 value)
             (λ first. (start ≤ first) × (first ≤ 0x10FFFF) × (value_at self.now first ≡ Some value) × IsAbsent self.now start first value) }
     {
-        for code_point in start..0x11_0000 {
-            if self.has_value(code_point, value) {
-                return Some(code_point);
+        let mut next = start;
+        while next < 0x11_0000 {
+            let found = self.get32(next);
+            if found.to_u32() == value.to_u32() {
+                return Some(next);
             }
+            next = self.end_of_range(next, found) + 1;
         }
         None
     }

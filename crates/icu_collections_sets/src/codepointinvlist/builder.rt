@@ -5,6 +5,7 @@ ghost use Rattle.icu_collections_sets.specs.Operations.{IsOperated};
 ghost use Rattle.icu_collections_sets.specs.SetEdits.{IsSetTo, is_within, stretch, IsCountBelow, in_range, is_code_point};
 
 mod combining;
+mod within;
 
 use super::inversion_list::CodePointInversionList;
 use super::operation::{Operation, combine};
@@ -232,10 +233,12 @@ impl CodePointInversionListBuilder {
         ensures ok { OnOk result (IsOperated operation (holds self.old) (is_within from till) self.new) }
         ensures err { OnErr result (self.new ≡ self.old) }
     {
-        if from < till {
-            self.combine(operation, &[from, till])
-        } else {
-            self.combine(operation, &[])
+        match operation {
+            Operation::Intersection => self.retain_within(from, till),
+            Operation::SymmetricDifference => self.complement_within(from, till),
+            Operation::Union if from < till => self.set_range(from, till, true),
+            Operation::Difference if from < till => self.set_range(from, till, false),
+            Operation::Union | Operation::Difference => Ok(()),
         }
     }
 

@@ -42,7 +42,7 @@ impl<'a> Model for CodePointInversionList<'a> {
 
 /// A list of numbers that is no inversion list: it has an odd length, doesn't rise, or goes past
 /// 110000 hex.
-#[derive(Debug, Drop)]
+#[derive(Debug, PartialEq, Eq, Drop)]
 pub struct InvalidSetError<'a>(pub PackedVec<'a, u32>);
 
 impl fmt::Display for InvalidSetError<'_> {
@@ -54,7 +54,7 @@ impl fmt::Display for InvalidSetError<'_> {
 impl Error for InvalidSetError<'_> {}
 
 /// Why a slice is no set of code points.
-#[derive(Debug, Drop)]
+#[derive(Debug, PartialEq, Eq, Drop)]
 pub enum SetError {
     /// The numbers are no inversion list.
     Invalid(InvalidSetError<'static>),

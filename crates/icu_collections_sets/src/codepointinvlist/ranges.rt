@@ -51,3 +51,9 @@ impl Iterator for CodePointRanges<'_> {
 }
 
 impl FusedIterator for CodePointRanges<'_> {}
+
+impl ExactSizeIterator for CodePointRanges<'_> {
+    fn len(&self) -> usize {
+        self.edges.len() / 2
+    }
+}

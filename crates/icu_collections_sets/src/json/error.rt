@@ -7,7 +7,7 @@ use std::error::Error;
 use std::fmt;
 
 /// Why a JSON value is no set of code points, or of code points and strings.
-#[derive(Debug, Drop)]
+#[derive(Debug, PartialEq, Eq, Drop)]
 pub enum JsonError {
     /// The value has not the shape of a set: it is no array, or for a set with strings no object
     /// of the two members, the second an array of strings.

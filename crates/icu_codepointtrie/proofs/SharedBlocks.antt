@@ -1,0 +1,45 @@
+-- Blocks that are found through one cell of the index have the same values.
+use Rattle.std.proofs.Common.{◌≡◌, ℕ, ◌+◌, ◌-◌, ◌/◌, ◌%◌, ◌^◌, ◌<◌, ◌≤◌, false, length, Some, Option, refl, ap, subst, ◌∙◌, arith, ⊎_elim}
+use Rattle.std.specs.Option.{option_eq}
+use Rattle.std.proofs.lemmas.Bool.Decides.{nat_tests}
+use Rattle.std.specs.Prelude.{not, nat_eq, None, nat_lt, slice_get, IfSome}
+use Rattle.std.proofs.lemmas.Bool.{lt-ltb, le-ltb, cases_lt}
+use Rattle.icu_codepointtrie.specs.Places.{TrieTables, fast_limit, first_step, named_place, place_or_last, value_at}
+use Rattle.icu_codepointtrie.specs.Ranges.{IsConstant}
+use Rattle.icu_codepointtrie.specs.SharedBlocks.{key_width, key_place, IsKey, IsUniform}
+
+-- a block of 512 is found by the cell of its second step
+pub upper_is_key : {T : Type 0} (t : TrieTables T) (c second block : ℕ) → fast_limit t.header.trie_type ≤ c → c + 512 ≤ t.header.high_start → c ≤ 0x10_FFFF → c % 512 ≡ 0
+    → slice_get t.index (c / 2 ^ 14 + first_step t.header.trie_type) ≡ Some second → slice_get t.index (second + c / 2 ^ 9 % 32) ≡ Some block → IsKey t c (0x1_0000 + block)
+upper_is_key t c second block from to last aligned first next =
+    let wide : nat_lt (0x1_0000 + block) 0x1_0000 ≡ false = le-ltb (0x1_0000 + block) 0x1_0000 (omega arith) in
+    let width : key_width (0x1_0000 + block) ≡ 512 = simp wide refl in
+    let back : 0x1_0000 + block - 0x1_0000 ≡ block = omega arith in
+    record {
+      inside = rw width (omega arith);
+      values = λ r below.
+          let inside : r < 512 = omega (arith, width) in
+          let group : (c + r) / 2 ^ 14 ≡ c / 2 ^ 14 = omega arith in
+          let number : (c + r) / 2 ^ 9 % 32 ≡ c / 2 ^ 9 % 32 = omega arith in
+          let small : (c + r) / 2 ^ 4 % 32 ≡ r / 2 ^ 4 = omega arith in
+          let rest : (c + r) % 16 ≡ r % 16 = omega arith in
+          let named : named_place t.header t.index (length t.cells) (c + r) ≡ key_place t.index (0x1_0000 + block) r =
+          simp (le-ltb 0x10_FFFF (c + r) (omega arith), le-ltb (c + r) (fast_limit t.header.trie_type) (omega arith), lt-ltb (c + r) t.header.high_start (omega arith), group, first, number, next, small, rest, wide, back) refl in
+          ap (λ p. slice_get t.cells (place_or_last p (length t.cells))) named;
+    }
+
+-- a block like one that was read has the value too
+pub skipped : {T : Type 0} (t : TrieTables T) (start next key : ℕ) (value : T) (uniform : Option ℕ) → IsConstant t start next value → IsKey t next key
+    → IfSome uniform (IsUniform t value) → uniform ≡ Some key → IsConstant t start (next + key_width key) value
+skipped t start next key value uniform before is known same c from below =
+    let alike : IsUniform t value key = subst (λ (o : Option ℕ). IfSome o (IsUniform t value)) same known in
+    ⊎_elim (λ low. before c from low)
+    (λ high.
+    let there : next + (c - next) ≡ c = omega arith in
+    subst (λ (d : ℕ). value_at t d ≡ Some value) there (is.values (c - next) (omega arith) ∙ alike (c - next) (omega arith)))
+    (cases_lt c next)
+
+-- the key that was read is this one
+pub known_key : (key : ℕ) (uniform : Option ℕ) → false ≡ not (option_eq nat_eq (Some key) uniform) → uniform ≡ Some key
+known_key key None h = cc
+known_key key (Some k) h = grind (arith, nat_tests)

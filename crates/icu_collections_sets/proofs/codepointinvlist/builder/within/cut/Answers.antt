@@ -1,0 +1,39 @@
+use Rattle.std.proofs.Common.{◌≡◌, ℕ, ◌%◌, ◌==◌, ◌++◌, ◌∷◌, [], true, false, take, sym, ap, subst, ◌∙◌, arith}
+use Rattle.std.proofs.lemmas.Bool.Decides.{nat_tests}
+use Rattle.std.proofs.lemmas.List.{append-nil}
+use Rattle.icu_collections_sets.specs.CodePoints.{IsInversionList}
+use Rattle.icu_collections_sets.specs.SetEdits.{IsSetTo, IsCountBelow, stretch, is_within}
+use Rattle.icu_collections_sets.proofs.ToggleLemmas.{set_cut}
+use Rattle.icu_collections_sets.proofs.codepointinvlist.builder.within.cut.Goals as goal
+
+-- the last range is cut
+within_range : (c : goal.In-Ok) → IsInversionList c.push.new.self.items × IsSetTo false (is_within c.args.till 0x11_0000) c.args.edges.now.items c.push.new.self.items
+within_range c =
+    let xs = c.args.edges.now.items in
+    let place = c.place_of-place.result in
+    let count = subst (λ ys. IsCountBelow ys c.args.till place) c.as_slice.ensures.value c.place_of-place.ensures in
+    let odd : (place % 2 == 1) ≡ true = (let h = c.if-place-eq1.true in grind (arith, nat_tests)) in
+    set_cut xs c.push.new.self.items place c.args.till c.requires.list c.requires.end count
+    (rw odd (c.in-Ok.ensures.items ∙ ap (λ ys. ys ++ c.args.till ∷ []) c.truncate.ensures.items))
+
+pub returns-in-Ok-clause-list : goal.returns-in-Ok-clause-list
+returns-in-Ok-clause-list c = (within_range c).0
+
+pub returns-in-Ok-clause-cut : goal.returns-in-Ok-clause-cut
+returns-in-Ok-clause-cut c = (within_range c).1
+
+-- the cut is between ranges
+between_ranges : (c : goal.Else-place-eq1) → IsInversionList c.truncate.new.self.items × IsSetTo false (is_within c.args.till 0x11_0000) c.args.edges.now.items c.truncate.new.self.items
+between_ranges c =
+    let xs = c.args.edges.now.items in
+    let place = c.place_of-place.result in
+    let count = subst (λ ys. IsCountBelow ys c.args.till place) c.as_slice.ensures.value c.place_of-place.ensures in
+    let even : (place % 2 == 1) ≡ false = (let h = c.if-place-eq1.false in grind (arith, nat_tests)) in
+    set_cut xs c.truncate.new.self.items place c.args.till c.requires.list c.requires.end count
+    (rw even (c.truncate.ensures.items ∙ sym (append-nil (take place xs))))
+
+pub returns-else-place-eq1-clause-list : goal.returns-else-place-eq1-clause-list
+returns-else-place-eq1-clause-list c = (between_ranges c).0
+
+pub returns-else-place-eq1-clause-cut : goal.returns-else-place-eq1-clause-cut
+returns-else-place-eq1-clause-cut c = (between_ranges c).1
