@@ -133,8 +133,14 @@ fn number_of(alloc: Global, task: &str, count: u32) -> Result<u32, CodePointTrie
         "two" => sum_of_blocks(&build(alloc, TrieType::Fast, Blocks::Two, blocks)?),
         "range" => build_ranges(alloc, TrieType::Fast, count)?,
         "ranges" => count_ranges(alloc, count)?,
-        "low" => sum_at_random(&build(alloc, TrieType::Fast, Blocks::First, blocks)?, 0x1_0000),
-        "random" => sum_at_random(&build(alloc, TrieType::Fast, Blocks::First, blocks)?, 0x11_0000),
+        "low" => sum_at_random(
+            &build(alloc, TrieType::Fast, Blocks::First, blocks)?,
+            0x1_0000,
+        ),
+        "random" => sum_at_random(
+            &build(alloc, TrieType::Fast, Blocks::First, blocks)?,
+            0x11_0000,
+        ),
         "fast" => sum_of_rounds(&build(alloc, TrieType::Fast, Blocks::First, blocks)?),
         "small" => sum_of_rounds(&build(alloc, TrieType::Small, Blocks::First, blocks)?),
         _ => sum_of_blocks(&build(alloc, TrieType::Fast, Blocks::First, blocks)?),
