@@ -28,3 +28,5 @@ mod UnitRoundTrips
 mod UnitValues
 mod UnitLonger
 mod UnitKept
+mod UnitErrors
+mod UnitTested

@@ -1,5 +1,5 @@
 -- The order in which the parts of a unit trie are read, and where reading stops.
-use Rattle.std.specs.Prelude.{◌≡◌, ℕ, ℤ, ◌++◌, ◌<◌, ◌≤◌, ◌⊎◌, List, [], ◌∷◌, slice_get, length, map, reverse, Option, Some, None, Ok, Err, codes}
+use Rattle.std.specs.Prelude.{◌≡◌, ℕ, ℤ, Bool, true, ◌&&◌, ◌++◌, ◌<◌, ◌≤◌, ◌⊎◌, List, [], ◌∷◌, slice_get, length, map, reverse, Option, Some, None, Ok, Err, codes}
 use Rattle.std.specs.Fmt.{decimal}
 use Rattle.std.specs.Int.{cast_signed, w32}
 use Rattle.icu_char16trie.specs.UnitReading.{part_step, part_place}
@@ -85,6 +85,15 @@ pairs_read queue = map (λ entry. (entry.0.items, entry.1)) queue.entries.items
 -- the parts were read to their ends
 abbrev pub HasRead : List ℕ → ℕ → List Job → List (List ℕ × ℤ) → List (List ℕ × ℤ) → Type 0
 HasRead units limit jobs read now = (pairs : List (List ℕ × ℤ)) × Reads units limit jobs pairs × (now ≡ read ++ pairs)
+
+-- all of these pass the test
+abbrev pub passes_all : (List ℕ → ℤ → Bool) → List (List ℕ × ℤ) → Bool
+passes_all test [] = true
+passes_all test (pair ∷ pairs) = test pair.0 pair.1 && passes_all test pairs
+
+-- the parts were read to their ends, and all that they spell was tested
+abbrev pub HasTested : List ℕ → ℕ → List Job → (List ℕ → ℤ → Bool) → Bool → Type 0
+HasTested units limit jobs test all = (pairs : List (List ℕ × ℤ)) × Reads units limit jobs pairs × (all ≡ passes_all test pairs)
 
 -- where reading stops: at a value of the first node, or in what the first node leads to
 pub data StopsAt (units : List ℕ) (limit : ℕ) : ℕ → Type 0 where

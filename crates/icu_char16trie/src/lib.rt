@@ -16,7 +16,7 @@ mod reader;
 mod writer;
 
 use node::{State, start, step};
-pub use reader::{ReadUnitsError, read_units};
+pub use reader::{EntryTest, ReadUnitsError, all_pass, read_units};
 pub use writer::{WriteUnitsError, write_units};
 
 /// What a cursor says of the units that it was given.

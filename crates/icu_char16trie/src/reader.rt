@@ -1,5 +1,6 @@
 //! The keys and values of a unit trie, read in order.
-ghost use Rattle.std.specs.Prelude.{◌≡◌, ℕ, IfOk, Err, map};
+ghost use Rattle.std.specs.Prelude.{◌≡◌, ℕ, ℤ, List, Bool, true, IsTrue, ◌↔◌, IfOk, Err, map};
+ghost use Rattle.icu_char16trie.specs.UnitMaps.{at_node, Spells};
 ghost use Rattle.icu_char16trie.specs.UnitGrammar.{IsListing, IsUnitTrie, IsWithin};
 ghost use Rattle.icu_char16trie.specs.UnitJobs.{StopsAt};
 ghost use Rattle.icu_char16trie.specs.declared.reader.ReadUnitsError.TheVariants.{BadUnits};
@@ -53,6 +54,16 @@ impl From<AllocError> for ReadUnitsError {
     }
 }
 
+/// A test of keys and their values.
+pub trait EntryTest {
+    /// Whether a key with its value passes.
+    ghost test: { Self → List ℕ → ℤ → Bool };
+
+    /// Whether a key with its value passes.
+    fn passes(&self, key: &[u16], value: i32) -> bool
+        ensures { result ≡ test self.now key.now value };
+}
+
 /// The keys and values that the units of a unit trie spell, sorted by the units of the keys. No units
 /// give the empty list. `BadUnits` where the units break the grammar, where the first node has a
 /// value, and where a key has more than `limit` units; the place is that of the value, of the unit
@@ -80,4 +91,32 @@ pub fn read_units(
         return Err(error);
     }
     Ok(queue.into_entries())
+}
+
+/// Whether all keys and values that the units of a unit trie spell pass a test, without a list of
+/// them. `BadUnits` and `Memory` as `read_units` has them.
+pub fn all_pass<T: EntryTest>(
+    alloc: Global,
+    units: &PackedVec<'_, u16>,
+    limit: usize,
+    test: &T,
+) -> Result<bool, ReadUnitsError>
+    ensures passed { IfOk result (λ all. IsTrue all ↔ ((key : List ℕ) (number : ℤ) → Spells units.now (at_node 0) key number → IsTrue (T.test test.now key number))) }
+    ensures grammar { IfOk result (λ all. IsUnitTrie units.now) }
+    ensures bound { IfOk result (λ all. IsWithin units.now limit) }
+    ensures refused { (place : ℕ) → result ≡ Err (BadUnits place) → IsUnitTrie units.now → IsWithin units.now limit → ⊥ }
+    ensures place { (place : ℕ) → result ≡ Err (BadUnits place) → StopsAt units.now limit place }
+{
+    let Some(lead) = unit_at(units, 0) else {
+        return Ok(true);
+    };
+    if lead >= 0x40 {
+        return Err(ReadUnitsError::BadUnits(0));
+    }
+    let mut queue = Queue::new(alloc);
+    queue.put(Vec::new(alloc), Some(Part::Node(0)))?;
+    match queue.test_all(units, limit, test) {
+        Ok(all) => Ok(all),
+        Err(error) => Err(error),
+    }
 }

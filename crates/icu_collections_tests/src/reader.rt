@@ -1,4 +1,8 @@
-use icu_collections::char16trie::{Char16Trie, ReadUnitsError, TrieResult, read_units};
+ghost use Rattle.std.specs.Prelude.{leb, length};
+
+use icu_collections::char16trie::{
+    Char16Trie, EntryTest, ReadUnitsError, TrieResult, all_pass, read_units,
+};
 use icu_collections_sets::packed_vector::PackedVec;
 use std::alloc::{AllocError, Global};
 use std::test::Fail;
@@ -41,6 +45,34 @@ fn ok_read_units(rt: HostRuntime) {
     assert!(rt; lists(alloc, &[0x30, 0x61, 0xb0, 0x62, 0x8002], 2, &pairs));
     assert!(rt; lists(alloc, &[0x30, 0x61, 0x8005], 1, &[(&[0x61], 5)]));
     assert!(rt; lists(alloc, &[], 0, &[]));
+}
+
+/// The keys of at most so many units.
+struct Short {
+    most: usize,
+}
+
+impl EntryTest for Short {
+    ghost test = { λ short key number. leb (length key) short.most };
+
+    fn passes(&self, key: &[u16], _value: i32) -> bool {
+        key.len() <= self.most
+    }
+}
+
+#[test]
+fn ok_all_pass(rt: HostRuntime) -> Result<(), Fail> {
+    let alloc = rt.alloc();
+    let units = PackedVec::from_slice(alloc, &[0x30u16, 0x61, 0xb0, 0x62, 0x8002])?;
+    assert_eq!(rt; all_pass(alloc, &units, 9, &Short { most: 2 }), Ok(true));
+    assert_eq!(rt; all_pass(alloc, &units, 9, &Short { most: 1 }), Ok(false));
+    assert_eq!(rt;
+        all_pass(alloc, &units, 1, &Short { most: 2 }),
+        Err(ReadUnitsError::BadUnits(3))
+    );
+    let units = PackedVec::from_slice(alloc, &[] as &[u16])?;
+    assert_eq!(rt; all_pass(alloc, &units, 9, &Short { most: 0 }), Ok(true));
+    Ok(())
 }
 
 #[test]

@@ -1,11 +1,11 @@
 //! What a reader of a unit trie has read, and what is still to be read.
-ghost use Rattle.std.specs.Prelude.{◌≡◌, ◌++◌, ◌<◌, ◌↔◌, ℕ, [], Result, IfOk, OnOk, IsTrue, Err, map};
+ghost use Rattle.std.specs.Prelude.{◌≡◌, ◌++◌, ◌<◌, ◌≤◌, ◌↔◌, ◌&&◌, ℕ, [], length, Result, IfOk, OnOk, IsTrue, Err, map};
 ghost use Rattle.std.specs.Int.{cast_signed, w32};
-ghost use Rattle.icu_char16trie.specs.UnitJobs.{jobs_left, pairs_read, onward, noted, extended, HasRoom, IsTaken, IsStuck, HasRead, StopsIn};
+ghost use Rattle.icu_char16trie.specs.UnitJobs.{jobs_left, pairs_read, onward, noted, extended, HasRoom, IsTaken, IsStuck, HasRead, HasTested, passes_all, StopsIn};
 ghost use Rattle.icu_char16trie.specs.declared.reader.ReadUnitsError.TheVariants.{BadUnits};
 
-use super::ReadUnitsError;
 use super::part::{Part, part_place, part_step};
+use super::{EntryTest, ReadUnitsError};
 use icu_packed_vector::PackedVec;
 use std::alloc::{AllocError, Global};
 
@@ -139,6 +139,40 @@ impl Queue {
             }
         }
         Ok(())
+    }
+
+    /// Whether the entry passes, if one was read, and all before it did. It is dropped.
+    fn test_last<T: EntryTest>(&mut self, test: &T, all: bool) -> bool
+        requires { length (pairs_read self.old) ≤ 1 }
+        ensures jobs { jobs_left self.new ≡ jobs_left self.old }
+        ensures pairs { pairs_read self.new ≡ [] }
+        ensures all { result ≡ (all && passes_all (T.test test.now) (pairs_read self.old)) }
+    {
+        match self.entries.pop() {
+            Some((key, value)) => all && test.passes(key.as_slice(), value),
+            None => all,
+        }
+    }
+
+    /// Reads all that is to be read, and tests each entry in place of keeping it.
+    pub(super) fn test_all<T: EntryTest>(
+        &mut self,
+        units: &PackedVec<'_, u16>,
+        limit: usize,
+        test: &T,
+    ) -> Result<bool, ReadUnitsError>
+        requires { pairs_read self.old ≡ [] }
+        ensures tested { IfOk result (λ all. HasTested units.now limit (jobs_left self.old) (T.test test.now) all) }
+        ensures stops { (place : ℕ) → result ≡ Err (BadUnits place) → StopsIn units.now limit (jobs_left self.old) place }
+    {
+        let mut all = true;
+        while let Some(task) = self.tasks.pop() {
+            if let Err(error) = self.take(units, limit, task) {
+                return Err(error);
+            }
+            all = self.test_last(test, all);
+        }
+        Ok(all)
     }
 
     /// What was read.

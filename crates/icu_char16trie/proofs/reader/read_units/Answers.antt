@@ -1,23 +1,10 @@
-use Rattle.std.proofs.Common.{◌≡◌, ℕ, map, Err, Result, ap, ◌∙◌, sym, subst}
+use Rattle.std.proofs.Common.{map, ap, ◌∙◌, sym, subst}
 use Rattle.icu_char16trie.specs.UnitGrammar.{IsListing}
 use Rattle.icu_char16trie.specs.UnitJobs.{StopsAt, root_valued, jobs_left, pairs_read}
-use Rattle.icu_char16trie.specs.declared.reader.ReadUnitsError.{ReadUnitsError}
 use Rattle.icu_char16trie.specs.declared.reader.ReadUnitsError.TheVariants.{BadUnits}
+use Rattle.icu_char16trie.proofs.UnitErrors.{error-same, place-same, error_at}
 use Rattle.icu_char16trie.proofs.UnitListings.{empty_listing, first_jobs, listing_read, stops_read, refused_read}
 use Rattle.icu_char16trie.proofs.reader.read_units.Goals as goal
-
-abbrev failed : (A : Type 0) → ReadUnitsError → Result A ReadUnitsError
-failed A error = Err error
-
-error-same : {A : Type 0} (error other : ReadUnitsError) → failed A error ≡ Err other → error ≡ other
-error-same error other e = cc
-
-place-same : (a b : ℕ) → BadUnits a ≡ BadUnits b → a ≡ b
-place-same a b e = cc
-
--- one error of two calls
-error_at : {A B : Type 0} (error : ReadUnitsError) (place : ℕ) → failed A error ≡ Err (BadUnits place) → failed B error ≡ Err (BadUnits place)
-error_at error place e = ap (λ error. Err error) (error-same error (BadUnits place) e)
 
 pub returns-in_default-clause-listing : goal.returns-in_default-clause-listing
 returns-in_default-clause-listing c =

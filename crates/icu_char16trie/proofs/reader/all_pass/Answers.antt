@@ -1,0 +1,45 @@
+use Rattle.std.proofs.Common.{◌∙◌, sym, subst}
+use Rattle.icu_char16trie.specs.UnitJobs.{StopsAt, root_valued, jobs_left}
+use Rattle.icu_char16trie.specs.declared.reader.ReadUnitsError.TheVariants.{BadUnits}
+use Rattle.icu_char16trie.proofs.UnitErrors.{error-same, place-same}
+use Rattle.icu_char16trie.proofs.UnitListings.{first_jobs, stops_read, refused_read}
+use Rattle.icu_char16trie.proofs.UnitTested.{tested_root, tested_says}
+use Rattle.icu_char16trie.proofs.reader.all_pass.Goals as goal
+
+pub returns-then-lead-ge64-clause-place : goal.returns-then-lead-ge64-clause-place
+returns-then-lead-ge64-clause-place g c place e =
+    subst (λ place. StopsAt c.args.units.now c.args.limit place) (place-same 0 place (error-same (BadUnits 0) (BadUnits place) e))
+    (root_valued c.in-Some.lead (sym c.unit_at.ensures.unit ∙ c.in-Some.is) c.if-lead-ge64.true)
+
+pub returns-in-Ok-clause-passed : goal.returns-in-Ok-clause-passed
+returns-in-Ok-clause-passed g c =
+    let found = tested_root c.args.units.now c.args.limit c.in-Some.lead (jobs_left c.put.new.self) (g.T.EntryTest.test c.args.test.now) c.in-Ok.all (sym c.unit_at.ensures.unit ∙ c.in-Some.is) c.if-lead-ge64.false
+    (first_jobs (jobs_left c.put.new.self) (jobs_left c.new-queue.result) c.new.result.items c.in_ok-put.ensures.jobs c.new.ensures.items c.new-queue.ensures.jobs)
+    c.in-Ok.ensures.tested in
+    tested_says c.args.units.now c.args.limit found.0 (g.T.EntryTest.test c.args.test.now) c.in-Ok.all found.1 found.2
+
+pub returns-in-Ok-clause-grammar : goal.returns-in-Ok-clause-grammar
+returns-in-Ok-clause-grammar g c =
+    let found = tested_root c.args.units.now c.args.limit c.in-Some.lead (jobs_left c.put.new.self) (g.T.EntryTest.test c.args.test.now) c.in-Ok.all (sym c.unit_at.ensures.unit ∙ c.in-Some.is) c.if-lead-ge64.false
+    (first_jobs (jobs_left c.put.new.self) (jobs_left c.new-queue.result) c.new.result.items c.in_ok-put.ensures.jobs c.new.ensures.items c.new-queue.ensures.jobs)
+    c.in-Ok.ensures.tested in
+    found.1.trie
+
+pub returns-in-Ok-clause-bound : goal.returns-in-Ok-clause-bound
+returns-in-Ok-clause-bound g c =
+    let found = tested_root c.args.units.now c.args.limit c.in-Some.lead (jobs_left c.put.new.self) (g.T.EntryTest.test c.args.test.now) c.in-Ok.all (sym c.unit_at.ensures.unit ∙ c.in-Some.is) c.if-lead-ge64.false
+    (first_jobs (jobs_left c.put.new.self) (jobs_left c.new-queue.result) c.new.result.items c.in_ok-put.ensures.jobs c.new.ensures.items c.new-queue.ensures.jobs)
+    c.in-Ok.ensures.tested in
+    found.1.bound
+
+pub returns-clause-refused : goal.returns-clause-refused
+returns-clause-refused g c place e =
+    refused_read c.args.units.now c.args.limit c.in-Some.lead (jobs_left c.put.new.self) (sym c.unit_at.ensures.unit ∙ c.in-Some.is) c.if-lead-ge64.false
+    (first_jobs (jobs_left c.put.new.self) (jobs_left c.new-queue.result) c.new.result.items c.in_ok-put.ensures.jobs c.new.ensures.items c.new-queue.ensures.jobs)
+    place (c.in-Err.ensures.stops place e)
+
+pub returns-clause-place : goal.returns-clause-place
+returns-clause-place g c place e =
+    stops_read c.args.units.now c.args.limit c.in-Some.lead (jobs_left c.put.new.self) (sym c.unit_at.ensures.unit ∙ c.in-Some.is) c.if-lead-ge64.false
+    (first_jobs (jobs_left c.put.new.self) (jobs_left c.new-queue.result) c.new.result.items c.in_ok-put.ensures.jobs c.new.ensures.items c.new-queue.ensures.jobs)
+    place (c.in-Err.ensures.stops place e)
