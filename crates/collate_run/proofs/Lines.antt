@@ -1,10 +1,10 @@
 -- the lines of bytes
-use Rattle.std.proofs.Common.{◌≡◌, ◌≢◌, ℕ, ◌<◌, false, eqb, List, [], ◌∷◌, ◌++◌, length, flat_map, All, refl, ap, ◌∙◌, append_assoc, arith}
+use Rattle.std.proofs.Common.{◌≡◌, ◌≢◌, ℕ, ◌<◌, ◌≤◌, false, eqb, List, [], ◌∷◌, ◌++◌, length, flat_map, All, refl, ap, ◌∙◌, append_assoc, arith}
 use Rattle.std.proofs.lemmas.Bool.Decides.{nat_tests}
-use Rattle.std.proofs.lemmas.List.Elements.{All-head, All-tail}
+use Rattle.std.proofs.lemmas.List.Elements.{All-cons, All-head, All-nil, All-same, All-tail}
 use Rattle.collate_run.specs.Reading.{IsUnended}
 use Rattle.collate_run.specs.Replies.{ended}
-use Rattle.collate_run.specs.Runs.{lines_of, whole_lines}
+use Rattle.collate_run.specs.Runs.{IsWithin, line_limit, lines_of, whole_lines}
 
 differs : (b : ℕ) → (b ≡ 10 → ⊥) → eqb b 10 ≡ false
 differs b h = grind (arith, nat_tests)
@@ -25,6 +25,10 @@ whole_lines-ended (b ∷ bs) rest h =
     let later = whole_lines-ended bs rest (All-tail (λ byte. byte ≢ 10) b bs h) in
     rw (e, later) refl
 
+pub lines_of-none : lines_of [] ≡ []
+unfolding lines_of
+lines_of-none = refl
+
 pub lines_of-last : (b : ℕ) (bs : List ℕ) → IsUnended (b ∷ bs) → lines_of (b ∷ bs) ≡ (b ∷ bs) ∷ []
 unfolding lines_of
 lines_of-last b [] h = let e = differs b (All-head (λ byte. byte ≢ 10) b [] h) in rw e refl
@@ -36,6 +40,11 @@ lines_of-last b (c ∷ cs) h =
 pub lines_of-unended : (line : List ℕ) → IsUnended line → 0 < length line → lines_of line ≡ line ∷ []
 lines_of-unended [] h some = absurd (omega (arith, some))
 lines_of-unended (b ∷ bs) h some = lines_of-last b bs h
+
+-- the bytes of a line that is cut off, within the limit
+pub lines_of-within : (line : List ℕ) → IsUnended line → length line ≤ line_limit → All IsWithin (lines_of line)
+lines_of-within [] h short = All-same IsWithin (lines_of []) [] lines_of-none (All-nil IsWithin)
+lines_of-within (b ∷ bs) h short = All-same IsWithin (lines_of (b ∷ bs)) ((b ∷ bs) ∷ []) (lines_of-last b bs h) (All-cons IsWithin (b ∷ bs) [] short (All-nil IsWithin))
 
 pub whole_lines-unended : (line : List ℕ) → IsUnended line → whole_lines line ≡ []
 unfolding whole_lines

@@ -1,7 +1,7 @@
 -- a run, line after line, and the ways in which it ends
 use Rattle.std.proofs.Common.{◌≡◌, ◌≢◌, ℕ, ◌+◌, ◌<◌, ◌≤◌, Bool, true, false, Option, Result, Ok, Err, List, [], ◌∷◌, ◌++◌, length, take, map, flat_map, All, refl, sym, ap, ◌∙◌, subst, append_assoc, length-append, arith}
 use Rattle.std.proofs.lemmas.List.{append-nil, map-append, take-append-le, take_all}
-use Rattle.std.proofs.lemmas.List.Elements.{All-push, All-nil}
+use Rattle.std.proofs.lemmas.List.Elements.{All-append, All-nil, All-push, All-same}
 use Rattle.std.proofs.lemmas.Grind.{flat_map-append}
 use Rattle.std.proofs.lemmas.Bool.Decides.{when_true, when_false}
 use Rattle.std.specs.Bool.{MatchBool}
@@ -9,13 +9,13 @@ use Rattle.std.specs.Io.KnownBytes.{Appends, Consumes, IsAtEnd}
 use Rattle.collate_index.specs.Catalogue.{Catalogue}
 use Rattle.collate_run.specs.Reading.{CutsLine, IsUnended, SpellsLine}
 use Rattle.collate_run.specs.Replies.{Answers, AreReplies, Call, MayRefuse, after, ended, outcome, output, reply}
-use Rattle.collate_run.specs.Runs.{Ran, input_limit, lines_of, whole_lines}
+use Rattle.collate_run.specs.Runs.{IsWithin, Ran, input_limit, line_limit, lines_of, whole_lines}
 use Rattle.collate_run.specs.Sending.{Sends}
 use Rattle.collate_run.specs.declared.run.Line.{Line}
 use Rattle.collate_run.specs.declared.run.RunFault.{RunFault}
 use Rattle.collate_run.specs.declared.run.RunFault.TheVariants.{Memory, Read, Write, LineTooLong, InputTooLong}
 use Rattle.collate_run.proofs.Known.{Appends-none, Appends-then, Consumes-none, Consumes-then}
-use Rattle.collate_run.proofs.Lines.{lines_of-ended, lines_of-unended, lines_of-whole, whole_lines-unended, whole_lines-whole}
+use Rattle.collate_run.proofs.Lines.{lines_of-ended, lines_of-none, lines_of-unended, lines_of-whole, lines_of-within, whole_lines-unended, whole_lines-whole}
 
 abbrev pub line_of : Call → List ℕ
 line_of call = call.0
@@ -30,6 +30,7 @@ pub record Progress (start now : Catalogue) (reader_old reader_new writer_old wr
   pub consumes : Consumes reader_old reader_new (spelled calls)
   pub appends : Appends writer_old writer_new (output calls start)
   pub unended : All IsUnended (map line_of calls)
+  pub short : All IsWithin (map line_of calls)
   pub may_refuse : All MayRefuse calls
   pub now_is : now ≡ outcome calls start
   pub counted : count ≡ length (spelled calls)
@@ -59,6 +60,7 @@ progress-none start reader writer = record {
   consumes = Consumes-none reader;
   appends = rw output-none (Appends-none writer);
   unended = All-nil IsUnended;
+  short = All-nil IsWithin;
   may_refuse = All-nil MayRefuse;
   now_is = sym (outcome-none start);
   counted = refl;
@@ -76,14 +78,10 @@ cut-at limit front bytes line last e at =
     let whole : front ++ bytes ≡ (front ++ line) ++ last ∷ [] = ap (λ (xs : List ℕ). front ++ xs) e ∙ sym (append_assoc front line (last ∷ [])) in
     ap (take limit) whole ∙ take-append-le limit (front ++ line) (last ∷ []) (omega (arith, size)) ∙ take_all limit (front ++ line) (omega (arith, size))
 
-past : (limit : ℕ) (front bytes line : List ℕ) (last : ℕ) → bytes ≡ line ++ last ∷ [] → length front + length line ≡ limit → limit < length (front ++ bytes)
-past limit front bytes line last e at =
+one-past : (limit : ℕ) (front bytes line : List ℕ) (last : ℕ) → bytes ≡ line ++ last ∷ [] → length front + length line ≡ limit → length (front ++ bytes) ≡ limit + 1
+one-past limit front bytes line last e at =
     let size : length bytes ≡ length line + 1 = ap length e ∙ length-append line (last ∷ []) in
     omega (arith, size, length-append front bytes)
-
-lines_of-none : lines_of [] ≡ []
-unfolding lines_of
-lines_of-none = refl
 
 lines_of-cases : (is_ended : Bool) (line : List ℕ) (left : Option (List ℕ)) (bytes : List ℕ) → IsUnended line → MatchBool is_ended (bytes ≡ line ++ 10 ∷ []) ((bytes ≡ line) × (0 < length bytes) × IsAtEnd left) → lines_of bytes ≡ line ∷ []
 lines_of-cases true line left bytes unended h = ap lines_of h ∙ lines_of-ended line [] unended ∙ ap (λ (ls : List (List ℕ)). line ∷ ls) lines_of-none
@@ -103,6 +101,13 @@ module _ (start now : Catalogue) (r0 r1 r2 w0 w1 w2 : Option (List ℕ)) (count 
   all : (bytes : List ℕ) → lines_of bytes ≡ [] → map line_of p.calls ≡ lines_of (spelled p.calls ++ bytes)
   all bytes e = sym (lines_of-whole (map line_of p.calls) bytes p.unended ∙ ap (λ (ls : List (List ℕ)). map line_of p.calls ++ ls) e ∙ append-nil (map line_of p.calls))
 
+  -- the lines of these calls, and those of bytes behind them, are within the limit
+  within_all : (bytes : List ℕ) → All IsWithin (lines_of bytes) → All IsWithin (lines_of (spelled p.calls ++ bytes))
+  within_all bytes h = All-same IsWithin (lines_of (spelled p.calls ++ bytes)) (map line_of p.calls ++ lines_of bytes) (lines_of-whole (map line_of p.calls) bytes p.unended) (All-append IsWithin (map line_of p.calls) (lines_of bytes) p.short h)
+
+  count_all : (bytes : List ℕ) → length (spelled p.calls ++ bytes) ≡ count + length bytes
+  count_all bytes = omega (arith, p.counted, length-append (spelled p.calls) bytes)
+
   consumed_all : (bytes : List ℕ) → Consumes r1 r2 bytes → Consumes r0 r2 (spelled p.calls ++ bytes)
   consumed_all bytes consumed = Consumes-then r0 r1 r2 (spelled p.calls) bytes p.consumes consumed
 
@@ -114,6 +119,8 @@ module _ (start now : Catalogue) (r0 r1 r2 w0 w1 w2 : Option (List ℕ)) (count 
     consumes = consumed_all bytes consumed;
     appends = p.appends;
     does = (replied (lines_of (spelled p.calls ++ bytes)) (all bytes (ap lines_of none ∙ lines_of-none)), end);
+    line_limit_kept = within_all bytes (subst (λ (xs : List ℕ). All IsWithin (lines_of xs)) (sym none) (lines_of-within [] (All-nil (λ byte. byte ≢ 10)) (omega arith)));
+    input_limit_kept = omega (arith, count_all bytes, ap length none, p.within);
   }
 
   cut_short : (bytes : List ℕ) → IsUnended bytes → AreReplies start (whole_lines (spelled p.calls ++ bytes)) (output p.calls start)
@@ -127,6 +134,8 @@ module _ (start now : Catalogue) (r0 r1 r2 w0 w1 w2 : Option (List ℕ)) (count 
     consumes = consumed_all bytes consumed;
     appends = p.appends;
     does = cut_short bytes cut.0;
+    line_limit_kept = within_all bytes (lines_of-within bytes cut.0 cut.2);
+    input_limit_kept = omega (arith, count_all bytes, cut.1);
   }
   ran-cut Read bytes consumed cut = record {
     told = spelled p.calls ++ bytes;
@@ -134,25 +143,31 @@ module _ (start now : Catalogue) (r0 r1 r2 w0 w1 w2 : Option (List ℕ)) (count 
     consumes = consumed_all bytes consumed;
     appends = p.appends;
     does = cut_short bytes cut.0;
+    line_limit_kept = within_all bytes (lines_of-within bytes cut.0 cut.2);
+    input_limit_kept = omega (arith, count_all bytes, cut.1);
   }
   ran-cut Write bytes consumed cut = absurd cut
-  ran-cut LineTooLong bytes consumed cut = record {
-    told = spelled p.calls ++ bytes;
-    out = output p.calls start;
-    consumes = consumed_all bytes consumed;
-    appends = p.appends;
-    does = (
-      cut_short bytes cut.0,
+  ran-cut LineTooLong bytes consumed cut =
+      let lines : map line_of p.calls ≡ whole_lines (spelled p.calls ++ bytes) = whole bytes (whole_lines-unended bytes cut.0) in
       record {
-        front = spelled p.calls;
-        line = bytes;
-        told_is = refl;
-        too_long = cut.1;
-        unended = whole_lines-unended bytes cut.0;
-        whole = ap lines_of (sym (append-nil (spelled p.calls))) ∙ sym (all [] lines_of-none) ∙ whole bytes (whole_lines-unended bytes cut.0);
-      },
-    );
-  }
+        told = spelled p.calls ++ bytes;
+        out = output p.calls start;
+        consumes = consumed_all bytes consumed;
+        appends = p.appends;
+        does = cut_short bytes cut.0;
+        line_limit_kept = (
+          All-same IsWithin (whole_lines (spelled p.calls ++ bytes)) (map line_of p.calls) (sym lines) p.short,
+          record {
+            front = spelled p.calls;
+            line = bytes;
+            told_is = refl;
+            too_long = cut.1;
+            unended = whole_lines-unended bytes cut.0;
+            whole = ap lines_of (sym (append-nil (spelled p.calls))) ∙ sym (all [] lines_of-none) ∙ lines;
+          },
+        );
+        input_limit_kept = omega (arith, count_all bytes, cut.2);
+      }
   ran-cut InputTooLong bytes consumed cut =
       let line = cut.0 in
       let last = cut.1 in
@@ -163,13 +178,22 @@ module _ (start now : Catalogue) (r0 r1 r2 w0 w1 w2 : Option (List ℕ)) (count 
         out = output p.calls start;
         consumes = consumed_all bytes consumed;
         appends = p.appends;
-        does = (replied (whole_lines (take input_limit (spelled p.calls ++ bytes))) (whole line (whole_lines-unended line cut.2) ∙ ap whole_lines (sym front)), past input_limit (spelled p.calls) bytes line last cut.3 at);
+        does = replied (whole_lines (take input_limit (spelled p.calls ++ bytes))) (whole line (whole_lines-unended line cut.2) ∙ ap whole_lines (sym front));
+        line_limit_kept = subst (λ (xs : List ℕ). All IsWithin (lines_of xs)) (sym front) (within_all line (lines_of-within line cut.2 cut.5));
+        input_limit_kept = one-past input_limit (spelled p.calls) bytes line last cut.3 at;
       }
 
   module _ (line : Line) (bytes : List ℕ) (consumed : Consumes r1 r2 bytes) (spells : SpellsLine line r2 bytes)
-      (next : Catalogue) (text : List ℕ) (answers : Answers line.bytes.items now next text) where
+      (next : Catalogue) (text : List ℕ) (answers : Answers line.bytes.items now next text)
+      (more : ℕ) (counted : more ≡ count + length bytes) (within : more ≤ input_limit) (short : length line.bytes.items ≤ line_limit) where
+    short_more : All IsWithin (map line_of (p.calls ++ (line.bytes.items, answers.refused) ∷ []))
+    short_more = rw (map-append line_of p.calls ((line.bytes.items, answers.refused) ∷ [])) (All-push IsWithin (map line_of p.calls) line.bytes.items p.short short)
+
     lines_more : map line_of (p.calls ++ (line.bytes.items, answers.refused) ∷ []) ≡ lines_of (spelled p.calls ++ bytes)
     lines_more = map-append line_of p.calls ((line.bytes.items, answers.refused) ∷ []) ∙ sym (lines_of-whole (map line_of p.calls) bytes p.unended ∙ ap (λ (ls : List (List ℕ)). map line_of p.calls ++ ls) (lines_of-spelled line r2 bytes spells))
+
+    within_more : All IsWithin (lines_of (spelled p.calls ++ bytes))
+    within_more = All-same IsWithin (lines_of (spelled p.calls ++ bytes)) (map line_of (p.calls ++ (line.bytes.items, answers.refused) ∷ [])) (sym lines_more) short_more
 
     output_more : output p.calls start ++ text ≡ output (p.calls ++ (line.bytes.items, answers.refused) ∷ []) start
     output_more = ap (λ (xs : List ℕ). output p.calls start ++ xs) (answers.text_is ∙ ap (reply (line.bytes.items, answers.refused)) p.now_is) ∙ sym (output-push p.calls (line.bytes.items, answers.refused) start)
@@ -194,6 +218,8 @@ module _ (start now : Catalogue) (r0 r1 r2 w0 w1 w2 : Option (List ℕ)) (count 
         replied_more ((output p.calls start ++ sends.sent) ++ sends.unsent)
             (append_assoc (output p.calls start) sends.sent sends.unsent ∙ ap (λ (xs : List ℕ). output p.calls start ++ xs) (sym sends.bytes_are)),
       );
+      line_limit_kept = within_more;
+      input_limit_kept = omega (arith, count_all bytes, counted, within);
     })
 
     appended_all : Appends w1 w2 text → Appends w0 w2 (output p.calls start ++ text)
@@ -207,11 +233,13 @@ module _ (start now : Catalogue) (r0 r1 r2 w0 w1 w2 : Option (List ℕ)) (count 
       consumes = consumed_all bytes consumed;
       appends = appended_all h;
       does = (replied_more (output p.calls start ++ text) refl, (when_false (bytes ≡ line.bytes.items ++ 10 ∷ []) ((bytes ≡ line.bytes.items) × (0 < length bytes) × IsAtEnd r2) last spells.1).2);
+      line_limit_kept = within_more;
+      input_limit_kept = omega (arith, count_all bytes, counted, within);
     }
 
     -- a line more was answered
-    pub progress-more : (more : ℕ) → line.is_ended ≡ true → Appends w1 w2 text → more ≡ count + length bytes → more ≤ input_limit → Progress start next r0 r2 w0 w2 more
-    progress-more more ended_is h counted within =
+    pub progress-more : line.is_ended ≡ true → Appends w1 w2 text → Progress start next r0 r2 w0 w2 more
+    progress-more ended_is h =
         let bytes_are : bytes ≡ ended line.bytes.items = when_true (bytes ≡ line.bytes.items ++ 10 ∷ []) ((bytes ≡ line.bytes.items) × (0 < length bytes) × IsAtEnd r2) ended_is spells.1 in
         let told : spelled (p.calls ++ (line.bytes.items, answers.refused) ∷ []) ≡ spelled p.calls ++ bytes = spelled-push p.calls (line.bytes.items, answers.refused) ∙ ap (λ (xs : List ℕ). spelled p.calls ++ xs) (sym bytes_are) in
         record {
@@ -219,6 +247,7 @@ module _ (start now : Catalogue) (r0 r1 r2 w0 w1 w2 : Option (List ℕ)) (count 
           consumes = rw told (consumed_all bytes consumed);
           appends = rw (← output_more) (appended_all h);
           unended = rw (map-append line_of p.calls ((line.bytes.items, answers.refused) ∷ [])) (All-push IsUnended (map line_of p.calls) line.bytes.items p.unended spells.0);
+          short = short_more;
           may_refuse = All-push MayRefuse p.calls (line.bytes.items, answers.refused) p.may_refuse answers.may_refuse;
           now_is = answers.catalogue_is ∙ ap (after (line.bytes.items, answers.refused)) p.now_is ∙ sym (outcome-push p.calls (line.bytes.items, answers.refused) start);
           counted = rw told (omega (arith, counted, p.counted, length-append (spelled p.calls) bytes));
@@ -227,4 +256,4 @@ module _ (start now : Catalogue) (r0 r1 r2 w0 w1 w2 : Option (List ℕ)) (count 
 
 -- the index wasn't opened
 pub ran-nothing : (start : Catalogue) (reader writer : Option (List ℕ)) → Ran start (Err Memory) reader reader writer writer
-ran-nothing start reader writer = ran-cut start start reader reader reader writer writer writer 0 (progress-none start reader writer) Memory [] (Consumes-none reader) (All-nil (λ byte. byte ≢ 10), omega arith)
+ran-nothing start reader writer = ran-cut start start reader reader reader writer writer writer 0 (progress-none start reader writer) Memory [] (Consumes-none reader) (All-nil (λ byte. byte ≢ 10), omega arith, omega arith)

@@ -5,7 +5,7 @@ use Rattle.std.specs.Io.KnownBytes.{Appends, Consumes, IsAtEnd}
 use Rattle.collate_index.specs.Catalogue.{Catalogue}
 use Rattle.collate_run.specs.Reading.{GivesByte, ReadsLine, SpellsLine}
 use Rattle.collate_run.specs.Replies.{Answers}
-use Rattle.collate_run.specs.Runs.{input_limit}
+use Rattle.collate_run.specs.Runs.{input_limit, line_limit}
 use Rattle.collate_run.specs.Sending.{Sends}
 use Rattle.collate_run.specs.declared.run.Line.{Line}
 
@@ -15,7 +15,7 @@ byte-consumed old new given byte e h = subst (λ (o : Option ℕ). GivesByte old
 pub no-line : (given : Option Line) (left : Option (List ℕ)) (before after : ℕ) (bytes : List ℕ) → given ≡ None → ReadsLine (Ok given) left before after bytes → (bytes ≡ []) × IsAtEnd left
 no-line given left before after bytes e h = subst (λ (o : Option Line). ReadsLine (Ok o) left before after bytes) e h
 
-pub some-line : (given : Option Line) (line : Line) (left : Option (List ℕ)) (before after : ℕ) (bytes : List ℕ) → given ≡ Some line → ReadsLine (Ok given) left before after bytes → SpellsLine line left bytes × (after ≡ before + length bytes) × (after ≤ input_limit)
+pub some-line : (given : Option Line) (line : Line) (left : Option (List ℕ)) (before after : ℕ) (bytes : List ℕ) → given ≡ Some line → ReadsLine (Ok given) left before after bytes → SpellsLine line left bytes × (after ≡ before + length bytes) × (after ≤ input_limit) × (length line.bytes.items ≤ line_limit)
 some-line given line left before after bytes e h = subst (λ (o : Option Line). ReadsLine (Ok o) left before after bytes) e h
 
 pub answers-same : (line line' text text' : List ℕ) (old new : Catalogue) → line' ≡ line → text' ≡ text → Answers line' old new text' → Answers line old new text

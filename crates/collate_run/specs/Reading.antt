@@ -22,15 +22,15 @@ SpellsLine line left bytes = IsUnended line.bytes.items × MatchBool line.is_end
 
 -- what was read where no line came of it
 abbrev pub CutsLine : RunFault → ℕ → List ℕ → Type 0
-CutsLine LineTooLong count bytes = IsUnended bytes × (line_limit < length bytes) × (count + length bytes ≤ input_limit)
-CutsLine InputTooLong count bytes = (line : List ℕ) × (last : ℕ) × IsUnended line × (bytes ≡ line ++ last ∷ []) × (count + length line ≡ input_limit)
+CutsLine LineTooLong count bytes = IsUnended bytes × (length bytes ≡ line_limit + 1) × (count + length bytes ≤ input_limit)
+CutsLine InputTooLong count bytes = (line : List ℕ) × (last : ℕ) × IsUnended line × (bytes ≡ line ++ last ∷ []) × (count + length line ≡ input_limit) × (length line ≤ line_limit)
 CutsLine Write count bytes = ⊥
-CutsLine _ count bytes = IsUnended bytes × (count + length bytes ≤ input_limit)
+CutsLine _ count bytes = IsUnended bytes × (count + length bytes ≤ input_limit) × (length bytes ≤ line_limit)
 
 -- what reading a line did: left is what the reader has left, and the counts are of the bytes before and after
 abbrev pub ReadsLine : Result (Option Line) RunFault → Option (List ℕ) → ℕ → ℕ → List ℕ → Type 0
 ReadsLine (Ok None) left before after bytes = (bytes ≡ []) × IsAtEnd left
-ReadsLine (Ok (Some line)) left before after bytes = SpellsLine line left bytes × (after ≡ before + length bytes) × (after ≤ input_limit)
+ReadsLine (Ok (Some line)) left before after bytes = SpellsLine line left bytes × (after ≡ before + length bytes) × (after ≤ input_limit) × (length line.bytes.items ≤ line_limit)
 ReadsLine (Err fault) left before after bytes = CutsLine fault before bytes
 
 -- a call that failed for the reader

@@ -1,5 +1,5 @@
 -- what a run does, by the bytes that it read and those that it wrote
-use Rattle.std.specs.Prelude.{◌≡◌, ◌==◌, ℕ, ◌<◌, if◌then◌else◌, Option, Result, Ok, Err, List, [], ◌∷◌, ◌++◌, length, take}
+use Rattle.std.specs.Prelude.{◌≡◌, ◌==◌, ℕ, ◌+◌, ◌≤◌, if◌then◌else◌, Option, Result, Ok, Err, List, [], ◌∷◌, ◌++◌, length, take, All}
 use Rattle.std.specs.Io.KnownBytes.{Appends, Consumes, IsAtEnd}
 use Rattle.collate_index.specs.Catalogue.{Catalogue}
 use Rattle.collate_run.specs.Replies.{AreReplies}
@@ -34,14 +34,31 @@ line_limit = 65536
 abbrev pub input_limit : ℕ
 input_limit = 4294967295
 
--- the bytes end in a line past the limit, and the lines before it are these
+-- a line within the limit
+abbrev pub IsWithin : List ℕ → Type 0
+IsWithin line = length line ≤ line_limit
+
+-- the bytes end in a line that is one byte past the limit so far, and the lines before it are these
 pub record EndsTooLong (told : List ℕ) (lines : List (List ℕ)) : Type 0 where
   pub front : List ℕ
   pub line : List ℕ
   pub told_is : told ≡ front ++ line
-  pub too_long : line_limit < length line
+  pub too_long : length line ≡ line_limit + 1
   pub unended : whole_lines line ≡ []
   pub whole : lines_of front ≡ lines
+
+-- The line limit, of the bytes that a run read (told): all lines are within it, a line that is cut off too, and a run ends
+-- by LineTooLong at the first byte past it. The byte past the input limit is no part of a line.
+abbrev pub KeepsLineLimit : Result (Unit {0}) RunFault → List ℕ → Type 0
+KeepsLineLimit (Err LineTooLong) told = All IsWithin (whole_lines told) × EndsTooLong told (whole_lines told)
+KeepsLineLimit (Err InputTooLong) told = All IsWithin (lines_of (take input_limit told))
+KeepsLineLimit _ told = All IsWithin (lines_of told)
+
+-- The input limit, of the bytes that a run read (told): they are within it, and a run ends by InputTooLong at the first
+-- byte past it.
+abbrev pub KeepsInputLimit : Result (Unit {0}) RunFault → List ℕ → Type 0
+KeepsInputLimit (Err InputTooLong) told = length told ≡ input_limit + 1
+KeepsInputLimit _ told = length told ≤ input_limit
 
 -- What a run that read these bytes (told) and wrote those (out) has done; left is what the reader
 -- has left.
@@ -50,8 +67,8 @@ Does start (Ok _) left told out = AreReplies start (lines_of told) out × IsAtEn
 Does start (Err Memory) left told out = AreReplies start (whole_lines told) out
 Does start (Err Read) left told out = AreReplies start (whole_lines told) out
 Does start (Err Write) left told out = (unsent : List ℕ) × AreReplies start (lines_of told) (out ++ unsent)
-Does start (Err LineTooLong) left told out = AreReplies start (whole_lines told) out × EndsTooLong told (whole_lines told)
-Does start (Err InputTooLong) left told out = AreReplies start (whole_lines (take input_limit told)) out × (input_limit < length told)
+Does start (Err LineTooLong) left told out = AreReplies start (whole_lines told) out
+Does start (Err InputTooLong) left told out = AreReplies start (whole_lines (take input_limit told)) out
 
 -- a run's result, with what it took from the reader and gave to the writer
 pub record Ran (start : Catalogue) (result : Result (Unit {0}) RunFault) (reader_old reader_new writer_old writer_new : Option (List ℕ)) : Type 0 where
@@ -60,3 +77,5 @@ pub record Ran (start : Catalogue) (result : Result (Unit {0}) RunFault) (reader
   pub consumes : Consumes reader_old reader_new told
   pub appends : Appends writer_old writer_new out
   pub does : Does start result reader_new told out
+  pub line_limit_kept : KeepsLineLimit result told
+  pub input_limit_kept : KeepsInputLimit result told

@@ -45,7 +45,7 @@ returns-in-Err-write_whole-clause-ran g c =
     let line = some-line c.in-Ok-Some.field-0 c.in-Ok-Some.line r2 c.lines.count c.next_line.new.count read.0 c.in-Ok-Some.field-0-is read.2 in
     let answered = answers-same c.in-Ok-Some.line.bytes.items c.deref.result.now c.as_bytes.result.now (reply_text c.answer-reply.result) c.lines.index c.answer-reply.new.index c.deref.ensures.value (sym c.as_bytes.ensures) c.answer-reply.ensures in
     ran-write c.args.index.now c.lines.index r0 r1 r2 w0 w1 w2 c.lines.count c.lines.invariant.progress c.in-Ok-Some.line read.0 read.1 line.0
-    c.answer-reply.new.index c.as_bytes.result.now answered (Err c.in-Err-write_whole.fault) c.in-Err-write_whole.fault c.in-Err-write_whole.ensures.fault c.in-Err-write_whole.ensures.bytes
+    c.answer-reply.new.index c.as_bytes.result.now answered c.next_line.new.count line.1 line.2 line.3 (Err c.in-Err-write_whole.fault) c.in-Err-write_whole.fault c.in-Err-write_whole.ensures.fault c.in-Err-write_whole.ensures.bytes
 
 pub returns-then-not-line-clause-ran : goal.returns-then-not-line-clause-ran
 returns-then-not-line-clause-ran g c =
@@ -59,7 +59,7 @@ returns-then-not-line-clause-ran g c =
     let line = some-line c.in-Ok-Some.field-0 c.in-Ok-Some.line r2 c.lines.count c.next_line.new.count read.0 c.in-Ok-Some.field-0-is read.2 in
     let answered = answers-same c.in-Ok-Some.line.bytes.items c.deref.result.now c.as_bytes.result.now (reply_text c.answer-reply.result) c.lines.index c.answer-reply.new.index c.deref.ensures.value (sym c.as_bytes.ensures) c.answer-reply.ensures in
     ran-last c.args.index.now c.lines.index r0 r1 r2 w0 w1 w2 c.lines.count c.lines.invariant.progress c.in-Ok-Some.line read.0 read.1 line.0
-    c.answer-reply.new.index c.as_bytes.result.now answered c.if-not-line.true (sent-all c.in-Ok.field-0 w1 w2 c.as_bytes.result.now c.in-Ok.ensures.bytes)
+    c.answer-reply.new.index c.as_bytes.result.now answered c.next_line.new.count line.1 line.2 line.3 c.if-not-line.true (sent-all c.in-Ok.field-0 w1 w2 c.as_bytes.result.now c.in-Ok.ensures.bytes)
 
 pub lines-preserved : goal.lines-preserved
 lines-preserved g c =
@@ -76,5 +76,5 @@ lines-preserved g c =
       reader = unfailed (watched_failed c.next_line.new.reader) (watched_failed c.lines.reader) c.in-Ok-Some.ensures.failed c.lines.invariant.reader;
       writer = unfailed (watched_failed c.write_whole.new.writer) (watched_failed c.lines.writer) c.in-Ok.ensures.failed c.lines.invariant.writer;
       progress = progress-more c.args.index.now c.lines.index r0 r1 r2 w0 w1 w2 c.lines.count c.lines.invariant.progress c.in-Ok-Some.line read.0 read.1 line.0
-          c.answer-reply.new.index c.as_bytes.result.now answered c.next_line.new.count c.if-not-line.false (sent-all c.in-Ok.field-0 w1 w2 c.as_bytes.result.now c.in-Ok.ensures.bytes) line.1 line.2;
+          c.answer-reply.new.index c.as_bytes.result.now answered c.next_line.new.count line.1 line.2 line.3 c.if-not-line.false (sent-all c.in-Ok.field-0 w1 w2 c.as_bytes.result.now c.in-Ok.ensures.bytes);
     }

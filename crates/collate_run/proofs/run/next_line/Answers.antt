@@ -13,7 +13,7 @@ returns-then-count-ge-INPUT_LIMIT-clause-bytes g c =
       Consumes-then (r (watched_inner c.args.reader.now)) (r (watched_inner c.bytes.reader)) (r (watched_inner c.read_byte.new.reader))
           c.bytes.bytes.items (c.in-Ok-Some.byte ∷ []) before.told
           (byte-consumed (r (watched_inner c.bytes.reader)) (r (watched_inner c.read_byte.new.reader)) c.in-Ok-Some.field-0 c.in-Ok-Some.byte c.in-Ok-Some.field-0-is c.in-Ok-Some.ensures.bytes),
-      (c.bytes.bytes.items, c.in-Ok-Some.byte, before.unended, refl, omega arith),
+      (c.bytes.bytes.items, c.in-Ok-Some.byte, before.unended, refl, omega arith, before.short),
     )
 
 pub returns-then-len-ge-LINE_LIMIT-clause-bytes : goal.returns-then-len-ge-LINE_LIMIT-clause-bytes
