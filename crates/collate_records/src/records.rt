@@ -5,7 +5,7 @@ ghost use Rattle.std.specs.Option.{option_copied};
 ghost use Rattle.icu_normalizer_core.specs.Canonical.{IsDecomposing};
 ghost use Rattle.icu_normalizer_core.specs.Properties.{mapped_to};
 ghost use Rattle.collate_records.specs.Accepted.{AreAccepted};
-ghost use Rattle.collate_records.specs.Sayings.{canonical_of, first_found, class_of, step_of, full_of, expanded, elements_in};
+ghost use Rattle.collate_records.specs.Sayings.{canonical_of, collation_of, first_found, class_of, step_of, full_of, expanded, elements_in};
 ghost use Rattle.collate_records.specs.Tables.{AddsFront};
 ghost use Rattle.collate_records.specs.Files.{IsReadFrom};
 
@@ -14,6 +14,7 @@ use crate::rule::RecordsError;
 use crate::sayings::Saying;
 use crate::tables::Tables;
 use icu_collator_types::elements::Element;
+use icu_collator_types::options::FileSettings;
 use icu_collections::codepointtrie::TrieType;
 use icu_normalizer_core::built_in::{built_in_class, built_in_compatibility_step, built_in_step};
 use icu_normalizer_core::properties::Decomposed;
@@ -79,6 +80,13 @@ impl Records {
         ensures canonical { IsDecomposing (canonical_of self.now) }
     {
         let _ = &self.sayings;
+    }
+
+    /// What the file sets of the options (our profile). No line sets any yet.
+    pub fn settings(&self) -> FileSettings
+        ensures { let collation = collation_of self.now in result ≡ collation.options }
+    {
+        Default::default()
     }
 
     /// The canonical combining class of a character: what is built in, else what a line says, else
