@@ -22,6 +22,7 @@ use Rattle.collate_names.specs.Names.{TextOrder}
 use Rattle.collate_records.specs.Accepted.{AreAccepted}
 use Rattle.collate_records.specs.Sayings.{collation_of, weights_of}
 use Rattle.collate_records.proofs.AcceptedLines.{accepted_decompose}
+use Rattle.collate_index.proofs.Settings.{accepted_settings}
 use Rattle.collate_index.specs.Meaning.{Meaning, name_order, order_by}
 
 either_total : (b : Bool) (R S : TextOrder) → IsTotalOrder R → IsTotalOrder S → IsTotalOrder (λ x y. cond b (R x y) (S x y))
@@ -66,8 +67,8 @@ equal_keys_of_names collation options a b decomposing sound settings sa sb =
     )
 
 -- names of an index, given by their bytes, compare as their keys
-pub keys_order_in_index : (m : Meaning) (a b : List ℕ) → AreAccepted m.sayings → AreSoundWeights (weights_of m.sayings) → AreSoundSettings (collation_of m.sayings)
+pub keys_order_in_index : (m : Meaning) (a b : List ℕ) → AreAccepted m.sayings → AreSoundWeights (weights_of m.sayings)
     → slice_cmp nat_cmp (key_of_text (collation_of m.sayings) m.options (utf8_chars a)) (key_of_text (collation_of m.sayings) m.options (utf8_chars b)) ≡ order_by m a b
 unfolding order_by
-keys_order_in_index m a b accepted sound settings =
-    keys_order_as_names (collation_of m.sayings) m.options (utf8_chars a) (utf8_chars b) (accepted_decompose m.sayings accepted) sound settings (utf8_scalars a) (utf8_scalars b)
+keys_order_in_index m a b accepted sound =
+    keys_order_as_names (collation_of m.sayings) m.options (utf8_chars a) (utf8_chars b) (accepted_decompose m.sayings accepted) sound (accepted_settings m.sayings accepted) (utf8_scalars a) (utf8_scalars b)

@@ -14,7 +14,7 @@ ghost use Rattle.icu_collator_core.specs.WeightRules.{AreSoundWeights};
 ghost use Rattle.icu_collator.specs.KeyBytes.{key_of_text};
 ghost use Rattle.icu_collator.specs.Settings.{AreSoundSettings};
 ghost use Rattle.collate_records.specs.Accepted.{AreAccepted};
-ghost use Rattle.collate_records.specs.Sayings.{collation_of, weights_of};
+ghost use Rattle.collate_records.specs.Sayings.{Saying, collation_of, weights_of};
 ghost use Rattle.collate_index.specs.Meaning.{Meaning, name_order, order_by};
 
 /// Names compare as a total preorder, whatever data and options say: turning two names round turns the answer round,
@@ -43,9 +43,15 @@ pub fn equal_keys_are_of_equal_names()
 {}
 
 /// Names in UTF-8, damaged or not, compare under the records of an accepted file as the keys of their characters do, where
-/// the weights and settings keep the rules. (Our profile.)
+/// the weights keep the rules on weights. (Our profile.)
 #[tactic(auto, using(crate::proofs::Order::keys_order_in_index))]
 pub fn keys_order_as_names_of_records()
-    ensures { (m : Meaning) (a b : List ℕ) → AreAccepted m.sayings → AreSoundWeights (weights_of m.sayings) → AreSoundSettings (collation_of m.sayings)
+    ensures { (m : Meaning) (a b : List ℕ) → AreAccepted m.sayings → AreSoundWeights (weights_of m.sayings)
         → slice_cmp nat_cmp (key_of_text (collation_of m.sayings) m.options (utf8_chars a)) (key_of_text (collation_of m.sayings) m.options (utf8_chars b)) ≡ order_by m a b }
+{}
+
+/// The settings of an accepted file keep the rules on settings. (Our profile.)
+#[tactic(auto, using(crate::proofs::Settings::accepted_settings))]
+pub fn records_have_sound_settings()
+    ensures { (sayings : List Saying) → AreAccepted sayings → AreSoundSettings (collation_of sayings) }
 {}
