@@ -8,4 +8,5 @@ pub mod PlainKeys
 pub mod PlainLevels
 pub mod PlainOrder
 pub mod Searching
+pub mod Settings
 pub mod Simple

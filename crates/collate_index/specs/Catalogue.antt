@@ -2,10 +2,10 @@
 use Rattle.std.specs.Prelude.{◌≢◌, ℕ, List, [], ◌∷◌, ◌++◌}
 use Rattle.std.specs.List.{AllPairs}
 use Rattle.collate_index.specs.Meaning.{Meaning, meaning_of, order_by}
-use Rattle.collate_records.specs.Sayings.{Saying}
+use Rattle.collate_records.specs.Sayings.{Saying, collation_of}
 use Rattle.icu_collator_types.specs.declared.options.CollatorOptions.{CollatorOptions}
 use Rattle.icu_collator_types.specs.declared.options.CollatorPreferences.{CollatorPreferences}
-use Rattle.icu_collator_types.specs.Options.{default_settings, resolved_options}
+use Rattle.icu_collator_types.specs.Options.{resolved_options}
 use Rattle.collate_names.specs.Names.{TextOrder, in_order}
 
 pub record Catalogue : Type 0 where
@@ -26,10 +26,11 @@ sorted_names s = in_order (order_of s) s.arrivals
 abbrev pub AreDistinct : List (List ℕ) → Type 0
 AreDistinct names = AllPairs (λ name other. name ≢ other) names
 
--- the catalogue that records, preferences and options open, with no names
+-- the catalogue that records, preferences and options open, with no names; the options are resolved by what the file sets
 abbrev pub opened : List Saying → CollatorPreferences → CollatorOptions → Catalogue
 opened sayings preferences options =
-    record { meaning = meaning_of sayings (resolved_options options preferences default_settings); arrivals = [] }
+    let collation = collation_of sayings
+    in record { meaning = meaning_of sayings (resolved_options options preferences collation.options); arrivals = [] }
 
 -- a catalogue in which a name has arrived
 abbrev pub with_name : List ℕ → Catalogue → Catalogue

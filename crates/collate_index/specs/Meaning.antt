@@ -1,8 +1,13 @@
 -- What decides the order of names: records and options.
-use Rattle.std.specs.Prelude.{List}
+use Rattle.std.specs.Prelude.{cond, List}
+use Rattle.std.specs.Cmp.Lexicographic.{slice_cmp}
+use Rattle.std.specs.Ordering.{nat_cmp}
 use Rattle.icu_normalizer_core.specs.Decoding.{utf8_chars}
 use Rattle.icu_collator_types.specs.declared.options.ResolvedCollatorOptions.{ResolvedCollatorOptions}
+use Rattle.icu_collator_core.specs.Collation.{Collation}
+use Rattle.icu_collator.specs.KeyBytes.{key_of_text}
 use Rattle.icu_collator.specs.Order.{collation_order}
+use Rattle.icu_collator.specs.Settings.{has_plain_leads}
 use Rattle.collate_records.specs.Sayings.{Saying, collation_of}
 use Rattle.collate_names.specs.Names.{TextOrder}
 
@@ -16,6 +21,13 @@ pub record Meaning : Type 0 where
 abbrev pub meaning_of : List Saying → ResolvedCollatorOptions → Meaning
 meaning_of sayings options = record { sayings = sayings; options = options }
 
--- how names compare: by the collation order of the characters that their bytes spell
+-- How two names compare, given as characters: by the collation order, but where plain leads fail by the bytes of their
+-- keys. Then names with one key are equal.
+unfoldable pub name_order : Collation → ResolvedCollatorOptions → TextOrder
+name_order collation options a b =
+    let by_keys = slice_cmp nat_cmp (key_of_text collation options a) (key_of_text collation options b)
+    in cond (has_plain_leads collation options) (collation_order collation options a b) by_keys
+
+-- how names compare, given by their bytes: as the characters do that these spell
 unfoldable pub order_by : Meaning → TextOrder
-order_by m a b = collation_order (collation_of m.sayings) m.options (utf8_chars a) (utf8_chars b)
+order_by m a b = name_order (collation_of m.sayings) m.options (utf8_chars a) (utf8_chars b)

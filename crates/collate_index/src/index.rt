@@ -15,9 +15,7 @@ ghost use Rattle.collate_index.specs.Search.{IsPlaceOf, stands_before};
 
 use crate::key::IndexKey;
 use collate_records::records::Records;
-use icu_collator_types::options::{
-    CollatorOptions, CollatorPreferences, FileSettings, ResolvedCollatorOptions,
-};
+use icu_collator_types::options::{CollatorOptions, CollatorPreferences, ResolvedCollatorOptions};
 use std::alloc::{AllocError, Global};
 use std::cmp::Ordering;
 use std::fmt;
@@ -59,7 +57,8 @@ impl Model for Index {
 impl Index {
     ghost use Rattle.collate_index.specs.Keys.{IsKeyOf};
 
-    /// An index with no names, over records, preferences and options (our profile). It asks for no memory.
+    /// An index with no names, over records, preferences and options; what these leave open the records' settings decide
+    /// (our profile). It asks for no memory.
     #[tactic(auto, unfolding(collate_names::specs::Names::in_order), using(crate::proofs::Simple::resolved_simple))]
     pub fn new(
         alloc: Global,
@@ -71,8 +70,7 @@ impl Index {
         requires options { GiveStrengthOnly options.now }
         ensures { IfOk result (λ index. index ≡ opened records preferences.now options.now) }
     {
-        let settings: FileSettings = Default::default();
-        let options = ResolvedCollatorOptions::resolve(options, preferences, &settings);
+        let options = ResolvedCollatorOptions::resolve(options, preferences, &records.settings());
         Ok(Index {
             alloc,
             records,

@@ -4,3 +4,4 @@
 pub mod comparison;
 pub mod index;
 pub mod key;
+pub mod laws;

@@ -1,3 +1,4 @@
+pub mod AcceptedLines
 pub mod BadLists
 pub mod Breaches
 pub mod BuiltInFalls

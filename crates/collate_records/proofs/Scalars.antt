@@ -1,21 +1,14 @@
 -- The code points that lines name are scalar values.
-use Rattle.std.proofs.Common.{◌≡◌, ℕ, ◌≤◌, Bool, true, false, not, List, [], ◌∷◌, length, Option, Some, None, All, refl, arith, get_or, ◌==◌, ◌<◌, bytes_eq, ◌⊎◌, inl, inr}
+use Rattle.std.proofs.Common.{◌≡◌, ℕ, ◌≤◌, Bool, true, false, not, List, [], ◌∷◌, length, Option, Some, None, All, refl, arith, ◌==◌, bytes_eq, ◌⊎◌, inl, inr}
 use Rattle.std.proofs.lemmas.Bool.Decides.{nat_tests}
-use Rattle.std.proofs.lemmas.List.{length-map}
-use Rattle.std.proofs.lemmas.List.Elements.{All-cons, All-map, All-nil}
+use Rattle.std.proofs.lemmas.List.Elements.{All-cons, All-nil}
 use Rattle.std.specs.List.{slice_split}
-use Rattle.std.specs.Option.{unwrap_or}
 use Rattle.std.proofs.lemmas.Option.{same_Some}
 use Rattle.std.specs.Char.{IsScalar}
 use Rattle.std.specs.Prelude.{if◌then◌else◌, codes}
-use Rattle.collate_records.specs.Sayings.{Saying, canonical_of, nothing, weights}
-use Rattle.collate_records.specs.Accepted.{AreScalars, MapsToScalars}
+use Rattle.collate_records.specs.Sayings.{Saying, nothing, weights}
+use Rattle.collate_records.specs.Accepted.{MapsToScalars}
 use Rattle.collate_records.specs.Grammar.{◌>>=◌, checked, code_point, ending_by, hex_number, is_line, is_remark, is_scalar, is_short, mapping_by, saying_by, saying_of, class_by, weights_by, class_number}
-use Rattle.collate_records.specs.Files.{IsAccepted, lines_of, read_line, sayings_of}
-use Rattle.icu_normalizer_core.specs.Canonical.{IsDecomposing}
-use Rattle.collate_records.specs.declared.rule.Rule.{Rule}
-use Rattle.collate_records.specs.declared.rule.Rule.TheVariants.{C1, C2, C3, C4, C9}
-use Rattle.collate_records.proofs.Decomposing.{decomposing}
 
 scalar_test : (c : ℕ) → is_scalar c ≡ true → IsScalar c
 scalar_test c h = grind (arith, nat_tests)
@@ -110,7 +103,7 @@ fields_scalars (word ∷ fields) s e =
     ]
 
 -- a line that is read maps to scalar values
-line_scalars : (line : List ℕ) (s : Saying) → saying_of line ≡ Some s → MapsToScalars s
+pub line_scalars : (line : List ℕ) (s : Saying) → saying_of line ≡ Some s → MapsToScalars s
 line_scalars line s e =
     let parts = slice_split (λ b. b == 32) line
     in let said : Option Saying = if is_remark line then Some nothing else saying_by parts
@@ -121,24 +114,3 @@ line_scalars line s e =
         | inr r ↦ fields_scalars parts s r
       ]
     ]
-
--- what a line says, also one that isn't in the grammar
-saying_scalars : (o : Option Saying) → ((s : Saying) → o ≡ Some s → MapsToScalars s) → MapsToScalars (unwrap_or o nothing)
-saying_scalars None h = tt
-saying_scalars (Some s) h = h s refl
-
--- the lines of a file map to scalar values
-pub file_scalars : (file : List ℕ) → AreScalars (sayings_of file)
-file_scalars file =
-    All-map MapsToScalars read_line (lines_of file) (λ k d lt. saying_scalars (saying_of (get_or (lines_of file) k d)) (line_scalars (get_or (lines_of file) k d)))
-
--- an accepted file gives canonical data, as far as decomposing goes
-pub accepted_file : (file : List ℕ) → IsAccepted file → IsDecomposing (canonical_of (sayings_of file))
-accepted_file file accepted =
-    let keeps : (rule : Rule) (i : ℕ) → i < length (sayings_of file) → i < length (lines_of file) = λ rule i lt. rw (← length-map (lines_of file) read_line) lt
-    in decomposing (sayings_of file) (file_scalars file)
-    (λ i lt offends. accepted C1 i (keeps C1 i lt, offends))
-    (λ i lt offends. accepted C2 i (keeps C2 i lt, offends))
-    (λ i lt offends. accepted C3 i (keeps C3 i lt, offends))
-    (λ i lt offends. accepted C4 i (keeps C4 i lt, offends))
-    (λ i lt offends. accepted C9 i (keeps C9 i lt, offends))

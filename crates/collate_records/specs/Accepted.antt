@@ -1,7 +1,10 @@
--- What lines of an accepted file say: small classes, and mappings to scalar values.
-use Rattle.std.specs.Prelude.{◌<◌, ◌≤◌, List, length, All}
+-- Lines of an accepted file: what they say, and that they keep the rules.
+use Rattle.std.specs.Prelude.{◌≡◌, ℕ, ◌<◌, ◌≤◌, List, length, All, Some}
 use Rattle.std.specs.Char.{IsScalar}
+use Rattle.collate_records.specs.declared.rule.Rule.{Rule}
 use Rattle.collate_records.specs.Sayings.{Saying, class, mapping}
+use Rattle.collate_records.specs.Grammar.{saying_of}
+use Rattle.collate_records.specs.Offenders.{NoneOffends}
 
 -- a class that a line gives is below 256
 abbrev pub HasSmallClass : Saying → Type 0
@@ -16,3 +19,12 @@ MapsToScalars _ = Unit {0}
 -- each mapping is to at most two characters, scalar values
 abbrev pub AreScalars : List Saying → Type 0
 AreScalars sayings = All MapsToScalars sayings
+
+-- a line in the grammar says this
+abbrev pub IsSaid : Saying → Type 0
+IsSaid saying = (line : List ℕ) × (saying_of line ≡ Some saying)
+
+-- Lines as an accepted file has them: each is in the grammar, and none offends against a rule.
+pub record AreAccepted (sayings : List Saying) : Type 0 where
+  pub in_grammar : All IsSaid sayings
+  pub keep_rules : (rule : Rule) → NoneOffends rule sayings

@@ -3,6 +3,7 @@ pub mod CharacterTables
 pub mod Facts
 pub mod Files
 pub mod Grammar
+pub mod Kept
 pub mod Limits
 pub mod Lists
 pub mod Offenders

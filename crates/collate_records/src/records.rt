@@ -2,8 +2,10 @@
 
 ghost use Rattle.std.specs.Prelude.{◌≡◌, ◌==◌, ◌++◌, ◌∷◌, [], cond, OnOk, OnErr};
 ghost use Rattle.std.specs.Option.{option_copied};
+ghost use Rattle.icu_normalizer_core.specs.Canonical.{IsDecomposing};
 ghost use Rattle.icu_normalizer_core.specs.Properties.{mapped_to};
-ghost use Rattle.collate_records.specs.Sayings.{first_found, class_of, step_of, full_of, expanded, elements_in};
+ghost use Rattle.collate_records.specs.Accepted.{AreAccepted};
+ghost use Rattle.collate_records.specs.Sayings.{canonical_of, collation_of, first_found, class_of, step_of, full_of, expanded, elements_in};
 ghost use Rattle.collate_records.specs.Tables.{AddsFront};
 ghost use Rattle.collate_records.specs.Files.{IsReadFrom};
 
@@ -12,6 +14,7 @@ use crate::rule::RecordsError;
 use crate::sayings::Saying;
 use crate::tables::Tables;
 use icu_collator_types::elements::Element;
+use icu_collator_types::options::FileSettings;
 use icu_collections::codepointtrie::TrieType;
 use icu_normalizer_core::built_in::{built_in_class, built_in_compatibility_step, built_in_step};
 use icu_normalizer_core::properties::Decomposed;
@@ -19,7 +22,7 @@ use std::alloc::{AllocError, Global};
 use std::marker::Model;
 
 /// What an accepted records file says of characters: a list of lines, as its contracts see it, and
-/// look-up tables of them (our profile).
+/// look-up tables of them (our profile). Whoever holds records knows that the lines are accepted: `keep_rules` says so.
 #[derive(Drop)]
 pub struct Records {
     sayings: Vec<Saying>,
@@ -32,11 +35,11 @@ impl Model for Records {
 
     ghost Value = { List PureSaying };
 
-    ghost use Rattle.collate_records.specs.Tables.{AreTablesOf};
+    ghost use Rattle.collate_records.specs.Kept.{IsKept};
 
     ghost view = { λ r. map said r.sayings.items };
 
-    ghost invariant = { λ r. AreTablesOf r.tables (map said r.sayings.items) };
+    ghost invariant = { IsKept };
 }
 
 impl Records {
@@ -65,6 +68,25 @@ impl Records {
         let sayings = read_sayings(alloc, bytes)?;
         let tables = Tables::new(alloc, &sayings, trie_type)?;
         Ok(Records { sayings, tables })
+    }
+
+    /// The lines of records are those of an accepted file: each is in the grammar, and none offends against a rule. So
+    /// they give canonical data, as far as decomposing goes (our profile; after UAX 15).
+    ///
+    /// It computes nothing: its contract is what every holder of records knows.
+    #[tactic(auto, using(crate::proofs::AcceptedLines::accepted_decompose))]
+    pub fn keep_rules(&self)
+        ensures accepted { AreAccepted self.now }
+        ensures canonical { IsDecomposing (canonical_of self.now) }
+    {
+        let _ = &self.sayings;
+    }
+
+    /// What the file sets of the options (our profile). No line sets any yet.
+    pub fn settings(&self) -> FileSettings
+        ensures { let collation = collation_of self.now in result ≡ collation.options }
+    {
+        Default::default()
     }
 
     /// The canonical combining class of a character: what is built in, else what a line says, else
