@@ -4,6 +4,7 @@ use Rattle.std.specs.Char.{IsScalar}
 use Rattle.std.specs.Cmp.{IsTotalOrder}
 use Rattle.std.specs.Cmp.Lexicographic.{slice_cmp}
 use Rattle.std.specs.Ordering.{nat_cmp}
+use Rattle.std.specs.declared.cmp.Ordering.{Ordering}
 use Rattle.std.specs.declared.cmp.Ordering.TheVariants.{Equal}
 use Rattle.std.proofs.lemmas.Cmp.{nat_list_cmp_total, on_total, tied_itself}
 use Rattle.icu_normalizer_core.specs.Canonical.{IsDecomposing}
@@ -18,14 +19,13 @@ use Rattle.icu_collator.specs.Settings.{AreSoundSettings, has_plain_leads}
 use Rattle.icu_collator.proofs.LevelKeys.{same_numbers}
 use Rattle.icu_collator.proofs.OrderTotal.{collation_order_total}
 use Rattle.icu_collator.proofs.TextKeys.{text_keys_order}
-use Rattle.collate_names.specs.Names.{TextOrder}
 use Rattle.collate_records.specs.Accepted.{AreAccepted}
 use Rattle.collate_records.specs.Sayings.{collation_of, weights_of}
 use Rattle.collate_records.proofs.AcceptedLines.{accepted_decompose}
 use Rattle.collate_index.proofs.Settings.{accepted_settings}
 use Rattle.collate_index.specs.Meaning.{Meaning, name_order, order_by}
 
-either_total : (b : Bool) (R S : TextOrder) → IsTotalOrder R → IsTotalOrder S → IsTotalOrder (λ x y. cond b (R x y) (S x y))
+either_total : (b : Bool) (R S : List ℕ → List ℕ → Ordering) → IsTotalOrder R → IsTotalOrder S → IsTotalOrder (λ x y. cond b (R x y) (S x y))
 either_total true R S r s = r
 either_total false R S r s = s
 

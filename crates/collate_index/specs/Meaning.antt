@@ -1,7 +1,8 @@
 -- What decides the order of names: records and options.
-use Rattle.std.specs.Prelude.{cond, List}
+use Rattle.std.specs.Prelude.{ℕ, cond, List}
 use Rattle.std.specs.Cmp.Lexicographic.{slice_cmp}
 use Rattle.std.specs.Ordering.{nat_cmp}
+use Rattle.std.specs.declared.cmp.Ordering.{Ordering}
 use Rattle.icu_normalizer_core.specs.Decoding.{utf8_chars}
 use Rattle.icu_collator_types.specs.declared.options.ResolvedCollatorOptions.{ResolvedCollatorOptions}
 use Rattle.icu_collator_core.specs.Collation.{Collation}
@@ -23,7 +24,7 @@ meaning_of sayings options = record { sayings = sayings; options = options }
 
 -- How two names compare, given as characters: by the collation order, but where plain leads fail by the bytes of their
 -- keys. Then names with one key are equal.
-unfoldable pub name_order : Collation → ResolvedCollatorOptions → TextOrder
+unfoldable pub name_order : Collation → ResolvedCollatorOptions → List ℕ → List ℕ → Ordering
 name_order collation options a b =
     let by_keys = slice_cmp nat_cmp (key_of_text collation options a) (key_of_text collation options b)
     in cond (has_plain_leads collation options) (collation_order collation options a b) by_keys
