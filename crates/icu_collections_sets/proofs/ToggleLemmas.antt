@@ -1,10 +1,10 @@
 -- Edges that are put or taken, and sets that are cut.
-use Rattle.std.proofs.Common.{◌≡◌, ℕ, zero, suc, ◌+◌, ◌%◌, ◌<◌, ◌≤◌, Bool, true, false, not, List, [], ◌∷◌, ◌++◌, length, get_or, take, drop, refl, sym, ap, subst, ◌∙◌, arith, inl, inr, nat_lt, nat_le, ◌≢◌, ◌==◌, add-one, drop-cons}
+use Rattle.std.proofs.Common.{◌≡◌, ℕ, ◌+◌, ◌%◌, ◌<◌, ◌≤◌, Bool, true, false, not, List, [], ◌∷◌, ◌++◌, length, get_or, take, drop, refl, sym, ap, subst, ◌∙◌, arith, inl, inr, nat_le, ◌≢◌, ◌==◌, add-one, drop-cons}
 use mathlib.Core.Bool.{beq}
 use Rattle.std.proofs.lemmas.List.{take-append-drop, drop_all}
 use Rattle.std.proofs.lemmas.Bool.{cases_lt}
 use Rattle.std.proofs.lemmas.Bool.Decides.{nat_tests}
-use Rattle.icu_collections_sets.specs.CodePoints.{Rises, IsInversionList, is_in, holds, IsCountUpTo}
+use Rattle.icu_collections_sets.specs.CodePoints.{Rises, IsInversionList, is_in, holds}
 use Rattle.icu_collections_sets.specs.Operations.{differ, IsIntersection, IsSymmetricDifference}
 use Rattle.icu_collections_sets.specs.SetEdits.{IsSetTo, IsToggled, is_within, stretch, IsCountBelow}
 use Rattle.icu_collections_sets.proofs.SetLemmas.{turned, turned_out, Rises_end, Rises_below, Rises_lower, is_in_count, is_in_past}

@@ -1,5 +1,5 @@
 -- Sets of code points and strings that are equal feed a hasher alike.
-use Rattle.std.specs.Prelude.{ℕ, ◌&&◌, ◌++◌, nat_eq}
+use Rattle.std.specs.Prelude.{◌&&◌, ◌++◌, nat_eq}
 use Rattle.std.specs.Hash.{u32, str, slice, Alike, same_Alike, on_Alike, items_Alike, and-Alike}
 use Rattle.std.specs.Cmp.Lexicographic.{pointwise}
 use Rattle.std.proofs.lemmas.Bool.Decides.{Decides-eqb}

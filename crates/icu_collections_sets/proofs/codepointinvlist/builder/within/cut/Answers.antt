@@ -1,8 +1,8 @@
-use Rattle.std.proofs.Common.{◌≡◌, ℕ, ◌%◌, ◌==◌, ◌++◌, ◌∷◌, [], true, false, take, sym, ap, subst, ◌∙◌, arith}
+use Rattle.std.proofs.Common.{◌≡◌, ◌%◌, ◌==◌, ◌++◌, ◌∷◌, [], true, false, take, sym, ap, subst, ◌∙◌, arith}
 use Rattle.std.proofs.lemmas.Bool.Decides.{nat_tests}
 use Rattle.std.proofs.lemmas.List.{append-nil}
 use Rattle.icu_collections_sets.specs.CodePoints.{IsInversionList}
-use Rattle.icu_collections_sets.specs.SetEdits.{IsSetTo, IsCountBelow, stretch, is_within}
+use Rattle.icu_collections_sets.specs.SetEdits.{IsSetTo, IsCountBelow, is_within}
 use Rattle.icu_collections_sets.proofs.ToggleLemmas.{set_cut}
 use Rattle.icu_collections_sets.proofs.codepointinvlist.builder.within.cut.Goals as goal
 
