@@ -1,5 +1,5 @@
 //! The index: putting names into it, looking for one, and listing them.
-ghost use Rattle.std.specs.Prelude.{◌≡◌, ◌≢◌, ◌↔◌, ◌∷◌, [], length, slice_get, IsTrue, IfOk};
+ghost use Rattle.std.specs.Prelude.{◌≡◌, ◌≢◌, ◌∷◌, [], length, slice_get, IfOk};
 ghost use Rattle.std.specs.Option.{option_copied};
 ghost use Rattle.collate_index.specs.Catalogue.{order_of, sorted_names};
 ghost use Rattle.collate_index.specs.Names.{equal_names};

@@ -54,7 +54,8 @@ pub fn value_through(
     Ok(value_of_char(&trie, character))
 }
 
-/// The value of a key of one unit or more from where a cursor stands, if it is a key there.
+/// The value of a key of one unit or more from where a cursor stands, if it is a key there. The calls
+/// go as deep as the key is long.
 fn value_behind(mut cursor: Char16TrieIterator<'_>, key: &[u16]) -> Option<i32>
     ensures { 0 < length key.now → (number : ℤ) → result ≡ Some number ↔ IsEntryFrom cursor.entry key.now number }
 {
