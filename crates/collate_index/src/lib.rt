@@ -1,4 +1,5 @@
 //! The index of `collate`: names in collation order under records and options, found by binary search over their keys.
+//! Begin with `index::Index::new`; `add` takes names, `find` and `list` give them.
 #![tactic(auto)]
 
 pub mod comparison;

@@ -1,4 +1,5 @@
-//! Records files: what their lines say, and whether they keep the rules.
+//! Records files: what their lines say, and whether they keep the rules. Begin with
+//! `records::Records::read`; `class` and `mapping` then ask what the file says.
 #![tactic(auto)]
 
 mod character_table;

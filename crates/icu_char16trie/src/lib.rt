@@ -1,5 +1,6 @@
 //! Maps from texts in UTF-16 units to numbers, packed into units: a trie that a cursor follows one
-//! unit or character at a time. The form is that of ICU4X's `Char16Trie`.
+//! unit or character at a time. The form is that of ICU4X's `Char16Trie`. `write_units` writes the
+//! units; `Char16Trie::new` and `iter` give a cursor over them. Users list `icu_collections`.
 #![tactic(auto)]
 
 ghost use Rattle.std.specs.Prelude.{◌≡◌, ◌+◌, ◌*◌, ◌^◌, ◌<◌, ◌≤◌, ◌-◌, ◌/◌, ◌%◌, [], ◌∷◌, ◌↔◌, ℕ, ℤ, List, IfOk};

@@ -1,4 +1,6 @@
 //! Maps from code points to values in compact tables that are read by a few loads and shifts.
+//! `CodePointTrieBuilder::new` begins a map, `build` makes the trie, and `get32` reads it. Users list
+//! `icu_collections`.
 #![tactic(auto)]
 
 mod builder;

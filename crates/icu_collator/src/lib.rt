@@ -1,4 +1,5 @@
-//! Collation: the levels of texts, and the order in which they are compared.
+//! Collation: the levels of texts, and the order in which they are compared. Now it holds
+//! definitions and laws, functions whose contracts state them. Begin with `laws::order_is_total`.
 #![tactic(auto)]
 
 pub mod laws;

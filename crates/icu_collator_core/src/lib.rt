@@ -1,4 +1,5 @@
-//! Collation elements: what texts are matched, and what each match gives.
+//! Collation elements: what texts are matched, and what each match gives. The definitions stand in
+//! `specs`; of the code, begin with `elements::primary_element`, the element of a primary weight.
 #![tactic(auto)]
 
 pub mod elements;

@@ -1,4 +1,5 @@
-//! Characters and their canonical data: decoding, what is built in, decomposition.
+//! Characters and their canonical data: decoding, what is built in, decomposition. Begin with
+//! `decoding::decode_utf8`, the characters of bytes.
 #![tactic(auto)]
 
 pub mod built_in;

@@ -1,5 +1,6 @@
 //! Vectors of numbers or characters in packed bytes, borrowed or owned. A packed vector is a list
-//! of its items, the same whether its bytes are borrowed or owned.
+//! of its items, the same whether its bytes are borrowed or owned. `PackedVec::from_slice` makes
+//! one, and `get` reads it.
 #![tactic(auto)]
 
 ghost use Rattle.std.specs.Prelude.{◌≡◌, ℕ, ◌+◌, ◌*◌, ◌/◌, ◌%◌, ◌<◌, ◌≤◌, ◌↔◌, IsTrue, length, slice_get, slice_index_or, slice_range, IfOk, IfSome, MatchResult, SomeIff, All};

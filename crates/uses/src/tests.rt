@@ -1,0 +1,87 @@
+// Each public function is called once here, one test a subject.
+
+use crate::{code_point_tries, decoded, names, options, packed, records, sets, unit_tries};
+use collate_records::records::Records;
+use icu_collator_types::options::{FileSettings, Strength};
+use icu_collections_sets::packed_vector::PackedVec;
+use std::test::Fail;
+
+/// A records file: two letters, and an accent with its class.
+const FILE: &[u8] = b"class 0301 230
+map 00E1 0061 0301
+w 0061 ; [2A100000.0500.0.0500.0]
+w 0062 ; [2A200000.0500.0.0500.0]
+w 0301 ; [0.8800.0.0500.0]
+";
+
+#[test]
+fn ok_set_of_ranges(rt: HostRuntime) -> Result<(), Fail> {
+    let set = sets::set_of_ranges(rt.alloc(), 0x61..=0x7A, 0xE0..=0xFF)?;
+    let smaller = sets::set_of_ranges(rt.alloc(), 0x61..=0x7A, 0x61..=0x62)?;
+    assert!(rt; sets::holds_both(&set, 'a', 'é'));
+    assert!(rt; sets::is_larger(&set, &smaller));
+    Ok(())
+}
+
+#[test]
+fn ok_trie_of_char(rt: HostRuntime) -> Result<(), Fail> {
+    let trie = code_point_tries::trie_of_char(rt.alloc(), 'é', 7)?;
+    let map = code_point_tries::map_of_char(rt.alloc(), '😀', 9)?;
+    assert!(rt; code_point_tries::reads_alike(&trie, 0x61, 0x1_F600));
+    assert_eq!(rt; code_point_tries::read_through(rt.alloc(), &map, '😀')?, 9);
+    Ok(())
+}
+
+#[test]
+fn ok_trie_of_pairs(rt: HostRuntime) -> Result<(), Fail> {
+    let pairs: [(&[u16], i32); 2] = [(&[0x61], 1), (&[0x61, 0x62], -2)];
+    let trie = unit_tries::trie_of_pairs(rt.alloc(), &pairs)?;
+    assert_eq!(rt; unit_tries::value_of_char(&trie, 'b'), None);
+    assert_eq!(rt; unit_tries::value_of_key(&trie, &[0x61, 0x62]), Some(-2));
+    assert_eq!(rt;
+        unit_tries::value_through(rt.alloc(), &pairs, 'a')?,
+        Some(1)
+    );
+    Ok(())
+}
+
+#[test]
+fn ok_pack_and_get(rt: HostRuntime) -> Result<(), Fail> {
+    let chars = PackedVec::from_slice(rt.alloc(), &['a', 'é'])?;
+    assert_eq!(rt; packed::pack_and_get(rt.alloc(), &[3, 5], 1)?, Some(5));
+    assert!(rt; packed::has_item(&chars, 'é'));
+    Ok(())
+}
+
+#[test]
+fn ok_chars_of_bytes(rt: HostRuntime) -> Result<(), Fail> {
+    let chars = decoded::chars_of_bytes(rt.alloc(), b"a\xFF")?;
+    assert_eq!(rt; chars.as_slice(), ['a', '\u{FFFD}'].as_slice());
+    assert_eq!(rt; decoded::count_chars(&[0x61, 0xD83D, 0xDE00]), 2);
+    Ok(())
+}
+
+#[test]
+fn ok_class_by_file(rt: HostRuntime) -> Result<(), Fail> {
+    let file = Records::read(rt.alloc(), FILE)?;
+    assert_eq!(rt; records::class_by_file(rt.alloc(), FILE, '\u{301}')?, 230);
+    assert!(rt; records::stands_alone(&file, 'a'));
+    Ok(())
+}
+
+#[test]
+fn ok_index_of_two(rt: HostRuntime) -> Result<(), Fail> {
+    let file = Records::read(rt.alloc(), FILE)?;
+    let index = names::index_of_two(rt.alloc(), file, b"b", b"ab")?;
+    assert_eq!(rt; names::count_equal(&index, b"b")?, 1);
+    assert_eq!(rt; names::first_name(&index), Some(b"ab".as_slice()));
+    Ok(())
+}
+
+#[test]
+fn ok_resolved_for(rt: HostRuntime) -> Result<(), Fail> {
+    let settings: FileSettings = Default::default();
+    let options = options::resolved_for(Strength::Primary, &settings);
+    assert_eq!(rt; options.strength, Strength::Primary);
+    Ok(())
+}
