@@ -98,18 +98,24 @@ fn ok_from_toml(rt: HostRuntime) -> Result<(), Fail> {
     Ok(())
 }
 
+// whether such a trie is got back
+fn made_comes_back<T: TrieValue>(
+    alloc: Global,
+    trie_type: TrieType,
+    blocks: usize,
+    first: T,
+    other: T,
+) -> Result<bool, Fail> {
+    comes_back(alloc, &trie(alloc, trie_type, blocks, first, other)?)
+}
+
 #[test]
 fn tries_come_back(rt: HostRuntime) -> Result<(), Fail> {
     let alloc = rt.alloc();
-    assert!(rt; comes_back(alloc, &trie(alloc, TrieType::Small, 64, 0u8, 255)?)?);
-    assert!(rt; comes_back(alloc, &trie(alloc, TrieType::Fast, 1024, 7u16, 0xFFFF)?)?);
-    assert!(rt; comes_back(alloc, &trie(alloc, TrieType::Small, 64, 0u32, 0xFFFF_FFFF)?)?);
-    assert!(rt;
-        comes_back(
-            alloc,
-            &trie(alloc, TrieType::Fast, 1024, '\u{10FFFF}', '\0')?
-        )?
-    );
+    assert!(rt; made_comes_back(alloc, TrieType::Small, 64, 0u8, 255)?);
+    assert!(rt; made_comes_back(alloc, TrieType::Fast, 1024, 7u16, 0xFFFF)?);
+    assert!(rt; made_comes_back(alloc, TrieType::Small, 64, 0u32, 0xFFFF_FFFF)?);
+    assert!(rt; made_comes_back(alloc, TrieType::Fast, 1024, '\u{10FFFF}', '\0')?);
     Ok(())
 }
 
