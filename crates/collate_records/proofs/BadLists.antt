@@ -1,17 +1,18 @@
 -- Full lists: how they are followed, and when they are bad.
-use Rattle.std.proofs.Common.{◌≡◌, ◌≢◌, ℕ, ◌+◌, ◌-◌, ◌<◌, ◌≤◌, List, [], ◌∷◌, ◌++◌, map, take, length, get_or, refl, sym, ap, ◌∙◌, subst, arith, inl, inr, ⊎_elim, Bool, true, false, not, ◌==◌, Option, Some, None, ◌↔◌, zero, suc, append-nil, flat_map, take_all}
+use Rattle.std.proofs.Common.{◌≡◌, ◌≢◌, ℕ, ◌+◌, ◌-◌, ◌<◌, ◌≤◌, List, [], ◌∷◌, ◌++◌, map, take, length, get_or, refl, sym, ap, ◌∙◌, subst, arith, inl, inr, ⊎_elim, Bool, true, false, not, ◌||◌, ◌==◌, Option, Some, None, ◌↔◌, zero, suc, append-nil, flat_map, take_all}
 use Rattle.std.specs.Bool.{IsTrue}
 use Rattle.std.specs.List.{slice_get, All}
 use Rattle.std.specs.Option.{is_some}
 use Rattle.std.proofs.lemmas.Bool.{false≢true}
 use Rattle.std.proofs.lemmas.List.Elements.{All-head, All-tail, All-more, All-weaker}
-use Rattle.collate_records.specs.declared.facts.Fact.{Fact}
+use Rattle.collate_records.specs.declared.canonical_part.CanonicalPart.{CanonicalPart}
 use Rattle.collate_records.specs.declared.rules.lists.Front.{Front}
-use Rattle.collate_records.specs.Sayings.{Saying, first_found, mapping_in, expanded, step_of, full_of}
-use Rattle.collate_records.specs.Rules.{any_step, compatibility_full_of, begins_with_mark, IsBadList, HasBadList}
-use Rattle.collate_records.specs.Facts.{stated, SaysSame, fact_character}
-use Rattle.collate_records.specs.Lists.{is_mark_at, IsFront, IsBadlyMapped}
-use Rattle.collate_records.proofs.SameFacts.{other_mapping, class_of-same, step_of-same, any_step-same}
+use Rattle.collate_records.specs.Record.{Record}
+use Rattle.collate_records.specs.Meaning.{first_found, mapping_in, compatibility_in, expanded, step_of, full_of, any_step}
+use Rattle.collate_records.specs.Rules.{is_mapped, IsBadlyMapped, compatibility_full_of, begins_with_mark, IsBadList, HasBadList}
+use Rattle.collate_records.specs.CanonicalParts.{in_full, SaysSame, subject_of, IsBadOfParts}
+use Rattle.collate_records.specs.Lists.{is_mark_at, IsFront}
+use Rattle.collate_records.proofs.SameParts.{other_mapping, class_of-same, step_of-same, any_step-same, parts_without_compatibility}
 
 pub expanded_none : (step : ℕ → List ℕ) (n c : ℕ) → n ≡ 0 → expanded step n c ≡ c ∷ []
 unfolding expanded
@@ -45,33 +46,33 @@ expanded_two step (suc n) c d e h s =
     ∙ ap (λ (l : List ℕ). expanded step n d ++ l) (append-nil (expanded step n e))
     ∙ ap (λ (m : ℕ). expanded step m d ++ expanded step m e) less
 
-mark_at_front : (sayings : List Saying) (list : List ℕ) → begins_with_mark sayings list ≡ is_mark_at sayings (slice_get list 0)
-mark_at_front sayings [] = refl
-mark_at_front sayings (c ∷ cs) = refl
+mark_at_front : (records : List Record) (list : List ℕ) → begins_with_mark records list ≡ is_mark_at records (slice_get list 0)
+mark_at_front records [] = refl
+mark_at_front records (c ∷ cs) = refl
 
 -- a list of more than eight characters is bad,
-pub bad_long : (sayings : List Saying) (list : List ℕ) (front : Front) → IsFront front list → 8 < front.count → IsBadList sayings list
-bad_long sayings list front h more = let count = h.1 in inl (omega arith)
+pub bad_long : (records : List Record) (list : List ℕ) (front : Front) → IsFront front list → 8 < front.count → IsBadList records list
+bad_long records list front h more = let count = h.1 in inl (omega arith)
 
 -- another one exactly if it begins with a mark
-pub bad_short : (sayings : List Saying) (list : List ℕ) (front : Front) (b : Bool) → IsFront front list → front.count ≤ 8 → b ≡ is_mark_at sayings front.first
-    → IsTrue b ↔ IsBadList sayings list
-bad_short sayings list front b h few e =
-    let same : b ≡ begins_with_mark sayings list = e ∙ ap (is_mark_at sayings) h.0 ∙ sym (mark_at_front sayings list) in
+pub bad_short : (records : List Record) (list : List ℕ) (front : Front) (b : Bool) → IsFront front list → front.count ≤ 8 → b ≡ is_mark_at records front.first
+    → IsTrue b ↔ IsBadList records list
+bad_short records list front b h few e =
+    let same : b ≡ begins_with_mark records list = e ∙ ap (is_mark_at records) h.0 ∙ sym (mark_at_front records list) in
     let count = h.1 in
     (λ t. inr (sym same ∙ t), λ bad. ⊎_elim (λ long. absurd (omega arith)) (λ marked. same ∙ marked) bad)
 
--- a mapped character is one of which a fact says something
-pub mapped_in_facts : (facts : List Fact) (c : ℕ) → is_some (first_found (mapping_in c) (map stated facts)) ≡ true
-    → (All (λ fact. c ≢ fact_character fact) facts) → ⊥
-mapped_in_facts [] c e apart = false≢true e
-mapped_in_facts (fact ∷ facts) c e apart =
-    let other : c ≢ fact_character fact = All-head (λ f. c ≢ fact_character f) fact facts apart in
-    mapped_in_facts facts c
-    (ap (λ (o : Option (List ℕ)). is_some (elim o as (λ _. Option (List ℕ)) [ Some y ↦ Some y | None ↦ first_found (mapping_in c) (map stated facts) ])) (sym (other_mapping fact c other)) ∙ e)
-    (All-tail (λ f. c ≢ fact_character f) fact facts apart)
+-- a mapped character is one of which a part says something
+pub mapped_in_parts : (parts : List CanonicalPart) (c : ℕ) → is_some (first_found (mapping_in c) (map in_full parts)) ≡ true
+    → (All (λ part. c ≢ subject_of part) parts) → ⊥
+mapped_in_parts [] c e apart = false≢true e
+mapped_in_parts (part ∷ parts) c e apart =
+    let other : c ≢ subject_of part = All-head (λ f. c ≢ subject_of f) part parts apart in
+    mapped_in_parts parts c
+    (ap (λ (o : Option (List ℕ)). is_some (elim o as (λ _. Option (List ℕ)) [ Some y ↦ Some y | None ↦ first_found (mapping_in c) (map in_full parts) ])) (sym (other_mapping part c other)) ∙ e)
+    (All-tail (λ f. c ≢ subject_of f) part parts apart)
 
-begins-same : (lines others : List Saying) (list : List ℕ) → SaysSame lines others → begins_with_mark others list ≡ begins_with_mark lines list
+begins-same : (lines others : List Record) (list : List ℕ) → SaysSame lines others → begins_with_mark others list ≡ begins_with_mark lines list
 begins-same lines others [] same = refl
 begins-same lines others (c ∷ cs) same = ap (λ (k : ℕ). not (k == 0)) (sym (class_of-same lines others c same))
 
@@ -92,44 +93,58 @@ expanded_same step other agree (suc n) c =
     ∙ after_same (expanded step n) (expanded other n) c (other c) (λ d. expanded_same step other agree n d)
     ∙ sym (expanded_after other n c)
 
-IsBadList-same : (lines others : List Saying) (list further : List ℕ) → SaysSame lines others → list ≡ further → IsBadList lines list → IsBadList others further
+IsBadList-same : (lines others : List Record) (list further : List ℕ) → SaysSame lines others → list ≡ further → IsBadList lines list → IsBadList others further
 IsBadList-same lines others list further same e bad =
     subst (λ (l : List ℕ). IsBadList others l) e
     (⊎_elim (λ long. inl long) (λ marked. inr (begins-same lines others list same ∙ marked)) bad)
 
-pub HasBadList-same : (lines others : List Saying) → SaysSame lines others → HasBadList lines → HasBadList others
+pub HasBadList-same : (lines others : List Record) → SaysSame lines others → HasBadList lines → HasBadList others
 HasBadList-same lines others same bad =
     let c = bad.0 in (
-      c,
-      subst (λ (o : Option (List ℕ)). IsTrue (is_some o)) (same.mappings c) bad.1,
-      bad.2,
+      c, (
+      subst (λ (o : Option (List ℕ)). IsTrue (is_some (first_found (mapping_in c) others) || is_some o)) (same.compatibilities c)
+          (subst (λ (o : Option (List ℕ)). IsTrue (is_some o || is_some (first_found (compatibility_in c) lines))) (same.mappings c) bad.1.0),
+      bad.1.1,
       ⊎_elim
           (λ canonical. inl (IsBadList-same lines others (full_of lines c) (full_of others c) same
           (expanded_same (step_of lines) (step_of others) (λ d. step_of-same lines others d same) 0x110000 c) canonical))
           (λ all. inr (IsBadList-same lines others (compatibility_full_of lines c) (compatibility_full_of others c) same
           (expanded_same (any_step lines) (any_step others) (λ d. any_step-same lines others d same) 0x110000 c) all))
-          bad.3,
+          bad.1.2),
     )
 
 pub HasBadList-none : HasBadList [] → ⊥
-HasBadList-none bad = false≢true bad.1
+HasBadList-none bad = false≢true bad.1.0
 
--- no fact so far is on a badly mapped character, nor is one more
-pub bad_more : (facts : List Fact) (i : ℕ) (d : Fact) (c : ℕ) (b : Bool) → i < length facts
-    → All (λ fact. IsBadlyMapped (map stated facts) (fact_character fact) → ⊥) (take i facts)
-    → c ≡ fact_character (get_or facts i d) → (IsBadlyMapped (map stated facts) c → IsTrue b) → b ≡ false
-    → All (λ fact. IsBadlyMapped (map stated facts) (fact_character fact) → ⊥) (take (i + 1) facts)
-bad_more facts i d c b within before e holds is_false =
-    let P : ℕ → Type 0 = λ n. IsBadlyMapped (map stated facts) n → ⊥ in
-    All-more (λ fact. IsBadlyMapped (map stated facts) (fact_character fact) → ⊥) facts i d within before
+-- among parts the mapped characters are those with a canonical mapping
+pub mapped_parts : (parts : List CanonicalPart) (c : ℕ) → is_mapped (map in_full parts) c ≡ is_some (first_found (mapping_in c) (map in_full parts))
+mapped_parts parts c =
+    ap (λ (o : Option (List ℕ)). is_some (first_found (mapping_in c) (map in_full parts)) || is_some o) (parts_without_compatibility parts c)
+    ∙ or_false (is_some (first_found (mapping_in c) (map in_full parts)))
+  where
+    or_false : (b : Bool) → (b || false) ≡ b
+    or_false true = refl
+    or_false false = refl
+
+pub bad_of_parts : (parts : List CanonicalPart) (c : ℕ) → IsBadOfParts (map in_full parts) c → IsBadlyMapped (map in_full parts) c
+bad_of_parts parts c bad = (mapped_parts parts c ∙ bad.0, bad.1, bad.2)
+
+-- no part so far is on a badly mapped character, nor is one more
+pub bad_more : (parts : List CanonicalPart) (i : ℕ) (d : CanonicalPart) (c : ℕ) (b : Bool) → i < length parts
+    → All (λ part. IsBadOfParts (map in_full parts) (subject_of part) → ⊥) (take i parts)
+    → c ≡ subject_of (get_or parts i d) → (IsBadOfParts (map in_full parts) c → IsTrue b) → b ≡ false
+    → All (λ part. IsBadOfParts (map in_full parts) (subject_of part) → ⊥) (take (i + 1) parts)
+bad_more parts i d c b within before e holds is_false =
+    let P : ℕ → Type 0 = λ n. IsBadOfParts (map in_full parts) n → ⊥ in
+    All-more (λ part. IsBadOfParts (map in_full parts) (subject_of part) → ⊥) parts i d within before
     (subst P e (λ bad. false≢true (sym is_false ∙ holds bad)))
 
--- where no fact is on a badly mapped character, there is none
-pub bad_none : (facts : List Fact) (i : ℕ) → length facts ≤ i
-    → All (λ fact. IsBadlyMapped (map stated facts) (fact_character fact) → ⊥) (take i facts) → HasBadList (map stated facts) → ⊥
-bad_none facts i past before bad =
-    let P : Fact → Type 0 = λ fact. IsBadlyMapped (map stated facts) (fact_character fact) → ⊥ in
-    let all : All P facts = subst (λ (l : List Fact). All P l) (take_all i facts past) before in
-    mapped_in_facts facts bad.0 bad.1
-    (All-weaker P (λ fact. bad.0 ≢ fact_character fact)
-    (λ fact none same. let Q : ℕ → Type 0 = λ n. IsBadlyMapped (map stated facts) n in none (subst Q same (bad.1, bad.2, bad.3))) facts all)
+-- where no part is on a badly mapped character, there is none
+pub bad_none : (parts : List CanonicalPart) (i : ℕ) → length parts ≤ i
+    → All (λ part. IsBadOfParts (map in_full parts) (subject_of part) → ⊥) (take i parts) → HasBadList (map in_full parts) → ⊥
+bad_none parts i past before bad =
+    let P : CanonicalPart → Type 0 = λ part. IsBadOfParts (map in_full parts) (subject_of part) → ⊥ in
+    let all : All P parts = subst (λ (l : List CanonicalPart). All P l) (take_all i parts past) before in
+    mapped_in_parts parts bad.0 (sym (mapped_parts parts bad.0) ∙ bad.1.0)
+    (All-weaker P (λ part. bad.0 ≢ subject_of part)
+    (λ part none same. let Q : ℕ → Type 0 = λ n. IsBadOfParts (map in_full parts) n in none (subst Q same (sym (mapped_parts parts bad.0) ∙ bad.1.0, bad.1.1, bad.1.2))) parts all)

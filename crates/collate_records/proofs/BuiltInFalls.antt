@@ -5,8 +5,7 @@ use Rattle.std.specs.Option.{unwrap_or}
 use Rattle.std.proofs.lemmas.Bool.Decides.{eqb_tells, nat_tests}
 use Rattle.std.proofs.lemmas.List.Elements.{All-nil, All-cons, All-contains}
 use Rattle.icu_normalizer_core.specs.BuiltIn.{is_syllable, is_jamo, syllable_step, singled_out, built_in_step, built_in_compatibility_step}
-use Rattle.collate_records.specs.Sayings.{is_built_in}
-use Rattle.collate_records.specs.Rules.{any_step}
+use Rattle.collate_records.specs.Meaning.{is_built_in, any_step, else_mapped}
 
 -- each of these is lower
 abbrev Falls : ℕ → List ℕ → Type 0
@@ -67,9 +66,14 @@ step-falls : (c : ℕ) → FallsBy c (built_in_step c)
 unfolding built_in_step
 step-falls c = step_by-falls c (is_syllable c) (is_jamo c || (c == 0xfffd)) refl
 
-any-falls : (p o : Option (List ℕ)) (b : Bool) (c : ℕ) → FallsBy c p → FallsBy c o → Falls c (unwrap_or p (cond b (unwrap_or o []) []))
+mapped-falls : (c : ℕ) (ds : List ℕ) → Falls c ds → Falls c (else_mapped ds [])
+mapped-falls c [] h = h
+mapped-falls c (d ∷ ds) h = h
+
+any-falls : (p o : Option (List ℕ)) (b : Bool) (c : ℕ) → FallsBy c p → FallsBy c o
+    → Falls c (unwrap_or p (else_mapped (cond b (unwrap_or o []) []) (cond b [] [])))
 any-falls (Some ds) o b c h k = h
-any-falls None o true c h k = k
+any-falls None o true c h k = mapped-falls c (unwrap_or o []) k
 any-falls None o false c h k = All-nil _
 
 pub built_in_falls : (c d : ℕ) → Contains (any_step [] c) d → d < c

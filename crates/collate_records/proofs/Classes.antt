@@ -5,11 +5,11 @@ use Rattle.std.proofs.lemmas.Bool.{cases_lt}
 use Rattle.std.proofs.lemmas.List.Elements.{All-from_get_or}
 use Rattle.icu_normalizer_core.specs.BuiltIn.{built_in_class}
 use Rattle.collate_records.specs.declared.rule.Rule.TheVariants.{C3}
-use Rattle.collate_records.specs.Sayings.{Saying, nothing, class, mapping, weights}
-use Rattle.collate_records.specs.Rules.{IsBadClass, saying_at}
+use Rattle.collate_records.specs.Record.{Record, nothing, class, mapping, compatibility, weights, range, digit, setting}
+use Rattle.collate_records.specs.Rules.{IsBadClass, record_at}
 use Rattle.collate_records.specs.Offenders.{NoneOffends}
 use Rattle.std.proofs.lemmas.List.{length-map}
-use Rattle.collate_records.specs.Files.{IsAccepted, lines_of, read_line, sayings_of}
+use Rattle.collate_records.specs.Files.{IsAccepted, lines_of, read_line, records_of}
 use Rattle.collate_records.specs.Accepted.{HasSmallClass}
 
 record IsSmall (o : Option ℕ) : Type 0 where
@@ -36,19 +36,23 @@ built_in_class-small c k e =
     (either _ _ _ (small-some 0 (omega arith)) none)))))
     in small.below k e
 
-HasSmallClass-from_saying : (s : Saying) → (IsBadClass s → ⊥) → HasSmallClass s
-HasSmallClass-from_saying nothing h = tt
-HasSmallClass-from_saying (class c k) h = elim (cases_lt k 256) [ inl small ↦ small | inr large ↦ absurd (h (inr (omega arith), λ e. omega (arith, built_in_class-small c k e))) ]
-HasSmallClass-from_saying (mapping c ds x) h = tt
-HasSmallClass-from_saying (weights c es) h = tt
+HasSmallClass-from_record : (s : Record) → (IsBadClass s → ⊥) → HasSmallClass s
+HasSmallClass-from_record nothing h = tt
+HasSmallClass-from_record (class c k) h = elim (cases_lt k 256) [ inl small ↦ small | inr large ↦ absurd (h (inr (omega arith), λ e. omega (arith, built_in_class-small c k e))) ]
+HasSmallClass-from_record (mapping c ds x) h = tt
+HasSmallClass-from_record (compatibility c ds) h = tt
+HasSmallClass-from_record (weights l p t es) h = tt
+HasSmallClass-from_record (range r) h = tt
+HasSmallClass-from_record (digit c v) h = tt
+HasSmallClass-from_record (setting s) h = tt
 
 -- where no line offends against C3, classes are small
-pub All-HasSmallClass : (sayings : List Saying) → NoneOffends C3 sayings → All HasSmallClass sayings
-All-HasSmallClass sayings keeps =
-    All-from_get_or HasSmallClass sayings nothing
-    (λ i below. rw (← unwrap_or-slice_get sayings i nothing) (HasSmallClass-from_saying (saying_at sayings i) (keeps i below)))
+pub All-HasSmallClass : (records : List Record) → NoneOffends C3 records → All HasSmallClass records
+All-HasSmallClass records keeps =
+    All-from_get_or HasSmallClass records nothing
+    (λ i below. rw (← unwrap_or-slice_get records i nothing) (HasSmallClass-from_record (record_at records i) (keeps i below)))
 
 -- an accepted file gives small classes
-pub accepted_classes : (file : List ℕ) → IsAccepted file → All HasSmallClass (sayings_of file)
+pub accepted_classes : (file : List ℕ) → IsAccepted file → All HasSmallClass (records_of file)
 accepted_classes file accepted =
-    All-HasSmallClass (sayings_of file) (λ i lt offends. accepted C3 i (rw (← length-map (lines_of file) read_line) lt, offends))
+    All-HasSmallClass (records_of file) (λ i lt offends. accepted C3 i (rw (← length-map (lines_of file) read_line) lt, offends))

@@ -10,27 +10,27 @@ use Rattle.collate_records.specs.declared.rule.Rule.TheVariants.{Grammar, V14}
 use Rattle.collate_records.specs.declared.rule.RecordsError.{RecordsError}
 use Rattle.collate_records.specs.declared.rule.RecordsError.TheVariants.{Fault, Memory}
 use Rattle.std.specs.Result.{MatchResult}
-use Rattle.collate_records.specs.declared.sayings.Saying.{Saying as Line}
-use Rattle.collate_records.specs.Sayings.{nothing, said}
-use Rattle.collate_records.specs.Grammar.{saying_of}
+use Rattle.collate_records.specs.declared.record.Record.{Record as Line}
+use Rattle.collate_records.specs.Known.{known_record_of}
+use Rattle.collate_records.specs.Record.{nothing, said}
 use Rattle.collate_records.specs.Rules.{Offends, rank}
-use Rattle.collate_records.specs.Files.{ended, ends_empty, size_limit, lines_of, read_line, sayings_in, sayings_of, PassesSize, IsOutside, Breaks, IsEarlier, IsAccepted, IsFirstFault, Refuses}
-use Rattle.collate_records.specs.Phases.{AreSound, IsUnsound, RefusesLine, KeepsBelow, BreaksFirst, RefusesSayings, RefusesLines}
+use Rattle.collate_records.specs.Files.{ended, ends_empty, size_limit, lines_of, read_line, records_in, records_of, PassesSize, IsOutside, Breaks, IsEarlier, IsAccepted, IsFirstFault, Refuses}
+use Rattle.collate_records.specs.Phases.{AreSound, IsUnsound, RefusesLine, KeepsBelow, BreaksFirst, RefusesRecords, RefusesLines}
 use Rattle.collate_records.proofs.Ranks.{same_from_rank}
 
 -- past the last line there is nothing, which is in the grammar
 outside_within : (lines : List (List ℕ)) (i : ℕ) → IsOutside lines i → i < length lines
 outside_within lines i outside =
     ⊎_elim (λ (within : i < length lines). within)
-    (λ (past : length lines ≤ i). let clash : Some nothing ≡ None = ap saying_of (sym (get_or_past lines i [] past)) ∙ outside in cc)
+    (λ (past : length lines ≤ i). let clash : Some nothing ≡ None = ap known_record_of (sym (get_or_past lines i [] past)) ∙ outside in cc)
     (cases_lt i (length lines))
 
--- as many sayings as lines
-as_many : (file : List ℕ) → length (sayings_of file) ≡ length (lines_of file)
+-- as many records as lines
+as_many : (file : List ℕ) → length (records_of file) ≡ length (lines_of file)
 as_many file = length-map (lines_of file) read_line
 
 -- a file of sound lines that keeps each other rule
-pub accepted : (file : List ℕ) → ((i : ℕ) → PassesSize file i → ⊥) → AreSound (lines_of file) (length (lines_of file)) → KeepsBelow 26 (sayings_of file) → IsAccepted file
+pub accepted : (file : List ℕ) → ((i : ℕ) → PassesSize file i → ⊥) → AreSound (lines_of file) (length (lines_of file)) → KeepsBelow 26 (records_of file) → IsAccepted file
 accepted file fits sound keeps Grammar i breaks =
     ⊎_elim (λ (outside : IsOutside (lines_of file) i). sound.inside i (outside_within (lines_of file) i outside) outside) (fits i) breaks
 accepted file fits sound keeps V14 i breaks = sound.apart i breaks.0 breaks.3
@@ -71,24 +71,24 @@ first_past file i past sound = record {
 }
 
 -- a breach of a rule from rank 1 on
-of_rule : (file : List ℕ) (rule : Rule) (i : ℕ) → 0 < rank rule → i < length (sayings_of file) → Offends rule (sayings_of file) i → Breaks rule file i
+of_rule : (file : List ℕ) (rule : Rule) (i : ℕ) → 0 < rank rule → i < length (records_of file) → Offends rule (records_of file) i → Breaks rule file i
 of_rule file Grammar i ranked within offends = absurd (omega arith)
 of_rule file V14 i ranked within offends = absurd (omega arith)
 of_rule file rule i ranked within offends = (subst (λ (n : ℕ). i < n) (as_many file) within, offends)
 
 -- no breach comes before the first line that breaks the first rule broken
-none_lower : (file : List ℕ) (rule : Rule) (i : ℕ) → ((j : ℕ) → PassesSize file j → ⊥) → AreSound (lines_of file) (length (lines_of file)) → BreaksFirst (sayings_of file) rule i → (other : Rule) (j : ℕ) → IsEarlier other j rule i → Breaks other file j → ⊥
+none_lower : (file : List ℕ) (rule : Rule) (i : ℕ) → ((j : ℕ) → PassesSize file j → ⊥) → AreSound (lines_of file) (length (lines_of file)) → BreaksFirst (records_of file) rule i → (other : Rule) (j : ℕ) → IsEarlier other j rule i → Breaks other file j → ⊥
 none_lower file rule i fits sound breach Grammar j earlier breaks =
     ⊎_elim (λ (outside : IsOutside (lines_of file) j). sound.inside j (outside_within (lines_of file) j outside) outside) (fits j) breaks
 none_lower file rule i fits sound breach V14 j earlier breaks = sound.apart j breaks.0 breaks.3
 none_lower file rule i fits sound breach other j earlier breaks =
     ⊎_elim (λ (lower : rank other < rank rule). breach.lower other j (omega arith) lower (subst (λ (n : ℕ). j < n) (sym (as_many file)) breaks.0) breaks.1)
     (λ (same : (rank other ≡ rank rule) × (j < i)).
-    breach.least j same.1 (subst (λ (r : Rule). Offends r (sayings_of file) j) (same_from_rank other rule (omega arith) same.0) breaks.1))
+    breach.least j same.1 (subst (λ (r : Rule). Offends r (records_of file) j) (same_from_rank other rule (omega arith) same.0) breaks.1))
     earlier
 
 -- the first line that breaks another rule
-pub first_breach : (file : List ℕ) (rule : Rule) (i : ℕ) → ((j : ℕ) → PassesSize file j → ⊥) → AreSound (lines_of file) (length (lines_of file)) → BreaksFirst (sayings_of file) rule i → IsFirstFault file rule i
+pub first_breach : (file : List ℕ) (rule : Rule) (i : ℕ) → ((j : ℕ) → PassesSize file j → ⊥) → AreSound (lines_of file) (length (lines_of file)) → BreaksFirst (records_of file) rule i → IsFirstFault file rule i
 first_breach file rule i fits sound breach = record {
   breaks = of_rule file rule i breach.ranked breach.within breach.offends;
   first = none_lower file rule i fits sound breach;
@@ -100,9 +100,9 @@ refuses_line file count (Fault fault) fits within (i, line, below, unsound, soun
 refuses_line file count Memory fits within refused = tt
 
 -- and what the rules answer
-pub refuses_sayings : (file : List ℕ) (error : RecordsError) → ((j : ℕ) → PassesSize file j → ⊥) → AreSound (lines_of file) (length (lines_of file)) → RefusesSayings (sayings_of file) error → Refuses file error
-refuses_sayings file (Fault fault) fits sound (i, line, breach) = (i, line, first_breach file fault.rule i fits sound breach)
-refuses_sayings file Memory fits sound refused = tt
+pub refuses_records : (file : List ℕ) (error : RecordsError) → ((j : ℕ) → PassesSize file j → ⊥) → AreSound (lines_of file) (length (lines_of file)) → RefusesRecords (records_of file) error → Refuses file error
+refuses_records file (Fault fault) fits sound (i, line, breach) = (i, line, first_breach file fault.rule i fits sound breach)
+refuses_records file Memory fits sound refused = tt
 
 -- a part of a list passes a test no more often
 count_part : (p : ℕ → Bool) (n : ℕ) (bs : List ℕ) → count_by p (take n bs) ≤ count_by p bs
@@ -144,14 +144,14 @@ past_fault file lines i error e past sound is =
     subst (Refuses file) (sym is) (i, refl, first_past file i past (subst (λ (texts : List (List ℕ)). AreSound texts i) e sound))
 
 -- what the reader of a file that is not too long answers
-pub answers_within : {V : Type 0} (items : V → List Line) (file : List ℕ) (lines : List (List ℕ)) (answer : Result V RecordsError) → lines ≡ lines_of file → ((i : ℕ) → PassesSize file i → ⊥) → MatchResult answer (λ sayings. AreSound lines (length lines) × (map said (items sayings) ≡ sayings_in lines) × KeepsBelow 26 (sayings_in lines)) (RefusesLines lines) → MatchResult answer (λ sayings. IsAccepted file × (map said (items sayings) ≡ sayings_of file)) (Refuses file)
+pub answers_within : {V : Type 0} (items : V → List Line) (file : List ℕ) (lines : List (List ℕ)) (answer : Result V RecordsError) → lines ≡ lines_of file → ((i : ℕ) → PassesSize file i → ⊥) → MatchResult answer (λ records. AreSound lines (length lines) × (map said (items records) ≡ records_in lines) × KeepsBelow 26 (records_in lines)) (RefusesLines lines) → MatchResult answer (λ records. IsAccepted file × (map said (items records) ≡ records_of file)) (Refuses file)
 answers_within {V} items file lines answer e fits given =
-    subst (λ (texts : List (List ℕ)). MatchResult answer (λ sayings. AreSound texts (length texts) × (map said (items sayings) ≡ sayings_in texts) × KeepsBelow 26 (sayings_in texts)) (RefusesLines texts) → MatchResult answer (λ sayings. IsAccepted file × (map said (items sayings) ≡ sayings_of file)) (Refuses file))
+    subst (λ (texts : List (List ℕ)). MatchResult answer (λ records. AreSound texts (length texts) × (map said (items records) ≡ records_in texts) × KeepsBelow 26 (records_in texts)) (RefusesLines texts) → MatchResult answer (λ records. IsAccepted file × (map said (items records) ≡ records_of file)) (Refuses file))
     (sym e) (of_file answer) given
   where
-    of_file : (r : Result V RecordsError) → MatchResult r (λ sayings. AreSound (lines_of file) (length (lines_of file)) × (map said (items sayings) ≡ sayings_of file) × KeepsBelow 26 (sayings_of file)) (RefusesLines (lines_of file)) → MatchResult r (λ sayings. IsAccepted file × (map said (items sayings) ≡ sayings_of file)) (Refuses file)
-    of_file (Ok sayings) (sound, same, keeps) = (accepted file fits sound keeps, same)
+    of_file : (r : Result V RecordsError) → MatchResult r (λ records. AreSound (lines_of file) (length (lines_of file)) × (map said (items records) ≡ records_of file) × KeepsBelow 26 (records_of file)) (RefusesLines (lines_of file)) → MatchResult r (λ records. IsAccepted file × (map said (items records) ≡ records_of file)) (Refuses file)
+    of_file (Ok records) (sound, same, keeps) = (accepted file fits sound keeps, same)
     of_file (Err error) refused =
         ⊎_elim (λ (lines : RefusesLine (lines_of file) (length (lines_of file)) error). refuses_line file (length (lines_of file)) error (λ j past. absurd (fits j past)) (omega arith) lines)
-        (λ (rules : AreSound (lines_of file) (length (lines_of file)) × RefusesSayings (sayings_of file) error). refuses_sayings file error fits rules.0 rules.1)
+        (λ (rules : AreSound (lines_of file) (length (lines_of file)) × RefusesRecords (records_of file) error). refuses_records file error fits rules.0 rules.1)
         refused

@@ -1,7 +1,7 @@
 -- the full list of a character, step by step
 use Rattle.std.proofs.Common.{◌≡◌, ℕ, zero, suc, ◌-◌, ◌==◌, cond, List, [], ◌∷◌, ◌++◌, flat_map, refl, sym, ap, ◌∙◌, append-nil, append_assoc, arith, false, Result, Ok, Err, OnErr, sub-one}
 use Rattle.std.proofs.lemmas.Bool.Decides.{nat_tests}
-use Rattle.collate_records.specs.Sayings.{expanded}
+use Rattle.collate_records.specs.Meaning.{expanded}
 use Rattle.collate_records.specs.Tables.{AddsFront}
 
 -- what at most n steps leave, by what the first of them gives

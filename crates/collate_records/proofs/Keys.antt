@@ -1,5 +1,5 @@
 -- How many lines of one kind an accepted file has: each is for a character of its own, and few are named.
-use Rattle.std.proofs.Common.{◌≡◌, ℕ, zero, suc, ◌+◌, ◌<◌, ◌≤◌, ◌⊎◌, inl, inr, ⊎_elim, Bool, true, false, cond, ◌||◌, eqb, List, [], ◌∷◌, ◌++◌, length, map, take, get_or, Option, Some, None, refl, sym, ap, ◌∙◌, subst, arith, append-nil, length-append}
+use Rattle.std.proofs.Common.{◌≡◌, ℕ, zero, suc, ◌+◌, ◌<◌, ◌≤◌, ◌⊎◌, inl, inr, ⊎_elim, Bool, true, false, cond, ◌||◌, ◌&&◌, eqb, List, [], ◌∷◌, ◌++◌, length, map, take, get_or, Option, Some, None, refl, sym, ap, ◌∙◌, subst, arith, append-nil, length-append}
 use Rattle.std.specs.Prelude.{flat_map}
 use Rattle.std.specs.Bool.{IsTrue}
 use Rattle.std.specs.Cmp.{nat_eq_equiv}
@@ -15,23 +15,24 @@ use Rattle.std.proofs.lemmas.Map.Made.{length-le_from_is_member}
 use Rattle.std.proofs.lemmas.Option.{unwrap_or-slice_get}
 use Rattle.icu_collator_types.specs.declared.elements.Element.{Element}
 use Rattle.collate_records.specs.declared.rule.Rule.TheVariants.{Grammar, Limit, V14}
-use Rattle.collate_records.specs.Sayings.{Saying, said, nothing, class, mapping, weights, first_found, class_in, mapping_in, elements_in}
-use Rattle.collate_records.specs.Rules.{saying_at, named, different, is_second, Repeats}
+use Rattle.collate_records.specs.Record.{Record, said, nothing, class, mapping, compatibility, weights, range, digit, setting, root, tailoring, lone_weights}
+use Rattle.collate_records.specs.Meaning.{first_found, class_in, mapping_in, lone_elements_in}
+use Rattle.collate_records.specs.Rules.{record_at, named, names_in, different, is_second, Repeats}
 use Rattle.collate_records.specs.Offenders.{NoneOffends}
-use Rattle.collate_records.specs.Files.{IsAccepted, lines_of, read_line, sayings_of}
-use Rattle.collate_records.specs.declared.sayings.Saying.{Saying as Line}
+use Rattle.collate_records.specs.Files.{IsAccepted, lines_of, read_line, records_of}
+use Rattle.collate_records.specs.declared.record.Record.{Record as Line}
 use Rattle.collate_records.proofs.Limits.{said_of}
 use Rattle.collate_records.specs.Tables.{class_key, mapping_key, weights_key}
 
 -- a line is for one character, as others of its kind are for theirs
-pub record IsKeyOf (key : Saying → List ℕ) (s : Saying) (c : ℕ) : Type 0 where
+pub record IsKeyOf (key : Record → List ℕ) (s : Record) (c : ℕ) : Type 0 where
   pub is : key s ≡ c ∷ []
-  pub second : (t : Saying) → list_any (λ d. eqb c d) (key t) ≡ is_second t s
+  pub second : (t : Record) → list_any (λ d. eqb c d) (key t) ≡ is_second t s
 
 -- a kind of lines: those that are for one character each, which they name
-pub record IsKind (key : Saying → List ℕ) : Type 0 where
-  pub each : (s : Saying) → (key s ≡ []) ⊎ ((c : ℕ) × IsKeyOf key s c)
-  pub names : (s : Saying) (q : ℕ) → list_any (λ d. eqb q d) (key s) ≡ true → list_any (λ d. eqb q d) (named s) ≡ true
+pub record IsKind (key : Record → List ℕ) : Type 0 where
+  pub each : (s : Record) → (key s ≡ []) ⊎ ((c : ℕ) × IsKeyOf key s c)
+  pub names : (s : Record) (q : ℕ) → list_any (λ d. eqb q d) (key s) ≡ true → list_any (λ d. eqb q d) (named s) ≡ true
 
 or_false : (b : Bool) → (b || false) ≡ b
 or_false true = refl
@@ -55,68 +56,124 @@ not_true false h = refl
 turned : (c d : ℕ) → (eqb c d || false) ≡ eqb d c
 turned c d = or_false (eqb c d) ∙ grind (arith, nat_tests)
 
-class_second : (c k : ℕ) (t : Saying) → list_any (λ d. eqb c d) (class_key t) ≡ is_second t (class c k)
+class_second : (c k : ℕ) (t : Record) → list_any (λ d. eqb c d) (class_key t) ≡ is_second t (class c k)
 class_second c k nothing = refl
 class_second c k (class d l) = turned c d
 class_second c k (mapping d ds x) = refl
-class_second c k (weights d es) = refl
+class_second c k (compatibility d ds) = refl
+class_second c k (weights l p t es) = refl
+class_second c k (range r) = refl
+class_second c k (digit d v) = refl
+class_second c k (setting s) = refl
 
 pub class_kind : IsKind class_key
 class_kind = record { each = one; names = within }
   where
-    one : (s : Saying) → (class_key s ≡ []) ⊎ ((c : ℕ) × IsKeyOf class_key s c)
+    one : (s : Record) → (class_key s ≡ []) ⊎ ((c : ℕ) × IsKeyOf class_key s c)
     one nothing = inl refl
     one (class c k) = inr (c, record { is = refl; second = class_second c k })
     one (mapping c ds x) = inl refl
-    one (weights c es) = inl refl
+    one (compatibility d ds) = inl refl
+    one (weights l p t es) = inl refl
+    one (range r) = inl refl
+    one (digit d v) = inl refl
+    one (setting s) = inl refl
 
-    within : (s : Saying) (q : ℕ) → list_any (λ d. eqb q d) (class_key s) ≡ true → list_any (λ d. eqb q d) (named s) ≡ true
+    within : (s : Record) (q : ℕ) → list_any (λ d. eqb q d) (class_key s) ≡ true → list_any (λ d. eqb q d) (named s) ≡ true
     within nothing q h = h
     within (class c k) q h = h
     within (mapping c ds x) q h = absurd (false≢true h)
-    within (weights c es) q h = absurd (false≢true h)
+    within (compatibility d ds) q h = absurd (false≢true h)
+    within (weights l p t es) q h = absurd (false≢true h)
+    within (range r) q h = absurd (false≢true h)
+    within (digit d v) q h = absurd (false≢true h)
+    within (setting s) q h = absurd (false≢true h)
 
-mapping_second : (c : ℕ) (cs : List ℕ) (x : Bool) (t : Saying) → list_any (λ d. eqb c d) (mapping_key t) ≡ is_second t (mapping c cs x)
+mapping_second : (c : ℕ) (cs : List ℕ) (x : Bool) (t : Record) → list_any (λ d. eqb c d) (mapping_key t) ≡ is_second t (mapping c cs x)
 mapping_second c cs x nothing = refl
 mapping_second c cs x (class d l) = refl
 mapping_second c cs x (mapping d ds y) = turned c d
-mapping_second c cs x (weights d es) = refl
+mapping_second c cs x (compatibility d ds) = refl
+mapping_second c cs x (weights l p t es) = refl
+mapping_second c cs x (range r) = refl
+mapping_second c cs x (digit d v) = refl
+mapping_second c cs x (setting s) = refl
 
 pub mapping_kind : IsKind mapping_key
 mapping_kind = record { each = one; names = within }
   where
-    one : (s : Saying) → (mapping_key s ≡ []) ⊎ ((c : ℕ) × IsKeyOf mapping_key s c)
+    one : (s : Record) → (mapping_key s ≡ []) ⊎ ((c : ℕ) × IsKeyOf mapping_key s c)
     one nothing = inl refl
     one (class c k) = inl refl
     one (mapping c ds x) = inr (c, record { is = refl; second = mapping_second c ds x })
-    one (weights c es) = inl refl
+    one (compatibility d ds) = inl refl
+    one (weights l p t es) = inl refl
+    one (range r) = inl refl
+    one (digit d v) = inl refl
+    one (setting s) = inl refl
 
-    within : (s : Saying) (q : ℕ) → list_any (λ d. eqb q d) (mapping_key s) ≡ true → list_any (λ d. eqb q d) (named s) ≡ true
+    within : (s : Record) (q : ℕ) → list_any (λ d. eqb q d) (mapping_key s) ≡ true → list_any (λ d. eqb q d) (named s) ≡ true
     within nothing q h = h
     within (class c k) q h = absurd (false≢true h)
     within (mapping c ds x) q h = or_left (eqb q c) (list_any (λ d. eqb q d) ds) (sym (or_false (eqb q c)) ∙ h)
-    within (weights c es) q h = absurd (false≢true h)
+    within (compatibility d ds) q h = absurd (false≢true h)
+    within (weights l p t es) q h = absurd (false≢true h)
+    within (range r) q h = absurd (false≢true h)
+    within (digit d v) q h = absurd (false≢true h)
+    within (setting s) q h = absurd (false≢true h)
 
-weights_second : (c : ℕ) (es : List Element) (t : Saying) → list_any (λ d. eqb c d) (weights_key t) ≡ is_second t (weights c es)
+and_false : (b : Bool) → (b && false) ≡ false
+and_false true = refl
+and_false false = refl
+
+and_true : (b : Bool) → (b && true) ≡ b
+and_true true = refl
+and_true false = refl
+
+weights_second : (c : ℕ) (es : List Element) (t : Record) → list_any (λ d. eqb c d) (weights_key t) ≡ is_second t (lone_weights c es)
 weights_second c es nothing = refl
 weights_second c es (class d l) = refl
 weights_second c es (mapping d ds x) = refl
-weights_second c es (weights d fs) = turned c d
+weights_second c es (compatibility d ds) = refl
+weights_second c es (weights root [] [] fs) = refl
+weights_second c es (weights root [] (d ∷ []) fs) = turned c d ∙ sym (and_true (eqb d c))
+weights_second c es (weights root [] (d ∷ e ∷ ds) fs) = sym (and_false (eqb d c))
+weights_second c es (weights root (p ∷ ps) text fs) = refl
+weights_second c es (weights tailoring prefix text fs) = refl
+weights_second c es (range r) = refl
+weights_second c es (digit d v) = refl
+weights_second c es (setting s) = refl
 
 pub weights_kind : IsKind weights_key
 weights_kind = record { each = one; names = within }
   where
-    one : (s : Saying) → (weights_key s ≡ []) ⊎ ((c : ℕ) × IsKeyOf weights_key s c)
+    one : (s : Record) → (weights_key s ≡ []) ⊎ ((c : ℕ) × IsKeyOf weights_key s c)
     one nothing = inl refl
     one (class c k) = inl refl
     one (mapping c ds x) = inl refl
-    one (weights c es) = inr (c, record { is = refl; second = weights_second c es })
+    one (compatibility d ds) = inl refl
+    one (weights root [] [] es) = inl refl
+    one (weights root [] (c ∷ []) es) = inr (c, record { is = refl; second = weights_second c es })
+    one (weights root [] (c ∷ d ∷ ds) es) = inl refl
+    one (weights root (p ∷ ps) text es) = inl refl
+    one (weights tailoring prefix text es) = inl refl
+    one (range r) = inl refl
+    one (digit d v) = inl refl
+    one (setting s) = inl refl
 
-    within : (s : Saying) (q : ℕ) → list_any (λ d. eqb q d) (weights_key s) ≡ true → list_any (λ d. eqb q d) (named s) ≡ true
+    within : (s : Record) (q : ℕ) → list_any (λ d. eqb q d) (weights_key s) ≡ true → list_any (λ d. eqb q d) (named s) ≡ true
     within nothing q h = h
     within (class c k) q h = absurd (false≢true h)
     within (mapping c ds x) q h = absurd (false≢true h)
-    within (weights c es) q h = h
+    within (compatibility d ds) q h = absurd (false≢true h)
+    within (weights root [] [] es) q h = absurd (false≢true h)
+    within (weights root [] (c ∷ []) es) q h = h
+    within (weights root [] (c ∷ d ∷ ds) es) q h = absurd (false≢true h)
+    within (weights root (p ∷ ps) text es) q h = absurd (false≢true h)
+    within (weights tailoring prefix text es) q h = absurd (false≢true h)
+    within (range r) q h = absurd (false≢true h)
+    within (digit d v) q h = absurd (false≢true h)
+    within (setting s) q h = absurd (false≢true h)
 
 -- how many different numbers stand in a list
 picked : (b : Bool) (n c : ℕ) (cs : List ℕ) → n ≡ length cs → cond b n (1 + n) ≡ length (cond b cs (c ∷ cs))
@@ -142,9 +199,9 @@ is_member-unique q (x ∷ xs) = by (is_member eqb xs x) refl (is_member-unique q
     by true e r = r ∙ kept (eqb q x) refl e
     by false e r = ap (λ (t : Bool). eqb q x || t) r
 
-module _ (key : Saying → List ℕ) (kind : IsKind key) where
+module _ (key : Record → List ℕ) (kind : IsKind key) where
   -- whether a line of the kind is for a character that an earlier one is for
-  any_key : (s : Saying) (c : ℕ) → IsKeyOf key s c → (xs : List Saying) → list_any (λ d. eqb c d) (flat_map key xs) ≡ list_any (λ t. is_second t s) xs
+  any_key : (s : Record) (c : ℕ) → IsKeyOf key s c → (xs : List Record) → list_any (λ d. eqb c d) (flat_map key xs) ≡ list_any (λ t. is_second t s) xs
   any_key s c is_key [] = refl
   any_key s c is_key (x ∷ xs) =
       list_any-append (λ d. eqb c d) (key x) (flat_map key xs)
@@ -152,33 +209,33 @@ module _ (key : Saying → List ℕ) (kind : IsKind key) where
       ∙ ap (λ (b : Bool). is_second x s || b) (any_key s c is_key xs)
 
   -- the characters of the lines up to line i
-  keys_to : (sayings : List Saying) (i : ℕ) → i < length sayings → flat_map key (take (i + 1) sayings) ≡ flat_map key (take i sayings) ++ key (saying_at sayings i)
-  keys_to sayings i h =
-      ap (λ (ss : List Saying). flat_map key ss) (take_more sayings i nothing h ∙ ap (λ (s : Saying). take i sayings ++ s ∷ []) (sym (unwrap_or-slice_get sayings i nothing)))
-      ∙ flat_map-append key (take i sayings) (saying_at sayings i ∷ [])
-      ∙ ap (λ (cs : List ℕ). flat_map key (take i sayings) ++ cs) (append-nil (key (saying_at sayings i)))
+  keys_to : (records : List Record) (i : ℕ) → i < length records → flat_map key (take (i + 1) records) ≡ flat_map key (take i records) ++ key (record_at records i)
+  keys_to records i h =
+      ap (λ (ss : List Record). flat_map key ss) (take_more records i nothing h ∙ ap (λ (s : Record). take i records ++ s ∷ []) (sym (unwrap_or-slice_get records i nothing)))
+      ∙ flat_map-append key (take i records) (record_at records i ∷ [])
+      ∙ ap (λ (cs : List ℕ). flat_map key (take i records) ++ cs) (append-nil (key (record_at records i)))
 
-  distinct_more : (sayings : List Saying) (i : ℕ) → i < length sayings → (Repeats sayings i → ⊥)
-      → IsDistinct eqb (flat_map key (take i sayings)) → IsDistinct eqb (flat_map key (take (i + 1) sayings))
-  distinct_more sayings i h fresh distinct =
-      let before = flat_map key (take i sayings) in
-      subst (IsDistinct eqb) (sym (keys_to sayings i h)) (⊎_elim
+  distinct_more : (records : List Record) (i : ℕ) → i < length records → (Repeats records i → ⊥)
+      → IsDistinct eqb (flat_map key (take i records)) → IsDistinct eqb (flat_map key (take (i + 1) records))
+  distinct_more records i h fresh distinct =
+      let before = flat_map key (take i records) in
+      subst (IsDistinct eqb) (sym (keys_to records i h)) (⊎_elim
       (λ none. subst (λ (cs : List ℕ). IsDistinct eqb (before ++ cs)) (sym none) (subst (IsDistinct eqb) (sym (append-nil before)) distinct))
       (λ w. subst (λ (cs : List ℕ). IsDistinct eqb (before ++ cs)) (sym w.1.is)
-      (IsDistinct-push nat_eq_equiv before w.0 distinct (any_key (saying_at sayings i) w.0 w.1 (take i sayings) ∙ not_true _ fresh)))
-      (kind.each (saying_at sayings i)))
+      (IsDistinct-push nat_eq_equiv before w.0 distinct (any_key (record_at records i) w.0 w.1 (take i records) ∙ not_true _ fresh)))
+      (kind.each (record_at records i)))
 
-  distinct_to : (sayings : List Saying) → NoneOffends V14 sayings → (i : ℕ) → i ≤ length sayings → IsDistinct eqb (flat_map key (take i sayings))
+  distinct_to : (records : List Record) → NoneOffends V14 records → (i : ℕ) → i ≤ length records → IsDistinct eqb (flat_map key (take i records))
   unfolding IsDistinct
-  distinct_to sayings once zero h = tt
-  distinct_to sayings once (suc i) h =
-      let before : i < length sayings = omega arith in
-      let more = distinct_more sayings i before (once i before) (distinct_to sayings once i (omega arith)) in
+  distinct_to records once zero h = tt
+  distinct_to records once (suc i) h =
+      let before : i < length records = omega arith in
+      let more = distinct_more records i before (once i before) (distinct_to records once i (omega arith)) in
       let same : i + 1 ≡ suc i = omega arith in
-      subst (λ (n : ℕ). IsDistinct eqb (flat_map key (take n sayings))) same more
+      subst (λ (n : ℕ). IsDistinct eqb (flat_map key (take n records))) same more
 
   -- a character that a line of the kind is for is named
-  key_named : (q : ℕ) (xs : List Saying) → list_any (λ d. eqb q d) (flat_map key xs) ≡ true → list_any (λ d. eqb q d) (flat_map named xs) ≡ true
+  key_named : (q : ℕ) (xs : List Record) → list_any (λ d. eqb q d) (flat_map key xs) ≡ true → list_any (λ d. eqb q d) (flat_map named xs) ≡ true
   key_named q [] h = h
   key_named q (x ∷ xs) h =
       list_any-append (λ d. eqb q d) (named x) (flat_map named xs)
@@ -187,24 +244,24 @@ module _ (key : Saying → List ℕ) (kind : IsKind key) where
       (λ later. or_right (list_any (λ d. eqb q d) (named x)) _ (key_named q xs later))
       (or_either _ _ (sym (list_any-append (λ d. eqb q d) (key x) (flat_map key xs)) ∙ h))
 
-  keys_few : (sayings : List Saying) → NoneOffends V14 sayings → (i : ℕ) → i ≤ length sayings → length (flat_map key (take i sayings)) ≤ different (flat_map named (take i sayings))
-  keys_few sayings once i h =
-      let names = flat_map named (take i sayings) in
-      let few = length-le_from_is_member nat_eq_equiv (flat_map key (take i sayings)) (unique_keys eqb names) (distinct_to sayings once i h) (λ q is. is_member-unique q names ∙ key_named q (take i sayings) is) in
+  keys_few : (records : List Record) → NoneOffends V14 records → (i : ℕ) → i ≤ length records → length (flat_map key (take i records)) ≤ different (flat_map named (take i records))
+  keys_few records once i h =
+      let names = flat_map named (take i records) in
+      let few = length-le_from_is_member nat_eq_equiv (flat_map key (take i records)) (unique_keys eqb names) (distinct_to records once i h) (λ q is. is_member-unique q names ∙ key_named q (take i records) is) in
       omega (arith, different-unique names, few)
 
   -- so many lines of the kind
-  pub keys_limit : (sayings : List Saying) → NoneOffends V14 sayings → NoneOffends Limit sayings → (i : ℕ) → i ≤ length sayings → length (flat_map key (take i sayings)) ≤ 150
-  keys_limit sayings once few zero h = omega arith
-  keys_limit sayings once few (suc i) h =
-      let before : i < length sayings = omega arith in
+  pub keys_limit : (records : List Record) → NoneOffends V14 records → NoneOffends Limit records → (i : ℕ) → i ≤ length records → length (flat_map key (take i records)) ≤ 150
+  keys_limit records once few zero h = omega arith
+  keys_limit records once few (suc i) h =
+      let before : i < length records = omega arith in
       let same : i + 1 ≡ suc i = omega arith in
-      let names = different (flat_map named (take (i + 1) sayings)) in
+      let names = names_in (take (i + 1) records) in
       let bounded : names ≤ 150 = ⊎_elim (λ (past : 150 < names). absurd (few i before (inl past))) (λ (within : names ≤ 150). within) (cases_lt 150 names) in
-      subst (λ (n : ℕ). length (flat_map key (take n sayings)) ≤ 150) same (omega (arith, keys_few sayings once (i + 1) (omega arith), bounded))
+      subst (λ (n : ℕ). length (flat_map key (take n records)) ≤ 150) same (omega (arith, keys_few records once (i + 1) (omega arith), bounded))
 
 -- in an accepted file no two lines are for the same thing
-pub accepted_once : (file : List ℕ) → IsAccepted file → NoneOffends V14 (sayings_of file)
+pub accepted_once : (file : List ℕ) → IsAccepted file → NoneOffends V14 (records_of file)
 accepted_once file accepted i lt again =
     accepted V14 i (
       rw (← length-map (lines_of file) read_line) lt,
@@ -214,7 +271,7 @@ accepted_once file accepted i lt again =
     )
 
 -- an accepted file keeps the limits
-pub accepted_few : (file : List ℕ) → IsAccepted file → NoneOffends Limit (sayings_of file)
+pub accepted_few : (file : List ℕ) → IsAccepted file → NoneOffends Limit (records_of file)
 accepted_few file accepted i lt over = accepted Limit i (rw (← length-map (lines_of file) read_line) lt, over)
 
 or_neither : (a b : Bool) → (a || b) ≡ false → (a ≡ false) × (b ≡ false)
@@ -232,35 +289,58 @@ passed true here later e h = absurd (false≢true (sym e))
 passed false here later e h = h
 
 -- where no line is for the same thing, none gives the character a class, a mapping or weights
-pub class-absent : (c k : ℕ) (xs : List Saying) → list_any (λ t. is_second t (class c k)) xs ≡ false → first_found (class_in c) xs ≡ None
+pub class-absent : (c k : ℕ) (xs : List Record) → list_any (λ t. is_second t (class c k)) xs ≡ false → first_found (class_in c) xs ≡ None
 class-absent c k [] h = refl
 class-absent c k (nothing ∷ xs) h = class-absent c k xs h
 class-absent c k (class d l ∷ xs) h = let w = or_neither (eqb d c) _ h in passed (eqb c d) (Some l) _ (turned_false d c w.0) (class-absent c k xs w.1)
 class-absent c k (mapping d ds x ∷ xs) h = class-absent c k xs h
-class-absent c k (weights d es ∷ xs) h = class-absent c k xs h
+class-absent c k (compatibility d ds ∷ xs) h = class-absent c k xs h
+class-absent c k (weights l p t es ∷ xs) h = class-absent c k xs h
+class-absent c k (range r ∷ xs) h = class-absent c k xs h
+class-absent c k (digit d v ∷ xs) h = class-absent c k xs h
+class-absent c k (setting s ∷ xs) h = class-absent c k xs h
 
-pub mapping-absent : (c : ℕ) (cs : List ℕ) (x : Bool) (xs : List Saying) → list_any (λ t. is_second t (mapping c cs x)) xs ≡ false → first_found (mapping_in c) xs ≡ None
+pub mapping-absent : (c : ℕ) (cs : List ℕ) (x : Bool) (xs : List Record) → list_any (λ t. is_second t (mapping c cs x)) xs ≡ false → first_found (mapping_in c) xs ≡ None
 mapping-absent c cs x [] h = refl
 mapping-absent c cs x (nothing ∷ xs) h = mapping-absent c cs x xs h
 mapping-absent c cs x (class d l ∷ xs) h = mapping-absent c cs x xs h
 mapping-absent c cs x (mapping d ds y ∷ xs) h = let w = or_neither (eqb d c) _ h in passed (eqb c d) (Some ds) _ (turned_false d c w.0) (mapping-absent c cs x xs w.1)
-mapping-absent c cs x (weights d es ∷ xs) h = mapping-absent c cs x xs h
+mapping-absent c cs x (compatibility d ds ∷ xs) h = mapping-absent c cs x xs h
+mapping-absent c cs x (weights l p t es ∷ xs) h = mapping-absent c cs x xs h
+mapping-absent c cs x (range r ∷ xs) h = mapping-absent c cs x xs h
+mapping-absent c cs x (digit d v ∷ xs) h = mapping-absent c cs x xs h
+mapping-absent c cs x (setting s ∷ xs) h = mapping-absent c cs x xs h
 
-pub weights-absent : (c : ℕ) (es : List Element) (xs : List Saying) → list_any (λ t. is_second t (weights c es)) xs ≡ false → first_found (elements_in c) xs ≡ None
+-- what a w line gives to a character by itself
+pub lone_is : (q c : ℕ) (es : List Element) → lone_elements_in q (lone_weights c es) ≡ cond (eqb q c) (Some es) None
+lone_is q c es = ap (λ (b : Bool). cond b (Some es) None) (and_true (eqb q c))
+
+pub weights-absent : (c : ℕ) (es : List Element) (xs : List Record) → list_any (λ t. is_second t (lone_weights c es)) xs ≡ false → first_found (lone_elements_in c) xs ≡ None
 weights-absent c es [] h = refl
 weights-absent c es (nothing ∷ xs) h = weights-absent c es xs h
 weights-absent c es (class d l ∷ xs) h = weights-absent c es xs h
 weights-absent c es (mapping d ds x ∷ xs) h = weights-absent c es xs h
-weights-absent c es (weights d fs ∷ xs) h = let w = or_neither (eqb d c) _ h in passed (eqb c d) (Some fs) _ (turned_false d c w.0) (weights-absent c es xs w.1)
+weights-absent c es (compatibility d ds ∷ xs) h = weights-absent c es xs h
+weights-absent c es (weights root [] [] fs ∷ xs) h = weights-absent c es xs h
+weights-absent c es (weights root [] (d ∷ []) fs ∷ xs) h =
+    let w = or_neither (eqb d c && true) _ h in
+    passed (eqb c d && true) (Some fs) _ (and_true (eqb c d) ∙ turned_false d c (sym (and_true (eqb d c)) ∙ w.0)) (weights-absent c es xs w.1)
+weights-absent c es (weights root [] (d ∷ e ∷ ds) fs ∷ xs) h =
+    let w = or_neither (eqb d c && false) _ h in passed (eqb c d && false) (Some fs) _ (and_false (eqb c d)) (weights-absent c es xs w.1)
+weights-absent c es (weights root (p ∷ ps) text fs ∷ xs) h = weights-absent c es xs h
+weights-absent c es (weights tailoring prefix text fs ∷ xs) h = weights-absent c es xs h
+weights-absent c es (range r ∷ xs) h = weights-absent c es xs h
+weights-absent c es (digit d v ∷ xs) h = weights-absent c es xs h
+weights-absent c es (setting s ∷ xs) h = weights-absent c es xs h
 
 -- the lines of a kind up to one more
-keys_push : (key : Saying → List ℕ) (lines : List Saying) (s : Saying) → flat_map key (lines ++ s ∷ []) ≡ flat_map key lines ++ key s
+keys_push : (key : Record → List ℕ) (lines : List Record) (s : Record) → flat_map key (lines ++ s ∷ []) ≡ flat_map key lines ++ key s
 keys_push key lines s = flat_map-append key lines (s ∷ []) ∙ ap (λ (cs : List ℕ). flat_map key lines ++ cs) (append-nil (key s))
 
-pub count_same : (key : Saying → List ℕ) (n : ℕ) (lines : List Saying) (s : Saying) → n ≡ length (flat_map key lines) → key s ≡ [] → n ≡ length (flat_map key (lines ++ s ∷ []))
+pub count_same : (key : Record → List ℕ) (n : ℕ) (lines : List Record) (s : Record) → n ≡ length (flat_map key lines) → key s ≡ [] → n ≡ length (flat_map key (lines ++ s ∷ []))
 count_same key n lines s e none = e ∙ ap length (sym (append-nil (flat_map key lines)) ∙ ap (λ (cs : List ℕ). flat_map key lines ++ cs) (sym none) ∙ sym (keys_push key lines s))
 
-pub count_more : (key : Saying → List ℕ) (n m : ℕ) (lines : List Saying) (s : Saying) (c : ℕ)
+pub count_more : (key : Record → List ℕ) (n m : ℕ) (lines : List Record) (s : Record) (c : ℕ)
     → n ≡ length (flat_map key lines) → m ≡ n + 1 → key s ≡ c ∷ [] → m ≡ length (flat_map key (lines ++ s ∷ []))
 count_more key n m lines s c e more one =
     omega (arith, ap length (keys_push key lines s ∙ ap (λ (cs : List ℕ). flat_map key lines ++ cs) one), length-append (flat_map key lines) (c ∷ []))
@@ -269,6 +349,6 @@ count_more key n m lines s c e more one =
 pub fresh_at : (lines : List Line) (i : ℕ) (x : Line) → i < length lines → x ≡ get_or lines i x → NoneOffends V14 (map said lines)
     → list_any (λ s. is_second s (said x)) (take i (map said lines)) ≡ false
 fresh_at lines i x h e once =
-    let here : saying_at (map said lines) i ≡ said x = unwrap_or-slice_get (map said lines) i nothing ∙ said_of lines i x h e in
-    ap (λ (s : Saying). list_any (λ t. is_second t s) (take i (map said lines))) (sym here)
+    let here : record_at (map said lines) i ≡ said x = unwrap_or-slice_get (map said lines) i nothing ∙ said_of lines i x h e in
+    ap (λ (s : Record). list_any (λ t. is_second t s) (take i (map said lines))) (sym here)
     ∙ not_true _ (once i (omega (arith, length-map lines said)))

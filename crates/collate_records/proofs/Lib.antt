@@ -15,9 +15,11 @@ pub mod Found
 pub mod FullLists
 mod Limits
 pub mod Keys
+mod KnownForms
+pub mod KnownRecords
 pub mod Lines
 pub mod Lookups
-pub mod LoopFacts
+pub mod LoopParts
 pub mod Loops
 pub mod Marks
 mod Naming
@@ -25,7 +27,7 @@ mod Numbers
 mod Ranks
 pub mod Reached
 mod Reading
-pub mod SameFacts
+pub mod SameParts
 pub mod Scalars
 pub mod SoonEnded
 pub mod Steps

@@ -1,25 +1,26 @@
 -- The limits, line by line.
 use Rattle.std.proofs.Common.{◌≡◌, ℕ, ◌+◌, ◌<◌, ◌≤◌, ◌⊎◌, Bool, true, false, cond, List, [], ◌∷◌, ◌++◌, length, map, take, get_or, refl, sym, ap, ◌∙◌, subst, arith, below_more, append-nil, inl, inr, ⊎_elim}
-use Rattle.std.specs.Prelude.{flat_map, filter}
+use Rattle.std.specs.Prelude.{flat_map, filter, count_by}
 use mir.Val.{bool_byte}
 use Rattle.std.proofs.lemmas.Bool.{cases_lt}
 use Rattle.std.specs.Ordering.{nat_cmp}
 use Rattle.std.specs.BTreeSet.{BTreeSet, contains, btree_set_len}
-use Rattle.std.proofs.lemmas.List.{get_or-map, take_more, length-map, length-append}
+use Rattle.std.proofs.lemmas.List.{get_or-map, take_more, take-map, length-map, length-append}
 use Rattle.std.proofs.lemmas.List.Elements.{filter-append}
 use Rattle.std.proofs.lemmas.Grind.{flat_map-append}
 use Rattle.std.proofs.lemmas.Option.{unwrap_or-slice_get}
-use Rattle.collate_records.specs.declared.sayings.Saying.{Saying as Line}
-use Rattle.collate_records.specs.Sayings.{Saying, nothing, said}
-use Rattle.collate_records.specs.Rules.{saying_at, named, says_something, element_count, different, IsOverLimit}
+use Rattle.collate_records.specs.declared.record.Record.{Record as Line}
+use Rattle.collate_records.specs.declared.record.Record.TheVariants.{Nothing, Class, Map, Weights}
+use Rattle.collate_records.specs.Record.{Record, nothing, said}
+use Rattle.collate_records.specs.Rules.{record_at, named, says_something, IsLong, is_range, names_in, different, IsOverLimit}
 use Rattle.collate_records.specs.Limits.{Holds}
 
 -- the first so many lines are within the limits
-pub record AreWithin (sayings : List Saying) (i : ℕ) (names : BTreeSet ℕ) (entries : ℕ) : Type 0 where
-  pub holds : Holds names (flat_map named (take i sayings))
-  pub counts : entries ≡ length (filter says_something (take i sayings))
-  pub few : entries ≤ 1000
-  pub before : (k : ℕ) → k < i → IsOverLimit sayings k → ⊥
+pub record AreWithin (records : List Record) (i : ℕ) (names : BTreeSet ℕ) (record_count : ℕ) : Type 0 where
+  pub holds : Holds names (flat_map named (take i records))
+  pub counts : record_count ≡ length (filter says_something (take i records))
+  pub few : record_count ≤ 1000
+  pub before : (k : ℕ) → k < i → IsOverLimit records k → ⊥
 
 -- line i
 pub said_of : (lines : List Line) (i : ℕ) (x : Line) → i < length lines → x ≡ get_or lines i x → get_or (map said lines) i nothing ≡ said x
@@ -28,12 +29,12 @@ said_of lines i x h e = get_or-map said lines i x nothing h ∙ ap said (sym e)
 pub lines_to : (lines : List Line) (i : ℕ) (x : Line) → i < length lines → x ≡ get_or lines i x → take (i + 1) (map said lines) ≡ take i (map said lines) ++ said x ∷ []
 lines_to lines i x h e =
     take_more (map said lines) i nothing (omega (arith, length-map lines said))
-    ∙ ap (λ (s : Saying). take i (map said lines) ++ s ∷ []) (said_of lines i x h e)
+    ∙ ap (λ (s : Record). take i (map said lines) ++ s ∷ []) (said_of lines i x h e)
 
 -- no line yet
-pub within_none : (sayings : List Saying) (names : BTreeSet ℕ) → names.keys ≡ [] → AreWithin sayings 0 names 0
+pub within_none : (records : List Record) (names : BTreeSet ℕ) → names.keys ≡ [] → AreWithin records 0 names 0
 unfolding different
-within_none sayings names empty = record {
+within_none records names empty = record {
   holds = record {
     same = λ n. ap (λ (ks : List ℕ). contains nat_cmp (record { keys = ks }) n) empty;
     count = ap length empty;
@@ -46,11 +47,11 @@ within_none sayings names empty = record {
 -- what the lines up to line i name
 pub names_to : (lines : List Line) (i : ℕ) (x : Line) → i < length lines → x ≡ get_or lines i x → flat_map named (take (i + 1) (map said lines)) ≡ flat_map named (take i (map said lines)) ++ named (said x)
 names_to lines i x h e =
-    ap (λ (ss : List Saying). flat_map named ss) (lines_to lines i x h e)
+    ap (λ (ss : List Record). flat_map named ss) (lines_to lines i x h e)
     ∙ flat_map-append named (take i (map said lines)) (said x ∷ [])
     ∙ ap (λ (cs : List ℕ). flat_map named (take i (map said lines)) ++ cs) (append-nil (named (said x)))
 
-one_kept : (s : Saying) (b : Bool) → says_something s ≡ b → length (filter says_something (s ∷ [])) ≡ cond b 1 0
+one_kept : (s : Record) (b : Bool) → says_something s ≡ b → length (filter says_something (s ∷ [])) ≡ cond b 1 0
 one_kept s b e = ap (λ (t : Bool). length (cond t (s ∷ []) [])) e ∙ kept b
   where
     kept : (t : Bool) → length (cond t (s ∷ []) []) ≡ cond t 1 0
@@ -60,24 +61,37 @@ one_kept s b e = ap (λ (t : Bool). length (cond t (s ∷ []) [])) e ∙ kept b
 -- how many of them say something
 pub count_to : (lines : List Line) (i : ℕ) (x : Line) → i < length lines → x ≡ get_or lines i x → length (filter says_something (take (i + 1) (map said lines))) ≡ length (filter says_something (take i (map said lines))) + cond (says_something (said x)) 1 0
 count_to lines i x h e =
-    ap (λ (ss : List Saying). length (filter says_something ss)) (lines_to lines i x h e)
+    ap (λ (ss : List Record). length (filter says_something ss)) (lines_to lines i x h e)
     ∙ ap length (filter-append says_something (take i (map said lines)) (said x ∷ []))
     ∙ length-append (filter says_something (take i (map said lines))) (filter says_something (said x ∷ []))
     ∙ ap (λ (n : ℕ). length (filter says_something (take i (map said lines))) + n) (one_kept (said x) _ refl)
 
--- one of the limits is passed by so many names, so many lines that say something, and the elements of a line
-abbrev pub IsOver : ℕ → ℕ → Saying → Type 0
-IsOver names entries s = (150 < names) ⊎ ((1000 < entries) ⊎ (8 < element_count s))
+-- one of the limits is passed by so many names, so many lines that say something, and what a line lists
+abbrev pub IsOver : ℕ → ℕ → Record → Type 0
+IsOver names record_count s = (150 < names) ⊎ ((1000 < record_count) ⊎ IsLong s)
 
-is_over_along : (a b c d : ℕ) (s t : Saying) → a ≡ b → c ≡ d → s ≡ t → IsOver a c s → IsOver b d t
+is_over_along : (a b c d : ℕ) (s t : Record) → a ≡ b → c ≡ d → s ≡ t → IsOver a c s → IsOver b d t
 is_over_along a b c d s t p q r over =
-    subst (λ (u : Saying). IsOver b d u) r (subst (λ (n : ℕ). IsOver b n s) q (subst (λ (n : ℕ). IsOver n c s) p over))
+    subst (λ (u : Record). IsOver b d u) r (subst (λ (n : ℕ). IsOver b n s) q (subst (λ (n : ℕ). IsOver n c s) p over))
+
+-- no line that was read is a range
+no_ranges : (lines : List Line) → count_by is_range (map said lines) ≡ 0
+no_ranges [] = refl
+no_ranges (Nothing ∷ lines) = no_ranges lines
+no_ranges (Class c k ∷ lines) = no_ranges lines
+no_ranges (Map c d e x ∷ lines) = no_ranges lines
+no_ranges (Weights c es ∷ lines) = no_ranges lines
+
+names_alone : (lines : List Line) (i : ℕ) → names_in (take i (map said lines)) ≡ different (flat_map named (take i (map said lines)))
+names_alone lines i =
+    let none : count_by is_range (take i (map said lines)) ≡ 0 = ap (count_by is_range) (take-map said i lines) ∙ no_ranges (take i lines)
+    in omega (arith, none)
 
 -- what is counted up to line i
-pub record AreCounted (lines : List Line) (i : ℕ) (x : Line) (names : BTreeSet ℕ) (entries : ℕ) : Type 0 where
+pub record AreCounted (lines : List Line) (i : ℕ) (x : Line) (names : BTreeSet ℕ) (record_count : ℕ) : Type 0 where
   pub holds : Holds names (flat_map named (take (i + 1) (map said lines)))
-  pub counts : entries ≡ length (filter says_something (take (i + 1) (map said lines)))
-  pub says : said x ≡ saying_at (map said lines) i
+  pub counts : record_count ≡ length (filter says_something (take (i + 1) (map said lines)))
+  pub says : said x ≡ record_at (map said lines) i
 
 one_more : (n m b : ℕ) (t u : Bool) → b ≡ bool_byte t → t ≡ u → n ≡ m → n + b ≡ m + cond u 1 0
 one_more n m b t u e f g = ap (λ (k : ℕ). k + b) g ∙ ap (λ (k : ℕ). m + k) (e ∙ ap bool_byte f ∙ byte_is u)
@@ -86,25 +100,25 @@ one_more n m b t u e f g = ap (λ (k : ℕ). k + b) g ∙ ap (λ (k : ℕ). m + 
     byte_is true = refl
     byte_is false = refl
 
-pub counted_at : (lines : List Line) (i : ℕ) (x : Line) (names after : BTreeSet ℕ) (entries more : ℕ) (says : Bool) → i < length lines → x ≡ get_or lines i x → AreWithin (map said lines) i names entries → ((list : List ℕ) → Holds names list → Holds after (list ++ named (said x))) → says ≡ says_something (said x) → more ≡ bool_byte says → AreCounted lines i x after (entries + more)
-counted_at lines i x names after entries more says h e within named_more is byte = record {
+pub counted_at : (lines : List Line) (i : ℕ) (x : Line) (names after : BTreeSet ℕ) (record_count more : ℕ) (says : Bool) → i < length lines → x ≡ get_or lines i x → AreWithin (map said lines) i names record_count → ((list : List ℕ) → Holds names list → Holds after (list ++ named (said x))) → says ≡ says_something (said x) → more ≡ bool_byte says → AreCounted lines i x after (record_count + more)
+counted_at lines i x names after record_count more says h e within named_more is byte = record {
   holds = subst (λ (cs : List ℕ). Holds after cs) (sym (names_to lines i x h e)) (named_more _ within.holds);
-  counts = one_more entries _ more says _ byte is within.counts ∙ sym (count_to lines i x h e);
+  counts = one_more record_count _ more says _ byte is within.counts ∙ sym (count_to lines i x h e);
   says = sym (unwrap_or-slice_get (map said lines) i nothing ∙ said_of lines i x h e);
 }
 
 -- line i passes a limit
-pub over_at : (lines : List Line) (i : ℕ) (x : Line) (names : BTreeSet ℕ) (entries : ℕ) → AreCounted lines i x names entries → IsOver (btree_set_len names) entries (said x) → IsOverLimit (map said lines) i
-over_at lines i x names entries counted over = is_over_along _ _ _ _ _ _ counted.holds.count counted.counts counted.says over
+pub over_at : (lines : List Line) (i : ℕ) (x : Line) (names : BTreeSet ℕ) (record_count : ℕ) → AreCounted lines i x names record_count → IsOver (btree_set_len names) record_count (said x) → IsOverLimit (map said lines) i
+over_at lines i x names record_count counted over = is_over_along _ _ _ _ _ _ (counted.holds.count ∙ sym (names_alone lines (i + 1))) counted.counts counted.says over
 
 -- no line up to line i passes one
-pub within_more : (lines : List Line) (i : ℕ) (x : Line) (names before : BTreeSet ℕ) (entries some : ℕ) → AreWithin (map said lines) i before some → AreCounted lines i x names entries → (IsOver (btree_set_len names) entries (said x) → ⊥) → AreWithin (map said lines) (i + 1) names entries
-within_more lines i x names before entries some within counted not_over = record {
+pub within_more : (lines : List Line) (i : ℕ) (x : Line) (names before : BTreeSet ℕ) (record_count some : ℕ) → AreWithin (map said lines) i before some → AreCounted lines i x names record_count → (IsOver (btree_set_len names) record_count (said x) → ⊥) → AreWithin (map said lines) (i + 1) names record_count
+within_more lines i x names before record_count some within counted not_over = record {
   holds = counted.holds;
   counts = counted.counts;
-  few = few_enough entries not_over;
+  few = few_enough record_count not_over;
   before = below_more (λ k. IsOverLimit (map said lines) k → ⊥) i within.before
-      (λ over. not_over (is_over_along _ _ _ _ _ _ (sym counted.holds.count) (sym counted.counts) (sym counted.says) over));
+      (λ over. not_over (is_over_along _ _ _ _ _ _ (names_alone lines (i + 1) ∙ sym counted.holds.count) (sym counted.counts) (sym counted.says) over));
 }
   where
     few_enough : (n : ℕ) → (IsOver (btree_set_len names) n (said x) → ⊥) → n ≤ 1000

@@ -4,38 +4,38 @@ use Rattle.std.specs.Bool.{IsTrue}
 use Rattle.std.specs.Option.{unwrap_or, option_map}
 use Rattle.std.proofs.lemmas.Option.{slice_get-map, slice_get-get_or}
 use Rattle.std.proofs.lemmas.List.{length-map}
-use Rattle.collate_records.specs.declared.sayings.Saying.{Saying as Line}
-use Rattle.collate_records.specs.Sayings.{Saying, nothing, said}
-use Rattle.collate_records.specs.Rules.{saying_at}
+use Rattle.collate_records.specs.declared.record.Record.{Record as Line}
+use Rattle.collate_records.specs.Record.{Record, nothing, said}
+use Rattle.collate_records.specs.Rules.{record_at}
 
-pub saying_at-said : (lines : List Line) (i : ℕ) (d : Line) → i < length lines → saying_at (map said lines) i ≡ said (get_or lines i d)
-saying_at-said lines i d h =
-    ap (λ (o : Option Saying). unwrap_or o nothing)
+pub record_at-said : (lines : List Line) (i : ℕ) (d : Line) → i < length lines → record_at (map said lines) i ≡ said (get_or lines i d)
+record_at-said lines i d h =
+    ap (λ (o : Option Record). unwrap_or o nothing)
     (slice_get-map said lines i ∙ ap (λ (o : Option Line). option_map said o) (slice_get-get_or lines i d h))
 
 -- line i was read as x
-pub saying_at-read : (lines : List Line) (i : ℕ) (x : Line) → i < length lines → x ≡ get_or lines i x → said x ≡ saying_at (map said lines) i
-saying_at-read lines i x h e = ap said e ∙ sym (saying_at-said lines i x h)
+pub record_at-read : (lines : List Line) (i : ℕ) (x : Line) → i < length lines → x ≡ get_or lines i x → said x ≡ record_at (map said lines) i
+record_at-read lines i x h e = ap said e ∙ sym (record_at-said lines i x h)
 
 -- line i is the first of which the test holds
-pub first_line : (Q : Saying → Type 0) (lines : List Line) (i : ℕ) (x : Line) (b : Bool)
-    → ((k : ℕ) → k < i → Q (saying_at (map said lines) k) → ⊥)
+pub first_line : (Q : Record → Type 0) (lines : List Line) (i : ℕ) (x : Line) (b : Bool)
+    → ((k : ℕ) → k < i → Q (record_at (map said lines) k) → ⊥)
     → i < length lines → x ≡ get_or lines i x → (IsTrue b → Q (said x)) → b ≡ true
-    → (i < length (map said lines)) × Q (saying_at (map said lines) i) × ((k : ℕ) → k < i → Q (saying_at (map said lines) k) → ⊥)
+    → (i < length (map said lines)) × Q (record_at (map said lines) i) × ((k : ℕ) → k < i → Q (record_at (map said lines) k) → ⊥)
 first_line Q lines i x b before within read holds e =
-    (omega (arith, length-map lines said), subst Q (saying_at-read lines i x within read) (holds e), before)
+    (omega (arith, length-map lines said), subst Q (record_at-read lines i x within read) (holds e), before)
 
 -- nor does it hold of line i
-pub none_more : (Q : Saying → Type 0) (lines : List Line) (i : ℕ) (x : Line) (b : Bool)
-    → ((k : ℕ) → k < i → Q (saying_at (map said lines) k) → ⊥)
+pub none_more : (Q : Record → Type 0) (lines : List Line) (i : ℕ) (x : Line) (b : Bool)
+    → ((k : ℕ) → k < i → Q (record_at (map said lines) k) → ⊥)
     → i < length lines → x ≡ get_or lines i x → (Q (said x) → IsTrue b) → b ≡ false
-    → (k : ℕ) → k < i + 1 → Q (saying_at (map said lines) k) → ⊥
+    → (k : ℕ) → k < i + 1 → Q (record_at (map said lines) k) → ⊥
 none_more Q lines i x b before within read holds e =
-    below_more (λ k. Q (saying_at (map said lines) k) → ⊥) i before
-    (λ q. let t : b ≡ true = holds (subst Q (sym (saying_at-read lines i x within read)) q) in cc)
+    below_more (λ k. Q (record_at (map said lines) k) → ⊥) i before
+    (λ q. let t : b ≡ true = holds (subst Q (sym (record_at-read lines i x within read)) q) in cc)
 
 -- it holds of no line
-pub none_at_end : (Q : Saying → Type 0) (lines : List Line) (i : ℕ)
-    → ((k : ℕ) → k < i → Q (saying_at (map said lines) k) → ⊥) → length lines ≤ i
-    → (k : ℕ) → k < length (map said lines) → Q (saying_at (map said lines) k) → ⊥
+pub none_at_end : (Q : Record → Type 0) (lines : List Line) (i : ℕ)
+    → ((k : ℕ) → k < i → Q (record_at (map said lines) k) → ⊥) → length lines ≤ i
+    → (k : ℕ) → k < length (map said lines) → Q (record_at (map said lines) k) → ⊥
 none_at_end Q lines i before past k h = before k (omega (arith, length-map lines said))

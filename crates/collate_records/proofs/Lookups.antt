@@ -4,7 +4,7 @@ use Rattle.std.proofs.lemmas.Bool.{eqb-true}
 use Rattle.std.proofs.lemmas.List.Elements.{All-get_or}
 use Rattle.std.proofs.Common.{◌<◌, length, get_or, map, All, subst, ◌≡◌, ℕ, eqb, cond, List, [], ◌∷◌, ◌++◌, Option, Some, None, option_map, refl, sym, ap, ◌∙◌, Bool, true, false, Result, Ok, Err, OnOk}
 use Rattle.std.specs.Option.{option_or}
-use Rattle.collate_records.specs.Sayings.{first_found}
+use Rattle.collate_records.specs.Meaning.{first_found}
 
 -- what is found first in a list and one more item
 pub first_found-push : {A B : Type 0} (f : A → Option B) (xs : List A) (x : A) → first_found f (xs ++ x ∷ []) ≡ option_or (first_found f xs) (f x)

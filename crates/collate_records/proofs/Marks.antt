@@ -1,51 +1,67 @@
 -- A character that isn't built in has a mapping and a class other than 0.
-use Rattle.std.proofs.Common.{◌≡◌, ◌≢◌, ℕ, List, [], ◌∷◌, ◌++◌, sym, ◌∙◌, subst, map, Option, Bool, true, false, ⊎_elim}
+use Rattle.std.proofs.Common.{◌≡◌, ◌≢◌, ℕ, List, [], ◌∷◌, ◌++◌, sym, ◌∙◌, subst, map, ap, Option, Some, None, Bool, true, false, ⊎_elim, inl, ◌⊎◌, ◌↔◌, ◌||◌, ◌&&◌}
 use Rattle.std.proofs.lemmas.Bool.{false≢true}
 use Rattle.std.specs.Bool.{IsTrue}
 use Rattle.std.specs.Option.{unwrap_or, is_some}
 use Rattle.std.proofs.lemmas.Bool.Decides.{eqb_tells}
 use Rattle.icu_normalizer_core.specs.BuiltIn.{built_in_class}
-use Rattle.collate_records.specs.declared.facts.Fact.{Fact}
-use Rattle.collate_records.specs.Sayings.{Saying}
-use Rattle.collate_records.specs.Rules.{MapsMark}
-use Rattle.collate_records.specs.Facts.{stated, SaysSame, IsMappedMark, fact_character}
-use Rattle.collate_records.proofs.SameFacts.{class_of-same, first_found-other_class, first_found-other_mapping, stated_push}
+use Rattle.collate_records.specs.declared.canonical_part.CanonicalPart.{CanonicalPart}
+use Rattle.collate_records.specs.Record.{Record}
+use Rattle.collate_records.specs.Meaning.{first_found, mapping_in, is_built_in, class_of}
+use Rattle.collate_records.specs.Rules.{MapsMark, IsMappedMark}
+use Rattle.collate_records.specs.CanonicalParts.{in_full, SaysSame, subject_of, IsMarkOfParts}
+use Rattle.collate_records.proofs.SameParts.{class_of-same, first_found-other_class, first_found-other_mapping, first_found-other_compatibility, parts_without_compatibility, stated_push}
 
-pub MapsMark-same : (facts lines : List Saying) → SaysSame facts lines → MapsMark facts → MapsMark lines
-MapsMark-same facts lines same maps =
-    let c = maps.0 in (
-      c,
-      subst (λ (o : Option (List ℕ)). IsTrue (is_some o)) (same.mappings c) maps.1,
-      maps.2,
-      subst (λ (k : ℕ). k ≢ 0) (class_of-same facts lines c same) maps.3,
-    )
+-- a character is a mapped mark by its class and by what lines say of its mappings
+abbrev IsMarkBy : ℕ → ℕ → Option (List ℕ) → Option (List ℕ) → Type 0
+IsMarkBy c class mapping other =
+    IsTrue (is_some mapping || is_some other) × (is_built_in c ≡ false) × ((class ≢ 0) ⊎ IsTrue (is_some mapping && is_some other))
 
--- where one fact more makes a mapped mark, it is the fact's character
-pub mark_of_fact : (facts : List Saying) (fact : Fact) → (MapsMark facts → ⊥)
-    → MapsMark (facts ++ stated fact ∷ []) → IsMappedMark (facts ++ stated fact ∷ []) (fact_character fact)
-mark_of_fact facts fact unbroken maps =
+marked_along : (c k l : ℕ) (m n o p : Option (List ℕ)) → m ≡ n → o ≡ p → k ≡ l → IsMarkBy c k m o → IsMarkBy c l n p
+marked_along c k l m n o p e f g marked =
+    subst (λ (x : ℕ). IsMarkBy c x n p) g (subst (λ (x : Option (List ℕ)). IsMarkBy c k n x) f (subst (λ (x : Option (List ℕ)). IsMarkBy c k x o) e marked))
+
+pub MapsMark-same : (parts lines : List Record) → SaysSame parts lines → MapsMark parts → MapsMark lines
+MapsMark-same parts lines same maps =
+    let c = maps.0 in
+    (c, marked_along c _ _ _ _ _ _ (same.mappings c) (same.compatibilities c) (class_of-same parts lines c same) maps.1)
+
+-- where one part more makes a mapped mark, it is the part's character
+pub mark_of_part : (parts : List Record) (part : CanonicalPart) → (MapsMark parts → ⊥)
+    → MapsMark (parts ++ in_full part ∷ []) → IsMappedMark (parts ++ in_full part ∷ []) (subject_of part)
+mark_of_part parts part unbroken maps =
     let c = maps.0 in
     ⊎_elim
-    (λ w. let P : ℕ → Type 0 = λ d. IsMappedMark (facts ++ stated fact ∷ []) d in
-    subst P w.1 (maps.1, maps.2, maps.3))
+    (λ w. let P : ℕ → Type 0 = λ d. IsMappedMark (parts ++ in_full part ∷ []) d in
+    subst P w.1 maps.1)
     (λ w. absurd (unbroken (
       c,
-      subst (λ (o : Option (List ℕ)). IsTrue (is_some o)) (first_found-other_mapping facts fact c w.1) maps.1,
-      maps.2,
-      subst (λ (o : Option ℕ). unwrap_or (built_in_class c) (unwrap_or o 0) ≢ 0) (first_found-other_class facts fact c w.1) maps.3,
+      marked_along c _ _ _ _ _ _ (first_found-other_mapping parts part c w.1) (first_found-other_compatibility parts part c)
+          (ap (λ (o : Option ℕ). unwrap_or (built_in_class c) (unwrap_or o 0)) (first_found-other_class parts part c w.1)) maps.1,
     )))
-    (eqb_tells c (fact_character fact))
+    (eqb_tells c (subject_of part))
 
 pub MapsMark-none : MapsMark [] → ⊥
-MapsMark-none maps = let e = maps.1 in cc
+MapsMark-none maps = let e = maps.1.0 in cc
 
--- where the fact's character isn't a mapped mark, there is none
-pub unmarked : (facts after : List Fact) (fact : Fact) (c : ℕ) (b : Bool) → after ≡ facts ++ fact ∷ [] → c ≡ fact_character fact
-    → (IsMappedMark (map stated after) c → IsTrue b) → b ≡ false
-    → (MapsMark (map stated facts) → ⊥) → MapsMark (map stated after) → ⊥
-unmarked facts after fact c b e at holds is_false unbroken maps =
-    let whole = stated_push facts after fact e in
-    let P : List Saying → Type 0 = λ s. IsMappedMark s (fact_character fact) in
-    let Q : ℕ → Type 0 = λ d. IsMappedMark (map stated after) d in
-    let t : b ≡ true = holds (subst Q (sym at) (subst P (sym whole) (mark_of_fact (map stated facts) fact unbroken (subst MapsMark whole maps)))) in
+-- among parts a mapped mark has a canonical mapping, and a class other than 0
+pub marked_parts : (parts : List CanonicalPart) (c : ℕ) → IsMappedMark (map in_full parts) c ↔ IsMarkOfParts (map in_full parts) c
+marked_parts parts c = by (first_found (mapping_in c) (map in_full parts)) _ (parts_without_compatibility parts c)
+  where
+    by : (m o : Option (List ℕ)) → o ≡ None
+        → IsMarkBy c (class_of (map in_full parts) c) m o ↔ (IsTrue (is_some m) × (is_built_in c ≡ false) × (class_of (map in_full parts) c ≢ 0))
+    by None None e = (λ h. absurd (false≢true h.0), λ h. absurd (false≢true h.0))
+    by (Some ds) None e = (λ h. (h.0, h.1, ⊎_elim (λ mark. mark) (λ twice. absurd (false≢true twice)) h.2), λ h. (h.0, h.1, inl h.2))
+    by None (Some es) e = absurd (cc)
+    by (Some ds) (Some es) e = absurd (cc)
+
+-- where the part's character isn't a mapped mark, there is none
+pub unmarked : (parts after : List CanonicalPart) (part : CanonicalPart) (c : ℕ) (b : Bool) → after ≡ parts ++ part ∷ [] → c ≡ subject_of part
+    → (IsMarkOfParts (map in_full after) c → IsTrue b) → b ≡ false
+    → (MapsMark (map in_full parts) → ⊥) → MapsMark (map in_full after) → ⊥
+unmarked parts after part c b e at holds is_false unbroken maps =
+    let whole = stated_push parts after part e in
+    let P : List Record → Type 0 = λ s. IsMappedMark s (subject_of part) in
+    let Q : ℕ → Type 0 = λ d. IsMappedMark (map in_full after) d in
+    let t : b ≡ true = holds ((marked_parts after c).0 (subst Q (sym at) (subst P (sym whole) (mark_of_part (map in_full parts) part unbroken (subst MapsMark whole maps))))) in
     false≢true (sym is_false ∙ t)

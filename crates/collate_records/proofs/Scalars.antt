@@ -1,4 +1,4 @@
--- The code points that lines name are scalar values.
+-- The code points that lines map to are scalar values.
 use Rattle.std.proofs.Common.{◌≡◌, ℕ, ◌≤◌, Bool, true, false, not, List, [], ◌∷◌, length, Option, Some, None, All, refl, arith, ◌==◌, bytes_eq, ◌⊎◌, inl, inr}
 use Rattle.std.proofs.lemmas.Bool.Decides.{nat_tests}
 use Rattle.std.proofs.lemmas.List.Elements.{All-cons, All-nil}
@@ -6,9 +6,11 @@ use Rattle.std.specs.List.{slice_split}
 use Rattle.std.proofs.lemmas.Option.{same_Some}
 use Rattle.std.specs.Char.{IsScalar}
 use Rattle.std.specs.Prelude.{if◌then◌else◌, codes}
-use Rattle.collate_records.specs.Sayings.{Saying, nothing, weights}
+use Rattle.collate_records.specs.Known.{known_record_of}
+use Rattle.collate_records.proofs.Reading.{known_said}
+use Rattle.collate_records.specs.Record.{Record, nothing, Layer, root, tailoring}
 use Rattle.collate_records.specs.Accepted.{MapsToScalars}
-use Rattle.collate_records.specs.Grammar.{◌>>=◌, checked, code_point, ending_by, hex_number, is_line, is_remark, is_scalar, is_short, mapping_by, saying_by, saying_of, class_by, weights_by, class_number}
+use Rattle.collate_records.specs.Grammar.{◌>>=◌, checked, class_by, class_number, code_point, compatibility_by, digit_by, digit_to, element, ending_by, hex_number, hex_of, is_scalar, is_short, key_by, listed, mapping_by, parted, range_by, record_by, record_of, set_by, setting_by, some_listed, step_number, weights_by}
 
 scalar_test : (c : ℕ) → is_scalar c ≡ true → IsScalar c
 scalar_test c h = grind (arith, nat_tests)
@@ -50,7 +52,7 @@ one_ends field b ending e =
     let h = bind_some (code_point field) (λ c. Some (c ∷ [], b)) ending e
     in rw (← same_Some _ _ h.2) record { scalars = All-cons IsScalar h.0 [] (code_point_scalar field h.0 h.1) (All-nil IsScalar); short = omega arith }
 
--- what may stand behind the first character of a mapping
+-- what may stand after the first character of a mapping
 ending_scalars : (fields : List (List ℕ)) (ending : List ℕ × Bool) → ending_by fields ≡ Some ending → IsEnding ending
 ending_scalars [] ending e = none_ends false ending e
 ending_scalars (f ∷ []) ending e = elim (either _ _ _ _ e) [ inl p ↦ none_ends true ending p | inr q ↦ one_ends f false ending q ]
@@ -58,7 +60,7 @@ ending_scalars (f ∷ x ∷ []) ending e = one_ends f true ending (either_none _
 ending_scalars (f ∷ x ∷ y ∷ fs) ending e = absurd (cc)
 
 -- a mapping that is read is to scalar values, at most two
-mapping_scalars : (fields : List (List ℕ)) (s : Saying) → mapping_by fields ≡ Some s → MapsToScalars s
+mapping_scalars : (fields : List (List ℕ)) (s : Record) → mapping_by fields ≡ Some s → MapsToScalars s
 mapping_scalars [] s e = absurd (cc)
 mapping_scalars (c ∷ []) s e = absurd (cc)
 mapping_scalars (c ∷ d ∷ fields) s e =
@@ -69,7 +71,7 @@ mapping_scalars (c ∷ d ∷ fields) s e =
     in rw (← same_Some _ _ g.2)
     (All-cons IsScalar b.0 (g.0.0) (code_point_scalar d b.0 b.1) h.scalars, omega (arith, h.short))
 
-class_scalars : (fields : List (List ℕ)) (s : Saying) → class_by fields ≡ Some s → MapsToScalars s
+class_scalars : (fields : List (List ℕ)) (s : Record) → class_by fields ≡ Some s → MapsToScalars s
 class_scalars [] s e = absurd (cc)
 class_scalars (c ∷ []) s e = absurd (cc)
 class_scalars (c ∷ n ∷ []) s e =
@@ -78,39 +80,73 @@ class_scalars (c ∷ n ∷ []) s e =
     in rw (← same_Some _ _ b.2) tt
 class_scalars (c ∷ n ∷ x ∷ fs) s e = absurd (cc)
 
-weights_scalars : (fields : List (List ℕ)) (s : Saying) → weights_by fields ≡ Some s → MapsToScalars s
-weights_scalars [] s e = absurd (cc)
-weights_scalars (c ∷ []) s e = absurd (cc)
-weights_scalars (c ∷ n ∷ fields) s e =
+compatibility_scalars : (fields : List (List ℕ)) (s : Record) → compatibility_by fields ≡ Some s → MapsToScalars s
+compatibility_scalars [] s e = absurd (cc)
+compatibility_scalars (c ∷ fields) s e =
     let a = bind_some (code_point c) _ s e
-    in let b = bind_some _ (λ es. Some (weights a.0 es)) s a.2
+    in let b = bind_some (some_listed code_point fields) _ s a.2
     in rw (← same_Some _ _ b.2) tt
 
-no_none : (s : Saying) → None ≡ Some s → ⊥
+weights_scalars : (layer : Layer) (fields : List (List ℕ)) (s : Record) → weights_by layer fields ≡ Some s → MapsToScalars s
+weights_scalars layer fields s e =
+    let a = bind_some (parted (codes ";") fields) _ s e
+    in let b = bind_some (key_by a.0.0) _ s a.2
+    in let d = bind_some (listed element a.0.1) _ s b.2
+    in rw (← same_Some _ _ d.2) tt
+
+range_scalars : (fields : List (List ℕ)) (s : Record) → range_by fields ≡ Some s → MapsToScalars s
+range_scalars [] s e = absurd (cc)
+range_scalars (c ∷ []) s e = absurd (cc)
+range_scalars (c ∷ d ∷ []) s e = absurd (cc)
+range_scalars (c ∷ d ∷ p ∷ []) s e = absurd (cc)
+range_scalars (c ∷ d ∷ p ∷ n ∷ []) s e =
+    let first = bind_some (code_point c) _ s e
+    in let second = bind_some (code_point d) _ s first.2
+    in let third = bind_some (hex_of 8 p) _ s second.2
+    in let fourth = bind_some (step_number n) _ s third.2
+    in rw (← same_Some _ _ fourth.2) tt
+range_scalars (c ∷ d ∷ p ∷ n ∷ x ∷ fs) s e = absurd (cc)
+
+digit_scalars : (fields : List (List ℕ)) (s : Record) → digit_by fields ≡ Some s → MapsToScalars s
+digit_scalars [] s e = absurd (cc)
+digit_scalars (c ∷ []) s e = absurd (cc)
+digit_scalars (c ∷ n ∷ []) s e =
+    let a = bind_some (code_point c) _ s e
+    in let b = bind_some (digit_to 9 n) _ s a.2
+    in rw (← same_Some _ _ b.2) tt
+digit_scalars (c ∷ n ∷ x ∷ fs) s e = absurd (cc)
+
+set_scalars : (fields : List (List ℕ)) (s : Record) → set_by fields ≡ Some s → MapsToScalars s
+set_scalars [] s e = absurd (cc)
+set_scalars (name ∷ values) s e = let a = bind_some (setting_by name values) _ s e in rw (← same_Some _ _ a.2) tt
+
+no_none : (s : Record) → None ≡ Some s → ⊥
 no_none s e = cc
 
-fields_scalars : (fields : List (List ℕ)) (s : Saying) → saying_by fields ≡ Some s → MapsToScalars s
+-- one of two forms, by a word
+one_of : (b : Bool) (p q : Option Record) (s : Record) → (p ≡ Some s → MapsToScalars s) → (q ≡ Some s → MapsToScalars s)
+    → (if b then p else q) ≡ Some s → MapsToScalars s
+one_of true p q s h k e = h e
+one_of false p q s h k e = k e
+
+fields_scalars : (fields : List (List ℕ)) (s : Record) → record_by fields ≡ Some s → MapsToScalars s
 fields_scalars [] s e = absurd (no_none s e)
 fields_scalars (word ∷ fields) s e =
-    let weighs : Option Saying = if bytes_eq word (codes "w") then weights_by fields else None
-    in let maps : Option Saying = if bytes_eq word (codes "map") then mapping_by fields else weighs
-    in elim (either (bytes_eq word (codes "class")) (class_by fields) maps s e) [
-      | inl p ↦ class_scalars fields s p
-      | inr q ↦ elim (either (bytes_eq word (codes "map")) (mapping_by fields) weighs s q) [
-        | inl p ↦ mapping_scalars fields s p
-        | inr r ↦ weights_scalars fields s (either_none (bytes_eq word (codes "w")) (weights_by fields) s r)
-      ]
-    ]
+    one_of _ _ _ s (class_scalars fields s)
+    (one_of _ _ _ s (mapping_scalars fields s)
+    (one_of _ _ _ s (compatibility_scalars fields s)
+    (one_of _ _ _ s (weights_scalars root fields s)
+    (one_of _ _ _ s (weights_scalars tailoring fields s)
+    (one_of _ _ _ s (range_scalars fields s)
+    (one_of _ _ _ s (digit_scalars fields s)
+    (one_of _ _ _ s (set_scalars fields s) (λ none. absurd (no_none s none))))))))) e
 
--- a line that is read maps to scalar values
-pub line_scalars : (line : List ℕ) (s : Saying) → saying_of line ≡ Some s → MapsToScalars s
-line_scalars line s e =
-    let parts = slice_split (λ b. b == 32) line
-    in let said : Option Saying = if is_remark line then Some nothing else saying_by parts
-    in elim (either (not (is_line line)) None said s e) [
-      | inl p ↦ absurd (no_none s p)
-      | inr q ↦ elim (either (is_remark line) (Some nothing) (saying_by parts) s q) [
-        | inl p ↦ rw (← same_Some nothing s p) tt
-        | inr r ↦ fields_scalars parts s r
-      ]
-    ]
+-- a line in the grammar maps to scalar values
+record_scalars : (line : List ℕ) (s : Record) → record_of line ≡ Some s → MapsToScalars s
+record_scalars line s e =
+    one_of _ _ _ s (λ none. absurd (no_none s none))
+    (one_of _ _ _ s (λ is. rw (← same_Some nothing s is) tt) (fields_scalars (slice_split (λ b. b == 32) line) s)) e
+
+-- so does one that is read
+pub line_scalars : (line : List ℕ) (s : Record) → known_record_of line ≡ Some s → MapsToScalars s
+line_scalars line s e = record_scalars line s (known_said (record_of line) s e)

@@ -3,7 +3,7 @@ use Rattle.std.proofs.Common.{◌≡◌, ℕ, suc, ◌*◌, ◌≤◌, List, [],
 use Rattle.std.specs.List.{Contains}
 use Rattle.std.proofs.lemmas.List.Elements.{All-contains, All-cons, All-nil, All-head, All-tail}
 use Rattle.icu_normalizer_core.specs.Canonical.{Leaves, nothing, unmapped}
-use Rattle.collate_records.specs.Sayings.{expanded}
+use Rattle.collate_records.specs.Meaning.{expanded}
 use Rattle.collate_records.proofs.FullLists.{by_first, expanded-suc}
 use Rattle.collate_records.proofs.Endings.{Leaves-by_first}
 

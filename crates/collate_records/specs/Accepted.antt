@@ -2,29 +2,29 @@
 use Rattle.std.specs.Prelude.{◌≡◌, ℕ, ◌<◌, ◌≤◌, List, length, All, Some}
 use Rattle.std.specs.Char.{IsScalar}
 use Rattle.collate_records.specs.declared.rule.Rule.{Rule}
-use Rattle.collate_records.specs.Sayings.{Saying, class, mapping}
-use Rattle.collate_records.specs.Grammar.{saying_of}
+use Rattle.collate_records.specs.Record.{Record, class, mapping}
+use Rattle.collate_records.specs.Known.{known_record_of}
 use Rattle.collate_records.specs.Offenders.{NoneOffends}
 
 -- a class that a line gives is below 256
-abbrev pub HasSmallClass : Saying → Type 0
+abbrev pub HasSmallClass : Record → Type 0
 HasSmallClass (class c k) = k < 256
 HasSmallClass _ = Unit {0}
 
 -- a line maps to at most two characters, scalar values
-abbrev pub MapsToScalars : Saying → Type 0
+abbrev pub MapsToScalars : Record → Type 0
 MapsToScalars (mapping c ds is_excluded) = All IsScalar ds × (length ds ≤ 2)
 MapsToScalars _ = Unit {0}
 
 -- each mapping is to at most two characters, scalar values
-abbrev pub AreScalars : List Saying → Type 0
-AreScalars sayings = All MapsToScalars sayings
+abbrev pub AreScalars : List Record → Type 0
+AreScalars records = All MapsToScalars records
 
--- a line in the grammar says this
-abbrev pub IsSaid : Saying → Type 0
-IsSaid saying = (line : List ℕ) × (saying_of line ≡ Some saying)
+-- a line in the grammar, as far as it is known, says this
+abbrev pub IsSaid : Record → Type 0
+IsSaid given = (line : List ℕ) × (known_record_of line ≡ Some given)
 
 -- Lines as an accepted file has them: each is in the grammar, and none offends against a rule.
-pub record AreAccepted (sayings : List Saying) : Type 0 where
-  pub in_grammar : All IsSaid sayings
-  pub keep_rules : (rule : Rule) → NoneOffends rule sayings
+pub record AreAccepted (records : List Record) : Type 0 where
+  pub in_grammar : All IsSaid records
+  pub keep_rules : (rule : Rule) → NoneOffends rule records

@@ -6,8 +6,9 @@ use Rattle.collate_records.specs.declared.rule.Rule.{Rule}
 use Rattle.collate_records.specs.declared.rule.Rule.TheVariants.{Grammar, V14}
 use Rattle.collate_records.specs.declared.rule.RecordsError.{RecordsError}
 use Rattle.collate_records.specs.declared.rule.RecordsError.TheVariants.{Fault, Memory}
-use Rattle.collate_records.specs.Sayings.{Saying, nothing}
-use Rattle.collate_records.specs.Grammar.{saying_of}
+use Rattle.collate_records.specs.Record.{Record, nothing}
+use Rattle.collate_records.specs.Grammar.{record_of}
+use Rattle.collate_records.specs.Known.{known_record_of}
 use Rattle.collate_records.specs.Rules.{Offends, Repeats, rank}
 
 -- line i, or an empty one
@@ -27,16 +28,16 @@ abbrev pub lines_of : List ℕ → List (List ℕ)
 lines_of file = ended (slice_split (λ b. b == 10) file)
 
 -- what a line says, and nothing if it isn't in the grammar
-abbrev pub read_line : List ℕ → Saying
-read_line line = unwrap_or (saying_of line) nothing
+abbrev pub read_line : List ℕ → Record
+read_line line = unwrap_or (record_of line) nothing
 
--- what lines say, one saying a line
-abbrev pub sayings_in : List (List ℕ) → List Saying
-sayings_in lines = map read_line lines
+-- what lines say, one record a line
+abbrev pub records_in : List (List ℕ) → List Record
+records_in lines = map read_line lines
 
--- what a file says, one saying a line
-abbrev pub sayings_of : List ℕ → List Saying
-sayings_of file = sayings_in (lines_of file)
+-- what a file says, one record a line
+abbrev pub records_of : List ℕ → List Record
+records_of file = records_in (lines_of file)
 
 -- the most bytes of a file
 abbrev pub size_limit : ℕ
@@ -46,16 +47,16 @@ size_limit = 1048576
 abbrev pub PassesSize : List ℕ → ℕ → Type 0
 PassesSize file i = (size_limit < length file) × (i ≡ count_by (λ b. b == 10) (take size_limit file))
 
--- line i isn't in the grammar
+-- line i isn't in the grammar, as far as it is known
 abbrev pub IsOutside : List (List ℕ) → ℕ → Type 0
-IsOutside lines i = saying_of (line_at lines i) ≡ None
+IsOutside lines i = known_record_of (line_at lines i) ≡ None
 
 -- line i breaks a rule
 abbrev pub Breaks : Rule → List ℕ → ℕ → Type 0
 Breaks Grammar file i = IsOutside (lines_of file) i ⊎ PassesSize file i
 Breaks V14 file i =
-    (i < length (lines_of file)) × (IsOutside (lines_of file) i → ⊥) × (PassesSize file i → ⊥) × Repeats (sayings_of file) i
-Breaks rule file i = (i < length (lines_of file)) × Offends rule (sayings_of file) i
+    (i < length (lines_of file)) × (IsOutside (lines_of file) i → ⊥) × (PassesSize file i → ⊥) × Repeats (records_of file) i
+Breaks rule file i = (i < length (lines_of file)) × Offends rule (records_of file) i
 
 -- a breach that comes before another: of a rule of a lower rank, or of the same rank in a lesser line
 abbrev pub IsEarlier : Rule → ℕ → Rule → ℕ → Type 0
@@ -75,6 +76,6 @@ abbrev pub Refuses : List ℕ → RecordsError → Type 0
 Refuses file (Fault fault) = (i : ℕ) × (fault.line ≡ i + 1) × IsFirstFault file fault.rule i
 Refuses file Memory = Unit {0}
 
--- these bytes were read: the sayings of an accepted file, or the first fault of any other
-abbrev pub IsReadFrom : List ℕ → Result (List Saying) RecordsError → Type 0
-IsReadFrom file result = MatchResult result (λ sayings. IsAccepted file × (sayings ≡ sayings_of file)) (Refuses file)
+-- these bytes were read: the records of an accepted file, or the first fault of any other
+abbrev pub IsReadFrom : List ℕ → Result (List Record) RecordsError → Type 0
+IsReadFrom file result = MatchResult result (λ records. IsAccepted file × (records ≡ records_of file)) (Refuses file)

@@ -4,20 +4,20 @@ use Rattle.collate_records.specs.declared.rule.Rule.{Rule}
 use Rattle.collate_records.specs.declared.rule.Rule.TheVariants.{Grammar, V14}
 use Rattle.collate_records.specs.declared.rule.RecordsError.{RecordsError}
 use Rattle.collate_records.specs.declared.rule.RecordsError.TheVariants.{Fault, Memory}
-use Rattle.collate_records.specs.Sayings.{Saying}
+use Rattle.collate_records.specs.Record.{Record}
 use Rattle.collate_records.specs.Offenders.{NoneOffends, IsFirstOffender}
 use Rattle.collate_records.specs.Rules.{Offends, Repeats, rank}
-use Rattle.collate_records.specs.Files.{IsOutside, sayings_in}
+use Rattle.collate_records.specs.Files.{IsOutside, records_in}
 
 -- the first so many lines are in the grammar, and no two are for one thing
 pub record AreSound (lines : List (List ℕ)) (count : ℕ) : Type 0 where
   pub inside : (i : ℕ) → i < count → IsOutside lines i → ⊥
-  pub apart : (i : ℕ) → i < count → Repeats (sayings_in lines) i → ⊥
+  pub apart : (i : ℕ) → i < count → Repeats (records_in lines) i → ⊥
 
 -- Line i isn't in the grammar, or it is for the thing of an earlier line.
 abbrev pub IsUnsound : Rule → List (List ℕ) → ℕ → Type 0
 IsUnsound Grammar lines i = IsOutside lines i
-IsUnsound V14 lines i = (IsOutside lines i → ⊥) × Repeats (sayings_in lines) i
+IsUnsound V14 lines i = (IsOutside lines i → ⊥) × Repeats (records_in lines) i
 IsUnsound rule lines i = ⊥
 
 -- an error names the first of so many lines that is unsound, counted from 1, or want of memory
@@ -27,30 +27,30 @@ RefusesLine lines count (Fault fault) =
 RefusesLine lines count Memory = Unit {0}
 
 -- no line breaks a rule of a rank from 1 on and below the bound
-abbrev pub KeepsBelow : ℕ → List Saying → Type 0
-KeepsBelow bound sayings =
-    (rule : Rule) (i : ℕ) → 0 < rank rule → rank rule < bound → i < length sayings → Offends rule sayings i → ⊥
+abbrev pub KeepsBelow : ℕ → List Record → Type 0
+KeepsBelow bound records =
+    (rule : Rule) (i : ℕ) → 0 < rank rule → rank rule < bound → i < length records → Offends rule records i → ⊥
 
 -- line i breaks a rule, no line before it does, and no line breaks a rule of a lower rank from 1 on
-pub record BreaksFirst (sayings : List Saying) (rule : Rule) (i : ℕ) : Type 0 where
+pub record BreaksFirst (records : List Record) (rule : Rule) (i : ℕ) : Type 0 where
   pub ranked : 0 < rank rule
-  pub within : i < length sayings
-  pub offends : Offends rule sayings i
-  pub least : (j : ℕ) → j < i → Offends rule sayings j → ⊥
-  pub lower : KeepsBelow (rank rule) sayings
+  pub within : i < length records
+  pub offends : Offends rule records i
+  pub least : (j : ℕ) → j < i → Offends rule records j → ⊥
+  pub lower : KeepsBelow (rank rule) records
 
 -- an error names that line, counted from 1, or want of memory
-abbrev pub RefusesSayings : List Saying → RecordsError → Type 0
-RefusesSayings sayings (Fault fault) = (i : ℕ) × (fault.line ≡ i + 1) × BreaksFirst sayings fault.rule i
-RefusesSayings sayings Memory = Unit {0}
+abbrev pub RefusesRecords : List Record → RecordsError → Type 0
+RefusesRecords records (Fault fault) = (i : ℕ) × (fault.line ≡ i + 1) × BreaksFirst records fault.rule i
+RefusesRecords records Memory = Unit {0}
 
 -- One rule was asked after those of lower ranks: what was found is the first line that offends against it.
-abbrev pub AsksRule : Rule → List Saying → Option ℕ → Result (Unit {0}) RecordsError → Type 0
-AsksRule rule sayings found answer =
-    0 < rank rule → MatchOption found (NoneOffends rule sayings) (IsFirstOffender rule sayings) → KeepsBelow (rank rule) sayings
-    → MatchResult answer (λ _. KeepsBelow (rank rule + 1) sayings) (RefusesSayings sayings)
+abbrev pub AsksRule : Rule → List Record → Option ℕ → Result (Unit {0}) RecordsError → Type 0
+AsksRule rule records found answer =
+    0 < rank rule → MatchOption found (NoneOffends rule records) (IsFirstOffender rule records) → KeepsBelow (rank rule) records
+    → MatchResult answer (λ _. KeepsBelow (rank rule + 1) records) (RefusesRecords records)
 
 -- the lines are unsound, or sound and in breach of another rule
 abbrev pub RefusesLines : List (List ℕ) → RecordsError → Type 0
 RefusesLines lines error =
-    RefusesLine lines (length lines) error ⊎ (AreSound lines (length lines) × RefusesSayings (sayings_in lines) error)
+    RefusesLine lines (length lines) error ⊎ (AreSound lines (length lines) × RefusesRecords (records_in lines) error)

@@ -1,126 +1,175 @@
 -- The rules on lines that are in the grammar: which line offends against a rule. Lines count from 0 here.
-use Rattle.std.specs.Prelude.{◌≡◌, ◌≢◌, ℕ, ◌+◌, ◌<◌, ◌⊎◌, Bool, true, false, cond, not, ◌==◌, ◌&&◌, ◌||◌, List, [], ◌∷◌, flat_map, filter, length, take, Some, None, IsTrue, slice_get}
+use Rattle.std.specs.Prelude.{◌≡◌, ◌≢◌, ℕ, ◌+◌, ◌<◌, ◌⊎◌, Bool, true, false, cond, not, ◌==◌, ◌&&◌, ◌||◌, List, [], ◌∷◌, ◌++◌, count_by, flat_map, filter, length, take, Some, None, IsTrue, slice_get, bytes_eq, codes}
 use Rattle.std.specs.Option.{unwrap_or, is_some}
 use Rattle.std.specs.List.{list_any}
 use Rattle.icu_normalizer_core.specs.BuiltIn.{built_in_class, built_in_step, built_in_compatibility_step, is_jamo, is_syllable}
 use Rattle.icu_normalizer_core.specs.Canonical.{Reaches}
 use Rattle.collate_records.specs.declared.rule.Rule.{Rule}
 use Rattle.collate_records.specs.declared.rule.Rule.TheVariants.{Grammar, Limit, Set, C1, C2, C3, C4, C5, C6, C7, C8, C9, V1, V2, V3, V4, V5, V6, V7, V8, V9, V10, V11, V12, V13, V14, V15}
-use Rattle.collate_records.specs.Sayings.{Saying, nothing, class, mapping, weights, is_built_in, first_found, mapping_in, class_of, step_of, expanded, full_of}
+use Rattle.collate_records.specs.Record.{Record, nothing, class, mapping, compatibility, weights, range, digit, setting, Setting, alternate, backward, case_first, max_variable, dot_above, numeric, groups, compress, reorder}
+use Rattle.collate_records.specs.Meaning.{is_built_in, first_found, mapping_in, compatibility_in, class_of, step_of, any_step, expanded, full_of, is_same_layer}
 
 -- what line i says
-abbrev pub saying_at : List Saying → ℕ → Saying
-saying_at sayings i = unwrap_or (slice_get sayings i) nothing
+abbrev pub record_at : List Record → ℕ → Record
+record_at records i = unwrap_or (slice_get records i) nothing
 
 -- whether a line says something
-abbrev pub says_something : Saying → Bool
+abbrev pub says_something : Record → Bool
 says_something nothing = false
 says_something _ = true
 
--- the code points that a line names
-abbrev pub named : Saying → List ℕ
-named nothing = []
+-- the code points that a line names, those of a range aside
+abbrev pub named : Record → List ℕ
 named (class c k) = c ∷ []
 named (mapping c ds is_excluded) = c ∷ ds
-named (weights c es) = c ∷ []
+named (compatibility c ds) = c ∷ ds
+named (weights layer prefix text es) = prefix ++ text
+named (digit c value) = c ∷ []
+named _ = []
 
--- how many elements a line lists
-abbrev pub element_count : Saying → ℕ
-element_count (weights c es) = length es
-element_count _ = 0
+abbrev pub is_range : Record → Bool
+is_range (range r) = true
+is_range _ = false
 
 -- how many different numbers stand in a list
 unfoldable pub different : List ℕ → ℕ
 different [] = 0
 different (c ∷ cs) = let others = different cs in cond (list_any (λ d. c == d) cs) others (1 + others)
 
--- Two lines for one thing: the class, the mapping or the weights of one character.
-abbrev pub is_second : Saying → Saying → Bool
+-- how many code points lines name, each range for one
+abbrev pub names_in : List Record → ℕ
+names_in records = different (flat_map named records) + count_by is_range records
+
+-- a line lists over eight characters or elements
+abbrev pub IsLong : Record → Type 0
+IsLong (compatibility c ds) = 8 < length ds
+IsLong (weights layer prefix text es) = (8 < length text) ⊎ (8 < length es)
+IsLong _ = ⊥
+
+-- the name of a setting
+abbrev pub setting_name : Setting → List ℕ
+setting_name (alternate a) = codes "alternate"
+setting_name (backward b) = codes "backward"
+setting_name (case_first c) = codes "casefirst"
+setting_name (max_variable m) = codes "maxvariable"
+setting_name (dot_above b) = codes "dotabove"
+setting_name (numeric lead) = codes "numeric"
+setting_name (groups ends) = codes "groups"
+setting_name (compress leads) = codes "compress"
+setting_name (reorder pairs) = codes "reorder"
+
+-- Two lines for one thing: the class, a mapping of one kind or the digit of one character, the weights of one prefix and text
+-- in one layer, one setting.
+abbrev pub is_second : Record → Record → Bool
 is_second (class c k) (class d l) = c == d
 is_second (mapping c cs x) (mapping d ds y) = c == d
-is_second (weights c es) (weights d fs) = c == d
+is_second (compatibility c cs) (compatibility d ds) = c == d
+is_second (weights layer prefix text es) (weights other before key fs) =
+    is_same_layer layer other && bytes_eq prefix before && bytes_eq text key
+is_second (digit c m) (digit d n) = c == d
+is_second (setting s) (setting r) = bytes_eq (setting_name s) (setting_name r)
 is_second _ _ = false
 
 -- V14: an earlier line is for the same thing
-abbrev pub Repeats : List Saying → ℕ → Type 0
-Repeats sayings i = IsTrue (list_any (λ s. is_second s (saying_at sayings i)) (take i sayings))
+abbrev pub Repeats : List Record → ℕ → Type 0
+Repeats records i = IsTrue (list_any (λ s. is_second s (record_at records i)) (take i records))
 
 -- limit: the lines up to here name over 150 different code points, or over 1,000 of them say something, or this one lists
--- over eight elements
-abbrev pub IsOverLimit : List Saying → ℕ → Type 0
-IsOverLimit sayings i =
-    let lines = take (i + 1) sayings
-    in (150 < different (flat_map named lines)) ⊎ ((1000 < length (filter says_something lines)) ⊎ (8 < element_count (saying_at sayings i)))
+-- over eight characters or elements
+abbrev pub IsOverLimit : List Record → ℕ → Type 0
+IsOverLimit records i =
+    let lines = take (i + 1) records
+    in (150 < names_in lines) ⊎ ((1000 < length (filter says_something lines)) ⊎ IsLong (record_at records i))
 
--- C1: a character that isn't built in has a mapping and a class other than 0
-abbrev pub MapsMark : List Saying → Type 0
-MapsMark sayings = (c : ℕ) × IsTrue (is_some (first_found (mapping_in c) sayings)) × (is_built_in c ≡ false) × (class_of sayings c ≢ 0)
+-- whether a line maps a character, canonically or by compatibility
+abbrev pub is_mapped : List Record → ℕ → Bool
+is_mapped records c = is_some (first_found (mapping_in c) records) || is_some (first_found (compatibility_in c) records)
 
--- a mapping step of either kind
-abbrev pub any_step : List Saying → ℕ → List ℕ
-any_step sayings c = unwrap_or (built_in_compatibility_step c) (step_of sayings c)
+-- whether lines map a character both canonically and by compatibility
+abbrev pub is_mapped_twice : List Record → ℕ → Bool
+is_mapped_twice records c = is_some (first_found (mapping_in c) records) && is_some (first_found (compatibility_in c) records)
+
+-- a character that isn't built in has a mapping, and another one or a class other than 0
+abbrev pub IsMappedMark : List Record → ℕ → Type 0
+IsMappedMark records c =
+    IsTrue (is_mapped records c) × (is_built_in c ≡ false) × ((class_of records c ≢ 0) ⊎ IsTrue (is_mapped_twice records c))
+
+-- C1: there is such a character
+abbrev pub MapsMark : List Record → Type 0
+MapsMark records = (c : ℕ) × IsMappedMark records c
 
 -- C2: mapping steps lead from a character to itself
-abbrev pub HasLoop : List Saying → Type 0
-HasLoop sayings = (c : ℕ) × Reaches (any_step sayings) (any_step sayings c) c
+abbrev pub HasLoop : List Record → Type 0
+HasLoop records = (c : ℕ) × Reaches (any_step records) (any_step records c) c
 
 -- C3: a class outside 1 to 254, other than one that is built in
-abbrev pub IsBadClass : Saying → Type 0
+abbrev pub IsBadClass : Record → Type 0
 IsBadClass (class c k) = ((k ≡ 0) ⊎ (254 < k)) × (built_in_class c ≢ Some k)
 IsBadClass _ = ⊥
 
 -- whether a list begins with a mark
-abbrev pub begins_with_mark : List Saying → List ℕ → Bool
-begins_with_mark sayings [] = false
-begins_with_mark sayings (c ∷ cs) = not (class_of sayings c == 0)
+abbrev pub begins_with_mark : List Record → List ℕ → Bool
+begins_with_mark records [] = false
+begins_with_mark records (c ∷ cs) = not (class_of records c == 0)
 
 -- what at most so many steps of either kind leave of a character
-abbrev pub compatibility_full_of : List Saying → ℕ → List ℕ
-compatibility_full_of sayings c = expanded (any_step sayings) 0x110000 c
+abbrev pub compatibility_full_of : List Record → ℕ → List ℕ
+compatibility_full_of records c = expanded (any_step records) 0x110000 c
 
 -- a list has over eight characters, or begins with a mark
-abbrev pub IsBadList : List Saying → List ℕ → Type 0
-IsBadList sayings list = (8 < length list) ⊎ (begins_with_mark sayings list ≡ true)
+abbrev pub IsBadList : List Record → List ℕ → Type 0
+IsBadList records list = (8 < length list) ⊎ (begins_with_mark records list ≡ true)
 
--- C4: a full list of a mapped character that isn't built in is bad, by canonical mappings or by all
-abbrev pub HasBadList : List Saying → Type 0
-HasBadList sayings =
-    (c : ℕ) × IsTrue (is_some (first_found (mapping_in c) sayings)) × (is_built_in c ≡ false)
-    × (IsBadList sayings (full_of sayings c) ⊎ IsBadList sayings (compatibility_full_of sayings c))
+-- a full list of a mapped character that isn't built in is bad, by canonical mappings or by all
+abbrev pub IsBadlyMapped : List Record → ℕ → Type 0
+IsBadlyMapped records c =
+    IsTrue (is_mapped records c) × (is_built_in c ≡ false)
+    × (IsBadList records (full_of records c) ⊎ IsBadList records (compatibility_full_of records c))
+
+-- C4: there is such a character
+abbrev pub HasBadList : List Record → Type 0
+HasBadList records = (c : ℕ) × IsBadlyMapped records c
 
 -- whether a line says exactly what is built in; a syllable alone is composed
-abbrev pub is_built_in_saying : Saying → Bool
-is_built_in_saying (mapping c (d ∷ []) is_excluded) =
+abbrev pub is_built_in_record : Record → Bool
+is_built_in_record (mapping c (d ∷ []) is_excluded) =
     elim (built_in_step c) [ Some (e ∷ []) ↦ d == e | _ ↦ false ]
-is_built_in_saying (mapping c (d ∷ e ∷ []) is_excluded) =
+is_built_in_record (mapping c (d ∷ e ∷ []) is_excluded) =
     let agrees = cond (is_syllable c) (not is_excluded) is_excluded
     in elim (built_in_step c) [ Some (f ∷ g ∷ []) ↦ (d == f) && (e == g) && agrees | _ ↦ false ]
-is_built_in_saying (class c k) = elim (built_in_class c) [ Some l ↦ k == l | None ↦ false ]
-is_built_in_saying _ = false
+is_built_in_record (compatibility c ds) = elim (built_in_compatibility_step c) [ Some es ↦ bytes_eq ds es | None ↦ false ]
+is_built_in_record (class c k) = elim (built_in_class c) [ Some l ↦ k == l | None ↦ false ]
+is_built_in_record _ = false
 
 -- C8: a line contradicts what is built in
-abbrev pub Contradicts : Saying → Type 0
-Contradicts (class c k) = IsTrue (is_some (built_in_class c)) × (is_built_in_saying (class c k) ≡ false)
-Contradicts (mapping c ds x) = (is_built_in c ≡ true) × (is_built_in_saying (mapping c ds x) ≡ false)
+abbrev pub Contradicts : Record → Type 0
+Contradicts (class c k) = IsTrue (is_some (built_in_class c)) × (is_built_in_record (class c k) ≡ false)
+Contradicts (mapping c ds x) = (is_built_in c ≡ true) × (is_built_in_record (mapping c ds x) ≡ false)
+Contradicts (compatibility c ds) = (is_built_in c ≡ true) × (is_built_in_record (compatibility c ds) ≡ false)
 Contradicts _ = ⊥
 
+-- whether a jamo or a syllable stands in a list
+abbrev pub has_hangul : List ℕ → Bool
+has_hangul list = list_any (λ d. is_jamo d || is_syllable d) list
+
 -- C9: a mapping that isn't built in names a jamo or a syllable
-abbrev pub MapsHangul : Saying → Type 0
-MapsHangul (mapping c ds x) = IsTrue (list_any (λ d. is_jamo d || is_syllable d) (c ∷ ds)) × (is_built_in_saying (mapping c ds x) ≡ false)
+abbrev pub MapsHangul : Record → Type 0
+MapsHangul (mapping c ds x) = IsTrue (has_hangul (c ∷ ds)) × (is_built_in_record (mapping c ds x) ≡ false)
+MapsHangul (compatibility c ds) = IsTrue (has_hangul (c ∷ ds)) × (is_built_in_record (compatibility c ds) ≡ false)
 MapsHangul _ = ⊥
 
 -- Line i offends against a rule. A breach that several lines make together offends from the latest of them on: there the
 -- lines up to i are in breach.
-abbrev pub Offends : Rule → List Saying → ℕ → Type 0
-Offends V14 sayings i = Repeats sayings i
-Offends Limit sayings i = IsOverLimit sayings i
-Offends C1 sayings i = MapsMark (take (i + 1) sayings)
-Offends C2 sayings i = HasLoop (take (i + 1) sayings)
-Offends C3 sayings i = IsBadClass (saying_at sayings i)
-Offends C4 sayings i = HasBadList (take (i + 1) sayings)
-Offends C8 sayings i = Contradicts (saying_at sayings i)
-Offends C9 sayings i = MapsHangul (saying_at sayings i)
-Offends _ sayings i = ⊥
+abbrev pub Offends : Rule → List Record → ℕ → Type 0
+Offends V14 records i = Repeats records i
+Offends Limit records i = IsOverLimit records i
+Offends C1 records i = MapsMark (take (i + 1) records)
+Offends C2 records i = HasLoop (take (i + 1) records)
+Offends C3 records i = IsBadClass (record_at records i)
+Offends C4 records i = HasBadList (take (i + 1) records)
+Offends C8 records i = Contradicts (record_at records i)
+Offends C9 records i = MapsHangul (record_at records i)
+Offends _ records i = ⊥
 
 -- The fault order: the grammar with V14, then the limits, then one rule after another.
 abbrev pub rank : Rule → ℕ

@@ -2,14 +2,14 @@
 
 ghost use Rattle.std.specs.Prelude.{◌≡◌, ◌^◌, ◌<◌, ◌≤◌, ◌==◌, length, map, option_map, IfOk, IfSome};
 ghost use Rattle.std.specs.List.{slice_split};
-ghost use Rattle.collate_records.specs.Grammar.{class_number, code_point, decimal_number, digit, digit_to, element, element_by, hex_digit, hex_number, hex_of, in_brackets, is_short, primary};
+ghost use Rattle.collate_records.specs.Grammar.{class_number, code_point, decimal_digit, decimal_number, digit_to, element, element_by, hex_digit, hex_number, hex_of, in_brackets, is_short, primary};
 
 use icu_collator_types::elements::Element;
 use std::alloc::{AllocError, Global};
 
 /// The value of a decimal digit.
 fn digit_value(byte: u8) -> Option<u8>
-    ensures { result ≡ digit byte }
+    ensures { result ≡ decimal_digit byte }
 {
     match byte {
         b'0'..=b'9' => Some(byte - b'0'),
@@ -92,7 +92,7 @@ fn weight(field: &[u8]) -> Option<u16>
 }
 
 /// One digit, up to the last.
-fn choice(field: &[u8], last: u8) -> Option<u8>
+fn digit_up_to(field: &[u8], last: u8) -> Option<u8>
     ensures { result ≡ digit_to last field.now }
 {
     let [byte] = field else {
@@ -135,16 +135,16 @@ fn element_of(weights: &[&[u8]]) -> Option<Element>
     Some(Element {
         primary: primary_weight(primary)?,
         secondary: weight(secondary)?,
-        case: choice(case, 2)?,
+        case: digit_up_to(case, 2)?,
         tertiary: weight(tertiary)?,
-        quaternary: choice(quaternary, 3)?,
+        quaternary: digit_up_to(quaternary, 3)?,
     })
 }
 
 /// The parts of a text between its separators, as they stand; a text without one is one part.
 ///
 /// Errors: `AllocError` where memory is refused.
-pub(crate) fn parts<'a>(
+pub(crate) fn split_by<'a>(
     alloc: Global,
     bytes: &'a [u8],
     separator: u8,
@@ -163,5 +163,5 @@ pub(crate) fn listed_element(alloc: Global, field: &[u8]) -> Result<Option<Eleme
     let Some(weights) = bracketed(field) else {
         return Ok(None);
     };
-    Ok(element_of(&parts(alloc, weights, b'.')?))
+    Ok(element_of(&split_by(alloc, weights, b'.')?))
 }

@@ -1,12 +1,14 @@
-// Laws of record sets: what follows of lines that keep the rules.
+//! Laws of record sets: what follows of lines that keep the rules.
 
 ghost use Rattle.std.specs.Prelude.{ℕ, List};
 ghost use Rattle.icu_normalizer_core.specs.Canonical.{IsDecomposing};
 ghost use Rattle.collate_records.specs.declared.rule.Rule.TheVariants.{C1, C2, C3, C4, C9};
-ghost use Rattle.collate_records.specs.Sayings.{Saying, canonical_of};
+ghost use Rattle.collate_records.specs.Record.{Record};
+ghost use Rattle.collate_records.specs.Meaning.{canonical_of};
 ghost use Rattle.collate_records.specs.Offenders.{NoneOffends};
 ghost use Rattle.collate_records.specs.Accepted.{AreAccepted, AreScalars};
-ghost use Rattle.collate_records.specs.Files.{IsAccepted, sayings_of};
+ghost use Rattle.collate_records.specs.Known.{ArePlain};
+ghost use Rattle.collate_records.specs.Files.{IsAccepted, records_of};
 
 /// Lines of the grammar of which none breaks `C1` to `C4` or `C9` give canonical data, as far as
 /// decomposing goes: mapping steps end, and a full list has at most eight characters. (Our
@@ -15,8 +17,8 @@ ghost use Rattle.collate_records.specs.Files.{IsAccepted, sayings_of};
 /// It computes nothing: its contract is the law.
 #[tactic(auto, using(crate::proofs::Decomposing::decomposing))]
 pub fn accepted_lines_decompose()
-    ensures { (sayings : List Saying) → AreScalars sayings → NoneOffends C1 sayings → NoneOffends C2 sayings
-        → NoneOffends C3 sayings → NoneOffends C4 sayings → NoneOffends C9 sayings → IsDecomposing (canonical_of sayings) }
+    ensures { (records : List Record) → AreScalars records → NoneOffends C1 records → NoneOffends C2 records
+        → NoneOffends C3 records → NoneOffends C4 records → NoneOffends C9 records → IsDecomposing (canonical_of records) }
 {}
 
 /// The lines of an accepted file are accepted: each is in the grammar, and none offends against a
@@ -25,7 +27,7 @@ pub fn accepted_lines_decompose()
 /// It computes nothing: its contract is the law.
 #[tactic(auto, using(crate::proofs::AcceptedLines::accepted_lines))]
 pub fn accepted_files_have_accepted_lines()
-    ensures { (file : List ℕ) → IsAccepted file → AreAccepted (sayings_of file) }
+    ensures { (file : List ℕ) → IsAccepted file → AreAccepted (records_of file) }
 {}
 
 /// Accepted lines, as those of all records are, give canonical data, as far as decomposing goes. (Our
@@ -34,7 +36,16 @@ pub fn accepted_files_have_accepted_lines()
 /// It computes nothing: its contract is the law.
 #[tactic(auto, using(crate::proofs::AcceptedLines::accepted_decompose))]
 pub fn accepted_records_decompose()
-    ensures { (sayings : List Saying) → AreAccepted sayings → IsDecomposing (canonical_of sayings) }
+    ensures { (records : List Record) → AreAccepted records → IsDecomposing (canonical_of records) }
+{}
+
+/// Records are plain so far: they give elements to single characters alone, without prefixes, digits or ranges, and all
+/// settings are the default ones. (docs/RECORDS.md.)
+///
+/// It computes nothing: its contract is the law.
+#[tactic(auto, using(crate::proofs::KnownRecords::accepted_plain))]
+pub fn accepted_records_are_plain()
+    ensures { (records : List Record) → AreAccepted records → ArePlain records }
 {}
 
 /// An accepted file gives canonical data, as far as decomposing goes. (Our profile; after UAX 15.)
@@ -42,5 +53,5 @@ pub fn accepted_records_decompose()
 /// It computes nothing: its contract is the law.
 #[tactic(auto, using(crate::proofs::AcceptedLines::accepted_file))]
 pub fn accepted_files_decompose()
-    ensures { (file : List ℕ) → IsAccepted file → IsDecomposing (canonical_of (sayings_of file)) }
+    ensures { (file : List ℕ) → IsAccepted file → IsDecomposing (canonical_of (records_of file)) }
 {}

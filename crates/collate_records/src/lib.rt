@@ -2,16 +2,16 @@
 //! `records::Records::read`; `class` and `mapping` then ask what the file says.
 #![tactic(auto)]
 
+mod canonical_part;
 mod character_table;
-mod facts;
 mod fields;
 pub mod laws;
 mod limit;
 mod line;
 mod reader;
+pub mod record;
 pub mod records;
 pub mod rule;
 mod rules;
-pub mod sayings;
 mod seen;
 mod tables;

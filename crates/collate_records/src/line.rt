@@ -1,32 +1,33 @@
-// One line of a records file: what it says, if it is in the grammar.
+//! One line of a records file: what it says, if it is in the grammar.
 
 ghost use Rattle.std.specs.Prelude.{◌≡◌, ◌≤◌, bytes_eq, codes, map, option_map, option_to_list, IfOk};
-ghost use Rattle.collate_records.specs.Sayings.{said};
-ghost use Rattle.collate_records.specs.Grammar.{class_by, ending_by, element, elements, is_line, is_remark, mapping_by, saying_by, saying_of, weights_by};
+ghost use Rattle.collate_records.specs.Forms.{known_by, known_line, lone_by};
+ghost use Rattle.collate_records.specs.Record.{said};
+ghost use Rattle.collate_records.specs.Grammar.{class_by, ending_by, element, is_remark, is_short_ascii, listed, mapping_by};
 
-use crate::fields::{character, class_value, listed_element, parts};
-use crate::sayings::Saying;
+use crate::fields::{character, class_value, listed_element, split_by};
+use crate::record::Record;
 use icu_collator_types::elements::Element;
 use std::alloc::{AllocError, Global};
 
-/// The most bytes of a line, without its LF (our profile).
+/// The most bytes of a line, without its LF (docs/RECORDS.md).
 pub(crate) const LINE_LIMIT: usize = 1024;
 
-/// What is said behind `class`: `CP N`.
-fn class_line(fields: &[&[u8]]) -> Option<Saying>
+/// What is said after `class`: `CP N`.
+fn parse_class(fields: &[&[u8]]) -> Option<Record>
     ensures { option_map said result ≡ class_by (map (λ field. field.now) fields.now) }
 {
     let [subject, class] = fields else {
         return None;
     };
-    Some(Saying::Class {
+    Some(Record::Class {
         character: character(subject)?,
         class: class_value(class)?,
     })
 }
 
-/// What may stand behind the first character of a mapping: a second one, and an `x`.
-fn map_ending(fields: &[&[u8]]) -> Option<(Option<char>, bool)>
+/// What may stand after the first character of a mapping: a second one, and an `x`.
+fn parse_ending(fields: &[&[u8]]) -> Option<(Option<char>, bool)>
     ensures { option_map (λ ending. (option_to_list ending.0, ending.1)) result ≡ ending_by (map (λ field. field.now) fields.now) }
 {
     match fields {
@@ -50,8 +51,8 @@ fn is_exclusion(field: &[u8]) -> bool
     field == b"x".as_slice()
 }
 
-/// What is said behind `map`: `CP CP [CP] [x]`.
-fn map_line(fields: &[&[u8]]) -> Option<Saying>
+/// What is said after `map`: `CP CP [CP] [x]`.
+fn parse_map(fields: &[&[u8]]) -> Option<Record>
     ensures { option_map said result ≡ mapping_by (map (λ field. field.now) fields.now) }
 {
     let [subject, first, ending @ ..] = fields else {
@@ -59,8 +60,8 @@ fn map_line(fields: &[&[u8]]) -> Option<Saying>
     };
     let subject = character(subject)?;
     let first = character(first)?;
-    let (second, is_excluded) = map_ending(ending)?;
-    Some(Saying::Map {
+    let (second, is_excluded) = parse_ending(ending)?;
+    Some(Record::Map {
         character: subject,
         first,
         second,
@@ -69,8 +70,8 @@ fn map_line(fields: &[&[u8]]) -> Option<Saying>
 }
 
 /// The elements that the fields of a line list.
-fn listed(alloc: Global, fields: &[&[u8]]) -> Result<Option<Vec<Element>>, AllocError>
-    ensures { IfOk result (λ found. option_map (λ list. list.items) found ≡ elements (map (λ field. field.now) fields.now)) }
+fn parse_elements(alloc: Global, fields: &[&[u8]]) -> Result<Option<Vec<Element>>, AllocError>
+    ensures { IfOk result (λ found. option_map (λ list. list.items) found ≡ listed element (map (λ field. field.now) fields.now)) }
 {
     let mut list = Vec::new(alloc);
     for field in fields {
@@ -82,9 +83,9 @@ fn listed(alloc: Global, fields: &[&[u8]]) -> Result<Option<Vec<Element>>, Alloc
     Ok(Some(list))
 }
 
-/// What is said behind `w`: `CP ; E..`.
-fn weights_line(alloc: Global, fields: &[&[u8]]) -> Result<Option<Saying>, AllocError>
-    ensures { IfOk result (λ saying. option_map said saying ≡ weights_by (map (λ field. field.now) fields.now)) }
+/// What is said after `w`: `CP ; E..`. Longer texts and prefixes are not read yet.
+fn parse_weights(alloc: Global, fields: &[&[u8]]) -> Result<Option<Record>, AllocError>
+    ensures { IfOk result (λ given. option_map said given ≡ lone_by (map (λ field. field.now) fields.now)) }
 {
     let [subject, separator, fields @ ..] = fields else {
         return Ok(None);
@@ -95,34 +96,34 @@ fn weights_line(alloc: Global, fields: &[&[u8]]) -> Result<Option<Saying>, Alloc
     if *separator != b";".as_slice() {
         return Ok(None);
     }
-    let elements = listed(alloc, fields)?;
-    Ok(elements.map(|elements| Saying::Weights {
+    let elements = parse_elements(alloc, fields)?;
+    Ok(elements.map(|elements| Record::Weights {
         character,
         elements,
     }))
 }
 
-/// What the fields of a line say.
-fn says_by(alloc: Global, fields: &[&[u8]]) -> Result<Option<Saying>, AllocError>
-    ensures { IfOk result (λ saying. option_map said saying ≡ saying_by (map (λ field. field.now) fields.now)) }
+/// What the fields of a line say, as far as it is read yet.
+fn parse_fields(alloc: Global, fields: &[&[u8]]) -> Result<Option<Record>, AllocError>
+    ensures { IfOk result (λ given. option_map said given ≡ known_by (map (λ field. field.now) fields.now)) }
 {
     let [word, fields @ ..] = fields else {
         return Ok(None);
     };
     if *word == b"class".as_slice() {
-        Ok(class_line(fields))
+        Ok(parse_class(fields))
     } else if *word == b"map".as_slice() {
-        Ok(map_line(fields))
+        Ok(parse_map(fields))
     } else if *word == b"w".as_slice() {
-        weights_line(alloc, fields)
+        parse_weights(alloc, fields)
     } else {
         Ok(None)
     }
 }
 
 /// Whether a line is short enough, and in ASCII.
-fn is_sound(line: &[u8]) -> bool
-    ensures { result ≡ is_line line.now }
+fn is_short_ascii(line: &[u8]) -> bool
+    ensures { result ≡ is_short_ascii line.now }
 {
     line.len() <= LINE_LIMIT && !line.iter().any(|byte| *byte >= 0x80)
 }
@@ -134,17 +135,17 @@ fn is_comment(line: &[u8]) -> bool
     matches!(line, [] | [b'#', ..])
 }
 
-/// What a line says, given without its LF, or `None` if it is not in the grammar (our profile).
+/// What a line says, given without its LF, or `None` if it is not in the grammar or not read yet (docs/RECORDS.md).
 ///
 /// Errors: `AllocError` where memory is refused.
-pub(crate) fn says(alloc: Global, line: &[u8]) -> Result<Option<Saying>, AllocError>
-    ensures { IfOk result (λ saying. option_map said saying ≡ saying_of line.now) }
+pub(crate) fn parse_line(alloc: Global, line: &[u8]) -> Result<Option<Record>, AllocError>
+    ensures { IfOk result (λ given. option_map said given ≡ known_line line.now) }
 {
-    if !is_sound(line) {
+    if !is_short_ascii(line) {
         return Ok(None);
     }
     if is_comment(line) {
-        return Ok(Some(Saying::Nothing));
+        return Ok(Some(Record::Nothing));
     }
-    says_by(alloc, &parts(alloc, line, b' ')?)
+    parse_fields(alloc, &split_by(alloc, line, b' ')?)
 }

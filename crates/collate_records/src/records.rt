@@ -1,17 +1,17 @@
-// What an accepted records file says of characters.
+//! What an accepted records file says of characters.
 
 ghost use Rattle.std.specs.Prelude.{◌≡◌, ◌==◌, ◌++◌, ◌∷◌, [], cond, OnOk, OnErr};
 ghost use Rattle.std.specs.Option.{option_copied};
 ghost use Rattle.icu_normalizer_core.specs.Canonical.{IsDecomposing};
 ghost use Rattle.icu_normalizer_core.specs.Properties.{mapped_to};
 ghost use Rattle.collate_records.specs.Accepted.{AreAccepted};
-ghost use Rattle.collate_records.specs.Sayings.{canonical_of, collation_of, first_found, class_of, step_of, full_of, expanded, elements_in};
+ghost use Rattle.collate_records.specs.Meaning.{canonical_of, collation_of, first_found, class_of, step_of, full_of, expanded, lone_elements_in};
 ghost use Rattle.collate_records.specs.Tables.{AddsFront};
 ghost use Rattle.collate_records.specs.Files.{IsReadFrom};
 
-use crate::reader::read_sayings;
+use crate::reader::read_records;
 use crate::rule::RecordsError;
-use crate::sayings::Saying;
+use crate::record::Record;
 use crate::tables::Tables;
 use icu_collator_types::elements::Element;
 use icu_collator_types::options::FileSettings;
@@ -25,26 +25,26 @@ use std::marker::Model;
 /// look-up tables of them (our profile). Whoever holds records knows that the lines are accepted: `keep_rules` says so.
 #[derive(Drop)]
 pub struct Records {
-    sayings: Vec<Saying>,
+    records: Vec<Record>,
     tables: Tables,
 }
 
 impl Model for Records {
     ghost use Rattle.std.specs.Prelude.{List, map};
-    ghost use Rattle.collate_records.specs.Sayings.{Saying as PureSaying, said};
+    ghost use Rattle.collate_records.specs.Record.{Record as PlainRecord, said};
 
-    ghost Value = { List PureSaying };
+    ghost Value = { List PlainRecord };
 
     ghost use Rattle.collate_records.specs.Kept.{IsKept};
 
-    ghost view = { λ r. map said r.sayings.items };
+    ghost view = { λ r. map said r.records.items };
 
     ghost invariant = { IsKept };
 }
 
 impl Records {
     /// Reads a records file (our profile). It is accepted exactly if no line breaks a rule; the records are what its lines
-    /// say, one saying a line.
+    /// say, one given a line.
     ///
     /// Errors: `Fault` with the first fault of any other file, in the order of faults, its line counted from 1; `Memory`
     /// where memory is refused.
@@ -65,9 +65,9 @@ impl Records {
     ) -> Result<Records, RecordsError>
         ensures { IsReadFrom bytes.now result }
     {
-        let sayings = read_sayings(alloc, bytes)?;
-        let tables = Tables::new(alloc, &sayings, trie_type)?;
-        Ok(Records { sayings, tables })
+        let records = read_records(alloc, bytes)?;
+        let tables = Tables::new(alloc, &records, trie_type)?;
+        Ok(Records { records, tables })
     }
 
     /// The lines of records are those of an accepted file: each is in the grammar, and none offends against a rule. So
@@ -79,13 +79,15 @@ impl Records {
         ensures accepted { AreAccepted self.now }
         ensures canonical { IsDecomposing (canonical_of self.now) }
     {
-        let _ = &self.sayings;
+        let _ = &self.records;
     }
 
-    /// What the file sets of the options (our profile). No line sets any yet.
+    /// What the file sets of the options (docs/RECORDS.md). No line that sets any is read yet.
+    #[tactic(auto, using(crate::proofs::KnownRecords::default_set))]
     pub fn settings(&self) -> FileSettings
         ensures { let collation = collation_of self.now in result ≡ collation.options }
     {
+        self.keep_rules();
         Default::default()
     }
 
@@ -134,7 +136,7 @@ impl Records {
 
     /// The recorded elements of a code point; `None` where no line gives it any.
     pub fn elements32(&self, c: u32) -> Option<&[Element]>
-        ensures { option_copied result ≡ first_found (elements_in c) self.now }
+        ensures { option_copied result ≡ first_found (lone_elements_in c) self.now }
     {
         self.tables
             .weights

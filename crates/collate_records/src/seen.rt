@@ -1,6 +1,6 @@
 // The things that lines of a records file were for.
 
-use crate::sayings::Saying;
+use crate::record::Record;
 use std::alloc::{AllocError, Global};
 use std::collections::BTreeSet;
 
@@ -15,12 +15,12 @@ pub(crate) struct Seen {
 impl Seen {
     ghost use Rattle.std.specs.Prelude.{◌≡◌, ◌||◌, false, not, IfOk, OnOk};
     ghost use Rattle.collate_records.specs.Rules.{is_second};
-    ghost use Rattle.collate_records.specs.Sayings.{Saying as Said, said};
+    ghost use Rattle.collate_records.specs.Record.{Record as Said, said};
     ghost use Rattle.collate_records.specs.Seen.{is_seen};
 
     /// Nothing is seen yet.
     pub(crate) fn new(alloc: Global) -> Seen
-        ensures { (saying : Said) → is_seen result saying ≡ false }
+        ensures { (given : Said) → is_seen result given ≡ false }
     {
         Seen {
             classes: BTreeSet::new(alloc),
@@ -30,15 +30,15 @@ impl Seen {
     }
 
     /// Sees what a line is for, and answers whether no earlier line was for it; a line that says nothing is for nothing.
-    pub(crate) fn insert(&mut self, saying: &Saying) -> Result<bool, AllocError>
-        ensures new { IfOk result (λ is_new. is_new ≡ not (is_seen self.old (said saying.now))) }
-        ensures seen { OnOk result ((other : Said) → is_seen self.new other ≡ (is_seen self.old other || is_second (said saying.now) other)) }
+    pub(crate) fn insert(&mut self, given: &Record) -> Result<bool, AllocError>
+        ensures new { IfOk result (λ is_new. is_new ≡ not (is_seen self.old (said given.now))) }
+        ensures seen { OnOk result ((other : Said) → is_seen self.new other ≡ (is_seen self.old other || is_second (said given.now) other)) }
     {
-        Ok(match saying {
-            Saying::Nothing => true,
-            Saying::Class { character, .. } => self.classes.insert(*character)?,
-            Saying::Map { character, .. } => self.mappings.insert(*character)?,
-            Saying::Weights { character, .. } => self.weights.insert(*character)?,
+        Ok(match given {
+            Record::Nothing => true,
+            Record::Class { character, .. } => self.classes.insert(*character)?,
+            Record::Map { character, .. } => self.mappings.insert(*character)?,
+            Record::Weights { character, .. } => self.weights.insert(*character)?,
         })
     }
 }

@@ -6,11 +6,11 @@ ghost use Rattle.collate_records.specs.declared.rule.Rule.TheVariants.{Limit, V1
 ghost use Rattle.collate_records.specs.Accepted.{HasSmallClass};
 ghost use Rattle.collate_records.specs.Offenders.{NoneOffends};
 ghost use Rattle.collate_records.specs.Rules.{is_second};
-ghost use Rattle.collate_records.specs.Sayings.{Saying as PureSaying, said};
+ghost use Rattle.collate_records.specs.Record.{Record as PlainRecord, said};
 ghost use Rattle.collate_records.specs.Tables.{AreFilledWith, AreTablesOf, HaveRoom};
 
 use crate::character_table::{CharacterTable, CharacterTableBuilder};
-use crate::sayings::Saying;
+use crate::record::Record;
 use icu_collator_types::elements::Element;
 use icu_collections::codepointtrie::TrieType;
 use icu_normalizer_core::properties::Decomposed;
@@ -28,17 +28,17 @@ impl Tables {
     /// The tables of lines that keep the rules, over tries of this type. `AllocError` where memory is refused.
     pub(crate) fn new(
         alloc: Global,
-        sayings: &[Saying],
+        records: &[Record],
         trie_type: TrieType,
     ) -> Result<Tables, AllocError>
-        requires classes { All HasSmallClass (map said sayings.now) }
-        requires once { NoneOffends V14 (map said sayings.now) }
-        requires few { NoneOffends Limit (map said sayings.now) }
-        ensures { IfOk result (λ tables. AreTablesOf tables (map said sayings.now)) }
+        requires classes { All HasSmallClass (map said records.now) }
+        requires once { NoneOffends V14 (map said records.now) }
+        requires few { NoneOffends Limit (map said records.now) }
+        ensures { IfOk result (λ tables. AreTablesOf tables (map said records.now)) }
     {
         let mut tables = TablesBuilder::new(alloc, trie_type)?;
-        for saying in sayings {
-            tables.add(alloc, saying)?;
+        for given in records {
+            tables.add(alloc, given)?;
         }
         tables.build(alloc)
     }
@@ -65,15 +65,15 @@ impl TablesBuilder {
     }
 
     /// Adds what one more line says, where no earlier one is for the same thing. `AllocError` where memory is refused.
-    fn add(&mut self, alloc: Global, saying: &Saying) -> Result<(), AllocError>
-        requires class { HasSmallClass (said saying.now) }
+    fn add(&mut self, alloc: Global, given: &Record) -> Result<(), AllocError>
+        requires class { HasSmallClass (said given.now) }
         requires room { HaveRoom self.old }
-        ensures { (lines : List PureSaying) → AreFilledWith self.old lines → list_any (λ line. is_second line (said saying.now)) lines ≡ false → OnOk result (AreFilledWith self.new (lines ++ said saying.now ∷ [])) }
+        ensures { (lines : List PlainRecord) → AreFilledWith self.old lines → list_any (λ line. is_second line (said given.now)) lines ≡ false → OnOk result (AreFilledWith self.new (lines ++ said given.now ∷ [])) }
     {
-        match saying {
-            Saying::Nothing => Ok(()),
-            Saying::Class { character, class } => self.classes.insert(*character, *class as u8),
-            Saying::Map {
+        match given {
+            Record::Nothing => Ok(()),
+            Record::Class { character, class } => self.classes.insert(*character, *class as u8),
+            Record::Map {
                 character,
                 first,
                 second,
@@ -85,7 +85,7 @@ impl TablesBuilder {
                 };
                 self.mappings.insert(*character, mapping)
             }
-            Saying::Weights {
+            Record::Weights {
                 character,
                 elements,
             } => {
@@ -97,7 +97,7 @@ impl TablesBuilder {
 
     /// The tables. `AllocError` where memory is refused.
     fn build(self, alloc: Global) -> Result<Tables, AllocError>
-        ensures { (lines : List PureSaying) → AreFilledWith self lines → IfOk result (λ tables. AreTablesOf tables lines) }
+        ensures { (lines : List PlainRecord) → AreFilledWith self lines → IfOk result (λ tables. AreTablesOf tables lines) }
     {
         Ok(Tables {
             classes: self.classes.build(alloc)?,

@@ -5,12 +5,13 @@ ghost use Rattle.std.specs.Prelude.{◌≡◌, ℕ, ◌↔◌, ◌∷◌, ◌++�
 ghost use Rattle.std.specs.Option.{option_to_list};
 ghost use Rattle.std.specs.List.{list_any};
 ghost use Rattle.icu_normalizer_core.specs.BuiltIn.{is_jamo, is_syllable};
-ghost use Rattle.collate_records.specs.Sayings.{said, mapping, is_built_in};
-ghost use Rattle.collate_records.specs.Rules.{IsBadClass, Contradicts, MapsHangul, is_built_in_saying};
+ghost use Rattle.collate_records.specs.Record.{said, mapping};
+ghost use Rattle.collate_records.specs.Meaning.{is_built_in};
+ghost use Rattle.collate_records.specs.Rules.{IsBadClass, Contradicts, MapsHangul, is_built_in_record};
 ghost use Rattle.collate_records.specs.Offenders.{NoneOffends, IsFirstOffender};
 
 use crate::rule::Rule;
-use crate::sayings::Saying;
+use crate::record::Record;
 use icu_normalizer_core::built_in::{
     built_in_class, built_in_compatibility_step, built_in_step, is_jamo, is_syllable,
 };
@@ -18,11 +19,11 @@ use icu_normalizer_core::properties::Decomposed;
 
 /// The first line that gives a class outside 1 to 254, other than one that is built in (rule C3,
 /// our profile). Lines count from 0; `None` where no line offends.
-pub fn first_bad_class(sayings: &[Saying]) -> Option<usize>
-    ensures { MatchOption result (NoneOffends Rule.C3 (map said sayings.now)) (λ i. IsFirstOffender Rule.C3 (map said sayings.now) i) }
+pub fn first_bad_class(records: &[Record]) -> Option<usize>
+    ensures { MatchOption result (NoneOffends Rule.C3 (map said records.now)) (λ i. IsFirstOffender Rule.C3 (map said records.now) i) }
 {
-    for (i, saying) in sayings.iter().enumerate() {
-        if is_bad_class(saying) {
+    for (i, given) in records.iter().enumerate() {
+        if is_bad_class(given) {
             return Some(i);
         }
     }
@@ -31,11 +32,11 @@ pub fn first_bad_class(sayings: &[Saying]) -> Option<usize>
 
 /// The first line that contradicts what is built in (rule C8, our profile); a line that says the
 /// same again doesn't. Lines count from 0; `None` where no line offends.
-pub fn first_contradiction(sayings: &[Saying]) -> Option<usize>
-    ensures { MatchOption result (NoneOffends Rule.C8 (map said sayings.now)) (λ i. IsFirstOffender Rule.C8 (map said sayings.now) i) }
+pub fn first_contradiction(records: &[Record]) -> Option<usize>
+    ensures { MatchOption result (NoneOffends Rule.C8 (map said records.now)) (λ i. IsFirstOffender Rule.C8 (map said records.now) i) }
 {
-    for (i, saying) in sayings.iter().enumerate() {
-        if contradicts(saying) {
+    for (i, given) in records.iter().enumerate() {
+        if contradicts(given) {
             return Some(i);
         }
     }
@@ -44,11 +45,11 @@ pub fn first_contradiction(sayings: &[Saying]) -> Option<usize>
 
 /// The first line whose mapping names a jamo or a syllable, unless the mapping is built in (rule
 /// C9, our profile). Lines count from 0; `None` where no line offends.
-pub fn first_mapped_hangul(sayings: &[Saying]) -> Option<usize>
-    ensures { MatchOption result (NoneOffends Rule.C9 (map said sayings.now)) (λ i. IsFirstOffender Rule.C9 (map said sayings.now) i) }
+pub fn first_mapped_hangul(records: &[Record]) -> Option<usize>
+    ensures { MatchOption result (NoneOffends Rule.C9 (map said records.now)) (λ i. IsFirstOffender Rule.C9 (map said records.now) i) }
 {
-    for (i, saying) in sayings.iter().enumerate() {
-        if maps_hangul(saying) {
+    for (i, given) in records.iter().enumerate() {
+        if maps_hangul(given) {
             return Some(i);
         }
     }
@@ -56,11 +57,11 @@ pub fn first_mapped_hangul(sayings: &[Saying]) -> Option<usize>
 }
 
 /// Whether a line gives a class outside 1 to 254 that isn't built in.
-fn is_bad_class(saying: &Saying) -> bool
-    ensures { IsTrue result ↔ IsBadClass (said saying.now) }
+fn is_bad_class(given: &Record) -> bool
+    ensures { IsTrue result ↔ IsBadClass (said given.now) }
 {
-    match saying {
-        Saying::Class { character, class } => {
+    match given {
+        Record::Class { character, class } => {
             !(1..=254).contains(class)
                 && built_in_class(*character as u32).map(u16::from) != Some(*class)
         }
@@ -69,26 +70,26 @@ fn is_bad_class(saying: &Saying) -> bool
 }
 
 /// Whether a line contradicts what is built in.
-fn contradicts(saying: &Saying) -> bool
-    ensures { IsTrue result ↔ Contradicts (said saying.now) }
+fn contradicts(given: &Record) -> bool
+    ensures { IsTrue result ↔ Contradicts (said given.now) }
 {
-    match saying {
-        Saying::Class { character, .. } => {
-            built_in_class(*character as u32).is_some() && !is_built_in_saying(saying)
+    match given {
+        Record::Class { character, .. } => {
+            built_in_class(*character as u32).is_some() && !is_built_in_record(given)
         }
-        Saying::Map { character, .. } => {
-            is_built_in(*character as u32) && !is_built_in_saying(saying)
+        Record::Map { character, .. } => {
+            is_built_in(*character as u32) && !is_built_in_record(given)
         }
         _ => false,
     }
 }
 
 /// Whether a line's mapping names a jamo or a syllable, and isn't built in.
-fn maps_hangul(saying: &Saying) -> bool
-    ensures { IsTrue result ↔ MapsHangul (said saying.now) }
+fn maps_hangul(given: &Record) -> bool
+    ensures { IsTrue result ↔ MapsHangul (said given.now) }
 {
-    match saying {
-        Saying::Map {
+    match given {
+        Record::Map {
             character,
             first,
             second,
@@ -100,7 +101,7 @@ fn maps_hangul(saying: &Saying) -> bool
                     Some(second) => is_hangul(*second),
                     None => false,
                 };
-            is_named && !is_built_in_saying(saying)
+            is_named && !is_built_in_record(given)
         }
         _ => false,
     }
@@ -121,14 +122,14 @@ pub fn is_built_in(c: u32) -> bool
 }
 
 /// Whether a line says exactly what is built in.
-fn is_built_in_saying(saying: &Saying) -> bool
-    ensures { result ≡ is_built_in_saying (said saying.now) }
+fn is_built_in_record(given: &Record) -> bool
+    ensures { result ≡ is_built_in_record (said given.now) }
 {
-    match saying {
-        Saying::Class { character, class } => {
+    match given {
+        Record::Class { character, class } => {
             built_in_class(*character as u32).map(u16::from) == Some(*class)
         }
-        Saying::Map {
+        Record::Map {
             character,
             first,
             second,
@@ -140,7 +141,7 @@ fn is_built_in_saying(saying: &Saying) -> bool
 
 /// Whether a mapping is built in just so; a syllable alone is composed.
 fn is_built_in_mapping(c: u32, first: char, second: Option<char>, is_excluded: bool) -> bool
-    ensures { result ≡ is_built_in_saying (mapping c (first ∷ option_to_list second) is_excluded) }
+    ensures { result ≡ is_built_in_record (mapping c (first ∷ option_to_list second) is_excluded) }
 {
     match (built_in_step(c), second) {
         (Some(Decomposed::Singleton(d)), None) => first == d,

@@ -2,16 +2,17 @@
 
 ghost use Rattle.std.specs.Prelude.{◌≡◌, ℕ, ◌↔◌, ◌∷◌, ◌++◌, List, [], map, true, IsTrue, IfOk, MatchOption};
 ghost use Rattle.icu_normalizer_core.specs.Properties.{mapped_to};
-ghost use Rattle.collate_records.specs.Sayings.{said, expanded};
+ghost use Rattle.collate_records.specs.Record.{said};
+ghost use Rattle.collate_records.specs.Meaning.{expanded};
 ghost use Rattle.collate_records.specs.Rules.{HasBadList, IsBadList};
-ghost use Rattle.collate_records.specs.Facts.{stated};
-ghost use Rattle.collate_records.specs.Lists.{steps_by, is_mark_at, IsFront, IsBadlyMapped};
+ghost use Rattle.collate_records.specs.CanonicalParts.{in_full, IsBadOfParts};
+ghost use Rattle.collate_records.specs.Lists.{steps_by, is_mark_at, IsFront};
 ghost use Rattle.collate_records.specs.Offenders.{NoneOffends, IsFirstOffender};
 
-use crate::facts::{Fact, any_step, class_of, fact_of, said_mapping, step_of};
+use crate::canonical_part::{CanonicalPart, any_step, class_of, canonical_part, said_mapping, step_of};
 use crate::rule::Rule;
 use crate::rules::lines::is_built_in;
-use crate::sayings::Saying;
+use crate::record::Record;
 use icu_normalizer_core::properties::Decomposed;
 use std::alloc::{AllocError, Global};
 
@@ -38,14 +39,14 @@ struct Front {
 /// It is meant for lines that close no loop (C2): else a list is followed for as many steps as there are code points.
 ///
 /// Errors: `AllocError` where memory is refused.
-pub fn first_bad_list(alloc: Global, sayings: &[Saying]) -> Result<Option<usize>, AllocError>
-    ensures { IfOk result (λ found. MatchOption found (NoneOffends Rule.C4 (map said sayings.now)) (λ i. IsFirstOffender Rule.C4 (map said sayings.now) i)) }
+pub fn first_bad_list(alloc: Global, records: &[Record]) -> Result<Option<usize>, AllocError>
+    ensures { IfOk result (λ found. MatchOption found (NoneOffends Rule.C4 (map said records.now)) (λ i. IsFirstOffender Rule.C4 (map said records.now) i)) }
 {
-    let mut facts = Vec::new(alloc);
-    for (i, saying) in sayings.iter().enumerate() {
-        if let Some(fact) = fact_of(saying) {
-            facts.push(fact)?;
-            if has_bad_list(&facts) {
+    let mut parts = Vec::new(alloc);
+    for (i, given) in records.iter().enumerate() {
+        if let Some(part) = canonical_part(given) {
+            parts.push(part)?;
+            if has_bad_list(&parts) {
                 return Ok(Some(i));
             }
         }
@@ -54,11 +55,11 @@ pub fn first_bad_list(alloc: Global, sayings: &[Saying]) -> Result<Option<usize>
 }
 
 /// Whether a full list of a mapped character that isn't built in is bad.
-fn has_bad_list(facts: &[Fact]) -> bool
-    ensures { IsTrue result ↔ HasBadList (map stated facts.now) }
+fn has_bad_list(parts: &[CanonicalPart]) -> bool
+    ensures { IsTrue result ↔ HasBadList (map in_full parts.now) }
 {
-    for fact in facts {
-        if is_badly_mapped(facts, fact.character()) {
+    for part in parts {
+        if is_badly_mapped(parts, part.character()) {
             return true;
         }
     }
@@ -66,39 +67,39 @@ fn has_bad_list(facts: &[Fact]) -> bool
 }
 
 /// Whether a character is mapped, not built in, and has a bad full list.
-fn is_badly_mapped(facts: &[Fact], c: u32) -> bool
-    ensures { IsTrue result ↔ IsBadlyMapped (map stated facts.now) c }
+fn is_badly_mapped(parts: &[CanonicalPart], c: u32) -> bool
+    ensures { IsTrue result ↔ IsBadOfParts (map in_full parts.now) c }
 {
-    said_mapping(facts, c).is_some()
+    said_mapping(parts, c).is_some()
         && !is_built_in(c)
-        && (is_bad_list(facts, Mappings::Canonical, c) || is_bad_list(facts, Mappings::All, c))
+        && (is_bad_list(parts, Mappings::Canonical, c) || is_bad_list(parts, Mappings::All, c))
 }
 
 /// Whether a character's full list has over eight characters, or begins with a mark.
-fn is_bad_list(facts: &[Fact], mappings: Mappings, c: u32) -> bool
-    ensures { IsTrue result ↔ IsBadList (map stated facts.now) (expanded (steps_by mappings (map stated facts.now)) 1114112 c) }
+fn is_bad_list(parts: &[CanonicalPart], mappings: Mappings, c: u32) -> bool
+    ensures { IsTrue result ↔ IsBadList (map in_full parts.now) (expanded (steps_by mappings (map in_full parts.now)) 1114112 c) }
 {
     let empty = Front {
         first: None,
         count: 0,
     };
-    let list = expanded(facts, mappings, 0x110000, c, empty);
-    list.count > 8 || is_mark(facts, list.first)
+    let list = expanded(parts, mappings, 0x110000, c, empty);
+    list.count > 8 || is_mark(parts, list.first)
 }
 
 /// Whether there is a character, and it is a mark.
-fn is_mark(facts: &[Fact], first: Option<u32>) -> bool
-    ensures { result ≡ is_mark_at (map stated facts.now) first }
+fn is_mark(parts: &[CanonicalPart], first: Option<u32>) -> bool
+    ensures { result ≡ is_mark_at (map in_full parts.now) first }
 {
     match first {
-        Some(first) => class_of(facts, first) != 0,
+        Some(first) => class_of(parts, first) != 0,
         None => false,
     }
 }
 
 /// A list with what at most so many steps, one after another, leave of a character; a list of over eight characters stays.
-fn expanded(facts: &[Fact], mappings: Mappings, limit: u32, c: u32, list: Front) -> Front
-    ensures { (before : List ℕ) → IsFront list before → IsFront result (before ++ expanded (steps_by mappings (map stated facts.now)) limit c) }
+fn expanded(parts: &[CanonicalPart], mappings: Mappings, limit: u32, c: u32, list: Front) -> Front
+    ensures { (before : List ℕ) → IsFront list before → IsFront result (before ++ expanded (steps_by mappings (map in_full parts.now)) limit c) }
 {
     if list.count > 8 {
         return list;
@@ -106,24 +107,24 @@ fn expanded(facts: &[Fact], mappings: Mappings, limit: u32, c: u32, list: Front)
     if limit == 0 {
         return list.with(c);
     }
-    match mappings.step(facts, c) {
+    match mappings.step(parts, c) {
         Decomposed::Default => list.with(c),
-        Decomposed::Singleton(d) => expanded(facts, mappings, limit - 1, d as u32, list),
+        Decomposed::Singleton(d) => expanded(parts, mappings, limit - 1, d as u32, list),
         Decomposed::Expansion(d, e) => {
-            let front = expanded(facts, mappings, limit - 1, d as u32, list);
-            expanded(facts, mappings, limit - 1, e as u32, front)
+            let front = expanded(parts, mappings, limit - 1, d as u32, list);
+            expanded(parts, mappings, limit - 1, e as u32, front)
         }
     }
 }
 
 impl Mappings {
     /// The mapping of a character.
-    fn step(self, facts: &[Fact], c: u32) -> Decomposed
-        ensures { mapped_to result ≡ steps_by self (map stated facts.now) c }
+    fn step(self, parts: &[CanonicalPart], c: u32) -> Decomposed
+        ensures { mapped_to result ≡ steps_by self (map in_full parts.now) c }
     {
         match self {
-            Mappings::Canonical => step_of(facts, c),
-            Mappings::All => any_step(facts, c),
+            Mappings::Canonical => step_of(parts, c),
+            Mappings::All => any_step(parts, c),
         }
     }
 }

@@ -3,16 +3,17 @@
 ghost use Rattle.std.specs.Prelude.{◌≡◌, ℕ, ◌↔◌, ◌∷◌, ◌++◌, [], map, true, IsTrue, IfOk, OnOk, MatchOption};
 ghost use Rattle.icu_normalizer_core.specs.Canonical.{Reaches};
 ghost use Rattle.icu_normalizer_core.specs.Properties.{mapped_to};
-ghost use Rattle.collate_records.specs.Sayings.{said};
-ghost use Rattle.collate_records.specs.Rules.{any_step, HasLoop};
-ghost use Rattle.collate_records.specs.Facts.{stated};
+ghost use Rattle.collate_records.specs.Meaning.{any_step};
+ghost use Rattle.collate_records.specs.Record.{said};
+ghost use Rattle.collate_records.specs.Rules.{HasLoop};
+ghost use Rattle.collate_records.specs.CanonicalParts.{in_full};
 ghost use Rattle.collate_records.specs.Offenders.{NoneOffends, IsFirstOffender};
 ghost use Rattle.collate_records.specs.Reached.{with_one, with_all, AreSmall};
 
-use crate::facts::{Fact, any_step, fact_of, said_mapping};
+use crate::canonical_part::{CanonicalPart, any_step, canonical_part, said_mapping};
 use crate::rule::Rule;
 use crate::rules::lines::is_built_in;
-use crate::sayings::Saying;
+use crate::record::Record;
 use icu_normalizer_core::properties::Decomposed;
 use std::alloc::{AllocError, Global};
 
@@ -20,14 +21,14 @@ use std::alloc::{AllocError, Global};
 /// among them (rule C2, our profile). Lines count from 0; `None` where no line offends.
 ///
 /// Errors: `AllocError` where memory is refused.
-pub fn first_loop(alloc: Global, sayings: &[Saying]) -> Result<Option<usize>, AllocError>
-    ensures { IfOk result (λ found. MatchOption found (NoneOffends Rule.C2 (map said sayings.now)) (λ i. IsFirstOffender Rule.C2 (map said sayings.now) i)) }
+pub fn first_loop(alloc: Global, records: &[Record]) -> Result<Option<usize>, AllocError>
+    ensures { IfOk result (λ found. MatchOption found (NoneOffends Rule.C2 (map said records.now)) (λ i. IsFirstOffender Rule.C2 (map said records.now) i)) }
 {
-    let mut facts = Vec::new(alloc);
-    for (i, saying) in sayings.iter().enumerate() {
-        if let Some(fact) = fact_of(saying) {
-            let is_closed = closes_loop(alloc, &facts, fact)?;
-            facts.push(fact)?;
+    let mut parts = Vec::new(alloc);
+    for (i, given) in records.iter().enumerate() {
+        if let Some(part) = canonical_part(given) {
+            let is_closed = closes_loop(alloc, &parts, part)?;
+            parts.push(part)?;
             if is_closed {
                 return Ok(Some(i));
             }
@@ -36,31 +37,31 @@ pub fn first_loop(alloc: Global, sayings: &[Saying]) -> Result<Option<usize>, Al
     Ok(None)
 }
 
-/// Whether a fact more closes a loop of mapping steps.
-fn closes_loop(alloc: Global, facts: &[Fact], fact: Fact) -> Result<bool, AllocError>
-    requires { HasLoop (map stated facts.now) → ⊥ }
-    ensures { IfOk result (λ b. IsTrue b ↔ HasLoop (map stated facts.now ++ stated fact ∷ [])) }
+/// Whether a part more closes a loop of mapping steps.
+fn closes_loop(alloc: Global, parts: &[CanonicalPart], part: CanonicalPart) -> Result<bool, AllocError>
+    requires { HasLoop (map in_full parts.now) → ⊥ }
+    ensures { IfOk result (λ b. IsTrue b ↔ HasLoop (map in_full parts.now ++ in_full part ∷ [])) }
 {
-    match fact {
-        Fact::Map { character, step } => {
-            if is_built_in(character as u32) || said_mapping(facts, character as u32).is_some() {
+    match part {
+        CanonicalPart::Map { character, step } => {
+            if is_built_in(character as u32) || said_mapping(parts, character as u32).is_some() {
                 Ok(false)
             } else {
-                reaches(alloc, facts, step, character as u32)
+                reaches(alloc, parts, step, character as u32)
             }
         }
-        Fact::Class { .. } => Ok(false),
+        CanonicalPart::Class { .. } => Ok(false),
     }
 }
 
 /// Whether mapping steps, none included, lead from the characters of a mapping to a character.
 fn reaches(
     alloc: Global,
-    facts: &[Fact],
+    parts: &[CanonicalPart],
     start: Decomposed,
     target: u32,
 ) -> Result<bool, AllocError>
-    ensures { IfOk result (λ b. IsTrue b ↔ Reaches (any_step (map stated facts.now)) (mapped_to start) target) }
+    ensures { IfOk result (λ b. IsTrue b ↔ Reaches (any_step (map in_full parts.now)) (mapped_to start) target) }
 {
     let mut list = Vec::new(alloc);
     add_all(&mut list, start)?;
@@ -70,7 +71,7 @@ fn reaches(
         if c == target {
             return Ok(true);
         }
-        let step = any_step(facts, c);
+        let step = any_step(parts, c);
         add_all(&mut list, step)?;
         next += 1;
     }

@@ -1,28 +1,28 @@
 // The rule that a mapping stands on a starter (C1).
 
 ghost use Rattle.std.specs.Prelude.{◌≡◌, ℕ, ◌↔◌, map, true, IsTrue, IfOk, MatchOption};
-ghost use Rattle.collate_records.specs.Sayings.{said};
-ghost use Rattle.collate_records.specs.Facts.{stated, IsMappedMark};
+ghost use Rattle.collate_records.specs.Record.{said};
+ghost use Rattle.collate_records.specs.CanonicalParts.{in_full, IsMarkOfParts};
 ghost use Rattle.collate_records.specs.Offenders.{NoneOffends, IsFirstOffender};
 
-use crate::facts::{Fact, class_of, fact_of, said_mapping};
+use crate::canonical_part::{CanonicalPart, class_of, canonical_part, said_mapping};
 use crate::rule::Rule;
 use crate::rules::lines::is_built_in;
-use crate::sayings::Saying;
+use crate::record::Record;
 use std::alloc::{AllocError, Global};
 
 /// The first line with which a character that isn't built in has a mapping and a class other than
 /// 0 (rule C1, our profile). Lines count from 0; `None` where no line offends.
 ///
 /// Errors: `AllocError` where memory is refused.
-pub fn first_mapped_mark(alloc: Global, sayings: &[Saying]) -> Result<Option<usize>, AllocError>
-    ensures { IfOk result (λ found. MatchOption found (NoneOffends Rule.C1 (map said sayings.now)) (λ i. IsFirstOffender Rule.C1 (map said sayings.now) i)) }
+pub fn first_mapped_mark(alloc: Global, records: &[Record]) -> Result<Option<usize>, AllocError>
+    ensures { IfOk result (λ found. MatchOption found (NoneOffends Rule.C1 (map said records.now)) (λ i. IsFirstOffender Rule.C1 (map said records.now) i)) }
 {
-    let mut facts = Vec::new(alloc);
-    for (i, saying) in sayings.iter().enumerate() {
-        if let Some(fact) = fact_of(saying) {
-            facts.push(fact)?;
-            if is_mapped_mark(&facts, fact.character()) {
+    let mut parts = Vec::new(alloc);
+    for (i, given) in records.iter().enumerate() {
+        if let Some(part) = canonical_part(given) {
+            parts.push(part)?;
+            if is_mapped_mark(&parts, part.character()) {
                 return Ok(Some(i));
             }
         }
@@ -31,8 +31,8 @@ pub fn first_mapped_mark(alloc: Global, sayings: &[Saying]) -> Result<Option<usi
 }
 
 /// Whether a character that isn't built in has a mapping and a class other than 0.
-fn is_mapped_mark(facts: &[Fact], c: u32) -> bool
-    ensures { IsTrue result ↔ IsMappedMark (map stated facts.now) c }
+fn is_mapped_mark(parts: &[CanonicalPart], c: u32) -> bool
+    ensures { IsTrue result ↔ IsMarkOfParts (map in_full parts.now) c }
 {
-    said_mapping(facts, c).is_some() && !is_built_in(c) && class_of(facts, c) != 0
+    said_mapping(parts, c).is_some() && !is_built_in(c) && class_of(parts, c) != 0
 }

@@ -1,5 +1,5 @@
 use Rattle.std.proofs.Common.{◌++◌, ◌-◌, ap, sym, ◌∙◌, refl}
-use Rattle.collate_records.specs.Sayings.{step_of, expanded}
+use Rattle.collate_records.specs.Meaning.{step_of, expanded}
 use Rattle.collate_records.proofs.FullLists.{expanded-none, expanded-one, expanded-two, AddsFront-first, AddsFront-second, append_both, OnErr-always}
 use Rattle.collate_records.proofs.records.Records.+append_steps.Goals as goal
 

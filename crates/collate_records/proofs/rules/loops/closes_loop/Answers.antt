@@ -5,10 +5,12 @@ use Rattle.std.proofs.lemmas.Bool.{false≢true}
 use Rattle.std.proofs.lemmas.Result.{IfOk-weaker}
 use Rattle.icu_normalizer_core.specs.Canonical.{Reaches}
 use Rattle.icu_normalizer_core.specs.Properties.{mapped_to}
-use Rattle.collate_records.specs.declared.facts.Fact.{Fact}
-use Rattle.collate_records.specs.Rules.{any_step, HasLoop}
-use Rattle.collate_records.specs.Facts.{stated}
-use Rattle.collate_records.proofs.LoopFacts.{class_closes_none, built_in_closes_none, mapped_closes_none, mapped_found, mapped_not_found, closes_iff}
+use Rattle.collate_records.specs.declared.canonical_part.CanonicalPart.{CanonicalPart}
+use Rattle.collate_records.specs.Meaning.{any_step}
+use Rattle.collate_records.specs.Rules.{HasLoop}
+use Rattle.collate_records.specs.CanonicalParts.{in_full}
+use Rattle.collate_records.proofs.LoopParts.{class_closes_none, built_in_closes_none, mapped_closes_none, mapped_found, mapped_not_found, closes_iff}
+use Rattle.collate_records.proofs.SameParts.{parts_without_compatibility}
 use Rattle.collate_records.proofs.rules.loops.closes_loop.Goals as goal
 use Rattle.collate_records.proofs.rules.loops.closes_loop.Goals.{then-is_built_in, else-is_built_in}
 
@@ -16,24 +18,24 @@ pub returns-then-is_some : goal.returns-then-is_some
 returns-then-is_some c = (
   λ e. absurd (false≢true e),
   λ loop.
-      let P : Fact → Type 0 = λ f. HasLoop (map stated c.args.facts.now ++ stated f ∷ []) in
+      let P : CanonicalPart → Type 0 = λ f. HasLoop (map in_full c.args.parts.now ++ in_full f ∷ []) in
       let closed = subst P c.in-Map.is loop in
       absurd (elim c.if-is_built_in.branch [
-        | then-is_built_in w ↦ built_in_closes_none (map stated c.args.facts.now) c.in-Map.character c.in-Map.step (sym w.if-is_built_in.ensures) c.requires closed
+        | then-is_built_in w ↦ built_in_closes_none (map in_full c.args.parts.now) c.in-Map.character c.in-Map.step (sym w.if-is_built_in.ensures) c.requires closed
         | else-is_built_in w ↦
-            mapped_closes_none (map stated c.args.facts.now) c.in-Map.character c.in-Map.step (mapped_found _ _ w.said_mapping.ensures (sym w.is_some.ensures ∙ sym w.value-is ∙ c.if-is_some.true)) c.requires closed
+            mapped_closes_none (map in_full c.args.parts.now) c.in-Map.character c.in-Map.step (mapped_found _ _ w.said_mapping.ensures (sym w.is_some.ensures ∙ sym w.value-is ∙ c.if-is_some.true)) c.requires closed
       ]),
 )
 
 pub returns-else-is_some : goal.returns-else-is_some
 returns-else-is_some c =
-    let P : Fact → Type 0 = λ f. IfOk c.reaches.result (λ b. IsTrue b ↔ HasLoop (map stated c.args.facts.now ++ stated f ∷ [])) in
+    let P : CanonicalPart → Type 0 = λ f. IfOk c.reaches.result (λ b. IsTrue b ↔ HasLoop (map in_full c.args.parts.now ++ in_full f ∷ [])) in
     subst P (sym c.in-Map.is) (elim c.if-is_built_in.branch [
       | then-is_built_in w ↦ absurd (false≢true (sym c.if-is_some.false ∙ w.value-is ∙ w.if-is_built_in.true))
       | else-is_built_in w ↦
           let unmapped = mapped_not_found _ _ w.said_mapping.ensures (sym w.is_some.ensures ∙ sym w.value-is ∙ c.if-is_some.false) in
-          IfOk-weaker c.reaches.result (λ b. IsTrue b ↔ Reaches (any_step (map stated c.args.facts.now)) (mapped_to c.in-Map.step) c.in-Map.character) _
-          (λ b reached. closes_iff (map stated c.args.facts.now) c.in-Map.character c.in-Map.step b (sym w.if-is_built_in.ensures) unmapped c.requires reached)
+          IfOk-weaker c.reaches.result (λ b. IsTrue b ↔ Reaches (any_step (map in_full c.args.parts.now)) (mapped_to c.in-Map.step) c.in-Map.character) _
+          (λ b reached. closes_iff (map in_full c.args.parts.now) c.in-Map.character c.in-Map.step b (sym w.if-is_built_in.ensures) unmapped (parts_without_compatibility c.args.parts.now c.in-Map.character) c.requires reached)
           c.reaches.ensures
     ])
 
@@ -41,6 +43,6 @@ pub returns-in-Class : goal.returns-in-Class
 returns-in-Class c = (
   λ e. absurd (false≢true e),
   λ loop.
-      let P : Fact → Type 0 = λ f. HasLoop (map stated c.args.facts.now ++ stated f ∷ []) in
-      absurd (class_closes_none (map stated c.args.facts.now) c.in-Class.character c.in-Class.class c.requires (subst P c.in-Class.is loop)),
+      let P : CanonicalPart → Type 0 = λ f. HasLoop (map in_full c.args.parts.now ++ in_full f ∷ []) in
+      absurd (class_closes_none (map in_full c.args.parts.now) c.in-Class.character c.in-Class.class c.requires (subst P c.in-Class.is loop)),
 )

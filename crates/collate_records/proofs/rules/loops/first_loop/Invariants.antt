@@ -1,13 +1,13 @@
 use Rattle.std.proofs.Common.{ℕ, ◌<◌, map, take}
 use Rattle.collate_records.specs.declared.rule.Rule.TheVariants.{C2}
-use Rattle.collate_records.specs.Sayings.{said}
+use Rattle.collate_records.specs.Record.{said}
 use Rattle.collate_records.specs.Rules.{Offends, HasLoop}
-use Rattle.collate_records.specs.Facts.{stated, SaysSame}
+use Rattle.collate_records.specs.CanonicalParts.{in_full, SaysSame}
 use Rattle.collate_records.proofs.rules.loops.first_loop.Given as goal
 
 abbrev pub invariant-loop-i : goal.invariant-loop-i
 invariant-loop-i l = record {
-  same : SaysSame (map stated l.facts.items) (map said (take l.i l.sayings));
-  unbroken : HasLoop (map stated l.facts.items) → ⊥;
-  before : (k : ℕ) → k < l.i → Offends C2 (map said l.sayings) k → ⊥;
+  same : SaysSame (map in_full l.parts.items) (map said (take l.i l.records));
+  unbroken : HasLoop (map in_full l.parts.items) → ⊥;
+  before : (k : ℕ) → k < l.i → Offends C2 (map said l.records) k → ⊥;
 }

@@ -4,8 +4,8 @@ use Rattle.std.proofs.lemmas.Grind.{get_or_default_zero}
 use Rattle.std.proofs.lemmas.List.Elements.{All-nil}
 use Rattle.std.specs.List.{slice_index}
 use Rattle.icu_normalizer_core.specs.Properties.{mapped_to}
-use Rattle.collate_records.specs.Rules.{any_step}
-use Rattle.collate_records.specs.Facts.{stated}
+use Rattle.collate_records.specs.Meaning.{any_step}
+use Rattle.collate_records.specs.CanonicalParts.{in_full}
 use Rattle.collate_records.specs.Reached.{with_all, AreSmall}
 use Rattle.collate_records.proofs.Exploring.{exploring_begun, exploring_more, exploring_end, exploring_bound}
 use Rattle.collate_records.proofs.rules.loops.reaches.Goals as goal
@@ -31,7 +31,7 @@ loop-next-preserved c =
     (λ h. c.if-c-target.false (read ∙ h))
     (c.in_ok-add_all-2.ensures.value
     ∙ ap (λ (l : List ℕ). with_all c.loop-next.list.items l)
-    (c.any_step-step.ensures ∙ ap (any_step (map stated c.args.facts.now)) read))
+    (c.any_step-step.ensures ∙ ap (any_step (map in_full c.args.parts.now)) read))
     (c.in_ok-add_all-2.ensures.small c.loop-next.invariant.small)
 
 pub returns : goal.returns

@@ -1,9 +1,9 @@
-use Rattle.std.proofs.Common.{refl}
+use Rattle.std.proofs.Common.{refl, ◌∙◌}
 use Rattle.icu_normalizer_core.specs.Properties.{mapped_to}
 use Rattle.collate_records.specs.CharacterTables.{placed}
-use Rattle.collate_records.specs.Sayings.{class_in, mapping_in, elements_in}
+use Rattle.collate_records.specs.Meaning.{class_in, mapping_in, lone_elements_in}
 use Rattle.collate_records.specs.Tables.{class_key, mapping_key, weights_key}
-use Rattle.collate_records.proofs.Keys.{class-absent, mapping-absent, weights-absent, count_same, count_more}
+use Rattle.collate_records.proofs.Keys.{class-absent, mapping-absent, weights-absent, lone_is, count_same, count_more}
 use Rattle.collate_records.proofs.Lookups.{finds_more, finds_more_same, first_found-skip, OnOk-both}
 use Rattle.collate_records.proofs.tables.TablesBuilder.add.Goals as goal
 use Rattle.collate_records.proofs.tables.TablesBuilder.add.Goals.{in-Some, in-None}
@@ -58,8 +58,8 @@ returns-in_ok-elements-in-Weights c = λ lines tables fresh.
     rw c.in-Weights.is (OnOk-both c.insert-in-Weights.result c.insert-in-Weights.ensures.count c.insert-in-Weights.ensures.values (λ count puts. record {
       classes = λ q. rw first_found-skip (tables.classes q);
       mappings = λ q. rw first_found-skip (tables.mappings q);
-      weights = finds_more (λ v. v.items) elements_in (placed old.places old.values.items) (placed new.places new.values.items) lines _ character c.in_ok-elements-in-Weights.elements tables.weights absent puts
-          (λ q. rw (c.in_ok-elements-in-Weights.ensures.items, c.as_slice.ensures.value) refl);
+      weights = finds_more (λ v. v.items) lone_elements_in (placed old.places old.values.items) (placed new.places new.values.items) lines _ character c.in_ok-elements-in-Weights.elements tables.weights absent puts
+          (λ q. lone_is q character _ ∙ rw (c.in_ok-elements-in-Weights.ensures.items, c.as_slice.ensures.value) refl);
       class_count = count_same class_key _ lines _ tables.class_count refl;
       mapping_count = count_same mapping_key _ lines _ tables.mapping_count refl;
       weights_count = count_more weights_key _ _ lines _ character tables.weights_count count refl;

@@ -1,8 +1,8 @@
 use Rattle.std.proofs.Common.{arith}
 use borrow.Author.Tests.{ltb-true, ltb-false}
 use Rattle.collate_records.proofs.Forms.{class_other}
-use Rattle.collate_records.proofs.line.class_line.Goals as goal
-use Rattle.collate_records.proofs.line.class_line.Goals.{in_default-via-then-fields-lt2, in_default-via-else-fields-lt2+else-fields-lt3}
+use Rattle.collate_records.proofs.line.parse_class.Goals as goal
+use Rattle.collate_records.proofs.line.parse_class.Goals.{in_default-via-then-fields-lt2, in_default-via-else-fields-lt2+else-fields-lt3}
 
 pub returns-in_default : goal.returns-in_default
 returns-in_default c =

@@ -1,7 +1,7 @@
 use Rattle.std.proofs.Common.{ℕ, List, Bor, map, ap, ◌∙◌, arith, rules}
 use Rattle.collate_records.specs.Files.{Refuses}
 use Rattle.collate_records.proofs.Faults.{past_small, past_lines, past_refused, past_fault, answers_within}
-use Rattle.collate_records.proofs.reader.read_sayings.Goals as goal
+use Rattle.collate_records.proofs.reader.read_records.Goals as goal
 
 pub read_lines-requires : goal.read_lines-requires
 read_lines-requires c =
@@ -22,4 +22,4 @@ returns-in-Some c =
 
 pub returns : goal.returns
 returns c =
-    answers_within (λ sayings. sayings.items) c.args.bytes.now _ c.read_within.result (ap (λ (lines : List (Bor (List ℕ))). map (λ (line : Bor (List ℕ)). line.now) lines) c.deref-in-None.ensures.value ∙ c.in_ok-lines.ensures) c.in-None.ensures c.read_within.ensures
+    answers_within (λ records. records.items) c.args.bytes.now _ c.read_within.result (ap (λ (lines : List (Bor (List ℕ))). map (λ (line : Bor (List ℕ)). line.now) lines) c.deref-in-None.ensures.value ∙ c.in_ok-lines.ensures) c.in-None.ensures c.read_within.ensures

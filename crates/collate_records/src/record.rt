@@ -1,10 +1,10 @@
-// What a line of a records file says.
+//! What a line of a records file says.
 
 use icu_collator_types::elements::Element;
 
-/// What a line of a records file says (our profile).
+/// What a line of a records file says, as far as lines are read yet (docs/RECORDS.md).
 #[derive(Drop)]
-pub enum Saying {
+pub enum Record {
     /// Nothing: the line is empty or a comment.
     Nothing,
     /// `class CP N`: the character's canonical combining class, as written, up to 999.

@@ -2,7 +2,7 @@ use Rattle.std.proofs.Common.{ap, not, leb, rules, tests}
 use borrow.Author.Tests.{le-leb}
 use Rattle.std.proofs.lemmas.Iterator.{YieldsList-from_slice}
 use Rattle.std.proofs.lemmas.Iterator.Search.{any_from_yields_List}
-use Rattle.collate_records.proofs.line.is_sound.Goals as goal
+use Rattle.collate_records.proofs.line.is_short_ascii.Goals as goal
 
 pub returns-then-line-le-LINE_LIMIT : goal.returns-then-line-le-LINE_LIMIT
 returns-then-line-le-LINE_LIMIT c =

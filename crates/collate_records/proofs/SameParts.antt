@@ -1,0 +1,129 @@
+-- Lines that say the same of classes and mappings.
+use Rattle.std.proofs.Common.{◌≡◌, ◌≢◌, ℕ, List, [], ◌∷◌, ◌++◌, map, refl, sym, ap, ◌∙◌, subst, arith, Bool, true, false, Option, Some, None, cond}
+use Rattle.std.specs.Option.{unwrap_or}
+use Rattle.std.proofs.lemmas.List.{map-append}
+use Rattle.std.proofs.lemmas.Grind.{common_steps}
+use Rattle.collate_records.specs.declared.canonical_part.CanonicalPart.{CanonicalPart}
+use Rattle.collate_records.specs.declared.canonical_part.CanonicalPart.TheVariants.{Class, Map}
+use Rattle.icu_normalizer_core.specs.BuiltIn.{built_in_class, built_in_step, built_in_compatibility_step}
+use Rattle.collate_records.specs.Record.{Record}
+use Rattle.collate_records.specs.Meaning.{class_in, mapping_in, compatibility_in, first_found, class_of, step_of, compatibility_of, else_mapped, is_built_in, any_step}
+use Rattle.collate_records.specs.CanonicalParts.{in_full, SaysSame, subject_of}
+
+-- what is found first, else what is found later
+abbrev pub else_found : {B : Type 0} → Option B → Option B → Option B
+else_found (Some y) later = Some y
+else_found None later = later
+
+pub first_found-append : {A B : Type 0} (found : A → Option B) (xs ys : List A)
+    → first_found found (xs ++ ys) ≡ else_found (first_found found xs) (first_found found ys)
+first_found-append found [] ys = refl
+first_found-append {A} {B} found (x ∷ xs) ys =
+    elim (found x) as (λ (o : Option B). elim o [ Some y ↦ Some y | None ↦ first_found found (xs ++ ys) ] ≡ else_found (elim o [ Some y ↦ Some y | None ↦ first_found found xs ]) (first_found found ys))
+    [ Some y ↦ refl | None ↦ first_found-append found xs ys ]
+
+-- parts after parts say the same as the lines after the lines
+pub SaysSame-append : (parts lines more others : List Record) → SaysSame parts lines → SaysSame more others → SaysSame (parts ++ more) (lines ++ others)
+SaysSame-append parts lines more others first then = record {
+  classes = λ c. let a = first.classes c in let b = then.classes c in
+      let e = first_found-append (class_in c) parts more in let e' = first_found-append (class_in c) lines others in cc;
+  mappings = λ c. let a = first.mappings c in let b = then.mappings c in
+      let e = first_found-append (mapping_in c) parts more in let e' = first_found-append (mapping_in c) lines others in cc;
+  compatibilities = λ c. let a = first.compatibilities c in let b = then.compatibilities c in
+      let e = first_found-append (compatibility_in c) parts more in let e' = first_found-append (compatibility_in c) lines others in cc;
+}
+
+pub class_of-same : (parts lines : List Record) (c : ℕ) → SaysSame parts lines → class_of parts c ≡ class_of lines c
+class_of-same parts lines c same = ap (λ (o : Option ℕ). unwrap_or (built_in_class c) (unwrap_or o 0)) (same.classes c)
+
+pub step_of-same : (parts lines : List Record) (c : ℕ) → SaysSame parts lines → step_of parts c ≡ step_of lines c
+step_of-same parts lines c same =
+    ap (λ (o : Option (List ℕ)). cond (is_built_in c) (unwrap_or (built_in_step c) []) (unwrap_or o [])) (same.mappings c)
+
+pub any_step-same : (parts lines : List Record) (c : ℕ) → SaysSame parts lines → any_step parts c ≡ any_step lines c
+any_step-same parts lines c same =
+    let compatibility : compatibility_of parts c ≡ compatibility_of lines c = ap (λ (o : Option (List ℕ)). cond (is_built_in c) [] (unwrap_or o [])) (same.compatibilities c)
+    in ap (λ (ds : List ℕ). unwrap_or (built_in_compatibility_step c) (else_mapped ds (compatibility_of parts c))) (step_of-same parts lines c same)
+    ∙ ap (λ (es : List ℕ). unwrap_or (built_in_compatibility_step c) (else_mapped (step_of lines c) es)) compatibility
+
+-- a part says nothing of another character
+pub other_class : (part : CanonicalPart) (c : ℕ) → c ≢ subject_of part → class_in c (in_full part) ≡ None
+other_class (Class d k) c apart = grind (arith, common_steps)
+other_class (Map d step) c apart = refl
+
+pub other_mapping : (part : CanonicalPart) (c : ℕ) → c ≢ subject_of part → mapping_in c (in_full part) ≡ None
+other_mapping (Class d k) c apart = refl
+other_mapping (Map d step) c apart = grind (arith, common_steps)
+
+-- a part says nothing of compatibility mappings
+pub no_compatibility : (part : CanonicalPart) (c : ℕ) → compatibility_in c (in_full part) ≡ None
+no_compatibility (Class d k) c = refl
+no_compatibility (Map d step) c = refl
+
+pub parts_without_compatibility : (parts : List CanonicalPart) (c : ℕ) → first_found (compatibility_in c) (map in_full parts) ≡ None
+parts_without_compatibility [] c = refl
+parts_without_compatibility (part ∷ parts) c =
+    ap (λ (o : Option (List ℕ)). elim o as (λ _. Option (List ℕ)) [ Some y ↦ Some y | None ↦ first_found (compatibility_in c) (map in_full parts) ]) (no_compatibility part c)
+    ∙ parts_without_compatibility parts c
+
+-- where no line maps by compatibility, a step is a canonical or a built-in one
+pub any_step-canonical : (lines : List Record) (c : ℕ) → first_found (compatibility_in c) lines ≡ None
+    → any_step lines c ≡ unwrap_or (built_in_compatibility_step c) (step_of lines c)
+any_step-canonical lines c none =
+    ap (λ (o : Option (List ℕ)). unwrap_or (built_in_compatibility_step c) (else_mapped (step_of lines c) (cond (is_built_in c) [] (unwrap_or o [])))) none
+    ∙ ap (unwrap_or (built_in_compatibility_step c)) (by (is_built_in c) (step_of lines c))
+  where
+    mapped_alone : (ds : List ℕ) → else_mapped ds [] ≡ ds
+    mapped_alone [] = refl
+    mapped_alone (d ∷ ds) = refl
+
+    by : (b : Bool) (ds : List ℕ) → else_mapped ds (cond b [] []) ≡ ds
+    by true ds = mapped_alone ds
+    by false ds = mapped_alone ds
+
+pub any_step_parts : (parts : List CanonicalPart) (c : ℕ) (ds : List ℕ) → None ≡ built_in_compatibility_step c → ds ≡ step_of (map in_full parts) c
+    → ds ≡ any_step (map in_full parts) c
+any_step_parts parts c ds none is =
+    is ∙ sym (any_step-canonical (map in_full parts) c (parts_without_compatibility parts c)
+    ∙ ap (λ (o : Option (List ℕ)). unwrap_or o (step_of (map in_full parts) c)) (sym none))
+
+else_found-none : {B : Type 0} (o : Option B) → else_found o None ≡ o
+else_found-none (Some y) = refl
+else_found-none None = refl
+
+pub first_found-push : {A B : Type 0} (found : A → Option B) (xs : List A) (x : A) → found x ≡ None → first_found found (xs ++ x ∷ []) ≡ first_found found xs
+first_found-push {A} {B} found xs x e =
+    first_found-append found xs (x ∷ [])
+    ∙ ap (λ (o : Option B). else_found (first_found found xs) (elim o [ Some y ↦ Some y | None ↦ None ])) e
+    ∙ else_found-none (first_found found xs)
+
+pub first_found-other_class : (lines : List Record) (part : CanonicalPart) (c : ℕ) → c ≢ subject_of part
+    → first_found (class_in c) (lines ++ in_full part ∷ []) ≡ first_found (class_in c) lines
+first_found-other_class lines part c apart = first_found-push (class_in c) lines (in_full part) (other_class part c apart)
+
+pub first_found-other_mapping : (lines : List Record) (part : CanonicalPart) (c : ℕ) → c ≢ subject_of part
+    → first_found (mapping_in c) (lines ++ in_full part ∷ []) ≡ first_found (mapping_in c) lines
+first_found-other_mapping lines part c apart = first_found-push (mapping_in c) lines (in_full part) (other_mapping part c apart)
+
+pub first_found-other_compatibility : (lines : List Record) (part : CanonicalPart) (c : ℕ)
+    → first_found (compatibility_in c) (lines ++ in_full part ∷ []) ≡ first_found (compatibility_in c) lines
+first_found-other_compatibility lines part c = first_found-push (compatibility_in c) lines (in_full part) (no_compatibility part c)
+
+pub SaysSame-sym : (parts lines : List Record) → SaysSame parts lines → SaysSame lines parts
+SaysSame-sym parts lines same =
+    record { classes = λ c. sym (same.classes c); mappings = λ c. sym (same.mappings c); compatibilities = λ c. sym (same.compatibilities c) }
+
+-- the parts after one more
+pub stated_push : (parts after : List CanonicalPart) (part : CanonicalPart) → after ≡ parts ++ part ∷ [] → map in_full after ≡ map in_full parts ++ in_full part ∷ []
+stated_push parts after part e = ap (map in_full) e ∙ map-append in_full parts (part ∷ [])
+
+-- the parts with one more after those that were read
+pub stated_read_push : (parts read after : List CanonicalPart) (part : CanonicalPart) → read ≡ parts → after ≡ parts ++ part ∷ [] → map in_full read ++ in_full part ∷ [] ≡ map in_full after
+stated_read_push parts read after part r e = ap (λ (l : List CanonicalPart). map in_full l ++ in_full part ∷ []) r ∙ sym (stated_push parts after part e)
+
+pub SaysSame-itself : (lines : List Record) → SaysSame lines lines
+SaysSame-itself lines = record { classes = λ c. refl; mappings = λ c. refl; compatibilities = λ c. refl }
+
+-- no parts, and no lines
+pub SaysSame-none : (parts : List CanonicalPart) → parts ≡ [] → SaysSame (map in_full parts) []
+SaysSame-none parts e = subst (λ (l : List Record). SaysSame l []) (ap (map in_full) (sym e)) (SaysSame-itself [])
