@@ -16,9 +16,9 @@ use Rattle.icu_collator_core.specs.WeightRules.{AreSoundWeights}
 use Rattle.icu_collator.specs.KeyBytes.{key_of_text}
 use Rattle.icu_collator.specs.Order.{collation_order}
 use Rattle.icu_collator.specs.Settings.{AreSoundSettings, has_plain_leads}
-use Rattle.icu_collator.proofs.LevelKeys.{same_numbers}
-use Rattle.icu_collator.proofs.OrderTotal.{collation_order_total}
-use Rattle.icu_collator.proofs.TextKeys.{text_keys_order}
+use Rattle.icu_collator.proofs.keys.KeyBytesLemmas.{same_numbers}
+use Rattle.icu_collator.proofs.orders.TotalOrderLemmas.{collation_order_total}
+use Rattle.icu_collator.proofs.keys.TextKeyLemmas.{text_keys_order}
 use Rattle.collate_records.specs.Accepted.{AreAccepted}
 use Rattle.collate_records.specs.Sayings.{collation_of, weights_of}
 use Rattle.collate_records.proofs.AcceptedLines.{accepted_decompose}

@@ -48,8 +48,8 @@ pub record IsNumberBetween (collation : Collation) (x run y : List ℕ) : Type 0
   pub behind : begins_with_digit collation.weights (decomposed collation.canonical y) ≡ false
 
 -- Whether no number is variable: nothing is, or the last variable group ends at the lead of numbers or below it.
-abbrev pub do_numbers_count : Collation → ResolvedCollatorOptions → Bool
-do_numbers_count collation options =
+abbrev pub no_number_is_variable : Collation → ResolvedCollatorOptions → Bool
+no_number_is_variable collation options =
     not (is_shifted options.alternate_handling)
     || leb (get_or collation.groups (group_index options.max_variable) 0) (collation.weights.numeric_lead * 256)
 

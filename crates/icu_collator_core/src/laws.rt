@@ -10,7 +10,7 @@ ghost use Rattle.icu_collator_core.specs.WholeNumbers.{IsWholeNumber, primaries_
 
 /// The primaries of two numbers of at most 254 digits, leading zeros aside, compare as the values
 /// do, whatever primaries follow them; those that follow decide only between equal values.
-#[tactic(auto, using(crate::proofs::NumbersOrder::numbers_order))]
+#[tactic(auto, using(crate::proofs::numbers::NumberOrderLemmas::numbers_order))]
 pub fn numbers_order_as_values()
     ensures { (lead : ℕ) (digits others : List ℕ) (behind behind_others : List ℕ)
         → IsWholeNumber digits → IsWholeNumber others
@@ -19,7 +19,7 @@ pub fn numbers_order_as_values()
 {}
 
 /// Numbers of one value have the same elements, however many zeros stand before them.
-#[tactic(auto, using(crate::proofs::NumbersOrder::equal_numbers))]
+#[tactic(auto, using(crate::proofs::numbers::NumberOrderLemmas::equal_numbers))]
 pub fn equal_values_have_equal_elements()
     ensures { (lead : ℕ) (digits others : List ℕ)
         → IsWholeNumber digits → IsWholeNumber others → value_of digits ≡ value_of others
@@ -27,7 +27,7 @@ pub fn equal_values_have_equal_elements()
 {}
 
 /// No number's elements are the beginning of another number's.
-#[tactic(auto, using(crate::proofs::NumbersOrder::none_begins))]
+#[tactic(auto, using(crate::proofs::numbers::NumberOrderLemmas::none_begins))]
 pub fn no_number_begins_another()
     ensures { (lead : ℕ) (digits others : List ℕ) (more : List Element)
         → IsWholeNumber digits → IsWholeNumber others

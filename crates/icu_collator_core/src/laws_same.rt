@@ -7,7 +7,8 @@ ghost use Rattle.std.specs.Prelude.{◌≡◌, ℕ, All, Bool, List};
 ghost use Rattle.icu_normalizer_core.specs.Canonical.{Canonical, IsDecomposing, decomposed};
 ghost use Rattle.icu_collator_core.specs.Weights.{Weights};
 ghost use Rattle.icu_collator_core.specs.Elements.{elements_of_list};
-ghost use Rattle.icu_collator_core.specs.Sameness.{AreSameCanonical, AreSameWeights};
+ghost use Rattle.icu_normalizer_core.specs.Sameness.{AreSameCanonical};
+ghost use Rattle.icu_collator_core.specs.Sameness.{AreSameWeights};
 
 /// Canonical data that say the same of each scalar value give a text one decomposed list.
 pub fn same_characters_have_same_decomposed_lists()

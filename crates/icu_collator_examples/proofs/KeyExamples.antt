@@ -15,7 +15,7 @@ use Rattle.icu_collator_core.specs.Defaults.{range_primary}
 use Rattle.icu_collator_core.specs.SoundElements.{IsSoundSequence, single, nothing, of_record}
 use Rattle.icu_collator_core.specs.Numbers.{without_last_zeros}
 use Rattle.icu_collator_core.specs.Collation.{reordered_lead}
-use Rattle.icu_collator_core.proofs.Reordering.{given_lead, given_rest}
+use Rattle.icu_collator_core.proofs.weights.ReorderingLemmas.{given_lead, given_rest}
 use Rattle.icu_collator_core.specs.WeightRules.{AreSoundWeights, IsRecorded, has_widths, is_sound_element, is_sound_range, is_of_other_lead, are_apart_elements, is_letter_lead, is_proper_beginning}
 use Rattle.icu_collator_examples.specs.Letters.{digits_collation, digits_table, ideographs, ideographs_collation, plain_options}
 use Rattle.icu_collator_examples.specs.LetterLevels.{small_a, small_b}

@@ -11,10 +11,10 @@ ghost use Rattle.icu_collator_types.specs.declared.options.ResolvedCollatorOptio
 ghost use Rattle.icu_collator_types.specs.declared.options.Strength.TheVariants.{Identical};
 ghost use Rattle.icu_collator_types.specs.Options.{is_at_least, is_numeric};
 ghost use Rattle.icu_collator_core.specs.Collation.{Collation};
-ghost use Rattle.icu_collator_core.specs.WeightRules.{AreSoundWeights};
 ghost use Rattle.icu_collator.specs.KeyBytes.{key_of_text};
-ghost use Rattle.icu_collator.specs.Settings.{AreSoundSettings, has_plain_leads};
-ghost use Rattle.icu_collator.specs.NumbersInTexts.{AreDigitsApart, AreNumbersTogether, IsNumberBetween, do_numbers_count, run_value};
+ghost use Rattle.icu_collator.specs.Settings.{has_plain_leads};
+ghost use Rattle.icu_collator.specs.SoundCollation.{IsSoundCollation};
+ghost use Rattle.icu_collator.specs.NumbersInTexts.{AreDigitsApart, AreNumbersTogether, IsNumberBetween, no_number_is_variable, run_value};
 ghost use Rattle.icu_collator.specs.Order.{collation_order};
 
 /// With numeric ordering on, let two texts be alike but for one run of digits, which in each has at
@@ -28,17 +28,17 @@ ghost use Rattle.icu_collator.specs.Order.{collation_order};
 /// digit where a dot above is dropped before accents: else a dot above at the end of the text before
 /// would be dropped before a number that begins with U+0303 and not before its equal with a zero in
 /// front.
-#[tactic(auto, using(crate::proofs::NumbersInTexts::lower_first, crate::proofs::NumbersInTexts::higher_behind, crate::proofs::NumbersInTexts::equal_runs))]
+#[tactic(auto, using(crate::proofs::numbers::NumbersInTextsLemmas::lower_first, crate::proofs::numbers::NumbersInTextsLemmas::higher_behind, crate::proofs::numbers::NumbersInTextsLemmas::equal_runs))]
 pub fn numbers_order_by_value()
     ensures lower { (collation : Collation) (options : ResolvedCollatorOptions) (x r s y : List ℕ)
         → IsDecomposing collation.canonical → AreDigitsApart collation → AreNumbersTogether collation
-        → is_numeric options.numeric ≡ true → do_numbers_count collation options ≡ true
+        → is_numeric options.numeric ≡ true → no_number_is_variable collation options ≡ true
         → IsNumberBetween collation x r y → IsNumberBetween collation x s y
         → run_value collation.weights r < run_value collation.weights s
         → collation_order collation options (x ++ (r ++ y)) (x ++ (s ++ y)) ≡ Less }
     ensures higher { (collation : Collation) (options : ResolvedCollatorOptions) (x r s y : List ℕ)
         → IsDecomposing collation.canonical → AreDigitsApart collation → AreNumbersTogether collation
-        → is_numeric options.numeric ≡ true → do_numbers_count collation options ≡ true
+        → is_numeric options.numeric ≡ true → no_number_is_variable collation options ≡ true
         → IsNumberBetween collation x r y → IsNumberBetween collation x s y
         → run_value collation.weights s < run_value collation.weights r
         → collation_order collation options (x ++ (r ++ y)) (x ++ (s ++ y)) ≡ Greater }
@@ -55,13 +55,13 @@ pub fn numbers_order_by_value()
 /// values have one key at every strength but `Identical`.
 pub fn number_keys_order_by_value()
     ensures lower { (collation : Collation) (options : ResolvedCollatorOptions) (x r s y : List ℕ)
-        → IsDecomposing collation.canonical → AreSoundWeights collation.weights → AreSoundSettings collation → has_plain_leads collation options ≡ true
-        → AreDigitsApart collation → is_numeric options.numeric ≡ true → do_numbers_count collation options ≡ true
+        → IsDecomposing collation.canonical → IsSoundCollation collation → has_plain_leads collation options ≡ true
+        → AreDigitsApart collation → is_numeric options.numeric ≡ true → no_number_is_variable collation options ≡ true
         → IsNumberBetween collation x r y → IsNumberBetween collation x s y → All IsScalar (x ++ (r ++ y)) → All IsScalar (x ++ (s ++ y))
         → run_value collation.weights r < run_value collation.weights s
         → slice_cmp nat_cmp (key_of_text collation options (x ++ (r ++ y))) (key_of_text collation options (x ++ (s ++ y))) ≡ Less }
     ensures equal { (collation : Collation) (options : ResolvedCollatorOptions) (x r s y : List ℕ)
-        → IsDecomposing collation.canonical → AreSoundWeights collation.weights → AreSoundSettings collation → has_plain_leads collation options ≡ true
+        → IsDecomposing collation.canonical → IsSoundCollation collation → has_plain_leads collation options ≡ true
         → AreDigitsApart collation → is_numeric options.numeric ≡ true → is_at_least options.strength Identical ≡ false
         → IsNumberBetween collation x r y → IsNumberBetween collation x s y → All IsScalar (x ++ (r ++ y)) → All IsScalar (x ++ (s ++ y))
         → run_value collation.weights r ≡ run_value collation.weights s

@@ -1,4 +1,4 @@
-use Rattle.icu_collator.proofs.TextKeys.{sequence_keys_order}
+use Rattle.icu_collator.proofs.keys.TextKeyLemmas.{sequence_keys_order}
 use Rattle.icu_collator.proofs.laws_keys.keys_order_as_levels.Goals as goal
 
 pub returns : goal.returns

@@ -1,0 +1,5 @@
+pub mod DigitLemmas
+pub mod DigitPairLemmas
+pub mod NumberBytesLemmas
+pub mod NumberExamples
+pub mod NumberOrderLemmas
