@@ -68,7 +68,7 @@ case_at options (whole e) =
     in cond counts (Some (cond (is_upper_first options.case_first) (2 - e.case) e.case)) None
 case_at options (variable p) = None
 
--- A tertiary, with case first and no case level behind the case bits. With upper first the bits are exchanged, but an
+-- A tertiary, with case first and no case level after the case bits. With upper first the bits are exchanged, but an
 -- element without a secondary is above all others.
 abbrev pub tertiary_weight : ResolvedCollatorOptions → Element → ℕ
 tertiary_weight options e =

@@ -59,7 +59,7 @@ AreNumbersTogether collation =
     (p : ℕ) → p / 2 ^ 24 ≡ collation.weights.numeric_lead → collation.reordered p ≡ with_lead (reordered_lead collation) p
 
 -- What collation data must keep for a digit to be read as part of a number wherever it stands, and to change nothing
--- that is read before or behind the number.
+-- that is read before or after the number.
 pub record AreDigitsApart (collation : Collation) : Type 0 where
   pub lead : is_letter_lead collation.weights.numeric_lead ≡ true
   pub values : (c d : ℕ) → collation.weights.digit c ≡ Some d → leb d 9 ≡ true

@@ -18,8 +18,8 @@ ghost use Rattle.icu_collator.specs.Order.{collation_order, levels_order};
 ghost use Rattle.icu_collator.specs.Settings.{has_plain_leads};
 ghost use Rattle.icu_collator.specs.SoundCollation.{AreSoundLevels, IsSoundCollation};
 
-/// The keys of two texts compare, byte by byte, as the texts do, with every option: whatever
-/// collation data say that keep the rules on canonical data, weights and settings (our profile). With
+/// The keys of two texts compare, byte by byte, as the texts do, with every option, over all collation
+/// data that keep the rules on canonical data (UAX 15), weights and settings (`docs/RECORDS.md`). With
 /// numeric ordering the lead byte of numbers must not be compressible.
 pub fn keys_order_as_texts()
     ensures { (collation : Collation) (options : ResolvedCollatorOptions) (a b : List ℕ)
@@ -53,9 +53,9 @@ pub fn texts_have_sound_levels()
         → AreSoundLevels collation options (levels_of_text collation options text) }
 {}
 
-/// The keys of two sequences of elements, each with the decomposed list it was read from, compare as
-/// their levels do. The elements are single ones, recorded or default, and, with numeric ordering,
-/// whole numbers, one after another, as those of every text are.
+/// The keys of sound levels compare, byte by byte, as the levels do: those of elements that are single
+/// ones, recorded or default, and, with numeric ordering, whole numbers, one after another, and of the
+/// scalar values they were read from.
 pub fn keys_order_as_levels()
     ensures { (collation : Collation) (options : ResolvedCollatorOptions) (a b : Levels)
         → IsSoundCollation collation → AreSoundLevels collation options a → AreSoundLevels collation options b

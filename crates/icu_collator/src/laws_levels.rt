@@ -1,7 +1,7 @@
-//! Laws of levels in keys, one a level: where two sequences of elements first differ in that level, their
+//! Laws of levels in keys, one a level: where two lists of levels first differ in that level, their
 //! keys compare as it does. Each is of use alone, and only that on primaries asks anything of the lead
-//! byte of numbers. The elements are those that texts can have, each sequence with the decomposed list
-//! that it was read from. Each function's contract is the law, and its body is empty.
+//! byte of numbers. The levels are such as texts have (`laws_keys::texts_have_sound_levels`). Each
+//! function's contract is the law, and its body is empty.
 
 ghost use Rattle.std.specs.Prelude.{◌≡◌, ◌≢◌, true};
 ghost use Rattle.std.specs.declared.cmp.Ordering.TheVariants.{Equal};
@@ -14,9 +14,9 @@ ghost use Rattle.icu_collator.specs.Order.{levels_order};
 ghost use Rattle.icu_collator.specs.Settings.{has_plain_leads};
 ghost use Rattle.icu_collator.specs.SoundCollation.{AreSoundLevels, IsSoundCollation};
 
-/// Where the primaries differ, the keys compare, byte by byte, as the primaries do: with every option,
-/// whatever weights and settings say that keep the rules (UTS 10; our profile). With numeric ordering
-/// the lead byte of numbers must not be compressible.
+/// Where the primaries differ, the keys compare, byte by byte, as the primaries do (UTS 10): with every
+/// option, and over all weights and settings that keep the rules (`docs/RECORDS.md`). With numeric
+/// ordering the lead byte of numbers must not be compressible.
 pub fn primaries_decide()
     ensures { (collation : Collation) (options : ResolvedCollatorOptions) (a b : Levels)
         → IsSoundCollation collation → AreSoundLevels collation options a → AreSoundLevels collation options b

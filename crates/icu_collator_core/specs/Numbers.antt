@@ -25,13 +25,13 @@ without_last_zeros [] = []
 without_last_zeros (p ∷ ps) =
     elim (without_last_zeros ps) [ [] ↦ cond (p == 0) [] (p ∷ []) | q ∷ qs ↦ p ∷ q ∷ qs ]
 
--- the bytes of pairs, the last one less than it would be with more behind it
+-- the bytes of pairs, the last one less than it would be with more after it
 unfoldable pub pair_bytes : List ℕ → List ℕ
 pair_bytes [] = []
 pair_bytes (p ∷ []) = (10 + 2 * p) ∷ []
 pair_bytes (p ∷ q ∷ ps) = (11 + 2 * p) ∷ pair_bytes (q ∷ ps)
 
--- bytes as elements of three each behind the lead
+-- bytes as elements of three each after the lead
 unfoldable pub elements_of_bytes : ℕ → List ℕ → List Element
 elements_of_bytes lead [] = []
 elements_of_bytes lead (a ∷ []) = primary_element (primary_of lead a 0 0) ∷ []

@@ -12,10 +12,10 @@ ghost use Rattle.icu_collator_core.specs.WholeNumbers.{IsWholeNumber, primaries_
 /// do, whatever primaries follow them; those that follow decide only between equal values.
 #[tactic(auto, using(crate::proofs::numbers::NumberOrderLemmas::numbers_order))]
 pub fn numbers_order_as_values()
-    ensures { (lead : ℕ) (digits others : List ℕ) (behind behind_others : List ℕ)
+    ensures { (lead : ℕ) (digits others : List ℕ) (following following_others : List ℕ)
         → IsWholeNumber digits → IsWholeNumber others
-        → slice_cmp nat_cmp (primaries_of (number_elements lead digits) ++ behind) (primaries_of (number_elements lead others) ++ behind_others)
-        ≡ ordering_then (nat_cmp (value_of digits) (value_of others)) (slice_cmp nat_cmp behind behind_others) }
+        → slice_cmp nat_cmp (primaries_of (number_elements lead digits) ++ following) (primaries_of (number_elements lead others) ++ following_others)
+        ≡ ordering_then (nat_cmp (value_of digits) (value_of others)) (slice_cmp nat_cmp following following_others) }
 {}
 
 /// Numbers of one value have the same elements, however many zeros stand before them.

@@ -55,7 +55,7 @@ letters_digits_apart =
       accents = refl;
     }
 
--- behind "a" and before nothing
+-- after "a" and before nothing
 pub two_behind_a : IsNumberBetween digits_collation (0x61 ∷ []) (0x32 ∷ []) []
 unfolding computing
 two_behind_a = record { number = record { digits = refl; filled = omega arith; short = omega arith }; before = refl; behind = refl }

@@ -29,7 +29,7 @@ fn two_is_before_ten()
     numbers_order_by_value();
 }
 
-// "0007" and "7" are equal below `Identical`, also before a mark, which stays behind the last digit.
+// "0007" and "7" are equal below `Identical`, also before a mark, which stays after the last digit.
 fn leading_zeros_are_nothing()
     ensures { (strength : Strength) → is_at_least strength Identical ≡ false
         → collation_order digits_collation (numeric_options strength)

@@ -7,8 +7,8 @@ use Rattle.std.proofs.lemmas.Bool.{cond_both, ltb-true, eqb-false, and_parts}
 use Rattle.std.proofs.lemmas.List.{append-nil}
 use Rattle.icu_normalizer_core.specs.Canonical.{Canonical, IsCanonical, IsDecomposing, IsComposing, is_starter, decomposed, composing, recomposed, composed}
 use Rattle.icu_collator.specs.Equivalence.{IsEquivalent, same, turned, joined, stepped, swapped}
-use Rattle.icu_normalizer_core.proofs.DecomposedLemmas.{left_full}
-use Rattle.icu_collator.proofs.equivalence.EquivalenceLemmas.{AreUnmapped, front_kept, unmapped_left, order_unmapped, decomposed_equivalent}
+use Rattle.icu_normalizer_core.proofs.DecomposedLemmas.{AreUnmapped, decomposed_unmapped}
+use Rattle.icu_collator.proofs.equivalence.EquivalenceLemmas.{front_kept, decomposed_equivalent}
 
 -- marks that are not mapped
 abbrev AreMarks : Canonical → List ℕ → Type 0
@@ -82,11 +82,6 @@ recomposed_equivalent canonical (c ∷ cs) d hs =
     cond_both (is_starter canonical c) (composing canonical c [] cs) (c ∷ recomposed canonical cs) (λ (w : List ℕ). IsEquivalent canonical (c ∷ cs) w)
     (λ _. composing_equivalent canonical c [] cs d tt hs.1)
     (λ _. front_kept canonical c cs (recomposed canonical cs) (recomposed_equivalent canonical cs d hs.1))
-
-decomposed_unmapped : (canonical : Canonical) (xs : List ℕ) → IsDecomposing canonical → All IsScalar xs → AreUnmapped canonical (decomposed canonical xs)
-unfolding decomposed
-decomposed_unmapped canonical xs d s =
-    order_unmapped canonical (flat_map canonical.full xs) (unmapped_left canonical xs (flat_map canonical.full xs) (left_full canonical xs d s))
 
 -- the composed list is equivalent to the text
 pub composed_equivalent : (canonical : Canonical) (xs : List ℕ) → IsCanonical canonical → All IsScalar xs → IsEquivalent canonical xs (composed canonical xs)

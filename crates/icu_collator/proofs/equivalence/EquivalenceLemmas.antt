@@ -5,8 +5,7 @@ use Rattle.std.specs.Prelude.{◌≢◌, ◌↔◌, All, flat_map}
 use Rattle.std.specs.Char.{IsScalar}
 use Rattle.icu_normalizer_core.specs.Canonical.{Canonical, IsDecomposing, Leaves, nothing, unmapped, mapped, put_in_order, marks_in_order, decomposed}
 use Rattle.icu_collator.specs.Equivalence.{IsEquivalent, same, turned, joined, stepped, swapped}
-use Rattle.icu_normalizer_core.proofs.DecomposedLemmas.{order_swapped}
-use Rattle.icu_normalizer_core.proofs.DecomposedLemmas.{left_append, left_split, left_mapped, left_unmapped, left_one, left_full}
+use Rattle.icu_normalizer_core.proofs.DecomposedLemmas.{AreUnmapped, left_append, left_full, left_mapped, left_one, left_split, left_unmapped, order_swapped, order_unmapped, unmapped_left}
 
 -- a character in front keeps equivalence
 pub front_kept : (canonical : Canonical) (x : ℕ) (xs ys : List ℕ) → IsEquivalent canonical xs ys → IsEquivalent canonical (x ∷ xs) (x ∷ ys)
@@ -23,32 +22,7 @@ left_equivalent canonical xs ns (unmapped c cs ms e h) = front_kept canonical c 
 left_equivalent canonical xs ns (mapped c d ds cs ms e h) =
     joined _ _ _ (stepped [] cs c d ds e) (left_equivalent canonical ((d ∷ ds) ++ cs) ms h)
 
--- no character of a list is mapped
-abbrev pub AreUnmapped : Canonical → List ℕ → Type 0
-AreUnmapped canonical [] = Unit {0}
-AreUnmapped canonical (c ∷ cs) = (canonical.step c ≡ []) × AreUnmapped canonical cs
-
-pub unmapped_left : (canonical : Canonical) (xs ns : List ℕ) → Leaves canonical.step xs ns → AreUnmapped canonical ns
-unmapped_left canonical xs ns nothing = tt
-unmapped_left canonical xs ns (unmapped c cs ms e h) = (e, unmapped_left canonical cs ms h)
-unmapped_left canonical xs ns (mapped c d ds cs ms e h) = unmapped_left canonical ((d ∷ ds) ++ cs) ms h
-
 -- a character is put in order by exchanges
-put_unmapped : (canonical : Canonical) (c : ℕ) (ns : List ℕ) → canonical.step c ≡ [] → AreUnmapped canonical ns
-    → AreUnmapped canonical (put_in_order canonical.class c ns)
-unfolding put_in_order
-put_unmapped canonical c [] h hs = (h, tt)
-put_unmapped canonical c (d ∷ ds) h hs =
-    elim (ltb 0 (canonical.class d) && ltb (canonical.class d) (canonical.class c)) as (λ b. AreUnmapped canonical (cond b (d ∷ put_in_order canonical.class c ds) (c ∷ d ∷ ds))) [
-      | true ↦ (hs.0, put_unmapped canonical c ds h hs.1)
-      | false ↦ (h, hs)
-    ]
-
-pub order_unmapped : (canonical : Canonical) (ns : List ℕ) → AreUnmapped canonical ns → AreUnmapped canonical (marks_in_order canonical.class ns)
-unfolding marks_in_order
-order_unmapped canonical [] hs = tt
-order_unmapped canonical (c ∷ cs) hs = put_unmapped canonical c _ hs.0 (order_unmapped canonical cs hs.1)
-
 put_equivalent : (canonical : Canonical) (c : ℕ) (ns : List ℕ) → canonical.step c ≡ [] → AreUnmapped canonical ns
     → IsEquivalent canonical (c ∷ ns) (put_in_order canonical.class c ns)
 unfolding put_in_order

@@ -11,47 +11,12 @@ use Rattle.icu_collator_core.specs.Collation.{Collation}
 use Rattle.icu_collator.specs.Levels.{Levels, levels_of_text}
 use Rattle.icu_collator.specs.Order.{collation_order, levels_order}
 use Rattle.icu_collator.specs.Equivalence.{IsEquivalent}
-use Rattle.icu_normalizer_core.proofs.DecomposedLemmas.{left_full}
+use Rattle.icu_normalizer_core.proofs.DecomposedLemmas.{AreScalar, all_append, decomposed_all_scalars, decomposed_scalars}
 use Rattle.icu_collator.proofs.equivalence.EquivalenceLemmas.{decomposed_equivalent, decomposed_one, equivalent_one}
 use Rattle.icu_collator.proofs.equivalence.ComposedLemmas.{either_way, where_seen, composed_equivalent}
 use Rattle.icu_collator.proofs.equivalence.IdenticalLemmas.{same_levels}
 
-abbrev AreScalar : List ℕ → Type 0
-AreScalar cs = AllByRecursion IsScalar cs
-
-append_scalars : (xs ys : List ℕ) → AreScalar xs → AreScalar ys → AreScalar (xs ++ ys)
-append_scalars [] ys h g = g
-append_scalars (x ∷ xs) ys h g = (h.0, append_scalars xs ys h.1 g)
-
-left_scalars : (canonical : Canonical) (xs ns : List ℕ) → IsDecomposing canonical → AreScalar xs → Leaves canonical.step xs ns → AreScalar ns
-left_scalars canonical xs ns d s nothing = tt
-left_scalars canonical xs ns d s (unmapped c cs ms e h) = (s.0, left_scalars canonical cs ms d s.1 h)
-left_scalars canonical xs ns d s (mapped c x ys cs ms e h) =
-    let mapping = subst AreScalar e (recursion_from_All IsScalar (canonical.step c) (d.scalars c s.0))
-    in left_scalars canonical ((x ∷ ys) ++ cs) ms d (append_scalars (x ∷ ys) cs mapping s.1) h
-
-put_scalars : (class : ℕ → ℕ) (c : ℕ) (ns : List ℕ) → IsScalar c → AreScalar ns → AreScalar (put_in_order class c ns)
-unfolding put_in_order
-put_scalars class c [] h hs = (h, tt)
-put_scalars class c (n ∷ ns) h hs =
-    cond_both (ltb 0 (class n) && ltb (class n) (class c)) (n ∷ put_in_order class c ns) (c ∷ n ∷ ns) AreScalar
-    (λ _. (hs.0, put_scalars class c ns h hs.1)) (λ _. (h, hs))
-
-order_scalars : (class : ℕ → ℕ) (ns : List ℕ) → AreScalar ns → AreScalar (marks_in_order class ns)
-unfolding marks_in_order
-order_scalars class [] hs = tt
-order_scalars class (n ∷ ns) hs = put_scalars class n (marks_in_order class ns) hs.0 (order_scalars class ns hs.1)
-
-decomposed_are : (canonical : Canonical) (xs : List ℕ) → IsDecomposing canonical → All IsScalar xs → AreScalar (decomposed canonical xs)
-unfolding decomposed
-decomposed_are canonical xs d s =
-    order_scalars canonical.class (flat_map canonical.full xs)
-    (left_scalars canonical xs (flat_map canonical.full xs) d (recursion_from_All IsScalar xs s) (left_full canonical xs d s))
-
--- the decomposed list of scalar values has scalar values
-pub decomposed_scalars : (canonical : Canonical) (xs : List ℕ) → IsDecomposing canonical → All IsScalar xs → All IsScalar (decomposed canonical xs)
-decomposed_scalars canonical xs d s = All-from_recursion IsScalar (decomposed canonical xs) (decomposed_are canonical xs d s)
-
+-- composing scalar values makes scalar values
 composing_scalars : (canonical : Canonical) (s : ℕ) (ms cs : List ℕ) → IsComposing canonical → IsScalar s → AreScalar ms → AreScalar cs
     → AreScalar (composing canonical s ms cs)
 unfolding composing
@@ -61,8 +26,8 @@ composing_scalars canonical s ms (c ∷ cs) d h hm hs =
     in either_way (cond is_seen (canonical.pair s c) None) (λ z. composing canonical z ms cs) _ AreScalar
     (λ z e. composing_scalars canonical z ms cs d (d.scalars s c z (where_seen is_seen (canonical.pair s c) z e).1) hm hs.1)
     (cond_both (is_starter canonical c) ((s ∷ ms) ++ composing canonical c [] cs) (composing canonical s (ms ++ c ∷ []) cs) AreScalar
-    (λ _. append_scalars (s ∷ ms) (composing canonical c [] cs) (h, hm) (composing_scalars canonical c [] cs d hs.0 tt hs.1))
-    (λ _. composing_scalars canonical s (ms ++ c ∷ []) cs d h (append_scalars ms (c ∷ []) hm (hs.0, tt)) hs.1))
+    (λ _. all_append IsScalar (s ∷ ms) (composing canonical c [] cs) (h, hm) (composing_scalars canonical c [] cs d hs.0 tt hs.1))
+    (λ _. composing_scalars canonical s (ms ++ c ∷ []) cs d h (all_append IsScalar ms (c ∷ []) hm (hs.0, tt)) hs.1))
 
 recomposed_scalars : (canonical : Canonical) (cs : List ℕ) → IsComposing canonical → AreScalar cs → AreScalar (recomposed canonical cs)
 unfolding recomposed
@@ -76,13 +41,13 @@ pub composed_scalars : (canonical : Canonical) (xs : List ℕ) → IsCanonical c
 unfolding composed
 composed_scalars canonical xs d s =
     All-from_recursion IsScalar (recomposed canonical (decomposed canonical xs))
-    (recomposed_scalars canonical (decomposed canonical xs) d.composing (decomposed_are canonical xs d.decomposing s))
+    (recomposed_scalars canonical (decomposed canonical xs) d.composing (decomposed_scalars canonical xs d.decomposing (recursion_from_All IsScalar xs s)))
 
 -- each normal form of a normal form is that of the text
 pub decomposed_twice : (canonical : Canonical) (xs : List ℕ) → IsDecomposing canonical → All IsScalar xs
     → decomposed canonical (decomposed canonical xs) ≡ decomposed canonical xs
 decomposed_twice canonical xs d s =
-    sym (decomposed_one canonical xs (decomposed canonical xs) d s (decomposed_scalars canonical xs d s) (decomposed_equivalent canonical xs d s))
+    sym (decomposed_one canonical xs (decomposed canonical xs) d s (decomposed_all_scalars canonical xs d s) (decomposed_equivalent canonical xs d s))
 
 pub composed_decomposed : (canonical : Canonical) (xs : List ℕ) → IsCanonical canonical → All IsScalar xs
     → decomposed canonical (composed canonical xs) ≡ decomposed canonical xs

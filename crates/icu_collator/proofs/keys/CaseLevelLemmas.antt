@@ -55,7 +55,7 @@ upper_code =
 abbrev IsHalf : ℕ → Type 0
 IsHalf h = (1 ≤ h) × (h ≤ 15)
 
--- pairs of halves order as the halves, and else as what stands behind them
+-- pairs of halves order as the halves, and else as what stands after them
 pairs_order :
     (hs ks xs ys : List ℕ) → AllByRecursion IsHalf hs → AllByRecursion IsHalf ks → BeginsUpTo 1 xs → BeginsUpTo 1 ys
     → slice_cmp nat_cmp (paired_halves hs ++ xs) (paired_halves ks ++ ys) ≡ ordering_then (slice_cmp nat_cmp hs ks) (slice_cmp nat_cmp xs ys)
@@ -200,7 +200,7 @@ level_by false cs ds xs ys long ones others low_xs low_ys =
     rw (paired_where (are_common (λ c. c) 0 cs) (with_runs lower_case_code cs), paired_where (are_common (λ c. c) 0 ds) (with_runs lower_case_code ds))
     (lower_order _ _ cs ds xs ys refl refl long ones others low_xs low_ys)
 
--- The case levels of two keys, which are as long, order as the cases, and else as what stands behind them.
+-- The case levels of two keys, which are as long, order as the cases, and else as what stands after them.
 pub case_level_order :
     (options : ResolvedCollatorOptions) (cs ds xs ys : List ℕ) → length cs ≡ length ds
     → AllFrom IsCase past tt cs → AllFrom IsCase past tt ds → BeginsUpTo 1 xs → BeginsUpTo 1 ys

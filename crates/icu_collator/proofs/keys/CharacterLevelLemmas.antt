@@ -46,7 +46,7 @@ written p c =
     (λ h4. by_cases (Written p c) (leb c (p + 192785)) _ _ (λ h. higher (grind (arith, nat_tests)) (grind (arith, nat_tests)))
     (λ h5. highest (grind (arith, nat_tests))))))))
 
--- a greater character behind the same one is written above
+-- a greater character after the same one is written above
 written_below : (p c d : ℕ) {xs ys : List ℕ} → p < 1114200 → d < 1114112 → c < d → Written p c xs → Written p d ys → DiffersBelow xs ys
 written_below p c d hp hd h (lowest i0) (lowest j0) = four_below _ _ _ _ _ _ _ _ [] [] refl (omega (arith, hp, hd, h, i0, j0)) (λ s. omega (arith, hp, hd, h, i0, j0, s)) (λ s t. omega (arith, hp, hd, h, i0, j0, s, t))
 written_below p c d hp hd h (lowest i0) (lower j0 j1) = two_below _ _ _ _ (difference_digit 253 p c ∷ difference_digit 1 p c ∷ []) (difference_digit 1 p d ∷ []) (omega (arith, hp, hd, h, i0, j0, j1)) (λ s. omega (arith, hp, hd, h, i0, j0, j1, s))
@@ -139,7 +139,7 @@ character_begins : (last c : ℕ) → IsCharacter last → IsCharacter c → Beg
 character_begins last c hl hc =
     by_cases (BeginsAbove 1) (c == 0xfffe) _ _ (λ h. omega arith) (λ h. above_one _ (begins_high (near_bound last hl) hc (written (expected_near last) c)))
 
--- a character behind one
+-- a character after one
 abbrev StandsBehind : ℕ → ℕ → Type 0
 StandsBehind last c = IsCharacter last × IsCharacter c
 
@@ -155,7 +155,7 @@ stay_characters : (last : ℕ) (cs : List ℕ) → IsCharacter last → AllByRec
 stay_characters last [] hl all = tt
 stay_characters last (c ∷ cs) hl all = ((hl, all.0), stay_characters (last_character last c) cs (grind (arith, nat_tests, all.0)) all.1)
 
--- The identical levels of two keys order as the characters, and else as what stands behind them.
+-- The identical levels of two keys order as the characters, and else as what stands after them.
 pub character_level_order :
     (cs ds xs ys : List ℕ) → AllByRecursion IsCharacter cs → AllByRecursion IsCharacter ds → BeginsUpTo 1 xs → BeginsUpTo 1 ys
     → slice_cmp nat_cmp (character_level cs ++ xs) (character_level ds ++ ys) ≡ ordering_then (list_order character_rank cs ds) (slice_cmp nat_cmp xs ys)

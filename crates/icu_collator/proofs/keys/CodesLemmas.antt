@@ -1,4 +1,4 @@
--- Codes of weights: byte lists that order as the weights do, whatever stands behind them.
+-- Codes of weights: byte lists that order as the weights do, whatever stands after them.
 use Rattle.std.proofs.Common.{◌≡◌, ℕ, ◌<◌, ◌≤◌, List, [], ◌∷◌, ◌++◌, refl, sym, ◌∙◌, ap, subst, arith, append_assoc, inl, inr, ◌⊎◌, ⊎_elim}
 use Rattle.std.proofs.lemmas.Bool.{cases_lt}
 use Rattle.std.specs.Cmp.{nat_cmp_is}
@@ -111,7 +111,7 @@ pub three_ways : {P : Type 0} (x y : ℕ) → (x < y → P) → (x ≡ y → P) 
 three_ways x y less equal greater = ⊎_elim less (λ h. ⊎_elim greater (λ k. equal (omega (arith, h, k))) (cases_lt y x)) (cases_lt x y)
 
 module _ {S W : Type 0} (code : S → W → List ℕ) (next : S → W → S) (rank : W → ℕ) (IsOne : S → W → Type 0) (end : ℕ) (is : IsOrderCode code rank IsOne end) where
-  -- Codes from one state order as the weights, and else as what stands behind them.
+  -- Codes from one state order as the weights, and else as what stands after them.
   pub codes_order :
       (s : S) (vs ws : List W) (xs ys : List ℕ) → AllFrom IsOne next s vs → AllFrom IsOne next s ws → BeginsUpTo end xs → BeginsUpTo end ys
       → slice_cmp nat_cmp (codes_from code next s vs ++ xs) (codes_from code next s ws ++ ys) ≡ ordering_then (list_order rank vs ws) (slice_cmp nat_cmp xs ys)

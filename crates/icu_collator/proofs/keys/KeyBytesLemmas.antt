@@ -218,7 +218,7 @@ module _ (options : ResolvedCollatorOptions)
       unfolding key_bytes
       key_parts collation c = regrouped (primary_level collation.weights c.primaries) _ _ _ _ (from_characters c)
 
-      -- Where the primaries are equal, keys order as the levels behind them do, whatever leads are compressible.
+      -- Where the primaries are equal, keys order as the levels after them do, whatever leads are compressible.
       pub equal_primaries_order : (collation : Collation) → list_order (λ p. p) a.primaries b.primaries ≡ Equal → slice_cmp nat_cmp (key_bytes collation options a) (key_bytes collation options b) ≡ levels_order options a b
       unfolding levels_order
       equal_primaries_order collation same =

@@ -23,7 +23,7 @@ pub record ArePrimaries {S : Type 0} (IsPrimary : S → ℕ → Type 0) (is_comp
 abbrev pub none_compressible : ℕ → Bool
 none_compressible lead = false
 
--- the four ways to write a primary behind a run
+-- the four ways to write a primary after a run
 data Behind (before p : ℕ) : List ℕ → Type 0 where
   inside : p / 2 ^ 24 ≡ before → Behind before p (primary_rest p)
   above : before < p / 2 ^ 24 → Behind before p (0xff ∷ primary_bytes p)
@@ -130,7 +130,7 @@ module _ {S : Type 0} (IsPrimary : S → ℕ → Type 0) (nextp : S → ℕ → 
   stand run s [] is all = tt
   stand run s (p ∷ ps) is all = ((is, all.0), stand (primary_run weights run p) (nextp s p) ps (run_behind run p) all.1)
 
-  -- The primary levels of two keys order as the primaries, and else as what stands behind them.
+  -- The primary levels of two keys order as the primaries, and else as what stands after them.
   pub primary_level_order :
       (s : S) (ps qs xs ys : List ℕ) → AllFrom IsPrimary nextp s ps → AllFrom IsPrimary nextp s qs → BeginsUpTo 1 xs → BeginsUpTo 1 ys
       → slice_cmp nat_cmp (primary_level weights ps ++ xs) (primary_level weights qs ++ ys) ≡ ordering_then (list_order (λ p. p) ps qs) (slice_cmp nat_cmp xs ys)

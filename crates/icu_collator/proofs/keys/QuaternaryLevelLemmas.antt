@@ -16,7 +16,7 @@ use Rattle.icu_collator.proofs.keys.PrimaryLevelLemmas.{ArePrimaries}
 use Rattle.icu_collator.proofs.keys.RunCodeLemmas.{BeginsBelow, IsRunCode, runs_order}
 use Rattle.icu_collator.proofs.keys.WeightBytesLemmas.{primaries_differ}
 
--- where a shifted primary is written as it is, and where behind a byte
+-- where a shifted primary is written as it is, and where after a byte
 data Shown (p : ℕ) : List ℕ → Type 0 where
   bare : p / 2 ^ 24 < 0x1b → Shown p (primary_bytes p)
   guarded : 0x1b ≤ p / 2 ^ 24 → Shown p (0x1b ∷ primary_bytes p)
@@ -119,7 +119,7 @@ module _ {S : Type 0} (IsPrimary : S → ℕ → Type 0) (nextp : S → ℕ → 
       (written_order s [] ws xs ys tt others low_xs low_ys)
       (written_order s vs [] xs ys ones tt low_xs low_ys)
 
-  -- The quaternary levels of two keys order as the places, and else as what stands behind them. Where nothing can be
+  -- The quaternary levels of two keys order as the places, and else as what stands after them. Where nothing can be
   -- shifted they are as long, and no place is below the common one.
   pub quaternary_level_order :
       (options : ResolvedCollatorOptions) (s : S) (vs ws : List QuaternaryPlace) (xs ys : List ℕ)

@@ -105,7 +105,7 @@ module _ (low middle high most : ℕ) (from_low : low + most ≡ middle + 1) (fr
       (⊎_elim (λ k. inl k) (λ k. inr (omega (arith, k, hr, from_low, from_high), ends_apart (omega (arith, hr)) t u below above)) (cases_lt (low + r) (high - r)))
 
 module _ {W : Type 0} (code : RunCode W) where
-  -- the three ways in which a list goes on behind common weights
+  -- the three ways in which a list goes on after common weights
   goes_on : ℕ → W → List W → Ordering → List ℕ
   goes_on n w ws o =
       let later = code.bytes w ++ behind_run code 0 ws
@@ -132,7 +132,7 @@ module _ {W : Type 0} (code : RunCode W) where
   goes_higher n w ws h = goes n w ws ∙ ap (goes_on n w ws) (greater_is code.common (code.rank w) h)
 
 module _ {S W : Type 0} (code : RunCode W) (IsOne : S → W → Type 0) (next : S → W → S) (end : ℕ) (is : IsRunCode code IsOne end) where
-  -- runs of so many common weights, and what stands behind them
+  -- runs of so many common weights, and what stands after them
   run_ends : (b : Bool) (n : ℕ) (t : List ℕ) → run_bytes code b (suc n) ++ t ≡ replicate (n / code.most) code.middle ++ cond b (code.high - n % code.most) (code.low + n % code.most) ∷ t
   unfolding run_bytes
   run_ends b n t = append_assoc (replicate (n / code.most) code.middle) (cond b (code.high - n % code.most) (code.low + n % code.most) ∷ []) t
@@ -190,7 +190,7 @@ module _ {S W : Type 0} (code : RunCode W) (IsOne : S → W → Type 0) (next : 
   unfolding behind_run
   ends_here n xs = refl
 
-  -- fewer common weights before something lower are below any list behind more of them
+  -- fewer common weights before something lower are below any list after more of them
   longer_above : (n m : ℕ) (ws : List W) (t xs : List ℕ) → n < m → BeginsBelow code.low t → IsBelow (run_bytes code false n ++ t) (behind_run code m ws ++ xs)
   longer_above n m [] t xs h below = rw (ends_here m xs) (more_common_above false n m t xs h below)
   longer_above n m (w ∷ ws) t xs h below =
@@ -222,7 +222,7 @@ module _ {S W : Type 0} (code : RunCode W) (IsOne : S → W → Type 0) (next : 
   higher_high : (s : S) (w : W) (ts : List ℕ) → IsOne s w → code.common < code.rank w → BeginsAbove code.high (code.bytes w ++ ts)
   higher_high s w ts one h = begins_with code.high (code.bytes w) ts (is.above_runs s w one h)
 
-  -- two weights on one side of the common one, where what stands behind equal ones orders as it should
+  -- two weights on one side of the common one, where what stands after equal ones orders as it should
   side_order :
       (s : S) (v w : W) (vs ws : List W) (xs ys : List ℕ) → IsOne s v → IsOne s w
       → (code.rank v < code.rank w → DiffersBelow (code.bytes v) (code.bytes w))
@@ -235,7 +235,7 @@ module _ {S W : Type 0} (code : RunCode W) (IsOne : S → W → Type 0) (next : 
       (λ h. let e : v ≡ w = is.same s v w one other h in rw (e, ranks_equal code.rank w vs ws) (behind_same (code.bytes w) _ _ ∙ later e))
       (λ h. rw (ranks_greater code.rank v w vs ws h) (below_greater _ _ (differs_below _ _ _ _ (falls h))))
 
-  -- Levels behind as many common weights order as the weights, and else as what stands behind them.
+  -- Levels after as many common weights order as the weights, and else as what stands after them.
   pub runs_order :
       (s : S) (n : ℕ) (vs ws : List W) (xs ys : List ℕ) → AllFrom IsOne next s vs → AllFrom IsOne next s ws → BeginsUpTo end xs → BeginsUpTo end ys
       → slice_cmp nat_cmp (behind_run code n vs ++ xs) (behind_run code n ws ++ ys) ≡ ordering_then (list_order code.rank vs ws) (slice_cmp nat_cmp xs ys)

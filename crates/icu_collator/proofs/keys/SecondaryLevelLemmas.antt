@@ -66,7 +66,7 @@ module _ (IsWeight : ℕ → Type 0) (are : AreWeights is_sound_secondary IsWeig
         above_runs = λ s w one high. above_runs w one high;
       }
 
-  -- The secondary levels of two keys order as the secondaries, and else as what stands behind them.
+  -- The secondary levels of two keys order as the secondaries, and else as what stands after them.
   pub secondary_level_order :
       (vs ws : List SecondaryPlace) (xs ys : List ℕ) → AllFrom IsSecondaryAt past tt vs → AllFrom IsSecondaryAt past tt ws → BeginsUpTo 1 xs → BeginsUpTo 1 ys
       → slice_cmp nat_cmp (with_runs secondary_code vs ++ xs) (with_runs secondary_code ws ++ ys) ≡ ordering_then (list_order secondary_rank vs ws) (slice_cmp nat_cmp xs ys)

@@ -176,7 +176,7 @@ module _ (IsWeight : ℕ → Type 0) (are : AreWeights is_sound_tertiary IsWeigh
   code_order true false vs ws xs ys ones others low_xs low_ys = runs_order lower_first_code (IsCasedAt 0 (3 * 2 ^ 14)) past 1 lower_code tt 0 vs ws xs ys ones others low_xs low_ys
   code_order false is_upper vs ws xs ys ones others low_xs low_ys = runs_order tertiary_code (IsCasedAt 0 (2 ^ 14)) past 1 plain_code tt 0 vs ws xs ys ones others low_xs low_ys
 
-  -- The tertiary levels of two keys order as the tertiaries, and else as what stands behind them.
+  -- The tertiary levels of two keys order as the tertiaries, and else as what stands after them.
   pub tertiary_level_order :
       (options : ResolvedCollatorOptions) (vs ws xs ys : List ℕ)
       → AllFrom (IsTertiaryAt (has_case_bits options) (is_upper_first options.case_first)) past tt vs

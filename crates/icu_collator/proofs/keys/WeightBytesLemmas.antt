@@ -57,7 +57,7 @@ apart_low v w some h apart e none =
 
 -- ---- any bytes, those of 00 at the end left out
 
--- the bytes from the first on, if those behind it are these
+-- the bytes from the first on, if those after it are these
 unfoldable pub stripped_behind : ℕ → List ℕ → List ℕ
 stripped_behind x [] = cond (x == 0) [] (x ∷ [])
 stripped_behind x (q ∷ qs) = x ∷ q ∷ qs
@@ -133,7 +133,7 @@ lower_bytes p q h e =
     (λ k. inr (omega (arith, h, e, k), ⊎_elim (λ l. inl l) (λ l. inr (omega (arith, h, e, k, l), inl (omega (arith, h, e, k, l)))) (cases_lt (p / 2 ^ 8 % 256) (q / 2 ^ 8 % 256))))
     (cases_lt (p / 2 ^ 16 % 256) (q / 2 ^ 16 % 256))
 
--- under one lead the bytes behind it
+-- under one lead the bytes after it
 pub rests_differ : (p q : ℕ) → p < q → p / 2 ^ 24 ≡ q / 2 ^ 24 → is_proper_beginning (primary_bytes p) (primary_bytes q) ≡ false → DiffersBelow (primary_rest p) (primary_rest q)
 unfolding is_proper_beginning
 rests_differ p q h e apart = stripped_differ _ _ (lower_bytes p q h e) (begins_tests (p / 2 ^ 24) (q / 2 ^ 24) _ e apart)
@@ -144,9 +144,9 @@ primaries_differ p q h apart =
 
 -- ---- the weights of a level
 
--- weights of two bytes that keep the rules of a level
-pub record AreWeights (is_sound : ℕ → Bool) (IsWeight : ℕ → Type 0) : Type 0 where
-  pub sound : (w : ℕ) → IsWeight w → is_sound w ≡ true
+-- weights of two bytes that keep the rule of a level, of which none begins another
+pub record AreWeights (keeps_rule : ℕ → Bool) (IsWeight : ℕ → Type 0) : Type 0 where
+  pub sound : (w : ℕ) → IsWeight w → keeps_rule w ≡ true
   pub small : (w : ℕ) → IsWeight w → w < 2 ^ 16
   pub apart : (v w : ℕ) → IsWeight v → IsWeight w → are_apart weight_bytes v w ≡ true
 
@@ -155,7 +155,7 @@ unfolding stripped_behind
 stripped_first x [] h = let some : (x == 0) ≡ false = grind (arith, nat_tests) in ([], rw some refl)
 stripped_first x (q ∷ qs) h = (q ∷ qs, refl)
 
--- a primary with a second byte begins with it behind the lead
+-- a primary with a second byte begins with it after the lead
 pub rest_first : (p : ℕ) → 0 < p / 2 ^ 16 % 256 → (bytes : List ℕ) × (primary_rest p ≡ p / 2 ^ 16 % 256 ∷ bytes)
 rest_first p h =
     let behind = stripped_first (p / 2 ^ 16 % 256) (without_last_zeros (p / 2 ^ 8 % 256 ∷ p % 256 ∷ [])) h in

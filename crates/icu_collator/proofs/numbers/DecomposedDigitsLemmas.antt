@@ -1,34 +1,13 @@
 -- A run of digits stands in the decomposed list of a text as it does in the text.
-use Rattle.std.proofs.Common.{◌≡◌, ℕ, true, List, [], ◌∷◌, ◌++◌, refl, ap, ◌∙◌, arith}
+use Rattle.std.proofs.Common.{◌≡◌, ℕ, true, List, [], ◌∷◌, ◌++◌, refl, ap, ◌∙◌}
 use Rattle.std.specs.Prelude.{flat_map}
 use Rattle.std.specs.List.{list_all}
-use Rattle.std.proofs.lemmas.Bool.Decides.{nat_tests}
 use Rattle.std.proofs.lemmas.Bool.{and_parts}
 use Rattle.std.proofs.lemmas.List.Concat.{flat_map-append}
-use Rattle.icu_normalizer_core.specs.Canonical.{decomposed, put_in_order, marks_in_order}
+use Rattle.icu_normalizer_core.specs.Canonical.{decomposed, marks_in_order}
+use Rattle.icu_normalizer_core.proofs.DecomposedLemmas.{order_before, put_starter}
 use Rattle.icu_collator_core.specs.Collation.{Collation}
 use Rattle.icu_collator.specs.NumbersInTexts.{AreDigitsApart, is_digit}
-
--- a starter stays where it is put
-put_starter : (class : ℕ → ℕ) (c : ℕ) (ns : List ℕ) → class c ≡ 0 → put_in_order class c ns ≡ c ∷ ns
-unfolding put_in_order
-put_starter class c [] h = refl
-put_starter class c (n ∷ ns) h = grind (arith, nat_tests)
-
--- nothing is put behind a starter
-put_before : (class : ℕ → ℕ) (c d : ℕ) (ns ms : List ℕ) → class d ≡ 0
-    → put_in_order class c (ns ++ d ∷ ms) ≡ put_in_order class c ns ++ d ∷ ms
-unfolding put_in_order
-put_before class c d [] ms h = grind (arith, nat_tests)
-put_before class c d (n ∷ ns) ms h = grind (arith, nat_tests, put_before class c d ns ms h)
-
--- what stands before a starter and what stands behind it are put in order each by itself
-order_before : (class : ℕ → ℕ) (d : ℕ) (ns ms : List ℕ) → class d ≡ 0
-    → marks_in_order class (ns ++ d ∷ ms) ≡ marks_in_order class ns ++ d ∷ marks_in_order class ms
-unfolding marks_in_order
-order_before class d [] ms h = put_starter class d (marks_in_order class ms) h
-order_before class d (n ∷ ns) ms h =
-    ap (put_in_order class n) (order_before class d ns ms h) ∙ put_before class n d (marks_in_order class ns) (marks_in_order class ms) h
 
 -- a run of digits before a text
 order_run : (collation : Collation) (run ms : List ℕ) → AreDigitsApart collation → list_all (is_digit collation.weights) run ≡ true

@@ -79,7 +79,7 @@ moved_number collation lead ds t h =
     in rw (whole_elements lead ds h, whole_elements (reordered_lead collation lead) ds h)
     (moved_bytes collation lead (number_bytes (significant ds)) t (number_bytes_below (significant ds) g.digits g.is g.short))
 
--- whether elements behind these stand behind a variable one
+-- whether elements after these stand after a variable one
 unfoldable behind_after : Collation → ResolvedCollatorOptions → Bool → List Element → Bool
 behind_after collation options is_behind [] = is_behind
 behind_after collation options is_behind (e ∷ es) =
@@ -101,7 +101,7 @@ not_variable : (s : Bool) (p group lead : ℕ) → (not s || leb group (lead * 2
 not_variable false p group lead h e = refl
 not_variable true p group lead h e = grind (arith, nat_tests)
 
--- the state behind a number
+-- the state after a number
 abbrev behind_number : Bool → List Element → Bool
 behind_number b [] = b
 behind_number b (e ∷ es) = false
@@ -162,7 +162,7 @@ decided Less p n = refl
 decided Equal p n = absurd (n refl)
 decided Greater p n = refl
 
--- where two lists of elements differ in a number, the values of the numbers decide, whatever stands behind
+-- where two lists of elements differ in a number, the values of the numbers decide, whatever stands after
 pub different_numbers : (collation : Collation) (options : ResolvedCollatorOptions) (xs ys zs : List Element) (ds es list other : List ℕ)
     → is_letter_lead collation.weights.numeric_lead ≡ true → no_number_is_variable collation options ≡ true → AreNumbersTogether collation
     → IsWholeNumber ds → IsWholeNumber es → value_of ds ≢ value_of es

@@ -146,7 +146,7 @@ list_split collation xs run ys d a c h e g =
     ∙ split_at_digit collation true (length whole) front q qs a c both.0 plain (omega arith)
     ∙ cc (first, second, third, number)
 
--- behind two runs of digits the same elements stand
+-- after two runs of digits the same elements stand
 begins_agree : (weights : Weights) (xs ys : List ℕ) → begins_with_digit weights xs ≡ true → begins_with_digit weights ys ≡ true → AgreeToDigit weights xs ys
 begins_agree weights [] ys h g = cc
 begins_agree weights (x ∷ xs) [] h g = cc
@@ -219,7 +219,7 @@ different_runs collation options x (d ∷ r) (b ∷ s) y c a t n v hr hs ne =
     (different_numbers collation options _ _ _ (digits_of collation.weights (d ∷ r)) (digits_of collation.weights (b ∷ s)) _ _ a.lead v t
     (whole_number collation (d ∷ r) a hr.number) (whole_number collation (b ∷ s) a hs.number) ne)
 
--- a number of a lower value comes first, and one of a higher value comes behind
+-- a number of a lower value comes first, and one of a higher value comes after
 pub lower_first : (collation : Collation) (options : ResolvedCollatorOptions) (x r s y : List ℕ)
     → IsDecomposing collation.canonical → AreDigitsApart collation → AreNumbersTogether collation
     → is_numeric options.numeric ≡ true → no_number_is_variable collation options ≡ true

@@ -25,13 +25,13 @@ counted_same collation options s t b [] = refl
 counted_same collation options s t b (e ∷ es) =
     cc (counted_same collation options s t true es, counted_same collation options s t false es)
 
--- if what is behind a difference keeps its answer, so does the whole
+-- if what is after a difference keeps its answer, so does the whole
 behind_kept : (o x y : Ordering) → (x ≢ Equal → y ≡ x) → ordering_then o x ≢ Equal → ordering_then o y ≡ ordering_then o x
 behind_kept Less x y h n = refl
 behind_kept Equal x y h n = h n
 behind_kept Greater x y h n = refl
 
--- a level that is in force below and above, or has nothing in force behind it below
+-- a level that is in force below and above, or has nothing in force after it below
 level_kept : (low high : Bool) (o x y : Ordering) → (low ≡ true → high ≡ true) → (low ≡ false → x ≡ Equal) → (x ≢ Equal → y ≡ x)
     → ordering_then (where_in_force low o) x ≢ Equal
     → ordering_then (where_in_force high o) y ≡ ordering_then (where_in_force low o) x
@@ -49,7 +49,7 @@ last_kept false high o f n = absurd (n refl)
 looks_kept : (level low high : Strength) → is_at_least high low ≡ true → is_at_least low level ≡ true → is_at_least high level ≡ true
 looks_kept level low high h g = grind (arith, nat_tests)
 
--- where a level isn't looked at, none behind it is
+-- where a level isn't looked at, none after it is
 none_behind : (s t low : Strength) → strength_rank s < strength_rank t → is_at_least low s ≡ false → is_at_least low t ≡ false
 none_behind s t low h g = grind (arith, nat_tests)
 

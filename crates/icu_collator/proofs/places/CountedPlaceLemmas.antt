@@ -75,7 +75,7 @@ module _ (collation : Collation) (sound : AreSoundWeights collation.weights) (se
   abbrev pub IsAt : Place → ℕ → Type 0
   IsAt = IsPrimaryAt collation sound settings options
 
-  -- the place behind a primary with its lead reordered
+  -- the place after a primary with its lead reordered
   abbrev pub next : Place → ℕ → Place
   next place q = place_behind (q / 2 ^ 24 == reordered_lead collation numeric_lead) q place
 

@@ -24,7 +24,7 @@ pairs_shown p [] all = (omega arith, omega arith, omega (arith, all.0))
 pairs_shown p (q ∷ []) all = (omega arith, omega arith, omega (arith, all.0), pairs_shown q [] all.1)
 pairs_shown p (q ∷ r ∷ ps) all = (omega arith, omega arith, omega (arith, all.0), pairs_shown q (r ∷ ps) all.1)
 
--- the place behind a part whose first byte behind the lead is a, and whose last is c
+-- the place after a part whose first byte after the lead is a, and whose last is c
 behind_bytes : ℕ → ℕ → Place → Place
 behind_bytes a c outside = cond (leb 132 a) (cond (c % 2 == 1) inside outside) outside
 behind_bytes a c inside = cond (c % 2 == 1) inside outside
@@ -34,11 +34,11 @@ both_outside true = refl
 both_outside false = refl
 
 module _ (weights : Weights) (sound : AreSoundWeights weights) (numeric_on : Bool) where
-  -- an element at its place: of a record, or with common weights behind a primary
+  -- an element at its place: of a record, or with common weights after a primary
   abbrev pub IsElement : Place → Element → Type 0
   IsElement place e = ((place ≡ outside) × IsRecorded weights e) ⊎ ((p : ℕ) × IsOriginal weights sound numeric_on place p × (e ≡ primary_element p))
 
-  -- the place behind an element
+  -- the place after an element
   abbrev pub element_behind : Place → Element → Place
   element_behind place e = place_behind (e.primary / 2 ^ 24 == weights.numeric_lead) (e.primary) place
 
@@ -169,7 +169,7 @@ module _ (weights : Weights) (sound : AreSoundWeights weights) (numeric_on : Boo
       let below : ArePairs (without_last_zeros (p ∷ ps)) = kept_below (p ∷ ps) all in
       rw (kept.1) (pairs_shown p (kept.0) (subst ArePairs (kept.1) below))
 
-  -- pairs of digits of which the first isn't 0, an odd number of them behind a 0
+  -- pairs of digits of which the first isn't 0, an odd number of them after a 0
   pairs_begin : (is_even : Bool) (d e : ℕ) (ds : List ℕ) → 0 < d → AreDigits (d ∷ e ∷ ds) → ArePairBytes (pair_bytes (without_last_zeros (pairs_of (cond is_even (d ∷ e ∷ ds) (0 ∷ d ∷ e ∷ ds)))))
   unfolding pairs_of
   pairs_begin true d e ds h all = kept_shown (d * 10 + e) (pairs_of ds) (omega (arith, h)) (pairs_below (d ∷ e ∷ ds) all)

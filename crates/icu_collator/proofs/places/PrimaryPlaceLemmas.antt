@@ -103,7 +103,7 @@ module _ (weights : Weights) where
         → (weights.is_compressible (p / 2 ^ 24) ≡ true → (4 ≤ p / 2 ^ 16 % 256) × (p / 2 ^ 16 % 256 ≤ 0xfe))
         → IsLetter p
 
--- the bytes of a number's primary behind the lead: how many they are shows in each of them
+-- the bytes of a number's primary after the lead: how many they are shows in each of them
 pub data NumberBytes : Place → List ℕ → Type 0 where
   two : {a : ℕ} → 2 ≤ a → a ≤ 75 → NumberBytes outside (a ∷ [])
   three : {a b : ℕ} → 76 ≤ a → a ≤ 115 → 2 ≤ b → NumberBytes outside (a ∷ b ∷ [])
@@ -230,7 +230,7 @@ module _ (weights : Weights) (sound : AreSoundWeights weights) (numeric_on : Boo
 
 -- ---- with leads reordered
 
--- the place behind a primary with these bytes behind the lead: in a number where its last byte says that it goes on
+-- the place after a primary with these bytes after the lead: in a number where its last byte says that it goes on
 abbrev pub place_behind : Bool → ℕ → Place → Place
 place_behind is_number p place =
     let goes_on : Place = cond (p % 2 == 1) inside outside
@@ -287,7 +287,7 @@ module _ (collation : Collation) (sound : AreSoundWeights collation.weights) (se
   new_lead : (a b : ℕ) → (a * 2 ^ 24 + b % 2 ^ 24) / 2 ^ 24 ≡ a
   new_lead a b = omega arith
 
-  -- the bytes of a reordered primary: another lead, and the same behind it
+  -- the bytes of a reordered primary: another lead, and the same after it
   pub reordered_lead_is : (p : ℕ) → collation.reordered p / 2 ^ 24 ≡ reordered_lead collation (p / 2 ^ 24)
   reordered_lead_is p = ap (λ (x : ℕ). x / 2 ^ 24) (settings.rest p) ∙ new_lead (reordered_lead collation (p / 2 ^ 24)) p
 

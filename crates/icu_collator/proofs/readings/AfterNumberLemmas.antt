@@ -1,4 +1,4 @@
--- What stands behind a number is read alike behind another, for no recorded prefix reaches into a number.
+-- What stands after a number is read alike after another, for no recorded prefix reaches into a number.
 use Rattle.std.proofs.Common.{◌≡◌, ℕ, zero, suc, ◌+◌, ◌==◌, Bool, true, false, cond, ◌&&◌, ◌||◌, ltb, leb, List, [], ◌∷◌, ◌++◌, reverse, length, take, drop, refl, sym, ap, ◌∙◌, ◌⊎◌, inl, inr, arith, Option, None, filter_map}
 use Rattle.std.specs.List.{list_all, prefix_len}
 use Rattle.std.specs.Option.{unwrap_or, is_some}
@@ -15,7 +15,7 @@ use Rattle.icu_collator_core.specs.Elements.{Placed, Reading, Joining, placed_be
 use Rattle.icu_collator.specs.NumbersInTexts.{AreDigitsApart, is_digit, holds_digit}
 use Rattle.icu_collator.proofs.readings.BeforeDigitLemmas.{chosen_alike, reading_is}
 
--- the same characters, each behind prefixes that give the same
+-- the same characters, each after prefixes that give the same
 abbrev pub AreAlike : Weights → List Placed → List Placed → Type 0
 AreAlike weights [] [] = Unit {0}
 AreAlike weights [] (q ∷ qs) = ⊥
@@ -236,7 +236,7 @@ unfolding at_greatest
 greatest_alike f g zero h = h zero
 greatest_alike f g (suc n) h = cc (h (suc n), greatest_alike f g n h)
 
--- characters behind lists that agree up to a digit are alike
+-- characters after lists that agree up to a digit are alike
 pub placed_alike : (collation : Collation) (xs ys cs : List ℕ) → AreDigitsApart collation → AgreeToDigit collation.weights xs ys
     → AreAlike collation.weights (placed_behind xs cs) (placed_behind ys cs)
 unfolding placed_behind

@@ -58,7 +58,7 @@ append_plain weights (p ∷ []) [] h g = h
 append_plain weights (p ∷ []) (q ∷ qs) h g = g
 append_plain weights (p ∷ r ∷ rs) qs h g = append_plain weights (r ∷ rs) qs h g
 
--- marks join no further than up to a starter, and what stands from there on is left behind what is left before it
+-- marks join no further than up to a starter, and what stands from there on is left after what is left before it
 pub record JoinsAlike (behind : List Placed) (whole front : Joining) : Type 0 where
   pub text : whole.text ≡ front.text
   pub left : whole.left ≡ front.left ++ behind
@@ -120,7 +120,7 @@ joining_shrinks canonical weights text between (m ∷ ms) =
     (λ _. omega arith)
     (λ _. omega (arith, length-append between (m ∷ []))))
 
--- the characters of two lists of placed characters, one behind the other
+-- the characters of two lists of placed characters, one after the other
 pub characters_append : (ps qs : List Placed) → characters_of (ps ++ qs) ≡ characters_of ps ++ characters_of qs
 characters_append ps qs = map-append (λ p. p.character) ps qs
 

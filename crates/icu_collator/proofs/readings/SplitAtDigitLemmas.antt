@@ -16,7 +16,7 @@ use Rattle.icu_collator_core.specs.Elements.{Placed, Reading, characters_of, mat
 use Rattle.icu_collator.specs.NumbersInTexts.{AreDigitsApart, is_digit}
 use Rattle.icu_collator.proofs.readings.BeforeDigitLemmas.{chosen_alike, reading_is, EndsPlain, tail_plain, drop_plain, JoinsAlike, joining_apart, joining_plain, joining_shrinks, characters_append, match_filled, match_within, match_kept}
 
--- a reading of a list, and that of its front: what stands behind the front is left
+-- a reading of a list, and that of its front: what stands after the front is left
 record ReadsApart (weights : Weights) (behind : List Placed) (whole front : Reading) : Type 0 where
   elements : whole.elements ≡ front.elements
   left : whole.left ≡ front.left ++ behind

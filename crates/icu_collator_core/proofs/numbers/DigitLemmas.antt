@@ -28,11 +28,11 @@ DiffersBelow (x ∷ xs) (y ∷ ys) = (x < y) ⊎ ((x ≡ y) × DiffersBelow xs y
 abbrev pub IsBelow : List ℕ → List ℕ → Type 0
 IsBelow xs ys = (length xs < length ys) ⊎ ((length xs ≡ length ys) × DiffersBelow xs ys)
 
--- the value of digits behind others whose value is v
+-- the value of digits after others whose value is v
 abbrev pub behind : ℕ → List ℕ → ℕ
 behind v ds = fold (λ value d. value * 10 + d) v ds
 
--- as many digits behind a lower value have a lower value, and fewer ones too
+-- as many digits after a lower value have a lower value, and fewer ones too
 behind_lower : (m n : ℕ) (xs ys : List ℕ) → m < n → AreDigits xs → length xs ≤ length ys → behind m xs < behind n ys
 behind_lower m n [] [] h hx l = h
 behind_lower m n [] (y ∷ ys) h hx l = behind_lower m (n * 10 + y) [] ys (omega arith) tt (omega arith)

@@ -10,7 +10,7 @@ use Rattle.icu_collator_core.proofs.numbers.DigitPairLemmas.{IsLed, pairs_differ
 evened : List ℕ → List ℕ
 evened ds = cond ((length ds % 2) == 0) ds (0 ∷ ds)
 
--- the bytes behind the lead, of a number of many digits and of any
+-- the bytes after the lead, of a number of many digits and of any
 long_bytes : List ℕ → List ℕ
 long_bytes ds = (128 + (length ds + 1) / 2) ∷ pair_bytes (without_last_zeros (pairs_of (evened ds)))
 

@@ -31,7 +31,7 @@ all_reversed P [] h = tt
 all_reversed {X} P (x ∷ xs) h =
     subst (λ (ys : List X). AllByRecursion P ys) (sym (reverse_onto xs x [])) (all_append P (reverse xs) (x ∷ []) (all_reversed P xs h.1) (h.0, tt))
 
--- a scalar value behind scalar values
+-- a scalar value after scalar values
 record IsOfScalars (p : Placed) : Type 0 where
   pub character : IsScalar p.character
   pub before : AreScalar p.before
