@@ -25,6 +25,7 @@ use Rattle.icu_collator.specs.Levels.{levels_of}
 use Rattle.icu_collator.specs.NumbersInTexts.{AreNumbersTogether}
 use Rattle.icu_collator.specs.Order.{levels_order}
 use Rattle.icu_collator.specs.Settings.{AreSoundSettings}
+use Rattle.icu_collator.specs.SoundCollation.{IsSoundCollation}
 use Rattle.worked_rows.proofs.Computing.{computing}
 use Rattle.icu_collator_examples.proofs.LettersDigits.{digit_values}
 
@@ -98,32 +99,8 @@ digits_settings_sound =
       alike = λ lead. ap digits_collation.weights.is_compressible (lead_stays lead);
     }
 
+pub digits_sound : IsSoundCollation digits_collation
+digits_sound = record { weights = digits_weights_sound; settings = digits_settings_sound }
+
 pub numbers_together : AreNumbersTogether digits_collation
 numbers_together p h = digits_settings_sound.rest p
-
--- the elements of "a" and "b" are single ones, alone and one after the other
-a_is_recorded : IsRecorded digits_collation.weights small_a
-unfolding recorded_of
-a_is_recorded = ([], 0x61 ∷ [], small_a ∷ [], refl, (0, omega arith, refl))
-
-b_is_recorded : IsRecorded digits_collation.weights small_b
-unfolding recorded_of
-b_is_recorded = ([], 0x62 ∷ [], small_b ∷ [], refl, (0, omega arith, refl))
-
-pub only_b : IsSoundSequence digits_collation.weights false (small_b ∷ [])
-only_b = single _ _ (of_record _ b_is_recorded) nothing
-
-pub a_then_b : IsSoundSequence digits_collation.weights false (small_a ∷ small_b ∷ [])
-a_then_b = single _ _ (of_record _ a_is_recorded) only_b
-
-pub only_b_scalars : All IsScalar (0x62 ∷ [])
-only_b_scalars = let each : AllByRecursion IsScalar (0x62 ∷ []) = (refl, tt) in All-from_recursion IsScalar (0x62 ∷ []) each
-
-pub a_then_b_scalars : All IsScalar (0x61 ∷ 0x62 ∷ [])
-a_then_b_scalars =
-    let each : AllByRecursion IsScalar (0x61 ∷ 0x62 ∷ []) = (refl, (refl, tt)) in All-from_recursion IsScalar (0x61 ∷ 0x62 ∷ []) each
-
--- the levels of those elements
-pub a_then_b_is_below : levels_order (plain_options Tertiary) (levels_of digits_collation (plain_options Tertiary) (small_a ∷ small_b ∷ []) (0x61 ∷ 0x62 ∷ [])) (levels_of digits_collation (plain_options Tertiary) (small_b ∷ []) (0x62 ∷ [])) ≡ Less
-unfolding computing
-a_then_b_is_below = refl
