@@ -17,16 +17,16 @@ ghost use Rattle.icu_collator.specs.Levels.{levels_of_text};
 ghost use Rattle.icu_collator.specs.Order.{collation_order};
 ghost use Rattle.icu_collator.specs.Strengths.{at_strength};
 
-/// Whatever collation data and options say, the collation order is a total preorder: turning two
-/// texts round turns the answer round, "below" and "equal" are transitive, and texts that compare
-/// equal compare alike to any third.
+/// Whatever collation data and options say, the collation order is a total preorder: swapping two
+/// texts reverses the answer, "below" and "equal" are transitive, and texts that compare equal
+/// compare alike to any third.
 #[tactic(auto, using(crate::proofs::orders::TotalOrderLemmas::collation_order_total))]
 pub fn order_is_total()
     ensures { (collation : Collation) (options : ResolvedCollatorOptions) → IsTotalOrder (collation_order collation options) }
 {}
 
-/// With the case level off, what a strength tells apart every higher strength tells apart in the
-/// same way: an answer that isn't `Equal` stays when the strength alone is raised.
+/// With the case level off, texts that differ at a strength differ in the same way at every higher
+/// one: an answer that isn't `Equal` stays when the strength alone is raised.
 #[tactic(auto, using(crate::proofs::orders::StrengthsLemmas::raised_order))]
 pub fn raised_strength_keeps_order()
     ensures { (collation : Collation) (options : ResolvedCollatorOptions) (lower higher : Strength) (a b : List ℕ)
@@ -37,8 +37,8 @@ pub fn raised_strength_keeps_order()
 
 /// Two texts of scalar values are canonically equivalent exactly where they have the same
 /// decomposed list (UAX 15). Equivalent means here that mapping characters where they stand and
-/// exchanging neighbouring marks of different classes, forward and back, lead from the one text to
-/// the other.
+/// exchanging neighbouring marks of different classes, forward and back, lead from one text to the
+/// other.
 #[tactic(auto, using(crate::proofs::equivalence::EquivalenceLemmas::one_decomposed))]
 pub fn equal_lists_are_equivalent()
     ensures { (canonical : Canonical) (xs ys : List ℕ)
@@ -88,7 +88,7 @@ pub fn equal_at_identical_is_equivalence()
 {}
 
 /// A text has the levels of its decomposed list and of its composed list, at every strength and with
-/// every option; so what goes by the levels alone, as the order and the keys, is the same for them.
+/// every option; so whatever depends on the levels alone, such as order and keys, is the same for them.
 #[tactic(auto, using(crate::proofs::equivalence::NormalFormLemmas::decomposed_levels, crate::proofs::equivalence::NormalFormLemmas::composed_levels))]
 pub fn normalising_keeps_levels()
     ensures decomposed { (collation : Collation) (options : ResolvedCollatorOptions) (text : List ℕ)
@@ -99,7 +99,7 @@ pub fn normalising_keeps_levels()
         → levels_of_text collation options (composed collation.canonical text) ≡ levels_of_text collation options text }
 {}
 
-/// To put a text in a normal form before it is compared changes no answer, on either side.
+/// Putting a text in a normal form before it is compared changes no answer, on either side.
 #[tactic(auto, using(crate::proofs::equivalence::NormalFormLemmas::decomposed_first, crate::proofs::equivalence::NormalFormLemmas::decomposed_second, crate::proofs::equivalence::NormalFormLemmas::composed_first, crate::proofs::equivalence::NormalFormLemmas::composed_second))]
 pub fn normalising_first_keeps_order()
     ensures decomposed_left { (collation : Collation) (options : ResolvedCollatorOptions) (a b : List ℕ)

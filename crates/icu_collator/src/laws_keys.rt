@@ -28,7 +28,7 @@ pub fn keys_order_as_texts()
         → slice_cmp nat_cmp (key_of_text collation options a) (key_of_text collation options b) ≡ collation_order collation options a b }
 {}
 
-/// Under the same premises two texts have one key exactly where they compare equal.
+/// Under the same premises two texts have the same key exactly if they compare equal.
 pub fn equal_keys_are_of_equal_texts()
     ensures { (collation : Collation) (options : ResolvedCollatorOptions) (a b : List ℕ)
         → IsDecomposing collation.canonical → IsSoundCollation collation
@@ -36,7 +36,7 @@ pub fn equal_keys_are_of_equal_texts()
         → (key_of_text collation options a ≡ key_of_text collation options b) ↔ (collation_order collation options a b ≡ Equal) }
 {}
 
-/// Under the same premises, and at strength `Identical`, two texts have one key exactly where they are
+/// Under the same premises, and at strength `Identical`, two texts have the same key exactly if they are
 /// canonically equivalent.
 pub fn equal_keys_at_identical_are_of_equivalent_texts()
     ensures { (collation : Collation) (options : ResolvedCollatorOptions) (a b : List ℕ)

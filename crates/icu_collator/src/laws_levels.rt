@@ -1,6 +1,6 @@
-//! Laws of levels in keys, one a level: where two lists of levels first differ in that level, their
-//! keys compare as it does. Each is of use alone, and only that on primaries asks anything of the lead
-//! byte of numbers. The levels are such as texts have (`laws_keys::texts_have_sound_levels`). Each
+//! Laws of levels in keys, one for each level: where two texts' levels first differ in that one, their
+//! keys compare as it does. Each is useful alone, and only the one on primaries asks anything of the
+//! lead byte of numbers. The levels are such as texts have (`laws_keys::texts_have_sound_levels`). Each
 //! function's contract is the law, and its body is empty.
 
 ghost use Rattle.std.specs.Prelude.{◌≡◌, ◌≢◌, true};

@@ -1,6 +1,6 @@
-//! Laws of sameness: collation data that are kept in two ways, as records and as tables, but say the
-//! same of scalar values, answer alike for all texts of scalar values, with every option. Each
-//! function's contract is the law, and its body is empty.
+//! Laws of sameness: collation data in two forms, as records and as tables, that say the same of scalar
+//! values give the same answers for all texts of scalar values, with every option. Each function's
+//! contract is the law, and its body is empty.
 
 ghost use Rattle.std.specs.Char.{IsScalar};
 ghost use Rattle.std.specs.Prelude.{◌≡◌, ℕ, All, List};

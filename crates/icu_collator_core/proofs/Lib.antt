@@ -1,3 +1,4 @@
 pub mod numbers
 pub mod readings
 pub mod weights
+pub mod NumberExamples

@@ -1,5 +1,4 @@
 pub mod DigitLemmas
 pub mod DigitPairLemmas
 pub mod NumberBytesLemmas
-pub mod NumberExamples
 pub mod NumberOrderLemmas

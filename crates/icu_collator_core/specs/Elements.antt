@@ -65,8 +65,8 @@ pub record Joining : Type 0 where
   pub text : List ℕ
   pub left : List Placed
 
--- The marks that follow a text join it in turn, up to the next starter: one joins where no mark left between has a class
--- that isn't lower, and the longer text is recorded. These marks were left between so far.
+-- The marks that follow a text join it in turn, up to the next starter: a mark joins if every mark left between has a lower
+-- class and the longer text is recorded. `between` holds the marks left so far.
 unfoldable pub joining : Canonical → Weights → List ℕ → List Placed → List Placed → Joining
 joining canonical weights text between [] = record { text = text; left = between }
 joining canonical weights text between (m ∷ ms) =

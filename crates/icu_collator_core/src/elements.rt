@@ -1,5 +1,5 @@
-//! The elements of characters that no record names: special, jamo and implicit. The weights are implicit ones after UTS
-//! 10; their numbers are those of `docs/RECORDS.md`.
+//! The elements of characters that no record names: special ones, jamo and implicit ones, as UTS 10 has
+//! them, with weights that are this project's own (`docs/RECORDS.md`).
 
 ghost use Rattle.std.specs.Prelude.{◌≡◌, cond};
 ghost use Rattle.icu_normalizer_core.specs.BuiltIn.{is_jamo};

@@ -18,7 +18,7 @@ pub fn numbers_order_as_values()
         ≡ ordering_then (nat_cmp (value_of digits) (value_of others)) (slice_cmp nat_cmp following following_others) }
 {}
 
-/// Numbers of one value have the same elements, however many zeros stand before them.
+/// Numbers of the same value have the same elements, however many zeros stand before them.
 #[tactic(auto, using(crate::proofs::numbers::NumberOrderLemmas::equal_numbers))]
 pub fn equal_values_have_equal_elements()
     ensures { (lead : ℕ) (digits others : List ℕ)

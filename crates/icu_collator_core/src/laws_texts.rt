@@ -11,7 +11,7 @@ ghost use Rattle.icu_collator_core.specs.Elements.{elements_of_list};
 ghost use Rattle.icu_collator_core.specs.WeightRules.{AreSoundWeights, is_beside_ranged, is_of_other_lead, is_sound_range, is_sound_ranged};
 ghost use Rattle.icu_collator_core.specs.SoundElements.{IsSoundSequence};
 
-/// The elements of every text of scalar values are single elements, recorded or default, and, with
+/// The elements of every text of scalar values are single elements, recorded or default, and with
 /// numeric ordering, whole numbers, one after another: no record, range or number is read in part.
 /// The weights must keep the rules of `docs/RECORDS.md`, and the canonical data must decompose (UAX 15).
 #[tactic(auto, using(crate::proofs::readings::SoundElementsLemmas::text_elements_sound))]

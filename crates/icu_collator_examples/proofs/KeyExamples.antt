@@ -20,14 +20,14 @@ use Rattle.icu_collator_core.specs.WeightRules.{AreSoundWeights, IsRecorded, has
 use Rattle.icu_collator_examples.specs.Letters.{digits_collation, digits_table, ideographs, ideographs_collation, plain_options}
 use Rattle.icu_collator_examples.specs.LetterLevels.{small_a, small_b}
 use Rattle.worked_rows.specs.Tables.{recorded_of}
-use Rattle.icu_collator_examples.proofs.Found.{elements_of, found_elements}
+use Rattle.icu_collator_examples.proofs.FoundLemmas.{elements_of, found_elements}
 use Rattle.icu_collator.specs.Levels.{levels_of}
 use Rattle.icu_collator.specs.NumbersInTexts.{AreNumbersTogether}
 use Rattle.icu_collator.specs.Order.{levels_order}
 use Rattle.icu_collator.specs.Settings.{AreSoundSettings}
 use Rattle.icu_collator.specs.SoundCollation.{IsSoundCollation}
 use Rattle.worked_rows.proofs.Computing.{computing}
-use Rattle.icu_collator_examples.proofs.LettersDigits.{digit_values}
+use Rattle.icu_collator_examples.proofs.LetterDigitsLemmas.{digit_values}
 
 -- the elements of all records: of ten digits, eight letters, three accents, a capital, a space and a full stop
 abbrev all_elements : List Element

@@ -91,7 +91,7 @@ fn levels_are_sound()
 }
 
 // Every text has a sequence of single elements and whole numbers under these records.
-#[tactic(auto, using(crate::proofs::KeyExamples::digits_weights_sound, crate::proofs::Letters::letters_is_decomposing))]
+#[tactic(auto, using(crate::proofs::KeyExamples::digits_weights_sound, crate::proofs::LettersLemmas::letters_is_decomposing))]
 fn elements_are_sound()
     ensures { (text : List ℕ) → All IsScalar text
         → IsSoundSequence digits_collation.weights true (elements_of_list letters digits_collation.weights true (decomposed letters text)) }

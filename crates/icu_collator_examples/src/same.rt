@@ -22,7 +22,7 @@ use icu_collator_core::laws_same::{
 };
 
 // The tables say the same of each character, so the laws speak of them.
-#[tactic(auto, using(crate::proofs::SameTables::same_characters, crate::proofs::SameTables::same_weights, crate::proofs::SameTables::same_settings))]
+#[tactic(auto, using(crate::proofs::SameTablesLemmas::same_characters, crate::proofs::SameTablesLemmas::same_weights, crate::proofs::SameTablesLemmas::same_settings))]
 fn tables_are_the_same()
     ensures characters { AreSameCanonical other_collation.canonical ranged_collation.canonical }
     ensures weights { AreSameWeights other_collation.weights ranged_collation.weights }

@@ -84,8 +84,8 @@ pub enum CollationNumericOrdering {
     True,
 }
 
-/// What a caller asks of a collator. `None` leaves the choice to the records file, and where the
-/// file says nothing of it to the default.
+/// What a caller asks of a collator. `None` leaves the choice to the records file, or to the default
+/// where the file says nothing.
 #[derive(Clone, Copy, Debug, Default)]
 pub struct CollatorOptions {
     /// How many levels count.

@@ -17,17 +17,17 @@ ghost use Rattle.icu_collator.specs.SoundCollation.{IsSoundCollation};
 ghost use Rattle.icu_collator.specs.NumbersInTexts.{AreDigitsApart, AreNumbersTogether, IsNumberBetween, no_number_is_variable, run_value};
 ghost use Rattle.icu_collator.specs.Order.{collation_order};
 
-/// With numeric ordering on, let two texts be alike but for one run of digits, which in each has at
-/// most 254 digits from the first on that isn't 0, and beside which neither text goes on with a digit
-/// once it is decomposed. Where no number is variable, and reordering keeps numbers together, the text
-/// whose run has the lower value is below the other, at every strength. Where the values are the same,
-/// the texts are equal at every strength but `Identical`, whatever zeros lead the digits, whatever is
+/// With numeric ordering on, let two texts differ in one run of digits alone. Each run has at most 254
+/// digits from its first nonzero digit on, and neither text has another digit next to the run once it
+/// is decomposed. Where no number is variable, and reordering keeps numbers together, the text whose
+/// run has the lower value is below the other, at every strength. Where the values are the same, the
+/// texts are equal at every strength but `Identical`, whatever zeros lead the digits, whatever is
 /// variable and whatever is reordered.
 ///
-/// The collation data must keep what `AreDigitsApart` says; among it is that a tilde (U+0303) is no
-/// digit where a dot above is dropped before accents: else a dot above at the end of the text before
-/// would be dropped before a number that begins with U+0303 and not before its equal with a zero in
-/// front.
+/// The collation data must keep what `AreDigitsApart` says. Part of it: where a dot above is dropped
+/// before accents, a tilde (U+0303) is no digit. Otherwise a dot above that ends the text before the
+/// number would be dropped before a number that begins with U+0303, but not before the same number with
+/// a zero in front.
 #[tactic(auto, using(crate::proofs::numbers::NumbersInTextsLemmas::lower_first, crate::proofs::numbers::NumbersInTextsLemmas::higher_behind, crate::proofs::numbers::NumbersInTextsLemmas::equal_runs))]
 pub fn numbers_order_by_value()
     ensures lower { (collation : Collation) (options : ResolvedCollatorOptions) (x r s y : List ℕ)
@@ -50,9 +50,9 @@ pub fn numbers_order_by_value()
         → collation_order collation options (x ++ (r ++ y)) (x ++ (s ++ y)) ≡ Equal }
 {}
 
-/// The keys of such texts order alike, byte by byte, over weights and settings that keep the rules,
-/// where the lead byte of numbers is not compressible: the lower value has the lower key, and equal
-/// values have one key at every strength but `Identical`.
+/// The keys of such texts order in the same way, byte by byte, over weights and settings that keep the
+/// rules, where the lead byte of numbers is not compressible: the lower value has the lower key, and
+/// equal values have the same key at every strength but `Identical`.
 pub fn number_keys_order_by_value()
     ensures lower { (collation : Collation) (options : ResolvedCollatorOptions) (x r s y : List ℕ)
         → IsDecomposing collation.canonical → IsSoundCollation collation → has_plain_leads collation options ≡ true

@@ -1,9 +1,9 @@
 use Rattle.std.proofs.Common.{refl}
 use Rattle.icu_collator_types.specs.declared.options.Strength.TheVariants.{Identical}
 use Rattle.icu_collator_examples.specs.Letters.{digits_collation, numeric_options, dot_composed, acute_composed}
-use Rattle.icu_collator_examples.proofs.Letters.{letters_is_decomposing}
+use Rattle.icu_collator_examples.proofs.LettersLemmas.{letters_is_decomposing}
 use Rattle.icu_collator_examples.proofs.KeyExamples.{digits_sound}
-use Rattle.icu_collator_examples.proofs.Examples.{dot_composed_scalars, acute_composed_scalars}
+use Rattle.icu_collator_examples.proofs.TextExamples.{dot_composed_scalars, acute_composed_scalars}
 use Rattle.icu_collator_examples.proofs.keys.keys_are_equal_at_identical.Goals as goal
 
 pub returns : goal.returns

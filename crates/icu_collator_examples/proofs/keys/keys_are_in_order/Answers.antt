@@ -1,9 +1,9 @@
 use Rattle.std.proofs.Common.{[], ◌∷◌, refl, ◌∙◌}
 use Rattle.icu_collator_types.specs.declared.options.Strength.TheVariants.{Primary, Tertiary}
 use Rattle.icu_collator_examples.specs.Letters.{digits_collation, plain_options, numeric_options, cote_with_acute, cote_with_circumflex}
-use Rattle.icu_collator_examples.proofs.Letters.{letters_is_decomposing}
+use Rattle.icu_collator_examples.proofs.LettersLemmas.{letters_is_decomposing}
 use Rattle.icu_collator_examples.proofs.KeyExamples.{digits_sound}
-use Rattle.icu_collator_examples.proofs.Examples.{two_scalars, ten_scalars, accents_in_order, cote_with_acute_scalars, cote_with_circumflex_scalars, two_is_below_ten}
+use Rattle.icu_collator_examples.proofs.TextExamples.{two_scalars, ten_scalars, accents_in_order, cote_with_acute_scalars, cote_with_circumflex_scalars, two_is_below_ten}
 use Rattle.icu_collator_examples.proofs.keys.keys_are_in_order.Goals as goal
 
 pub returns-clause-accents : goal.returns-clause-accents

@@ -1,5 +1,5 @@
 use Rattle.icu_collator_examples.specs.Letters.{digits_collation, numeric_options}
-use Rattle.icu_collator_examples.proofs.Letters.{letters_is_decomposing}
+use Rattle.icu_collator_examples.proofs.LettersLemmas.{letters_is_decomposing}
 use Rattle.icu_collator_examples.proofs.KeyExamples.{digits_sound}
 use Rattle.icu_collator_examples.proofs.keys.levels_are_sound.Goals as goal
 

@@ -1,9 +1,9 @@
 use Rattle.std.proofs.Common.{[], ◌∷◌, refl}
 use Rattle.icu_collator_examples.specs.Letters.{digits_collation, numeric_options}
 use Rattle.icu_collator_examples.proofs.KeyExamples.{digits_sound}
-use Rattle.icu_collator_examples.proofs.Examples.{two_scalars, ten_scalars, seven_scalars, padded_scalars}
-use Rattle.icu_collator_examples.proofs.Letters.{letters_is_decomposing}
-use Rattle.icu_collator_examples.proofs.LettersDigits.{letters_digits_apart, two_behind_a, ten_behind_a, two_below_ten, seven_before_dot, padded_before_dot, padded_seven}
+use Rattle.icu_collator_examples.proofs.TextExamples.{two_scalars, ten_scalars, seven_scalars, padded_scalars}
+use Rattle.icu_collator_examples.proofs.LettersLemmas.{letters_is_decomposing}
+use Rattle.icu_collator_examples.proofs.LetterDigitsLemmas.{letters_digits_apart, two_behind_a, ten_behind_a, two_below_ten, seven_before_dot, padded_before_dot, padded_seven}
 use Rattle.icu_collator_examples.proofs.numbers.number_keys_are_in_order.Goals as goal
 
 pub returns-clause-lower : goal.returns-clause-lower

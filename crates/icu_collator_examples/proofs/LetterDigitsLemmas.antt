@@ -11,8 +11,8 @@ use Rattle.icu_collator_examples.specs.Letters.{digits_collation, digits_table}
 use Rattle.icu_collator.specs.NumbersInTexts.{AreDigitsApart, IsNumberBetween, holds_digit, run_value}
 use Rattle.worked_rows.specs.Tables.{Digit, recorded_of}
 use Rattle.worked_rows.proofs.Computing.{computing}
-use Rattle.icu_collator_examples.proofs.Found.{by_character, longer_unrecorded}
-use Rattle.icu_collator_examples.proofs.LettersPairs.{letters_low_starters, letters_unmapped, letters_full_unmapped}
+use Rattle.icu_collator_examples.proofs.FoundLemmas.{by_character, longer_unrecorded}
+use Rattle.icu_collator_examples.proofs.LetterPairsLemmas.{letters_low_starters, letters_unmapped, letters_full_unmapped}
 
 -- each digit has a value up to 9, and stands up to U+0039
 digit_tests : (c : ℕ) → IfSome (digits_collation.weights.digit c) (λ d. (leb d 9 && leb c 0x39) ≡ true)

@@ -9,7 +9,7 @@ use Rattle.icu_normalizer_core.specs.BuiltIn.{built_in_step, built_in_compatibil
 use Rattle.icu_normalizer_core.specs.Canonical.{IsComposing, IsCanonical, composed, composing, decomposed, marks_in_order, put_in_order, recomposed}
 use Rattle.worked_rows.specs.Tables.{class_of, step_of, pair_of, expanded, composed_by, first_found}
 use Rattle.worked_rows.specs.Letters.{letters as letters_table}
-use Rattle.icu_collator_examples.proofs.Letters.{letters_class, letters_step, letters_full, by_full, letters_is_decomposing, open_step, closed_step}
+use Rattle.icu_collator_examples.proofs.LettersLemmas.{letters_class, letters_step, letters_full, by_full, letters_is_decomposing, open_step, closed_step}
 use Rattle.icu_collator_examples.specs.Letters.{letters}
 
 abbrev letters_pair : ℕ → ℕ → Option ℕ

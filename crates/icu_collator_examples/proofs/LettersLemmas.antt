@@ -15,7 +15,7 @@ use Rattle.icu_normalizer_core.proofs.DecomposedLemmas.{left_append}
 use Rattle.worked_rows.specs.Tables.{Mapping, class_of, step_of, expanded, first_found}
 use Rattle.worked_rows.specs.Letters.{letters as letters_table}
 use Rattle.icu_collator_examples.specs.Letters.{letters}
-use Rattle.icu_collator_examples.proofs.Found.{by_character}
+use Rattle.icu_collator_examples.proofs.FoundLemmas.{by_character}
 
 -- what the table of letters says of characters
 abbrev pub letters_class : ℕ → ℕ
