@@ -1,32 +1,23 @@
 -- The records of the worked examples keep the rules, so the laws of keys speak of them.
-use Rattle.std.proofs.Common.{◌≡◌, ℕ, Bool, true, false, List, [], ◌∷◌, refl, sym, ◌∙◌, ap, subst, arith, Option, Some, None}
+use Rattle.std.proofs.Common.{◌≡◌, ℕ, Bool, true, false, List, refl, sym, ◌∙◌, ap, subst, arith, Option, Some, None}
 use Rattle.std.proofs.lemmas.Bool.{cond_both}
 use Rattle.std.proofs.lemmas.Bool.Decides.{nat_tests}
-use Rattle.std.proofs.lemmas.List.Elements.{All-from_recursion, All-contains}
+use Rattle.std.proofs.lemmas.List.Elements.{All-contains}
 use Rattle.std.proofs.lemmas.List.Sums.{AllPass-from_list_all}
 use Rattle.std.specs.Prelude.{◌==◌, ◌||◌}
-use Rattle.std.specs.List.{All, AllByRecursion, Contains, list_all}
-use Rattle.std.specs.Char.{IsScalar}
-use Rattle.std.specs.declared.cmp.Ordering.TheVariants.{Less}
+use Rattle.std.specs.List.{Contains, list_all}
 use Rattle.icu_collator_types.specs.declared.elements.Element.{Element}
-use Rattle.icu_collator_types.specs.declared.options.Strength.TheVariants.{Tertiary}
 use Rattle.icu_normalizer_core.specs.BuiltIn.{is_within}
 use Rattle.icu_collator_core.specs.Defaults.{range_primary}
-use Rattle.icu_collator_core.specs.SoundElements.{IsSoundSequence, single, nothing, of_record}
 use Rattle.icu_collator_core.specs.Numbers.{without_last_zeros}
 use Rattle.icu_collator_core.specs.Collation.{reordered_lead}
 use Rattle.icu_collator_core.proofs.weights.ReorderingLemmas.{given_lead, given_rest}
 use Rattle.icu_collator_core.specs.WeightRules.{AreSoundWeights, IsRecorded, has_widths, is_sound_element, is_sound_range, is_of_other_lead, are_apart_elements, is_letter_lead, is_proper_beginning}
-use Rattle.icu_collator_examples.specs.Letters.{digits_collation, digits_table, ideographs, ideographs_collation, plain_options}
-use Rattle.icu_collator_examples.specs.LetterLevels.{small_a, small_b}
-use Rattle.worked_rows.specs.Tables.{recorded_of}
+use Rattle.icu_collator_examples.specs.Letters.{digits_collation, digits_table, ideographs, ideographs_collation}
 use Rattle.icu_collator_examples.proofs.FoundLemmas.{elements_of, found_elements}
-use Rattle.icu_collator.specs.Levels.{levels_of}
 use Rattle.icu_collator.specs.NumbersInTexts.{AreNumbersTogether}
-use Rattle.icu_collator.specs.Order.{levels_order}
 use Rattle.icu_collator.specs.Settings.{AreSoundSettings}
 use Rattle.icu_collator.specs.SoundCollation.{IsSoundCollation}
-use Rattle.worked_rows.proofs.Computing.{computing}
 use Rattle.icu_collator_examples.proofs.LetterDigitsLemmas.{digit_values}
 
 -- the elements of all records: of ten digits, eight letters, three accents, a capital, a space and a full stop

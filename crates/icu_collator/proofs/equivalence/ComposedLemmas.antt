@@ -1,11 +1,11 @@
 -- The composed list of a text is equivalent to it.
 use Rattle.std.proofs.Common.{◌≡◌, ℕ, ◌<◌, Bool, true, false, cond, ltb, List, [], ◌∷◌, ◌++◌, refl, sym, subst, arith, Option, Some, None, append_assoc}
-use Rattle.std.specs.Prelude.{◌≢◌, All, flat_map}
+use Rattle.std.specs.Prelude.{◌≢◌, All}
 use Rattle.std.specs.List.{list_all}
 use Rattle.std.specs.Char.{IsScalar}
 use Rattle.std.proofs.lemmas.Bool.{cond_both, ltb-true, eqb-false, and_parts}
 use Rattle.std.proofs.lemmas.List.{append-nil}
-use Rattle.icu_normalizer_core.specs.Canonical.{Canonical, IsCanonical, IsDecomposing, IsComposing, is_starter, decomposed, composing, recomposed, composed}
+use Rattle.icu_normalizer_core.specs.Canonical.{Canonical, IsCanonical, IsComposing, is_starter, decomposed, composing, recomposed, composed}
 use Rattle.icu_collator.specs.Equivalence.{IsEquivalent, same, turned, joined, stepped, swapped}
 use Rattle.icu_normalizer_core.proofs.DecomposedLemmas.{AreUnmapped, decomposed_unmapped}
 use Rattle.icu_collator.proofs.equivalence.EquivalenceLemmas.{front_kept, decomposed_equivalent}

@@ -1,11 +1,11 @@
 -- Normal forms: they are lists of scalar values and their own normal forms, and comparing them is comparing the texts.
-use Rattle.std.proofs.Common.{◌≡◌, ℕ, cond, ◌&&◌, ltb, List, [], ◌∷◌, ◌++◌, sym, ap, subst, ◌∙◌, None}
-use Rattle.std.specs.Prelude.{◌↔◌, All, flat_map}
-use Rattle.std.specs.List.{list_all, AllByRecursion}
+use Rattle.std.proofs.Common.{◌≡◌, ℕ, cond, ltb, List, [], ◌∷◌, ◌++◌, sym, ap, ◌∙◌, None}
+use Rattle.std.specs.Prelude.{◌↔◌, All}
+use Rattle.std.specs.List.{list_all}
 use Rattle.std.specs.Char.{IsScalar}
 use Rattle.std.proofs.lemmas.Bool.{cond_both}
 use Rattle.std.proofs.lemmas.List.Elements.{recursion_from_All, All-from_recursion}
-use Rattle.icu_normalizer_core.specs.Canonical.{Canonical, IsCanonical, IsDecomposing, IsComposing, Leaves, nothing, unmapped, mapped, is_starter, decomposed, composing, recomposed, composed, put_in_order, marks_in_order}
+use Rattle.icu_normalizer_core.specs.Canonical.{Canonical, IsCanonical, IsDecomposing, IsComposing, is_starter, decomposed, composing, recomposed, composed}
 use Rattle.icu_collator_types.specs.declared.options.ResolvedCollatorOptions.{ResolvedCollatorOptions}
 use Rattle.icu_collator_core.specs.Collation.{Collation}
 use Rattle.icu_collator.specs.Levels.{Levels, levels_of_text}
