@@ -1,4 +1,5 @@
 pub mod DecodedLemmas
+pub mod DecomposedLemmas
 pub mod DecodingComputing
 mod DecodingRows
 pub mod TextLemmas

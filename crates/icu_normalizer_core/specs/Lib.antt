@@ -2,3 +2,4 @@ pub mod BuiltIn
 pub mod Canonical
 pub mod Decoding
 pub mod Properties
+pub mod Sameness
