@@ -9,14 +9,14 @@ use Rattle.std.specs.declared.cmp.Ordering.TheVariants.{Less, Equal, Greater}
 use Rattle.std.proofs.lemmas.Cmp.{upto}
 use Rattle.std.proofs.lemmas.List.Sorted.{IsPermutation-refl, IsPermutation-cons, IsPermutation-trans, IsPermutation-sym, IsPermutation-middle}
 use Rattle.std.proofs.lemmas.List.Elements.{All-nil, All-cons, All-weaker}
-use Rattle.collate_names.specs.Newest.{IsPutBehind}
+use Rattle.collate_names.specs.Insertion.{IsInserted}
 use Rattle.collate_names.specs.Names.{TextOrder, is_greater, placed_before, in_order}
 
--- a name put behind all of these that aren't above it
-abbrev pub placed_behind : TextOrder → List ℕ → List (List ℕ) → List (List ℕ)
-placed_behind R name [] = name ∷ []
-placed_behind R name (other ∷ others) =
-    let further = other ∷ placed_behind R name others
+-- a name put after all of these that aren't above it
+abbrev pub placed_after : TextOrder → List ℕ → List (List ℕ) → List (List ℕ)
+placed_after R name [] = name ∷ []
+placed_after R name (other ∷ others) =
+    let further = other ∷ placed_after R name others
     in cond (is_greater (R other name)) (name ∷ other ∷ others) further
 
 pub is_gt_same : (r : Ordering) → is_gt r ≡ is_greater r
@@ -53,17 +53,17 @@ module _ (R : TextOrder) (o : IsTotalOrder R) where
   upto_chain x y z h k =
       sym (is_gt_same (R x z)) ∙ upto o x y z (is_gt_same (R x y) ∙ h) (is_gt_same (R y z) ∙ k)
 
-  -- the newest name goes behind, each older one before
-  pub behind_before : (x n : List ℕ) (ys : List (List ℕ)) → placed_before R x (placed_behind R n ys) ≡ placed_behind R n (placed_before R x ys)
+  -- the newest name goes after, each older one before
+  pub after_before : (x n : List ℕ) (ys : List (List ℕ)) → placed_before R x (placed_after R n ys) ≡ placed_after R n (placed_before R x ys)
   unfolding placed_before
-  behind_before x n [] = refl
-  behind_before x n (y ∷ ys) = grind (arith, above_chain x y n, upto_chain x y n, behind_before x n ys)
+  after_before x n [] = refl
+  after_before x n (y ∷ ys) = grind (arith, above_chain x y n, upto_chain x y n, after_before x n ys)
 
-  -- one more name at the end of the arrivals stands behind all that aren't above it
-  pub in_order_more : (xs : List (List ℕ)) (n : List ℕ) → in_order R (xs ++ n ∷ []) ≡ placed_behind R n (in_order R xs)
+  -- one more name at the end of the arrivals comes after all that aren't above it
+  pub in_order_more : (xs : List (List ℕ)) (n : List ℕ) → in_order R (xs ++ n ∷ []) ≡ placed_after R n (in_order R xs)
   unfolding in_order placed_before
   in_order_more [] n = refl
-  in_order_more (x ∷ xs) n = ap (placed_before R x) (in_order_more xs n) ∙ behind_before x n (in_order R xs)
+  in_order_more (x ∷ xs) n = ap (placed_before R x) (in_order_more xs n) ∙ after_before x n (in_order R xs)
 
   -- ---- as many names as arrivals
 
@@ -89,12 +89,12 @@ module _ (R : TextOrder) (o : IsTotalOrder R) where
       elim (is_greater (R x y)) as (λ b. IsPermutation (x ∷ y ∷ ys) (cond b (y ∷ placed_before R x ys) (x ∷ y ∷ ys)))
       [ true ↦ IsPermutation-trans (x ∷ y ∷ ys) (y ∷ x ∷ ys) (y ∷ placed_before R x ys) turn later | false ↦ IsPermutation-refl (x ∷ y ∷ ys) ]
 
-  pub IsPermutation-in_order : (xs : List (List ℕ)) → IsPermutation xs (in_order R xs)
+  pub in_order_is_permutation : (xs : List (List ℕ)) → IsPermutation xs (in_order R xs)
   unfolding in_order
-  IsPermutation-in_order [] = IsPermutation-refl []
-  IsPermutation-in_order (x ∷ xs) =
+  in_order_is_permutation [] = IsPermutation-refl []
+  in_order_is_permutation (x ∷ xs) =
       IsPermutation-trans (x ∷ xs) (x ∷ in_order R xs) (placed_before R x (in_order R xs))
-      (IsPermutation-cons x xs (in_order R xs) (IsPermutation-in_order xs)) (IsPermutation-placed_before x (in_order R xs))
+      (IsPermutation-cons x xs (in_order R xs) (in_order_is_permutation xs)) (IsPermutation-placed_before x (in_order R xs))
 
   -- ---- sorted
 
@@ -141,8 +141,8 @@ module _ (R : TextOrder) (o : IsTotalOrder R) where
   sorted_from_Rises : (xs : List (List ℕ)) → Rises xs → IsSorted R xs
   sorted_from_Rises xs r k d l h = rw add-one (rises_at xs r k d (omega arith))
 
-  pub IsSorted-in_order : (xs : List (List ℕ)) → IsSorted R (in_order R xs)
-  IsSorted-in_order xs = sorted_from_Rises (in_order R xs) (Rises-in_order xs)
+  pub in_order_is_sorted : (xs : List (List ℕ)) → IsSorted R (in_order R xs)
+  in_order_is_sorted xs = sorted_from_Rises (in_order R xs) (Rises-in_order xs)
 
   -- ---- stable
 
@@ -160,10 +160,10 @@ module _ (R : TextOrder) (o : IsTotalOrder R) where
   filter-placed_before x y [] = refl
   filter-placed_before x y (z ∷ zs) = grind (arith, tied_level x y z, filter-placed_before x y zs)
 
-  pub IsStable-in_order : (xs : List (List ℕ)) → IsStable R xs (in_order R xs)
+  pub in_order_is_stable : (xs : List (List ℕ)) → IsStable R xs (in_order R xs)
   unfolding in_order
-  IsStable-in_order [] x = refl
-  IsStable-in_order (y ∷ ys) x = filter-placed_before x y (in_order R ys) ∙ ap (λ zs. cond (ties_with x y) (y ∷ zs) zs) (IsStable-in_order ys x)
+  in_order_is_stable [] x = refl
+  in_order_is_stable (y ∷ ys) x = filter-placed_before x y (in_order R ys) ∙ ap (λ zs. cond (ties_with x y) (y ∷ zs) zs) (in_order_is_stable ys x)
 
   -- ---- where the newest name stands
 
@@ -182,11 +182,11 @@ module _ (R : TextOrder) (o : IsTotalOrder R) where
   above_later y z n h k =
       elim (is_greater (R z n)) as (λ b. is_greater (R z n) ≡ b → b ≡ true) [ true ↦ λ e. refl | false ↦ λ e. absurd (true≢false (sym h ∙ upto_chain y z n k e)) ] refl
 
-  put_behind : (n : List ℕ) (ys : List (List ℕ)) → Rises ys → IsPutBehind R n ys (placed_behind R n ys)
-  put_behind n [] r = ([], [], refl, refl, All-nil (λ z. R z n ≢ Greater), All-nil (λ z. R z n ≡ Greater))
-  put_behind n (y ∷ ys) r =
-      let later : IsPutBehind R n ys (placed_behind R n ys) = put_behind n ys r.1 in
-      elim (is_greater (R y n)) as (λ b. is_greater (R y n) ≡ b → IsPutBehind R n (y ∷ ys) (cond b (n ∷ y ∷ ys) (y ∷ placed_behind R n ys))) [
+  is_inserted : (n : List ℕ) (ys : List (List ℕ)) → Rises ys → IsInserted R n ys (placed_after R n ys)
+  is_inserted n [] r = ([], [], refl, refl, All-nil (λ z. R z n ≢ Greater), All-nil (λ z. R z n ≡ Greater))
+  is_inserted n (y ∷ ys) r =
+      let later : IsInserted R n ys (placed_after R n ys) = is_inserted n ys r.1 in
+      elim (is_greater (R y n)) as (λ b. is_greater (R y n) ≡ b → IsInserted R n (y ∷ ys) (cond b (n ∷ y ∷ ys) (y ∷ placed_after R n ys))) [
         | true ↦ λ h. (
           [],
           y ∷ ys,
@@ -207,5 +207,5 @@ module _ (R : TextOrder) (o : IsTotalOrder R) where
       ]
       refl
 
-  pub put_behind-in_order : (xs : List (List ℕ)) (n : List ℕ) → IsPutBehind R n (in_order R xs) (in_order R (xs ++ n ∷ []))
-  put_behind-in_order xs n = subst (λ ys. IsPutBehind R n (in_order R xs) ys) (sym (in_order_more xs n)) (put_behind n (in_order R xs) (Rises-in_order xs))
+  pub in_order_is_inserted : (xs : List (List ℕ)) (n : List ℕ) → IsInserted R n (in_order R xs) (in_order R (xs ++ n ∷ []))
+  in_order_is_inserted xs n = subst (λ ys. IsInserted R n (in_order R xs) ys) (sym (in_order_more xs n)) (is_inserted n (in_order R xs) (Rises-in_order xs))
