@@ -4,7 +4,7 @@ use Rattle.std.specs.List.{All}
 use Rattle.collate_index.specs.Meaning.{Meaning, meaning_of, order_by}
 use Rattle.collate_names.specs.Names.{in_order}
 use Rattle.collate_index.specs.Keys.{IsKeyOf}
-use Rattle.collate_index.specs.Plain.{AreSimple}
+use Rattle.collate_index.specs.Simple.{AreSimple}
 use Rattle.collate_index.specs.Catalogue.{Catalogue, AreDistinct}
 use Rattle.collate_index.specs.declared.index.Name.{Name}
 use Rattle.collate_index.specs.declared.index.Index.TheInside.{Inside}
