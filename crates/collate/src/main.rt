@@ -12,7 +12,7 @@ use std::process::ExitCode;
 /// The most bytes of FILE that are read: one more than a file of records may have.
 const FILE_LIMIT: u64 = 1_048_577;
 
-/// The words of the program, without its name. They fail as a whole where one isn't UTF-8.
+/// The words of the program, without its name. An error if one isn't UTF-8.
 fn words(rt: &HostRuntime) -> io::Result<Vec<String>> {
     let mut words = Vec::new(rt.alloc());
     for word in env::args(rt)?.skip(1) {

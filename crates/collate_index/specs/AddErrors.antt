@@ -1,4 +1,4 @@
--- the texts of an error of an add
+-- what an error of `add` prints
 use Rattle.std.specs.Prelude.{ℕ, List, codes}
 use Rattle.collate_index.specs.declared.index.AddError.{AddError}
 use Rattle.collate_index.specs.declared.index.AddError.TheVariants.{Duplicate, Memory}

@@ -1,4 +1,4 @@
--- preferences and options that are served: the strength alone may be given, and is one of the first three
+-- preferences and options that are served: only the strength may be given, and it is one of the first three
 use Rattle.std.specs.Prelude.{◌≡◌, None, []}
 use Rattle.icu_collator_types.specs.declared.options.CollatorOptions.{CollatorOptions}
 use Rattle.icu_collator_types.specs.declared.options.CollatorPreferences.{CollatorPreferences}

@@ -30,7 +30,7 @@ elements_of_character weights c =
 abbrev pub weights_at : (Element → ℕ) → List Element → List ℕ
 weights_at weight es = filter_map (λ e. unless_zero (weight e) (weight e)) es
 
--- options that ask for letters, accents and tertiary differences alone
+-- options that ask only for letters, accents and tertiary differences
 pub record AreSimple (options : ResolvedCollatorOptions) : Type 0 where
   pub alternate_handling : options.alternate_handling ≡ NonIgnorable
   pub case_first : options.case_first ≡ NoCaseFirst
@@ -38,6 +38,6 @@ pub record AreSimple (options : ResolvedCollatorOptions) : Type 0 where
   pub numeric : options.numeric ≡ NotNumeric
   pub strength : is_at_least options.strength Quaternary ≡ false
 
--- whether a class is that of a mark, and below the other
+-- whether a class is that of a mark, and below the other one
 abbrev pub is_mark_below : ℕ → ℕ → Bool
 is_mark_below class other = ltb 0 class && ltb class other

@@ -1,6 +1,6 @@
 //! An index: names in collation order, found by binary search over their keys.
 //!
-//! It keeps the names as they arrived, and their places sorted. Nothing here reads a key but by comparing two.
+//! It keeps the names as they arrived, and their places sorted. Keys are only ever compared.
 
 ghost use Rattle.std.specs.Prelude.{◌≡◌, ◌≢◌, ℕ, ◌+◌, ◌*◌, ◌^◌, ◌<◌, ◌≤◌, ◌↔◌, ◌==◌, true, false, List, [], ◌∷◌, ◌++◌, length, min, Some, Err, IfOk, OnOk, OnErr, IsTrue, slice_get, slice_index_or, slice_range};
 ghost use Rattle.std.specs.List.{Contains};
@@ -29,8 +29,8 @@ struct Name {
     key: IndexKey,
 }
 
-/// Names in collation order under records and options. Names that compare as equal stand as they arrived, and no name is
-/// there twice.
+/// Names in collation order under records and options. Names that compare as equal stand as they arrived, and no name
+/// occurs twice.
 #[derive(Drop)]
 pub struct Index {
     alloc: Global,
@@ -137,7 +137,7 @@ impl Index {
         }
     }
 
-    /// The number of names, none of which is there twice.
+    /// The number of names, none of which occurs twice.
     pub fn len(&self) -> usize
         ensures sorted { result ≡ length (sorted_names self.now) }
         ensures arrived { result ≡ length self.now.arrivals }
@@ -168,7 +168,7 @@ impl Index {
         Ok(())
     }
 
-    /// Whether a name is there, byte for byte; the places are those of the names that are equal to it.
+    /// Whether a name is there, byte for byte. The places are those of the names that are equal to it.
     fn holds(&self, places: &Range<usize>, name: &[u8]) -> bool
         requires bound { places.now.end ≤ length (sorted_names self.now) }
         requires start { IsPlaceOf (order_of self.now) name.now false (sorted_names self.now) places.now.start }

@@ -1,4 +1,4 @@
-//! Keys of names: what the collation order looks at, made once a name.
+//! Keys of names: what the collation order looks at, made once for each name.
 
 ghost use Rattle.std.specs.Prelude.{◌≡◌, ◌+◌, ℕ, List, [], Option, cond, filter_map, min, IfOk};
 ghost use Rattle.std.specs.Fn.{FnReturnsAt};
@@ -13,7 +13,7 @@ use icu_collator_types::options::{ResolvedCollatorOptions, Strength};
 use std::alloc::{AllocError, Global};
 use std::cmp::Ordering;
 
-/// The levels of a name under records and options, up to the strength: `make` alone makes one, `compare` alone reads it.
+/// The levels of a name under records and options, up to the strength. Only `make` makes one, and only `compare` reads it.
 #[derive(Drop)]
 pub struct IndexKey {
     primaries: Vec<u32>,
@@ -54,8 +54,8 @@ impl IndexKey {
         })
     }
 
-    /// How the names of two keys compare, where both keys were made under the same records and options. It adds one to
-    /// the count of comparisons, which stays where it is at the greatest `usize`.
+    /// How the names of two keys compare, if both keys were made under the same records and options. The count of
+    /// comparisons goes up by one, but not past the greatest `usize`.
     pub fn compare(&self, other: &IndexKey, count: &mut usize) -> Ordering
         ensures order { (m : Meaning) (a b : List ℕ) → IsKeyOf m a self.now → IsKeyOf m b other.now → result ≡ order_by m a b }
         ensures count { count.new ≡ min (count.old + 1) usize.MAX }

@@ -45,14 +45,14 @@ listing names = codes "names " ++ decimal (length names) ++ 10 ∷ [] ++ flat_ma
 abbrev pub is_among : List (List ℕ) → List ℕ → Bool
 is_among names name = list_any (λ other. bytes_eq other name) names
 
--- the reply to a command to which memory was granted
+-- the reply to a command that got its memory
 abbrev pub answer_to : LineCommand → Catalogue → List ℕ
 answer_to (add name) catalogue = if is_among catalogue.arrivals name then codes "duplicate\n" else codes "added\n"
 answer_to (find name) catalogue = listing (equal_names (order_of catalogue) name (sorted_names catalogue))
 answer_to list catalogue = listing (sorted_names catalogue)
 answer_to unknown catalogue = codes "bad\n"
 
--- the catalogue after a command to which memory was granted
+-- the catalogue after a command that got its memory
 abbrev pub granted : LineCommand → Catalogue → Catalogue
 granted (add name) catalogue = if is_among catalogue.arrivals name then catalogue else with_name name catalogue
 granted _ catalogue = catalogue

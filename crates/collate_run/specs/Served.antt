@@ -38,7 +38,7 @@ run_line Write = codes "collate: write\n"
 run_line LineTooLong = codes "collate: line too long\n"
 run_line InputTooLong = codes "collate: input too long\n"
 
--- what a writer of errors got of this text: a front of it, where the writer stopped taking
+-- what a writer of errors got of this text: all of it, or a first part, up to where a write failed
 pub record Tells (old new : Option (List ℕ)) (text : List ℕ) : Type 0 where
   pub told : List ℕ
   pub untold : List ℕ

@@ -185,7 +185,7 @@ pub fn run<R: Read, W: Write>(
         (R.remaining (watched_inner reader.old)) (R.remaining (watched_inner reader.new))
         (W.contents (watched_inner writer.old)) (W.contents (watched_inner writer.new)) }
 
-    // A fault of the reader or of the writer has its cause.
+    // `Read` and `Write` are answered exactly if a call of the reader or writer failed.
     ensures read { (watched_failed reader.new ≡ true) ↔ (result ≡ Err RunFault.Read) }
     ensures write { (watched_failed writer.new ≡ true) ↔ (result ≡ Err RunFault.Write) }
 {

@@ -41,5 +41,5 @@ long_line line rest unended long kept =
     omega (arith, long, short)
 
 -- nor one the input limit that reads on past it
-long_input : (told : List ℕ) → input_limit < length told → KeepsInputLimit (Ok tt) told → ⊥
-long_input told long kept = omega (arith, long, kept)
+long_input : (taken : List ℕ) → input_limit < length taken → KeepsInputLimit (Ok tt) taken → ⊥
+long_input taken long kept = omega (arith, long, kept)

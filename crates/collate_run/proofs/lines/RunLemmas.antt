@@ -111,10 +111,10 @@ module _ (start now : Catalogue) (r0 r1 r2 w0 w1 w2 : Option (List ℕ)) (count 
   consumed_all : (bytes : List ℕ) → Consumes r1 r2 bytes → Consumes r0 r2 (spelled p.calls ++ bytes)
   consumed_all bytes consumed = Consumes-then r0 r1 r2 (spelled p.calls) bytes p.consumes consumed
 
-  -- the reader told its end
+  -- the reader is at its end
   pub ran-end : (bytes : List ℕ) → Consumes r1 r2 bytes → bytes ≡ [] → IsAtEnd r2 → Ran start (Ok tt) r0 r2 w0 w1
   ran-end bytes consumed none end = record {
-    told = spelled p.calls ++ bytes;
+    taken = spelled p.calls ++ bytes;
     out = output p.calls start;
     consumes = consumed_all bytes consumed;
     appends = p.appends;
@@ -129,7 +129,7 @@ module _ (start now : Catalogue) (r0 r1 r2 w0 w1 w2 : Option (List ℕ)) (count 
   -- no line came of what was read
   pub ran-cut : (fault : RunFault) (bytes : List ℕ) → Consumes r1 r2 bytes → CutsLine fault count bytes → Ran start (Err fault) r0 r2 w0 w1
   ran-cut Memory bytes consumed cut = record {
-    told = spelled p.calls ++ bytes;
+    taken = spelled p.calls ++ bytes;
     out = output p.calls start;
     consumes = consumed_all bytes consumed;
     appends = p.appends;
@@ -138,7 +138,7 @@ module _ (start now : Catalogue) (r0 r1 r2 w0 w1 w2 : Option (List ℕ)) (count 
     input_limit_kept = omega (arith, count_all bytes, cut.1);
   }
   ran-cut Read bytes consumed cut = record {
-    told = spelled p.calls ++ bytes;
+    taken = spelled p.calls ++ bytes;
     out = output p.calls start;
     consumes = consumed_all bytes consumed;
     appends = p.appends;
@@ -150,7 +150,7 @@ module _ (start now : Catalogue) (r0 r1 r2 w0 w1 w2 : Option (List ℕ)) (count 
   ran-cut LineTooLong bytes consumed cut =
       let lines : map line_of p.calls ≡ whole_lines (spelled p.calls ++ bytes) = whole bytes (whole_lines-unended bytes cut.0) in
       record {
-        told = spelled p.calls ++ bytes;
+        taken = spelled p.calls ++ bytes;
         out = output p.calls start;
         consumes = consumed_all bytes consumed;
         appends = p.appends;
@@ -160,7 +160,7 @@ module _ (start now : Catalogue) (r0 r1 r2 w0 w1 w2 : Option (List ℕ)) (count 
           record {
             front = spelled p.calls;
             line = bytes;
-            told_is = refl;
+            taken_is = refl;
             too_long = cut.1;
             unended = whole_lines-unended bytes cut.0;
             whole = ap lines_of (sym (append-nil (spelled p.calls))) ∙ sym (all [] lines_of-none) ∙ lines;
@@ -174,7 +174,7 @@ module _ (start now : Catalogue) (r0 r1 r2 w0 w1 w2 : Option (List ℕ)) (count 
       let at : length (spelled p.calls) + length line ≡ input_limit = omega (arith, p.counted, cut.4) in
       let front : take input_limit (spelled p.calls ++ bytes) ≡ spelled p.calls ++ line = cut-at input_limit (spelled p.calls) bytes line last cut.3 at in
       record {
-        told = spelled p.calls ++ bytes;
+        taken = spelled p.calls ++ bytes;
         out = output p.calls start;
         consumes = consumed_all bytes consumed;
         appends = p.appends;
@@ -209,7 +209,7 @@ module _ (start now : Catalogue) (r0 r1 r2 w0 w1 w2 : Option (List ℕ)) (count 
     -- the reply couldn't be written whole
     pub ran-write : {E : Type 0} (result : Result (Unit {0}) E) (fault : RunFault) → fault ≡ Write → Sends result w1 w2 text → Ran start (Err fault) r0 r2 w0 w2
     ran-write result fault e sends = rw e (record {
-      told = spelled p.calls ++ bytes;
+      taken = spelled p.calls ++ bytes;
       out = output p.calls start ++ sends.sent;
       consumes = consumed_all bytes consumed;
       appends = Appends-then w0 w1 w2 (output p.calls start) sends.sent p.appends sends.appends;
@@ -228,7 +228,7 @@ module _ (start now : Catalogue) (r0 r1 r2 w0 w1 w2 : Option (List ℕ)) (count 
     -- the last line was answered
     pub ran-last : line.is_ended ≡ false → Appends w1 w2 text → Ran start (Ok tt) r0 r2 w0 w2
     ran-last last h = record {
-      told = spelled p.calls ++ bytes;
+      taken = spelled p.calls ++ bytes;
       out = output p.calls start ++ text;
       consumes = consumed_all bytes consumed;
       appends = appended_all h;
@@ -241,16 +241,16 @@ module _ (start now : Catalogue) (r0 r1 r2 w0 w1 w2 : Option (List ℕ)) (count 
     pub progress-more : line.is_ended ≡ true → Appends w1 w2 text → Progress start next r0 r2 w0 w2 more
     progress-more ended_is h =
         let bytes_are : bytes ≡ ended line.bytes.items = when_true (bytes ≡ line.bytes.items ++ 10 ∷ []) ((bytes ≡ line.bytes.items) × (0 < length bytes) × IsAtEnd r2) ended_is spells.1 in
-        let told : spelled (p.calls ++ (line.bytes.items, answers.refused) ∷ []) ≡ spelled p.calls ++ bytes = spelled-push p.calls (line.bytes.items, answers.refused) ∙ ap (λ (xs : List ℕ). spelled p.calls ++ xs) (sym bytes_are) in
+        let taken : spelled (p.calls ++ (line.bytes.items, answers.refused) ∷ []) ≡ spelled p.calls ++ bytes = spelled-push p.calls (line.bytes.items, answers.refused) ∙ ap (λ (xs : List ℕ). spelled p.calls ++ xs) (sym bytes_are) in
         record {
           calls = p.calls ++ (line.bytes.items, answers.refused) ∷ [];
-          consumes = rw told (consumed_all bytes consumed);
+          consumes = rw taken (consumed_all bytes consumed);
           appends = rw (← output_more) (appended_all h);
           unended = rw (map-append line_of p.calls ((line.bytes.items, answers.refused) ∷ [])) (All-push IsUnended (map line_of p.calls) line.bytes.items p.unended spells.0);
           short = short_more;
           may_refuse = All-push MayRefuse p.calls (line.bytes.items, answers.refused) p.may_refuse answers.may_refuse;
           now_is = answers.catalogue_is ∙ ap (after (line.bytes.items, answers.refused)) p.now_is ∙ sym (outcome-push p.calls (line.bytes.items, answers.refused) start);
-          counted = rw told (omega (arith, counted, p.counted, length-append (spelled p.calls) bytes));
+          counted = rw taken (omega (arith, counted, p.counted, length-append (spelled p.calls) bytes));
           within = within;
         }
 
