@@ -1,4 +1,4 @@
-use Rattle.std.proofs.Common.{◌≡◌, ℕ, ◌+◌, ◌<◌, ◌≤◌, Option, Some, None, List, [], ◌∷◌, ◌++◌, filter_map, length, take, get_or, arith, refl, sym, ap, ◌∙◌}
+use Rattle.std.proofs.Common.{◌≡◌, ℕ, ◌+◌, ◌<◌, Option, List, [], ◌∷◌, ◌++◌, filter_map, length, take, get_or, refl, sym, ap, ◌∙◌}
 use Rattle.std.specs.List.{cons_option}
 use Rattle.std.specs.Fn.{FnReturnsAt}
 use Rattle.std.proofs.lemmas.List.{take_more, append-nil, take_all}
@@ -20,7 +20,7 @@ pub loop-element-preserved : goal.loop-element-preserved
 unfolding no_element
 loop-element-preserved g c = λ at says.
     let given : FnReturnsAt g.F.Fn c.args.weight (get_or c.args.elements.now c.loop-element.element-index no_element) c.weight.result =
-        record { shown = _; shows = refl; says = record { met = c.weight.ensures } }
+    record { shown = _; shows = refl {A = Element}; says = record { met = c.weight.ensures } }
     in let before = c.loop-element.invariant at says
     in let more = given_more at c.args.elements.now c.loop-element.element-index no_element c.weight.result c.loop-element-test.true (says _ _ given)
     in elim c.match-weight.branch [

@@ -1,4 +1,4 @@
-use Rattle.std.proofs.Common.{◌≡◌, List, Option, filter_map, take}
+use Rattle.std.proofs.Common.{◌≡◌, Option, filter_map, take}
 use Rattle.std.specs.Fn.{FnReturnsAt}
 use Rattle.icu_collator_types.specs.declared.elements.Element.{Element}
 use Rattle.collate_index.proofs.key.level_weights.Given as goal
