@@ -1,7 +1,7 @@
-//! `collate`: names in collation order, by the records of a file (our profile).
+//! `collate`: names in collation order, by the records of a file (README.md, "The program").
 #![tactic(auto)]
 
-use collate_run::choice::Choice;
+use collate_run::arguments::Arguments;
 use collate_run::serve::{self, FileFault};
 use collate_run::watched::Watched;
 use std::env;
@@ -12,7 +12,7 @@ use std::process::ExitCode;
 /// The most bytes of FILE that are read: one more than a file of records may have.
 const FILE_LIMIT: u64 = 1_048_577;
 
-/// The words of the program, without its name. They fail as a whole where one isn't UTF-8.
+/// The words of the program, without its name. An error if one isn't UTF-8.
 fn words(rt: &HostRuntime) -> io::Result<Vec<String>> {
     let mut words = Vec::new(rt.alloc());
     for word in env::args(rt)?.skip(1) {
@@ -21,7 +21,7 @@ fn words(rt: &HostRuntime) -> io::Result<Vec<String>> {
     Ok(words)
 }
 
-/// The bytes of a file, as many of them as are read.
+/// The first `FILE_LIMIT` bytes of a file, or all of them.
 fn contents(rt: &HostRuntime, path: &str) -> Result<Vec<u8>, FileFault> {
     let file = File::open(rt, path).map_err(|_| FileFault::Unreadable)?;
     let mut bytes = Vec::new(rt.alloc());
@@ -35,9 +35,9 @@ fn contents(rt: &HostRuntime, path: &str) -> Result<Vec<u8>, FileFault> {
 /// Serves the words of the program, from standard input to standard output. Answers its status.
 fn serve_words(rt: &HostRuntime, words: &[String]) -> u8 {
     let alloc = rt.alloc();
-    let choice = Choice::read(words);
-    let file = match &choice {
-        Some(choice) => contents(rt, choice.file),
+    let arguments = Arguments::parse(words);
+    let file = match &arguments {
+        Some(arguments) => contents(rt, arguments.file),
         None => Err(FileFault::Unreadable),
     };
     let bytes = match &file {
@@ -45,13 +45,13 @@ fn serve_words(rt: &HostRuntime, words: &[String]) -> u8 {
         Err(fault) => Err(*fault),
     };
     let mut writer = Watched::new(io::writer(rt));
-    let mut errors = rt.stderr();
+    let mut errors = Watched::new(rt.stderr());
     let Ok(input) = BufReader::new(alloc, rt.reader()) else {
         let mut reader = Watched::new(io::empty());
         let bytes = Err(FileFault::Memory);
         return serve::serve(
             alloc,
-            choice.as_ref(),
+            arguments.as_ref(),
             bytes,
             &mut reader,
             &mut writer,
@@ -61,7 +61,7 @@ fn serve_words(rt: &HostRuntime, words: &[String]) -> u8 {
     let mut reader = Watched::new(input);
     serve::serve(
         alloc,
-        choice.as_ref(),
+        arguments.as_ref(),
         bytes,
         &mut reader,
         &mut writer,

@@ -1,12 +1,3 @@
-pub mod ContextFree
-pub mod Kept
-pub mod Listing
-pub mod Marks
-pub mod OfRecords
-pub mod Order
-pub mod PlainKeys
-pub mod PlainLevels
-pub mod PlainOrder
-pub mod Searching
-pub mod Settings
-pub mod Simple
+pub mod order
+pub mod reading
+pub mod search

@@ -22,7 +22,7 @@ order_of s = order_by s.meaning
 abbrev pub sorted_names : Catalogue → List (List ℕ)
 sorted_names s = in_order (order_of s) s.arrivals
 
--- no name is there twice
+-- no name occurs twice
 abbrev pub AreDistinct : List (List ℕ) → Type 0
 AreDistinct names = AllPairs (λ name other. name ≢ other) names
 

@@ -4,7 +4,7 @@ use Rattle.std.specs.List.{All}
 use Rattle.collate_index.specs.Meaning.{Meaning, meaning_of, order_by}
 use Rattle.collate_names.specs.Names.{in_order}
 use Rattle.collate_index.specs.Keys.{IsKeyOf}
-use Rattle.collate_index.specs.Plain.{AreSimple}
+use Rattle.collate_index.specs.Simple.{AreSimple}
 use Rattle.collate_index.specs.Catalogue.{Catalogue, AreDistinct}
 use Rattle.collate_index.specs.declared.index.Name.{Name}
 use Rattle.collate_index.specs.declared.index.Index.TheInside.{Inside}
@@ -27,7 +27,7 @@ arrivals_inside s = map text_of s.names.items
 abbrev pub catalogue_of : Inside → Catalogue
 catalogue_of s = record { meaning = meaning_inside s; arrivals = arrivals_inside s }
 
--- the options are simple, the names have their keys, none is there twice, and the places, all of them places of names, give them in order
+-- the options are simple, the names have their keys, none occurs twice, and the places, all of them places of names, give them in order
 pub record IsKept (s : Inside) : Type 0 where
   pub simple : AreSimple s.options
   pub keyed : All (λ n. IsKeyOf (meaning_inside s) (text_of n) n.key) s.names.items

@@ -7,7 +7,7 @@ use Rattle.icu_collator_types.specs.Options.{is_at_least}
 use Rattle.icu_collator.specs.Levels.{elements_of_text}
 use Rattle.collate_records.specs.Sayings.{collation_of}
 use Rattle.collate_index.specs.Meaning.{Meaning}
-use Rattle.collate_index.specs.Plain.{AreSimple, weights_at}
+use Rattle.collate_index.specs.Simple.{AreSimple, weights_at}
 use Rattle.collate_index.specs.declared.key.IndexKey.{IndexKey}
 
 -- the elements of a name

@@ -1,4 +1,4 @@
--- what a walk over an index's names has yet to give
+-- the names that a walk over an index has still to give
 use Rattle.std.specs.Prelude.{ℕ, List, drop}
 use Rattle.collate_index.specs.Catalogue.{sorted_names}
 use Rattle.collate_index.specs.declared.index.Names.TheInside.{Inside}

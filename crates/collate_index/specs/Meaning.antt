@@ -22,8 +22,8 @@ pub record Meaning : Type 0 where
 abbrev pub meaning_of : List Saying → ResolvedCollatorOptions → Meaning
 meaning_of sayings options = record { sayings = sayings; options = options }
 
--- How two names compare, given as characters: by the collation order, but where plain leads fail by the bytes of their
--- keys. Then names with one key are equal.
+-- How two names compare, given as characters: by the collation order, or by the bytes of their sort keys where plain leads
+-- fail. There names with one sort key are equal.
 unfoldable pub name_order : Collation → ResolvedCollatorOptions → List ℕ → List ℕ → Ordering
 name_order collation options a b =
     let by_keys = slice_cmp nat_cmp (key_of_text collation options a) (key_of_text collation options b)

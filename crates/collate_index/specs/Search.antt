@@ -1,4 +1,4 @@
--- places in a sorted list: before or behind the names that are equal to one that is looked for
+-- places in a sorted list: before or after the names that are equal to one that is looked for
 use Rattle.std.specs.Prelude.{◌≡◌, ℕ, Bool, true, false, List}
 use Rattle.std.specs.List.Sorted.{IsPartitionPoint}
 use Rattle.std.specs.declared.cmp.Ordering.{Ordering}

@@ -1,6 +1,6 @@
 //! An index: names in collation order, found by binary search over their keys.
 //!
-//! It keeps the names as they arrived, and their places sorted. Nothing here reads a key but by comparing two.
+//! It keeps the names as they arrived, and their places sorted. Keys are only ever compared.
 
 ghost use Rattle.std.specs.Prelude.{◌≡◌, ◌≢◌, ℕ, ◌+◌, ◌*◌, ◌^◌, ◌<◌, ◌≤◌, ◌↔◌, ◌==◌, true, false, List, [], ◌∷◌, ◌++◌, length, min, Some, Err, IfOk, OnOk, OnErr, IsTrue, slice_get, slice_index_or, slice_range};
 ghost use Rattle.std.specs.List.{Contains};
@@ -10,7 +10,7 @@ ghost use Rattle.collate_index.specs.declared.index.AddError.TheVariants.{Memory
 ghost use Rattle.collate_index.specs.AddErrors.{add_error_text};
 ghost use Rattle.collate_names.specs.Names.{equal_names};
 ghost use Rattle.collate_index.specs.Catalogue.{AreDistinct, opened, order_of, sorted_names, with_name};
-ghost use Rattle.collate_index.specs.Settings.{ArePlain, GiveStrengthOnly};
+ghost use Rattle.collate_index.specs.ServedOptions.{AreDefault, GiveStrengthOnly};
 ghost use Rattle.collate_index.specs.Search.{IsPlaceOf, stands_before};
 
 use crate::key::IndexKey;
@@ -22,23 +22,23 @@ use std::fmt;
 use std::marker::Model;
 use std::ops::Range;
 
-// A name that an index keeps, with its key.
+/// A name that an index keeps, with its key.
 #[derive(Drop)]
 struct Name {
     bytes: Vec<u8>,
     key: IndexKey,
 }
 
-/// Names in collation order under records and options. Names that compare as equal stand as they arrived, and no name is
-/// there twice.
+/// Names in collation order under records and options. Names that compare as equal stand as they arrived, and no name
+/// occurs twice.
 #[derive(Drop)]
 pub struct Index {
     alloc: Global,
     records: Records,
     options: ResolvedCollatorOptions,
-    // In order of arrival.
+    /// In order of arrival.
     names: Vec<Name>,
-    // Places in `names`, in collation order.
+    /// Places in `names`, in collation order.
     order: Vec<usize>,
 }
 
@@ -57,16 +57,16 @@ impl Model for Index {
 impl Index {
     ghost use Rattle.collate_index.specs.Keys.{IsKeyOf};
 
-    /// An index with no names, over records, preferences and options; what these leave open the records' settings decide
-    /// (our profile). It asks for no memory.
-    #[tactic(auto, unfolding(collate_names::specs::Names::in_order), using(crate::proofs::Simple::resolved_simple))]
+    /// An index with no names, over records, preferences and options; what these leave open the records' settings decide.
+    /// It asks for no memory.
+    #[tactic(auto, unfolding(collate_names::specs::Names::in_order), using(crate::proofs::order::SimpleOptionLemmas::resolved_simple))]
     pub fn new(
         alloc: Global,
         records: Records,
         preferences: &CollatorPreferences<'_>,
         options: &CollatorOptions,
     ) -> Result<Index, AllocError>
-        requires preferences { ArePlain preferences.now }
+        requires preferences { AreDefault preferences.now }
         requires options { GiveStrengthOnly options.now }
         ensures { IfOk result (λ index. index ≡ opened records preferences.now options.now) }
     {
@@ -80,9 +80,9 @@ impl Index {
         })
     }
 
-    /// Adds a name, which stands behind all names that aren't above it (our profile). It is `Duplicate` where the same
-    /// bytes are there already, and `Memory` where memory is refused; then the index is as before. A name that compares as
-    /// equal and has other bytes is another name.
+    /// Adds a name, after all names that aren't above it (README.md, "The program"). It is `Duplicate` if the same bytes
+    /// are there already, and `Memory` if memory is refused; the index is then as before. A name that compares as equal
+    /// but has other bytes is another name.
     pub fn add(&mut self, name: &[u8]) -> Result<(), AddError>
         ensures added { OnOk result (self.new ≡ with_name name.now self.old) }
         ensures new { OnOk result (¬ Contains self.old.arrivals name.now) }
@@ -102,9 +102,9 @@ impl Index {
         Ok(())
     }
 
-    /// The places of the names that compare as equal to a name, `0..0` where there are none, and how many comparisons of
-    /// keys that took: at most twice as many as the number of names has binary digits (our profile). An error where memory
-    /// is refused.
+    /// The places of the names that compare as equal to a name, `0..0` if there are none, and how many comparisons of
+    /// keys that took: at most twice as many as the number of names has binary digits (docs/DECISIONS.md, "Index"). An
+    /// error if memory is refused.
     pub fn find(&self, name: &[u8]) -> Result<Found, AllocError>
         ensures bound { IfOk result (λ found. (found.names.start ≤ found.names.end) × (found.names.end ≤ length (sorted_names self.now))) }
         ensures names { IfOk result (λ found. slice_range (sorted_names self.now) found.names.start found.names.end ≡ equal_names (order_of self.now) name.now (sorted_names self.now)) }
@@ -118,7 +118,7 @@ impl Index {
         Ok(Found { names, comparisons })
     }
 
-    /// The name at a place of the order, counted from 0; `None` past the last (our profile).
+    /// The name at a place of the order, counted from 0; `None` past the last.
     pub fn get(&self, i: usize) -> Option<&[u8]>
         ensures { option_copied result ≡ slice_get (sorted_names self.now) i }
     {
@@ -127,7 +127,7 @@ impl Index {
         Some(name.bytes.as_slice())
     }
 
-    /// The names in order (our profile).
+    /// The names in order, equal ones as they arrived (README.md, "The program").
     pub fn list(&self) -> Names<'_>
         ensures { result ≡ sorted_names self.now }
     {
@@ -137,7 +137,7 @@ impl Index {
         }
     }
 
-    /// The number of names, none of which is there twice (our profile).
+    /// The number of names, none of which occurs twice.
     pub fn len(&self) -> usize
         ensures sorted { result ≡ length (sorted_names self.now) }
         ensures arrived { result ≡ length self.now.arrivals }
@@ -146,14 +146,14 @@ impl Index {
         self.names.len()
     }
 
-    /// Whether there are no names (our profile).
+    /// Whether there are no names.
     pub fn is_empty(&self) -> bool
         ensures { result ≡ (length self.now.arrivals == 0) }
     {
         self.names.is_empty()
     }
 
-    // Puts a name at its place, and keeps it as the newest.
+    /// Puts a name at its place, and keeps it as the newest.
     fn insert(&mut self, at: usize, name: Name) -> Result<(), AllocError>
         requires key { IsKeyOf self.old.meaning name.bytes.items name.key }
         requires bound { at ≤ length (sorted_names self.old) }
@@ -168,7 +168,7 @@ impl Index {
         Ok(())
     }
 
-    // Whether a name is there, byte for byte; the places are those of the names that are equal to it.
+    /// Whether a name is there, byte for byte. The places are those of the names that are equal to it.
     fn holds(&self, places: &Range<usize>, name: &[u8]) -> bool
         requires bound { places.now.end ≤ length (sorted_names self.now) }
         requires start { IsPlaceOf (order_of self.now) name.now false (sorted_names self.now) places.now.start }
@@ -183,8 +183,8 @@ impl Index {
         false
     }
 
-    // The places of the names that are equal to the one that is looked for; the place behind which it belongs, where
-    // there are none.
+    /// The places of the names that are equal to the one that is looked for. If there are none, both ends are the place
+    /// where it belongs.
     fn equal_range(&self, sought: &Sought<'_>, count: &mut usize) -> Range<usize>
         requires { IsKeyOf self.now.meaning sought.now.bytes.now sought.now.key }
         ensures range { result.start ≤ result.end }
@@ -199,7 +199,7 @@ impl Index {
         start..end
     }
 
-    // The first place of a name that isn't below the one that is looked for, or, past equal ones, of a name above it.
+    /// The first place of a name that isn't below the one that is looked for, or, past equal ones, of a name above it.
     fn place(&self, sought: &Sought<'_>, past_equal: bool, count: &mut usize) -> usize
         requires { IsKeyOf self.now.meaning sought.now.bytes.now sought.now.key }
         ensures bound { result ≤ length (sorted_names self.now) }
@@ -219,7 +219,7 @@ impl Index {
         low
     }
 
-    // How the name at a place of the order compares with the one that is looked for.
+    /// How the name at a place of the order compares with the one that is looked for.
     fn compare(&self, place: usize, sought: &Sought<'_>, count: &mut usize) -> Ordering
         requires key { IsKeyOf self.now.meaning sought.now.bytes.now sought.now.key }
         requires place { place < length (sorted_names self.now) }
@@ -231,7 +231,7 @@ impl Index {
     }
 }
 
-// The same places, and none as `0..0`.
+/// The same places, and none as `0..0`.
 fn or_nothing(places: Range<usize>) -> Range<usize>
     requires { places.start ≤ places.end }
     ensures range { result.start ≤ result.end }
@@ -246,7 +246,7 @@ fn or_nothing(places: Range<usize>) -> Range<usize>
     }
 }
 
-// Whether a name that compares so stands before the place that is looked for.
+/// Whether a name that compares so stands before the place that is looked for.
 fn stands_before(ordering: Ordering, past_equal: bool) -> bool
     ensures { result ≡ stands_before past_equal ordering }
 {
@@ -271,8 +271,8 @@ impl fmt::Display for AddError {
 
     fn fmt<W: fmt::Write>(&self, f: &mut fmt::Formatter<W>) -> fmt::Result {
         match self {
-            AddError::Duplicate => write!(f, "duplicate"),
-            AddError::Memory => write!(f, "memory"),
+            AddError::Duplicate => write!(f, "the name is already in the index"),
+            AddError::Memory => write!(f, "out of memory"),
         }
     }
 }
@@ -287,7 +287,7 @@ impl From<AllocError> for AddError {
     }
 }
 
-/// The names of an index in order, from the first to the last (our profile).
+/// The names of an index in order, from the first to the last.
 #[derive(Drop)]
 pub struct Names<'a> {
     index: &'a Index,
@@ -324,13 +324,13 @@ impl<'a> Iterator for Names<'a> {
 /// What a search has found.
 #[derive(Clone, Debug, Drop)]
 pub struct Found {
-    /// The places of the equal names in the order; `0..0` where there are none.
+    /// The places of the equal names in the order; `0..0` if there are none.
     pub names: Range<usize>,
     /// How many comparisons of keys were made.
     pub comparisons: usize,
 }
 
-// A name that is looked for, with its key.
+/// A name that is looked for, with its key.
 #[derive(Drop)]
 struct Sought<'a> {
     bytes: &'a [u8],

@@ -1,17 +1,19 @@
-//! Keys of names: what the collation order looks at, made once a name.
+//! Keys of names: what the collation order looks at, made once for each name.
 
-ghost use Rattle.std.specs.Prelude.{◌≡◌, ◌+◌, ℕ, List, min, IfOk};
+ghost use Rattle.std.specs.Prelude.{◌≡◌, ◌+◌, ℕ, List, [], Option, cond, filter_map, min, IfOk};
+ghost use Rattle.std.specs.Fn.{FnReturnsAt};
+ghost use Rattle.icu_collator_types.specs.declared.elements.Element.{Element};
 ghost use Rattle.collate_index.specs.Meaning.{Meaning, meaning_of, order_by};
-ghost use Rattle.collate_index.specs.Plain.{AreSimple, weights_at};
+ghost use Rattle.collate_index.specs.Simple.{AreSimple};
 
-use crate::comparison::{decomposed_list, elements_of_list};
+use crate::elements::{decomposed_list, elements_of_list};
 use collate_records::records::Records;
 use icu_collator_types::elements::Element;
 use icu_collator_types::options::{ResolvedCollatorOptions, Strength};
 use std::alloc::{AllocError, Global};
 use std::cmp::Ordering;
 
-/// The levels of a name under records and options, up to the strength: `make` alone makes one, `compare` alone reads it.
+/// The levels of a name under records and options, up to the strength. Only `make` makes one, and only `compare` reads it.
 #[derive(Drop)]
 pub struct IndexKey {
     primaries: Vec<u32>,
@@ -22,7 +24,7 @@ pub struct IndexKey {
 impl IndexKey {
     ghost use Rattle.collate_index.specs.Keys.{IsKeyOf};
 
-    /// The key of a name in UTF-8 under records and options; an error where memory is refused.
+    /// The key of a name in UTF-8 under records and options; an error if memory is refused.
     pub fn make(
         alloc: Global,
         records: &Records,
@@ -34,17 +36,17 @@ impl IndexKey {
     {
         let list = decomposed_list(alloc, records, name)?;
         let elements = elements_of_list(alloc, records, &list)?;
-        let primaries = primaries_of(alloc, &elements)?;
-        let secondaries = if options.strength.is_at_least(Strength::Secondary) {
-            secondaries_of(alloc, &elements)?
-        } else {
-            Vec::new(alloc)
-        };
-        let tertiaries = if options.strength.is_at_least(Strength::Tertiary) {
-            tertiaries_of(alloc, &elements)?
-        } else {
-            Vec::new(alloc)
-        };
+        let at_second = options.strength.is_at_least(Strength::Secondary);
+        let at_third = options.strength.is_at_least(Strength::Tertiary);
+        let primaries = level_weights(alloc, &elements, true, |e| {
+            (e.primary != 0).then_some(e.primary)
+        })?;
+        let secondaries = level_weights(alloc, &elements, at_second, |e| {
+            (e.secondary != 0).then_some(e.secondary)
+        })?;
+        let tertiaries = level_weights(alloc, &elements, at_third, |e| {
+            (e.tertiary != 0).then_some(e.tertiary)
+        })?;
         Ok(IndexKey {
             primaries,
             secondaries,
@@ -52,8 +54,8 @@ impl IndexKey {
         })
     }
 
-    /// How the names of two keys compare, where both keys were made under the same records and options. It adds one to
-    /// the count of comparisons, which stays where it is at the greatest `usize`.
+    /// How the names of two keys compare, if both keys were made under the same records and options. The count of
+    /// comparisons goes up by one, but not past the greatest `usize`.
     pub fn compare(&self, other: &IndexKey, count: &mut usize) -> Ordering
         ensures order { (m : Meaning) (a b : List ℕ) → IsKeyOf m a self.now → IsKeyOf m b other.now → result ≡ order_by m a b }
         ensures count { count.new ≡ min (count.old + 1) usize.MAX }
@@ -66,44 +68,25 @@ impl IndexKey {
     }
 }
 
-/// The primaries of elements, but those that are 0.
-fn primaries_of(alloc: Global, elements: &[Element]) -> Result<Vec<u32>, AllocError>
-    ensures { IfOk result (λ ws. ws.items ≡ weights_at (λ e. e.primary) elements.now) }
+/// The weights that elements have at one level, in order; none unless the key keeps that level.
+fn level_weights<W: Copy, F: Fn(&Element) -> Option<W>>(
+    alloc: Global,
+    elements: &[Element],
+    is_kept: bool,
+    weight: F,
+) -> Result<Vec<W>, AllocError>
+    requires { F.IsAlwaysCallable weight }
+    ensures { IfOk result (λ ws. (at : Element → Option W)
+        → ((e : Element) (w : Option W) → FnReturnsAt F.Fn weight e w → w ≡ at e)
+        → ws.items ≡ cond is_kept (filter_map at elements.now) []) }
 {
-    elements
-        .iter()
-        .filter_map(|e| if e.primary == 0 {
-            None
-        } else {
-            Some(e.primary)
-        })
-        .collect(alloc)
-}
-
-/// The secondaries of elements, but those that are 0.
-fn secondaries_of(alloc: Global, elements: &[Element]) -> Result<Vec<u16>, AllocError>
-    ensures { IfOk result (λ ws. ws.items ≡ weights_at (λ e. e.secondary) elements.now) }
-{
-    elements
-        .iter()
-        .filter_map(|e| if e.secondary == 0 {
-            None
-        } else {
-            Some(e.secondary)
-        })
-        .collect(alloc)
-}
-
-/// The tertiaries of elements, but those that are 0.
-fn tertiaries_of(alloc: Global, elements: &[Element]) -> Result<Vec<u16>, AllocError>
-    ensures { IfOk result (λ ws. ws.items ≡ weights_at (λ e. e.tertiary) elements.now) }
-{
-    elements
-        .iter()
-        .filter_map(|e| if e.tertiary == 0 {
-            None
-        } else {
-            Some(e.tertiary)
-        })
-        .collect(alloc)
+    let mut weights = Vec::new(alloc);
+    if is_kept {
+        for element in elements {
+            if let Some(weight) = weight(element) {
+                weights.push(weight)?;
+            }
+        }
+    }
+    Ok(weights)
 }

@@ -19,40 +19,40 @@ ghost use Rattle.collate_records.specs.Sayings.{Saying, collation_of, weights_of
 ghost use Rattle.collate_index.specs.Meaning.{Meaning, name_order, order_by};
 
 /// Names compare as a total preorder, whatever data and options say: turning two names round turns the answer round,
-/// "below" and "equal" are transitive, and names that are equal compare alike to any third. (Our profile.)
-#[tactic(auto, using(crate::proofs::Order::name_order_total, crate::proofs::Order::order_total))]
+/// "below" and "equal" are transitive, and names that are equal compare alike to any third.
+#[tactic(auto, using(crate::proofs::order::NameOrderLemmas::name_order_total, crate::proofs::order::NameOrderLemmas::order_total))]
 pub fn names_are_in_total_order()
     ensures characters { (collation : Collation) (options : ResolvedCollatorOptions) → IsTotalOrder (name_order collation options) }
     ensures bytes { (m : Meaning) → IsTotalOrder (order_by m) }
 {}
 
-/// Over data that keep the rules on canonical data, weights and settings, names compare as the bytes of their keys do, with
-/// every option: where plain leads fail too. (Our profile.)
-#[tactic(auto, using(crate::proofs::Order::keys_order_as_names))]
+/// Over data that keep the rules on canonical data, weights and settings, names compare as the bytes of their sort keys do,
+/// with every option: also where numbers are read and their lead byte is compressible (docs/DECISIONS.md, "Index").
+#[tactic(auto, using(crate::proofs::order::NameOrderLemmas::keys_order_as_names))]
 pub fn keys_order_as_names()
     ensures { (collation : Collation) (options : ResolvedCollatorOptions) (a b : List ℕ)
         → IsDecomposing collation.canonical → IsSoundCollation collation → All IsScalar a → All IsScalar b
         → slice_cmp nat_cmp (key_of_text collation options a) (key_of_text collation options b) ≡ name_order collation options a b }
 {}
 
-/// Under the same premises two names have one key exactly where they compare as equal. (Our profile.)
-#[tactic(auto, using(crate::proofs::Order::equal_keys_of_names))]
+/// Under the same premises two names have one sort key exactly if they compare as equal.
+#[tactic(auto, using(crate::proofs::order::NameOrderLemmas::equal_keys_of_names))]
 pub fn equal_keys_are_of_equal_names()
     ensures { (collation : Collation) (options : ResolvedCollatorOptions) (a b : List ℕ)
         → IsDecomposing collation.canonical → IsSoundCollation collation → All IsScalar a → All IsScalar b
         → (key_of_text collation options a ≡ key_of_text collation options b) ↔ (name_order collation options a b ≡ Equal) }
 {}
 
-/// Names in UTF-8, damaged or not, compare under the records of an accepted file as the keys of their characters do, where
-/// the weights keep the rules on weights. (Our profile.)
-#[tactic(auto, using(crate::proofs::Order::keys_order_in_index))]
+/// Names in UTF-8, damaged or not, compare under the records of an accepted file as the sort keys of their characters do,
+/// if the weights keep the rules on weights (docs/RECORDS.md).
+#[tactic(auto, using(crate::proofs::order::NameOrderLemmas::keys_order_in_index))]
 pub fn keys_order_as_names_of_records()
     ensures { (m : Meaning) (a b : List ℕ) → AreAccepted m.sayings → AreSoundWeights (weights_of m.sayings)
         → slice_cmp nat_cmp (key_of_text (collation_of m.sayings) m.options (utf8_chars a)) (key_of_text (collation_of m.sayings) m.options (utf8_chars b)) ≡ order_by m a b }
 {}
 
-/// The settings of an accepted file keep the rules on settings. (Our profile.)
-#[tactic(auto, using(crate::proofs::Settings::accepted_settings))]
+/// The settings of an accepted file keep the rules on settings (docs/RECORDS.md).
+#[tactic(auto, using(crate::proofs::order::FileSettingLemmas::accepted_settings))]
 pub fn records_have_sound_settings()
     ensures { (sayings : List Saying) → AreAccepted sayings → AreSoundSettings (collation_of sayings) }
 {}

@@ -2,7 +2,7 @@
 //! Begin with `index::Index::new`; `add` takes names, `find` and `list` give them.
 #![tactic(auto)]
 
-pub mod comparison;
+pub mod elements;
 pub mod index;
 pub mod key;
 pub mod laws;

@@ -15,7 +15,7 @@ abbrev pub is_equal : Ordering → Bool
 is_equal Equal = true
 is_equal _ = false
 
--- a name put before the first of these that isn't below it: it came before them all, so equal ones stand behind it
+-- a name put before the first of these that isn't below it: it came before them all, so equal ones stand after it
 unfoldable pub placed_before : TextOrder → List ℕ → List (List ℕ) → List (List ℕ)
 placed_before order name [] = name ∷ []
 placed_before order name (other ∷ others) =

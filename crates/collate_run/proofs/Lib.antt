@@ -1,11 +1,3 @@
-pub mod Among
-pub mod Answered
-pub mod Commands
-pub mod Examples
-pub mod Known
-pub mod Lines
-pub mod NamesReply
-pub mod Progress
-pub mod ReadLines
-pub mod Sent
-pub mod Told
+pub mod bytes
+pub mod commands
+pub mod lines

@@ -1,4 +1,4 @@
-pub mod Choices
+pub mod Arguments
 pub mod OptionWords
 pub mod Reading
 pub mod Replies
@@ -8,5 +8,5 @@ pub mod Sending
 pub mod Served
 pub mod Watched
 pub use Rattle.collate_index.specs.Catalogue
-pub use Rattle.collate_index.specs.Settings
+pub use Rattle.collate_index.specs.ServedOptions
 pub use Rattle.collate_index.specs.Strengths

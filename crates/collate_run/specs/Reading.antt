@@ -6,7 +6,7 @@ use Rattle.collate_run.specs.declared.run.Line.{Line}
 use Rattle.collate_run.specs.declared.run.RunFault.{RunFault}
 use Rattle.collate_run.specs.declared.run.RunFault.TheVariants.{Read, Write, LineTooLong, InputTooLong}
 
--- a byte was consumed, or the end was told, or nothing happened
+-- a byte was consumed, or the reader is at its end, or nothing happened
 abbrev pub GivesByte : Option (List ℕ) → Option (List ℕ) → Result (Option ℕ) RunFault → Type 0
 GivesByte old new (Ok None) = Keeps old new × IsAtEnd new
 GivesByte old new (Ok (Some byte)) = Consumes old new (byte ∷ [])
@@ -16,11 +16,11 @@ GivesByte old new (Err _) = Keeps old new
 abbrev pub IsUnended : List ℕ → Type 0
 IsUnended line = All (λ byte. byte ≢ 10) line
 
--- these bytes are a line with its LF, or without where it is the last
+-- these bytes are a line with its LF, or without it if it is the last
 abbrev pub SpellsLine : Line → Option (List ℕ) → List ℕ → Type 0
 SpellsLine line left bytes = IsUnended line.bytes.items × MatchBool line.is_ended (bytes ≡ line.bytes.items ++ 10 ∷ []) ((bytes ≡ line.bytes.items) × (0 < length bytes) × IsAtEnd left)
 
--- what was read where no line came of it
+-- what was read when no line came of it
 abbrev pub CutsLine : RunFault → ℕ → List ℕ → Type 0
 CutsLine LineTooLong count bytes = IsUnended bytes × (length bytes ≡ line_limit + 1) × (count + length bytes ≤ input_limit)
 CutsLine InputTooLong count bytes = (line : List ℕ) × (last : ℕ) × IsUnended line × (bytes ≡ line ++ last ∷ []) × (count + length line ≡ input_limit) × (length line ≤ line_limit)

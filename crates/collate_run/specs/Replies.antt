@@ -11,27 +11,27 @@ pub data LineCommand : Type 0 where
   list : LineCommand
   unknown : LineCommand
 
--- what stands behind a word at the front of a line
-abbrev pub behind : List ℕ → List ℕ → Option (List ℕ)
-behind word line = if bytes_eq (take (length word) line) word then Some (drop (length word) line) else None
+-- what comes after a word at the front of a line
+abbrev pub rest_after : List ℕ → List ℕ → Option (List ℕ)
+rest_after word line = if bytes_eq (take (length word) line) word then Some (drop (length word) line) else None
 
 -- a line that asks for no name
 abbrev pub plain_command : List ℕ → LineCommand
 plain_command line = if bytes_eq line (codes "list") then list else unknown
 
--- a line that isn't `add NAME`; the second argument is what stands behind `find ` in it
+-- a line that isn't `add NAME`; the second argument is what comes after `find ` in it
 abbrev pub find_command : List ℕ → Option (List ℕ) → LineCommand
 find_command line None = plain_command line
 find_command line (Some name) = find name
 
--- a line; the second argument is what stands behind `add ` in it
+-- a line; the second argument is what comes after `add ` in it
 abbrev pub add_command : List ℕ → Option (List ℕ) → LineCommand
-add_command line None = find_command line (behind (codes "find ") line)
+add_command line None = find_command line (rest_after (codes "find ") line)
 add_command line (Some name) = add name
 
 -- what a line asks for: `add NAME`, `find NAME`, `list`, or nothing that is known
 unfoldable pub command_of : List ℕ → LineCommand
-command_of line = add_command line (behind (codes "add ") line)
+command_of line = add_command line (rest_after (codes "add ") line)
 
 -- a line, ended
 abbrev pub ended : List ℕ → List ℕ
@@ -45,14 +45,14 @@ listing names = codes "names " ++ decimal (length names) ++ 10 ∷ [] ++ flat_ma
 abbrev pub is_among : List (List ℕ) → List ℕ → Bool
 is_among names name = list_any (λ other. bytes_eq other name) names
 
--- the reply to a command to which memory was granted
+-- the reply to a command that got its memory
 abbrev pub answer_to : LineCommand → Catalogue → List ℕ
 answer_to (add name) catalogue = if is_among catalogue.arrivals name then codes "duplicate\n" else codes "added\n"
 answer_to (find name) catalogue = listing (equal_names (order_of catalogue) name (sorted_names catalogue))
 answer_to list catalogue = listing (sorted_names catalogue)
 answer_to unknown catalogue = codes "bad\n"
 
--- the catalogue after a command to which memory was granted
+-- the catalogue after a command that got its memory
 abbrev pub granted : LineCommand → Catalogue → Catalogue
 granted (add name) catalogue = if is_among catalogue.arrivals name then catalogue else with_name name catalogue
 granted _ catalogue = catalogue

@@ -11,7 +11,7 @@ abbrev pub onto : ℕ → List (List ℕ) → List (List ℕ)
 onto b [] = (b ∷ []) ∷ []
 onto b (line ∷ lines) = (b ∷ line) ∷ lines
 
--- a byte put in front of the first line, where there is one
+-- a byte put in front of the first line, if there is one
 abbrev pub onto_whole : ℕ → List (List ℕ) → List (List ℕ)
 onto_whole b [] = []
 onto_whole b (line ∷ lines) = (b ∷ line) ∷ lines
@@ -38,44 +38,44 @@ input_limit = 4294967295
 abbrev pub IsWithin : List ℕ → Type 0
 IsWithin line = length line ≤ line_limit
 
--- the bytes end in a line that is one byte past the limit so far, and the lines before it are these
-pub record EndsTooLong (told : List ℕ) (lines : List (List ℕ)) : Type 0 where
+-- the bytes end in a line that is already one byte past the limit, and the lines before it are these
+pub record EndsTooLong (taken : List ℕ) (lines : List (List ℕ)) : Type 0 where
   pub front : List ℕ
   pub line : List ℕ
-  pub told_is : told ≡ front ++ line
+  pub taken_is : taken ≡ front ++ line
   pub too_long : length line ≡ line_limit + 1
   pub unended : whole_lines line ≡ []
   pub whole : lines_of front ≡ lines
 
--- The line limit, of the bytes that a run read (told): all lines are within it, a line that is cut off too, and a run ends
+-- The line limit, of the bytes that a run read (taken): all lines are within it, also one that is cut off, and a run ends
 -- by LineTooLong at the first byte past it. The byte past the input limit is no part of a line.
 abbrev pub KeepsLineLimit : Result (Unit {0}) RunFault → List ℕ → Type 0
-KeepsLineLimit (Err LineTooLong) told = All IsWithin (whole_lines told) × EndsTooLong told (whole_lines told)
-KeepsLineLimit (Err InputTooLong) told = All IsWithin (lines_of (take input_limit told))
-KeepsLineLimit _ told = All IsWithin (lines_of told)
+KeepsLineLimit (Err LineTooLong) taken = All IsWithin (whole_lines taken) × EndsTooLong taken (whole_lines taken)
+KeepsLineLimit (Err InputTooLong) taken = All IsWithin (lines_of (take input_limit taken))
+KeepsLineLimit _ taken = All IsWithin (lines_of taken)
 
--- The input limit, of the bytes that a run read (told): they are within it, and a run ends by InputTooLong at the first
+-- The input limit, of the bytes that a run read (taken): they are within it, and a run ends by InputTooLong at the first
 -- byte past it.
 abbrev pub KeepsInputLimit : Result (Unit {0}) RunFault → List ℕ → Type 0
-KeepsInputLimit (Err InputTooLong) told = length told ≡ input_limit + 1
-KeepsInputLimit _ told = length told ≤ input_limit
+KeepsInputLimit (Err InputTooLong) taken = length taken ≡ input_limit + 1
+KeepsInputLimit _ taken = length taken ≤ input_limit
 
--- What a run that read these bytes (told) and wrote those (out) has done; left is what the reader
+-- What a run that read these bytes (taken) and wrote those (out) has done; left is what the reader
 -- has left.
 abbrev pub Does : Catalogue → Result (Unit {0}) RunFault → Option (List ℕ) → List ℕ → List ℕ → Type 0
-Does start (Ok _) left told out = AreReplies start (lines_of told) out × IsAtEnd left
-Does start (Err Memory) left told out = AreReplies start (whole_lines told) out
-Does start (Err Read) left told out = AreReplies start (whole_lines told) out
-Does start (Err Write) left told out = (unsent : List ℕ) × AreReplies start (lines_of told) (out ++ unsent)
-Does start (Err LineTooLong) left told out = AreReplies start (whole_lines told) out
-Does start (Err InputTooLong) left told out = AreReplies start (whole_lines (take input_limit told)) out
+Does start (Ok _) left taken out = AreReplies start (lines_of taken) out × IsAtEnd left
+Does start (Err Memory) left taken out = AreReplies start (whole_lines taken) out
+Does start (Err Read) left taken out = AreReplies start (whole_lines taken) out
+Does start (Err Write) left taken out = (unsent : List ℕ) × AreReplies start (lines_of taken) (out ++ unsent)
+Does start (Err LineTooLong) left taken out = AreReplies start (whole_lines taken) out
+Does start (Err InputTooLong) left taken out = AreReplies start (whole_lines (take input_limit taken)) out
 
 -- a run's result, with what it took from the reader and gave to the writer
 pub record Ran (start : Catalogue) (result : Result (Unit {0}) RunFault) (reader_old reader_new writer_old writer_new : Option (List ℕ)) : Type 0 where
-  pub told : List ℕ
+  pub taken : List ℕ
   pub out : List ℕ
-  pub consumes : Consumes reader_old reader_new told
+  pub consumes : Consumes reader_old reader_new taken
   pub appends : Appends writer_old writer_new out
-  pub does : Does start result reader_new told out
-  pub line_limit_kept : KeepsLineLimit result told
-  pub input_limit_kept : KeepsInputLimit result told
+  pub does : Does start result reader_new taken out
+  pub line_limit_kept : KeepsLineLimit result taken
+  pub input_limit_kept : KeepsInputLimit result taken

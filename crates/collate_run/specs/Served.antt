@@ -9,8 +9,8 @@ use Rattle.collate_records.specs.declared.rule.RecordsError.{RecordsError}
 use Rattle.collate_records.specs.declared.rule.RecordsError.TheVariants.{Fault, Memory as NoMemory}
 use Rattle.collate_index.specs.Catalogue.{Catalogue, opened}
 use Rattle.collate_run.specs.Runs.{Ran}
-use Rattle.collate_index.specs.Settings.{ArePlain, GiveStrengthOnly}
-use Rattle.collate_run.specs.declared.choice.Choice.{Choice}
+use Rattle.collate_index.specs.ServedOptions.{AreDefault, GiveStrengthOnly}
+use Rattle.collate_run.specs.declared.arguments.Arguments.{Arguments}
 use Rattle.collate_run.specs.declared.run.RunFault.{RunFault}
 use Rattle.collate_run.specs.declared.run.RunFault.TheVariants.{Memory, Read, Write, LineTooLong, InputTooLong}
 use Rattle.collate_run.specs.declared.serve.FileFault.{FileFault}
@@ -38,7 +38,7 @@ run_line Write = codes "collate: write\n"
 run_line LineTooLong = codes "collate: line too long\n"
 run_line InputTooLong = codes "collate: input too long\n"
 
--- what a writer of errors got of this text: a front of it, where the writer stopped taking
+-- what a writer of errors got of this text: all of it, or a first part, up to where a write failed
 pub record Tells (old new : Option (List ℕ)) (text : List ℕ) : Type 0 where
   pub told : List ℕ
   pub untold : List ℕ
@@ -71,21 +71,21 @@ pub record Runs (start : Catalogue) (status : ℕ) (reader_old reader_new writer
 
 module _ (status : ℕ) (reader_old reader_new writer_old writer_new errors_old errors_new : Option (List ℕ)) where
   -- what is served of a file of records: a run over them, or their refusal
-  pub record ServesFile (choice : Choice) (bytes : List ℕ) : Type 0 where
+  pub record ServesFile (arguments : Arguments) (bytes : List ℕ) : Type 0 where
     pub read : Result (List Saying) RecordsError
     pub read_is : IsReadFrom bytes read
     pub served : MatchResult read
-        (λ records. Runs (opened records choice.preferences choice.options) status reader_old reader_new writer_old writer_new errors_old errors_new)
+        (λ records. Runs (opened records arguments.preferences arguments.options) status reader_old reader_new writer_old writer_new errors_old errors_new)
         (λ refusal. Stops 1 (records_line refusal) status reader_old reader_new writer_old writer_new errors_old errors_new)
 
-  -- what is served of the words and of FILE: usage, then what ails FILE, then its records, then the run
-  abbrev pub Serves : Option (Bor Choice) → Result (Bor (List ℕ)) FileFault → Type 0
-  Serves choice file = MatchOption choice
+  -- what is served of the words and of FILE: the usage line, or what is wrong with FILE, or with its records, or the run
+  abbrev pub Serves : Option (Bor Arguments) → Result (Bor (List ℕ)) FileFault → Type 0
+  Serves arguments file = MatchOption arguments
       (Stops 2 usage_line status reader_old reader_new writer_old writer_new errors_old errors_new)
-      (λ chosen. MatchResult file
-      (λ bytes. ServesFile chosen.now bytes.now)
-      (λ fault. Stops 1 (file_line chosen.now.file.now fault) status reader_old reader_new writer_old writer_new errors_old errors_new))
+      (λ given. MatchResult file
+      (λ bytes. ServesFile given.now bytes.now)
+      (λ fault. Stops 1 (file_line given.now.file.now fault) status reader_old reader_new writer_old writer_new errors_old errors_new))
 
--- the preferences and options of a choice are served
-abbrev pub IsServed : Bor Choice → Type 0
-IsServed choice = ArePlain choice.now.preferences × GiveStrengthOnly choice.now.options
+-- the preferences and options that the words give are served
+abbrev pub IsServed : Bor Arguments → Type 0
+IsServed arguments = AreDefault arguments.now.preferences × GiveStrengthOnly arguments.now.options

@@ -60,7 +60,7 @@ fn read_command(line: &[u8]) -> Command<'_>
     }
 }
 
-/// The names at these places, behind a line that says how many they are.
+/// A line that says how many names stand at these places, then the names, a line each.
 fn listing_of(alloc: Global, index: &Index, places: Range<usize>) -> Result<Vec<u8>, AllocError>
     requires order { places.start ≤ places.end }
     requires bound { places.end ≤ length (sorted_names index.now) }
@@ -77,7 +77,7 @@ fn listing_of(alloc: Global, index: &Index, places: Range<usize>) -> Result<Vec<
     Ok(text)
 }
 
-/// Answers one line, by the index and its change.
+/// Answers one line from the index, which an `add` changes.
 pub(crate) fn answer(alloc: Global, index: &mut Index, line: &[u8]) -> Reply
     ensures { Answers line.now index.old index.new (reply_text result) }
 {

@@ -3,7 +3,7 @@
 ghost use Rattle.std.specs.Prelude.{◌≡◌, ◌+◌, ◌≤◌, ◌↔◌, ℕ, List, length, false, true, Ok, Err, OnOk, IfErr, is_err, ◌||◌};
 ghost use Rattle.std.specs.Io.KnownBytes.{Consumes, Appends};
 ghost use Rattle.collate_index.specs.Catalogue.{opened};
-ghost use Rattle.collate_index.specs.Settings.{ArePlain, GiveStrengthOnly};
+ghost use Rattle.collate_index.specs.ServedOptions.{AreDefault, GiveStrengthOnly};
 ghost use Rattle.collate_run.specs.Reading.{GivesByte, ReadsLine, is_read_fault};
 ghost use Rattle.collate_run.specs.Runs.{Ran, input_limit};
 ghost use Rattle.collate_run.specs.Sending.{Sends};
@@ -16,6 +16,7 @@ use collate_records::records::Records;
 use icu_collator_types::options::{CollatorOptions, CollatorPreferences};
 use std::alloc::Global;
 use std::io::{Read, Write};
+use thiserror::Error;
 
 /// The most bytes that a line may have, its LF not counted.
 const LINE_LIMIT: usize = 65_536;
@@ -24,17 +25,22 @@ const LINE_LIMIT: usize = 65_536;
 const INPUT_LIMIT: u64 = 4_294_967_295;
 
 /// Why a run ended before its input did.
-#[derive(Clone, Copy, Debug, PartialEq, Eq)]
+#[derive(Clone, Copy, Debug, PartialEq, Eq, Error)]
 pub enum RunFault {
     /// Memory was refused: the index can't be opened, or a line can't be held.
+    #[error("out of memory")]
     Memory,
     /// A call of the reader failed.
+    #[error("a read failed")]
     Read,
     /// A call of the writer failed, or took no byte.
+    #[error("a write failed")]
     Write,
     /// A line has more than 65,536 bytes.
+    #[error("a line has more than 65,536 bytes")]
     LineTooLong,
     /// The input has more than 4,294,967,295 bytes.
+    #[error("the input has more than 4,294,967,295 bytes")]
     InputTooLong,
 }
 
@@ -45,7 +51,7 @@ struct Line {
     is_ended: bool,
 }
 
-/// Reads one byte, or tells that the reader is at its end.
+/// Reads one byte; `None` at the end of the input.
 fn read_byte<R: Read>(reader: &mut Watched<R>) -> Result<Option<u8>, RunFault>
     ensures bytes { GivesByte
         (R.remaining (watched_inner reader.old)) (R.remaining (watched_inner reader.new)) result }
@@ -60,7 +66,7 @@ fn read_byte<R: Read>(reader: &mut Watched<R>) -> Result<Option<u8>, RunFault>
     }
 }
 
-/// Reads the next line. `count` is how many bytes were read so far.
+/// Reads the next line; `None` at the end of the input. `count` is how many bytes have been read.
 fn next_line<R: Read>(
     alloc: Global,
     reader: &mut Watched<R>,
@@ -104,8 +110,8 @@ fn next_line<R: Read>(
     }
 }
 
-/// Writes all bytes. A call that fails, an interrupted one too, or takes no byte ends it.
-fn write_whole<W: Write>(writer: &mut Watched<W>, bytes: &[u8]) -> Result<(), RunFault>
+/// Writes all bytes, up to the first call that fails, an interrupted one too, or takes no byte.
+pub(crate) fn write_whole<W: Write>(writer: &mut Watched<W>, bytes: &[u8]) -> Result<(), RunFault>
     ensures bytes { Sends result
         (W.contents (watched_inner writer.old)) (W.contents (watched_inner writer.new)) bytes.now }
     ensures failed { watched_failed writer.new ≡ watched_failed writer.old || is_err result }
@@ -121,7 +127,7 @@ fn write_whole<W: Write>(writer: &mut Watched<W>, bytes: &[u8]) -> Result<(), Ru
     Ok(())
 }
 
-/// Answers each line of the reader, by the index and its changes.
+/// Answers each line of the reader from the index, which lines change.
 fn answer_lines<R: Read, W: Write>(
     alloc: Global,
     index: &mut Index,
@@ -155,12 +161,12 @@ fn answer_lines<R: Read, W: Write>(
 }
 
 /// Opens an index over the records and answers each line of the reader to the writer, one reply a
-/// line, until the reader tells its end (our profile).
+/// line, until the input ends (README.md, "The program").
 ///
 /// A line is `add NAME`, `find NAME` or `list`, of at most 65,536 bytes; any other line is
-/// answered by `bad`, and a command to which memory was refused by `memory`. A fault ends the run;
-/// the replies to all whole lines before it stand, and at `RunFault::Write` a prefix of them.
-/// An interrupted call of the reader or of the writer is a fault as any other.
+/// answered `bad`, and a command that was refused memory `memory`. A fault ends the run: the
+/// replies to all whole lines before it have been written, and at `RunFault::Write` a first part
+/// of them. An interrupted call of the reader or writer is a fault like any other.
 pub fn run<R: Read, W: Write>(
     alloc: Global,
     records: Records,
@@ -169,7 +175,7 @@ pub fn run<R: Read, W: Write>(
     reader: &mut Watched<R>,
     writer: &mut Watched<W>,
 ) -> Result<(), RunFault>
-    requires preferences { ArePlain preferences.now }
+    requires preferences { AreDefault preferences.now }
     requires options { GiveStrengthOnly options.now }
     requires reader { watched_failed reader.old ≡ false }
     requires writer { watched_failed writer.old ≡ false }
@@ -179,7 +185,7 @@ pub fn run<R: Read, W: Write>(
         (R.remaining (watched_inner reader.old)) (R.remaining (watched_inner reader.new))
         (W.contents (watched_inner writer.old)) (W.contents (watched_inner writer.new)) }
 
-    // A fault of the reader or of the writer has its cause.
+    // `Read` and `Write` are answered exactly if a call of the reader or writer failed.
     ensures read { (watched_failed reader.new ≡ true) ↔ (result ≡ Err RunFault.Read) }
     ensures write { (watched_failed writer.new ≡ true) ↔ (result ≡ Err RunFault.Write) }
 {

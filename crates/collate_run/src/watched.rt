@@ -17,7 +17,7 @@ pub struct Watched<T> {
 impl<T> Watched<T> {
     ghost use Rattle.collate_run.specs.Watched.{watched_inner, watched_failed};
 
-    /// Watches `inner`, of which no call has failed yet.
+    /// Watches `inner`; no call of it has failed yet.
     pub fn new(inner: T) -> Self
         ensures inner { watched_inner result ≡ inner }
         ensures failed { watched_failed result ≡ false }

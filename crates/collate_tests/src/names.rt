@@ -1,9 +1,9 @@
-// Names over a small records file: what an index and a run answer. Expected values come from the specification's worked
-// examples, and from an independent reading of the file format.
+//! Names over a small records file: what an index and a run answer. Expected values come from the specification's worked
+//! examples, and from an independent reading of the file format.
 
-ghost use Rattle.collate_index.specs.Settings.{GiveStrengthOnly};
+ghost use Rattle.collate_index.specs.ServedOptions.{GiveStrengthOnly};
 
-use collate_index::comparison::{decomposed_list, elements_of_list};
+use collate_index::elements::{decomposed_list, elements_of_list};
 use collate_index::index::{AddError, Index};
 use collate_index::key::IndexKey;
 use collate_records::records::Records;

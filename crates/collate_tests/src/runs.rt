@@ -1,15 +1,17 @@
-// Runs over fakes of a reader and a writer that fail in mid-stream, and the program's texts and statuses.
+//! Runs over fakes of a reader and a writer that fail in mid-stream, and the program's texts and statuses.
 
 ghost use Rattle.std.specs.Option.{ForSome};
 ghost use Rattle.collate_run.specs.Served.{IsServed};
 
+use collate_index::index::AddError;
 use collate_records::records::Records;
-use collate_run::choice::Choice;
+use collate_run::arguments::Arguments;
 use collate_run::run::{self, RunFault};
 use collate_run::serve::{self, FileFault};
 use collate_run::watched::Watched;
 use icu_collator_types::options::{CollatorOptions, CollatorPreferences, Strength};
 use std::alloc::{AllocError, Global};
+use std::fmt::Display;
 use std::io::{self, Read, Write};
 use std::process::Abort;
 use std::test::Fail;
@@ -125,7 +127,7 @@ fn ok_run(rt: HostRuntime) {
 #[test]
 fn run_ends_where_a_read_fails(rt: HostRuntime) {
     let alloc = rt.alloc();
-    // The replies to the lines that end within so many bytes.
+    // How many bytes are read, and how many bytes of replies their whole lines get.
     let stands = [
         (0, 0),
         (5, 0),
@@ -165,7 +167,7 @@ fn run_ends_where_a_write_fails(rt: HostRuntime) {
         Failure::NoByte,
     ];
     for failure in failures {
-        // What stands after so many calls of up to four bytes.
+        // How many calls of up to four bytes succeed, and how many bytes have then been written.
         for (calls, bytes) in [(0, 0), (1, 4), (2, 6), (3, 10), (4, 14), (5, 16)] {
             let mut written = Vec::new(alloc);
             let writer = FailingWriter {
@@ -212,11 +214,11 @@ fn words_of(alloc: Global, texts: &[&str]) -> Result<Vec<String>, AllocError> {
 }
 
 #[test]
-fn words_choose_a_file_and_a_strength(rt: HostRuntime) -> Result<(), Fail> {
+fn arguments_are_a_file_and_a_strength(rt: HostRuntime) -> Result<(), Fail> {
     let alloc = rt.alloc();
     let rows = [
-        (["R", "strength=primary"], Strength::Primary),
-        (["R", "strength=secondary"], Strength::Secondary),
+        (["a.records", "strength=primary"], Strength::Primary),
+        (["a.records", "strength=secondary"], Strength::Secondary),
         (
             ["strength=primary", "strength=tertiary"],
             Strength::Tertiary,
@@ -224,43 +226,43 @@ fn words_choose_a_file_and_a_strength(rt: HostRuntime) -> Result<(), Fail> {
     ];
     for (texts, strength) in rows {
         let words = words_of(alloc, &texts)?;
-        let choice = Choice::read(&words).ok_or("no choice")?;
-        assert_eq!(rt; choice.file, texts[0]);
-        assert_eq!(rt; choice.options.strength, Some(strength));
+        let arguments = Arguments::parse(&words).ok_or("no arguments")?;
+        assert_eq!(rt; arguments.file, texts[0]);
+        assert_eq!(rt; arguments.options.strength, Some(strength));
     }
-    let words = words_of(alloc, &["R"])?;
-    let choice = Choice::read(&words).ok_or("no choice")?;
-    assert_eq!(rt; choice.file, "R");
-    assert_eq!(rt; choice.options.strength, None);
+    let words = words_of(alloc, &["a.records"])?;
+    let arguments = Arguments::parse(&words).ok_or("no arguments")?;
+    assert_eq!(rt; arguments.file, "a.records");
+    assert_eq!(rt; arguments.options.strength, None);
     let others: [&[&str]; 8] = [
         &[],
-        &["R", "strength=loud"],
-        &["R", "strength=quaternary"],
-        &["R", "strength"],
-        &["R", "numeric=on"],
-        &["R", ""],
-        &["R", "strength=primary", "strength=primary"],
-        &["R", "strength=primary", "x"],
+        &["a.records", "strength=loud"],
+        &["a.records", "strength=quaternary"],
+        &["a.records", "strength"],
+        &["a.records", "numeric=on"],
+        &["a.records", ""],
+        &["a.records", "strength=primary", "strength=primary"],
+        &["a.records", "strength=primary", "x"],
     ];
     for texts in others {
         let words = words_of(alloc, texts)?;
-        assert!(rt; Choice::read(&words).is_none(), "{texts:?}");
+        assert!(rt; Arguments::parse(&words).is_none(), "{texts:?}");
     }
     Ok(())
 }
 
-/// Serves a choice with a reader and a writer that fail after some calls, and looks at the status
+/// Serves arguments with a reader and a writer that fail after some calls, and looks at the status
 /// and at what the writer of errors got.
 fn assert_served(
     rt: &impl Abort,
     alloc: Global,
-    choice: Option<&Choice<'_>>,
+    arguments: Option<&Arguments<'_>>,
     file: Result<&[u8], FileFault>,
     reads: usize,
     writes: usize,
     wanted: (u8, &[u8]),
 )
-    requires { ForSome choice IsServed }
+    requires { ForSome arguments IsServed }
 {
     let mut written = Vec::new(alloc);
     let mut errors = Vec::new(alloc);
@@ -274,7 +276,8 @@ fn assert_served(
         calls: writes,
         failure: Failure::NoByte,
     });
-    let status = serve::serve(alloc, choice, file, &mut reader, &mut writer, &mut errors);
+    let mut told = Watched::new(&mut errors);
+    let status = serve::serve(alloc, arguments, file, &mut reader, &mut writer, &mut told);
     assert_eq!(rt; status, wanted.0);
     assert_eq!(rt; errors.as_slice(), wanted.1);
 }
@@ -283,39 +286,55 @@ fn assert_served(
 fn serve_answers_status_and_text(rt: HostRuntime) -> Result<(), Fail> {
     let alloc = rt.alloc();
     let usage = (2, b"usage: collate FILE [OPTION=VALUE]..\n".as_slice());
-    let loud = words_of(alloc, &["R", "strength=loud"])?;
-    for choice in [Choice::read(&[]), Choice::read(&loud)] {
+    let loud = words_of(alloc, &["a.records", "strength=loud"])?;
+    for arguments in [Arguments::parse(&[]), Arguments::parse(&loud)] {
         assert_served(
             &rt,
             alloc,
-            choice.as_ref(),
+            arguments.as_ref(),
             Err(FileFault::Unreadable),
             9,
             9,
             usage,
         );
-        assert_served(&rt, alloc, choice.as_ref(), Ok(b"x"), 9, 9, usage);
+        assert_served(&rt, alloc, arguments.as_ref(), Ok(b"x"), 9, 9, usage);
     }
-    let words = words_of(alloc, &["R"])?;
-    let choice = Choice::read(&words);
-    let choice = choice.as_ref();
-    let unreadable = (1, b"collate: cannot read R\n".as_slice());
+    let words = words_of(alloc, &["a.records"])?;
+    let arguments = Arguments::parse(&words);
+    let arguments = arguments.as_ref();
+    let unreadable = (1, b"collate: cannot read a.records\n".as_slice());
     assert_served(
         &rt,
         alloc,
-        choice,
+        arguments,
         Err(FileFault::Unreadable),
         9,
         9,
         unreadable,
     );
     let memory = (1, b"collate: memory\n".as_slice());
-    assert_served(&rt, alloc, choice, Err(FileFault::Memory), 9, 9, memory);
+    assert_served(&rt, alloc, arguments, Err(FileFault::Memory), 9, 9, memory);
     let refused = (1, b"collate: refused 1 grammar\n".as_slice());
-    assert_served(&rt, alloc, choice, Ok(b"x"), 9, 9, refused);
-    assert_served(&rt, alloc, choice, Ok(b""), 9, 9, (0, b""));
-    assert_served(&rt, alloc, choice, Ok(b""), 3, 9, (1, b"collate: read\n"));
-    assert_served(&rt, alloc, choice, Ok(b""), 9, 1, (1, b"collate: write\n"));
+    assert_served(&rt, alloc, arguments, Ok(b"x"), 9, 9, refused);
+    assert_served(&rt, alloc, arguments, Ok(b""), 9, 9, (0, b""));
+    assert_served(
+        &rt,
+        alloc,
+        arguments,
+        Ok(b""),
+        3,
+        9,
+        (1, b"collate: read\n"),
+    );
+    assert_served(
+        &rt,
+        alloc,
+        arguments,
+        Ok(b""),
+        9,
+        1,
+        (1, b"collate: write\n"),
+    );
     Ok(())
 }
 
@@ -323,11 +342,11 @@ fn serve_answers_status_and_text(rt: HostRuntime) -> Result<(), Fail> {
 fn serve_drops_an_error_of_the_writer_of_errors(rt: HostRuntime) {
     let alloc = rt.alloc();
     let (mut written, mut told) = (Vec::new(alloc), Vec::new(alloc));
-    let mut errors = FailingWriter {
+    let mut errors = Watched::new(FailingWriter {
         written: &mut told,
         calls: 2,
         failure: Failure::Error(io::ErrorKind::Other),
-    };
+    });
     let mut reader = Watched::new(b"list\n".as_slice());
     let mut writer = Watched::new(&mut written);
     let file = Err(FileFault::Unreadable);
@@ -348,7 +367,32 @@ fn each_fault_of_a_run_has_its_line(rt: HostRuntime) {
     ];
     for (fault, line) in rows {
         let mut errors = Vec::new(rt.alloc());
-        serve::tell_run_fault(&mut errors, fault);
+        serve::tell_run_fault(&mut Watched::new(&mut errors), fault);
         assert_eq!(rt; errors.as_slice(), line);
     }
+}
+
+/// Whether a value is shown as this text.
+fn shows<D: Display + Drop>(alloc: Global, value: D, text: &str) -> Result<bool, AllocError> {
+    let shown = format!(in alloc; "{value}")?;
+    Ok(shown.as_str() == text)
+}
+
+#[test]
+fn errors_say_what_is_at_fault(rt: HostRuntime) -> Result<(), Fail> {
+    let alloc = rt.alloc();
+    assert!(rt; shows(alloc, RunFault::Memory, "out of memory")?);
+    assert!(rt; shows(alloc, RunFault::Read, "a read failed")?);
+    assert!(rt; shows(alloc, RunFault::Write, "a write failed")?);
+    let line = "a line has more than 65,536 bytes";
+    assert!(rt; shows(alloc, RunFault::LineTooLong, line)?);
+    let input = "the input has more than 4,294,967,295 bytes";
+    assert!(rt; shows(alloc, RunFault::InputTooLong, input)?);
+    let file = "the file can't be opened or read";
+    assert!(rt; shows(alloc, FileFault::Unreadable, file)?);
+    assert!(rt; shows(alloc, FileFault::Memory, "out of memory")?);
+    let duplicate = "the name is already in the index";
+    assert!(rt; shows(alloc, AddError::Duplicate, duplicate)?);
+    assert!(rt; shows(alloc, AddError::Memory, "out of memory")?);
+    Ok(())
 }

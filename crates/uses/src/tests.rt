@@ -1,4 +1,4 @@
-// Each public function is called once here, one test a subject.
+//! Each public function is called once here, one test a subject.
 
 use crate::{code_point_tries, decoded, names, options, packed, records, sets, unit_tries};
 use collate_records::records::Records;

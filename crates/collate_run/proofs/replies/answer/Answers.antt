@@ -1,5 +1,5 @@
 use Rattle.std.proofs.Common.{ap, Err}
-use Rattle.collate_run.proofs.Answered.{answers-added, answers-duplicate}
+use Rattle.collate_run.proofs.commands.AnswerLemmas.{answers-added, answers-duplicate}
 use Rattle.collate_run.proofs.replies.answer.Goals as goal
 
 pub returns-in-Ok : goal.returns-in-Ok

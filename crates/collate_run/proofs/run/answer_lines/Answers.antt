@@ -1,8 +1,8 @@
 use Rattle.std.proofs.Common.{sym, Err}
 use Rattle.collate_run.specs.ReplyText.{reply_text}
 use Rattle.collate_run.specs.Watched.{watched_inner, watched_failed}
-use Rattle.collate_run.proofs.Progress.{progress-none, progress-more, ran-end, ran-cut, ran-write, ran-last}
-use Rattle.collate_run.proofs.ReadLines.{no-line, some-line, answers-same, sent-all, unfailed}
+use Rattle.collate_run.proofs.lines.RunLemmas.{progress-none, progress-more, ran-end, ran-cut, ran-write, ran-last}
+use Rattle.collate_run.proofs.lines.ReadLineLemmas.{no-line, some-line, answers-same, sent-all, unfailed}
 use Rattle.collate_run.proofs.run.answer_lines.Goals as goal
 
 pub lines-init : goal.lines-init

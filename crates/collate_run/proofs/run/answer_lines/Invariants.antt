@@ -1,7 +1,7 @@
 use Rattle.std.proofs.Common.{◌≡◌, ◌-◌, false}
 use Rattle.collate_run.specs.Runs.{input_limit}
 use Rattle.collate_run.specs.Watched.{watched_inner, watched_failed}
-use Rattle.collate_run.proofs.Progress.{Progress}
+use Rattle.collate_run.proofs.lines.RunLemmas.{Progress}
 use Rattle.collate_run.proofs.run.answer_lines.Given as goal
 
 abbrev pub invariant-lines : goal.invariant-lines

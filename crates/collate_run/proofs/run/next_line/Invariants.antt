@@ -8,7 +8,7 @@ use Rattle.collate_run.proofs.run.next_line.Given as goal
 abbrev pub invariant-bytes : goal.invariant-bytes
 invariant-bytes g l = record {
   same : watched_failed l.reader ≡ watched_failed l.fn.reader;
-  told : Consumes (g.R.Read.remaining (watched_inner l.fn.reader)) (g.R.Read.remaining (watched_inner l.reader)) l.bytes.items;
+  taken : Consumes (g.R.Read.remaining (watched_inner l.fn.reader)) (g.R.Read.remaining (watched_inner l.reader)) l.bytes.items;
   unended : IsUnended l.bytes.items;
   counted : l.count ≡ l.fn.count + length l.bytes.items;
   within : l.count ≤ input_limit;

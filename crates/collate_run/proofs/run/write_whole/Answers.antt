@@ -1,7 +1,7 @@
 use Rattle.std.proofs.Common.{◌++◌, take, ◌∙◌}
 use Rattle.collate_run.specs.Watched.{watched_inner, watched_failed}
-use Rattle.collate_run.proofs.Known.{Appends-then}
-use Rattle.collate_run.proofs.Sent.{more-sent, still-same}
+use Rattle.collate_run.proofs.bytes.KnownBytesLemmas.{Appends-then}
+use Rattle.collate_run.proofs.bytes.SendingLemmas.{more-sent, still-same}
 use Rattle.collate_run.proofs.run.write_whole.Goals as goal
 
 pub writes-preserved : goal.writes-preserved

@@ -3,7 +3,7 @@ use Rattle.std.proofs.lemmas.List.{take_all}
 use Rattle.icu_collections.specs.Cursors.{IsEntryFrom}
 use Rattle.uses.proofs.unit_tries.+value_behind.Goals as goal
 
--- what is found behind the first unit is found for the whole key
+-- what is found after the first unit is found for the whole key
 whole_key : (found : Option ℤ) (Old New : List ℕ → ℤ → Type 0) (key : List ℕ) → 2 ≤ length key
     → ((next : ℕ) (rest : List ℕ) (number : ℤ) → New (next ∷ rest) number ↔ Old (slice_index_or key 0 0 ∷ next ∷ rest) number)
     → (0 < length (take (length key - 1) (drop 1 key)) → (number : ℤ) → (found ≡ Some number) ↔ New (take (length key - 1) (drop 1 key)) number)

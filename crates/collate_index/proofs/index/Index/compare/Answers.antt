@@ -1,6 +1,6 @@
 use Rattle.std.proofs.Common.{arith, ◌≡◌, ◌<◌, length}
 use Rattle.collate_index.specs.Catalogue.{sorted_names}
-use Rattle.collate_index.proofs.Kept.{order_len, length_names, names_len, place_within, compared}
+use Rattle.collate_index.proofs.search.IndexLemmas.{order_len, length_names, names_len, place_within, compared}
 use Rattle.collate_index.proofs.index.Index.compare.Goals as goal
 
 pub index-requires : goal.index-requires

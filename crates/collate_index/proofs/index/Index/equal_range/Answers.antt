@@ -1,6 +1,6 @@
 use Rattle.std.proofs.Common.{arith}
 use Rattle.collate_index.specs.Catalogue.{order_of, sorted_names}
-use Rattle.collate_index.proofs.Searching.{ends_ordered, equal_part}
+use Rattle.collate_index.proofs.search.SearchLemmas.{ends_ordered, equal_part}
 use Rattle.collate_index.proofs.index.Index.equal_range.Goals as goal
 
 pub returns-clause-range : goal.returns-clause-range

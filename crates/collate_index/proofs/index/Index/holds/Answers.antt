@@ -1,6 +1,6 @@
 use Rattle.std.proofs.Common.{arith, rules, ◌≡◌, ℕ, ◌<◌, ◌≤◌, slice_get, Some, refl, sym, true≢false}
 use Rattle.collate_index.specs.Catalogue.{sorted_names}
-use Rattle.collate_index.proofs.Kept.{arrived_from_listed, listed_from_arrived}
+use Rattle.collate_index.proofs.search.IndexLemmas.{arrived_from_listed, listed_from_arrived}
 use Rattle.collate_index.proofs.index.Index.holds.Goals as goal
 
 pub returns-then-eq : goal.returns-then-eq

@@ -4,7 +4,7 @@ use Rattle.collate_index.specs.Catalogue.{Catalogue, order_of, sorted_names}
 use Rattle.collate_index.specs.Keys.{IsKeyOf}
 use Rattle.collate_index.specs.Search.{IsPlaceOf}
 use Rattle.collate_index.specs.Index.{text_of}
-use Rattle.collate_index.proofs.Kept.{order_len, length_names, kept_more}
+use Rattle.collate_index.proofs.search.IndexLemmas.{order_len, length_names, kept_more}
 use Rattle.collate_index.proofs.index.Index.insert.Goals as goal
 
 pub insert-requires : goal.insert-requires

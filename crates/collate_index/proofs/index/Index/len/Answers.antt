@@ -1,6 +1,6 @@
 use Rattle.std.proofs.Common.{◌∙◌, subst}
 use Rattle.collate_index.specs.Catalogue.{Catalogue, AreDistinct}
-use Rattle.collate_index.proofs.Kept.{names_len}
+use Rattle.collate_index.proofs.search.IndexLemmas.{names_len}
 use Rattle.collate_index.proofs.index.Index.len.Goals as goal
 
 pub returns-clause-sorted : goal.returns-clause-sorted

@@ -1,8 +1,8 @@
 use Rattle.std.proofs.Common.{arith, [], sym, ap, ◌∙◌, subst}
 use Rattle.collate_index.specs.Catalogue.{order_of, sorted_names}
 use Rattle.collate_index.specs.Search.{stands_before}
-use Rattle.collate_index.proofs.Order.{order_total}
-use Rattle.collate_index.proofs.Searching.{IsNarrowed, narrowed_none, narrowed_all, narrowed_few, narrowed_low, narrowed_high, listed_parted}
+use Rattle.collate_index.proofs.order.NameOrderLemmas.{order_total}
+use Rattle.collate_index.proofs.search.SearchLemmas.{IsNarrowed, narrowed_none, narrowed_all, narrowed_few, narrowed_low, narrowed_high, listed_parted}
 use Rattle.collate_index.proofs.index.Index.place.Goals as goal
 
 pub loop-low-init : goal.loop-low-init

@@ -1,6 +1,6 @@
 use Rattle.std.proofs.Common.{◌-◌}
 use Rattle.collate_index.specs.Catalogue.{order_of, sorted_names}
-use Rattle.collate_index.proofs.Searching.{IsNarrowed}
+use Rattle.collate_index.proofs.search.SearchLemmas.{IsNarrowed}
 use Rattle.collate_index.proofs.index.Index.place.Given as goal
 
 abbrev pub invariant-loop-low : goal.invariant-loop-low

@@ -3,7 +3,7 @@ use Rattle.std.specs.Iterator.{YieldsFirstRef, MakesProgress, item_count}
 use Rattle.std.specs.Bool.{⊤}
 use Rattle.std.proofs.lemmas.List.{drop_all}
 use Rattle.collate_index.specs.Catalogue.{sorted_names}
-use Rattle.collate_index.proofs.Listing.{first_left, fewer_left}
+use Rattle.collate_index.proofs.search.ListingLemmas.{first_left, fewer_left}
 use Rattle.collate_index.proofs.index.NamesIterator.next.Goals as goal
 
 pub returns-then-self-len-clause-steps : goal.returns-then-self-len-clause-steps

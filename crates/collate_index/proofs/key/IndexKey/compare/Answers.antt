@@ -1,4 +1,4 @@
-use Rattle.collate_index.proofs.PlainKeys.{keys_order}
+use Rattle.collate_index.proofs.order.SimpleKeyLemmas.{keys_order}
 use Rattle.collate_index.proofs.key.IndexKey.compare.Goals as goal
 
 pub returns-clause-order : goal.returns-clause-order

@@ -1,0 +1,4 @@
+-- the places of names in an index
+pub mod IndexLemmas
+pub mod ListingLemmas
+pub mod SearchLemmas

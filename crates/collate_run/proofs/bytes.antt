@@ -1,0 +1,4 @@
+-- bytes read and written in parts
+pub mod KnownBytesLemmas
+pub mod SendingLemmas
+pub mod TellingLemmas

@@ -1,0 +1,5 @@
+-- what a line asks for, and the reply
+pub mod AmongLemmas
+pub mod AnswerLemmas
+pub mod CommandLemmas
+pub mod ListingLemmas

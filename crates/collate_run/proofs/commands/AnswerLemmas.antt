@@ -1,0 +1,42 @@
+-- the outcomes of one line
+use Rattle.std.proofs.Common.{◌≡◌, ℕ, true, false, List, Contains, codes, refl, ◌∙◌, ap}
+use Rattle.collate_index.specs.Catalogue.{Catalogue, order_of, sorted_names, with_name}
+use Rattle.collate_index.specs.Names.{equal_names}
+use Rattle.collate_run.specs.Replies.{LineCommand, add, find, list, unknown, IsCommand, Answers, answer_to, granted, listing, command_of}
+use Rattle.collate_run.proofs.commands.AmongLemmas.{is_among-true, is_among-false}
+
+-- a line that was granted memory
+granted_call : (line : List ℕ) (asked : LineCommand) (old new : Catalogue) (text : List ℕ) → asked ≡ command_of line → text ≡ answer_to asked old → new ≡ granted asked old → Answers line old new text
+granted_call line asked old new text w t n = record {
+  refused = false;
+  may_refuse = λ e. absurd (let h : false ≡ true = e in cc);
+  text_is = t ∙ ap (λ (v : LineCommand). answer_to v old) w;
+  catalogue_is = n ∙ ap (λ (v : LineCommand). granted v old) w;
+}
+
+pub answers-memory : (line : List ℕ) (asked : LineCommand) (old new : Catalogue) → asked ≡ command_of line → IsCommand asked → new ≡ old → Answers line old new (codes "memory\n")
+answers-memory line asked old new w command n = record {
+  refused = true;
+  may_refuse = λ _. rw (← w) command;
+  text_is = refl;
+  catalogue_is = n;
+}
+
+pub answers-added : (line name : List ℕ) (old new : Catalogue) → add name ≡ command_of line → (Contains old.arrivals name → ⊥) → new ≡ with_name name old → Answers line old new (codes "added\n")
+answers-added line name old new w absent n =
+    let e = is_among-false old.arrivals name absent in
+    granted_call line (add name) old new (codes "added\n") w (rw e refl) (rw e n)
+
+pub answers-duplicate : (line name : List ℕ) (old new : Catalogue) → add name ≡ command_of line → Contains old.arrivals name → new ≡ old → Answers line old new (codes "duplicate\n")
+answers-duplicate line name old new w there n =
+    let e = is_among-true old.arrivals name there in
+    granted_call line (add name) old new (codes "duplicate\n") w (rw e refl) (rw e n)
+
+pub answers-unknown : (line : List ℕ) (old new : Catalogue) → unknown ≡ command_of line → new ≡ old → Answers line old new (codes "bad\n")
+answers-unknown line old new w n = granted_call line unknown old new (codes "bad\n") w refl n
+
+pub answers-found : (line name : List ℕ) (old : Catalogue) (text : List ℕ) (names : List (List ℕ)) → find name ≡ command_of line → names ≡ equal_names (order_of old) name (sorted_names old) → text ≡ listing names → Answers line old old text
+answers-found line name old text names w is e = granted_call line (find name) old old text w (e ∙ ap listing is) refl
+
+pub answers-listed : (line : List ℕ) (old : Catalogue) (text : List ℕ) (names : List (List ℕ)) → list ≡ command_of line → names ≡ sorted_names old → text ≡ listing names → Answers line old old text
+answers-listed line old text names w is e = granted_call line list old old text w (e ∙ ap listing is) refl

@@ -1,0 +1,5 @@
+-- the lines of a run
+pub mod ExampleLemmas
+pub mod LineLemmas
+pub mod ReadLineLemmas
+pub mod RunLemmas
