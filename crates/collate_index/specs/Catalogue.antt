@@ -2,7 +2,8 @@
 use Rattle.std.specs.Prelude.{◌≢◌, ℕ, List, [], ◌∷◌, ◌++◌}
 use Rattle.std.specs.List.{AllPairs}
 use Rattle.collate_index.specs.Meaning.{Meaning, meaning_of, order_by}
-use Rattle.collate_records.specs.Sayings.{Saying, collation_of}
+use Rattle.collate_records.specs.Record.{Record}
+use Rattle.collate_records.specs.Meaning.{collation_of}
 use Rattle.icu_collator_types.specs.declared.options.CollatorOptions.{CollatorOptions}
 use Rattle.icu_collator_types.specs.declared.options.CollatorPreferences.{CollatorPreferences}
 use Rattle.icu_collator_types.specs.Options.{resolved_options}
@@ -27,10 +28,10 @@ abbrev pub AreDistinct : List (List ℕ) → Type 0
 AreDistinct names = AllPairs (λ name other. name ≢ other) names
 
 -- the catalogue that records, preferences and options open, with no names; the options are resolved by what the file sets
-abbrev pub opened : List Saying → CollatorPreferences → CollatorOptions → Catalogue
-opened sayings preferences options =
-    let collation = collation_of sayings
-    in record { meaning = meaning_of sayings (resolved_options options preferences collation.options); arrivals = [] }
+abbrev pub opened : List Record → CollatorPreferences → CollatorOptions → Catalogue
+opened records preferences options =
+    let collation = collation_of records
+    in record { meaning = meaning_of records (resolved_options options preferences collation.options); arrivals = [] }
 
 -- a catalogue in which a name has arrived
 abbrev pub with_name : List ℕ → Catalogue → Catalogue

@@ -9,18 +9,19 @@ use Rattle.icu_collator_core.specs.Collation.{Collation}
 use Rattle.icu_collator.specs.KeyBytes.{key_of_text}
 use Rattle.icu_collator.specs.Order.{collation_order}
 use Rattle.icu_collator.specs.Settings.{has_plain_leads}
-use Rattle.collate_records.specs.Sayings.{Saying, collation_of}
+use Rattle.collate_records.specs.Record.{Record}
+use Rattle.collate_records.specs.Meaning.{collation_of}
 use Rattle.collate_names.specs.Names.{TextOrder}
 
 pub record Meaning : Type 0 where
   -- what the lines of the records file say
-  pub sayings : List Saying
+  pub records : List Record
   -- the options, resolved
   pub options : ResolvedCollatorOptions
 
 -- what records and options decide
-abbrev pub meaning_of : List Saying → ResolvedCollatorOptions → Meaning
-meaning_of sayings options = record { sayings = sayings; options = options }
+abbrev pub meaning_of : List Record → ResolvedCollatorOptions → Meaning
+meaning_of records options = record { records = records; options = options }
 
 -- How two names compare, given as characters: by the collation order, or by the bytes of their sort keys where plain leads
 -- fail. There names with one sort key are equal.
@@ -31,4 +32,4 @@ name_order collation options a b =
 
 -- how names compare, given by their bytes: as the characters do that these spell
 unfoldable pub order_by : Meaning → TextOrder
-order_by m a b = name_order (collation_of m.sayings) m.options (utf8_chars a) (utf8_chars b)
+order_by m a b = name_order (collation_of m.records) m.options (utf8_chars a) (utf8_chars b)

@@ -4,7 +4,8 @@ ghost use Rattle.std.specs.Prelude.{◌≡◌, ◌<◌, ℕ, IfOk, OnOk, ◌++�
 ghost use Rattle.icu_normalizer_core.specs.Canonical.{decomposed, marks_in_order, put_in_order};
 ghost use Rattle.icu_normalizer_core.specs.Decoding.{utf8_chars};
 ghost use Rattle.icu_collator_core.specs.Elements.{elements_of_list};
-ghost use Rattle.collate_records.specs.Sayings.{canonical_of, class_of, full_of, weights_of};
+ghost use Rattle.collate_records.specs.Accepted.{AreAccepted};
+ghost use Rattle.collate_records.specs.Meaning.{canonical_of, class_of, full_of, weights_of};
 ghost use Rattle.collate_index.specs.Simple.{elements_of_character, is_mark_below};
 
 use collate_records::records::Records;
@@ -82,6 +83,7 @@ pub fn elements_of_list(
 ) -> Result<Vec<Element>, AllocError>
     ensures { IfOk result (λ es. es.items ≡ elements_of_list (canonical_of records.now) (weights_of records.now) false list.now) }
 {
+    records.keep_rules();
     let mut elements = Vec::new(alloc);
     for c in list {
         push_elements(records, *c, &mut elements)?;
@@ -91,6 +93,7 @@ pub fn elements_of_list(
 
 /// Adds the elements of a character at the end.
 fn push_elements(records: &Records, c: u32, elements: &mut Vec<Element>) -> Result<(), AllocError>
+    requires { AreAccepted records.now }
     ensures { OnOk result (elements.new.items ≡ elements.old.items ++ elements_of_character (weights_of records.now) c) }
 {
     if let Some(primary) = special_primary(c) {

@@ -12,6 +12,9 @@ ghost use Rattle.collate_names.specs.Names.{equal_names};
 ghost use Rattle.collate_index.specs.Catalogue.{AreDistinct, opened, order_of, sorted_names, with_name};
 ghost use Rattle.collate_index.specs.ServedOptions.{AreDefault, GiveStrengthOnly};
 ghost use Rattle.collate_index.specs.Search.{IsPlaceOf, stands_before};
+ghost use Rattle.collate_index.specs.Simple.{AreSimple};
+ghost use Rattle.collate_records.specs.Meaning.{settings_of};
+ghost use Rattle.icu_collator_types.specs.Options.{resolved_options};
 
 use crate::key::IndexKey;
 use collate_records::records::Records;
@@ -59,7 +62,7 @@ impl Index {
 
     /// An index with no names, over records, preferences and options; what these leave open the records' settings decide.
     /// It asks for no memory.
-    #[tactic(auto, unfolding(collate_names::specs::Names::in_order), using(crate::proofs::order::SimpleOptionLemmas::resolved_simple))]
+    #[tactic(auto, unfolding(collate_names::specs::Names::in_order))]
     pub fn new(
         alloc: Global,
         records: Records,
@@ -70,7 +73,7 @@ impl Index {
         requires options { GiveStrengthOnly options.now }
         ensures { IfOk result (λ index. index ≡ opened records preferences.now options.now) }
     {
-        let options = ResolvedCollatorOptions::resolve(options, preferences, &records.settings());
+        let options = resolved_over(&records, preferences, options);
         Ok(Index {
             alloc,
             records,
@@ -229,6 +232,21 @@ impl Index {
         let name = &self.names[self.order[place]];
         name.key.compare(&sought.key, count)
     }
+}
+
+/// The options that an index over these records goes by.
+fn resolved_over(
+    records: &Records,
+    preferences: &CollatorPreferences<'_>,
+    options: &CollatorOptions,
+) -> ResolvedCollatorOptions
+    requires preferences { AreDefault preferences.now }
+    requires options { GiveStrengthOnly options.now }
+    ensures simple { AreSimple result }
+    ensures resolved { result ≡ resolved_options options.now preferences.now (settings_of records.now) }
+{
+    records.keep_rules();
+    ResolvedCollatorOptions::resolve(options, preferences, &records.settings())
 }
 
 /// The same places, and none as `0..0`.

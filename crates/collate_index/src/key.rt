@@ -34,6 +34,7 @@ impl IndexKey {
         requires { AreSimple options }
         ensures { IfOk result (IsKeyOf (meaning_of records.now options) name.now) }
     {
+        records.keep_rules();
         let list = decomposed_list(alloc, records, name)?;
         let elements = elements_of_list(alloc, records, &list)?;
         let at_second = options.strength.is_at_least(Strength::Secondary);

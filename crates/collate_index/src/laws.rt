@@ -15,7 +15,8 @@ ghost use Rattle.icu_collator.specs.KeyBytes.{key_of_text};
 ghost use Rattle.icu_collator.specs.Settings.{AreSoundSettings};
 ghost use Rattle.icu_collator.specs.SoundCollation.{IsSoundCollation};
 ghost use Rattle.collate_records.specs.Accepted.{AreAccepted};
-ghost use Rattle.collate_records.specs.Sayings.{Saying, collation_of, weights_of};
+ghost use Rattle.collate_records.specs.Record.{Record};
+ghost use Rattle.collate_records.specs.Meaning.{collation_of, weights_of};
 ghost use Rattle.collate_index.specs.Meaning.{Meaning, name_order, order_by};
 
 /// Names compare as a total preorder, whatever data and options say: turning two names round turns the answer round,
@@ -47,12 +48,12 @@ pub fn equal_keys_are_of_equal_names()
 /// if the weights keep the rules on weights (docs/RECORDS.md).
 #[tactic(auto, using(crate::proofs::order::NameOrderLemmas::keys_order_in_index))]
 pub fn keys_order_as_names_of_records()
-    ensures { (m : Meaning) (a b : List ℕ) → AreAccepted m.sayings → AreSoundWeights (weights_of m.sayings)
-        → slice_cmp nat_cmp (key_of_text (collation_of m.sayings) m.options (utf8_chars a)) (key_of_text (collation_of m.sayings) m.options (utf8_chars b)) ≡ order_by m a b }
+    ensures { (m : Meaning) (a b : List ℕ) → AreAccepted m.records → AreSoundWeights (weights_of m.records)
+        → slice_cmp nat_cmp (key_of_text (collation_of m.records) m.options (utf8_chars a)) (key_of_text (collation_of m.records) m.options (utf8_chars b)) ≡ order_by m a b }
 {}
 
 /// The settings of an accepted file keep the rules on settings (docs/RECORDS.md).
 #[tactic(auto, using(crate::proofs::order::FileSettingLemmas::accepted_settings))]
 pub fn records_have_sound_settings()
-    ensures { (sayings : List Saying) → AreAccepted sayings → AreSoundSettings (collation_of sayings) }
+    ensures { (records : List Record) → AreAccepted records → AreSoundSettings (collation_of records) }
 {}

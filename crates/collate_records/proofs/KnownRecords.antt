@@ -141,3 +141,8 @@ accepted_plain records accepted = known_plain records (all_known records accepte
 -- what is set of the options by default is what they set
 pub default_set : (records : List Record) (settings : FileSettings) → AreAccepted records → settings ≡ default_settings → settings ≡ settings_of records
 default_set records settings accepted is = let plain = accepted_plain records accepted in is ∙ sym plain.settings
+
+-- the elements that a line gives to a character by itself are those recorded
+pub recorded_alone : (records : List Record) (c : ℕ) (found : Option (List Element)) → AreAccepted records → found ≡ first_found (lone_elements_in c) records
+    → found ≡ recorded_in records [] (c ∷ [])
+recorded_alone records c found accepted is = let plain = accepted_plain records accepted in is ∙ sym (plain.alone c)

@@ -5,7 +5,7 @@ ghost use Rattle.std.specs.Option.{option_copied};
 ghost use Rattle.icu_normalizer_core.specs.Canonical.{IsDecomposing};
 ghost use Rattle.icu_normalizer_core.specs.Properties.{mapped_to};
 ghost use Rattle.collate_records.specs.Accepted.{AreAccepted};
-ghost use Rattle.collate_records.specs.Meaning.{canonical_of, collation_of, first_found, class_of, step_of, full_of, expanded, lone_elements_in};
+ghost use Rattle.collate_records.specs.Meaning.{canonical_of, collation_of, class_of, step_of, first_found, full_of, expanded, lone_elements_in, recorded_in};
 ghost use Rattle.collate_records.specs.Tables.{AddsFront};
 ghost use Rattle.collate_records.specs.Files.{IsReadFrom};
 
@@ -134,8 +134,16 @@ impl Records {
             .unwrap_or(Decomposed::Default)
     }
 
-    /// The recorded elements of a code point; `None` where no line gives it any.
+    /// The recorded elements of a code point by itself; `None` where no line gives it any.
     pub fn elements32(&self, c: u32) -> Option<&[Element]>
+        ensures { option_copied result ≡ recorded_in self.now [] (c ∷ []) }
+    {
+        self.keep_rules();
+        self.lone_elements(c)
+    }
+
+    /// The elements that a line gives to a code point by itself.
+    fn lone_elements(&self, c: u32) -> Option<&[Element]>
         ensures { option_copied result ≡ first_found (lone_elements_in c) self.now }
     {
         self.tables

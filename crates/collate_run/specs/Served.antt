@@ -3,7 +3,7 @@ use Rattle.std.specs.Prelude.{◌≡◌, ℕ, Option, Result, Ok, Err, List, [],
 use denote.Bor.{Bor}
 use Rattle.std.specs.Io.KnownBytes.{Appends, Keeps}
 use Rattle.collate_records.specs.Files.{IsReadFrom}
-use Rattle.collate_records.specs.Sayings.{Saying}
+use Rattle.collate_records.specs.Record.{Record}
 use Rattle.collate_records.specs.Rule.{fault_text}
 use Rattle.collate_records.specs.declared.rule.RecordsError.{RecordsError}
 use Rattle.collate_records.specs.declared.rule.RecordsError.TheVariants.{Fault, Memory as NoMemory}
@@ -72,7 +72,7 @@ pub record Runs (start : Catalogue) (status : ℕ) (reader_old reader_new writer
 module _ (status : ℕ) (reader_old reader_new writer_old writer_new errors_old errors_new : Option (List ℕ)) where
   -- what is served of a file of records: a run over them, or their refusal
   pub record ServesFile (arguments : Arguments) (bytes : List ℕ) : Type 0 where
-    pub read : Result (List Saying) RecordsError
+    pub read : Result (List Record) RecordsError
     pub read_is : IsReadFrom bytes read
     pub served : MatchResult read
         (λ records. Runs (opened records arguments.preferences arguments.options) status reader_old reader_new writer_old writer_new errors_old errors_new)

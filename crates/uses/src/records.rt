@@ -1,7 +1,7 @@
 //! Records files: reading one, and asking what it says.
 ghost use Rattle.std.specs.Prelude.{◌≡◌, ◌↔◌, [], IsTrue, MatchResult};
-ghost use Rattle.collate_records.specs.Files.{IsAccepted, Refuses, sayings_of};
-ghost use Rattle.collate_records.specs.Sayings.{class_of, step_of};
+ghost use Rattle.collate_records.specs.Files.{IsAccepted, Refuses, records_of};
+ghost use Rattle.collate_records.specs.Meaning.{class_of, step_of};
 
 use collate_records::records::Records;
 use collate_records::rule::RecordsError;
@@ -11,7 +11,7 @@ use std::alloc::Global;
 /// The combining class of a character, by a records file.
 pub fn class_by_file(alloc: Global, file: &[u8], character: char) -> Result<u8, RecordsError>
     ensures { MatchResult result
-        (λ class. IsAccepted file.now × (class ≡ class_of (sayings_of file.now) character))
+        (λ class. IsAccepted file.now × (class ≡ class_of (records_of file.now) character))
         (Refuses file.now) }
 {
     let records = Records::read(alloc, file)?;

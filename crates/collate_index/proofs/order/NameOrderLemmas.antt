@@ -21,7 +21,7 @@ use Rattle.icu_collator.proofs.keys.KeyBytesLemmas.{same_numbers}
 use Rattle.icu_collator.proofs.orders.TotalOrderLemmas.{collation_order_total}
 use Rattle.icu_collator.proofs.keys.TextKeyLemmas.{text_keys_order}
 use Rattle.collate_records.specs.Accepted.{AreAccepted}
-use Rattle.collate_records.specs.Sayings.{collation_of, weights_of}
+use Rattle.collate_records.specs.Meaning.{collation_of, weights_of}
 use Rattle.collate_records.proofs.AcceptedLines.{accepted_decompose}
 use Rattle.collate_index.proofs.order.FileSettingLemmas.{accepted_settings}
 use Rattle.collate_index.specs.Meaning.{Meaning, name_order, order_by}
@@ -41,7 +41,7 @@ name_order_total collation options =
 -- and as bytes
 pub order_total : (m : Meaning) → IsTotalOrder (order_by m)
 unfolding order_by
-order_total m = on_total utf8_chars (name_order_total (collation_of m.sayings) m.options)
+order_total m = on_total utf8_chars (name_order_total (collation_of m.records) m.options)
 
 -- the keys of names compare as the names do
 pub keys_order_as_names : (collation : Collation) (options : ResolvedCollatorOptions) (a b : List ℕ)
@@ -68,8 +68,8 @@ equal_keys_of_names collation options a b decomposing sound sa sb =
     )
 
 -- names of an index, given by their bytes, compare as their keys
-pub keys_order_in_index : (m : Meaning) (a b : List ℕ) → AreAccepted m.sayings → AreSoundWeights (weights_of m.sayings)
-    → slice_cmp nat_cmp (key_of_text (collation_of m.sayings) m.options (utf8_chars a)) (key_of_text (collation_of m.sayings) m.options (utf8_chars b)) ≡ order_by m a b
+pub keys_order_in_index : (m : Meaning) (a b : List ℕ) → AreAccepted m.records → AreSoundWeights (weights_of m.records)
+    → slice_cmp nat_cmp (key_of_text (collation_of m.records) m.options (utf8_chars a)) (key_of_text (collation_of m.records) m.options (utf8_chars b)) ≡ order_by m a b
 unfolding order_by
 keys_order_in_index m a b accepted sound =
-    keys_order_as_names (collation_of m.sayings) m.options (utf8_chars a) (utf8_chars b) (accepted_decompose m.sayings accepted) (record { weights = sound; settings = accepted_settings m.sayings accepted }) (utf8_scalars a) (utf8_scalars b)
+    keys_order_as_names (collation_of m.records) m.options (utf8_chars a) (utf8_chars b) (accepted_decompose m.records accepted) (record { weights = sound; settings = accepted_settings m.records accepted }) (utf8_scalars a) (utf8_scalars b)

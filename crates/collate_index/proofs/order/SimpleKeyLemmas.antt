@@ -1,5 +1,5 @@
 -- Keys of names under plain options compare as the names do.
-use Rattle.std.proofs.Common.{◌≡◌, ℕ, false, true, List, refl, ◌∙◌}
+use Rattle.std.proofs.Common.{◌≡◌, ℕ, false, true, List, [], refl, ◌∙◌}
 use Rattle.std.specs.Ordering.{nat_cmp, ordering_then}
 use Rattle.std.specs.Cmp.Lexicographic.{slice_cmp}
 use Rattle.std.specs.declared.cmp.Ordering.{Ordering}
@@ -11,7 +11,9 @@ use Rattle.icu_collator_types.specs.declared.options.ResolvedCollatorOptions.{Re
 use Rattle.icu_collator_core.specs.Collation.{Collation}
 use Rattle.icu_collator.specs.Levels.{levels_of_text}
 use Rattle.icu_collator.specs.Settings.{has_plain_leads}
-use Rattle.collate_records.specs.Sayings.{collation_of}
+use Rattle.collate_records.specs.Meaning.{collation_of, place_among, reorder_in, set_to}
+use Rattle.collate_records.proofs.KnownRecords.{accepted_plain}
+use Rattle.collate_index.proofs.order.FileSettingLemmas.{primary_stays}
 use Rattle.collate_index.specs.Simple.{AreSimple}
 use Rattle.collate_index.specs.Keys.{IsKeyOf, elements_of_name}
 use Rattle.collate_index.specs.Meaning.{Meaning, name_order, order_by}
@@ -42,16 +44,18 @@ pub keys_order : (m : Meaning) (a b : List ℕ) (x y : IndexKey) → IsKeyOf m a
 unfolding order_by name_order
 keys_order m a b x y hx hy =
     let o = m.options
-    in let d = collation_of m.sayings
-    in let s = not_shifted o hx.plain
-    in let t = no_case_bits o hx.plain
+    in let d = collation_of m.records
+    in let s = not_shifted o hx.simple
+    in let t = no_case_bits o hx.simple
     in let la = decomposed d.canonical (utf8_chars a)
     in let lb = decomposed d.canonical (utf8_chars b)
+    in let plain = accepted_plain m.records hx.accepted
+    in let stay : (p : ℕ) → d.reordered p ≡ p = primary_stays (place_among (set_to reorder_in [] m.records)) plain.in_place
     in let ea = elements_of_name m a
     in let eb = elements_of_name m b
     in then_then (slice_cmp nat_cmp x.primaries.items y.primaries.items) (slice_cmp nat_cmp x.secondaries.items y.secondaries.items) (slice_cmp nat_cmp x.tertiaries.items y.tertiaries.items)
-    ∙ rw (plain_leads d o hx.plain, hx.primaries, hy.primaries, hx.secondaries, hy.secondaries, hx.tertiaries, hy.tertiaries)
-    (levels_order_plain o hx.plain (levels_of_text d o (utf8_chars a)) (levels_of_text d o (utf8_chars b)) _ _ _ _ _ _
-    (primaries_plain d o la s (λ p. refl) ea) (primaries_plain d o lb s (λ p. refl) eb)
-    (secondaries_plain d o la s refl ea) (secondaries_plain d o lb s refl eb)
+    ∙ rw (plain_leads d o hx.simple, hx.primaries, hy.primaries, hx.secondaries, hy.secondaries, hx.tertiaries, hy.tertiaries)
+    (levels_order_plain o hx.simple (levels_of_text d o (utf8_chars a)) (levels_of_text d o (utf8_chars b)) _ _ _ _ _ _
+    (primaries_plain d o la s stay ea) (primaries_plain d o lb s stay eb)
+    (secondaries_plain d o la s plain.forward ea) (secondaries_plain d o lb s plain.forward eb)
     (tertiaries_plain d o la s t ea) (tertiaries_plain d o lb s t eb))

@@ -1,6 +1,6 @@
 use Rattle.std.proofs.Common.{arith, ◌∙◌, ap}
 use Rattle.icu_normalizer_core.specs.Canonical.{decomposed, marks_in_order}
-use Rattle.collate_records.specs.Sayings.{class_of}
+use Rattle.collate_records.specs.Meaning.{class_of}
 use Rattle.collate_index.proofs.reading.MarkLemmas.{vector_written}
 use Rattle.collate_index.proofs.elements.decomposed_list.Goals as goal
 

@@ -1,6 +1,6 @@
 -- Each turn moves one mark of a lower class to the left, and the end puts the character after them.
 use Rattle.std.proofs.Common.{arith, ◌∙◌, ◌+◌, length-set, inl, inr, slice_index_or}
-use Rattle.collate_records.specs.Sayings.{class_of}
+use Rattle.collate_records.specs.Meaning.{class_of}
 use Rattle.collate_index.proofs.reading.MarkLemmas.{put_step, put_end, test_at}
 use Rattle.collate_index.proofs.elements.put_mark_in_order.Goals as goal
 use Rattle.collate_index.proofs.elements.put_mark_in_order.Goals.{else-loop-place-test, then-loop-place-test+then-not-is_mark_below}

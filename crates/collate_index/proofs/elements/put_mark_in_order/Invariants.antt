@@ -1,6 +1,6 @@
 use Rattle.std.proofs.Common.{◌≡◌, ◌<◌, ◌+◌, ◌-◌, ◌++◌, length, take, drop}
 use Rattle.icu_normalizer_core.specs.Canonical.{put_in_order}
-use Rattle.collate_records.specs.Sayings.{class_of}
+use Rattle.collate_records.specs.Meaning.{class_of}
 use Rattle.collate_index.proofs.elements.put_mark_in_order.Given as goal
 
 abbrev pub invariant-loop-place : goal.invariant-loop-place

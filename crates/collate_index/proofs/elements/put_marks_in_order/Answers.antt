@@ -1,5 +1,5 @@
 use Rattle.std.proofs.Common.{arith, ◌∙◌, ◌-◌}
-use Rattle.collate_records.specs.Sayings.{class_of}
+use Rattle.collate_records.specs.Meaning.{class_of}
 use Rattle.collate_index.proofs.reading.MarkLemmas.{marks_all, marks_previous, nothing_in_order}
 use Rattle.collate_index.proofs.elements.put_marks_in_order.Goals as goal
 

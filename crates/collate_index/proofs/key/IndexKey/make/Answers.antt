@@ -20,7 +20,8 @@ returns c =
     in let secondaries = c.in_ok-secondaries.ensures (λ e. unless_zero e.secondary e.secondary) (λ e w h. search rules)
     in let tertiaries = c.in_ok-tertiaries.ensures (λ e. unless_zero e.tertiary e.tertiary) (λ e w h. search rules)
     in record {
-      plain = c.requires;
+      simple = c.requires;
+      accepted = c.keep_rules.ensures.accepted;
       primaries = primaries ∙ ap (weights_at (λ e. e.primary)) (c.deref-2.ensures.value ∙ name);
       secondaries = same_level (λ e. e.secondary) _ _ _ _ _ secondaries c.is_at_least-at_second.ensures (c.deref-3.ensures.value ∙ name);
       tertiaries = same_level (λ e. e.tertiary) _ _ _ _ _ tertiaries c.is_at_least-at_third.ensures (c.deref-4.ensures.value ∙ name);
