@@ -29,7 +29,8 @@ pub enum FileFault {
 /// Writes the parts of a text, one after another, up to the first call that fails or takes no
 /// byte.
 fn tell<E: Write>(errors: &mut Watched<E>, parts: &[&[u8]])
-    ensures { Tells (E.contents (watched_inner errors.old)) (E.contents (watched_inner errors.new))
+    ensures { Tells (watched_failed errors.new)
+        (E.contents (watched_inner errors.old)) (E.contents (watched_inner errors.new))
         (flat_map (λ part. part.now) parts.now) }
 {
     for part in parts {
@@ -42,7 +43,8 @@ fn tell<E: Write>(errors: &mut Watched<E>, parts: &[&[u8]])
 
 /// Tells why records were refused.
 fn tell_refusal<E: Write>(errors: &mut Watched<E>, error: RecordsError)
-    ensures { Tells (E.contents (watched_inner errors.old)) (E.contents (watched_inner errors.new))
+    ensures { Tells (watched_failed errors.new)
+        (E.contents (watched_inner errors.old)) (E.contents (watched_inner errors.new))
         (records_line error) }
 {
     match error {
@@ -56,9 +58,11 @@ fn tell_refusal<E: Write>(errors: &mut Watched<E>, error: RecordsError)
     }
 }
 
-/// Tells in one line why a run ended before its input did.
+/// Tells in one line why a run ended before its input did: the whole line, unless a call of the
+/// writer fails.
 pub fn tell_run_fault<E: Write>(errors: &mut Watched<E>, fault: RunFault)
-    ensures { Tells (E.contents (watched_inner errors.old)) (E.contents (watched_inner errors.new))
+    ensures { Tells (watched_failed errors.new)
+        (E.contents (watched_inner errors.old)) (E.contents (watched_inner errors.new))
         (run_line fault) }
 {
     let line: &[u8] = match fault {
@@ -76,8 +80,8 @@ pub fn tell_run_fault<E: Write>(errors: &mut Watched<E>, fault: RunFault)
 ///
 /// Status 2 and the usage line to `errors` if `arguments` is `None`, whatever `file` is. Status 1
 /// and a line that begins with `collate: ` if FILE wasn't read, its records are refused, or the
-/// run ends by a fault, in this order. Else status 0. An error of `errors` is dropped. Before the
-/// run nothing is read or written.
+/// run ends by a fault, in this order. Else status 0. An error of `errors` is dropped, and noted by
+/// it. Before the run nothing is read or written.
 pub fn serve<R: Read, W: Write, E: Write>(
     alloc: Global,
     arguments: Option<&Arguments<'_>>,
@@ -93,7 +97,7 @@ pub fn serve<R: Read, W: Write, E: Write>(
         (R.remaining (watched_inner reader.old)) (R.remaining (watched_inner reader.new))
         (W.contents (watched_inner writer.old)) (W.contents (watched_inner writer.new))
         (E.contents (watched_inner errors.old)) (E.contents (watched_inner errors.new))
-        arguments.entry file.entry }
+        (watched_failed errors.new) arguments.entry file.entry }
 {
     let Some(arguments) = arguments else {
         tell(errors, &[b"usage: collate FILE [OPTION=VALUE]..\n"]);

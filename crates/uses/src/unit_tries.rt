@@ -56,7 +56,7 @@ pub fn value_through(
 
 /// The value of a key of one unit or more from where a cursor stands, if it is a key there. The calls
 /// go as deep as the key is long.
-fn value_behind(mut cursor: Char16TrieIterator<'_>, key: &[u16]) -> Option<i32>
+fn value_from(mut cursor: Char16TrieIterator<'_>, key: &[u16]) -> Option<i32>
     ensures { 0 < length key.now → (number : ℤ) → result ≡ Some number ↔ IsEntryFrom cursor.entry key.now number }
 {
     match key {
@@ -64,7 +64,7 @@ fn value_behind(mut cursor: Char16TrieIterator<'_>, key: &[u16]) -> Option<i32>
         [unit] => value_of(cursor.next16(*unit)),
         [unit, rest @ ..] => {
             cursor.next16(*unit);
-            value_behind(cursor, rest)
+            value_from(cursor, rest)
         }
     }
 }
@@ -73,5 +73,5 @@ fn value_behind(mut cursor: Char16TrieIterator<'_>, key: &[u16]) -> Option<i32>
 pub fn value_of_key(trie: &Char16Trie<'_>, key: &[u16]) -> Option<i32>
     ensures { 0 < length key.now → (number : ℤ) → result ≡ Some number ↔ IsEntry trie.now key.now number }
 {
-    value_behind(trie.iter(), key)
+    value_from(trie.iter(), key)
 }
