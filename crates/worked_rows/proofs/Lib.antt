@@ -1,5 +1,6 @@
 pub mod Computing
 pub mod Contractions
+pub mod FromBytes
 pub mod Prefixes
 pub mod Numbers
 pub mod Backward

@@ -1,3 +1,4 @@
 pub mod Tables
 pub mod Asked
 pub mod Letters
+pub mod Files
