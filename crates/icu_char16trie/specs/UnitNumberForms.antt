@@ -5,7 +5,7 @@ use Rattle.std.specs.Prelude.{ℕ, ◌+◌, ◌*◌, ◌/◌, ◌%◌, ◌^◌, 
 abbrev pub two_unit_form : ℕ → ℕ → List ℕ
 two_unit_form lead number = (lead + number / 2 ^ 16) ∷ number % 2 ^ 16 ∷ []
 
--- a number in two units behind a lead
+-- a number in two units after a lead
 abbrev pub three_unit_form : ℕ → ℕ → List ℕ
 three_unit_form lead number = lead ∷ two_unit_form 0 number
 

@@ -34,6 +34,6 @@ delta units place = after (slice_get units place) (λ lead.
     if ltb lead 0xfc00 then Some (record { value = lead; end = place + 1 })
     else (if ltb lead 0xffff then with_unit units (lead - 0xfc00) (place + 1) else two_units units (place + 1)))
 
--- the place behind a jump, which stays within the units
+-- the place after a jump, which stays within the units
 abbrev pub landing : List ℕ → Number → Option ℕ
 landing units jump = if ltb (jump.end + jump.value) (length units) then Some (jump.end + jump.value) else None

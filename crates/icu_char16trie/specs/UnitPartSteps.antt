@@ -1,6 +1,6 @@
 -- What stands first in a part of a unit trie, or the place where reading stops there.
 use Rattle.std.specs.Prelude.{ℕ, ◌+◌, ◌-◌, ◌/◌, ◌%◌, ltb, leb, if◌then◌else◌, List, length, slice_get, Option, Some, None, Result, Ok, Err}
-use Rattle.icu_char16trie.specs.UnitCells.{after, final_number, intermediate_number, delta, landing}
+use Rattle.icu_char16trie.specs.UnitNumbers.{after, final_number, intermediate_number, delta, landing}
 use Rattle.icu_char16trie.specs.UnitSteps.{entry_at, entry_target, opened}
 use Rattle.icu_char16trie.specs.declared.node.Match.{Match}
 use Rattle.icu_char16trie.specs.declared.node.Target.{Target}
@@ -26,10 +26,10 @@ abbrev pub bounded : ℕ → ℕ → ℕ → ℕ → Part
 bounded count place low high = part.Branch (record { branch = record { count = count; place = place }; low = low; high = high })
 
 -- the part that a node's state stands for
-abbrev pub part_behind : State → Option Part
-part_behind (state.Stopped) = None
-part_behind (state.Match run) = Some (part.Run run)
-part_behind (state.Branch branch) = Some (part.Branch (record { branch = branch; low = 0; high = 0x10000 }))
+abbrev pub part_for : State → Option Part
+part_for (state.Stopped) = None
+part_for (state.Match run) = Some (part.Run run)
+part_for (state.Branch branch) = Some (part.Branch (record { branch = branch; low = 0; high = 0x10000 }))
 
 -- a node with its value and what follows it
 abbrev pub at_node : Option ℕ → Option Part → Step
@@ -40,8 +40,8 @@ abbrev pub node_step : List ℕ → ℕ → Option Step
 node_step units place = after (slice_get units place) (λ lead.
     if leb 0x8000 lead then after (final_number units (lead - 0x8000) (place + 1)) (λ number. Some (at_node (Some number.value) None))
     else (if leb 0x40 lead then after (intermediate_number units lead (place + 1)) (λ number.
-    after (opened units (lead % 0x40) number.end) (λ next. Some (at_node (Some number.value) (part_behind next))))
-    else after (opened units lead (place + 1)) (λ next. Some (at_node None (part_behind next)))))
+    after (opened units (lead % 0x40) number.end) (λ next. Some (at_node (Some number.value) (part_for next))))
+    else after (opened units lead (place + 1)) (λ next. Some (at_node None (part_for next)))))
 
 -- what follows the first of units that must match
 abbrev pub run_on : Match → Part

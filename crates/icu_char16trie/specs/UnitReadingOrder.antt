@@ -2,7 +2,7 @@
 use Rattle.std.specs.Prelude.{◌≡◌, ℕ, ℤ, Bool, true, ◌&&◌, ◌++◌, ◌<◌, ◌≤◌, ◌⊎◌, List, [], ◌∷◌, slice_get, length, map, reverse, Option, Some, None, Ok, Err, codes}
 use Rattle.std.specs.Fmt.{decimal}
 use Rattle.std.specs.Int.{cast_signed, w32}
-use Rattle.icu_char16trie.specs.UnitReading.{part_step, part_place}
+use Rattle.icu_char16trie.specs.UnitPartSteps.{part_step, part_place}
 use Rattle.icu_char16trie.specs.declared.reader.part.Part.{Part}
 use Rattle.icu_char16trie.specs.declared.reader.part.Part.TheVariants as part
 use Rattle.icu_char16trie.specs.declared.reader.part.Step.{Step}
@@ -20,7 +20,7 @@ abbrev pub extended : List ℕ → Option ℕ → List ℕ
 extended key None = key
 extended key (Some unit) = key ++ (unit ∷ [])
 
--- the part behind the key, if there is one
+-- the part after the key, if there is one
 abbrev pub onward : List ℕ → Option Part → List Job
 onward key None = []
 onward key (Some part) = (key, part) ∷ []
@@ -35,11 +35,11 @@ abbrev pub HasRoom : ℕ → List ℕ → Option ℕ → Type 0
 HasRoom limit key None = Unit {0}
 HasRoom limit key (Some unit) = length key < limit
 
--- what is left to be read behind the key, the first part first
+-- what is left to be read after the key, the first part first
 abbrev pub jobs_of : List ℕ → Step → List Job
 jobs_of key step = onward (extended key step.unit) step.next ++ onward key step.rest
 
--- what was read behind the key
+-- what was read after the key
 abbrev pub pairs_of : List ℕ → Step → List (List ℕ × ℤ)
 pairs_of key step = noted (extended key step.unit) step.value
 

@@ -1,7 +1,7 @@
 -- What is still to be written of a unit trie, and what it leads to.
 use Rattle.std.specs.Prelude.{ℕ, ℤ, ◌+◌, ◌-◌, ◌^◌, ◌<◌, ◌≤◌, List, [], ◌∷◌, ◌++◌, length, Option, Some, None}
 use Rattle.std.specs.Int.{cast_signed, w32}
-use Rattle.icu_char16trie.specs.UnitForms.{number_form, intermediate_form, delta_form}
+use Rattle.icu_char16trie.specs.UnitNumberForms.{number_form, intermediate_form, delta_form}
 use Rattle.icu_char16trie.specs.UnitPairs.{AreSorted, AreGroups, rests, spread, room, Extends}
 use Rattle.icu_char16trie.specs.UnitLayouts.{Lays, node, within}
 use Rattle.icu_char16trie.specs.declared.writer.task.Task.{Task}
@@ -62,17 +62,17 @@ Finishes goal (task.Jump ∷ tasks) marks units =
 Finishes goal (task.Delta ∷ tasks) marks units =
     HasMark marks units × Finishes goal tasks (since marks units).0 (delta_form (since marks units).1 ++ units)
 
--- the new tasks write what is said in front of the units, of so many units at most, and go on with the old ones
+-- the new tasks write what is said before the units, no more units than the bound, and go on with the old ones
 abbrev pub Adds : List Task → List Task → (List ℕ → List ℕ → Type 0) → ℕ → Type 0
 Adds old new Written most = (goal : List (List ℕ × ℤ)) (marks units : List ℕ) → length units + most < 2 ^ 32
     → ((after : List ℕ) → Written units after → Finishes goal old marks after) → Finishes goal new marks units
 
--- the type of a node, behind the value of a key that ends there, if one does
+-- the type of a node, after the value of a key that ends there, if one does
 abbrev pub head_task : ℕ → Option ℕ → Task
 head_task kind None = task.Unit kind
 head_task kind (Some number) = task.Intermediate kind number
 
--- the pairs, behind the empty key with the value, if there is one
+-- the pairs, after the empty key with the value, if there is one
 abbrev pub headed : Option ℕ → List (List ℕ × ℤ) → List (List ℕ × ℤ)
 headed None pairs = pairs
 headed (Some number) pairs = ([], cast_signed w32 number) ∷ pairs

@@ -20,7 +20,7 @@ use node::{State, start, step};
 pub use reader::{EntryTest, ReadUnitsError, all_pass, read_units};
 pub use writer::{WriteUnitsError, write_units};
 
-/// What a cursor says of the units that it was given.
+/// What a cursor answers to the units that it was given.
 #[derive(Clone, Copy, Debug, PartialEq, Eq)]
 pub enum TrieResult {
     /// The units begin no key.
@@ -68,7 +68,7 @@ impl<'a> Char16Trie<'a> {
         }
     }
 
-    /// The same trie: borrowed units are borrowed again, others copied. The only error is want of
+    /// The same trie: borrowed units are borrowed again, others copied. Fails only when out of
     /// memory.
     pub fn clone(&self, alloc: Global) -> Result<Char16Trie<'a>, AllocError>
         ensures { IfOk result (λ trie. trie_units trie ≡ trie_units self.now) }

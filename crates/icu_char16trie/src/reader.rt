@@ -1,8 +1,8 @@
 //! The keys and values of a unit trie, read in order.
 ghost use Rattle.std.specs.Prelude.{◌≡◌, ℕ, ℤ, List, Bool, true, IsTrue, ◌↔◌, IfOk, Err, map};
-ghost use Rattle.icu_char16trie.specs.UnitMaps.{at_node, Spells};
+ghost use Rattle.icu_char16trie.specs.UnitMaps.{at_node, MapsKey};
 ghost use Rattle.icu_char16trie.specs.UnitGrammar.{IsListing, IsUnitTrie, IsWithin};
-ghost use Rattle.icu_char16trie.specs.UnitJobs.{StopsAt};
+ghost use Rattle.icu_char16trie.specs.UnitReadingOrder.{StopsAt};
 ghost use Rattle.icu_char16trie.specs.declared.reader.ReadUnitsError.TheVariants.{BadUnits};
 
 use super::cells::unit_at;
@@ -29,7 +29,7 @@ pub enum ReadUnitsError {
 
 impl fmt::Display for ReadUnitsError {
     ghost use Rattle.std.specs.Prelude.{Some};
-    ghost use Rattle.icu_char16trie.specs.UnitJobs.{error_text};
+    ghost use Rattle.icu_char16trie.specs.UnitReadingOrder.{error_text};
 
     ghost output = { λ error. Some (error_text error) };
 
@@ -101,7 +101,7 @@ pub fn all_pass<T: EntryTest>(
     limit: usize,
     test: &T,
 ) -> Result<bool, ReadUnitsError>
-    ensures passed { IfOk result (λ all. IsTrue all ↔ ((key : List ℕ) (number : ℤ) → Spells units.now (at_node 0) key number → IsTrue (T.test test.now key number))) }
+    ensures passed { IfOk result (λ all. IsTrue all ↔ ((key : List ℕ) (number : ℤ) → MapsKey units.now (at_node 0) key number → IsTrue (T.test test.now key number))) }
     ensures grammar { IfOk result (λ all. IsUnitTrie units.now) }
     ensures bound { IfOk result (λ all. IsWithin units.now limit) }
     ensures refused { (place : ℕ) → result ≡ Err (BadUnits place) → IsUnitTrie units.now → IsWithin units.now limit → ⊥ }

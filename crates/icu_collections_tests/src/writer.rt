@@ -178,6 +178,6 @@ fn a_key_of_five_million_units(rt: HostRuntime) -> Result<(), Fail> {
 #[test]
 fn errors_print(rt: HostRuntime) -> Result<(), Fail> {
     let text = format!(in rt.alloc(); "{}", WriteUnitsError::NotSorted(12))?;
-    assert_eq!(rt; text.as_str(), "key 12 is not above the one before");
+    assert_eq!(rt; text.as_str(), "key 12 is not after the one before it");
     Ok(())
 }

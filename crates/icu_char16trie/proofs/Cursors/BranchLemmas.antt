@@ -2,14 +2,14 @@
 use Rattle.std.proofs.Common.{◌≡◌, ◌≢◌, ℕ, suc, zero, ◌+◌, ◌-◌, ◌/◌, ◌<◌, ◌≤◌, ltb, ◌==◌, if◌then◌else◌, List, slice_get, Option, Some, None, refl, ap, ◌∙◌, sym, subst, arith, ⊎_elim}
 use Rattle.std.proofs.lemmas.Bool.{cases_lt, cases_eq}
 use Rattle.std.proofs.lemmas.Option.{none-some}
-use Rattle.icu_char16trie.specs.UnitCells.{after, delta, landing}
+use Rattle.icu_char16trie.specs.UnitNumbers.{after, delta, landing}
 use Rattle.icu_char16trie.specs.UnitSteps.{half_of, small_part, entry_at, entry_target, target_in}
 use Rattle.icu_char16trie.specs.UnitMaps.{Lists, last, here, later, Leads, listed, lower, upper}
 use Rattle.icu_char16trie.specs.declared.cells.Number.{Number}
 use Rattle.icu_char16trie.specs.declared.node.Branch.{Branch}
 use Rattle.icu_char16trie.specs.declared.node.Target.{Target}
 use Rattle.icu_char16trie.specs.declared.node.Target.TheVariants.{Node}
-use Rattle.icu_char16trie.proofs.UnitLemmas.{small_part-half, small_part-small, small_part-none, small_part-on, target_in-found, target_in-on, if_eq, if_not_eq, if_ltb, if_not_ltb}
+use Rattle.icu_char16trie.proofs.Cursors.SearchLemmas.{small_part-half, small_part-small, small_part-none, small_part-on, target_in-found, target_in-on, if_eq, if_not_eq, if_ltb, if_not_ltb}
 
 pub after-some : {A B : Type 0} (o : Option A) (f : A → Option B) (y : B) → after o f ≡ Some y → (x : A) × (o ≡ Some x) × (f x ≡ Some y)
 after-some None f y e = absurd (none-some y e)

@@ -1,6 +1,6 @@
 -- The searches within a branch, one step at a time.
 use Rattle.std.proofs.Common.{◌≡◌, ℕ, ◌<◌, ◌≤◌, ltb, suc, zero, ◌+◌, ◌-◌, leb, ◌==◌, if◌then◌else◌, List, slice_get, Some, None, refl, ap, ◌∙◌, sym, arith}
-use Rattle.icu_char16trie.specs.UnitCells.{after}
+use Rattle.icu_char16trie.specs.UnitNumbers.{after}
 use Rattle.icu_char16trie.specs.UnitSteps.{half_of, small_part, entry_at, entry_target, target_in}
 use Rattle.icu_char16trie.specs.declared.node.Branch.{Branch}
 use Rattle.icu_char16trie.specs.declared.node.Entry.{Entry}

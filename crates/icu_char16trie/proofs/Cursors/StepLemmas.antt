@@ -3,9 +3,9 @@ use Rattle.std.proofs.Common.{◌≡◌, ◌≢◌, ℕ, ℤ, ◌+◌, ◌-◌, 
 use Rattle.std.specs.Int.{cast_signed, w32}
 use Rattle.std.proofs.lemmas.Bool.{cases_lt, cases_eq}
 use Rattle.std.proofs.lemmas.Option.{none-some}
-use Rattle.icu_char16trie.specs.UnitCells.{after, final_number, intermediate_number}
+use Rattle.icu_char16trie.specs.UnitNumbers.{after, final_number, intermediate_number}
 use Rattle.icu_char16trie.specs.UnitSteps.{small_part, opened, ended, passed, begun, arrive_at, reached, matched, branched, step}
-use Rattle.icu_char16trie.specs.UnitMaps.{Leads, IsNode, final, valued, bare, at_node, behind, Spells, ends, goes_on, run_on, run_out, branch_value, branch_node, HasValue}
+use Rattle.icu_char16trie.specs.UnitMaps.{Leads, IsNode, final, valued, bare, at_node, at_state, MapsKey, ends, goes_on, run_on, run_out, branch_value, branch_node, HasValue}
 use Rattle.icu_char16trie.specs.declared.cells.Number.{Number}
 use Rattle.icu_char16trie.specs.declared.node.Branch.{Branch}
 use Rattle.icu_char16trie.specs.declared.node.Match.{Match}
@@ -14,18 +14,18 @@ use Rattle.icu_char16trie.specs.declared.node.Target.TheVariants.{Value, Node}
 use Rattle.icu_char16trie.specs.declared.node.State.{State}
 use Rattle.icu_char16trie.specs.declared.node.State.TheVariants as state
 use Rattle.icu_char16trie.specs.declared.node.Arrival.{Arrival}
-use Rattle.icu_char16trie.proofs.UnitLemmas.{if_eq, if_not_eq, if_leb, if_not_leb}
-use Rattle.icu_char16trie.proofs.UnitBranches.{after-some, some-same, found_in, leads_complete, leads_sound}
+use Rattle.icu_char16trie.proofs.Cursors.SearchLemmas.{if_eq, if_not_eq, if_leb, if_not_leb}
+use Rattle.icu_char16trie.proofs.Cursors.BranchLemmas.{after-some, some-same, found_in, leads_complete, leads_sound}
 
 -- the key and its value are spelled by what a unit led to
 abbrev pub Says : List ℕ → Option Arrival → List ℕ → ℤ → Type 0
 Says units None key number = ⊥
-Says units (Some arrived) key number = ((key ≡ []) × HasValue arrived.answer number) ⊎ Spells units (behind arrived.state) key number
+Says units (Some arrived) key number = ((key ≡ []) × HasValue arrived.answer number) ⊎ MapsKey units (at_state arrived.state) key number
 
-pub behind_key : (units : List ℕ) (next : State) (number : ℤ) → Spells units (behind next) [] number → ⊥
+pub behind_key : (units : List ℕ) (next : State) (number : ℤ) → MapsKey units (at_state next) [] number → ⊥
 behind_key units next number h = elim h [ ]
 
-pub stopped_none : (units : List ℕ) (key : List ℕ) (number : ℤ) → Spells units (behind state.Stopped) key number → ⊥
+pub stopped_none : (units : List ℕ) (key : List ℕ) (number : ℤ) → MapsKey units (at_state state.Stopped) key number → ⊥
 stopped_none units key number h = elim h [ ]
 
 abbrev final_at : List ℕ → ℕ → ℕ → Option Arrival
@@ -98,25 +98,25 @@ valued-says : (units : List ℕ) (value : ℕ) (next : Option State) → Says un
 valued-says units value None = inl (refl, refl)
 valued-says units value (Some next) = inl (refl, refl)
 
-going-says : (units : List ℕ) (value : Option ℕ) (next : State) (key : List ℕ) (number : ℤ) → Spells units (behind next) key number
+going-says : (units : List ℕ) (value : Option ℕ) (next : State) (key : List ℕ) (number : ℤ) → MapsKey units (at_state next) key number
     → Says units (Some (arrived value (Some next))) key number
 going-says units None next key number rest = inr rest
 going-says units (Some value) next key number rest = inr rest
 
-pub node_forth : (units : List ℕ) {place : ℕ} {key : List ℕ} {number : ℤ} → Spells units (at_node place) key number → Says units (arrive_at units place) key number
+pub node_forth : (units : List ℕ) {place : ℕ} {key : List ℕ} {number : ℤ} → MapsKey units (at_node place) key number → Says units (arrive_at units place) key number
 node_forth units (ends place value next node) =
     subst (λ o. Says units o [] (cast_signed w32 value)) (sym (node-is units node)) (valued-says units value next)
 node_forth units (goes_on place value next key number node rest) =
     subst (λ o. Says units o key number) (sym (node-is units node)) (going-says units value next key number rest)
 
 pub ends-here : (units : List ℕ) (place value : ℕ) (next : Option State) (key : List ℕ) (number : ℤ) → IsNode units place (Some value) next
-    → (key ≡ []) × (cast_signed w32 value ≡ number) → Spells units (at_node place) key number
+    → (key ≡ []) × (cast_signed w32 value ≡ number) → MapsKey units (at_node place) key number
 ends-here units place value next key number node h =
-    subst (λ key. Spells units (at_node place) key number) (sym h.0)
-    (subst (λ number. Spells units (at_node place) [] number) h.1 (ends place value next node))
+    subst (λ key. MapsKey units (at_node place) key number) (sym h.0)
+    (subst (λ number. MapsKey units (at_node place) [] number) h.1 (ends place value next node))
 
 arrived-spells : (units : List ℕ) (place : ℕ) (value : Option ℕ) (next : Option State) (key : List ℕ) (number : ℤ) → IsNode units place value next
-    → Says units (Some (arrived value next)) key number → Spells units (at_node place) key number
+    → Says units (Some (arrived value next)) key number → MapsKey units (at_node place) key number
 arrived-spells units place (Some value) None key number node h =
     ⊎_elim (λ here. ends-here units place value None key number node here) (λ rest. absurd (stopped_none units key number rest)) h
 arrived-spells units place (Some value) (Some next) key number node h =
@@ -126,7 +126,7 @@ arrived-spells units place None (Some next) key number node h =
 arrived-spells units place None None key number node h = elim node [ ]
 
 node_back : (units : List ℕ) (place : ℕ) (key : List ℕ) (number : ℤ) (a : Arrival) → arrive_at units place ≡ Some a → Says units (Some a) key number
-    → Spells units (at_node place) key number
+    → MapsKey units (at_node place) key number
 node_back units place key number a e h =
     let node = node-inverse units place a e in
     arrived-spells units place node.0 node.1 key number node.2 (subst (λ a. Says units (Some a) key number) (sym node.3) h)
@@ -152,7 +152,7 @@ match_at units run unit expected = if expected == unit then run_at units run els
 run-is : (units : List ℕ) (run : Match) (unit : ℕ) → slice_get units run.place ≡ Some unit → matched units run unit ≡ run_at units run
 run-is units run unit e = ap (λ found. after found (match_at units run unit)) e ∙ if_eq unit unit (run_at units run) None refl
 
-pub step_forth : (units : List ℕ) {next : State} {unit : ℕ} {key : List ℕ} {number : ℤ} → Spells units (behind next) (unit ∷ key) number → Says units (step units next unit) key number
+pub step_forth : (units : List ℕ) {next : State} {unit : ℕ} {key : List ℕ} {number : ℤ} → MapsKey units (at_state next) (unit ∷ key) number → Says units (step units next unit) key number
 step_forth units (run_on run unit key number e more rest) =
     let go : State = state.Match (record { left = run.left - 1; place = run.place + 1 }) in
     subst (λ o. Says units o key number)
@@ -171,7 +171,7 @@ says-some units None key number h = absurd h
 says-some units (Some a) key number h = (a, refl, h)
 
 match_back : (units : List ℕ) (run : Match) (unit : ℕ) (key : List ℕ) (number : ℤ) (a : Arrival) → matched units run unit ≡ Some a → Says units (Some a) key number
-    → Spells units (behind (state.Match run)) (unit ∷ key) number
+    → MapsKey units (at_state (state.Match run)) (unit ∷ key) number
 match_back units run unit key number a e h =
     let go : State = state.Match (record { left = run.left - 1; place = run.place + 1 }) in
     let found = after-some (slice_get units run.place) (match_at units run unit) a e in
@@ -192,22 +192,22 @@ match_back units run unit key number a e h =
     (cases_eq found.0 unit)
 
 target_back : (units : List ℕ) (branch : Branch) (unit : ℕ) (target : Target) (key : List ℕ) (number : ℤ) (a : Arrival) → Leads units branch unit target
-    → reached units target ≡ Some a → Says units (Some a) key number → Spells units (behind (state.Branch branch)) (unit ∷ key) number
+    → reached units target ≡ Some a → Says units (Some a) key number → MapsKey units (at_state (state.Branch branch)) (unit ∷ key) number
 target_back units branch unit (Value value) key number a leads e h =
     ⊎_elim
-    (λ here. subst (λ key. Spells units (behind (state.Branch branch)) (unit ∷ key) number) (sym here.0)
-    (subst (λ number. Spells units (behind (state.Branch branch)) (unit ∷ []) number) here.1 (branch_value branch unit value leads)))
+    (λ here. subst (λ key. MapsKey units (at_state (state.Branch branch)) (unit ∷ key) number) (sym here.0)
+    (subst (λ number. MapsKey units (at_state (state.Branch branch)) (unit ∷ []) number) here.1 (branch_value branch unit value leads)))
     (λ rest. absurd (stopped_none units key number rest))
     (subst (λ a. Says units (Some a) key number) (sym (some-same (ended value) a e)) h)
 target_back units branch unit (Node place) key number a leads e h = branch_node branch unit place key number leads (node_back units place key number a e h)
 
 branch_back : (units : List ℕ) (branch : Branch) (unit : ℕ) (key : List ℕ) (number : ℤ) (a : Arrival) → branched units branch unit ≡ Some a → Says units (Some a) key number
-    → Spells units (behind (state.Branch branch)) (unit ∷ key) number
+    → MapsKey units (at_state (state.Branch branch)) (unit ∷ key) number
 branch_back units branch unit key number a e h =
     let found = after-some (after (small_part units unit branch.count branch) (found_in units unit)) (reached units) a (sym (branched-is units branch unit) ∙ e) in
     target_back units branch unit found.0 key number a (leads_sound units unit branch.count branch found.0 found.1) found.2 h
 
-pub step_back : (units : List ℕ) (next : State) (unit : ℕ) (key : List ℕ) (number : ℤ) → Says units (step units next unit) key number → Spells units (behind next) (unit ∷ key) number
+pub step_back : (units : List ℕ) (next : State) (unit : ℕ) (key : List ℕ) (number : ℤ) → Says units (step units next unit) key number → MapsKey units (at_state next) (unit ∷ key) number
 step_back units (state.Stopped) unit key number h = absurd h
 step_back units (state.Match run) unit key number h =
     let some = says-some units (matched units run unit) key number h in

@@ -2,19 +2,19 @@
 use Rattle.std.proofs.Common.{◌≡◌, ◌∙◌, ◌++◌, ℕ, ℤ, ◌+◌, ◌-◌, ◌/◌, ◌%◌, ◌<◌, Bool, true, false, ltb, if◌then◌else◌, ◌↔◌, ◌⊎◌, List, [], ◌∷◌, length, refl, sym, subst, inl, ⊎_elim, arith}
 use Rattle.icu_char16trie.specs.UnitSteps.{step}
 use Rattle.icu_char16trie.specs.Cursors.{state_of, answer_to, follow, units_of, cursor_units, cursor_state, Follows}
-use Rattle.icu_char16trie.specs.UnitMaps.{behind, Spells, HasValue, IsLast, IsWhole}
+use Rattle.icu_char16trie.specs.UnitMaps.{at_state, MapsKey, HasValue, IsLast, IsWhole}
 use Rattle.icu_char16trie.specs.declared.Char16TrieIterator.{Char16TrieIterator}
 use Rattle.icu_char16trie.specs.declared.node.State.{State}
 use Rattle.icu_char16trie.specs.declared.node.State.TheVariants as state
 use Rattle.icu_char16trie.specs.declared.TrieResult.{TrieResult}
 use Rattle.icu_char16trie.specs.declared.TrieResult.TheVariants.{NoMatch}
-use Rattle.icu_char16trie.proofs.UnitAnswers.{stopped_none}
-use Rattle.icu_char16trie.proofs.UnitSays.{answers}
-use Rattle.icu_char16trie.proofs.UnitKeys.{value_law, longer_law, stopped_of}
-use Rattle.icu_char16trie.proofs.UnitWhole.{whole_of, has_more}
+use Rattle.icu_char16trie.proofs.Cursors.StepLemmas.{stopped_none}
+use Rattle.icu_char16trie.proofs.Cursors.AnswerLemmas.{answers}
+use Rattle.icu_char16trie.proofs.Cursors.UnitAnswerLemmas.{value_law, longer_law, stopped_of}
+use Rattle.icu_char16trie.proofs.Cursors.WholeLemmas.{whole_of, has_more}
 
 pub value_to : (units : List ℕ) (next : State) (unit : ℕ) (rest : List ℕ) (number : ℤ) →
-    HasValue (answer_to units next (unit ∷ rest)) number ↔ Spells units (behind next) (unit ∷ rest) number
+    HasValue (answer_to units next (unit ∷ rest)) number ↔ MapsKey units (at_state next) (unit ∷ rest) number
 value_to units next unit [] number = value_law units next unit number
 value_to units next unit (more ∷ rest) number =
     let following = value_to units (state_of (step units next unit)) more rest number in
@@ -22,7 +22,7 @@ value_to units next unit (more ∷ rest) number =
     ((λ h. now.0 (following.0 h)), (λ h. following.1 (now.1 h)))
 
 pub longer_to : (units : List ℕ) (next : State) (unit : ℕ) (rest : List ℕ) (more : ℕ) (key : List ℕ) (number : ℤ) →
-    Spells units (behind (follow units next (unit ∷ rest))) (more ∷ key) number ↔ Spells units (behind next) ((unit ∷ rest) ++ (more ∷ key)) number
+    MapsKey units (at_state (follow units next (unit ∷ rest))) (more ∷ key) number ↔ MapsKey units (at_state next) ((unit ∷ rest) ++ (more ∷ key)) number
 longer_to units next unit [] more key number = longer_law units next unit more key number
 longer_to units next unit (second ∷ rest) more key number =
     let following = longer_to units (state_of (step units next unit)) second rest more key number in
@@ -37,8 +37,8 @@ stopped-last : (units : List ℕ) (unit : ℕ) (rest : List ℕ) → IsLast (ans
 stopped-last units unit [] = tt
 stopped-last units unit (second ∷ rest) = stopped-last units second rest
 
-whole_to : (units : List ℕ) (next : State) (unit : ℕ) (rest : List ℕ) → IsWhole units (behind next)
-    → IsLast (answer_to units next (unit ∷ rest)) ⊎ IsWhole units (behind (follow units next (unit ∷ rest)))
+whole_to : (units : List ℕ) (next : State) (unit : ℕ) (rest : List ℕ) → IsWhole units (at_state next)
+    → IsLast (answer_to units next (unit ∷ rest)) ⊎ IsWhole units (at_state (follow units next (unit ∷ rest)))
 whole_to units next unit [] whole = whole_of units next unit (step units next unit) refl whole
 whole_to units next unit (second ∷ rest) whole =
     ⊎_elim
@@ -65,24 +65,24 @@ follows_of before [] answer after some same found stands = absurd (omega (arith,
 follows_of before (unit ∷ rest) answer after some same found stands =
     let units = cursor_units before in
     let from = cursor_state before in
-    let value : (number : ℤ) → HasValue answer number ↔ Spells units (behind from) (unit ∷ rest) number =
-    λ number. subst (λ answer. HasValue answer number ↔ Spells units (behind from) (unit ∷ rest) number) (sym found) (value_to units from unit rest number) in
-    let longer : (more : ℕ) (key : List ℕ) (number : ℤ) → Spells (cursor_units after) (behind (cursor_state after)) (more ∷ key) number ↔ Spells units (behind from) ((unit ∷ rest) ++ (more ∷ key)) number =
-    λ more key number. subst (λ read. Spells read (behind (cursor_state after)) (more ∷ key) number ↔ Spells units (behind from) ((unit ∷ rest) ++ (more ∷ key)) number) (sym same)
-    (subst (λ state. Spells units (behind state) (more ∷ key) number ↔ Spells units (behind from) ((unit ∷ rest) ++ (more ∷ key)) number) (sym stands) (longer_to units from unit rest more key number)) in
+    let value : (number : ℤ) → HasValue answer number ↔ MapsKey units (at_state from) (unit ∷ rest) number =
+    λ number. subst (λ answer. HasValue answer number ↔ MapsKey units (at_state from) (unit ∷ rest) number) (sym found) (value_to units from unit rest number) in
+    let longer : (more : ℕ) (key : List ℕ) (number : ℤ) → MapsKey (cursor_units after) (at_state (cursor_state after)) (more ∷ key) number ↔ MapsKey units (at_state from) ((unit ∷ rest) ++ (more ∷ key)) number =
+    λ more key number. subst (λ read. MapsKey read (at_state (cursor_state after)) (more ∷ key) number ↔ MapsKey units (at_state from) ((unit ∷ rest) ++ (more ∷ key)) number) (sym same)
+    (subst (λ state. MapsKey units (at_state state) (more ∷ key) number ↔ MapsKey units (at_state from) ((unit ∷ rest) ++ (more ∷ key)) number) (sym stands) (longer_to units from unit rest more key number)) in
     let stops : IsLast answer → cursor_state after ≡ state.Stopped = λ last. stands ∙ stopped_to units from unit rest (subst IsLast found last) in
-    let last : IsLast answer → (key : List ℕ) (number : ℤ) → Spells (cursor_units after) (behind (cursor_state after)) key number → ⊥ =
-    λ last key number h. stopped_none (cursor_units after) key number (subst (λ state. Spells (cursor_units after) (behind state) key number) (stops last) h) in
-    let whole : IsWhole units (behind from) → IsLast answer ⊎ IsWhole (cursor_units after) (behind (cursor_state after)) =
-    λ whole. subst (λ read. IsLast answer ⊎ IsWhole read (behind (cursor_state after))) (sym same) (subst (λ answer. IsLast answer ⊎ IsWhole units (behind (cursor_state after))) (sym found)
-    (subst (λ state. IsLast (answer_to units from (unit ∷ rest)) ⊎ IsWhole units (behind state)) (sym stands) (whole_to units from unit rest whole))) in
-    let more : IsWhole units (behind from) → (IsLast answer → ⊥) → (more : ℕ) × (key : List ℕ) × (number : ℤ) × Spells (cursor_units after) (behind (cursor_state after)) (more ∷ key) number =
+    let last : IsLast answer → (key : List ℕ) (number : ℤ) → MapsKey (cursor_units after) (at_state (cursor_state after)) key number → ⊥ =
+    λ last key number h. stopped_none (cursor_units after) key number (subst (λ state. MapsKey (cursor_units after) (at_state state) key number) (stops last) h) in
+    let whole : IsWhole units (at_state from) → IsLast answer ⊎ IsWhole (cursor_units after) (at_state (cursor_state after)) =
+    λ whole. subst (λ read. IsLast answer ⊎ IsWhole read (at_state (cursor_state after))) (sym same) (subst (λ answer. IsLast answer ⊎ IsWhole units (at_state (cursor_state after))) (sym found)
+    (subst (λ state. IsLast (answer_to units from (unit ∷ rest)) ⊎ IsWhole units (at_state state)) (sym stands) (whole_to units from unit rest whole))) in
+    let more : IsWhole units (at_state from) → (IsLast answer → ⊥) → (more : ℕ) × (key : List ℕ) × (number : ℤ) × MapsKey (cursor_units after) (at_state (cursor_state after)) (more ∷ key) number =
     λ w unlast. ⊎_elim (λ last. absurd (unlast last)) (λ still. has_more (cursor_units after) (cursor_state after) still) (whole w) in
     record {
       units = same;
       found = found;
       stands = stands;
-      says = λ w. answers (Spells units (behind from)) (Spells (cursor_units after) (behind (cursor_state after))) (unit ∷ rest) longer answer value (more w) last;
+      says = λ w. answers (MapsKey units (at_state from)) (MapsKey (cursor_units after) (at_state (cursor_state after))) (unit ∷ rest) longer answer value (more w) last;
       value = value;
       longer = longer;
       whole = whole;

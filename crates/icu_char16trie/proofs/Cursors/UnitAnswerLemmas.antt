@@ -1,15 +1,15 @@
 -- What a cursor answers to a unit, by the keys that units spell.
 use Rattle.std.proofs.Common.{◌≡◌, ℕ, ℤ, ◌+◌, ◌-◌, ◌%◌, Bool, true, false, leb, ◌==◌, if◌then◌else◌, ◌↔◌, List, [], ◌∷◌, length, slice_get, Option, Some, None, refl, ap, subst, arith, inl, inr, ⊎_elim}
-use Rattle.icu_char16trie.specs.UnitCells.{after, final_number, intermediate_number}
+use Rattle.icu_char16trie.specs.UnitNumbers.{after, final_number, intermediate_number}
 use Rattle.icu_char16trie.specs.UnitSteps.{small_part, target_in, opened, ended, passed, begun, arrive_at, reached, step}
 use Rattle.icu_char16trie.specs.Cursors.{answer_of, state_of}
-use Rattle.icu_char16trie.specs.UnitMaps.{behind, Spells, HasValue, IsLast}
+use Rattle.icu_char16trie.specs.UnitMaps.{at_state, MapsKey, HasValue, IsLast}
 use Rattle.icu_char16trie.specs.declared.node.Target.{Target}
 use Rattle.icu_char16trie.specs.declared.node.Target.TheVariants.{Value, Node}
 use Rattle.icu_char16trie.specs.declared.node.State.{State}
 use Rattle.icu_char16trie.specs.declared.node.State.TheVariants as state
 use Rattle.icu_char16trie.specs.declared.node.Arrival.{Arrival}
-use Rattle.icu_char16trie.proofs.UnitAnswers.{Says, behind_key, stopped_none, step_forth, step_back}
+use Rattle.icu_char16trie.proofs.Cursors.StepLemmas.{Says, behind_key, stopped_none, step_forth, step_back}
 
 cons-not-empty : (unit : ℕ) (key : List ℕ) → unit ∷ key ≡ [] → ⊥
 cons-not-empty unit key e = omega (arith, ap length e)
@@ -23,23 +23,23 @@ says-valued units None number h = absurd h
 says-valued units (Some a) number h = ⊎_elim (λ here. here.1) (λ rest. absurd (behind_key units a.state number rest)) h
 
 pub value_law : (units : List ℕ) (next : State) (unit : ℕ) (number : ℤ) →
-    HasValue (answer_of (step units next unit)) number ↔ Spells units (behind next) (unit ∷ []) number
+    HasValue (answer_of (step units next unit)) number ↔ MapsKey units (at_state next) (unit ∷ []) number
 value_law units next unit number = (
   (λ h. step_back units next unit [] number (valued-says units (step units next unit) number h)),
   (λ h. says-valued units (step units next unit) number (step_forth units h)),
 )
 
-spelled-says : (units : List ℕ) (o : Option Arrival) (key : List ℕ) (number : ℤ) → Spells units (behind (state_of o)) key number → Says units o key number
+spelled-says : (units : List ℕ) (o : Option Arrival) (key : List ℕ) (number : ℤ) → MapsKey units (at_state (state_of o)) key number → Says units o key number
 spelled-says units None key number h = absurd (stopped_none units key number h)
 spelled-says units (Some a) key number h = inr h
 
 says-spelled : (units : List ℕ) (o : Option Arrival) (unit : ℕ) (key : List ℕ) (number : ℤ) → Says units o (unit ∷ key) number
-    → Spells units (behind (state_of o)) (unit ∷ key) number
+    → MapsKey units (at_state (state_of o)) (unit ∷ key) number
 says-spelled units None unit key number h = absurd h
 says-spelled units (Some a) unit key number h = ⊎_elim (λ here. absurd (cons-not-empty unit key here.0)) (λ rest. rest) h
 
 pub longer_law : (units : List ℕ) (next : State) (unit more : ℕ) (key : List ℕ) (number : ℤ) →
-    Spells units (behind (state_of (step units next unit))) (more ∷ key) number ↔ Spells units (behind next) (unit ∷ more ∷ key) number
+    MapsKey units (at_state (state_of (step units next unit))) (more ∷ key) number ↔ MapsKey units (at_state next) (unit ∷ more ∷ key) number
 longer_law units next unit more key number = (
   (λ h. step_back units next unit (more ∷ key) number (spelled-says units (step units next unit) (more ∷ key) number h)),
   (λ h. says-spelled units (step units next unit) more key number (step_forth units h)),

@@ -4,14 +4,14 @@ use Rattle.std.proofs.lemmas.Option.{none-some}
 use Rattle.std.proofs.Common.{length-append}
 use Rattle.icu_char16trie.specs.UnitSteps.{start, step}
 use Rattle.icu_char16trie.specs.Cursors.{state_of, answer_to, follow, answered, value_of_key, cursor_units, cursor_state, Follows}
-use Rattle.icu_char16trie.specs.UnitMaps.{behind, Spells, HasValue}
+use Rattle.icu_char16trie.specs.UnitMaps.{at_state, MapsKey, HasValue}
 use Rattle.icu_char16trie.specs.declared.Char16TrieIterator.{Char16TrieIterator}
 use Rattle.icu_char16trie.specs.declared.node.State.{State}
 use Rattle.icu_char16trie.specs.declared.TrieResult.{TrieResult}
 use Rattle.icu_char16trie.specs.declared.TrieResult.TheVariants.{NoMatch, NoValue, Intermediate, FinalValue}
-use Rattle.icu_char16trie.proofs.UnitBranches.{some-same}
-use Rattle.icu_char16trie.proofs.UnitAnswers.{behind_key}
-use Rattle.icu_char16trie.proofs.UnitTexts.{value_to, follows_of}
+use Rattle.icu_char16trie.proofs.Cursors.BranchLemmas.{some-same}
+use Rattle.icu_char16trie.proofs.Cursors.StepLemmas.{behind_key}
+use Rattle.icu_char16trie.proofs.Cursors.TextAnswerLemmas.{value_to, follows_of}
 
 has-answered : (answer : TrieResult) (number : ℤ) → (answered answer ≡ Some number) ↔ HasValue answer number
 has-answered NoMatch number = ((λ e. none-some number e), (λ h. absurd h))
@@ -19,7 +19,7 @@ has-answered NoValue number = ((λ e. none-some number e), (λ h. absurd h))
 has-answered (Intermediate value) number = ((λ e. some-same value number e), (λ h. ap (λ v. Some v) h))
 has-answered (FinalValue value) number = ((λ e. some-same value number e), (λ h. ap (λ v. Some v) h))
 
-pub value_spelled : (units key : List ℕ) (number : ℤ) → (value_of_key units key ≡ Some number) ↔ Spells units (behind (start units)) key number
+pub value_spelled : (units key : List ℕ) (number : ℤ) → (value_of_key units key ≡ Some number) ↔ MapsKey units (at_state (start units)) key number
 unfolding value_of_key
 value_spelled units [] number = ((λ e. absurd (none-some number e)), (λ h. absurd (behind_key units (start units) number h)))
 value_spelled units (unit ∷ rest) number =

@@ -7,9 +7,9 @@ use Rattle.std.specs.List.{AllByRecursion}
 use Rattle.std.specs.List.Sorted.{IsStrictlySortedBy}
 use Rattle.std.proofs.lemmas.Option.{none-some}
 use Rattle.std.specs.Ordering.{nat_cmp, ordering_then}
-use Rattle.icu_char16trie.specs.UnitCells.{final_number, intermediate_number}
+use Rattle.icu_char16trie.specs.UnitNumbers.{final_number, intermediate_number}
 use Rattle.icu_char16trie.specs.UnitSteps.{entry_target, opened}
-use Rattle.icu_char16trie.specs.UnitMaps.{at_node, behind, Spells, ends, goes_on, run_on, run_out, branch_value, branch_node, Leads, listed, Lists, IsNode, final, valued, bare}
+use Rattle.icu_char16trie.specs.UnitMaps.{at_node, at_state, MapsKey, ends, goes_on, run_on, run_out, branch_value, branch_node, Leads, listed, Lists, IsNode, final, valued, bare}
 use Rattle.icu_char16trie.specs.UnitGrammar.{Part, spot, within, IsSound, sound_end, sound_node, sound_run, sound_run_end, sound_branch, sound_last, sound_value, sound_jump, sound_halves}
 use Rattle.icu_char16trie.specs.declared.cells.Number.{Number}
 use Rattle.icu_char16trie.specs.declared.node.Branch.{Branch}
@@ -18,10 +18,10 @@ use Rattle.icu_char16trie.specs.declared.node.Target.{Target}
 use Rattle.icu_char16trie.specs.declared.node.Target.TheVariants.{Value, Node}
 use Rattle.icu_char16trie.specs.declared.node.State.{State}
 use Rattle.icu_char16trie.specs.declared.node.State.TheVariants as state
-use Rattle.icu_char16trie.proofs.UnitBranches.{some-same}
-use Rattle.icu_char16trie.proofs.UnitGrammars.{fewer, last_target, entry_found, leads_listed, leads_half}
+use Rattle.icu_char16trie.proofs.Cursors.BranchLemmas.{some-same}
+use Rattle.icu_char16trie.proofs.Grammar.SoundLemmas.{fewer, last_target, entry_found, leads_listed, leads_half}
 use Rattle.icu_char16trie.specs.UnitPairs.{Has}
-use Rattle.icu_char16trie.proofs.UnitListing.{Pair, behind_unit, with_value, listing, has-left, has-right, has-behind}
+use Rattle.icu_char16trie.proofs.Grammar.ListingLemmas.{Pair, behind_unit, with_value, listing, has-left, has-right, has-behind}
 
 -- a node has one value, and one thing follows it
 pub node_unique : (units : List ℕ) {place : ℕ} {value other : Option ℕ} {next following : Option State} → IsNode units place value next → IsNode units place other following
@@ -52,57 +52,57 @@ node_unique units (bare place lead next e low opens) (bare there lead' next' e' 
     let same : lead ≡ lead' = some-same lead lead' (sym e ∙ e') in
     (refl, sym opens ∙ ap (λ lead. opened units lead (place + 1)) same ∙ opens')
 
--- a key at a node ends there, or goes on behind it
+-- a key at a node ends there, or goes on after it
 abbrev AtNode : List ℕ → Option ℕ → Option State → List ℕ → ℤ → Type 0
 AtNode units value next key number =
     (([] ≡ key) × (v : ℕ) × (value ≡ Some v) × (cast_signed w32 v ≡ number))
-    ⊎ ((following : State) × (next ≡ Some following) × Spells units (behind following) key number)
+    ⊎ ((following : State) × (next ≡ Some following) × MapsKey units (at_state following) key number)
 
-at-node : (units : List ℕ) {place : ℕ} {value : Option ℕ} {next : Option State} {key : List ℕ} {number : ℤ} → Spells units (at_node place) key number
+at-node : (units : List ℕ) {place : ℕ} {value : Option ℕ} {next : Option State} {key : List ℕ} {number : ℤ} → MapsKey units (at_node place) key number
     → IsNode units place value next → AtNode units value next key number
 at-node units (ends place v following node) is = inl (refl, v, (node_unique units is node).0, refl)
 at-node units (goes_on place v following key number node rest) is = inr (following, (node_unique units is node).1, rest)
 
 module _ (units : List ℕ) (run : Match) (unit : ℕ) (is : slice_get units run.place ≡ Some unit) where
-  run-goes : {key : List ℕ} {number : ℤ} → Spells units (behind (state.Match run)) key number → 1 < run.left
-      → (rest : List ℕ) × (key ≡ unit ∷ rest) × Spells units (behind (state.Match (record { left = run.left - 1; place = run.place + 1 }))) rest number
+  run-goes : {key : List ℕ} {number : ℤ} → MapsKey units (at_state (state.Match run)) key number → 1 < run.left
+      → (rest : List ℕ) × (key ≡ unit ∷ rest) × MapsKey units (at_state (state.Match (record { left = run.left - 1; place = run.place + 1 }))) rest number
   run-goes (run_on r u key number e more rest) many = (key, ap (λ u. u ∷ key) (some-same u unit (sym e ∙ is)), rest)
   run-goes (run_out r u key number e few rest) many = absurd (omega (arith, few, many))
 
-  run-ends : {key : List ℕ} {number : ℤ} → Spells units (behind (state.Match run)) key number → run.left ≤ 1
-      → (rest : List ℕ) × (key ≡ unit ∷ rest) × Spells units (at_node (run.place + 1)) rest number
+  run-ends : {key : List ℕ} {number : ℤ} → MapsKey units (at_state (state.Match run)) key number → run.left ≤ 1
+      → (rest : List ℕ) × (key ≡ unit ∷ rest) × MapsKey units (at_node (run.place + 1)) rest number
   run-ends (run_on r u key number e more rest) one = absurd (omega (arith, more, one))
   run-ends (run_out r u key number e few rest) one = (key, ap (λ u. u ∷ key) (some-same u unit (sym e ∙ is)), rest)
 
--- what a unit leads to is listed behind it
+-- what a unit leads to is listed after it
 abbrev Covers : List ℕ → List Pair → ℕ → Target → Type 0
 Covers units pairs unit (Value value) = Has pairs (unit ∷ []) (cast_signed w32 value)
-Covers units pairs unit (Node place) = (key : List ℕ) (number : ℤ) → Spells units (at_node place) key number → Has pairs (unit ∷ key) number
+Covers units pairs unit (Node place) = (key : List ℕ) (number : ℤ) → MapsKey units (at_node place) key number → Has pairs (unit ∷ key) number
 
 covers-more : (units : List ℕ) (xs ys : List Pair) (unit : ℕ) (target : Target) → ((key : List ℕ) (number : ℤ) → Has xs key number → Has ys key number)
     → Covers units xs unit target → Covers units ys unit target
 covers-more units xs ys unit (Value value) f h = f (unit ∷ []) (cast_signed w32 value) h
 covers-more units xs ys unit (Node place) f h = λ key number k. f (unit ∷ key) number (h key number k)
 
-covers-spelled : (units : List ℕ) (pairs : List Pair) {branch : Branch} {key : List ℕ} {number : ℤ} → Spells units (behind (state.Branch branch)) key number
+covers-spelled : (units : List ℕ) (pairs : List Pair) {branch : Branch} {key : List ℕ} {number : ℤ} → MapsKey units (at_state (state.Branch branch)) key number
     → ((unit : ℕ) (target : Target) → Leads units branch unit target → Covers units pairs unit target) → Has pairs key number
 covers-spelled units pairs (branch_value branch unit value leads) f = f unit (Value value) leads
 covers-spelled units pairs (branch_node branch unit place key number leads rest) f = f unit (Node place) leads key number rest
 
 -- all that is spelled in a part is listed
 abbrev ListsAll : List ℕ → Part → List Pair → Type 0
-ListsAll units (spot s) pairs = (key : List ℕ) (number : ℤ) → Spells units s key number → Has pairs key number
+ListsAll units (spot s) pairs = (key : List ℕ) (number : ℤ) → MapsKey units s key number → Has pairs key number
 ListsAll units (within branch low high) pairs = (unit : ℕ) (target : Target) → Leads units branch unit target → Covers units pairs unit target
 
 valued-listed : (units : List ℕ) (value : Option ℕ) (next : State) (pairs : List Pair) (key : List ℕ) (number : ℤ)
-    → ((key : List ℕ) (number : ℤ) → Spells units (behind next) key number → Has pairs key number)
+    → ((key : List ℕ) (number : ℤ) → MapsKey units (at_state next) key number → Has pairs key number)
     → AtNode units value (Some next) key number → Has (with_value value pairs) key number
 valued-listed units None next pairs key number f h =
-    ⊎_elim (λ here. absurd (none-some here.1 here.2)) (λ on. f key number (subst (λ next. Spells units (behind next) key number) (sym (some-same next on.0 on.1)) on.2)) h
+    ⊎_elim (λ here. absurd (none-some here.1 here.2)) (λ on. f key number (subst (λ next. MapsKey units (at_state next) key number) (sym (some-same next on.0 on.1)) on.2)) h
 valued-listed units (Some value) next pairs key number f h =
     ⊎_elim
     (λ here. inl (here.0, ap (λ v. cast_signed w32 v) (some-same value here.1 here.2) ∙ here.3))
-    (λ on. inr (f key number (subst (λ next. Spells units (behind next) key number) (sym (some-same next on.0 on.1)) on.2))) h
+    (λ on. inr (f key number (subst (λ next. MapsKey units (at_state next) key number) (sym (some-same next on.0 on.1)) on.2))) h
 
 pub lists_all : (units : List ℕ) {part : Part} (s : IsSound units part) → ListsAll units part (listing units s)
 unfolding listing
@@ -180,7 +180,7 @@ Between low high unit = (low ≤ unit) × (unit < high)
 
 abbrev Begins : Part → List Pair → Type 0
 Begins (spot (at_node place)) pairs = Unit {0}
-Begins (spot (behind next)) pairs = Firsts (λ unit. Unit {0}) pairs
+Begins (spot (at_state next)) pairs = Firsts (λ unit. Unit {0}) pairs
 Begins (within branch low high) pairs = Firsts (Between low high) pairs
 
 begins : (units : List ℕ) {part : Part} (s : IsSound units part) → Begins part (listing units s)

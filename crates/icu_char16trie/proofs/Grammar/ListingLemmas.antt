@@ -2,7 +2,7 @@
 use Rattle.std.proofs.Common.{◌≡◌, ℕ, ℤ, ◌+◌, ◌-◌, ◌/◌, ◌<◌, ◌≤◌, ◌++◌, List, [], ◌∷◌, Option, Some, None, refl, ap, ◌∙◌, sym, subst, arith, inl, inr, ◌⊎◌, ⊎_elim}
 use Rattle.std.specs.Int.{cast_signed, w32}
 use Rattle.icu_char16trie.specs.UnitSteps.{entry_at, entry_target}
-use Rattle.icu_char16trie.specs.UnitMaps.{at_node, behind, Spells, ends, goes_on, run_on, run_out, branch_value, branch_node, Leads, listed, lower, upper, Lists, later, IsNode}
+use Rattle.icu_char16trie.specs.UnitMaps.{at_node, at_state, MapsKey, ends, goes_on, run_on, run_out, branch_value, branch_node, Leads, listed, lower, upper, Lists, later, IsNode}
 use Rattle.icu_char16trie.specs.UnitPairs.{Has}
 use Rattle.icu_char16trie.specs.UnitGrammar.{Part, spot, within, IsSound, sound_end, sound_node, sound_run, sound_run_end, sound_branch, sound_last, sound_value, sound_jump, sound_halves}
 use Rattle.icu_char16trie.specs.declared.node.Branch.{Branch}
@@ -11,8 +11,8 @@ use Rattle.icu_char16trie.specs.declared.node.Target.{Target}
 use Rattle.icu_char16trie.specs.declared.node.Target.TheVariants.{Value, Node}
 use Rattle.icu_char16trie.specs.declared.node.State.{State}
 use Rattle.icu_char16trie.specs.declared.node.State.TheVariants as state
-use Rattle.icu_char16trie.proofs.UnitBranches.{some-same}
-use Rattle.icu_char16trie.proofs.UnitGrammars.{fewer, last_leads, entry_leads, last_target, entry_found, leads_listed, leads_half}
+use Rattle.icu_char16trie.proofs.Cursors.BranchLemmas.{some-same}
+use Rattle.icu_char16trie.proofs.Grammar.SoundLemmas.{fewer, last_leads, entry_leads, last_target, entry_found, leads_listed, leads_half}
 
 abbrev pub Pair : Type 0
 Pair = List ℕ × ℤ
@@ -97,12 +97,12 @@ bounds units (sound_halves branch low high middle place jump many e d lands abov
     (leads_half units middle place jump leads many e d lands)
 
 -- a branch leads as another does, and so spells its keys
-widen : (units : List ℕ) (wide : Branch) {branch : Branch} {key : List ℕ} {number : ℤ} → Spells units (behind (state.Branch branch)) key number
-    → ((unit : ℕ) (target : Target) → Leads units branch unit target → Leads units wide unit target) → Spells units (behind (state.Branch wide)) key number
+widen : (units : List ℕ) (wide : Branch) {branch : Branch} {key : List ℕ} {number : ℤ} → MapsKey units (at_state (state.Branch branch)) key number
+    → ((unit : ℕ) (target : Target) → Leads units branch unit target → Leads units wide unit target) → MapsKey units (at_state (state.Branch wide)) key number
 widen units wide (branch_value branch unit value leads) f = branch_value wide unit value (f unit (Value value) leads)
 widen units wide (branch_node branch unit place key number leads rest) f = branch_node wide unit place key number (f unit (Node place) leads) rest
 
--- behind its first entry a branch leads as what is left of it does
+-- after its first entry a branch leads as what is left of it does
 later-leads : (units : List ℕ) (branch : Branch) (entry : Entry) {high : ℕ} → 1 < branch.count → branch.count ≤ 5 → entry_at units branch.place ≡ Some entry
     → Bounds units (within (fewer branch entry) (entry.unit + 1) high)
     → (unit : ℕ) (target : Target) → Leads units (fewer branch entry) unit target → Leads units branch unit target
@@ -114,16 +114,16 @@ later-leads units branch entry more few e inside unit target leads =
 
 -- what is spelled in a part
 abbrev pub SpelledIn : List ℕ → Part → List ℕ → ℤ → Type 0
-SpelledIn units (spot s) key number = Spells units s key number
-SpelledIn units (within branch low high) key number = Spells units (behind (state.Branch branch)) key number
+SpelledIn units (spot s) key number = MapsKey units s key number
+SpelledIn units (within branch low high) key number = MapsKey units (at_state (state.Branch branch)) key number
 
 value-spelled : (units : List ℕ) (place value : ℕ) (next : Option State) (key : List ℕ) (number : ℤ) → IsNode units place (Some value) next
-    → ([] ≡ key) × (cast_signed w32 value ≡ number) → Spells units (at_node place) key number
+    → ([] ≡ key) × (cast_signed w32 value ≡ number) → MapsKey units (at_node place) key number
 value-spelled units place value next key number node h =
-    subst (λ key. Spells units (at_node place) key number) h.0 (subst (λ number. Spells units (at_node place) [] number) h.1 (ends place value next node))
+    subst (λ key. MapsKey units (at_node place) key number) h.0 (subst (λ number. MapsKey units (at_node place) [] number) h.1 (ends place value next node))
 
 node-spelled : (units : List ℕ) (place : ℕ) (value : Option ℕ) (next : State) (pairs : List Pair) (key : List ℕ) (number : ℤ) → IsNode units place value (Some next)
-    → (Has pairs key number → Spells units (behind next) key number) → Has (with_value value pairs) key number → Spells units (at_node place) key number
+    → (Has pairs key number → MapsKey units (at_state next) key number) → Has (with_value value pairs) key number → MapsKey units (at_node place) key number
 node-spelled units place None next pairs key number node f h = goes_on place None next key number node (f h)
 node-spelled units place (Some value) next pairs key number node f h =
     ⊎_elim (λ here. value-spelled units place value (Some next) key number node here) (λ rest. goes_on place (Some value) next key number node (f rest)) h
@@ -136,19 +136,19 @@ listed_spelled units (sound_node place value next node rest) key number h =
     node-spelled units place value next (listing units rest) key number node (listed_spelled units rest key number) h
 listed_spelled units (sound_run run unit e more rest) key number h =
     let found = behind-has unit (listing units rest) key number h in
-    subst (λ key. Spells units (behind (state.Match run)) key number) (sym found.1) (run_on run unit found.0 number e more (listed_spelled units rest found.0 number found.2))
+    subst (λ key. MapsKey units (at_state (state.Match run)) key number) (sym found.1) (run_on run unit found.0 number e more (listed_spelled units rest found.0 number found.2))
 listed_spelled units (sound_run_end run unit e few rest) key number h =
     let found = behind-has unit (listing units rest) key number h in
-    subst (λ key. Spells units (behind (state.Match run)) key number) (sym found.1) (run_out run unit found.0 number e few (listed_spelled units rest found.0 number found.2))
+    subst (λ key. MapsKey units (at_state (state.Match run)) key number) (sym found.1) (run_out run unit found.0 number e few (listed_spelled units rest found.0 number found.2))
 listed_spelled units (sound_branch branch rest) key number h = listed_spelled units rest key number h
 listed_spelled units (sound_last branch low high unit one e above below rest) key number h =
     let found = behind-has unit (listing units rest) key number h in
-    subst (λ key. Spells units (behind (state.Branch branch)) key number) (sym found.1)
+    subst (λ key. MapsKey units (at_state (state.Branch branch)) key number) (sym found.1)
     (branch_node branch unit (branch.place + 1) found.0 number (last_leads units branch unit one e) (listed_spelled units rest found.0 number found.2))
 listed_spelled units (sound_value branch low high value entry more few e to above below rest) key number h =
     ⊎_elim
-    (λ here. subst (λ key. Spells units (behind (state.Branch branch)) key number) here.0
-    (subst (λ number. Spells units (behind (state.Branch branch)) (entry.unit ∷ []) number) here.1
+    (λ here. subst (λ key. MapsKey units (at_state (state.Branch branch)) key number) here.0
+    (subst (λ number. MapsKey units (at_state (state.Branch branch)) (entry.unit ∷ []) number) here.1
     (branch_value branch entry.unit value (entry_leads units branch entry (Value value) more few e to))))
     (λ others. widen units branch (listed_spelled units rest key number others) (later-leads units branch entry more few e (bounds units rest)))
     h
@@ -156,7 +156,7 @@ listed_spelled units (sound_jump branch low high place entry more few e to above
     ⊎_elim
     (λ (there : Has (behind_unit entry.unit (listing units node)) key number).
     let found = behind-has entry.unit (listing units node) key number there in
-    subst (λ key. Spells units (behind (state.Branch branch)) key number) (sym found.1)
+    subst (λ key. MapsKey units (at_state (state.Branch branch)) key number) (sym found.1)
     (branch_node branch entry.unit place found.0 number (entry_leads units branch entry (Node place) more few e to) (listed_spelled units node found.0 number found.2)))
     (λ (others : Has (listing units rest) key number). widen units branch (listed_spelled units rest key number others) (later-leads units branch entry more few e (bounds units rest)))
     (has-cases (behind_unit entry.unit (listing units node)) (listing units rest) key number h)

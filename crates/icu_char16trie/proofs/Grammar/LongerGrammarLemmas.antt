@@ -1,16 +1,16 @@
--- Units that keep the grammar spell the same with more behind them.
+-- Units that keep the grammar mean the same with more after them.
 use Rattle.std.proofs.Common.{◌≡◌, ◌≢◌, ℕ, ℤ, ◌+◌, ◌++◌, List, [], ◌∷◌, Option, Some, None, refl, ap, ◌∙◌, sym, subst}
 use Rattle.std.specs.Int.{cast_signed, w32}
 use Rattle.icu_char16trie.specs.Cursors.{value_of_key}
-use Rattle.icu_char16trie.specs.UnitMaps.{at_node, Spells}
+use Rattle.icu_char16trie.specs.UnitMaps.{at_node, MapsKey}
 use Rattle.icu_char16trie.specs.UnitPairs.{Has}
 use Rattle.icu_char16trie.specs.UnitGrammar.{Part, spot, IsSound, sound_end, sound_node, sound_run, sound_run_end, sound_branch, sound_last, sound_value, sound_jump, sound_halves, IsUnitTrie, no_units, rooted}
 use Rattle.icu_char16trie.specs.declared.node.Target.TheVariants.{Value, Node}
-use Rattle.icu_char16trie.proofs.UnitListing.{Pair, behind_unit, with_value, listing, listed_spelled}
-use Rattle.icu_char16trie.proofs.UnitListed.{lists_all}
-use Rattle.icu_char16trie.proofs.UnitListings.{start-spells}
-use Rattle.icu_char16trie.proofs.UnitLonger.{get_stays, entry_stays, target_stays, delta_stays, landing_stays, node_stays}
-use Rattle.icu_char16trie.proofs.UnitValues.{value_spelled}
+use Rattle.icu_char16trie.proofs.Grammar.ListingLemmas.{Pair, behind_unit, with_value, listing, listed_spelled}
+use Rattle.icu_char16trie.proofs.Grammar.CompleteListingLemmas.{lists_all}
+use Rattle.icu_char16trie.proofs.Reading.OutcomeLemmas.{start-spells}
+use Rattle.icu_char16trie.proofs.Grammar.LongerStepLemmas.{get_stays, entry_stays, target_stays, delta_stays, landing_stays, node_stays}
+use Rattle.icu_char16trie.proofs.Cursors.ValueLemmas.{value_spelled}
 
 -- a part that keeps the grammar, in more units, with the same keys and values
 pub record IsKept (units : List ℕ) (rule : Part) (pairs : List Pair) : Type 0 where
@@ -61,12 +61,12 @@ module _ (units more : List ℕ) where
   kept_back s = (kept s).sound
 
   -- the first node
-  first_kept : (s : IsSound units (spot (at_node 0))) (key : List ℕ) (number : ℤ) → Spells (units ++ more) (at_node 0) key number → Spells units (at_node 0) key number
+  first_kept : (s : IsSound units (spot (at_node 0))) (key : List ℕ) (number : ℤ) → MapsKey (units ++ more) (at_node 0) key number → MapsKey units (at_node 0) key number
   first_kept s key number h =
       let k = kept s in
       listed_spelled units s key number (subst (λ pairs. Has pairs key number) k.same (lists_all (units ++ more) k.sound key number h))
 
-  first_more : (s : IsSound units (spot (at_node 0))) (key : List ℕ) (number : ℤ) → Spells units (at_node 0) key number → Spells (units ++ more) (at_node 0) key number
+  first_more : (s : IsSound units (spot (at_node 0))) (key : List ℕ) (number : ℤ) → MapsKey units (at_node 0) key number → MapsKey (units ++ more) (at_node 0) key number
   first_more s key number h =
       let k = kept s in
       listed_spelled (units ++ more) k.sound key number (subst (λ pairs. Has pairs key number) (sym k.same) (lists_all units s key number h))

@@ -1,8 +1,8 @@
--- What is read of units is read of them with more behind, too.
+-- What is read of units is read of them with more after them, too.
 use Rattle.std.proofs.Common.{◌≡◌, ℕ, ◌+◌, ◌-◌, ◌*◌, ◌/◌, ◌%◌, ◌^◌, ◌<◌, ◌≤◌, suc, zero, ltb, leb, ◌==◌, Bool, true, false, if◌then◌else◌, ◌++◌, List, [], ◌∷◌, length, slice_get, Option, Some, None, refl, ap, ◌∙◌, sym, arith, ⊎_elim, length-append}
 use Rattle.std.proofs.lemmas.Bool.{cases_lt}
 use Rattle.std.proofs.lemmas.Option.{none-some}
-use Rattle.icu_char16trie.specs.UnitCells.{after, with_unit, two_units, final_number, intermediate_number, delta, landing}
+use Rattle.icu_char16trie.specs.UnitNumbers.{after, with_unit, two_units, final_number, intermediate_number, delta, landing}
 use Rattle.icu_char16trie.specs.UnitSteps.{entry_at, entry_target, opened}
 use Rattle.icu_char16trie.specs.UnitMaps.{IsNode, final, valued, bare}
 use Rattle.icu_char16trie.specs.declared.cells.Number.{Number}
@@ -11,7 +11,7 @@ use Rattle.icu_char16trie.specs.declared.node.Target.{Target}
 use Rattle.icu_char16trie.specs.declared.node.Target.TheVariants.{Value, Node}
 use Rattle.icu_char16trie.specs.declared.node.State.{State}
 use Rattle.icu_char16trie.specs.declared.node.State.TheVariants as state
-use Rattle.icu_char16trie.proofs.UnitLemmas.{if_ltb, if_not_ltb}
+use Rattle.icu_char16trie.proofs.Cursors.SearchLemmas.{if_ltb, if_not_ltb}
 
 -- what is there first is there then
 abbrev pub Stays : {A : Type 0} → Option A → Option A → Type 0

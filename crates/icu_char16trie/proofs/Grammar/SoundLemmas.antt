@@ -1,6 +1,6 @@
 -- Units that keep the grammar: each key leads on, and some key is spelled.
 use Rattle.std.proofs.Common.{◌≡◌, ℕ, ◌+◌, ◌-◌, ◌/◌, ◌<◌, ◌≤◌, List, slice_get, Some, refl, ◌∙◌, sym, subst, arith, inl, inr, ◌⊎◌, ⊎_elim}
-use Rattle.icu_char16trie.specs.UnitCells.{delta, landing}
+use Rattle.icu_char16trie.specs.UnitNumbers.{delta, landing}
 use Rattle.icu_char16trie.specs.UnitSteps.{entry_at, entry_target}
 use Rattle.icu_char16trie.specs.UnitMaps.{Lists, last, here, later, Leads, listed, lower, upper, at_node, IsWhole, whole_end, whole_node, whole_run, whole_run_end, whole_branch}
 use Rattle.icu_char16trie.specs.UnitGrammar.{Part, spot, within, IsSound, sound_end, sound_node, sound_run, sound_run_end, sound_branch, sound_last, sound_value, sound_jump, sound_halves}
@@ -9,9 +9,9 @@ use Rattle.icu_char16trie.specs.declared.node.Branch.{Branch}
 use Rattle.icu_char16trie.specs.declared.node.Entry.{Entry}
 use Rattle.icu_char16trie.specs.declared.node.Target.{Target}
 use Rattle.icu_char16trie.specs.declared.node.Target.TheVariants.{Value, Node}
-use Rattle.icu_char16trie.proofs.UnitBranches.{some-same}
+use Rattle.icu_char16trie.proofs.Cursors.BranchLemmas.{some-same}
 
--- one fewer than so many is so many
+-- a branch without its first entry
 abbrev pub fewer : Branch → Entry → Branch
 fewer branch entry = record { count = branch.count - 1; place = entry.number.end }
 

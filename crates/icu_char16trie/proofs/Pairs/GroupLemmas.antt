@@ -5,7 +5,7 @@ use Rattle.std.proofs.Math.Seq.{take-length}
 use Rattle.std.specs.Option.{MatchOption, IsSome}
 use Rattle.icu_char16trie.specs.UnitPairs.{FirstEnds, Below, ComesFirst, AreSorted, HaveUnits, rests, prefixed, spread, AreGroups, parts, StartsOther, StartsWith, GoesOnOther}
 use Rattle.icu_char16trie.specs.declared.writer.group.Group.{Group}
-use Rattle.icu_char16trie.proofs.UnitPairs.{rests_split, rests_length, sorted_append, longer_append, sorted_behind, prefixed_push}
+use Rattle.icu_char16trie.proofs.Pairs.SortedPairLemmas.{rests_split, rests_length, sorted_append, longer_append, sorted_behind, prefixed_push}
 
 pub groups_bounds : (low high : ℕ) (groups : List (ℕ × List (List ℕ × ℤ))) → AreGroups low high groups → low + length groups ≤ high
 groups_bounds low high [] h = omega (arith, h)
@@ -200,7 +200,7 @@ pub run_parts : (depth n other : ℕ) (pairs : List (Bor (List ℕ) × ℤ)) →
 run_parts depth n other pairs short starts differs unit e =
     let all : GoOn unit (rests depth pairs) = subst (λ pairs. GoOn unit pairs) (sym e) (prefixed_go_on unit (rests (depth + 1) pairs)) in
     let same = with_same unit other (rests depth pairs) starts all in
-    let behind : GoOn unit (rests depth (drop n pairs)) = go_on_behind unit (rests depth (take n pairs)) (rests depth (drop n pairs)) (subst (λ pairs. GoOn unit pairs) (rests_split depth n pairs) all) in
+    let at_state : GoOn unit (rests depth (drop n pairs)) = go_on_behind unit (rests depth (take n pairs)) (rests depth (drop n pairs)) (subst (λ pairs. GoOn unit pairs) (rests_split depth n pairs) all) in
     let l = rests_length depth (drop n pairs) in
     let d = length-drop n pairs in
-    other_not other (rests depth (drop n pairs)) (omega (arith, l, d, short)) differs (subst (λ unit. GoOn unit (rests depth (drop n pairs))) same behind)
+    other_not other (rests depth (drop n pairs)) (omega (arith, l, d, short)) differs (subst (λ unit. GoOn unit (rests depth (drop n pairs))) same at_state)

@@ -6,8 +6,8 @@ use Rattle.std.specs.List.{AllByRecursion, Contains}
 use Rattle.std.specs.List.Sorted.{IsStrictlySortedBy}
 use Rattle.std.specs.Ordering.{nat_cmp}
 use Rattle.icu_char16trie.specs.UnitPairs.{Has}
-use Rattle.icu_char16trie.proofs.UnitListing.{Pair}
-use Rattle.icu_char16trie.proofs.UnitRead.{has_contains, contains_has}
+use Rattle.icu_char16trie.proofs.Grammar.ListingLemmas.{Pair}
+use Rattle.icu_char16trie.proofs.Reading.CompleteReadsLemmas.{has_contains, contains_has}
 
 abbrev keys : List Pair → List (List ℕ)
 keys pairs = map (λ (pair : Pair). pair.0) pairs

@@ -60,7 +60,7 @@ below_longer : (xs ys : List ℕ) → Below xs ys → 0 < length ys
 below_longer xs [] h = absurd h
 below_longer xs (y ∷ ys) h = omega arith
 
--- the keys behind the first of sorted ones are not empty
+-- the keys after the first of sorted ones are not empty
 first_longer : (key : List ℕ) (pairs : List (List ℕ × ℤ)) → ComesFirst key pairs → HaveUnits pairs
 first_longer key [] h = tt
 first_longer key (pair ∷ pairs) h = (below_longer key pair.0 h.0, first_longer key pairs h.1)

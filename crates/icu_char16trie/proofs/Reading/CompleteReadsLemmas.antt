@@ -5,11 +5,11 @@ use Rattle.std.proofs.lemmas.List.Elements.{Contains-append_left, Contains-appen
 use Rattle.std.proofs.lemmas.Option.{none-some}
 use Rattle.std.specs.Int.{cast_signed, w32}
 use Rattle.std.specs.List.{Contains}
-use Rattle.icu_char16trie.specs.UnitMaps.{at_node, behind, IsNode, final, valued, bare}
+use Rattle.icu_char16trie.specs.UnitMaps.{at_node, at_state, IsNode, final, valued, bare}
 use Rattle.icu_char16trie.specs.UnitGrammar.{spot, within, IsSound, sound_end, sound_node, sound_run, sound_run_end, sound_branch, sound_last, sound_value, sound_jump, sound_halves, IsUnitTrie, no_units, rooted}
 use Rattle.icu_char16trie.specs.UnitGrammar.{Part as Rule}
-use Rattle.icu_char16trie.specs.UnitReading.{at_node as node_of, bounded, part_behind, run_on, part_step}
-use Rattle.icu_char16trie.specs.UnitJobs.{Job, extended, onward, noted, HasRoom, jobs_of, Reads, done, on, StopsIn, here, beyond}
+use Rattle.icu_char16trie.specs.UnitPartSteps.{at_node as node_of, bounded, part_for, run_on, part_step}
+use Rattle.icu_char16trie.specs.UnitReadingOrder.{Job, extended, onward, noted, HasRoom, jobs_of, Reads, done, on, StopsIn, here, beyond}
 use Rattle.icu_char16trie.specs.declared.node.Match.{Match}
 use Rattle.icu_char16trie.specs.declared.node.Target.TheVariants.{Value, Node}
 use Rattle.icu_char16trie.specs.declared.node.State.{State}
@@ -18,12 +18,12 @@ use Rattle.icu_char16trie.specs.declared.reader.part.Bounded.{Bounded}
 use Rattle.icu_char16trie.specs.declared.reader.part.Part.{Part}
 use Rattle.icu_char16trie.specs.declared.reader.part.Part.TheVariants as part
 use Rattle.icu_char16trie.specs.declared.reader.part.Step.{Step}
-use Rattle.icu_char16trie.proofs.UnitLemmas.{if_leb, if_not_leb}
-use Rattle.icu_char16trie.proofs.UnitBranches.{some-same}
-use Rattle.icu_char16trie.proofs.UnitStands.{node_stands, run_stands, last_stands, entry_stands, halves_stand, step_of}
+use Rattle.icu_char16trie.proofs.Cursors.SearchLemmas.{if_leb, if_not_leb}
+use Rattle.icu_char16trie.proofs.Cursors.BranchLemmas.{some-same}
+use Rattle.icu_char16trie.proofs.Reading.PartStepLemmas.{node_stands, run_stands, last_stands, entry_stands, halves_stand, step_of}
 use Rattle.icu_char16trie.specs.UnitPairs.{Has}
-use Rattle.icu_char16trie.proofs.UnitListing.{Pair, behind_unit, with_value, listing}
-use Rattle.icu_char16trie.proofs.UnitReadings.{under, under-append, under-unit}
+use Rattle.icu_char16trie.proofs.Grammar.ListingLemmas.{Pair, behind_unit, with_value, listing}
+use Rattle.icu_char16trie.proofs.Reading.SoundReadsLemmas.{under, under-append, under-unit}
 
 -- some key is listed
 abbrev HasFirst : List Pair → Type 0
@@ -53,7 +53,7 @@ has-first units (sound_jump branch low high place entry more few e to above belo
 has-first units (sound_halves branch low high middle place jump many e d lands above below first second) =
     first-append (listing units first) (listing units second) (has-first units first)
 
--- each key, behind so many units, is within the limit
+-- each key, after this number of units, is within the limit
 abbrev pub Fits : ℕ → ℕ → List Pair → Type 0
 Fits limit count [] = Unit {0}
 Fits limit count (pair ∷ rest) = (count + length pair.0 ≤ limit) × Fits limit count rest
@@ -84,9 +84,9 @@ fits-longer limit key unit xs h = subst (λ n. Fits limit n xs) (sym (length-app
 -- the part of a rule
 abbrev part_of : Rule → Part
 part_of (spot (at_node place)) = part.Node place
-part_of (spot (behind (state.Match run))) = part.Run run
-part_of (spot (behind (state.Branch branch))) = part.Branch (record { branch = branch; low = 0; high = 0x10000 })
-part_of (spot (behind (state.Stopped))) = part.Node 0
+part_of (spot (at_state (state.Match run))) = part.Run run
+part_of (spot (at_state (state.Branch branch))) = part.Branch (record { branch = branch; low = 0; high = 0x10000 })
+part_of (spot (at_state (state.Stopped))) = part.Node 0
 part_of (within branch low high) = part.Branch (record { branch = branch; low = low; high = high })
 
 module _ (units : List ℕ) (limit : ℕ) where
@@ -96,7 +96,7 @@ module _ (units : List ℕ) (limit : ℕ) where
       → Reads units limit ((key, part_of rule) ∷ rest) (under key pairs ++ back)
 
   node-read : (place : ℕ) (value : Option ℕ) (next : State) (pairs : List Pair) → IsNode units place value (Some next) → HasFirst pairs
-      → IsSound units (spot (behind next)) → ReadsOn (spot (behind next)) pairs → ReadsOn (spot (at_node place)) (with_value value pairs)
+      → IsSound units (spot (at_state next)) → ReadsOn (spot (at_state next)) pairs → ReadsOn (spot (at_node place)) (with_value value pairs)
   node-read place value (state.Stopped) pairs node first sound f = elim sound [ ]
   node-read place None (state.Match run) pairs node first sound f = λ key rest back fits more.
       on key (part.Node place) (node_of None (Some (part.Run run))) rest (under key pairs ++ back)
@@ -106,11 +106,11 @@ module _ (units : List ℕ) (limit : ℕ) where
       (on key (part.Node place) (node_of (Some value) (Some (part.Run run))) rest (under key pairs ++ back)
       (step_of units (node_stands place (Some value) (Some (state.Match run)) node)) tt (f key rest back fits.1 more))
   node-read place None (state.Branch branch) pairs node first sound f = λ key rest back fits more.
-      on key (part.Node place) (node_of None (part_behind (state.Branch branch))) rest (under key pairs ++ back)
+      on key (part.Node place) (node_of None (part_for (state.Branch branch))) rest (under key pairs ++ back)
       (step_of units (node_stands place None (Some (state.Branch branch)) node)) tt (f key rest back fits more)
   node-read place (Some value) (state.Branch branch) pairs node first sound f = λ key rest back fits more.
       subst (λ key'. Reads units limit ((key, part.Node place) ∷ rest) ((key', cast_signed w32 value) ∷ (under key pairs ++ back))) (sym (append-nil key))
-      (on key (part.Node place) (node_of (Some value) (part_behind (state.Branch branch))) rest (under key pairs ++ back)
+      (on key (part.Node place) (node_of (Some value) (part_for (state.Branch branch))) rest (under key pairs ++ back)
       (step_of units (node_stands place (Some value) (Some (state.Branch branch)) node)) tt (f key rest back fits.1 more))
 
   behind-read : (key : List ℕ) (unit : ℕ) (pairs back : List Pair) (jobs : List Job) → Reads units limit jobs (under (key ++ (unit ∷ [])) pairs ++ back)

@@ -5,27 +5,27 @@ use Rattle.std.specs.List.Sorted.{IsStrictlySortedBy}
 use Rattle.std.specs.Ordering.{nat_cmp}
 use Rattle.std.proofs.lemmas.List.{append-nil}
 use Rattle.std.proofs.lemmas.Option.{none-some}
-use Rattle.icu_char16trie.specs.UnitCells.{after}
+use Rattle.icu_char16trie.specs.UnitNumbers.{after}
 use Rattle.icu_char16trie.specs.UnitSteps.{opened, or_stopped, start}
-use Rattle.icu_char16trie.specs.UnitMaps.{at_node, behind, Spells, ends, goes_on, IsNode, final, valued, bare, IsWhole}
+use Rattle.icu_char16trie.specs.UnitMaps.{at_node, at_state, MapsKey, ends, goes_on, IsNode, final, valued, bare, IsWhole}
 use Rattle.icu_char16trie.specs.UnitGrammar.{spot, IsSound, IsUnitTrie, no_units, rooted, IsWithin, IsListing}
-use Rattle.icu_char16trie.specs.UnitJobs.{Job, Reads, done, StopsIn, StopsAt, in_parts, HasRead}
+use Rattle.icu_char16trie.specs.UnitReadingOrder.{Job, Reads, done, StopsIn, StopsAt, in_parts, HasRead}
 use Rattle.icu_char16trie.specs.declared.node.State.{State}
 use Rattle.icu_char16trie.specs.declared.reader.part.Part.TheVariants as part
-use Rattle.icu_char16trie.proofs.UnitLemmas.{if_ltb}
-use Rattle.icu_char16trie.proofs.UnitBranches.{some-same}
-use Rattle.icu_char16trie.proofs.UnitAnswers.{stopped_none}
-use Rattle.icu_char16trie.proofs.UnitGrammars.{leads_on}
+use Rattle.icu_char16trie.proofs.Cursors.SearchLemmas.{if_ltb}
+use Rattle.icu_char16trie.proofs.Cursors.BranchLemmas.{some-same}
+use Rattle.icu_char16trie.proofs.Cursors.StepLemmas.{stopped_none}
+use Rattle.icu_char16trie.proofs.Grammar.SoundLemmas.{leads_on}
 use Rattle.icu_char16trie.specs.UnitPairs.{Has}
-use Rattle.icu_char16trie.proofs.UnitListing.{Pair, listing, listed_spelled}
-use Rattle.icu_char16trie.proofs.UnitListed.{node_unique, lists_all, rising, rising_sorted}
-use Rattle.icu_char16trie.proofs.UnitReadings.{under, under-nil, reads-sound}
-use Rattle.icu_char16trie.proofs.UnitRead.{sound-reads, reads_stops, reads_short, Short, short-has, fits-all, has_contains, contains_has, root-trie, trie-root}
+use Rattle.icu_char16trie.proofs.Grammar.ListingLemmas.{Pair, listing, listed_spelled}
+use Rattle.icu_char16trie.proofs.Grammar.CompleteListingLemmas.{node_unique, lists_all, rising, rising_sorted}
+use Rattle.icu_char16trie.proofs.Reading.SoundReadsLemmas.{under, under-nil, reads-sound}
+use Rattle.icu_char16trie.proofs.Reading.CompleteReadsLemmas.{sound-reads, reads_stops, reads_short, Short, short-has, fits-all, has_contains, contains_has, root-trie, trie-root}
 
 abbrev pub root : List Job
 root = ([], part.Node 0) ∷ []
 
--- behind a first node with no value, all that it spells is spelled
+-- after a first node with no value, all that it spells is spelled
 module _ (units : List ℕ) where
   start-is : (next : State) → IsNode units 0 None (Some next) → start units ≡ next
   start-is next (bare place lead n e low opens) =
@@ -33,12 +33,12 @@ module _ (units : List ℕ) where
       ∙ ap (λ found. or_stopped found) (if_ltb lead 0x40 (opened units lead 1) None low)
       ∙ ap (λ found. or_stopped found) opens
 
-  from-root : (next : State) {key : List ℕ} {number : ℤ} → IsNode units 0 None (Some next) → Spells units (at_node 0) key number → Spells units (behind next) key number
+  from-root : (next : State) {key : List ℕ} {number : ℤ} → IsNode units 0 None (Some next) → MapsKey units (at_node 0) key number → MapsKey units (at_state next) key number
   from-root next node (ends place value other is) = absurd (none-some value (node_unique units node is).0)
   from-root next node (goes_on place value other key number is rest) =
-      subst (λ next. Spells units (behind next) key number) (sym (some-same next other (node_unique units node is).1)) rest
+      subst (λ next. MapsKey units (at_state next) key number) (sym (some-same next other (node_unique units node is).1)) rest
 
-  behind-root : (next : State) (key : List ℕ) (number : ℤ) → IsNode units 0 None (Some next) → Spells units (behind next) key number ↔ Spells units (at_node 0) key number
+  behind-root : (next : State) (key : List ℕ) (number : ℤ) → IsNode units 0 None (Some next) → MapsKey units (at_state next) key number ↔ MapsKey units (at_node 0) key number
   behind-root next key number node = ((λ h. goes_on 0 None next key number node h), (λ h. from-root next node h))
 
   no-node : units ≡ [] → {value : Option ℕ} {next : Option State} → IsNode units 0 value next → ⊥
@@ -46,24 +46,24 @@ module _ (units : List ℕ) where
   no-node none (valued place lead number next e low high reads opens) = none-some lead (sym (ap (λ units. slice_get units 0) none) ∙ e)
   no-node none (bare place lead next e low opens) = none-some lead (sym (ap (λ units. slice_get units 0) none) ∙ e)
 
-  no-spells : units ≡ [] → {key : List ℕ} {number : ℤ} → Spells units (at_node 0) key number → ⊥
+  no-spells : units ≡ [] → {key : List ℕ} {number : ℤ} → MapsKey units (at_node 0) key number → ⊥
   no-spells none (ends place value next node) = no-node none node
   no-spells none (goes_on place value next key number node rest) = no-node none node
 
-  empty-spells : units ≡ [] → (key : List ℕ) (number : ℤ) → Spells units (behind (start units)) key number ↔ Spells units (at_node 0) key number
+  empty-spells : units ≡ [] → (key : List ℕ) (number : ℤ) → MapsKey units (at_state (start units)) key number ↔ MapsKey units (at_node 0) key number
   empty-spells none key number = (
-    (λ h. absurd (stopped_none units key number (subst (λ s. Spells units (behind s) key number) (ap (λ units. start units) none) h))),
+    (λ h. absurd (stopped_none units key number (subst (λ s. MapsKey units (at_state s) key number) (ap (λ units. start units) none) h))),
     (λ h. absurd (no-spells none h)),
   )
 
-  pub start-spells : IsUnitTrie units → (key : List ℕ) (number : ℤ) → Spells units (behind (start units)) key number ↔ Spells units (at_node 0) key number
+  pub start-spells : IsUnitTrie units → (key : List ℕ) (number : ℤ) → MapsKey units (at_state (start units)) key number ↔ MapsKey units (at_node 0) key number
   start-spells (no_units e) key number = empty-spells e key number
   start-spells (rooted next node rest) key number =
-      subst (λ s. Spells units (behind s) key number ↔ Spells units (at_node 0) key number) (sym (start-is next node)) (behind-root next key number node)
+      subst (λ s. MapsKey units (at_state s) key number ↔ MapsKey units (at_node 0) key number) (sym (start-is next node)) (behind-root next key number node)
 
-  start-whole : IsUnitTrie units → units ≢ [] → IsWhole units (behind (start units))
+  start-whole : IsUnitTrie units → units ≢ [] → IsWhole units (at_state (start units))
   start-whole (no_units e) some = absurd (some e)
-  start-whole (rooted next node rest) some = subst (λ s. IsWhole units (behind s)) (sym (start-is next node)) (leads_on units rest)
+  start-whole (rooted next node rest) some = subst (λ s. IsWhole units (at_state s)) (sym (start-is next node)) (leads_on units rest)
 
 pub listing_of : (units : List ℕ) (limit lead : ℕ) (pairs : List Pair) → slice_get units 0 ≡ Some lead → lead < 0x40 → Reads units limit root pairs → IsListing units limit pairs
 listing_of units limit lead pairs is low reads =

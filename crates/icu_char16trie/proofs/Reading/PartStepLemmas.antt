@@ -1,10 +1,10 @@
 -- What stands first in a part of a unit trie, rule by rule.
 use Rattle.std.proofs.Common.{◌≡◌, ℕ, ◌+◌, ◌-◌, ◌/◌, ◌%◌, ◌<◌, ◌≤◌, leb, if◌then◌else◌, List, length, slice_get, Option, Some, None, Result, Ok, Err, refl, ap, ◌∙◌, sym, subst, arith, ⊎_elim}
 use Rattle.std.proofs.lemmas.Bool.{cases_lt}
-use Rattle.icu_char16trie.specs.UnitCells.{after, final_number, intermediate_number, delta, landing}
+use Rattle.icu_char16trie.specs.UnitNumbers.{after, final_number, intermediate_number, delta, landing}
 use Rattle.icu_char16trie.specs.UnitSteps.{entry_at, entry_target, opened}
 use Rattle.icu_char16trie.specs.UnitMaps.{IsNode, final, valued, bare}
-use Rattle.icu_char16trie.specs.UnitReading.{or_end, or_here, bounded, part_behind, at_node, node_step, run_on, run_step, last_step, target_value, target_part, entry_step, halves_step, part_step}
+use Rattle.icu_char16trie.specs.UnitPartSteps.{or_end, or_here, bounded, part_for, at_node, node_step, run_on, run_step, last_step, target_value, target_part, entry_step, halves_step, part_step}
 use Rattle.icu_char16trie.specs.declared.cells.Number.{Number}
 use Rattle.icu_char16trie.specs.declared.node.Entry.{Entry}
 use Rattle.icu_char16trie.specs.declared.node.Match.{Match}
@@ -14,13 +14,13 @@ use Rattle.icu_char16trie.specs.declared.reader.part.Bounded.{Bounded}
 use Rattle.icu_char16trie.specs.declared.reader.part.Part.{Part}
 use Rattle.icu_char16trie.specs.declared.reader.part.Part.TheVariants as part
 use Rattle.icu_char16trie.specs.declared.reader.part.Step.{Step}
-use Rattle.icu_char16trie.proofs.UnitLemmas.{if_leb, if_not_leb, if_ltb, if_not_ltb}
-use Rattle.icu_char16trie.proofs.UnitBranches.{after-some, some-same}
+use Rattle.icu_char16trie.proofs.Cursors.SearchLemmas.{if_leb, if_not_leb, if_ltb, if_not_ltb}
+use Rattle.icu_char16trie.proofs.Cursors.BranchLemmas.{after-some, some-same}
 
--- the part behind a node, if anything follows it
+-- the part after a node, if anything follows it
 abbrev pub behind_node : Option State → Option Part
 behind_node None = None
-behind_node (Some next) = part_behind next
+behind_node (Some next) = part_for next
 
 -- what stands first in a part, by the rules of the grammar
 pub data Stands (units : List ℕ) : Part → Step → Type 0 where
@@ -84,13 +84,13 @@ abbrev final_at : List ℕ → ℕ → ℕ → Option Step
 final_at units place lead = after (final_number units (lead - 0x8000) (place + 1)) (λ number. Some (at_node (Some number.value) None))
 
 abbrev valued_behind : List ℕ → ℕ → Number → Option Step
-valued_behind units lead number = after (opened units (lead % 0x40) number.end) (λ next. Some (at_node (Some number.value) (part_behind next)))
+valued_behind units lead number = after (opened units (lead % 0x40) number.end) (λ next. Some (at_node (Some number.value) (part_for next)))
 
 abbrev valued_at : List ℕ → ℕ → ℕ → Option Step
 valued_at units place lead = after (intermediate_number units lead (place + 1)) (valued_behind units lead)
 
 abbrev bare_at : List ℕ → ℕ → ℕ → Option Step
-bare_at units place lead = after (opened units lead (place + 1)) (λ next. Some (at_node None (part_behind next)))
+bare_at units place lead = after (opened units lead (place + 1)) (λ next. Some (at_node None (part_for next)))
 
 abbrev lower_at : List ℕ → ℕ → ℕ → Option Step
 lower_at units place lead = if leb 0x40 lead then valued_at units place lead else bare_at units place lead
@@ -109,12 +109,12 @@ node-step-is units (valued place lead number next e low high reads opens) =
     ∙ if_not_leb 0x8000 lead (final_at units place lead) (lower_at units place lead) low
     ∙ if_leb 0x40 lead (valued_at units place lead) (bare_at units place lead) high
     ∙ ap (λ found. after found (valued_behind units lead)) reads
-    ∙ ap (λ found. after found (λ next. Some (at_node (Some number.value) (part_behind next)))) opens
+    ∙ ap (λ found. after found (λ next. Some (at_node (Some number.value) (part_for next)))) opens
 node-step-is units (bare place lead next e low opens) =
     ap (λ found. after found (lead_at units place)) e
     ∙ if_not_leb 0x8000 lead (final_at units place lead) (lower_at units place lead) (omega (arith, low))
     ∙ if_not_leb 0x40 lead (valued_at units place lead) (bare_at units place lead) low
-    ∙ ap (λ found. after found (λ next. Some (at_node None (part_behind next)))) opens
+    ∙ ap (λ found. after found (λ next. Some (at_node None (part_for next)))) opens
 
 pub node-step-inverse : (units : List ℕ) (place : ℕ) (step : Step) → node_step units place ≡ Some step
     → (value : Option ℕ) × (next : Option State) × IsNode units place value next × (at_node value (behind_node next) ≡ step)
@@ -126,14 +126,14 @@ node-step-inverse units place step e =
     let lower = sym (if_not_leb 0x8000 lead (final_at units place lead) (lower_at units place lead) low) ∙ found.2 in
     ⊎_elim
     (λ (plain : lead < 0x40).
-    let opens = after-some (opened units lead (place + 1)) (λ next. Some (at_node None (part_behind next))) step
+    let opens = after-some (opened units lead (place + 1)) (λ next. Some (at_node None (part_for next))) step
     (sym (if_not_leb 0x40 lead (valued_at units place lead) (bare_at units place lead) plain) ∙ lower) in
-    (None, Some opens.0, bare place lead opens.0 found.1 plain opens.1, some-same (at_node None (part_behind opens.0)) step opens.2))
+    (None, Some opens.0, bare place lead opens.0 found.1 plain opens.1, some-same (at_node None (part_for opens.0)) step opens.2))
     (λ (high : 0x40 ≤ lead).
     let reads = after-some (intermediate_number units lead (place + 1)) (valued_behind units lead) step
     (sym (if_leb 0x40 lead (valued_at units place lead) (bare_at units place lead) high) ∙ lower) in
-    let opens = after-some (opened units (lead % 0x40) reads.0.end) (λ next. Some (at_node (Some reads.0.value) (part_behind next))) step reads.2 in
-    (Some reads.0.value, Some opens.0, valued place lead reads.0 opens.0 found.1 low high reads.1 opens.1, some-same (at_node (Some reads.0.value) (part_behind opens.0)) step opens.2))
+    let opens = after-some (opened units (lead % 0x40) reads.0.end) (λ next. Some (at_node (Some reads.0.value) (part_for next))) step reads.2 in
+    (Some reads.0.value, Some opens.0, valued place lead reads.0 opens.0 found.1 low high reads.1 opens.1, some-same (at_node (Some reads.0.value) (part_for opens.0)) step opens.2))
     (cases_lt lead 0x40))
     (λ (high : 0x8000 ≤ lead).
     let reads = after-some (final_number units (lead - 0x8000) (place + 1)) (λ number. Some (at_node (Some number.value) None)) step

@@ -4,11 +4,11 @@ use Rattle.std.specs.Option.{IfSome}
 use Rattle.std.proofs.Math.Nat.{pow-le-pow_right, pow-suc, one-le-pow}
 use Rattle.std.proofs.lemmas.Bool.{cases_lt, cases_eq}
 use Rattle.std.proofs.lemmas.Option.{none-some, slice_get_within}
-use Rattle.icu_char16trie.specs.UnitCells.{after, with_unit, two_units, final_number, intermediate_number, delta, landing}
+use Rattle.icu_char16trie.specs.UnitNumbers.{after, with_unit, two_units, final_number, intermediate_number, delta, landing}
 use Rattle.icu_char16trie.specs.UnitSteps.{entry_at, entry_target, opened}
 use Rattle.icu_char16trie.specs.UnitMaps.{IsNode, final, valued, bare}
-use Rattle.icu_char16trie.specs.UnitReading.{part_behind, target_part, part_place}
-use Rattle.icu_char16trie.specs.UnitJobs.{Job, onward, extended, IsTaken}
+use Rattle.icu_char16trie.specs.UnitPartSteps.{part_for, target_part, part_place}
+use Rattle.icu_char16trie.specs.UnitReadingOrder.{Job, onward, extended, IsTaken}
 use Rattle.icu_char16trie.specs.declared.cells.Number.{Number}
 use Rattle.icu_char16trie.specs.declared.node.Entry.{Entry}
 use Rattle.icu_char16trie.specs.declared.node.Target.{Target}
@@ -18,9 +18,9 @@ use Rattle.icu_char16trie.specs.declared.node.State.TheVariants as state
 use Rattle.icu_char16trie.specs.declared.reader.part.Part.{Part}
 use Rattle.icu_char16trie.specs.declared.reader.part.Part.TheVariants as part
 use Rattle.icu_char16trie.specs.declared.reader.part.Step.{Step}
-use Rattle.icu_char16trie.proofs.UnitLemmas.{if_leb, if_not_leb, if_ltb, if_not_ltb, if_eq, if_not_eq}
-use Rattle.icu_char16trie.proofs.UnitBranches.{after-some, some-same}
-use Rattle.icu_char16trie.proofs.UnitStands.{behind_node, Stands, node_stands, run_stands, last_stands, entry_stands, halves_stand, stands}
+use Rattle.icu_char16trie.proofs.Cursors.SearchLemmas.{if_leb, if_not_leb, if_ltb, if_not_ltb, if_eq, if_not_eq}
+use Rattle.icu_char16trie.proofs.Cursors.BranchLemmas.{after-some, some-same}
+use Rattle.icu_char16trie.proofs.Reading.PartStepLemmas.{behind_node, Stands, node_stands, run_stands, last_stands, entry_stands, halves_stand, stands}
 
 abbrev number_of : ℕ → ℕ → Number
 number_of value end = record { value = value; end = end }
@@ -31,9 +31,9 @@ value-not v p e = cc
 node-same : (a b : ℕ) → Some (Node a) ≡ Some (Node b) → a ≡ b
 node-same a b e = cc
 
--- a node's units are followed by a part that begins behind them
+-- a node's units are followed by a part that begins after them
 abbrev pub IsBehind : ℕ → State → Type 0
-IsBehind place next = (p : Part) × (part_behind next ≡ Some p) × (place ≤ part_place p)
+IsBehind place next = (p : Part) × (part_for next ≡ Some p) × (place ≤ part_place p)
 
 module _ (units : List ℕ) where
   with-end : (high place : ℕ) (n : Number) → with_unit units high place ≡ Some n → place < n.end
@@ -161,7 +161,7 @@ module _ (units : List ℕ) where
       (part.Run (record { left = kind - 0x2f; place = place }), refl, omega arith))
       (cases_lt kind 0x30)
 
-  behind-ahead : (place end : ℕ) (next : State) → place < end → IsBehind end next → IfSome (part_behind next) (λ p. place < part_place p)
+  behind-ahead : (place end : ℕ) (next : State) → place < end → IsBehind end next → IfSome (part_for next) (λ p. place < part_place p)
   behind-ahead place end next less h =
       subst (λ o. IfSome o (λ p. place < part_place p)) (sym h.1) (omega (arith, less, h.2))
 

@@ -1,8 +1,8 @@
 -- What is left to be read after a part was taken up.
 use Rattle.std.proofs.Common.{◌≡◌, ℕ, ℤ, ◌++◌, List, [], ◌∷◌, ◌-◌, take, map, reverse, Ok, refl, ap, ◌∙◌, sym, subst, append_assoc}
 use Rattle.std.proofs.lemmas.List.{reverse-append, map-append, append-nil}
-use Rattle.icu_char16trie.specs.UnitReading.{part_step}
-use Rattle.icu_char16trie.specs.UnitJobs.{Job, extended, onward, noted, pairs_of, HasRoom, IsTaken, IsStuck, Reads, done, on, StopsIn, here, beyond, HasRead, job_of}
+use Rattle.icu_char16trie.specs.UnitPartSteps.{part_step}
+use Rattle.icu_char16trie.specs.UnitReadingOrder.{Job, extended, onward, noted, pairs_of, HasRoom, IsTaken, IsStuck, Reads, done, on, StopsIn, here, beyond, HasRead, job_of}
 use Rattle.icu_char16trie.specs.declared.reader.part.Part.{Part}
 use Rattle.icu_char16trie.specs.declared.reader.part.Step.{Step}
 use Rattle.icu_char16trie.specs.declared.reader.queue.Task.{Task}

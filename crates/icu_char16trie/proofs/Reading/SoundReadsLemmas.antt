@@ -4,11 +4,11 @@ use Rattle.std.proofs.lemmas.Bool.{cases_lt}
 use Rattle.std.proofs.lemmas.List.{append-nil}
 use Rattle.std.proofs.lemmas.Option.{none-some}
 use Rattle.std.specs.Int.{cast_signed, w32}
-use Rattle.icu_char16trie.specs.UnitMaps.{at_node, behind, IsNode, final, valued, bare}
+use Rattle.icu_char16trie.specs.UnitMaps.{at_node, at_state, IsNode, final, valued, bare}
 use Rattle.icu_char16trie.specs.UnitGrammar.{spot, within, IsSound, sound_end, sound_node, sound_run, sound_run_end, sound_branch, sound_last, sound_value, sound_jump, sound_halves}
 use Rattle.icu_char16trie.specs.UnitGrammar.{Part as Rule}
-use Rattle.icu_char16trie.specs.UnitReading.{at_node as node_of, part_behind, run_on}
-use Rattle.icu_char16trie.specs.UnitJobs.{Job, noted, jobs_of, pairs_of, Reads, done, on}
+use Rattle.icu_char16trie.specs.UnitPartSteps.{at_node as node_of, part_for, run_on}
+use Rattle.icu_char16trie.specs.UnitReadingOrder.{Job, noted, jobs_of, pairs_of, Reads, done, on}
 use Rattle.icu_char16trie.specs.declared.node.Match.{Match}
 use Rattle.icu_char16trie.specs.declared.node.Target.TheVariants.{Value, Node}
 use Rattle.icu_char16trie.specs.declared.node.State.{State}
@@ -16,15 +16,15 @@ use Rattle.icu_char16trie.specs.declared.node.State.TheVariants as state
 use Rattle.icu_char16trie.specs.declared.reader.part.Part.{Part}
 use Rattle.icu_char16trie.specs.declared.reader.part.Part.TheVariants as part
 use Rattle.icu_char16trie.specs.declared.reader.part.Step.{Step}
-use Rattle.icu_char16trie.proofs.UnitLemmas.{if_leb, if_not_leb}
-use Rattle.icu_char16trie.proofs.UnitStands.{behind_node, Stands, node_stands, run_stands, last_stands, entry_stands, halves_stand, stands}
-use Rattle.icu_char16trie.proofs.UnitAhead.{IsBehind, opened-behind}
-use Rattle.icu_char16trie.proofs.UnitListing.{Pair, behind_unit, with_value, listing}
+use Rattle.icu_char16trie.proofs.Cursors.SearchLemmas.{if_leb, if_not_leb}
+use Rattle.icu_char16trie.proofs.Reading.PartStepLemmas.{behind_node, Stands, node_stands, run_stands, last_stands, entry_stands, halves_stand, stands}
+use Rattle.icu_char16trie.proofs.Reading.ProgressLemmas.{IsBehind, opened-behind}
+use Rattle.icu_char16trie.proofs.Grammar.ListingLemmas.{Pair, behind_unit, with_value, listing}
 
 -- the rule that a part is about
 abbrev pub rule_of : Part → Rule
 rule_of (part.Node place) = spot (at_node place)
-rule_of (part.Run run) = spot (behind (state.Match run))
+rule_of (part.Run run) = spot (at_state (state.Match run))
 rule_of (part.Branch b) = within b.branch b.low b.high
 
 -- the keys go on from the key
@@ -67,7 +67,7 @@ module _ (units : List ℕ) (key : List ℕ) (rest : List Job) (pairs : List Pai
       e ∙ ap (λ more. under key xs ++ more) f ∙ sym (append_assoc (under key xs) (under key ys) back) ∙ ap (λ front. front ++ back) (sym (under-append key xs ys))
 
   node-sound : (place end : ℕ) (value : Option ℕ) (next : State) → IsNode units place value (Some next) → IsBehind end next
-      → SoundJobs units (jobs_of key (node_of value (part_behind next)) ++ rest) pairs → SoundJobs units ((key, part.Node place) ∷ rest) (noted key value ++ pairs)
+      → SoundJobs units (jobs_of key (node_of value (part_for next)) ++ rest) pairs → SoundJobs units ((key, part.Node place) ∷ rest) (noted key value ++ pairs)
   unfolding listing
   node-sound place end value (state.Stopped) node far h = absurd (none-some far.0 far.1)
   node-sound place end value (state.Match run) node far h =

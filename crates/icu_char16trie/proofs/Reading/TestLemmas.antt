@@ -1,15 +1,15 @@
 -- Keys and values that are tested while they are read.
 use Rattle.std.proofs.Common.{◌≡◌, ℕ, ℤ, ◌<◌, ◌≤◌, slice_get, Bool, true, false, ◌&&◌, ◌++◌, ◌↔◌, IsTrue, List, [], ◌∷◌, length, Option, Some, None, refl, ap, ◌∙◌, sym, subst, arith, inl, inr, ⊎_elim}
 use Rattle.std.proofs.lemmas.Bool.{and_parts, and_from}
-use Rattle.icu_char16trie.specs.UnitMaps.{at_node, Spells}
+use Rattle.icu_char16trie.specs.UnitMaps.{at_node, MapsKey}
 use Rattle.icu_char16trie.specs.UnitGrammar.{IsListing}
 use Rattle.icu_char16trie.specs.UnitPairs.{Has}
-use Rattle.icu_char16trie.specs.UnitJobs.{Job, extended, noted, IsTaken, Reads, HasTested, passes_all}
+use Rattle.icu_char16trie.specs.UnitReadingOrder.{Job, extended, noted, IsTaken, Reads, HasTested, passes_all}
 use Rattle.icu_char16trie.specs.declared.reader.part.Part.{Part}
-use Rattle.icu_char16trie.proofs.UnitJobsLeft.{IsOnWay, on_way_first, on_way_more, on_way_end}
-use Rattle.icu_char16trie.proofs.UnitListing.{Pair}
-use Rattle.icu_char16trie.proofs.UnitListings.{root, listing_of}
-use Rattle.icu_char16trie.proofs.UnitRead.{contains_has, has_contains}
+use Rattle.icu_char16trie.proofs.Reading.QueueLemmas.{IsOnWay, on_way_first, on_way_more, on_way_end}
+use Rattle.icu_char16trie.proofs.Grammar.ListingLemmas.{Pair}
+use Rattle.icu_char16trie.proofs.Reading.OutcomeLemmas.{root, listing_of}
+use Rattle.icu_char16trie.proofs.Reading.CompleteReadsLemmas.{contains_has, has_contains}
 
 and-assoc : (a b c : Bool) → (a && (b && c)) ≡ ((a && b) && c)
 and-assoc true b c = refl
@@ -67,7 +67,7 @@ module _ (units : List ℕ) (limit : ℕ) (key : List ℕ) (part : Part) (before
   )
 
 pub tested_says : (units : List ℕ) (limit : ℕ) (pairs : List Pair) (test : List ℕ → ℤ → Bool) (all : Bool) → IsListing units limit pairs → all ≡ passes_all test pairs
-    → IsTrue all ↔ ((key : List ℕ) (number : ℤ) → Spells units (at_node 0) key number → IsTrue (test key number))
+    → IsTrue all ↔ ((key : List ℕ) (number : ℤ) → MapsKey units (at_node 0) key number → IsTrue (test key number))
 tested_says units limit pairs test all listing is = (
   (λ yes-all key number h. passes-has test pairs key number (sym is ∙ yes-all) (contains_has pairs (key, number) ((listing.entries key number).1 h))),
   (λ f. is ∙ has-passes test pairs (λ key number h. f key number ((listing.entries key number).0 (has_contains pairs key number h)))),

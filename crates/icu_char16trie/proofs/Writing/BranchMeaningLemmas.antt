@@ -2,12 +2,12 @@
 use Rattle.std.proofs.Common.{◌≡◌, ◌≢◌, ℕ, ℤ, suc, ◌+◌, ◌-◌, ◌/◌, ◌%◌, ◌<◌, ◌≤◌, ◌⊎◌, Bool, true, false, leb, List, [], ◌∷◌, ◌++◌, length, drop, slice_get, Option, Some, None, refl, ap, ◌∙◌, sym, subst, arith, inl, inr, ⊎_elim, length-append}
 use Rattle.std.proofs.lemmas.List.{drop-drop, length-drop}
 use Rattle.std.specs.Int.{cast_signed, w32}
-use Rattle.icu_char16trie.specs.UnitCells.{after, final_number, delta, landing}
+use Rattle.icu_char16trie.specs.UnitNumbers.{after, final_number, delta, landing}
 use Rattle.icu_char16trie.specs.UnitSteps.{entry_at, entry_target}
 use Rattle.icu_char16trie.specs.UnitMaps.{Lists, last, here, later, Leads, listed, lower, upper, at_node}
 use Rattle.icu_char16trie.specs.UnitGrammar.{IsSound, spot, sound_last, sound_value, sound_jump, sound_halves}
 use Rattle.icu_char16trie.specs.UnitGrammar as grammar
-use Rattle.icu_char16trie.specs.UnitForms.{number_form, delta_form}
+use Rattle.icu_char16trie.specs.UnitNumberForms.{number_form, delta_form}
 use Rattle.icu_char16trie.specs.UnitLayouts.{Part, node, follows, within, Lays}
 use Rattle.icu_char16trie.specs.UnitLayouts as layout
 use Rattle.icu_char16trie.specs.declared.cells.Number.{Number}
@@ -15,10 +15,10 @@ use Rattle.icu_char16trie.specs.declared.node.Branch.{Branch}
 use Rattle.icu_char16trie.specs.declared.node.Entry.{Entry}
 use Rattle.icu_char16trie.specs.declared.node.Target.{Target}
 use Rattle.icu_char16trie.specs.declared.node.Target.TheVariants.{Value, Node}
-use Rattle.icu_char16trie.proofs.UnitLemmas.{if_ltb}
-use Rattle.icu_char16trie.proofs.UnitBranches.{some-same}
-use Rattle.icu_char16trie.proofs.UnitReads.{unit_at, behind_unit, reads_number, reads_intermediate, reads_delta}
-use Rattle.icu_char16trie.proofs.UnitMeanings.{SpotMeans, FollowsMeans, TargetMeans, HasGroup, WithinMeans, final_means, valued_means, bare_means, run_follows, few_follows, many_follows}
+use Rattle.icu_char16trie.proofs.Cursors.SearchLemmas.{if_ltb}
+use Rattle.icu_char16trie.proofs.Cursors.BranchLemmas.{some-same}
+use Rattle.icu_char16trie.proofs.Writing.NumberFormLemmas.{unit_at, behind_unit, reads_number, reads_intermediate, reads_delta}
+use Rattle.icu_char16trie.proofs.Writing.NodeMeaningLemmas.{SpotMeans, FollowsMeans, TargetMeans, HasGroup, WithinMeans, final_means, valued_means, bare_means, run_follows, few_follows, many_follows}
 
 lists_of : (units : List ℕ) {branch : Branch} {unit : ℕ} {target : Target} → Leads units branch unit target → branch.count ≤ 5 → Lists units (branch.count - 1) branch.place unit target
 lists_of units (listed branch unit target few lists) bound = lists
@@ -207,7 +207,7 @@ module _ (units : List ℕ) (place low high middle target_place count : ℕ) (ju
             (subst (λ count. IsSound units (grammar.within (record { count = count; place = jump.end }) middle high)) upper_count upper_means.sound);
       }
 
--- a jump lands as far behind its number as it says
+-- a jump lands as far after its number as it says
 module _ (units : List ℕ) (end distance : ℕ) (rest : List ℕ) (e : drop end units ≡ rest) (short : distance < length rest) where
   lands_at : landing units (record { value = distance; end = end }) ≡ Some (end + distance)
   lands_at =

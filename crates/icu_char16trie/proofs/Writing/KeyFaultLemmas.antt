@@ -7,18 +7,18 @@ use Rattle.std.specs.declared.cmp.Ordering.TheVariants.{Less, Equal, Greater}
 use Rattle.std.proofs.lemmas.Bool.{cases_lt, cases_eq}
 use Rattle.std.proofs.lemmas.List.{take_more, length-map}
 use Rattle.icu_char16trie.specs.UnitSteps.{opened, or_stopped, start}
-use Rattle.icu_char16trie.specs.UnitMaps.{IsNode, at_node, behind, Spells, IsWhole}
+use Rattle.icu_char16trie.specs.UnitMaps.{IsNode, at_node, at_state, MapsKey, IsWhole}
 use Rattle.icu_char16trie.specs.UnitGrammar.{IsUnitTrie, no_units, rooted}
 use Rattle.icu_char16trie.specs.UnitPairs.{Below, ComesFirst, AreSorted, HaveUnits, Has, rests, room}
 use Rattle.icu_char16trie.specs.UnitLayouts.{Lays, node}
 use Rattle.icu_char16trie.specs.UnitLayouts as layout
 use Rattle.icu_char16trie.specs.WrittenUnits.{keyed, total, IsEmptyKey, IsUnsorted, NoneBefore, AreWritten}
 use Rattle.icu_char16trie.specs.declared.node.State.{State}
-use Rattle.icu_char16trie.proofs.UnitLemmas.{if_ltb}
-use Rattle.icu_char16trie.proofs.UnitBranches.{some-same}
-use Rattle.icu_char16trie.proofs.UnitAnswers.{node_forth, stopped_none}
-use Rattle.icu_char16trie.proofs.UnitMeanings.{SpotMeans, FollowsMeans, bare_node, bare_means}
-use Rattle.icu_char16trie.proofs.UnitSpreads.{means}
+use Rattle.icu_char16trie.proofs.Cursors.SearchLemmas.{if_ltb}
+use Rattle.icu_char16trie.proofs.Cursors.BranchLemmas.{some-same}
+use Rattle.icu_char16trie.proofs.Cursors.StepLemmas.{node_forth, stopped_none}
+use Rattle.icu_char16trie.proofs.Writing.NodeMeaningLemmas.{SpotMeans, FollowsMeans, bare_node, bare_means}
+use Rattle.icu_char16trie.proofs.Writing.BranchMeaningLemmas.{means}
 
 -- order
 
@@ -65,8 +65,8 @@ below_or (x ∷ xs) (y ∷ ys) =
     ⊎_elim (λ (less : x < y). inl (inl less))
     (λ (more : y ≤ x). ⊎_elim
     (λ (same : x ≡ y). ⊎_elim (λ below. inl (inr (same, below)))
-    (λ none. inr (λ h. ⊎_elim (λ (less : x < y). omega (arith, less, more)) (λ behind. none behind.1) h)) (below_or xs ys))
-    (λ (other : x ≢ y). inr (λ h. ⊎_elim (λ (less : x < y). omega (arith, less, more)) (λ behind. other behind.0) h))
+    (λ none. inr (λ h. ⊎_elim (λ (less : x < y). omega (arith, less, more)) (λ at_state. none at_state.1) h)) (below_or xs ys))
+    (λ (other : x ≢ y). inr (λ h. ⊎_elim (λ (less : x < y). omega (arith, less, more)) (λ at_state. other at_state.0) h))
     (cases_eq x y)) (cases_lt x y)
 
 first_along : (key other : List ℕ) (pairs : List (List ℕ × ℤ)) → Below key other → ComesFirst other pairs → ComesFirst key pairs
@@ -140,7 +140,7 @@ pub record RootMeans (units : List ℕ) (pairs : List (List ℕ × ℤ)) : Type 
   pub at : IsNode units 0 None (Some next)
   pub starts : start units ≡ next
   pub node : SpotMeans units (at_node 0) pairs
-  pub behind : SpotMeans units (behind next) pairs
+  pub at_state : SpotMeans units (at_state next) pairs
 
 root_means : {units : List ℕ} {pairs : List (List ℕ × ℤ)} → Lays units (node pairs) → HaveUnits pairs → RootMeans units pairs
 root_means (layout.final number units) some = let none = some.0 in absurd (omega (arith, none))
@@ -152,15 +152,15 @@ root_means (layout.bare kind units pairs low inner) some =
       at = bare_node (kind ∷ units) 0 kind units pairs refl low f;
       starts = ap or_stopped (if_ltb kind 0x40 (opened (kind ∷ units) kind 1) None low ∙ f.opens);
       node = bare_means (kind ∷ units) 0 kind units pairs refl low f;
-      behind = f.means;
+      at_state = f.means;
     }
 
 -- what the units of pairs that are written say
 pub record Writes (units : List ℕ) (pairs : List (List ℕ × ℤ)) : Type 0 where
-  pub entries : (key : List ℕ) (number : ℤ) → Spells units (at_node 0) key number ↔ Has pairs key number
-  pub followed : (key : List ℕ) (number : ℤ) → Spells units (behind (start units)) key number ↔ Has pairs key number
+  pub entries : (key : List ℕ) (number : ℤ) → MapsKey units (at_node 0) key number ↔ Has pairs key number
+  pub followed : (key : List ℕ) (number : ℤ) → MapsKey units (at_state (start units)) key number ↔ Has pairs key number
   pub whole : 0 < length pairs → IsWhole units (at_node 0)
-  pub whole_start : 0 < length pairs → IsWhole units (behind (start units))
+  pub whole_start : 0 < length pairs → IsWhole units (at_state (start units))
   pub grammar : IsUnitTrie units
 
 pub writes_some : (units written : List ℕ) (pairs : List (Bor (List ℕ) × ℤ)) → Lays units (node (rests 0 pairs)) → HaveUnits (rests 0 pairs) → written ≡ units → Writes written (keyed pairs)
@@ -168,17 +168,17 @@ writes_some units written pairs lays longer same =
     let r = root_means lays longer in
     let w : Writes units (rests 0 pairs) = record {
       entries = λ key number. (r.node.spelled key number, r.node.spells key number);
-      followed = λ key number. subst (λ next. Spells units (behind next) key number ↔ Has (rests 0 pairs) key number) (sym r.starts) (r.behind.spelled key number, r.behind.spells key number);
+      followed = λ key number. subst (λ next. MapsKey units (at_state next) key number ↔ Has (rests 0 pairs) key number) (sym r.starts) (r.at_state.spelled key number, r.at_state.spells key number);
       whole = λ some. r.node.whole;
-      whole_start = λ some. subst (λ next. IsWhole units (behind next)) (sym r.starts) r.behind.whole;
-      grammar = rooted r.next r.at r.behind.sound;
+      whole_start = λ some. subst (λ next. IsWhole units (at_state next)) (sym r.starts) r.at_state.whole;
+      grammar = rooted r.next r.at r.at_state.sound;
     } in
     subst (λ written. Writes written (keyed pairs)) (sym same) (subst (λ pairs. Writes units pairs) (keyed_rests pairs) w)
 
-nothing_spelled : (key : List ℕ) (number : ℤ) → Spells [] (at_node 0) key number → ⊥
+nothing_spelled : (key : List ℕ) (number : ℤ) → MapsKey [] (at_node 0) key number → ⊥
 nothing_spelled key number h = node_forth [] h
 
-nothing_followed : (key : List ℕ) (number : ℤ) → Spells [] (behind (start [])) key number → ⊥
+nothing_followed : (key : List ℕ) (number : ℤ) → MapsKey [] (at_state (start [])) key number → ⊥
 nothing_followed key number h = stopped_none [] key number h
 
 pub writes_none : (written : List ℕ) (pairs : List (Bor (List ℕ) × ℤ)) → length pairs ≡ 0 → written ≡ [] → Writes written (keyed pairs)

@@ -4,14 +4,14 @@ use Rattle.std.proofs.lemmas.List.{map-append, length-map, take-append-drop}
 use Rattle.std.proofs.Math.Seq.{take-append_seam, drop-append_seam}
 use Rattle.std.proofs.lemmas.Option.{slice_get_within}
 use Rattle.std.specs.Int.{cast_signed, w32}
-use Rattle.icu_char16trie.specs.UnitForms.{number_form, intermediate_form, delta_form}
+use Rattle.icu_char16trie.specs.UnitNumberForms.{number_form, intermediate_form, delta_form}
 use Rattle.icu_char16trie.specs.UnitPairs.{AreSorted, HaveUnits, FirstGoesOn, rests, prefixed, spread, AreGroups, parts, room, Extends}
 use Rattle.icu_char16trie.specs.UnitLayouts.{Lays, node, follows, within}
 use Rattle.icu_char16trie.specs.UnitLayouts as layout
 use Rattle.icu_char16trie.specs.declared.writer.group.Group.{Group}
-use Rattle.icu_char16trie.proofs.UnitReads.{reads_number, reads_intermediate}
-use Rattle.icu_char16trie.proofs.UnitPairs.{rests_length, sorted_longer, sorted_run, room_append, room_behind, room_run}
-use Rattle.icu_char16trie.proofs.UnitGroups.{groups_bounds, groups_wider, groups_halved, spread_append}
+use Rattle.icu_char16trie.proofs.Writing.NumberFormLemmas.{reads_number, reads_intermediate}
+use Rattle.icu_char16trie.proofs.Pairs.SortedPairLemmas.{rests_length, sorted_longer, sorted_run, room_append, room_behind, room_run}
+use Rattle.icu_char16trie.proofs.Pairs.GroupLemmas.{groups_bounds, groups_wider, groups_halved, spread_append}
 
 -- what stands at no place
 abbrev pub no_key : Bor (List ℕ) × ℤ
@@ -78,7 +78,7 @@ run_room depth n pairs units some l e =
 pub run_sorted : (depth n : ℕ) (pairs : List (Bor (List ℕ) × ℤ)) (units : List ℕ) → rests depth pairs ≡ prefixed units (rests (depth + n) pairs) → AreSorted (rests depth pairs) → AreSorted (rests (depth + n) pairs)
 run_sorted depth n pairs units e sorted = sorted_run units (rests (depth + n) pairs) (subst (λ pairs. AreSorted pairs) e sorted)
 
--- a branch behind its type
+-- a branch after its type
 
 pub few_lays : (kind : ℕ) (mid : List ℕ) (groups : List (ℕ × List (List ℕ × ℤ))) (all : List (List ℕ × ℤ)) → 0 < kind → kind < 0x30 → length groups ≡ kind + 1
     → Lays mid (within 0 0x10000 groups) → spread groups ≡ all → Lays mid (follows kind all)
@@ -167,7 +167,7 @@ within_some (layout.value low high unit number units groups from below some few 
 within_some (layout.jump low high unit distance units pairs groups from below some few short to h) = omega arith
 within_some (layout.halves low high middle distance units lowers uppers from below many count short to h) = omega arith
 
--- what was written before is as far behind as units were written since
+-- what was written earlier lies as far on as units were written since
 module _ (old new : List ℕ) (h : Extends old new) where
   pub extends_front : length new - length old ≡ length h.0
   extends_front = let l = ap length h.1 ∙ length-append h.0 old in omega (arith, l)

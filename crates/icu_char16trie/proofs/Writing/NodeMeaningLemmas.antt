@@ -1,12 +1,12 @@
 -- What units mean, and that it is what was laid in them: nodes and what follows their types.
 use Rattle.std.proofs.Common.{◌≡◌, ℕ, ℤ, ◌+◌, ◌-◌, ◌<◌, ◌≤◌, ◌⊎◌, ◌==◌, if◌then◌else◌, List, [], ◌∷◌, ◌++◌, length, drop, slice_get, Option, Some, None, refl, ap, ◌∙◌, sym, subst, arith, inl, inr, ⊎_elim}
 use Rattle.std.specs.Int.{cast_signed, w32}
-use Rattle.icu_char16trie.specs.UnitCells.{after, final_number}
+use Rattle.icu_char16trie.specs.UnitNumbers.{after, final_number}
 use Rattle.icu_char16trie.specs.UnitSteps.{opened}
-use Rattle.icu_char16trie.specs.UnitMaps.{Leads, IsNode, final, valued, bare, Spot, at_node, behind, Spells, goes_on, run_on, run_out, branch_value, branch_node, IsWhole, whole_end, whole_node, whole_run, whole_run_end, whole_branch}
+use Rattle.icu_char16trie.specs.UnitMaps.{Leads, IsNode, final, valued, bare, Spot, at_node, at_state, MapsKey, goes_on, run_on, run_out, branch_value, branch_node, IsWhole, whole_end, whole_node, whole_run, whole_run_end, whole_branch}
 use Rattle.icu_char16trie.specs.UnitGrammar.{IsSound, spot, sound_end, sound_node, sound_run, sound_run_end, sound_branch}
 use Rattle.icu_char16trie.specs.UnitGrammar as grammar
-use Rattle.icu_char16trie.specs.UnitForms.{number_form}
+use Rattle.icu_char16trie.specs.UnitNumberForms.{number_form}
 use Rattle.icu_char16trie.specs.UnitPairs.{prefixed, spread, Has}
 use Rattle.icu_char16trie.specs.declared.cells.Number.{Number}
 use Rattle.icu_char16trie.specs.declared.node.Branch.{Branch}
@@ -15,16 +15,16 @@ use Rattle.icu_char16trie.specs.declared.node.Target.{Target}
 use Rattle.icu_char16trie.specs.declared.node.Target.TheVariants.{Value, Node}
 use Rattle.icu_char16trie.specs.declared.node.State.{State}
 use Rattle.icu_char16trie.specs.declared.node.State.TheVariants as state
-use Rattle.icu_char16trie.proofs.UnitLemmas.{if_leb, if_not_leb, if_not_eq}
-use Rattle.icu_char16trie.proofs.UnitBranches.{some-same}
-use Rattle.icu_char16trie.proofs.UnitAnswers.{Says, node-is, node_forth, ends-here, stopped_none}
-use Rattle.icu_char16trie.proofs.UnitPairs.{prefixed_more}
-use Rattle.icu_char16trie.proofs.UnitReads.{unit_at, behind_unit, reads_number, ReadsIntermediate}
+use Rattle.icu_char16trie.proofs.Cursors.SearchLemmas.{if_leb, if_not_leb, if_not_eq}
+use Rattle.icu_char16trie.proofs.Cursors.BranchLemmas.{some-same}
+use Rattle.icu_char16trie.proofs.Cursors.StepLemmas.{Says, node-is, node_forth, ends-here, stopped_none}
+use Rattle.icu_char16trie.proofs.Pairs.SortedPairLemmas.{prefixed_more}
+use Rattle.icu_char16trie.proofs.Writing.NumberFormLemmas.{unit_at, behind_unit, reads_number, ReadsIntermediate}
 
 -- from the spot the units spell these pairs, whole and in the grammar
 pub record SpotMeans (units : List ℕ) (from : Spot) (pairs : List (List ℕ × ℤ)) : Type 0 where
-  pub spelled : (key : List ℕ) (number : ℤ) → Spells units from key number → Has pairs key number
-  pub spells : (key : List ℕ) (number : ℤ) → Has pairs key number → Spells units from key number
+  pub spelled : (key : List ℕ) (number : ℤ) → MapsKey units from key number → Has pairs key number
+  pub spells : (key : List ℕ) (number : ℤ) → Has pairs key number → MapsKey units from key number
   pub whole : IsWhole units from
   pub sound : IsSound units (spot from)
 
@@ -32,7 +32,7 @@ pub record SpotMeans (units : List ℕ) (from : Spot) (pairs : List (List ℕ ×
 pub record FollowsMeans (units : List ℕ) (place kind : ℕ) (pairs : List (List ℕ × ℤ)) : Type 0 where
   pub next : State
   pub opens : opened units kind place ≡ Some next
-  pub means : SpotMeans units (behind next) pairs
+  pub means : SpotMeans units (at_state next) pairs
 
 -- a branch unit leads to these pairs
 abbrev pub TargetMeans : List ℕ → Target → List (List ℕ × ℤ) → Type 0
@@ -99,19 +99,19 @@ bare_means units place kind rest pairs e low f =
       sound = sound_node place None f.next node f.means.sound;
     }
 
--- what a key goes on with behind a node
+-- how a key goes on after a node
 abbrev TargetSpells : List ℕ → Target → List ℕ → ℤ → Type 0
 TargetSpells units (Value value) rest number = (rest ≡ []) × (cast_signed w32 value ≡ number)
-TargetSpells units (Node place) rest number = Spells units (at_node place) rest number
+TargetSpells units (Node place) rest number = MapsKey units (at_node place) rest number
 
 abbrev Behind : List ℕ → State → List ℕ → ℤ → Type 0
 Behind units (state.Stopped) key number = ⊥
 Behind units (state.Match run) key number = (unit : ℕ) × (rest : List ℕ) × (key ≡ unit ∷ rest) × (slice_get units run.place ≡ Some unit)
-    × (((1 < run.left) × Spells units (behind (state.Match (record { left = run.left - 1; place = run.place + 1 }))) rest number)
-    ⊎ ((run.left ≤ 1) × Spells units (at_node (run.place + 1)) rest number))
+    × (((1 < run.left) × MapsKey units (at_state (state.Match (record { left = run.left - 1; place = run.place + 1 }))) rest number)
+    ⊎ ((run.left ≤ 1) × MapsKey units (at_node (run.place + 1)) rest number))
 Behind units (state.Branch branch) key number = (unit : ℕ) × (rest : List ℕ) × (target : Target) × (key ≡ unit ∷ rest) × Leads units branch unit target × TargetSpells units target rest number
 
-behind_cases : (units : List ℕ) {next : State} {key : List ℕ} {number : ℤ} → Spells units (behind next) key number → Behind units next key number
+behind_cases : (units : List ℕ) {next : State} {key : List ℕ} {number : ℤ} → MapsKey units (at_state next) key number → Behind units next key number
 behind_cases units (run_on run unit key number e more rest) = (unit, key, refl, e, inl (more, rest))
 behind_cases units (run_out run unit key number e few rest) = (unit, key, refl, e, inr (few, rest))
 behind_cases units (branch_value branch unit value leads) = (unit, [], Value value, refl, leads, (refl, refl))
@@ -132,7 +132,7 @@ has_key : (pairs : List (List ℕ × ℤ)) (key other : List ℕ) (number : ℤ)
 has_key pairs key other number e h = subst (λ key. Has pairs key number) e h
 
 module _ (units : List ℕ) (place left unit : ℕ) (rest : List ℕ) (pairs : List (List ℕ × ℤ)) (e : drop place units ≡ unit ∷ rest) where
-  run_last : left ≡ 1 → SpotMeans units (at_node (place + 1)) pairs → SpotMeans units (behind (state.Match (record { left = left; place = place }))) (prefixed (unit ∷ []) pairs)
+  run_last : left ≡ 1 → SpotMeans units (at_node (place + 1)) pairs → SpotMeans units (at_state (state.Match (record { left = left; place = place }))) (prefixed (unit ∷ []) pairs)
   run_last one means =
       let run : Match = record { left = left; place = place } in
       let at : slice_get units place ≡ Some unit = unit_at units place unit rest e in
@@ -145,13 +145,13 @@ module _ (units : List ℕ) (place left unit : ℕ) (rest : List ℕ) (pairs : L
             (λ out. has_key (prefixed (unit ∷ []) pairs) (unit ∷ c.1) key n (ap (λ unit. unit ∷ c.1) same ∙ sym c.2) (has_one unit pairs c.1 n (means.spelled c.1 n out.1))) c.4;
         spells = λ key n h.
             let r = one_has unit pairs key n h in
-            subst (λ key. Spells units (behind (state.Match run)) key n) (sym r.1) (run_out run unit r.0 n at few (means.spells r.0 n r.2));
+            subst (λ key. MapsKey units (at_state (state.Match run)) key n) (sym r.1) (run_out run unit r.0 n at few (means.spells r.0 n r.2));
         whole = whole_run_end run unit at few means.whole;
         sound = sound_run_end run unit at few means.sound;
       }
 
-  run_first : 1 < left → SpotMeans units (behind (state.Match (record { left = left - 1; place = place + 1 }))) pairs
-      → SpotMeans units (behind (state.Match (record { left = left; place = place }))) (prefixed (unit ∷ []) pairs)
+  run_first : 1 < left → SpotMeans units (at_state (state.Match (record { left = left - 1; place = place + 1 }))) pairs
+      → SpotMeans units (at_state (state.Match (record { left = left; place = place }))) (prefixed (unit ∷ []) pairs)
   run_first many means =
       let run : Match = record { left = left; place = place } in
       let at : slice_get units place ≡ Some unit = unit_at units place unit rest e in
@@ -163,18 +163,18 @@ module _ (units : List ℕ) (place left unit : ℕ) (rest : List ℕ) (pairs : L
             (λ out. absurd (omega (arith, out.0, many))) c.4;
         spells = λ key n h.
             let r = one_has unit pairs key n h in
-            subst (λ key. Spells units (behind (state.Match run)) key n) (sym r.1) (run_on run unit r.0 n at many (means.spells r.0 n r.2));
+            subst (λ key. MapsKey units (at_state (state.Match run)) key n) (sym r.1) (run_on run unit r.0 n at many (means.spells r.0 n r.2));
         whole = whole_run run unit at many means.whole;
         sound = sound_run run unit at many means.sound;
       }
 
 run_means : (run : List ℕ) (unit : ℕ) (units : List ℕ) (place left : ℕ) (rest : List ℕ) (pairs : List (List ℕ × ℤ)) → left ≡ length run + 1 → drop place units ≡ unit ∷ (run ++ rest)
     → ((at : ℕ) → drop at units ≡ rest → SpotMeans units (at_node at) pairs)
-    → SpotMeans units (behind (state.Match (record { left = left; place = place }))) (prefixed (unit ∷ run) pairs)
+    → SpotMeans units (at_state (state.Match (record { left = left; place = place }))) (prefixed (unit ∷ run) pairs)
 run_means [] unit units place left rest pairs l e means =
     run_last units place left unit rest pairs e (omega (arith, l)) (means (place + 1) (behind_unit units place unit rest e))
 run_means (second ∷ run) unit units place left rest pairs l e means =
-    subst (λ pairs. SpotMeans units (behind (state.Match (record { left = left; place = place }))) pairs) (sym (prefixed_more unit (second ∷ run) pairs))
+    subst (λ pairs. SpotMeans units (at_state (state.Match (record { left = left; place = place }))) pairs) (sym (prefixed_more unit (second ∷ run) pairs))
     (run_first units place left unit (second ∷ (run ++ rest)) (prefixed (second ∷ run) pairs) e (omega (arith, l))
     (run_means run second units (place + 1) (left - 1) rest pairs (omega (arith, l)) (behind_unit units place unit (second ∷ (run ++ rest)) e) means))
 
@@ -235,17 +235,17 @@ target_spells units (Value value) pairs rest number means h =
 target_spells units (Node place) pairs rest number means h = means.spells rest number h
 
 led_spells : (units : List ℕ) (branch : Branch) (unit : ℕ) (target : Target) (rest : List ℕ) (number : ℤ) → Leads units branch unit target → TargetSpells units target rest number
-    → Spells units (behind (state.Branch branch)) (unit ∷ rest) number
+    → MapsKey units (at_state (state.Branch branch)) (unit ∷ rest) number
 led_spells units branch unit (Value value) rest number leads h =
-    subst (λ rest. Spells units (behind (state.Branch branch)) (unit ∷ rest) number) (sym h.0)
-    (subst (λ number. Spells units (behind (state.Branch branch)) (unit ∷ []) number) h.1 (branch_value branch unit value leads))
+    subst (λ rest. MapsKey units (at_state (state.Branch branch)) (unit ∷ rest) number) (sym h.0)
+    (subst (λ number. MapsKey units (at_state (state.Branch branch)) (unit ∷ []) number) h.1 (branch_value branch unit value leads))
 led_spells units branch unit (Node place) rest number leads h = branch_node branch unit place rest number leads h
 
 first_group : (groups : List (ℕ × List (List ℕ × ℤ))) → 0 < length groups → (unit : ℕ) × (pairs : List (List ℕ × ℤ)) × HasGroup groups unit pairs
 first_group [] some = absurd (omega (arith, some))
 first_group (group ∷ groups) some = (group.0, group.1, inl (refl, refl))
 
-branch_means : (units : List ℕ) (branch : Branch) (groups : List (ℕ × List (List ℕ × ℤ))) → WithinMeans units branch 0 0x10000 groups → SpotMeans units (behind (state.Branch branch)) (spread groups)
+branch_means : (units : List ℕ) (branch : Branch) (groups : List (ℕ × List (List ℕ × ℤ))) → WithinMeans units branch 0 0x10000 groups → SpotMeans units (at_state (state.Branch branch)) (spread groups)
 branch_means units branch groups w =
     let first = first_group groups w.some in
     let leading = w.leads_to first.0 first.1 first.2 in
@@ -257,7 +257,7 @@ branch_means units branch groups w =
       spells = λ key n h.
           let s = spread_has groups key n h in
           let t = w.leads_to s.0 s.1 s.3 in
-          subst (λ key. Spells units (behind (state.Branch branch)) key n) (sym s.4)
+          subst (λ key. MapsKey units (at_state (state.Branch branch)) key n) (sym s.4)
           (led_spells units branch s.0 t.0 s.2 n t.1 (target_spells units t.0 s.1 s.2 n t.2 s.5));
       whole = whole_branch branch first.0 leading.0 leading.1 (λ other place leads. let m = w.leads other (Node place) leads in m.2.whole);
       sound = sound_branch branch w.sound;

@@ -2,10 +2,10 @@
 use Rattle.std.proofs.Common.{◌≡◌, ℕ, zero, suc, ◌+◌, ◌-◌, ◌*◌, ◌/◌, ◌%◌, ◌^◌, ◌<◌, ◌≤◌, ltb, if◌then◌else◌, List, [], ◌∷◌, ◌++◌, drop, slice_get, Option, Some, None, ap, ◌∙◌, sym, arith, ⊎_elim}
 use Rattle.std.proofs.lemmas.Bool.{cases_lt}
 use Rattle.std.proofs.lemmas.List.{drop-drop}
-use Rattle.icu_char16trie.specs.UnitCells.{after, with_unit, two_units, final_number, intermediate_number, delta}
-use Rattle.icu_char16trie.specs.UnitForms.{two_unit_form, three_unit_form, number_form, intermediate_form, delta_form}
+use Rattle.icu_char16trie.specs.UnitNumbers.{after, with_unit, two_units, final_number, intermediate_number, delta}
+use Rattle.icu_char16trie.specs.UnitNumberForms.{two_unit_form, three_unit_form, number_form, intermediate_form, delta_form}
 use Rattle.icu_char16trie.specs.declared.cells.Number.{Number}
-use Rattle.icu_char16trie.proofs.UnitLemmas.{if_ltb, if_not_ltb}
+use Rattle.icu_char16trie.proofs.Cursors.SearchLemmas.{if_ltb, if_not_ltb}
 
 head_of : List ℕ → Option ℕ
 head_of [] = None
@@ -32,7 +32,7 @@ two_units_at units place high low rest e =
     ap (λ found. after found (λ high. with_unit units high (place + 1))) (unit_at units place high (low ∷ rest) e)
     ∙ with_unit_at units high (place + 1) low rest (behind_unit units place high (low ∷ rest) e)
 
--- a jump or a value that was read, and what stands behind it
+-- a jump or a value that was read, and what stands after it
 pub record ReadsNumber (units : List ℕ) (place highest number : ℕ) (rest : List ℕ) : Type 0 where
   pub lead : ℕ
   pub end : ℕ
@@ -56,7 +56,7 @@ module _ (units : List ℕ) (place highest number : ℕ) (rest : List ℕ) where
   number_two large small e =
       let lead : ℕ = 0x4000 + number / 2 ^ 16 in
       let below : lead < 0x7fff = omega (arith, small) in
-      let behind = behind_unit units place (highest + 0x4000 + number / 2 ^ 16) (number % 2 ^ 16 ∷ rest) e in
+      let at_state = behind_unit units place (highest + 0x4000 + number / 2 ^ 16) (number % 2 ^ 16 ∷ rest) e in
       record {
         lead = lead;
         end = place + 1 + 1;
@@ -64,21 +64,21 @@ module _ (units : List ℕ) (place highest number : ℕ) (rest : List ℕ) where
         low = omega (arith, below);
         reads = if_not_ltb lead 0x4000 (number_to lead (place + 1)) (if ltb lead 0x7fff then with_unit units (lead - 0x4000) (place + 1) else two_units units (place + 1)) (omega arith)
             ∙ if_ltb lead 0x7fff (with_unit units (lead - 0x4000) (place + 1)) (two_units units (place + 1)) below
-            ∙ with_unit_at units (lead - 0x4000) (place + 1) (number % 2 ^ 16) rest behind
+            ∙ with_unit_at units (lead - 0x4000) (place + 1) (number % 2 ^ 16) rest at_state
             ∙ ap (λ value. number_to value (place + 1 + 1)) (omega arith);
-        left = behind_unit units (place + 1) (number % 2 ^ 16) rest behind;
+        left = behind_unit units (place + 1) (number % 2 ^ 16) rest at_state;
       }
 
   number_three : drop place units ≡ (highest + 0x7fff) ∷ (0 + number / 2 ^ 16) ∷ number % 2 ^ 16 ∷ rest → ReadsNumber units place highest number rest
   number_three e =
-      let behind = behind_unit units place (highest + 0x7fff) ((0 + number / 2 ^ 16) ∷ number % 2 ^ 16 ∷ rest) e in
-      let second = behind_unit units (place + 1) (0 + number / 2 ^ 16) (number % 2 ^ 16 ∷ rest) behind in
+      let at_state = behind_unit units place (highest + 0x7fff) ((0 + number / 2 ^ 16) ∷ number % 2 ^ 16 ∷ rest) e in
+      let second = behind_unit units (place + 1) (0 + number / 2 ^ 16) (number % 2 ^ 16 ∷ rest) at_state in
       record {
         lead = 0x7fff;
         end = place + 1 + 1 + 1;
         at = unit_at units place (highest + 0x7fff) ((0 + number / 2 ^ 16) ∷ number % 2 ^ 16 ∷ rest) e;
         low = omega arith;
-        reads = two_units_at units (place + 1) (0 + number / 2 ^ 16) (number % 2 ^ 16) rest behind
+        reads = two_units_at units (place + 1) (0 + number / 2 ^ 16) (number % 2 ^ 16) rest at_state
             ∙ ap (λ value. number_to value (place + 1 + 1 + 1)) (omega arith);
         left = behind_unit units (place + 1 + 1) (number % 2 ^ 16) rest second;
       }
@@ -128,7 +128,7 @@ module _ (units : List ℕ) (place kind number : ℕ) (rest : List ℕ) (type : 
   intermediate_two small e =
       let lead : ℕ = (number / 2 ^ 16 + 0x101) * 0x40 + kind in
       let below : lead < 0x7fc0 = omega (arith, small, type) in
-      let behind = behind_unit units place lead (number % 2 ^ 16 ∷ rest) e in
+      let at_state = behind_unit units place lead (number % 2 ^ 16 ∷ rest) e in
       record {
         lead = lead;
         end = place + 1 + 1;
@@ -138,16 +138,16 @@ module _ (units : List ℕ) (place kind number : ℕ) (rest : List ℕ) (type : 
         of = omega (arith, type);
         reads = if_not_ltb lead 0x4040 (number_to (lead / 2 ^ 6 - 1) (place + 1)) (if ltb lead 0x7fc0 then with_unit units (lead / 2 ^ 6 - 0x101) (place + 1) else two_units units (place + 1)) (omega arith)
             ∙ if_ltb lead 0x7fc0 (with_unit units (lead / 2 ^ 6 - 0x101) (place + 1)) (two_units units (place + 1)) below
-            ∙ with_unit_at units (lead / 2 ^ 6 - 0x101) (place + 1) (number % 2 ^ 16) rest behind
+            ∙ with_unit_at units (lead / 2 ^ 6 - 0x101) (place + 1) (number % 2 ^ 16) rest at_state
             ∙ ap (λ value. number_to value (place + 1 + 1)) (omega (arith, type));
-        left = behind_unit units (place + 1) (number % 2 ^ 16) rest behind;
+        left = behind_unit units (place + 1) (number % 2 ^ 16) rest at_state;
       }
 
   intermediate_three : drop place units ≡ (0x7fc0 + kind) ∷ (0 + number / 2 ^ 16) ∷ number % 2 ^ 16 ∷ rest → ReadsIntermediate units place kind number rest
   intermediate_three e =
       let lead : ℕ = 0x7fc0 + kind in
-      let behind = behind_unit units place lead ((0 + number / 2 ^ 16) ∷ number % 2 ^ 16 ∷ rest) e in
-      let second = behind_unit units (place + 1) (0 + number / 2 ^ 16) (number % 2 ^ 16 ∷ rest) behind in
+      let at_state = behind_unit units place lead ((0 + number / 2 ^ 16) ∷ number % 2 ^ 16 ∷ rest) e in
+      let second = behind_unit units (place + 1) (0 + number / 2 ^ 16) (number % 2 ^ 16 ∷ rest) at_state in
       record {
         lead = lead;
         end = place + 1 + 1 + 1;
@@ -157,7 +157,7 @@ module _ (units : List ℕ) (place kind number : ℕ) (rest : List ℕ) (type : 
         of = omega (arith, type);
         reads = if_not_ltb lead 0x4040 (number_to (lead / 2 ^ 6 - 1) (place + 1)) (if ltb lead 0x7fc0 then with_unit units (lead / 2 ^ 6 - 0x101) (place + 1) else two_units units (place + 1)) (omega arith)
             ∙ if_not_ltb lead 0x7fc0 (with_unit units (lead / 2 ^ 6 - 0x101) (place + 1)) (two_units units (place + 1)) (omega arith)
-            ∙ two_units_at units (place + 1) (0 + number / 2 ^ 16) (number % 2 ^ 16) rest behind
+            ∙ two_units_at units (place + 1) (0 + number / 2 ^ 16) (number % 2 ^ 16) rest at_state
             ∙ ap (λ value. number_to value (place + 1 + 1 + 1)) (omega arith);
         left = behind_unit units (place + 1 + 1) (number % 2 ^ 16) rest second;
       }
@@ -201,25 +201,25 @@ module _ (units : List ℕ) (place number : ℕ) (rest : List ℕ) where
   delta_two small e =
       let lead : ℕ = 0xfc00 + number / 2 ^ 16 in
       let below : lead < 0xffff = omega (arith, small) in
-      let behind = behind_unit units place lead (number % 2 ^ 16 ∷ rest) e in
+      let at_state = behind_unit units place lead (number % 2 ^ 16 ∷ rest) e in
       record {
         end = place + 1 + 1;
         reads = ap (λ found. after found (delta_lead units place)) (unit_at units place lead (number % 2 ^ 16 ∷ rest) e)
             ∙ if_not_ltb lead 0xfc00 (number_to lead (place + 1)) (if ltb lead 0xffff then with_unit units (lead - 0xfc00) (place + 1) else two_units units (place + 1)) (omega arith)
             ∙ if_ltb lead 0xffff (with_unit units (lead - 0xfc00) (place + 1)) (two_units units (place + 1)) below
-            ∙ with_unit_at units (lead - 0xfc00) (place + 1) (number % 2 ^ 16) rest behind
+            ∙ with_unit_at units (lead - 0xfc00) (place + 1) (number % 2 ^ 16) rest at_state
             ∙ ap (λ value. number_to value (place + 1 + 1)) (omega arith);
-        left = behind_unit units (place + 1) (number % 2 ^ 16) rest behind;
+        left = behind_unit units (place + 1) (number % 2 ^ 16) rest at_state;
       }
 
   delta_three : drop place units ≡ 0xffff ∷ (0 + number / 2 ^ 16) ∷ number % 2 ^ 16 ∷ rest → ReadsDelta units place number rest
   delta_three e =
-      let behind = behind_unit units place 0xffff ((0 + number / 2 ^ 16) ∷ number % 2 ^ 16 ∷ rest) e in
-      let second = behind_unit units (place + 1) (0 + number / 2 ^ 16) (number % 2 ^ 16 ∷ rest) behind in
+      let at_state = behind_unit units place 0xffff ((0 + number / 2 ^ 16) ∷ number % 2 ^ 16 ∷ rest) e in
+      let second = behind_unit units (place + 1) (0 + number / 2 ^ 16) (number % 2 ^ 16 ∷ rest) at_state in
       record {
         end = place + 1 + 1 + 1;
         reads = ap (λ found. after found (delta_lead units place)) (unit_at units place 0xffff ((0 + number / 2 ^ 16) ∷ number % 2 ^ 16 ∷ rest) e)
-            ∙ two_units_at units (place + 1) (0 + number / 2 ^ 16) (number % 2 ^ 16) rest behind
+            ∙ two_units_at units (place + 1) (0 + number / 2 ^ 16) (number % 2 ^ 16) rest at_state
             ∙ ap (λ value. number_to value (place + 1 + 1 + 1)) (omega arith);
         left = behind_unit units (place + 1 + 1) (number % 2 ^ 16) rest second;
       }

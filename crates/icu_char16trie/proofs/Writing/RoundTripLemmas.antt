@@ -5,13 +5,13 @@ use Rattle.std.specs.Ordering.{nat_cmp}
 use Rattle.std.specs.declared.cmp.Ordering.TheVariants.{Less}
 use Rattle.std.specs.List.{AllByRecursion}
 use Rattle.std.specs.List.Sorted.{IsStrictlySortedBy}
-use Rattle.icu_char16trie.specs.UnitMaps.{at_node, Spells}
+use Rattle.icu_char16trie.specs.UnitMaps.{at_node, MapsKey}
 use Rattle.icu_char16trie.specs.UnitGrammar.{IsListing, IsWithin}
 use Rattle.icu_char16trie.specs.UnitPairs.{ComesFirst, AreSorted, Has}
 use Rattle.icu_char16trie.specs.WrittenUnits.{AreWritten, AreShort}
-use Rattle.icu_char16trie.proofs.UnitRead.{has_contains, contains_has}
-use Rattle.icu_char16trie.proofs.UnitRoots.{below_less, sorted_from}
-use Rattle.icu_char16trie.proofs.UnitSame.{same_list}
+use Rattle.icu_char16trie.proofs.Reading.CompleteReadsLemmas.{has_contains, contains_has}
+use Rattle.icu_char16trie.proofs.Writing.KeyFaultLemmas.{below_less, sorted_from}
+use Rattle.icu_char16trie.proofs.Pairs.SameListLemmas.{same_list}
 
 less-all : (key : List ℕ) (pairs : List (List ℕ × ℤ)) → ComesFirst key pairs
     → AllByRecursion (λ other. slice_cmp nat_cmp key other ≡ Less) (map (λ (pair : List ℕ × ℤ). pair.0) pairs)
@@ -24,7 +24,7 @@ strictly-sorted [] h = tt
 strictly-sorted (pair ∷ pairs) h = (less-all pair.0 pairs h.0, strictly-sorted pairs h.1)
 
 module _ (pairs : List (List ℕ × ℤ)) (units : List ℕ) (limit : ℕ)
-    (entries : (key : List ℕ) (number : ℤ) → Spells units (at_node 0) key number ↔ Has pairs key number) where
+    (entries : (key : List ℕ) (number : ℤ) → MapsKey units (at_node 0) key number ↔ Has pairs key number) where
   pub read_back : (list : List (List ℕ × ℤ)) → AreWritten pairs → IsListing units limit list → list ≡ pairs
   read_back list written listing =
       same_list list pairs listing.sorted (strictly-sorted pairs (sorted_from pairs written.0))

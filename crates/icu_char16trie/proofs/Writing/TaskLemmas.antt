@@ -2,15 +2,15 @@
 use Rattle.std.proofs.Common.{◌≡◌, ℕ, ℤ, ◌+◌, ◌-◌, ◌*◌, ◌/◌, ◌^◌, ◌<◌, ◌≤◌, List, [], ◌∷◌, ◌++◌, length, Option, Some, None, refl, ap, ◌∙◌, sym, subst, arith, Bor, Result, Ok, Err, length-append}
 use Rattle.std.specs.Int.{cast_signed, cast_unsigned, w32}
 use Rattle.std.specs.Result.{OnOk}
-use Rattle.icu_char16trie.specs.UnitForms.{number_form, intermediate_form, delta_form}
+use Rattle.icu_char16trie.specs.UnitNumberForms.{number_form, intermediate_form, delta_form}
 use Rattle.icu_char16trie.specs.UnitPairs.{AreSorted, AreGroups, rests, spread, prefixed, room, Extends}
 use Rattle.icu_char16trie.specs.UnitLayouts.{Lays, node, follows, within}
 use Rattle.icu_char16trie.specs.UnitLayouts as layout
-use Rattle.icu_char16trie.specs.UnitPlans.{Adds, Finishes, IsNodeLaid, AreGroupsLaid, head_task, headed, weight}
+use Rattle.icu_char16trie.specs.UnitWritingTasks.{Adds, Finishes, IsNodeLaid, AreGroupsLaid, head_task, headed, weight}
 use Rattle.icu_char16trie.specs.declared.writer.task.Task.{Task}
 use Rattle.icu_char16trie.specs.declared.writer.task.Task.TheVariants as task
-use Rattle.icu_char16trie.proofs.UnitPairs.{rests_length, extends_more}
-use Rattle.icu_char16trie.proofs.UnitWrites.{final_lays, run_lays, few_lays, many_lays, first_group, last_lays, value_lays, jump_lays, Halves, halves_lays, delta_length, number_length}
+use Rattle.icu_char16trie.proofs.Pairs.SortedPairLemmas.{rests_length, extends_more}
+use Rattle.icu_char16trie.proofs.Writing.LayoutLemmas.{final_lays, run_lays, few_lays, many_lays, first_group, last_lays, value_lays, jump_lays, Halves, halves_lays, delta_length, number_length}
 
 pub intermediate_length : (kind number : ℕ) → length (intermediate_form kind number) ≤ 3
 intermediate_length kind number = grind arith
