@@ -1,5 +1,5 @@
 //! The numbers in the units of a unit trie. A final value, a jump, an intermediate value and a
-//! delta each take one to three units; there is no number where the units end before.
+//! delta each take one to three units; there is no number where the units end too soon.
 ghost use Rattle.std.specs.Prelude.{◌≡◌, ◌+◌, ◌*◌, ◌^◌, ◌<◌, ◌≤◌, slice_get, IfSome, length};
 ghost use Rattle.icu_char16trie.specs.UnitNumbers.{with_unit, two_units, final_number, intermediate_number, delta, landing};
 

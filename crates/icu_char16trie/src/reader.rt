@@ -17,13 +17,13 @@ mod queue;
 use part::Part;
 use queue::Queue;
 
-/// Why units could not be read.
+/// Why units are not read.
 #[derive(Clone, Copy, Debug, PartialEq, Eq, Drop)]
 pub enum ReadUnitsError {
-    /// The units break the grammar of unit tries, or spell a key that is too long. Reading stops at
-    /// the place, in units from the first.
+    /// The units break the grammar of unit tries, or a key in them is too long. Reading stops at the
+    /// place, counted in units from the first.
     BadUnits(usize),
-    /// Memory was refused.
+    /// Out of memory.
     Memory,
 }
 
@@ -64,12 +64,11 @@ pub trait EntryTest {
         ensures { result ≡ test self.now key.now value };
 }
 
-/// The keys and values that the units of a unit trie spell, sorted by the units of the keys. No units
+/// The keys and values in the units of a unit trie, sorted by the units of the keys. No units
 /// give the empty list. `BadUnits` where the units break the grammar, where the first node has a
 /// value, and where a key has more than `limit` units; the place is that of the value, of the unit
 /// that does not rise in its branch or that makes a key too long, or else the end of the units.
-/// `Memory` where memory is refused: nodes may be shared by jumps, so the list may be far longer than
-/// the units.
+/// `Memory` when out of memory: jumps may share nodes, so the list may be far longer than the units.
 pub fn read_units(
     alloc: Global,
     units: &PackedVec<'_, u16>,
@@ -93,8 +92,8 @@ pub fn read_units(
     Ok(queue.into_entries())
 }
 
-/// Whether all keys and values that the units of a unit trie spell pass a test, without a list of
-/// them. `BadUnits` and `Memory` as `read_units` has them.
+/// Whether all keys and values in the units of a unit trie pass a test. No list of them is made. The
+/// errors are those of `read_units`.
 pub fn all_pass<T: EntryTest>(
     alloc: Global,
     units: &PackedVec<'_, u16>,

@@ -21,7 +21,7 @@ mod task;
 
 use layout::write_pairs;
 
-/// How many units all keys together may have.
+/// How many units all keys may have together.
 const MOST_UNITS: usize = 268_435_456;
 
 /// Why keys are not written.
@@ -33,7 +33,7 @@ pub enum WriteUnitsError {
     NotSorted(usize),
     /// The keys have more than 268,435,456 units in all.
     TooLarge,
-    /// There is not enough memory.
+    /// Out of memory.
     Memory,
 }
 
@@ -106,13 +106,13 @@ fn is_too_large(pairs: &[(&[u16], i32)]) -> bool
     false
 }
 
-/// The units of a unit trie that has these keys, in units, with these values: each key that the
-/// trie spells is one of them, and the units keep the grammar. They are at most ten for each unit of
-/// the keys and three for each key, and none where there are no pairs.
+/// The units of a unit trie that maps these keys, in units, to these values, and no other keys. They
+/// keep the grammar, and are at most ten for each unit of the keys and three for each key, and none
+/// where there are no pairs.
 ///
-/// The keys are not empty and rise by their units. Else the answer is the first fault: `EmptyKey`
-/// or `NotSorted` of the first pair at fault, `TooLarge` where the keys have over 268,435,456 units
-/// in all, and `Memory` where memory is refused.
+/// The keys must not be empty and must rise by their units. Else the answer is the first fault:
+/// `EmptyKey` or `NotSorted` of the first pair at fault, then `TooLarge` where the keys have more
+/// than 268,435,456 units in all, and `Memory` when out of memory.
 pub fn write_units(alloc: Global, pairs: &[(&[u16], i32)]) -> Result<Vec<u16>, WriteUnitsError>
     ensures refused { MatchResult result (λ _. AreWritten (keyed pairs.now)) (Explains (keyed pairs.now)) }
     ensures entries { IfOk result (λ units. (key : List ℕ) (number : ℤ) → MapsKey units.items (at_node 0) key number ↔ Has (keyed pairs.now) key number) }

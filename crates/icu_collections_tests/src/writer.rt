@@ -1,3 +1,5 @@
+//! Writing of unit tries: what is written is found again, keys at fault, and a key of 5,000,000 units.
+
 use icu_collections::char16trie::{Char16Trie, TrieResult, WriteUnitsError, write_units};
 use icu_collections_sets::packed_vector::PackedVec;
 use std::alloc::{AllocError, Global};

@@ -90,7 +90,7 @@ fn bytes_between<T: PackedItem>(bytes: &[u8], range: Range<usize>) -> &[u8]
 
 impl<'a, T: PackedItem> PackedVec<'a, T> {
     /// The items that these bytes mean, borrowed. Refused as `OddLength` where the bytes end within
-    /// an item, else as `BadValue` of the first place whose bytes mean no value of the type, as
+    /// an item, else as `BadValue` of the first place whose bytes aren't a value of the type, such as
     /// the three bytes of a surrogate.
     pub fn try_from_bytes(bytes: &'a [u8]) -> Result<PackedVec<'a, T>, PackedVecError>
         ensures { MatchResult result
@@ -132,7 +132,7 @@ impl<'a, T: PackedItem> PackedVec<'a, T> {
         self.as_bytes().len() / T::WIDTH
     }
 
-    /// Whether there is no item.
+    /// Whether there are no items.
     pub fn is_empty(&self) -> bool
         ensures { IsTrue result ↔ (length self.now ≡ 0) }
     {
@@ -153,8 +153,8 @@ impl<'a, T: PackedItem> PackedVec<'a, T> {
         }
     }
 
-    /// The item at a place before the end, as a slice is indexed: for readers who know the place to be
-    /// one (`len`); `get` answers at every place. It takes no memory.
+    /// The item at a place before the end, as a slice is indexed, for callers who know by `len` that
+    /// the place is one; `get` answers at every place. It takes no memory.
     #[inline]
     pub fn at(&self, place: usize) -> T
         requires { place < length self.now }

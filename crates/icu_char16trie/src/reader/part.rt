@@ -26,7 +26,7 @@ pub(super) enum Part {
 }
 
 /// What stands first in a part. Keys go on with the unit, if there is one. The value is that of the
-/// key so far, `next` spells how it goes on, and `rest` spells further keys that go on otherwise.
+/// key so far, `next` is how that key goes on, and `rest` has the keys that go on otherwise.
 #[derive(Clone, Copy)]
 pub(super) struct Step {
     pub(super) unit: Option<u16>,
