@@ -1,32 +1,5 @@
-mod UnitLemmas
-mod UnitBranches
-mod UnitAnswers
-mod UnitKeys
-mod UnitWhole
-mod UnitSays
-mod UnitTexts
-mod UnitExamples
-mod UnitGrammars
-mod UnitPairs
-mod UnitGroups
-mod UnitReads
-mod UnitMeanings
-mod UnitSpreads
-mod UnitWrites
-mod UnitPlans
-pub mod UnitRoots
-mod UnitJobsLeft
-mod UnitStands
-mod UnitAhead
-mod UnitListing
-mod UnitListed
-mod UnitReadings
-mod UnitRead
-mod UnitListings
-mod UnitSame
-mod UnitRoundTrips
-mod UnitValues
-mod UnitLonger
-mod UnitKept
-mod UnitErrors
-mod UnitTested
+mod Cursors
+mod Grammar
+mod Reading
+mod Pairs
+pub mod Writing

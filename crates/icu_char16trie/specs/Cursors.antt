@@ -1,7 +1,7 @@
 -- Cursors in a unit trie: what they answer, and where they stand then.
 use Rattle.std.specs.Prelude.{◌≡◌, ℕ, ℤ, ◌+◌, ◌-◌, ◌/◌, ◌%◌, ◌↔◌, ◌⊎◌, ltb, if◌then◌else◌, List, [], ◌∷◌, ◌++◌, Option, Some, None}
 use Rattle.icu_char16trie.specs.UnitSteps.{start, step}
-use Rattle.icu_char16trie.specs.UnitMaps.{behind, Spells, IsWhole, HasValue, IsLast}
+use Rattle.icu_char16trie.specs.UnitMaps.{at_state, MapsKey, IsWhole, HasValue, IsLast}
 use Rattle.icu_char16trie.specs.UnitAnswers.{IsAnswer}
 use Rattle.icu_char16trie.specs.declared.Char16Trie.{Char16Trie}
 use Rattle.icu_char16trie.specs.declared.Char16TrieIterator.{Char16TrieIterator}
@@ -25,19 +25,19 @@ cursor_state cursor = cursor.state
 
 -- the trie maps the key to the number
 abbrev pub IsEntry : Char16Trie → List ℕ → ℤ → Type 0
-IsEntry trie key number = Spells (trie_units trie) (behind (start (trie_units trie))) key number
+IsEntry trie key number = MapsKey (trie_units trie) (at_state (start (trie_units trie))) key number
 
 -- the key is mapped to the number from where the cursor stands
 abbrev pub IsEntryFrom : Char16TrieIterator → List ℕ → ℤ → Type 0
-IsEntryFrom cursor key number = Spells (cursor_units cursor) (behind (cursor_state cursor)) key number
+IsEntryFrom cursor key number = MapsKey (cursor_units cursor) (at_state (cursor_state cursor)) key number
 
 -- the units of the trie keep the grammar
 abbrev pub IsWholeTrie : Char16Trie → Type 0
-IsWholeTrie trie = IsWhole (trie_units trie) (behind (start (trie_units trie)))
+IsWholeTrie trie = IsWhole (trie_units trie) (at_state (start (trie_units trie)))
 
 -- the units keep the grammar from where the cursor stands
 abbrev pub IsWholeFrom : Char16TrieIterator → Type 0
-IsWholeFrom cursor = IsWhole (cursor_units cursor) (behind (cursor_state cursor))
+IsWholeFrom cursor = IsWhole (cursor_units cursor) (at_state (cursor_state cursor))
 
 -- no further unit matches
 abbrev pub IsStopped : Char16TrieIterator → Type 0
@@ -100,9 +100,9 @@ pub record Follows (before : Char16TrieIterator) (key : List ℕ) (answer : Trie
   pub whole : IsWholeFrom before → IsLast answer ⊎ IsWholeFrom after
   -- some key goes on from there, unless nothing follows
   pub more : IsWholeFrom before → (IsLast answer → ⊥) → (next : ℕ) × (rest : List ℕ) × (number : ℤ) × IsEntryFrom after (next ∷ rest) number
-  -- behind a last answer nothing follows
+  -- after a last answer nothing follows
   pub last : IsLast answer → (rest : List ℕ) (number : ℤ) → IsEntryFrom after rest number → ⊥
-  -- behind a last answer it is stopped
+  -- after a last answer it is stopped
   pub stops : IsLast answer → IsStopped after
   -- once stopped it answers `NoMatch`
   pub stopped : IsStopped before → answer ≡ NoMatch

@@ -12,7 +12,7 @@ module _ (IsEntry : List ℕ → ℤ → Type 0) (units : List ℕ) where
   abbrev pub BeginKey : Type 0
   BeginKey = (next : ℕ) × (rest : List ℕ) × (number : ℤ) × IsEntry (units ++ (next ∷ rest)) number
 
-  -- what is to be said of the units
+  -- the right answer to the units
   abbrev pub IsAnswer : TrieResult → Type 0
   IsAnswer NoMatch = (AreKey → ⊥) × (BeginKey → ⊥)
   IsAnswer NoValue = (AreKey → ⊥) × BeginKey

@@ -4,9 +4,9 @@ use Rattle.std.specs.Cmp.Lexicographic.{slice_cmp}
 use Rattle.std.specs.List.{Contains}
 use Rattle.std.specs.List.Sorted.{IsStrictlySortedBy}
 use Rattle.std.specs.Ordering.{nat_cmp}
-use Rattle.icu_char16trie.specs.UnitCells.{delta, landing}
+use Rattle.icu_char16trie.specs.UnitNumbers.{delta, landing}
 use Rattle.icu_char16trie.specs.UnitSteps.{entry_at, entry_target, start}
-use Rattle.icu_char16trie.specs.UnitMaps.{IsNode, Spells, IsWhole, Spot, at_node, behind}
+use Rattle.icu_char16trie.specs.UnitMaps.{IsNode, MapsKey, IsWhole, Spot, at_node, at_state}
 use Rattle.icu_char16trie.specs.declared.cells.Number.{Number}
 use Rattle.icu_char16trie.specs.declared.node.Branch.{Branch}
 use Rattle.icu_char16trie.specs.declared.node.Entry.{Entry}
@@ -24,14 +24,14 @@ pub data Part : Type 0 where
 -- the units of a branch rise, those of its first half below the unit at which it is halved
 pub data IsSound (units : List ℕ) : Part → Type 0 where
   sound_end : (place value : ℕ) → IsNode units place (Some value) None → IsSound units (spot (at_node place))
-  sound_node : (place : ℕ) (value : Option ℕ) (next : State) → IsNode units place value (Some next) → IsSound units (spot (behind next))
+  sound_node : (place : ℕ) (value : Option ℕ) (next : State) → IsNode units place value (Some next) → IsSound units (spot (at_state next))
       → IsSound units (spot (at_node place))
   sound_run : (run : Match) (unit : ℕ) → slice_get units run.place ≡ Some unit → 1 < run.left
-      → IsSound units (spot (behind (state.Match (record { left = run.left - 1; place = run.place + 1 }))))
-      → IsSound units (spot (behind (state.Match run)))
+      → IsSound units (spot (at_state (state.Match (record { left = run.left - 1; place = run.place + 1 }))))
+      → IsSound units (spot (at_state (state.Match run)))
   sound_run_end : (run : Match) (unit : ℕ) → slice_get units run.place ≡ Some unit → run.left ≤ 1
-      → IsSound units (spot (at_node (run.place + 1))) → IsSound units (spot (behind (state.Match run)))
-  sound_branch : (branch : Branch) → IsSound units (within branch 0 0x10000) → IsSound units (spot (behind (state.Branch branch)))
+      → IsSound units (spot (at_node (run.place + 1))) → IsSound units (spot (at_state (state.Match run)))
+  sound_branch : (branch : Branch) → IsSound units (within branch 0 0x10000) → IsSound units (spot (at_state (state.Branch branch)))
   sound_last : (branch : Branch) (low high unit : ℕ) → branch.count ≤ 1 → slice_get units branch.place ≡ Some unit
       → low ≤ unit → unit < high → IsSound units (spot (at_node (branch.place + 1))) → IsSound units (within branch low high)
   sound_value : (branch : Branch) (low high value : ℕ) (entry : Entry) → 1 < branch.count → branch.count ≤ 5
@@ -53,17 +53,17 @@ pub data IsSound (units : List ℕ) : Part → Type 0 where
 -- units that keep the grammar: none, or those whose first node has no value
 pub data IsUnitTrie (units : List ℕ) : Type 0 where
   no_units : units ≡ [] → IsUnitTrie units
-  rooted : (next : State) → IsNode units 0 None (Some next) → IsSound units (spot (behind next)) → IsUnitTrie units
+  rooted : (next : State) → IsNode units 0 None (Some next) → IsSound units (spot (at_state next)) → IsUnitTrie units
 
--- no key is longer than so many units
+-- no key is longer than the limit
 abbrev pub IsWithin : List ℕ → ℕ → Type 0
-IsWithin units limit = (key : List ℕ) (number : ℤ) → Spells units (at_node 0) key number → length key ≤ limit
+IsWithin units limit = (key : List ℕ) (number : ℤ) → MapsKey units (at_node 0) key number → length key ≤ limit
 
--- the keys and values that the units spell, in order, no key longer than so many units
+-- the keys and values of the units, in order, no key longer than the limit
 pub record IsListing (units : List ℕ) (limit : ℕ) (pairs : List (List ℕ × ℤ)) : Type 0 where
   pub trie : IsUnitTrie units
-  pub entries : (key : List ℕ) (number : ℤ) → Contains pairs (key, number) ↔ Spells units (at_node 0) key number
+  pub entries : (key : List ℕ) (number : ℤ) → Contains pairs (key, number) ↔ MapsKey units (at_node 0) key number
   pub sorted : IsStrictlySortedBy (slice_cmp nat_cmp) (map (λ pair. pair.0) pairs)
   pub bound : IsWithin units limit
-  pub from_start : (key : List ℕ) (number : ℤ) → Spells units (behind (start units)) key number ↔ Spells units (at_node 0) key number
-  pub whole : units ≢ [] → IsWhole units (behind (start units))
+  pub from_start : (key : List ℕ) (number : ℤ) → MapsKey units (at_state (start units)) key number ↔ MapsKey units (at_node 0) key number
+  pub whole : units ≢ [] → IsWhole units (at_state (start units))

@@ -3,9 +3,9 @@
 use Rattle.std.specs.Prelude.{◌≡◌, ℕ, ℤ, ◌+◌, ◌/◌, ◌<◌, ◌≤◌, List, [], ◌∷◌, ◌++◌, length, drop}
 use Rattle.std.specs.Int.{cast_signed, w32}
 use Rattle.icu_char16trie.specs.UnitPairs.{prefixed, spread}
-use Rattle.icu_char16trie.specs.UnitForms.{number_form, intermediate_form, delta_form}
+use Rattle.icu_char16trie.specs.UnitNumberForms.{number_form, intermediate_form, delta_form}
 
--- what units spell: pairs, at a node or behind its type, or groups of a branch whose units go from a
+-- what units spell: pairs, at a node or after its type, or groups of a branch whose units go from a
 -- low bound to below a high one
 pub data Part : Type 0 where
   node : List (List ℕ × ℤ) → Part

@@ -1,7 +1,7 @@
 -- The map from keys to values that units spell, by cases on the units.
 use Rattle.std.specs.Prelude.{◌≡◌, ◌≢◌, ℕ, ℤ, suc, zero, ◌+◌, ◌-◌, ◌/◌, ◌%◌, ◌<◌, ◌≤◌, List, [], ◌∷◌, slice_get, Option, Some, None}
 use Rattle.std.specs.Int.{cast_signed, w32}
-use Rattle.icu_char16trie.specs.UnitCells.{final_number, intermediate_number, delta, landing}
+use Rattle.icu_char16trie.specs.UnitNumbers.{final_number, intermediate_number, delta, landing}
 use Rattle.icu_char16trie.specs.UnitSteps.{entry_at, entry_target, opened}
 use Rattle.icu_char16trie.specs.declared.cells.Number.{Number}
 use Rattle.icu_char16trie.specs.declared.node.Branch.{Branch}
@@ -14,7 +14,7 @@ use Rattle.icu_char16trie.specs.declared.node.State.TheVariants as state
 use Rattle.icu_char16trie.specs.declared.TrieResult.{TrieResult}
 use Rattle.icu_char16trie.specs.declared.TrieResult.TheVariants.{NoMatch, NoValue, Intermediate, FinalValue}
 
--- the unit stands among so many entries at a place, or behind them as the last, and leads to the target
+-- the unit is one of this number of entries at a place, or the last unit after them, and leads to the target
 pub data Lists (units : List ℕ) : ℕ → ℕ → ℕ → Target → Type 0 where
   last : (place unit : ℕ) → slice_get units place ≡ Some unit → Lists units zero place unit (Node (place + 1))
   here : (entries place unit : ℕ) (entry : Entry) (target : Target) → entry_at units place ≡ Some entry → entry.unit ≡ unit
@@ -44,38 +44,38 @@ pub data IsNode (units : List ℕ) : ℕ → Option ℕ → Option State → Typ
   bare : (place lead : ℕ) (next : State) → slice_get units place ≡ Some lead → lead < 0x40
       → opened units lead (place + 1) ≡ Some next → IsNode units place None (Some next)
 
--- where keys are spelled: at a node, or at what follows one
+-- where keys are read from: the node at a place, or the state of a cursor
 pub data Spot : Type 0 where
   at_node : ℕ → Spot
-  behind : State → Spot
+  at_state : State → Spot
 
--- the key and its value are spelled there
-pub data Spells (units : List ℕ) : Spot → List ℕ → ℤ → Type 0 where
+-- the units map the key to the number, read from that spot on
+pub data MapsKey (units : List ℕ) : Spot → List ℕ → ℤ → Type 0 where
   ends : (place value : ℕ) (next : Option State) → IsNode units place (Some value) next
-      → Spells units (at_node place) [] (cast_signed w32 value)
+      → MapsKey units (at_node place) [] (cast_signed w32 value)
   goes_on : (place : ℕ) (value : Option ℕ) (next : State) (key : List ℕ) (number : ℤ) → IsNode units place value (Some next)
-      → Spells units (behind next) key number → Spells units (at_node place) key number
+      → MapsKey units (at_state next) key number → MapsKey units (at_node place) key number
   run_on : (run : Match) (unit : ℕ) (key : List ℕ) (number : ℤ) → slice_get units run.place ≡ Some unit → 1 < run.left
-      → Spells units (behind (state.Match (record { left = run.left - 1; place = run.place + 1 }))) key number
-      → Spells units (behind (state.Match run)) (unit ∷ key) number
+      → MapsKey units (at_state (state.Match (record { left = run.left - 1; place = run.place + 1 }))) key number
+      → MapsKey units (at_state (state.Match run)) (unit ∷ key) number
   run_out : (run : Match) (unit : ℕ) (key : List ℕ) (number : ℤ) → slice_get units run.place ≡ Some unit → run.left ≤ 1
-      → Spells units (at_node (run.place + 1)) key number → Spells units (behind (state.Match run)) (unit ∷ key) number
+      → MapsKey units (at_node (run.place + 1)) key number → MapsKey units (at_state (state.Match run)) (unit ∷ key) number
   branch_value : (branch : Branch) (unit value : ℕ) → Leads units branch unit (Value value)
-      → Spells units (behind (state.Branch branch)) (unit ∷ []) (cast_signed w32 value)
+      → MapsKey units (at_state (state.Branch branch)) (unit ∷ []) (cast_signed w32 value)
   branch_node : (branch : Branch) (unit place : ℕ) (key : List ℕ) (number : ℤ) → Leads units branch unit (Node place)
-      → Spells units (at_node place) key number → Spells units (behind (state.Branch branch)) (unit ∷ key) number
+      → MapsKey units (at_node place) key number → MapsKey units (at_state (state.Branch branch)) (unit ∷ key) number
 
 -- the units keep the grammar there: what a key can lead to is whole, and some key is spelled
 pub data IsWhole (units : List ℕ) : Spot → Type 0 where
   whole_end : (place value : ℕ) → IsNode units place (Some value) None → IsWhole units (at_node place)
-  whole_node : (place : ℕ) (value : Option ℕ) (next : State) → IsNode units place value (Some next) → IsWhole units (behind next)
+  whole_node : (place : ℕ) (value : Option ℕ) (next : State) → IsNode units place value (Some next) → IsWhole units (at_state next)
       → IsWhole units (at_node place)
   whole_run : (run : Match) (unit : ℕ) → slice_get units run.place ≡ Some unit → 1 < run.left
-      → IsWhole units (behind (state.Match (record { left = run.left - 1; place = run.place + 1 }))) → IsWhole units (behind (state.Match run))
+      → IsWhole units (at_state (state.Match (record { left = run.left - 1; place = run.place + 1 }))) → IsWhole units (at_state (state.Match run))
   whole_run_end : (run : Match) (unit : ℕ) → slice_get units run.place ≡ Some unit → run.left ≤ 1
-      → IsWhole units (at_node (run.place + 1)) → IsWhole units (behind (state.Match run))
+      → IsWhole units (at_node (run.place + 1)) → IsWhole units (at_state (state.Match run))
   whole_branch : (branch : Branch) (unit : ℕ) (target : Target) → Leads units branch unit target
-      → ((other place : ℕ) → Leads units branch other (Node place) → IsWhole units (at_node place)) → IsWhole units (behind (state.Branch branch))
+      → ((other place : ℕ) → Leads units branch other (Node place) → IsWhole units (at_node place)) → IsWhole units (at_state (state.Branch branch))
 
 -- the answer has the value
 abbrev pub HasValue : TrieResult → ℤ → Type 0

@@ -14,7 +14,7 @@ abbrev pub ComesFirst : List ℕ → List (List ℕ × ℤ) → Type 0
 ComesFirst key [] = Unit {0}
 ComesFirst key (pair ∷ pairs) = Below key pair.0 × ComesFirst key pairs
 
--- each key comes before those behind it
+-- each key comes before those after it
 abbrev pub AreSorted : List (List ℕ × ℤ) → Type 0
 AreSorted [] = Unit {0}
 AreSorted (pair ∷ pairs) = ComesFirst pair.0 pairs × AreSorted pairs
@@ -24,7 +24,7 @@ abbrev pub HaveUnits : List (List ℕ × ℤ) → Type 0
 HaveUnits [] = Unit {0}
 HaveUnits (pair ∷ pairs) = (0 < length pair.0) × HaveUnits pairs
 
--- what is left of the keys behind so many units, and the values
+-- what is left of the keys after their first units, and the values
 abbrev pub rests : ℕ → List (Bor (List ℕ) × ℤ) → List (List ℕ × ℤ)
 rests depth pairs = map (λ pair. (drop depth pair.0.now, pair.1)) pairs
 
@@ -82,6 +82,6 @@ abbrev pub room : List (List ℕ × ℤ) → ℕ
 room [] = 0
 room (pair ∷ pairs) = 10 * length pair.0 + 3 + room pairs
 
--- the second units are the first ones with more in front
+-- the second units end with the first ones
 abbrev pub Extends : List ℕ → List ℕ → Type 0
 Extends units longer = (front : List ℕ) × (longer ≡ front ++ units)

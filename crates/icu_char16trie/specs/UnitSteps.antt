@@ -2,7 +2,7 @@
 -- match no key or break the grammar.
 use Rattle.std.specs.Prelude.{ℕ, suc, zero, ◌+◌, ◌-◌, ◌/◌, ◌%◌, ltb, leb, ◌==◌, if◌then◌else◌, List, slice_get, Option, Some, None}
 use Rattle.std.specs.Int.{cast_signed, w32}
-use Rattle.icu_char16trie.specs.UnitCells.{after, final_number, intermediate_number, delta, landing}
+use Rattle.icu_char16trie.specs.UnitNumbers.{after, final_number, intermediate_number, delta, landing}
 use Rattle.icu_char16trie.specs.declared.node.Branch.{Branch}
 use Rattle.icu_char16trie.specs.declared.node.Entry.{Entry}
 use Rattle.icu_char16trie.specs.declared.node.Match.{Match}
@@ -19,14 +19,14 @@ half_of units unit branch = after (slice_get units branch.place) (λ middle. aft
     if ltb unit middle then after (landing units jump) (λ place. Some (record { count = branch.count / 2; place = place }))
     else Some (record { count = branch.count - branch.count / 2; place = jump.end })))
 
--- the part of at most five units in which the unit is looked for, within so many halvings
+-- the part of at most five units in which the unit is looked for, within this number of halvings
 unfoldable pub small_part : List ℕ → ℕ → ℕ → Branch → Option Branch
 small_part units unit zero branch = if leb branch.count 5 then Some branch else None
 small_part units unit (suc halvings) branch =
     if leb branch.count 5 then Some branch
     else after (half_of units unit branch) (λ half. small_part units unit halvings half)
 
--- a branch unit before the last, and the number behind it
+-- a branch unit before the last, and the number after it
 abbrev pub entry_at : List ℕ → ℕ → Option Entry
 entry_at units place = after (slice_get units place) (λ unit. after (slice_get units (place + 1)) (λ lead.
     after (final_number units (lead % 0x8000) (place + 2)) (λ number.
@@ -38,7 +38,7 @@ entry_target units entry =
     if entry.is_value then Some (Value entry.number.value)
     else after (landing units entry.number) (λ place. Some (Node place))
 
--- what the unit leads to among so many entries, the last unit and the node behind it
+-- what the unit leads to among this number of entries, the last unit and the node after it
 unfoldable pub target_in : List ℕ → ℕ → ℕ → ℕ → Option Target
 target_in units unit zero place = after (slice_get units place) (λ last. if last == unit then Some (Node (place + 1)) else None)
 target_in units unit (suc entries) place = after (entry_at units place) (λ entry.

@@ -32,7 +32,7 @@ NoneBefore pairs place = (other : ℕ) → other < place → IsEmptyKey pairs ot
 abbrev pub AreWritten : List (List ℕ × ℤ) → Type 0
 AreWritten pairs = NoneBefore pairs (length pairs) × (total pairs ≤ 268_435_456)
 
--- no key has more than so many units
+-- no key has more units than the limit
 abbrev pub AreShort : ℕ → List (List ℕ × ℤ) → Type 0
 AreShort limit [] = Unit {0}
 AreShort limit (pair ∷ pairs) = (length pair.0 ≤ limit) × AreShort limit pairs
@@ -47,6 +47,6 @@ Explains pairs Memory = AreWritten pairs
 -- the error as it prints
 abbrev pub error_text : WriteUnitsError → List ℕ
 error_text (EmptyKey index) = codes "key " ++ decimal index ++ codes " is empty"
-error_text (NotSorted index) = codes "key " ++ decimal index ++ codes " is not above the one before"
+error_text (NotSorted index) = codes "key " ++ decimal index ++ codes " is not after the one before it"
 error_text TooLarge = codes "the keys have over 268435456 units"
 error_text Memory = codes "out of memory"

@@ -1,11 +1,11 @@
 //! The numbers in the units of a unit trie. A final value, a jump, an intermediate value and a
-//! delta each take one to three units; there is no number where the units end before.
+//! delta each take one to three units; there is no number where the units end too soon.
 ghost use Rattle.std.specs.Prelude.{◌≡◌, ◌+◌, ◌*◌, ◌^◌, ◌<◌, ◌≤◌, slice_get, IfSome, length};
-ghost use Rattle.icu_char16trie.specs.UnitCells.{with_unit, two_units, final_number, intermediate_number, delta, landing};
+ghost use Rattle.icu_char16trie.specs.UnitNumbers.{with_unit, two_units, final_number, intermediate_number, delta, landing};
 
 use icu_packed_vector::PackedVec;
 
-/// A number and the place behind it.
+/// A number and the place after it.
 #[derive(Clone, Copy)]
 pub(super) struct Number {
     pub(super) value: u32,
@@ -104,7 +104,7 @@ pub(super) fn delta(units: &PackedVec<'_, u16>, place: usize) -> Option<Number>
     }
 }
 
-/// The place behind a jump, or `None` where it leaves the units.
+/// The place after a jump, or `None` where it leaves the units.
 #[inline(always)]
 pub(super) fn landing(units: &PackedVec<'_, u16>, jump: Number) -> Option<usize>
     ensures { result ≡ landing units.now jump }

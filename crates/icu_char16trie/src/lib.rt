@@ -1,6 +1,6 @@
 //! Maps from texts in UTF-16 units to numbers, packed into units: a trie that a cursor follows one
 //! unit or character at a time. The form is that of ICU4X's `Char16Trie`. `write_units` writes the
-//! units; `Char16Trie::new` and `iter` give a cursor over them. Users list `icu_collections`.
+//! units; `Char16Trie::new` and `iter` give a cursor over them. Callers use it through `icu_collections`.
 #![tactic(auto)]
 
 ghost use Rattle.std.specs.Prelude.{◌≡◌, ◌+◌, ◌*◌, ◌^◌, ◌<◌, ◌≤◌, ◌-◌, ◌/◌, ◌%◌, [], ◌∷◌, ◌↔◌, ℕ, ℤ, List, IfOk};
@@ -20,16 +20,16 @@ use node::{State, start, step};
 pub use reader::{EntryTest, ReadUnitsError, all_pass, read_units};
 pub use writer::{WriteUnitsError, write_units};
 
-/// What a cursor says of the units that it was given.
+/// What a cursor answers to the units that it was given.
 #[derive(Clone, Copy, Debug, PartialEq, Eq)]
 pub enum TrieResult {
-    /// The units begin no key.
+    /// No key begins with the units.
     NoMatch,
-    /// The units begin keys and are none.
+    /// Keys begin with the units, which are no key themselves.
     NoValue,
-    /// The units are a key with this value, and begin longer ones.
+    /// The units are a key with this value, and longer keys begin with them.
     Intermediate(i32),
-    /// The units are a key with this value, and begin no longer one.
+    /// The units are a key with this value, and no longer key begins with them.
     FinalValue(i32),
 }
 
@@ -68,7 +68,7 @@ impl<'a> Char16Trie<'a> {
         }
     }
 
-    /// The same trie: borrowed units are borrowed again, others copied. The only error is want of
+    /// The same trie: borrowed units are borrowed again, others copied. Fails only when out of
     /// memory.
     pub fn clone(&self, alloc: Global) -> Result<Char16Trie<'a>, AllocError>
         ensures { IfOk result (λ trie. trie_units trie ≡ trie_units self.now) }
@@ -79,18 +79,18 @@ impl<'a> Char16Trie<'a> {
 }
 
 impl Char16TrieIterator<'_> {
-    /// What the units so far and this one are. After `NoMatch` or `FinalValue` every answer is
-    /// `NoMatch`, and so it is where the units of the trie break the grammar.
+    /// Follows one unit more, and answers what the units so far are. After `NoMatch` or `FinalValue`
+    /// every answer is `NoMatch`, and so it is where the units of the trie break the grammar.
     pub fn next16(&mut self, unit: u16) -> TrieResult
         ensures { Follows self.old (unit ∷ []) result self.new }
     {
         self.take_unit(unit)
     }
 
-    /// What the units so far and those of this code point are: one unit up to FFFF, a surrogate pair
-    /// up to 10FFFF. Past it, `NoMatch`, as of a unit that matches nothing. After `NoMatch` or
-    /// `FinalValue` every answer is `NoMatch`, and so it is where the units of the trie break the
-    /// grammar.
+    /// Follows the units of a code point, one up to FFFF and a surrogate pair up to 10FFFF, and
+    /// answers what the units so far are. A larger number is answered `NoMatch`, as a unit that
+    /// matches nothing. After `NoMatch` or `FinalValue` every answer is `NoMatch`, and so it is where
+    /// the units of the trie break the grammar.
     pub fn next32(&mut self, code: u32) -> TrieResult
         ensures units { cursor_units self.new ≡ cursor_units self.old }
         ensures follows { code ≤ 0x10ffff → Follows self.old (units_of code) result self.new }
@@ -103,9 +103,9 @@ impl Char16TrieIterator<'_> {
         self.follow_code(code)
     }
 
-    /// What the units so far and those of this character are: one unit, or two past U+FFFF. After
-    /// `NoMatch` or `FinalValue` every answer is `NoMatch`, and so it is where the units of the trie
-    /// break the grammar.
+    /// Follows the units of a character, one or past U+FFFF two, and answers what the units so far
+    /// are. After `NoMatch` or `FinalValue` every answer is `NoMatch`, and so it is where the units of
+    /// the trie break the grammar.
     pub fn next(&mut self, character: char) -> TrieResult
         ensures { Follows self.old (units_of character) result self.new }
     {

@@ -89,7 +89,7 @@ fn small_part(units: &PackedVec<'_, u16>, unit: u16, branch: Branch) -> Option<B
     Some(part)
 }
 
-/// A branch unit before the last, and the number behind it.
+/// A branch unit before the last, and the number after it.
 #[inline(always)]
 pub(super) fn entry_at(units: &PackedVec<'_, u16>, place: usize) -> Option<Entry>
     ensures { result ≡ entry_at units.now place }
@@ -116,7 +116,7 @@ pub(super) fn entry_target(units: &PackedVec<'_, u16>, entry: Entry) -> Option<T
     Some(Target::Node(place))
 }
 
-/// What the unit leads to among so many entries, the last unit and the node behind it.
+/// What the unit leads to among the entries, the last unit and the node after it.
 #[inline(always)]
 fn target_in(units: &PackedVec<'_, u16>, unit: u16, entries: usize, place: usize) -> Option<Target>
     ensures { result ≡ target_in units.now unit entries place }

@@ -1,8 +1,8 @@
 //! The keys and values of a unit trie, read in order.
 ghost use Rattle.std.specs.Prelude.{◌≡◌, ℕ, ℤ, List, Bool, true, IsTrue, ◌↔◌, IfOk, Err, map};
-ghost use Rattle.icu_char16trie.specs.UnitMaps.{at_node, Spells};
+ghost use Rattle.icu_char16trie.specs.UnitMaps.{at_node, MapsKey};
 ghost use Rattle.icu_char16trie.specs.UnitGrammar.{IsListing, IsUnitTrie, IsWithin};
-ghost use Rattle.icu_char16trie.specs.UnitJobs.{StopsAt};
+ghost use Rattle.icu_char16trie.specs.UnitReadingOrder.{StopsAt};
 ghost use Rattle.icu_char16trie.specs.declared.reader.ReadUnitsError.TheVariants.{BadUnits};
 
 use super::cells::unit_at;
@@ -17,19 +17,19 @@ mod queue;
 use part::Part;
 use queue::Queue;
 
-/// Why units could not be read.
+/// Why units are not read.
 #[derive(Clone, Copy, Debug, PartialEq, Eq, Drop)]
 pub enum ReadUnitsError {
-    /// The units break the grammar of unit tries, or spell a key that is too long. Reading stops at
-    /// the place, in units from the first.
+    /// The units break the grammar of unit tries, or a key in them is too long. Reading stops at the
+    /// place, counted in units from the first.
     BadUnits(usize),
-    /// Memory was refused.
+    /// Out of memory.
     Memory,
 }
 
 impl fmt::Display for ReadUnitsError {
     ghost use Rattle.std.specs.Prelude.{Some};
-    ghost use Rattle.icu_char16trie.specs.UnitJobs.{error_text};
+    ghost use Rattle.icu_char16trie.specs.UnitReadingOrder.{error_text};
 
     ghost output = { λ error. Some (error_text error) };
 
@@ -64,12 +64,11 @@ pub trait EntryTest {
         ensures { result ≡ test self.now key.now value };
 }
 
-/// The keys and values that the units of a unit trie spell, sorted by the units of the keys. No units
+/// The keys and values in the units of a unit trie, sorted by the units of the keys. No units
 /// give the empty list. `BadUnits` where the units break the grammar, where the first node has a
 /// value, and where a key has more than `limit` units; the place is that of the value, of the unit
 /// that does not rise in its branch or that makes a key too long, or else the end of the units.
-/// `Memory` where memory is refused: nodes may be shared by jumps, so the list may be far longer than
-/// the units.
+/// `Memory` when out of memory: jumps may share nodes, so the list may be far longer than the units.
 pub fn read_units(
     alloc: Global,
     units: &PackedVec<'_, u16>,
@@ -93,15 +92,15 @@ pub fn read_units(
     Ok(queue.into_entries())
 }
 
-/// Whether all keys and values that the units of a unit trie spell pass a test, without a list of
-/// them. `BadUnits` and `Memory` as `read_units` has them.
+/// Whether all keys and values in the units of a unit trie pass a test. No list of them is made. The
+/// errors are those of `read_units`.
 pub fn all_pass<T: EntryTest>(
     alloc: Global,
     units: &PackedVec<'_, u16>,
     limit: usize,
     test: &T,
 ) -> Result<bool, ReadUnitsError>
-    ensures passed { IfOk result (λ all. IsTrue all ↔ ((key : List ℕ) (number : ℤ) → Spells units.now (at_node 0) key number → IsTrue (T.test test.now key number))) }
+    ensures passed { IfOk result (λ all. IsTrue all ↔ ((key : List ℕ) (number : ℤ) → MapsKey units.now (at_node 0) key number → IsTrue (T.test test.now key number))) }
     ensures grammar { IfOk result (λ all. IsUnitTrie units.now) }
     ensures bound { IfOk result (λ all. IsWithin units.now limit) }
     ensures refused { (place : ℕ) → result ≡ Err (BadUnits place) → IsUnitTrie units.now → IsWithin units.now limit → ⊥ }

@@ -1,7 +1,7 @@
 //! Sorted keys and their values, written as the units of a unit trie.
 ghost use Rattle.std.specs.Prelude.{◌≡◌, ◌≢◌, ◌+◌, ◌*◌, ◌<◌, ◌≤◌, ◌↔◌, [], ℕ, ℤ, List, length, IsTrue, IfOk, MatchOption, MatchResult};
 ghost use Rattle.icu_char16trie.specs.UnitPairs.{Below, Has};
-ghost use Rattle.icu_char16trie.specs.UnitMaps.{Spells, IsWhole, at_node, behind};
+ghost use Rattle.icu_char16trie.specs.UnitMaps.{MapsKey, IsWhole, at_node, at_state};
 ghost use Rattle.icu_char16trie.specs.UnitSteps.{start};
 ghost use Rattle.icu_char16trie.specs.UnitGrammar.{IsUnitTrie};
 ghost use Rattle.icu_char16trie.specs.WrittenUnits.{keyed, total, NoneBefore, AreWritten, Explains};
@@ -21,7 +21,7 @@ mod task;
 
 use layout::write_pairs;
 
-/// How many units all keys together may have.
+/// How many units all keys may have together.
 const MOST_UNITS: usize = 268_435_456;
 
 /// Why keys are not written.
@@ -31,9 +31,9 @@ pub enum WriteUnitsError {
     EmptyKey(usize),
     /// The key of the pair at this index does not come after the one before it.
     NotSorted(usize),
-    /// The keys have over 268,435,456 units in all.
+    /// The keys have more than 268,435,456 units in all.
     TooLarge,
-    /// There is not enough memory.
+    /// Out of memory.
     Memory,
 }
 
@@ -48,7 +48,7 @@ impl fmt::Display for WriteUnitsError {
             WriteUnitsError::EmptyKey(index) => write!(f, "key {index} is empty"),
             WriteUnitsError::NotSorted(index) => write!(
                 f,
-                "key {index} is not above the one before"
+                "key {index} is not after the one before it"
             ),
             WriteUnitsError::TooLarge => write!(f, "the keys have over 268435456 units"),
             WriteUnitsError::Memory => write!(f, "out of memory"),
@@ -70,7 +70,7 @@ impl From<AllocError> for WriteUnitsError {
 }
 
 /// Whether the first units come before the second ones.
-#[tactic(auto, using(crate::proofs::UnitRoots::less_below, crate::proofs::UnitRoots::below_less))]
+#[tactic(auto, using(crate::proofs::Writing::KeyFaultLemmas::less_below, crate::proofs::Writing::KeyFaultLemmas::below_less))]
 fn comes_before(first: &[u16], second: &[u16]) -> bool
     ensures { IsTrue result ↔ Below first.now second.now }
 {
@@ -106,19 +106,19 @@ fn is_too_large(pairs: &[(&[u16], i32)]) -> bool
     false
 }
 
-/// The units of a unit trie that has these keys, in units, with these values: each key that the
-/// trie spells is one of them, and the units keep the grammar. They are at most ten for each unit of
-/// the keys and three for each key, and none where there are no pairs.
+/// The units of a unit trie that maps these keys, in units, to these values, and no other keys. They
+/// keep the grammar, and are at most ten for each unit of the keys and three for each key, and none
+/// where there are no pairs.
 ///
-/// The keys are not empty and rise by their units. Else the answer is the first fault: `EmptyKey`
-/// or `NotSorted` of the first pair at fault, `TooLarge` where the keys have over 268,435,456 units
-/// in all, and `Memory` where memory is refused.
+/// The keys must not be empty and must rise by their units. Else the answer is the first fault:
+/// `EmptyKey` or `NotSorted` of the first pair at fault, then `TooLarge` where the keys have more
+/// than 268,435,456 units in all, and `Memory` when out of memory.
 pub fn write_units(alloc: Global, pairs: &[(&[u16], i32)]) -> Result<Vec<u16>, WriteUnitsError>
     ensures refused { MatchResult result (λ _. AreWritten (keyed pairs.now)) (Explains (keyed pairs.now)) }
-    ensures entries { IfOk result (λ units. (key : List ℕ) (number : ℤ) → Spells units.items (at_node 0) key number ↔ Has (keyed pairs.now) key number) }
-    ensures followed { IfOk result (λ units. (key : List ℕ) (number : ℤ) → Spells units.items (behind (start units.items)) key number ↔ Has (keyed pairs.now) key number) }
+    ensures entries { IfOk result (λ units. (key : List ℕ) (number : ℤ) → MapsKey units.items (at_node 0) key number ↔ Has (keyed pairs.now) key number) }
+    ensures followed { IfOk result (λ units. (key : List ℕ) (number : ℤ) → MapsKey units.items (at_state (start units.items)) key number ↔ Has (keyed pairs.now) key number) }
     ensures whole { IfOk result (λ units. 0 < length pairs.now → IsWhole units.items (at_node 0)) }
-    ensures whole_start { IfOk result (λ units. 0 < length pairs.now → IsWhole units.items (behind (start units.items))) }
+    ensures whole_start { IfOk result (λ units. 0 < length pairs.now → IsWhole units.items (at_state (start units.items))) }
     ensures grammar { IfOk result (λ units. IsUnitTrie units.items) }
     ensures size { IfOk result (λ units. length units.items ≤ 10 * total (keyed pairs.now) + 3 * length pairs.now) }
     ensures none { IfOk result (λ units. pairs.now ≡ [] → units.items ≡ []) }

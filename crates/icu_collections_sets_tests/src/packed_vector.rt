@@ -152,7 +152,7 @@ fn printed(rt: HostRuntime) -> Result<(), Fail> {
     let error = PackedVecError::BadValue(3);
     assert_eq!(rt;
         format!(in rt.alloc(); "{error}")?.as_str(),
-        "item 3 is no value of its type"
+        "item 3 isn't a value of its type"
     );
     Ok(())
 }

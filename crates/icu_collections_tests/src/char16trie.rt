@@ -1,3 +1,5 @@
+//! Cursors of unit tries: their answers on tries written by hand, and on units that break the grammar.
+
 use icu_collections::char16trie::{Char16Trie, TrieResult};
 use icu_collections_sets::packed_vector::PackedVec;
 use std::alloc::{AllocError, Global};

@@ -1,3 +1,5 @@
+//! Reading of unit tries: the keys and values of units, refusals and their places, and sweeps over all short
+//! lists of units, read and followed.
 ghost use Rattle.std.specs.Prelude.{leb, length};
 
 use icu_collections::char16trie::{
@@ -17,7 +19,7 @@ fn read(
     read_units(alloc, &packed, limit)
 }
 
-/// Whether units are refused at a place.
+/// Whether reading these units stops at this place.
 fn stops_at(alloc: Global, units: &[u16], limit: usize, place: usize) -> bool {
     match read(alloc, units, limit) {
         Err(error) => error == ReadUnitsError::BadUnits(place),
@@ -47,7 +49,7 @@ fn ok_read_units(rt: HostRuntime) {
     assert!(rt; lists(alloc, &[], 0, &[]));
 }
 
-/// The keys of at most so many units.
+/// The keys that are no longer than the limit.
 struct Short {
     most: usize,
 }
@@ -167,7 +169,7 @@ fn answer(trie: &Char16Trie<'_>, typed: &[u16]) -> TrieResult {
     last
 }
 
-/// Whether the cursor answers as the list says behind each beginning of a key, to each of the edges.
+/// Whether the cursor answers as the list says after each beginning of a key, to each of the edges.
 fn agrees(alloc: Global, units: &[u16]) -> Result<bool, AllocError> {
     let list = match read(alloc, units, 64) {
         Ok(list) => list,

@@ -1,3 +1,5 @@
+//! Writing of unit tries: what is written is found again, keys at fault, and a key of 5,000,000 units.
+
 use icu_collections::char16trie::{Char16Trie, TrieResult, WriteUnitsError, write_units};
 use icu_collections_sets::packed_vector::PackedVec;
 use std::alloc::{AllocError, Global};
@@ -178,6 +180,6 @@ fn a_key_of_five_million_units(rt: HostRuntime) -> Result<(), Fail> {
 #[test]
 fn errors_print(rt: HostRuntime) -> Result<(), Fail> {
     let text = format!(in rt.alloc(); "{}", WriteUnitsError::NotSorted(12))?;
-    assert_eq!(rt; text.as_str(), "key 12 is not above the one before");
+    assert_eq!(rt; text.as_str(), "key 12 is not after the one before it");
     Ok(())
 }

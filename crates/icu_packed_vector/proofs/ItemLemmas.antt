@@ -10,7 +10,7 @@ use Rattle.std.proofs.lemmas.Bool.{cases_lt}
 use Rattle.std.proofs.Math.Nat.{mul-div_cancel, mul-le-mul_left}
 use Rattle.icu_packed_vector.specs.Items.{items_of, item_bytes, AreItems}
 
--- whole items: so many of this width
+-- the bytes are this number of items of the width
 pub whole_count : (w : ℕ) (bytes : List ℕ) → 0 < w → length bytes % w ≡ 0 → length bytes ≡ length bytes / w * w
 whole_count w bytes p e = omega arith
 
@@ -38,7 +38,7 @@ slice_get-items_of_past w m bytes i h = slice_get_past (items_of w m bytes) i (r
 first_place : (i : ℕ) → i < 1 → i ≡ 0
 first_place i h = omega arith
 
--- whole items, so many
+-- the bytes are this number of items
 pub AreItems_count : {IsGood : List ℕ → Type 0} (w : ℕ) (bytes : List ℕ) → 0 < w → AreItems w IsGood bytes → length bytes ≡ length bytes / w * w
 AreItems_count w bytes p good = whole_count w bytes p good.whole
 
@@ -132,7 +132,7 @@ module _ {IsGood : List ℕ → Type 0} where
             subst (λ k. IsGood (take w (drop k xs))) none (subst IsGood (sym (take_all w xs (omega arith))) good);
       }
 
-  -- whole items in front of good ones leave whole items behind them
+  -- after whole items, whole items are left
   pub AreItems_front : (w : ℕ) (xs ys : List ℕ) (n k : ℕ) → 0 < w → length xs ≡ n * w → length ys ≡ k * w → AreItems w IsGood (xs ++ ys) → AreItems w IsGood xs
   AreItems_front w xs ys n k p e f a =
       let joined : length (xs ++ ys) ≡ (n + k) * w = rw length-append (omega arith) in
@@ -281,7 +281,7 @@ module _ {IsGood : List ℕ → Type 0} (w : ℕ) (p : 0 < w) where
         IsGood_one w (drop n bytes) p f.2 (AreItems_back w (take n bytes) (drop n bytes) (length bytes / w - 1) 1 p f.1 (omega (arith, f.2)) b),
       )
 
--- one more item behind whole items
+-- one more item after whole items
 pub items_of_push : {T : Type 0} (w : ℕ) (m : List ℕ → T) (xs ys : List ℕ) → 0 < w → length xs % w ≡ 0 → length ys ≡ w → items_of w m (xs ++ ys) ≡ items_of w m xs ++ m ys ∷ []
 items_of_push w m xs ys p a e =
     items_of-append w m xs ys (length xs / w) 1 p (whole_count w xs p a) (omega arith) ∙ ap (λ zs. items_of w m xs ++ zs) (items_of-one w m ys p e)

@@ -1,4 +1,4 @@
--- The bytes of a number spell it.
+-- The bytes of a number have its value.
 use Rattle.std.specs.Prelude.{zero, suc, List, [], ◌∷◌, length, All}
 use Rattle.std.proofs.lemmas.List.Elements.{All-head, All-tail}
 use Rattle.std.proofs.Common.{◌≡◌, ℕ, ◌^◌, ◌<◌, sym, subst, arith, ⊎_elim}
@@ -24,7 +24,7 @@ little_endian-bytes3 x h = ⊎_elim (λ low. omega arith) (λ high. omega (arith
 pub is_scalar-bytes3 : (x : ℕ) → IsScalar x → IsScalar (little_endian (little_endian_bytes 3 x))
 is_scalar-bytes3 x h = subst IsScalar (sym (little_endian-bytes3 x h)) h
 
--- bytes spell a number below 256 to the power of their count
+-- the value of bytes is below 256 to the power of their count
 pub little_endian-below : (width : ℕ) (bytes : List ℕ) → All (λ byte. byte < 2 ^ 8) bytes → length bytes ≡ width → little_endian bytes < 256 ^ width
 little_endian-below zero [] small e = omega arith
 little_endian-below zero (b ∷ bytes) small e = absurd (omega arith)

@@ -14,7 +14,7 @@ pub trait PackedItem: Copy + Eq {
     /// How many bytes a value takes.
     ghost WIDTH: { ℕ };
 
-    /// The value that so many bytes mean.
+    /// The value of `WIDTH` bytes.
     ghost meaning: { List ℕ → Self };
 
     /// The bytes of a value.
@@ -41,7 +41,7 @@ pub trait PackedItem: Copy + Eq {
         ensures meaning { result ≡ meaning bytes.now }
         ensures value { is_value result };
 
-    /// Appends the bytes of the value. The only error is want of memory, and then nothing is appended.
+    /// Appends the bytes of the value. Fails only when out of memory, and then nothing is appended.
     fn write(self, out: &mut Vec<u8>) -> Result<(), AllocError>
         ensures appended { out.new.items ≡ (if is_ok result then out.old.items ++ encoding self else out.old.items) }
         ensures value { is_value self };

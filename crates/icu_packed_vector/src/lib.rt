@@ -8,10 +8,10 @@ ghost use Rattle.icu_packed_vector.specs.Items.{items_of, item_bytes, AreItems, 
 ghost use Rattle.std.specs.Cmp.Lexicographic.{pointwise, lists_per, lists_equiv};
 
 use std::alloc::{AllocError, Global};
-use std::error::Error;
 use std::fmt;
 use std::marker::{Model, PhantomData};
 use std::ops::Range;
+use thiserror::Error;
 
 mod item;
 mod iter;
@@ -19,25 +19,16 @@ mod iter;
 pub use item::PackedItem;
 pub use iter::PackedIter;
 
-/// Why bytes are no packed vector.
-#[derive(Clone, Copy, Debug, PartialEq, Eq)]
+/// Why bytes are refused as a packed vector.
+#[derive(Clone, Copy, Debug, PartialEq, Eq, Error)]
 pub enum PackedVecError {
     /// The bytes end within an item.
+    #[error("the bytes end within an item")]
     OddLength,
-    /// The item at this place is the first that is no value of the type.
+    /// The item at this place is the first that isn't a value of the type.
+    #[error("item {0} isn't a value of its type")]
     BadValue(usize),
 }
-
-impl fmt::Display for PackedVecError {
-    fn fmt<W: fmt::Write>(&self, f: &mut fmt::Formatter<W>) -> fmt::Result {
-        match self {
-            PackedVecError::OddLength => f.write_str("the bytes end within an item"),
-            PackedVecError::BadValue(place) => write!(f, "item {place} is no value of its type"),
-        }
-    }
-}
-
-impl Error for PackedVecError {}
 
 /// Items in packed bytes, borrowed or owned.
 #[derive(Drop)]
@@ -99,8 +90,8 @@ fn bytes_between<T: PackedItem>(bytes: &[u8], range: Range<usize>) -> &[u8]
 
 impl<'a, T: PackedItem> PackedVec<'a, T> {
     /// The items that these bytes mean, borrowed. Refused as `OddLength` where the bytes end within
-    /// an item, else as `BadValue` of the first place whose bytes mean no value of the type, as
-    /// three bytes that spell a surrogate.
+    /// an item, else as `BadValue` of the first place whose bytes aren't a value of the type, such as
+    /// the three bytes of a surrogate.
     pub fn try_from_bytes(bytes: &'a [u8]) -> Result<PackedVec<'a, T>, PackedVecError>
         ensures { MatchResult result
             (λ items. AreItems T.WIDTH T.is_encoding bytes.now × (items ≡ items_of T.WIDTH T.meaning bytes.now))
@@ -141,7 +132,7 @@ impl<'a, T: PackedItem> PackedVec<'a, T> {
         self.as_bytes().len() / T::WIDTH
     }
 
-    /// Whether there is no item.
+    /// Whether there are no items.
     pub fn is_empty(&self) -> bool
         ensures { IsTrue result ↔ (length self.now ≡ 0) }
     {
@@ -162,8 +153,8 @@ impl<'a, T: PackedItem> PackedVec<'a, T> {
         }
     }
 
-    /// The item at a place before the end, as a slice is indexed: for readers who know the place to be
-    /// one (`len`); `get` answers at every place. It takes no memory.
+    /// The item at a place before the end, as a slice is indexed, for callers who know by `len` that
+    /// the place is one; `get` answers at every place. It takes no memory.
     #[inline]
     pub fn at(&self, place: usize) -> T
         requires { place < length self.now }
@@ -196,7 +187,7 @@ impl<'a, T: PackedItem> PackedVec<'a, T> {
         })
     }
 
-    /// The same items in bytes of their own. The only error is want of memory; then the vector is
+    /// The same items in bytes of their own. Fails only when out of memory; then the vector is
     /// dropped.
     pub fn into_owned(self, alloc: Global) -> Result<PackedVec<'static, T>, AllocError>
         ensures { IfOk result (λ items. items ≡ self.entry) }
@@ -211,7 +202,7 @@ impl<'a, T: PackedItem> PackedVec<'a, T> {
         })
     }
 
-    /// The same items: borrowed bytes are borrowed again, others copied. The only error is want of
+    /// The same items: borrowed bytes are borrowed again, others copied. Fails only when out of
     /// memory.
     pub fn clone(&self, alloc: Global) -> Result<PackedVec<'a, T>, AllocError>
         ensures { IfOk result (λ items. items ≡ self.now) }
@@ -228,7 +219,7 @@ impl<'a, T: PackedItem> PackedVec<'a, T> {
 }
 
 impl<T: PackedItem> PackedVec<'static, T> {
-    /// The items of a slice, in bytes of their own. The only error is want of memory.
+    /// The items of a slice, in bytes of their own. Fails only when out of memory.
     pub fn from_slice(alloc: Global, items: &[T]) -> Result<PackedVec<'static, T>, AllocError>
         ensures { IfOk result (λ packed. packed ≡ items.now) }
     {

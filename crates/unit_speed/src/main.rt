@@ -1,5 +1,5 @@
-//! `unit_speed KEYS ROUNDS [FOLLOWS]`: makes random keys of 1 to 12 units, the same each time, and so
-//! many times writes them as a unit trie and follows them all, `FOLLOWS` times if it is given. It
+//! `unit_speed KEYS ROUNDS [FOLLOWS]`: makes random keys of 1 to 12 units, the same each time, and in
+//! each round writes them as a unit trie and follows them all, `FOLLOWS` times if it is given. It
 //! prints the counts, and is to be timed.
 #![tactic(auto)]
 
@@ -31,7 +31,7 @@ impl Random {
     }
 }
 
-/// So many random keys, sorted, each once.
+/// Random keys up to the count, sorted, each once.
 fn random_keys(alloc: Global, count: u32) -> Result<Vec<Vec<u16>>> {
     let mut random = Random { state: 1 };
     let mut keys = Vec::new(alloc);
@@ -67,7 +67,7 @@ fn answer_to(trie: &Char16Trie<'_>, key: &[u16]) -> TrieResult {
     answer
 }
 
-/// Of how many pairs a cursor gives the value.
+/// For how many pairs a cursor gives the value.
 fn found(trie: &Char16Trie<'_>, pairs: &[(&[u16], i32)]) -> usize {
     pairs
         .iter()
@@ -78,7 +78,7 @@ fn found(trie: &Char16Trie<'_>, pairs: &[(&[u16], i32)]) -> usize {
         .count()
 }
 
-/// The units that are written, and of how many pairs a cursor gives the value each time.
+/// How many units are written, and for how many pairs a cursor gives the value, at least, each time.
 fn write_and_follow(
     alloc: Global,
     pairs: &[(&[u16], i32)],

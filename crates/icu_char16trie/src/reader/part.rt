@@ -1,6 +1,6 @@
 //! The parts of a unit trie as a reader takes them, and what stands first in each.
 ghost use Rattle.std.specs.Prelude.{◌≡◌, ◌<◌};
-ghost use Rattle.icu_char16trie.specs.UnitReading.{part_behind, node_step, run_step, last_step, entry_step, halves_step, part_step, part_place};
+ghost use Rattle.icu_char16trie.specs.UnitPartSteps.{part_for, node_step, run_step, last_step, entry_step, halves_step, part_step, part_place};
 
 use super::super::cells::{delta, final_number, intermediate_number, landing, unit_at};
 use super::super::node::{Branch, Match, State, Target, entry_at, entry_target, opened};
@@ -26,7 +26,7 @@ pub(super) enum Part {
 }
 
 /// What stands first in a part. Keys go on with the unit, if there is one. The value is that of the
-/// key so far, `next` spells how it goes on, and `rest` spells further keys that go on otherwise.
+/// key so far, `next` is how that key goes on, and `rest` has the keys that go on otherwise.
 #[derive(Clone, Copy)]
 pub(super) struct Step {
     pub(super) unit: Option<u16>,
@@ -36,8 +36,8 @@ pub(super) struct Step {
 }
 
 /// The part that a node's state stands for.
-fn part_behind(state: State) -> Option<Part>
-    ensures { result ≡ part_behind state }
+fn part_for(state: State) -> Option<Part>
+    ensures { result ≡ part_for state }
 {
     match state {
         State::Stopped => None,
@@ -70,7 +70,7 @@ pub(super) fn node_step(units: &PackedVec<'_, u16>, place: usize) -> Option<Step
         return Some(Step {
             unit: None,
             value: Some(number.value),
-            next: part_behind(state),
+            next: part_for(state),
             rest: None,
         });
     }
@@ -78,7 +78,7 @@ pub(super) fn node_step(units: &PackedVec<'_, u16>, place: usize) -> Option<Step
     Some(Step {
         unit: None,
         value: None,
-        next: part_behind(state),
+        next: part_for(state),
         rest: None,
     })
 }
@@ -104,7 +104,7 @@ fn run_step(units: &PackedVec<'_, u16>, run: Match) -> Option<Step>
     })
 }
 
-/// The last unit of a branch and the node behind it.
+/// The last unit of a branch and the node after it.
 fn last_step(units: &PackedVec<'_, u16>, bounded: Bounded) -> Result<Step, usize>
     ensures { result ≡ last_step units.now bounded }
 {

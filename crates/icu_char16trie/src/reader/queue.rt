@@ -1,7 +1,7 @@
 //! What a reader of a unit trie has read, and what is still to be read.
 ghost use Rattle.std.specs.Prelude.{◌≡◌, ◌++◌, ◌<◌, ◌≤◌, ◌↔◌, ◌&&◌, ℕ, [], length, Result, IfOk, OnOk, IsTrue, Err, map};
 ghost use Rattle.std.specs.Int.{cast_signed, w32};
-ghost use Rattle.icu_char16trie.specs.UnitJobs.{jobs_left, pairs_read, onward, noted, extended, HasRoom, IsTaken, IsStuck, HasRead, HasTested, passes_all, StopsIn};
+ghost use Rattle.icu_char16trie.specs.UnitReadingOrder.{jobs_left, pairs_read, onward, noted, extended, HasRoom, IsTaken, IsStuck, HasRead, HasTested, passes_all, StopsIn};
 ghost use Rattle.icu_char16trie.specs.declared.reader.ReadUnitsError.TheVariants.{BadUnits};
 
 use super::part::{Part, part_place, part_step};

@@ -1,6 +1,6 @@
 //! Units that are written from the last to the first, and the numbers among them.
 ghost use Rattle.std.specs.Prelude.{◌≡◌, ◌+◌, ◌/◌, ◌^◌, ◌<◌, ◌≤◌, [], ◌∷◌, ◌++◌, OnOk, length, List, ℕ, reverse};
-ghost use Rattle.icu_char16trie.specs.UnitForms.{two_unit_form, number_form, intermediate_form, delta_form};
+ghost use Rattle.icu_char16trie.specs.UnitNumberForms.{two_unit_form, number_form, intermediate_form, delta_form};
 
 use std::alloc::{AllocError, Global};
 use std::marker::Model;
@@ -87,7 +87,7 @@ impl Backward {
         }
     }
 
-    /// How far it is to a node, from behind the number.
+    /// How far it is to a node, from the end of the number.
     pub(super) fn put_jump(&mut self, distance: u32) -> Result<(), AllocError>
         ensures { OnOk result (self.new ≡ number_form 0 distance ++ self.old) }
     {
@@ -117,7 +117,7 @@ impl Backward {
         }
     }
 
-    /// How far it is to the first half of a branch, from behind the number.
+    /// How far it is to the first half of a branch, from the end of the number.
     pub(super) fn put_delta(&mut self, distance: u32) -> Result<(), AllocError>
         ensures { OnOk result (self.new ≡ delta_form distance ++ self.old) }
     {

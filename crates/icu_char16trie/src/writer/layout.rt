@@ -2,7 +2,7 @@
 ghost use Rattle.std.specs.Prelude.{◌≡◌, ◌+◌, ◌*◌, ◌^◌, ◌<◌, ◌≤◌, ◌∷◌, length, OnOk, IfOk, ℕ, ℤ, List};
 ghost use Rattle.icu_char16trie.specs.UnitPairs.{rests, AreSorted, room};
 ghost use Rattle.icu_char16trie.specs.UnitLayouts.{Lays, node};
-ghost use Rattle.icu_char16trie.specs.UnitPlans.{CanTake, HasMark, Finishes, weight, since};
+ghost use Rattle.icu_char16trie.specs.UnitWritingTasks.{CanTake, HasMark, Finishes, weight, since};
 
 use super::backward::Backward;
 use super::marks::Marks;

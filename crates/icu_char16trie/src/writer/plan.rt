@@ -1,7 +1,7 @@
 //! What writes the nodes and branches of a unit trie, from the last to the first.
 ghost use Rattle.std.specs.Prelude.{◌≡◌, ◌+◌, ◌*◌, ◌^◌, ◌<◌, ◌≤◌, ◌∷◌, length, OnOk};
 ghost use Rattle.icu_char16trie.specs.UnitPairs.{rests, spread, parts, AreSorted, HaveUnits, AreGroups, room};
-ghost use Rattle.icu_char16trie.specs.UnitPlans.{Adds, IsNodeLaid, AreGroupsLaid, head_task, headed, weight};
+ghost use Rattle.icu_char16trie.specs.UnitWritingTasks.{Adds, IsNodeLaid, AreGroupsLaid, head_task, headed, weight};
 
 use super::group::Group;
 use super::groups::{ended_value, groups_of, lone_value, run_length};
@@ -35,7 +35,7 @@ pub(super) fn plan_node<'a>(
     Ok(())
 }
 
-/// The type of a node, behind the value of a key that ends there, if one does.
+/// The type of a node, after the value of a key that ends there, if one does.
 fn plan_head(tasks: &mut Tasks<'_>, kind: u16, value: Option<u32>) -> Result<(), AllocError>
     ensures { OnOk result (tasks.new ≡ head_task kind value ∷ tasks.old) }
 {

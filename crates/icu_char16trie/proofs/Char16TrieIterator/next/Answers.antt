@@ -1,5 +1,5 @@
 use Rattle.icu_char16trie.specs.Cursors.{units_of}
-use Rattle.icu_char16trie.proofs.UnitTexts.{follows_of, units_some}
+use Rattle.icu_char16trie.proofs.Cursors.TextAnswerLemmas.{follows_of, units_some}
 use Rattle.icu_char16trie.proofs.Char16TrieIterator.next.Goals as goal
 
 pub returns : goal.returns

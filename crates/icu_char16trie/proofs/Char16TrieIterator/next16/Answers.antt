@@ -1,5 +1,5 @@
 use Rattle.std.proofs.Common.{◌∷◌, [], arith}
-use Rattle.icu_char16trie.proofs.UnitTexts.{follows_of}
+use Rattle.icu_char16trie.proofs.Cursors.TextAnswerLemmas.{follows_of}
 use Rattle.icu_char16trie.proofs.Char16TrieIterator.next16.Goals as goal
 
 pub returns : goal.returns

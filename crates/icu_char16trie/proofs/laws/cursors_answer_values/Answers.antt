@@ -1,4 +1,4 @@
-use Rattle.icu_char16trie.proofs.UnitValues.{value_answered}
+use Rattle.icu_char16trie.proofs.Cursors.ValueLemmas.{value_answered}
 use Rattle.icu_char16trie.proofs.laws.cursors_answer_values.Goals as goal
 
 pub returns : goal.returns

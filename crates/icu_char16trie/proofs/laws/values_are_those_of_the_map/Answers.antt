@@ -1,5 +1,5 @@
-use Rattle.icu_char16trie.proofs.UnitValues.{value_spelled}
-use Rattle.icu_char16trie.proofs.UnitListings.{start-spells}
+use Rattle.icu_char16trie.proofs.Cursors.ValueLemmas.{value_spelled}
+use Rattle.icu_char16trie.proofs.Reading.OutcomeLemmas.{start-spells}
 use Rattle.icu_char16trie.proofs.laws.values_are_those_of_the_map.Goals as goal
 
 pub returns-clause-followed : goal.returns-clause-followed

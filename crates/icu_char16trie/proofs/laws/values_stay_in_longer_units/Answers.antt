@@ -1,4 +1,4 @@
-use Rattle.icu_char16trie.proofs.UnitKept.{trie_longer, values_kept}
+use Rattle.icu_char16trie.proofs.Grammar.LongerGrammarLemmas.{trie_longer, values_kept}
 use Rattle.icu_char16trie.proofs.laws.values_stay_in_longer_units.Goals as goal
 
 pub returns-clause-grammar : goal.returns-clause-grammar

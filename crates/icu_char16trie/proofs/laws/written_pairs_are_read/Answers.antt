@@ -1,4 +1,4 @@
-use Rattle.icu_char16trie.proofs.UnitRoundTrips.{read_back}
+use Rattle.icu_char16trie.proofs.Writing.RoundTripLemmas.{read_back}
 use Rattle.icu_char16trie.proofs.laws.written_pairs_are_read.Goals as goal
 
 pub returns : goal.returns

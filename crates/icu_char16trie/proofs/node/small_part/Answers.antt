@@ -1,5 +1,5 @@
 use Rattle.std.proofs.Common.{◌∙◌, sym, refl, arith}
-use Rattle.icu_char16trie.proofs.UnitLemmas.{halved_last, halved_none, halved_more}
+use Rattle.icu_char16trie.proofs.Cursors.SearchLemmas.{halved_last, halved_none, halved_more}
 use Rattle.icu_char16trie.proofs.node.small_part.Goals as goal
 
 pub loop-part-init : goal.loop-part-init

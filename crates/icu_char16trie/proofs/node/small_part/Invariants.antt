@@ -1,4 +1,4 @@
-use Rattle.icu_char16trie.proofs.UnitLemmas.{IsHalved}
+use Rattle.icu_char16trie.proofs.Cursors.SearchLemmas.{IsHalved}
 use Rattle.icu_char16trie.proofs.node.small_part.Given as goal
 
 abbrev pub invariant-loop-part : goal.invariant-loop-part

@@ -1,5 +1,5 @@
 use Rattle.std.proofs.Common.{◌∙◌, sym, arith}
-use Rattle.icu_char16trie.proofs.UnitLemmas.{target_in-found, target_in-on, target_in-none, target_in-past, target_in-end, target_in-other}
+use Rattle.icu_char16trie.proofs.Cursors.SearchLemmas.{target_in-found, target_in-on, target_in-none, target_in-past, target_in-end, target_in-other}
 use Rattle.icu_char16trie.proofs.node.target_in.Goals as goal
 
 pub returns-in_err-entry : goal.returns-in_err-entry

@@ -1,9 +1,9 @@
 use Rattle.std.proofs.Common.{◌∙◌, sym, subst}
-use Rattle.icu_char16trie.specs.UnitJobs.{StopsAt, root_valued, jobs_left}
+use Rattle.icu_char16trie.specs.UnitReadingOrder.{StopsAt, root_valued, jobs_left}
 use Rattle.icu_char16trie.specs.declared.reader.ReadUnitsError.TheVariants.{BadUnits}
-use Rattle.icu_char16trie.proofs.UnitErrors.{error-same, place-same}
-use Rattle.icu_char16trie.proofs.UnitListings.{first_jobs, stops_read, refused_read}
-use Rattle.icu_char16trie.proofs.UnitTested.{tested_root, tested_says}
+use Rattle.icu_char16trie.proofs.Reading.ErrorLemmas.{error-same, place-same}
+use Rattle.icu_char16trie.proofs.Reading.OutcomeLemmas.{first_jobs, stops_read, refused_read}
+use Rattle.icu_char16trie.proofs.Reading.TestLemmas.{tested_root, tested_says}
 use Rattle.icu_char16trie.proofs.reader.all_pass.Goals as goal
 
 pub returns-then-lead-ge64-clause-place : goal.returns-then-lead-ge64-clause-place

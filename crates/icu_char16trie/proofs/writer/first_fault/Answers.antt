@@ -1,6 +1,6 @@
 use Rattle.std.proofs.Common.{ℕ, ℤ, List, [], Bor, pos}
 use Rattle.icu_char16trie.specs.WrittenUnits.{keyed}
-use Rattle.icu_char16trie.proofs.UnitRoots.{none_more, none_all, key_none, empty_at, not_empty_at, unsorted_at, sorted_at, first_sorted, untrue}
+use Rattle.icu_char16trie.proofs.Writing.KeyFaultLemmas.{none_more, none_all, key_none, empty_at, not_empty_at, unsorted_at, sorted_at, first_sorted, untrue}
 use Rattle.icu_char16trie.proofs.writer.first_fault.Goals as goal
 use Rattle.icu_char16trie.proofs.writer.first_fault.Goals.{else-index-gt0-via-then-index-gt0+else-not-comes_before, else-index-gt0-via-else-index-gt0}
 

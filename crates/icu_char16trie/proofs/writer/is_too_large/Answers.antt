@@ -1,5 +1,5 @@
 use Rattle.std.proofs.Common.{◌+◌, ℕ, ℤ, List, [], Bor, pos, refl, arith}
-use Rattle.icu_char16trie.proofs.UnitRoots.{total_more, total_least}
+use Rattle.icu_char16trie.proofs.Writing.KeyFaultLemmas.{total_more, total_least}
 use Rattle.icu_char16trie.proofs.writer.is_too_large.Goals as goal
 
 -- what stands at no place

@@ -1,6 +1,6 @@
 use Rattle.std.proofs.Common.{length, ap, arith}
 use Rattle.icu_char16trie.specs.WrittenUnits.{keyed}
-use Rattle.icu_char16trie.proofs.UnitRoots.{can_write, total_few, writes_some, keyed_length, keyed_room}
+use Rattle.icu_char16trie.proofs.Writing.KeyFaultLemmas.{can_write, total_few, writes_some, keyed_length, keyed_room}
 use Rattle.icu_char16trie.proofs.writer.write_units.Goals as goal
 
 pub write_pairs-requires-clause-sorted : goal.write_pairs-requires-clause-sorted

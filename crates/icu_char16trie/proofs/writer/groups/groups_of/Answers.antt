@@ -1,7 +1,7 @@
 use Rattle.std.proofs.Common.{◌<◌, ◌^◌, arith, subst, rules}
 use Rattle.icu_char16trie.specs.UnitPairs.{rests, parts, StartsWith, FirstEnds}
 use Rattle.std.specs.Option.{MatchOption}
-use Rattle.icu_char16trie.proofs.UnitGroups.{so_far_step, groups_wider}
+use Rattle.icu_char16trie.proofs.Pairs.GroupLemmas.{so_far_step, groups_wider}
 use Rattle.icu_char16trie.proofs.writer.groups.groups_of.Goals as goal
 
 pub returns-clause-groups : goal.returns-clause-groups

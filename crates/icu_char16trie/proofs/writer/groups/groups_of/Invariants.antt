@@ -1,5 +1,5 @@
 use Rattle.std.proofs.Common.{◌≤◌, ◌-◌, length, drop}
-use Rattle.icu_char16trie.proofs.UnitGroups.{SoFar}
+use Rattle.icu_char16trie.proofs.Pairs.GroupLemmas.{SoFar}
 use Rattle.icu_char16trie.proofs.writer.groups.groups_of.Given as goal
 
 abbrev pub invariant-loop-start : goal.invariant-loop-start

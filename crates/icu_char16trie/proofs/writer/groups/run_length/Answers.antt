@@ -1,7 +1,7 @@
 use Rattle.std.proofs.Common.{◌+◌, [], ◌∷◌, ◌++◌, refl, ap, ◌∙◌, sym, arith, length-append}
 use Rattle.icu_char16trie.specs.UnitPairs.{rests}
-use Rattle.icu_char16trie.proofs.UnitPairs.{prefixed_none}
-use Rattle.icu_char16trie.proofs.UnitGroups.{run_more, run_ends, run_parts}
+use Rattle.icu_char16trie.proofs.Pairs.SortedPairLemmas.{prefixed_none}
+use Rattle.icu_char16trie.proofs.Pairs.GroupLemmas.{run_more, run_ends, run_parts}
 use Rattle.icu_char16trie.proofs.writer.groups.run_length.Goals as goal
 
 pub loop-run-init : goal.loop-run-init

@@ -1,5 +1,5 @@
 use Rattle.icu_char16trie.specs.UnitPairs.{rests}
-use Rattle.icu_char16trie.specs.UnitPlans.{Finishes, weight}
+use Rattle.icu_char16trie.specs.UnitWritingTasks.{Finishes, weight}
 use Rattle.icu_char16trie.proofs.writer.layout.write_pairs.Given as goal
 
 abbrev pub invariant-loop-task : goal.invariant-loop-task

@@ -1,4 +1,4 @@
-use Rattle.icu_char16trie.proofs.UnitPlans.{node_finishes}
+use Rattle.icu_char16trie.proofs.Writing.TaskLemmas.{node_finishes}
 use Rattle.icu_char16trie.proofs.writer.layout.write_task.Goals as goal
 
 pub returns-in-Node-clause-adds : goal.returns-in-Node-clause-adds

@@ -1,8 +1,8 @@
 use Rattle.std.proofs.Common.{◌/◌, ◌<◌, length, drop, arith, ap, ◌∙◌, sym, ◌++◌}
 use Rattle.icu_char16trie.specs.UnitPairs.{parts}
-use Rattle.icu_char16trie.specs.UnitPlans.{weight}
-use Rattle.icu_char16trie.proofs.UnitWrites.{no_group, parts_length, parts_split, halves_at}
-use Rattle.icu_char16trie.proofs.UnitPlans.{halves_adds}
+use Rattle.icu_char16trie.specs.UnitWritingTasks.{weight}
+use Rattle.icu_char16trie.proofs.Writing.LayoutLemmas.{no_group, parts_length, parts_split, halves_at}
+use Rattle.icu_char16trie.proofs.Writing.TaskLemmas.{halves_adds}
 use Rattle.icu_char16trie.proofs.writer.plan.+plan_branch.Goals as goal
 
 pub plan_branch-requires : goal.plan_branch-requires

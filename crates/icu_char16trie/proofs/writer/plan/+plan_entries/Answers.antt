@@ -1,8 +1,8 @@
 use Rattle.std.proofs.Common.{◌+◌, drop, arith, slice_index_or, ap, ◌∙◌, sym, subst, ◌∷◌}
 use Rattle.icu_char16trie.specs.UnitPairs.{AreGroups, rests, parts, spread, room}
-use Rattle.icu_char16trie.specs.UnitPlans.{weight}
-use Rattle.icu_char16trie.proofs.UnitWrites.{no_group, parts_length, parts_first, first_group, parts_alone}
-use Rattle.icu_char16trie.proofs.UnitPlans.{last_adds, value_adds, jump_adds, same_number}
+use Rattle.icu_char16trie.specs.UnitWritingTasks.{weight}
+use Rattle.icu_char16trie.proofs.Writing.LayoutLemmas.{no_group, parts_length, parts_first, first_group, parts_alone}
+use Rattle.icu_char16trie.proofs.Writing.TaskLemmas.{last_adds, value_adds, jump_adds, same_number}
 use Rattle.icu_char16trie.proofs.writer.plan.+plan_entries.Goals as goal
 
 pub returns-then-groups-eq1-clause-adds : goal.returns-then-groups-eq1-clause-adds

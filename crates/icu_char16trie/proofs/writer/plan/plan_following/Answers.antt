@@ -1,9 +1,9 @@
 use Rattle.std.proofs.Common.{◌+◌, ◌-◌, ◌≡◌, arith, ap, ◌∙◌, sym, subst}
 use Rattle.icu_char16trie.specs.UnitPairs.{AreGroups, rests, parts, spread}
-use Rattle.icu_char16trie.specs.UnitPlans.{weight}
-use Rattle.icu_char16trie.proofs.UnitPairs.{rests_length}
-use Rattle.icu_char16trie.proofs.UnitWrites.{no_key, run_room, run_sorted, run_units, parts_length, parts_bound, groups_some}
-use Rattle.icu_char16trie.proofs.UnitPlans.{run_adds, few_adds, many_adds, head_weight}
+use Rattle.icu_char16trie.specs.UnitWritingTasks.{weight}
+use Rattle.icu_char16trie.proofs.Pairs.SortedPairLemmas.{rests_length}
+use Rattle.icu_char16trie.proofs.Writing.LayoutLemmas.{no_key, run_room, run_sorted, run_units, parts_length, parts_bound, groups_some}
+use Rattle.icu_char16trie.proofs.Writing.TaskLemmas.{run_adds, few_adds, many_adds, head_weight}
 use Rattle.icu_char16trie.proofs.writer.plan.plan_following.Goals as goal
 
 pub returns-then-run-gt0-clause-adds : goal.returns-then-run-gt0-clause-adds

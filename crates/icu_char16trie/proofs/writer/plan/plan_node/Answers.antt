@@ -1,7 +1,7 @@
 use Rattle.std.proofs.Common.{◌∷◌, [], ap, ◌∙◌, sym, subst}
 use Rattle.icu_char16trie.specs.UnitPairs.{HaveUnits, rests}
-use Rattle.icu_char16trie.proofs.UnitWrites.{rests_one, longer_all, longer_rest}
-use Rattle.icu_char16trie.proofs.UnitPlans.{final_adds, same_number}
+use Rattle.icu_char16trie.proofs.Writing.LayoutLemmas.{rests_one, longer_all, longer_rest}
+use Rattle.icu_char16trie.proofs.Writing.TaskLemmas.{final_adds, same_number}
 use Rattle.icu_char16trie.proofs.writer.plan.plan_node.Goals as goal
 
 pub plan_following-requires-clause-longer : goal.plan_following-requires-clause-longer

@@ -1,6 +1,6 @@
 use Rattle.std.proofs.Common.{◌∙◌, sym}
-use Rattle.icu_char16trie.specs.UnitJobs.{jobs_left, pairs_read}
-use Rattle.icu_char16trie.proofs.UnitJobsLeft.{taken}
+use Rattle.icu_char16trie.specs.UnitReadingOrder.{jobs_left, pairs_read}
+use Rattle.icu_char16trie.proofs.Reading.QueueLemmas.{taken}
 use Rattle.icu_char16trie.proofs.reader.queue.Queue.take.Goals as goal
 
 pub returns-clause-taken : goal.returns-clause-taken

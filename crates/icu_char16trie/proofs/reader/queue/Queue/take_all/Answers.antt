@@ -1,7 +1,7 @@
 use Rattle.std.proofs.Common.{reverse, map, vec_len}
-use Rattle.icu_char16trie.specs.UnitJobs.{jobs_left, pairs_read, job_of}
-use Rattle.icu_char16trie.proofs.UnitJobsLeft.{popped_first, on_way_first, on_way_more, on_way_stuck, on_way_end, nothing_left}
-use Rattle.icu_char16trie.proofs.UnitAhead.{work_falls}
+use Rattle.icu_char16trie.specs.UnitReadingOrder.{jobs_left, pairs_read, job_of}
+use Rattle.icu_char16trie.proofs.Reading.QueueLemmas.{popped_first, on_way_first, on_way_more, on_way_stuck, on_way_end, nothing_left}
+use Rattle.icu_char16trie.proofs.Reading.ProgressLemmas.{work_falls}
 use Rattle.icu_char16trie.proofs.reader.queue.Queue.take_all.Goals as goal
 
 pub loop-task-smaller : goal.loop-task-smaller

@@ -1,9 +1,9 @@
 use Rattle.std.proofs.Common.{reverse, map, vec_len, length, [], ◌<◌, subst, sym}
-use Rattle.icu_char16trie.specs.UnitJobs.{jobs_left, pairs_read, job_of, IsTaken}
-use Rattle.icu_char16trie.proofs.UnitJobsLeft.{popped_first, nothing_left, on_way_stuck}
-use Rattle.icu_char16trie.proofs.UnitAhead.{work, work_falls}
-use Rattle.icu_char16trie.proofs.UnitErrors.{error_at}
-use Rattle.icu_char16trie.proofs.UnitTested.{IsTesting, testing_more, testing_end}
+use Rattle.icu_char16trie.specs.UnitReadingOrder.{jobs_left, pairs_read, job_of, IsTaken}
+use Rattle.icu_char16trie.proofs.Reading.QueueLemmas.{popped_first, nothing_left, on_way_stuck}
+use Rattle.icu_char16trie.proofs.Reading.ProgressLemmas.{work, work_falls}
+use Rattle.icu_char16trie.proofs.Reading.ErrorLemmas.{error_at}
+use Rattle.icu_char16trie.proofs.Reading.TestLemmas.{IsTesting, testing_more, testing_end}
 use Rattle.icu_char16trie.proofs.reader.queue.Queue.test_all.Goals as goal
 
 pub loop-task-smaller : goal.loop-task-smaller

@@ -1,7 +1,7 @@
 use Rattle.std.proofs.Common.{◌≡◌, [], length}
-use Rattle.icu_char16trie.specs.UnitJobs.{jobs_left, pairs_read}
-use Rattle.icu_char16trie.proofs.UnitTested.{IsTesting}
-use Rattle.icu_char16trie.proofs.UnitAhead.{work}
+use Rattle.icu_char16trie.specs.UnitReadingOrder.{jobs_left, pairs_read}
+use Rattle.icu_char16trie.proofs.Reading.TestLemmas.{IsTesting}
+use Rattle.icu_char16trie.proofs.Reading.ProgressLemmas.{work}
 use Rattle.icu_char16trie.proofs.reader.queue.Queue.test_all.Given as goal
 
 abbrev pub invariant-loop-task : goal.invariant-loop-task
