@@ -16,25 +16,17 @@ use super::trie::TrieType;
 use super::value::TrieValue;
 pub use compaction::CodePointTrieBuildError;
 use std::alloc::{AllocError, Global};
-use std::error::Error;
-use std::fmt;
 use std::marker::Model;
 use std::ops::RangeInclusive;
+use thiserror::Error;
 
 /// Why a write is refused.
-#[derive(Clone, Copy, Debug, PartialEq, Eq)]
+#[derive(Clone, Copy, Debug, PartialEq, Eq, Error)]
 pub enum CodePointTrieBuilderError {
     /// The write goes past 10FFFF (hex).
+    #[error("code point past 10FFFF")]
     OutOfRange,
 }
-
-impl fmt::Display for CodePointTrieBuilderError {
-    fn fmt<W: fmt::Write>(&self, f: &mut fmt::Formatter<W>) -> fmt::Result {
-        f.write_str("code point past 10FFFF")
-    }
-}
-
-impl Error for CodePointTrieBuilderError {}
 
 /// A code point map in the making: a default, overwritten by the writes that are accepted.
 #[derive(Drop)]

@@ -16,11 +16,10 @@ use super::gaps::ComplementedRanges;
 use super::ranges::CodePointRanges;
 use crate::packed_vector::PackedVec;
 use std::alloc::{AllocError, Global};
-use std::error::Error;
-use std::fmt;
 use std::hash::{Hash, Hasher};
 use std::marker::Model;
 use std::ops::RangeInclusive;
+use thiserror::Error;
 
 /// A set of code points, seen as its inversion list: the numbers, each above the one before, at
 /// which the set begins and ends in turn, none past 110000 hex, one past the last code point.
@@ -42,36 +41,20 @@ impl<'a> Model for CodePointInversionList<'a> {
 
 /// A list of numbers that is no inversion list: it has an odd length, doesn't rise, or goes past
 /// 110000 hex.
-#[derive(Debug, PartialEq, Eq, Drop)]
+#[derive(Debug, PartialEq, Eq, Drop, Error)]
+#[error("Invalid set: {0:?}")]
 pub struct InvalidSetError<'a>(pub PackedVec<'a, u32>);
 
-impl fmt::Display for InvalidSetError<'_> {
-    fn fmt<W: fmt::Write>(&self, f: &mut fmt::Formatter<W>) -> fmt::Result {
-        write!(f, "Invalid set: {:?}", self.0)
-    }
-}
-
-impl Error for InvalidSetError<'_> {}
-
 /// Why a slice is no set of code points.
-#[derive(Debug, PartialEq, Eq, Drop)]
+#[derive(Debug, PartialEq, Eq, Drop, Error)]
 pub enum SetError {
     /// The numbers are no inversion list.
+    #[error(transparent)]
     Invalid(InvalidSetError<'static>),
     /// Memory was refused.
+    #[error("out of memory")]
     Memory,
 }
-
-impl fmt::Display for SetError {
-    fn fmt<W: fmt::Write>(&self, f: &mut fmt::Formatter<W>) -> fmt::Result {
-        match self {
-            SetError::Invalid(error) => write!(f, "{error}"),
-            SetError::Memory => f.write_str("out of memory"),
-        }
-    }
-}
-
-impl Error for SetError {}
 
 impl From<AllocError> for SetError {
     ghost use Rattle.std.specs.Prelude.{◌≡◌};
@@ -238,7 +221,8 @@ impl<'a> CodePointInversionList<'a> {
         ensures members { (c : ℕ) → in_ranges result c ≡ (nat_lt c 0x110000 && not (holds self.now c)) }
         ensures ranges { AreGapsOf self.now result }
     {
-        ComplementedRanges::new(self.edges.iter(), self.contains32(0))
+        let edges = self.edges.iter();
+        ComplementedRanges::new(edges, self.contains32(0), self.contains32(0x10_FFFF))
     }
 
     /// How many code points below this one the set holds.
