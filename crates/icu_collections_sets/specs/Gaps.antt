@@ -2,7 +2,7 @@
 use Rattle.std.specs.Prelude.{◌≡◌, ℕ, ◌+◌, ◌-◌, ◌%◌, ◌<◌, Bool, not, ◌&&◌, nat_lt, if◌then◌else◌, List, [], ◌∷◌, length, Option, Some, None}
 use Rattle.icu_collections_sets.specs.CodePoints.{Rises, IsInversionList, holds, ranges_of}
 
--- where a range begins that is left out behind an edge, if one does
+-- where the range begins that is left out after an edge, if there is one
 abbrev pub start_from : ℕ → Option ℕ
 start_from edge = if nat_lt edge 0x110000 then Some edge else None
 

@@ -15,7 +15,7 @@ use std::marker::Model;
 use std::ops::{Range, RangeInclusive};
 
 /// Builds a set of code points by adding, removing, keeping and complementing others. After an
-/// error, which is want of memory alone, it is as before.
+/// error, which is only ever `AllocError`, it is as before.
 #[derive(Debug, Drop)]
 pub struct CodePointInversionListBuilder {
     edges: Vec<u32>,

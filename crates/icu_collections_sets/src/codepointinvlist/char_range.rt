@@ -103,7 +103,7 @@ impl From<AllocError> for FromRangeError {
 
 impl CodePointInversionList<'static> {
     /// The set of the code points of a range of characters, surrogates between them too, in memory
-    /// of its own. Refused for an empty range, or for want of memory.
+    /// of its own. Refused for an empty range, or when out of memory.
     pub fn try_from_range<R: CharRange>(
         alloc: Global,
         range: R,

@@ -31,15 +31,15 @@ impl<'a> Model for ComplementedRanges<'a> {
     ghost invariant = { λ inside. AreGapsFrom inside.start inside.edges × IsLastHeld inside.start inside.edges inside.holds_last };
 }
 
-/// Where a range begins that a set leaves out behind this edge, if one does.
+/// Where the range begins that a set leaves out after this edge, if there is one.
 fn start_of(edge: u32) -> Option<u32>
     ensures { result ≡ start_from edge }
 {
     if edge < 0x11_0000 { Some(edge) } else { None }
 }
 
-/// Passes the edge where a range of the set ends, and says where one begins behind it that the set
-/// leaves out.
+/// Passes the edge where a range of the set ends, and says where the range begins after it that the
+/// set leaves out.
 fn next_start(edges: &mut PackedIter<'_, u32>) -> Option<u32>
     requires { length edges.old % 2 ≡ 1 }
     ensures { (till : ℕ) × (edges.old ≡ till ∷ edges.new) × (result ≡ start_from till) }
@@ -48,7 +48,7 @@ fn next_start(edges: &mut PackedIter<'_, u32>) -> Option<u32>
     start_of(till)
 }
 
-/// The same behind the first range of a set that begins with the first code point.
+/// The same after the first range of a set that holds the first code point.
 fn first_start(edges: &mut PackedIter<'_, u32>) -> Option<u32>
     requires list { IsInversionList edges.old }
     requires first { holds edges.old 0 ≡ true }

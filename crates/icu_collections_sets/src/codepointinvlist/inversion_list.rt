@@ -147,7 +147,7 @@ impl<'a> CodePointInversionList<'a> {
         self.contains32(character as u32)
     }
 
-    /// The inversion list, in a vector. The only error is want of memory.
+    /// The inversion list, in a vector. The only error is `AllocError`.
     pub fn get_inversion_list_vec(&self, alloc: Global) -> Result<Vec<u32>, AllocError>
         ensures list { IfOk result (λ edges. edges.items ≡ self.now) }
         ensures valid { IfOk result (λ edges. IsInversionList edges.items) }
@@ -155,7 +155,7 @@ impl<'a> CodePointInversionList<'a> {
         self.edges.iter().collect(alloc)
     }
 
-    /// The same set in memory of its own. The only error is want of memory; then the set is dropped.
+    /// The same set in memory of its own. The only error is `AllocError`; then the set is dropped.
     pub fn into_owned(self, alloc: Global) -> Result<CodePointInversionList<'static>, AllocError>
         ensures { IfOk result (λ set. set ≡ self.entry) }
     {
@@ -163,8 +163,8 @@ impl<'a> CodePointInversionList<'a> {
         Ok(CodePointInversionList { edges })
     }
 
-    /// The same set: a borrowed list is borrowed again, another copied. The only error is want of
-    /// memory.
+    /// The same set: a borrowed list is borrowed again, another copied. The only error is
+    /// `AllocError`.
     pub fn clone(&self, alloc: Global) -> Result<CodePointInversionList<'a>, AllocError>
         ensures { IfOk result (λ set. set ≡ self.now) }
     {
@@ -355,7 +355,7 @@ impl CodePointInversionList<'static> {
     }
 
     /// The set of the inversion list in a slice, in memory of its own. Refused where the list is
-    /// none, or for want of memory.
+    /// none, or when out of memory.
     pub fn try_from_u32_inversion_list_slice(
         alloc: Global,
         list: &[u32],

@@ -57,7 +57,7 @@ fn pass_edge(rest: &[u32], inside: bool, edge: u32) -> (&[u32], bool)
 }
 
 /// The edges of what an operation makes of two sets, both given by their edges. The only error is
-/// want of memory.
+/// `AllocError`.
 pub(super) fn combine(
     alloc: Global,
     operation: Operation,

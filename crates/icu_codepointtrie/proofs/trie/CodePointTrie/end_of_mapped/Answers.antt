@@ -1,6 +1,6 @@
 use Rattle.std.proofs.Common.{◌+◌, true, subst, arith}
 use Rattle.icu_codepointtrie.specs.MappedRanges.{IsAlike}
-use Rattle.icu_codepointtrie.proofs.RangeLemmas.{alike_further}
+use Rattle.icu_codepointtrie.proofs.walks.MappedRangeLemmas.{alike_further}
 use Rattle.icu_codepointtrie.proofs.trie.CodePointTrie.end_of_mapped.Goals as goal
 
 -- the code points of the range behind the end are mapped alike too

@@ -1,7 +1,7 @@
 use Rattle.std.proofs.Common.{Some, ◌&&◌, nat_lt, not, ap, sym, ◌∙◌, subst, arith}
 use Rattle.icu_collections_sets.specs.CodePoints.{IsInversionList, holds, in_ranges}
 use Rattle.icu_collections_sets.specs.Gaps.{gaps, AreGapsOf}
-use Rattle.icu_collections_sets.proofs.GapLemmas.{left_out_behind, left_out_all, Rises_above, gaps_are, AreGapsFrom_behind}
+use Rattle.icu_collections_sets.proofs.sets.GapLemmas.{left_out_behind, left_out_all, Rises_above, gaps_are, AreGapsFrom_behind}
 use Rattle.icu_collections_sets.proofs.codepointinvlist.gaps.ComplementedRanges.new.Goals as goal
 
 pub returns-then-holds_first-clause-members : goal.returns-then-holds_first-clause-members

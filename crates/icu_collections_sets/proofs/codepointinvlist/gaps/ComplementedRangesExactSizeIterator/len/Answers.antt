@@ -1,6 +1,6 @@
 use Rattle.std.proofs.Common.{◌≡◌, ◌/◌, ◌+◌, length, ap, ◌∙◌, arith}
 use Rattle.icu_collections_sets.specs.Gaps.{gaps}
-use Rattle.icu_collections_sets.proofs.GapLemmas.{gap_count}
+use Rattle.icu_collections_sets.proofs.sets.GapLemmas.{gap_count}
 use Rattle.icu_collections_sets.proofs.codepointinvlist.gaps.ComplementedRangesExactSizeIterator.len.Goals as goal
 
 pub returns-in-Some-clause-value : goal.returns-in-Some-clause-value

@@ -5,8 +5,8 @@ use Rattle.std.proofs.lemmas.Bool.{cases_lt, false≢true}
 use Rattle.std.proofs.lemmas.Bool.Decides.{nat_tests}
 use Rattle.icu_collections_sets.specs.CodePoints.{Rises, IsInversionList, is_in, holds, in_ranges, ranges_of}
 use Rattle.icu_collections_sets.specs.Gaps.{gaps, start_from, AreGapsFrom, IsLastHeld, AreGapsOf}
-use Rattle.icu_collections_sets.proofs.SetLemmas.{is_in_past, is_in_before, holds_range, holds_behind, in_ranges_of, Rises_lower}
-use Rattle.icu_collections_sets.proofs.EditLemmas.{is_in_early}
+use Rattle.icu_collections_sets.proofs.sets.InversionListLemmas.{is_in_past, is_in_before, holds_range, holds_behind, in_ranges_of, Rises_lower}
+use Rattle.icu_collections_sets.proofs.edits.SetEditLemmas.{is_in_early}
 
 -- whether a code point is left out, from a start on
 abbrev left_out : ℕ → List ℕ → ℕ → Bool

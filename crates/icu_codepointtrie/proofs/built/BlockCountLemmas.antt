@@ -18,7 +18,7 @@ use Rattle.icu_codepointtrie.specs.Blocks.{block, blocks, different_blocks, AreK
 use Rattle.icu_codepointtrie.specs.Places.{fast_limit}
 use Rattle.icu_codepointtrie.specs.Layouts.{AreFew}
 use Rattle.icu_codepointtrie.specs.declared.trie.TrieType.{TrieType}
-use Rattle.icu_codepointtrie.proofs.BuiltTries.{type_facts}
+use Rattle.icu_codepointtrie.proofs.built.BuiltTrieLemmas.{type_facts}
 
 -- whether two blocks have the same numbers
 abbrev pub Same : List ℕ → List ℕ → Bool
