@@ -51,7 +51,7 @@ impl<T: TrieValue> CodePointTrieBuilder<T> {
     /// The map of all code points to the default, for a trie of this type whose value past 10FFFF
     /// (hex) is `error_value`. It has at most one different block of a width, and each write for a
     /// code point makes at most one more, so few writes keep a map within what `build` takes. The
-    /// only error is want of memory.
+    /// only error is `AllocError`.
     pub fn new(
         alloc: Global,
         default_value: T,

@@ -32,7 +32,7 @@ pub struct CodePointMappedRanges<'a, T: TrieValue, F> {
 }
 
 /// Shows the trie and where the next range begins; a function has nothing to show.
-impl<T: TrieValue, F> fmt::Debug for CodePointMappedRanges<'_, T, F> {
+impl<T: TrieValue + fmt::Debug, F> fmt::Debug for CodePointMappedRanges<'_, T, F> {
     fn fmt<W: fmt::Write>(&self, f: &mut fmt::Formatter<W>) -> fmt::Result {
         f.debug_struct("CodePointMappedRanges")
             .field("trie", &self.trie)

@@ -12,10 +12,10 @@ mod write;
 /// Why a text is not read as a trie.
 #[derive(Clone, Copy, Debug, PartialEq, Eq, Error)]
 pub enum CodePointTrieTomlError {
-    /// The text is no TOML, or a field is missing, of another kind or out of its range.
+    /// The text is not TOML, or a field is missing, of another kind or out of its range.
     #[error("no TOML table of a code point trie")]
     FromDeserialized,
-    /// The tables are those of no trie.
+    /// The tables are not those of a trie.
     #[error(transparent)]
     Trie(CodePointTrieError),
     /// Memory was refused.

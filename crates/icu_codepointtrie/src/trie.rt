@@ -21,10 +21,10 @@ pub enum TrieType {
     Small,
 }
 
-/// What a trie's tables do not say themselves.
+/// What the cells of a trie do not say themselves.
 #[derive(Clone, Copy, Debug, PartialEq, Eq)]
 pub struct CodePointTrieHeader {
-    /// From this code point on up to 10FFFF (hex) the value is that of the last cell but one.
+    /// From this code point up to 10FFFF (hex) the value is that of the last cell but one.
     pub high_start: u32,
     /// `high_start` divided by 4,096, rounded up.
     pub shifted12_high_start: u16,
@@ -38,7 +38,7 @@ pub struct CodePointTrieHeader {
     pub trie_type: TrieType,
 }
 
-/// Why tables are no trie.
+/// Why tables are not those of a trie.
 #[derive(Clone, Copy, Debug, PartialEq, Eq, Error)]
 pub enum CodePointTrieError {
     /// There is no data cell.
@@ -72,7 +72,7 @@ impl<'a, T: TrieValue> Model for CodePointTrie<'a, T> {
 }
 
 impl TrieType {
-    /// The code point from which on a place is found in three steps.
+    /// From this code point on a place is found in three steps.
     #[inline]
     pub(super) fn fast_limit(self) -> u32
         ensures { result ≡ fast_limit self }
@@ -147,7 +147,7 @@ fn small_place(trie_type: TrieType, index: &PackedVec<'_, u16>, code_point: u32)
     Some(start + (code_point & 15) as usize)
 }
 
-/// Whether all cells below the fast limit stand within so many.
+/// Whether all cells below the fast limit are among the first `count`.
 fn has_fast_cells(index: &PackedVec<'_, u16>, blocks: usize, count: usize) -> bool
     requires { blocks ≤ length index.now }
     ensures { IsTrue result ↔ HasFastCells index.now blocks count }
@@ -165,8 +165,8 @@ fn has_fast_cells(index: &PackedVec<'_, u16>, blocks: usize, count: usize) -> bo
 impl<'a, T: TrieValue> CodePointTrie<'a, T> {
     /// The trie of these tables. Refused, in this order, as `EmptyDataVector` without a data cell,
     /// as `IndexTooShortForFastAccess` with fewer index cells than the fast limit divided by 64,
-    /// and as `DataTooShortForFastAccess` where one of the first index cells, so many, plus 63 is
-    /// past the last data cell.
+    /// and as `DataTooShortForFastAccess` where one of these index cells, plus 63, is past the last
+    /// data cell.
     pub fn try_new(
         header: CodePointTrieHeader,
         index: PackedVec<'a, u16>,
@@ -318,8 +318,8 @@ impl<'a, T: TrieValue> CodePointTrie<'a, T> {
         self.get32(code_point).to_u32()
     }
 
-    /// The same trie: borrowed tables are borrowed again, others copied. The only error is want of
-    /// memory.
+    /// The same trie: borrowed tables are borrowed again, others copied. The only error is
+    /// `AllocError`.
     pub fn clone(&self, alloc: Global) -> Result<CodePointTrie<'a, T>, AllocError>
         ensures { IfOk result (λ trie. trie ≡ self.now) }
     {

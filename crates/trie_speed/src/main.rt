@@ -1,13 +1,14 @@
 //! Measures code point tries: builds one of 12,000 different small blocks, or one of a single written
-//! range; reads all code points of one of either type 100 times, or as often code points at random, up to
-//! FFFF (hex) or any; or goes over the ranges of a map of one range. `bench/libraries.sh` takes the
-//! times; the program prints a number.
+//! range; reads all code points of one of either type 100 times, by a typed trie too, or as often code
+//! points at random, up to FFFF (hex) or any; or goes over the ranges of a map of one range.
+//! `bench/libraries.sh` takes the times; the program prints a number.
 #![tactic(auto)]
 
 ghost use Rattle.std.specs.Prelude.{◌≤◌, ◌<◌};
 
 use icu_collections::codepointtrie::{
-    CodePointTrie, CodePointTrieBuildError, CodePointTrieBuilder, TrieType,
+    CodePointTrie, CodePointTrieBuildError, CodePointTrieBuilder, FastCodePointTrie,
+    SmallCodePointTrie, TrieType, TypedCodePointTrie,
 };
 use std::alloc::Global;
 use std::{env, io};
@@ -99,6 +100,17 @@ fn sum_of_rounds(trie: &CodePointTrie<'_, u32>) -> u32 {
     sum
 }
 
+/// The same for a trie whose type is known.
+fn sum_of_typed<T: TypedCodePointTrie<u32>>(trie: &T) -> u32 {
+    let mut sum: u32 = 0;
+    for _round in 0..ROUNDS {
+        for code_point in 0..0x11_0000u32 {
+            sum = sum.wrapping_add(trie.get32(code_point));
+        }
+    }
+    sum
+}
+
 /// The sum of the values of code points at random below a limit.
 fn sum_at_random(trie: &CodePointTrie<'_, u32>, limit: u32) -> u32 {
     let mut sum: u32 = 0;
@@ -142,6 +154,14 @@ fn number_of(alloc: Global, task: &str, count: u32) -> Result<u32, CodePointTrie
             0x11_0000,
         ),
         "fast" => sum_of_rounds(&build(alloc, TrieType::Fast, Blocks::First, blocks)?),
+        "typed_fast" => {
+            FastCodePointTrie::try_from(build(alloc, TrieType::Fast, Blocks::First, blocks)?)
+                .map_or(0, |trie| sum_of_typed(&trie))
+        }
+        "typed_small" => {
+            SmallCodePointTrie::try_from(build(alloc, TrieType::Small, Blocks::First, blocks)?)
+                .map_or(0, |trie| sum_of_typed(&trie))
+        }
         "small" => sum_of_rounds(&build(alloc, TrieType::Small, Blocks::First, blocks)?),
         _ => sum_of_blocks(&build(alloc, TrieType::Fast, Blocks::First, blocks)?),
     })

@@ -18,7 +18,7 @@ Stands-grown values first old new place width most stands grows =
 pub Grows-none : (cells : List ℕ) (most : ℕ) → Grows cells cells most
 Grows-none cells most = record { longer = omega arith; few = omega arith; same = λ i h. refl }
 
--- one growth behind another
+-- one growth after another
 pub Grows-then : (one two three : List ℕ) (a b c : ℕ) → a + b ≤ c → Grows one two a → Grows two three b → Grows one three c
 Grows-then one two three a b c sum first second =
     record {
