@@ -100,7 +100,7 @@ impl<T: TrieValue> CodePointTrieBuilder<T> {
 
     /// Gives each code point of the range the value, unless it is the default. Refused as
     /// `OutOfRange` where the range begins or ends past 10FFFF (hex), also where it is empty; then
-    /// nothing changes. An empty range, or one that was gone over, covers no code point.
+    /// nothing changes. An empty or exhausted range covers no code point.
     pub fn set_range_value(
         &mut self,
         range: RangeInclusive<u32>,

@@ -1,4 +1,4 @@
-//! Tries whose type is known, so that the fast limit is.
+//! Tries whose type is known, and with it the fast limit.
 ghost use Rattle.std.specs.Prelude.{◌≡◌, ◌≢◌, Some, MatchResult};
 ghost use Rattle.icu_codepointtrie.specs.Places.{TrieTables, value_at};
 ghost use Rattle.icu_codepointtrie.specs.declared.trie.TrieType.TheVariants.{Fast, Small};

@@ -125,9 +125,9 @@ fn first_offence(strings: &[String]) -> Option<(usize, Offence)>
 
 impl<'a> CodePointInversionListAndStringList<'a> {
     /// The set of the code points of a list and of these strings, which are sorted by bytes, differ,
-    /// and have no string of one character. Refused with the first string that breaks one of these rules;
-    /// of one string its length is asked first, then whether it equals the string before, then
-    /// whether it is below that. It takes no memory.
+    /// and have no string of one character. Refused with the first string that breaks one of these
+    /// rules; of one string its length is asked first, then whether it equals the string before,
+    /// then whether it is below that. It takes no memory.
     pub fn try_from(
         code_points: CodePointInversionList<'a>,
         mut strings: Vec<String>,

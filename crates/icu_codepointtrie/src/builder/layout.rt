@@ -167,7 +167,7 @@ impl Layout {
         Ok(index)
     }
 
-    /// The header of the trie, whose blocks are no null blocks.
+    /// The header of the trie, which has no null blocks.
     pub(super) fn header(&self, null_value: u32) -> CodePointTrieHeader
         requires { AreBounded self.now }
         ensures high_start { result.high_start ≡ self.now.wide_end * 512 }

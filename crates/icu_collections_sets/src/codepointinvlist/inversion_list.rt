@@ -39,16 +39,16 @@ impl<'a> Model for CodePointInversionList<'a> {
     ghost invariant = { λ inside. IsInversionList inside.edges };
 }
 
-/// A list of numbers that is no inversion list: it has an odd length, doesn't rise, or goes past
-/// 110000 hex.
+/// A list of numbers that is not an inversion list: it has an odd length, doesn't rise, or goes
+/// past 110000 hex.
 #[derive(Debug, PartialEq, Eq, Drop, Error)]
 #[error("Invalid set: {0:?}")]
 pub struct InvalidSetError<'a>(pub PackedVec<'a, u32>);
 
-/// Why a slice is no set of code points.
+/// Why a slice is not a set of code points.
 #[derive(Debug, PartialEq, Eq, Drop, Error)]
 pub enum SetError {
-    /// The numbers are no inversion list.
+    /// The numbers are not an inversion list.
     #[error(transparent)]
     Invalid(InvalidSetError<'static>),
     /// Memory was refused.
@@ -84,7 +84,7 @@ fn is_inversion_list(edges: &PackedVec<'_, u32>) -> bool
     true
 }
 
-/// A count, and the length of a stretch on top where the stretch is held.
+/// A count, plus the length of a stretch where the stretch is held.
 fn grown(count: usize, held: bool, length: u32) -> usize
     requires { count ≤ 0x110000 }
     ensures { result ≡ count + (if held then length else 0) }
@@ -111,7 +111,7 @@ fn edges_up_to(edges: &PackedVec<'_, u32>, code_point: u32) -> usize
 }
 
 impl<'a> CodePointInversionList<'a> {
-    /// The set of this inversion list. Refused where the list is none, and handed back.
+    /// The set of this inversion list. A list that is not one is refused and handed back.
     pub fn try_from_inversion_list(
         list: PackedVec<'a, u32>,
     ) -> Result<CodePointInversionList<'a>, InvalidSetError<'a>>
@@ -198,7 +198,7 @@ impl<'a> CodePointInversionList<'a> {
         Some(start..=end - 1)
     }
 
-    /// The characters that the set holds in order; surrogates, which are none, are left out.
+    /// The characters that the set holds, in order; surrogates are not characters.
     pub fn iter_chars(&self) -> Chars<'_>
         ensures characters { result ≡ characters_of self.now }
         ensures count { length result ≤ 0x110000 }
@@ -215,7 +215,7 @@ impl<'a> CodePointInversionList<'a> {
         CodePointRanges::new(self.edges.iter())
     }
 
-    /// The ranges of code points that the set doesn't hold in order, both ends included: those of
+    /// The ranges of code points that the set doesn't hold, in order, both ends included: those of
     /// the complement.
     pub fn iter_ranges_complemented(&self) -> ComplementedRanges<'_>
         ensures members { (c : ℕ) → in_ranges result c ≡ (nat_lt c 0x110000 && not (holds self.now c)) }
@@ -250,8 +250,7 @@ impl<'a> CodePointInversionList<'a> {
         self.count_before(0x11_0000)
     }
 
-    /// How many code points of the set are below one that it holds, or `None` for one that it
-    /// doesn't.
+    /// How many code points of the set are below one that it holds; `None` for one that it doesn't.
     pub fn position32(&self, code_point: u32) -> Option<usize>
         ensures { result ≡ (if holds self.now code_point then Some (count_below (holds self.now) code_point) else None) }
     {
@@ -354,8 +353,8 @@ impl CodePointInversionList<'static> {
         }
     }
 
-    /// The set of the inversion list in a slice, in memory of its own. Refused where the list is
-    /// none, or when out of memory.
+    /// The set of the inversion list in a slice, in memory of its own. Refused where the numbers
+    /// are not one, or when out of memory.
     pub fn try_from_u32_inversion_list_slice(
         alloc: Global,
         list: &[u32],
