@@ -174,7 +174,12 @@ fn ranges_left_out(rt: HostRuntime) -> Result<(), Fail> {
     assert!(rt; ends.as_slice() == [0, 0x40, 0x46, 0x10_FFFF].as_slice());
     assert!(rt; ends_left_out(rt.alloc(), &CodePointInversionList::all())?.is_empty());
     assert_eq!(rt; set.iter_ranges_complemented().len(), 2);
-    assert_eq!(rt; CodePointInversionList::all().iter_ranges_complemented().len(), 0);
+    assert_eq!(rt;
+        CodePointInversionList::all()
+            .iter_ranges_complemented()
+            .len(),
+        0
+    );
     Ok(())
 }
 

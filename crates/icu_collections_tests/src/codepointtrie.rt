@@ -200,7 +200,9 @@ fn what_tries_print(rt: HostRuntime) -> Result<(), Fail> {
     );
     let mapped = format!(in rt.alloc(); "{:?}", trie.iter_ranges_mapped(|value: u8| value > 5))?;
     assert!(rt;
-        mapped.as_str().starts_with("CodePointMappedRanges { trie: CodePointTrie {")
+        mapped
+            .as_str()
+            .starts_with("CodePointMappedRanges { trie: CodePointTrie {")
             && mapped.as_str().ends_with(", start: 0, .. }")
     );
     let typed = format!(in rt.alloc(); "{:?}", SmallCodePointTrie::try_from(trie))?;

@@ -63,6 +63,17 @@ fn build(
     map.build(alloc)
 }
 
+/// The trie of a map whose blocks differ in their first values.
+fn build_first(
+    alloc: Global,
+    trie_type: TrieType,
+    count: u32,
+) -> Result<CodePointTrie<'static, u32>, CodePointTrieBuildError>
+    requires { count ≤ 11999 }
+{
+    build(alloc, trie_type, Blocks::First, count)
+}
+
 /// The sum of the values of the first small blocks with a value.
 fn sum_of_blocks(trie: &CodePointTrie<'_, u32>) -> u32 {
     let mut sum: u32 = 0;
@@ -145,25 +156,19 @@ fn number_of(alloc: Global, task: &str, count: u32) -> Result<u32, CodePointTrie
         "two" => sum_of_blocks(&build(alloc, TrieType::Fast, Blocks::Two, blocks)?),
         "range" => build_ranges(alloc, TrieType::Fast, count)?,
         "ranges" => count_ranges(alloc, count)?,
-        "low" => sum_at_random(
-            &build(alloc, TrieType::Fast, Blocks::First, blocks)?,
-            0x1_0000,
-        ),
-        "random" => sum_at_random(
-            &build(alloc, TrieType::Fast, Blocks::First, blocks)?,
-            0x11_0000,
-        ),
-        "fast" => sum_of_rounds(&build(alloc, TrieType::Fast, Blocks::First, blocks)?),
+        "low" => sum_at_random(&build_first(alloc, TrieType::Fast, blocks)?, 0x1_0000),
+        "random" => sum_at_random(&build_first(alloc, TrieType::Fast, blocks)?, 0x11_0000),
+        "fast" => sum_of_rounds(&build_first(alloc, TrieType::Fast, blocks)?),
+        "small" => sum_of_rounds(&build_first(alloc, TrieType::Small, blocks)?),
         "typed_fast" => {
-            FastCodePointTrie::try_from(build(alloc, TrieType::Fast, Blocks::First, blocks)?)
-                .map_or(0, |trie| sum_of_typed(&trie))
+            let trie = build_first(alloc, TrieType::Fast, blocks)?;
+            FastCodePointTrie::try_from(trie).map_or(0, |trie| sum_of_typed(&trie))
         }
         "typed_small" => {
-            SmallCodePointTrie::try_from(build(alloc, TrieType::Small, Blocks::First, blocks)?)
-                .map_or(0, |trie| sum_of_typed(&trie))
+            let trie = build_first(alloc, TrieType::Small, blocks)?;
+            SmallCodePointTrie::try_from(trie).map_or(0, |trie| sum_of_typed(&trie))
         }
-        "small" => sum_of_rounds(&build(alloc, TrieType::Small, Blocks::First, blocks)?),
-        _ => sum_of_blocks(&build(alloc, TrieType::Fast, Blocks::First, blocks)?),
+        _ => sum_of_blocks(&build_first(alloc, TrieType::Fast, blocks)?),
     })
 }
 
