@@ -1,13 +1,3 @@
-pub mod RangeLemmas
-pub mod FastCells
-pub mod SharedBlocks
-pub mod TomlLemmas
-pub mod Blocks
-pub mod DataCells
-pub mod IndexBlocks
-pub mod Layouts
-pub mod BuiltTries
-pub mod BlockCounts
-pub mod BlockLaws
-pub mod RangeWalks
-pub mod PlaneLemmas
+pub mod walks
+pub mod tables
+pub mod built

@@ -36,7 +36,7 @@ pub record ArePlaces (width : ℕ) (values : List ℕ) (first end : ℕ) (places
 abbrev pub IsKeptAt : ℕ → List ℕ → ℕ → List ℕ → ℕ → Type 0
 IsKeptAt width values number kept place = (place < length kept) × (block width values (slice_index kept place) ≡ block width values number)
 
--- more than so many different blocks are between two numbers
+-- more than `limit` different blocks are between two numbers
 abbrev pub HasMore : ℕ → List ℕ → ℕ → ℕ → ℕ → Type 0
 HasMore width values first end limit = (kept : List ℕ) × AreKept width values first end kept × (limit < length kept)
 

@@ -2,12 +2,12 @@
 use Rattle.std.specs.Prelude.{◌≡◌, ℕ, ◌+◌, ◌-◌, ◌*◌, ◌<◌, ◌≤◌, List, length, slice_index}
 use Rattle.icu_codepointtrie.specs.Blocks.{AreKept}
 
--- so many cells from the place on have the values from a first one on
+-- `width` cells from the place on have the values from a first one on
 pub record Stands (values : List ℕ) (first : ℕ) (cells : List ℕ) (place width : ℕ) : Type 0 where
   pub inside : place + width ≤ length cells
   pub same : (i : ℕ) → i < width → slice_index cells (place + i) ≡ slice_index values (first + i)
 
--- the cells are the old ones, and at most so many behind them
+-- the cells are the old ones, and at most `most` after them
 pub record Grows (old new : List ℕ) (most : ℕ) : Type 0 where
   pub longer : length old ≤ length new
   pub few : length new ≤ length old + most
@@ -17,11 +17,11 @@ pub record Grows (old new : List ℕ) (most : ℕ) : Type 0 where
 abbrev pub AllStand : ℕ → List ℕ → ℕ → ℕ → List ℕ → List ℕ → Type 0
 AllStand width values first end cells places = (b : ℕ) → first ≤ b → b < end → Stands values (b * width) cells (slice_index places (b - first)) width
 
--- so many cells are no more than different blocks of the width take, at most as many as the limit
+-- the count of cells is no more than different blocks of the width take, at most as many as the limit
 abbrev pub TakeFew : ℕ → List ℕ → ℕ → ℕ → ℕ → ℕ → Type 0
 TakeFew width values first end limit count = (kept : List ℕ) × AreKept width values first end kept × (length kept ≤ limit) × (count ≤ width * length kept)
 
--- a block is on its way behind the old cells: i of its values stand
+-- a block is being put after the old cells: i of its values stand
 pub record IsPutting (values : List ℕ) (first : ℕ) (old cells : List ℕ) (place i : ℕ) : Type 0 where
   pub count : length cells ≡ place + i
   pub longer : length old ≤ place + i

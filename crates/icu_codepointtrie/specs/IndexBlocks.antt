@@ -4,7 +4,7 @@
 use Rattle.std.specs.Prelude.{◌≡◌, ℕ, zero, suc, ◌+◌, ◌-◌, ◌*◌, ◌/◌, ◌%◌, ◌^◌, ◌<◌, ◌==◌, List, ◌++◌, length, slice_index, Some, if◌then◌else◌}
 use Rattle.icu_codepointtrie.specs.Places.{data_offset}
 
--- two bits of each of so many numbers, those of the first highest
+-- two bits of each of several numbers, those of the first highest
 abbrev pub joined : (ℕ → ℕ) → ℕ → ℕ
 joined bits zero = 0
 joined bits (suc n) = joined bits n * 4 + bits n
@@ -19,13 +19,13 @@ wide_cell places first k =
     if k % 9 == 0 then upper_cell places (first + k / 9 * 8)
     else slice_index places (first + k / 9 * 8 + (k % 9 - 1)) % 2 ^ 16
 
--- a block of 36 is on its way behind the old cells
+-- a block of 36 is being put after the old cells
 pub record HasWide (places : List ℕ) (first : ℕ) (old new : List ℕ) (count : ℕ) : Type 0 where
   pub longer : length new ≡ length old + count
   pub old_same : (k : ℕ) → k < length old → slice_index new k ≡ slice_index old k
   pub same : (k : ℕ) → k < count → slice_index new (length old + k) ≡ wide_cell places first k
 
--- behind so many index cells the entry names a third block with 32 places from a first one on
+-- the entry names a third block with 32 places from a first one on, where the third blocks begin at `start`
 pub record Gives (start : ℕ) (thirds : List ℕ) (entry : ℕ) (places : List ℕ) (first : ℕ) : Type 0 where
   pub fits : entry < 2 ^ 16
   pub offsets : (head : List ℕ) → length head ≡ start → (i : ℕ) → i < 32 → data_offset (head ++ thirds) entry i ≡ Some (slice_index places (first + i))

@@ -1,4 +1,4 @@
--- Where the tables of a built trie have what. The index has a cell for each block of 64 below the
+-- Where the tables of a built trie have each part. The index has a cell for each block of 64 below the
 -- fast limit, then the first cells of three steps, the second cells, one for each block of 512 up to
 -- the last run of one value, and the third blocks. The data cells are those of the first two blocks
 -- of 64, then of the others and of the blocks of 16, then two.

@@ -27,7 +27,7 @@ module _ {T U : Type 0} (t : TrieTables T) (gives : T → U → Type 0) (eq : U 
     pub first : IsMappedAt start r.value
     pub ends : IsEndOfMapped start r.value (range_inclusive_end r.range)
 
-  -- a call that came to start gave the range that begins there, and went to behind it, or gave `None`
+  -- a call that came to start gave the range that begins there, and went on after it, or gave `None`
   -- past the last code point, and stayed
   abbrev pub IsNextMapped : ℕ → Option (CodePointMapRange U) → ℕ → Type 0
   IsNextMapped start r next = MatchOption r ((0x10_FFFF < start) × (next ≡ start))

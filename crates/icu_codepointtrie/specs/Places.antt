@@ -13,7 +13,7 @@ pub record TrieTables (T : Type 0) : Type 0 where
   pub index : List ℕ
   pub cells : List T
 
--- the code point from which on a place is found in three steps
+-- from this code point on a place is found in three steps
 abbrev pub fast_limit : TrieType → ℕ
 fast_limit Fast = 0x1_0000
 fast_limit Small = 0x1000
@@ -39,7 +39,7 @@ wide_offset index groups i =
 abbrev pub data_offset : List ℕ → ℕ → ℕ → Option ℕ
 data_offset index block i = if nat_lt block 0x8000 then slice_get index (block + i) else wide_offset index (block % 0x8000) i
 
--- where the first of the three steps begins: behind the index cells for what is below the fast limit
+-- where the first of the three steps begins: after the index cells for what is below the fast limit
 abbrev pub first_step : TrieType → ℕ
 first_step Fast = 1020
 first_step Small = 64
@@ -52,7 +52,7 @@ small_place trie_type index c =
     found (data_offset index block (c / 2 ^ 4 % 32)) (λ start.
     Some (start + c % 16))))
 
--- the place that header and index name, of so many data cells: past the last code point the last,
+-- the place that header and index name, of `count` data cells: past the last code point the last,
 -- from the header's limit on the last but one
 abbrev pub named_place : CodePointTrieHeader → List ℕ → ℕ → ℕ → Option ℕ
 named_place header index count c =
@@ -62,7 +62,7 @@ named_place header index count c =
     else if nat_lt count 2 then None
     else Some (count - 2)
 
--- whether a place stands among so many cells
+-- whether a place is among `count` cells
 abbrev pub is_inside : Option ℕ → ℕ → Bool
 is_inside None count = false
 is_inside (Some place) count = nat_lt place count
@@ -88,7 +88,7 @@ value_at t c = slice_get t.cells (cell_place t c)
 abbrev pub fast_blocks : TrieType → ℕ
 fast_blocks trie_type = fast_limit trie_type / 64
 
--- each of the first blocks of 64, so many, stands within so many data cells
+-- each of the first `blocks` blocks of 64 stands within `count` data cells
 abbrev pub HasFastCells : List ℕ → ℕ → ℕ → Type 0
 HasFastCells index blocks count = (i : ℕ) → i < blocks → slice_index index i + 63 < count
 
@@ -98,7 +98,7 @@ pub record IsTrie {T : Type 0} (t : TrieTables T) : Type 0 where
   pub fast_index : fast_blocks t.header.trie_type ≤ length t.index
   pub fast_cells : HasFastCells t.index (fast_blocks t.header.trie_type) (length t.cells)
 
--- why tables are no trie, by the first cause of three
+-- why tables are not those of a trie, by the first cause of three
 abbrev pub IsRefused : {T : Type 0} → TrieTables T → CodePointTrieError → Type 0
 IsRefused t EmptyDataVector = length t.cells ≡ 0
 IsRefused t IndexTooShortForFastAccess = (1 ≤ length t.cells) × (length t.index < fast_blocks t.header.trie_type)

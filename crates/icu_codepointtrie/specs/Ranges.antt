@@ -27,13 +27,13 @@ pub record IsRangeFrom {T : Type 0} (t : TrieTables T) (start : ℕ) (r : CodePo
 abbrev pub IsAbsent : {T : Type 0} → TrieTables T → ℕ → ℕ → T → Type 0
 IsAbsent t start limit value = (c : ℕ) → start ≤ c → c < limit → value_at t c ≢ Some value
 
--- a call that came to start gave the range of one value that begins there, and went to behind it, or
+-- a call that came to start gave the range of one value that begins there, and went on after it, or
 -- gave `None` past the last code point, and stayed
 abbrev pub IsNextRange : {T : Type 0} → TrieTables T → ℕ → Option (CodePointMapRange T) → ℕ → Type 0
 IsNextRange t start r next = MatchOption r ((0x10_FFFF < start) × (next ≡ start))
     (λ range. IsRangeFrom t start range × (next ≡ range_inclusive_end range.range + 1))
 
--- a call that came to start gave the next range of the value, and went to behind it, or gave `None`
+-- a call that came to start gave the next range of the value, and went on after it, or gave `None`
 -- where no code point has it any more, and went past the last code point
 abbrev pub IsNextRangeOf : {T : Type 0} → TrieTables T → T → ℕ → Option (RangeInclusive ℕ) → ℕ → Type 0
 IsNextRangeOf t value start r next = MatchOption r (IsAbsent t start 0x11_0000 value × (0x11_0000 ≤ next))

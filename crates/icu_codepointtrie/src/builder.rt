@@ -16,25 +16,17 @@ use super::trie::TrieType;
 use super::value::TrieValue;
 pub use compaction::CodePointTrieBuildError;
 use std::alloc::{AllocError, Global};
-use std::error::Error;
-use std::fmt;
 use std::marker::Model;
 use std::ops::RangeInclusive;
+use thiserror::Error;
 
 /// Why a write is refused.
-#[derive(Clone, Copy, Debug, PartialEq, Eq)]
+#[derive(Clone, Copy, Debug, PartialEq, Eq, Error)]
 pub enum CodePointTrieBuilderError {
     /// The write goes past 10FFFF (hex).
+    #[error("code point past 10FFFF")]
     OutOfRange,
 }
-
-impl fmt::Display for CodePointTrieBuilderError {
-    fn fmt<W: fmt::Write>(&self, f: &mut fmt::Formatter<W>) -> fmt::Result {
-        f.write_str("code point past 10FFFF")
-    }
-}
-
-impl Error for CodePointTrieBuilderError {}
 
 /// A code point map in the making: a default, overwritten by the writes that are accepted.
 #[derive(Drop)]
@@ -59,7 +51,7 @@ impl<T: TrieValue> CodePointTrieBuilder<T> {
     /// The map of all code points to the default, for a trie of this type whose value past 10FFFF
     /// (hex) is `error_value`. It has at most one different block of a width, and each write for a
     /// code point makes at most one more, so few writes keep a map within what `build` takes. The
-    /// only error is want of memory.
+    /// only error is `AllocError`.
     pub fn new(
         alloc: Global,
         default_value: T,
@@ -108,7 +100,7 @@ impl<T: TrieValue> CodePointTrieBuilder<T> {
 
     /// Gives each code point of the range the value, unless it is the default. Refused as
     /// `OutOfRange` where the range begins or ends past 10FFFF (hex), also where it is empty; then
-    /// nothing changes. An empty range, or one that was gone over, covers no code point.
+    /// nothing changes. An empty or exhausted range covers no code point.
     pub fn set_range_value(
         &mut self,
         range: RangeInclusive<u32>,

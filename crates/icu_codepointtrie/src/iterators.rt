@@ -2,6 +2,7 @@
 
 use super::trie::CodePointTrie;
 use super::value::TrieValue;
+use std::fmt;
 
 mod of_map;
 mod of_mapped;
@@ -28,4 +29,14 @@ pub struct CodePointMappedRanges<'a, T: TrieValue, F> {
     trie: &'a CodePointTrie<'a, T>,
     map: F,
     start: u32,
+}
+
+/// Shows the trie and where the next range begins; a function has nothing to show.
+impl<T: TrieValue + fmt::Debug, F> fmt::Debug for CodePointMappedRanges<'_, T, F> {
+    fn fmt<W: fmt::Write>(&self, f: &mut fmt::Formatter<W>) -> fmt::Result {
+        f.debug_struct("CodePointMappedRanges")
+            .field("trie", &self.trie)
+            .field("start", &self.start)
+            .finish_non_exhaustive()
+    }
 }

@@ -29,8 +29,8 @@ pub fn a_trie_is_not_refused<T: TrieValue>()
     ensures { (tables : TrieTables T) (fault : CodePointTrieError) → IsTrie tables → IsRefused tables fault → ⊥ }
 {}
 
-/// A text that spells the tables of a trie, as that of `to_toml` does, is refused by `from_toml` for
-/// want of memory alone.
+/// A text that spells the tables of a trie, as that of `to_toml` does, is refused by `from_toml`
+/// only when out of memory.
 pub fn the_text_of_a_trie_is_not_refused<T: TrieValue>()
     ensures { (tables : TrieTables T) (text : List ℕ) (error : CodePointTrieTomlError) → IsTrie tables
         → tables_of_text T.of_number text ≡ Some tables → IsTomlRefused (tables_of_text T.of_number text) error → error ≡ Memory }

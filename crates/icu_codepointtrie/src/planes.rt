@@ -25,7 +25,7 @@ fn plane_map(alloc: Global) -> Result<CodePointTrieBuilder<u8>, AllocError>
 }
 
 /// The trie of the planes: each code point has the number of its plane, from 0 to 16, and numbers
-/// past 10FFFF (hex) have 0. The only error is want of memory.
+/// past 10FFFF (hex) have 0. The only error is `AllocError`.
 pub fn get_planes_trie(alloc: Global) -> Result<CodePointTrie<'static, u8>, AllocError>
     ensures planes { IfOk result (λ trie. (c : ℕ) → c ≤ 0x10FFFF → value_at trie c ≡ Some (c / 0x10000)) }
     ensures past { IfOk result (λ trie. (c : ℕ) → 0x10FFFF < c → value_at trie c ≡ Some 0) }

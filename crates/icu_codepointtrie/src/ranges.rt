@@ -26,7 +26,7 @@ impl<'a, T: TrieValue> CodePointTrie<'a, T> {
     }
 
     /// The last code point that is reached from this one through code points of this value. Of
-    /// blocks one behind another that share their index cell one is read.
+    /// consecutive blocks that share their index cell one is read.
     pub(super) fn end_of_range(&self, start: u32, value: T) -> u32
         requires start { start ≤ 0x10FFFF }
         requires has_value { value_at self.now start ≡ Some value }

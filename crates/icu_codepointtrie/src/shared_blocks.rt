@@ -68,7 +68,7 @@ impl<'a, T: TrieValue> CodePointTrie<'a, T> {
             .min(0x11_0000)
     }
 
-    /// The first of these code points that has not the value, or the end.
+    /// The first of these code points that does not have the value, or the end.
     pub(super) fn first_without(&self, start: u32, end: u32, value: T) -> u32
         requires { start ≤ end }
         ensures { IsFirstWithout self.now start end value result }

@@ -4,20 +4,22 @@ ghost use Rattle.icu_codepointtrie.specs.declared.toml_text.CodePointTrieTomlErr
 
 use super::trie::CodePointTrieError;
 use std::alloc::AllocError;
-use std::error::Error;
-use std::fmt;
+use thiserror::Error;
 
 mod read;
 mod write;
 
 /// Why a text is not read as a trie.
-#[derive(Clone, Copy, Debug, PartialEq, Eq)]
+#[derive(Clone, Copy, Debug, PartialEq, Eq, Error)]
 pub enum CodePointTrieTomlError {
-    /// The text is no TOML, or a field is missing, of another kind or out of its range.
+    /// The text is not TOML, or a field is missing, of another kind or out of its range.
+    #[error("no TOML table of a code point trie")]
     FromDeserialized,
-    /// The tables are those of no trie.
+    /// The tables are not those of a trie.
+    #[error(transparent)]
     Trie(CodePointTrieError),
     /// Memory was refused.
+    #[error("out of memory")]
     Memory,
 }
 
@@ -36,17 +38,3 @@ impl From<CodePointTrieError> for CodePointTrieTomlError {
         CodePointTrieTomlError::Trie(fault)
     }
 }
-
-impl fmt::Display for CodePointTrieTomlError {
-    fn fmt<W: fmt::Write>(&self, f: &mut fmt::Formatter<W>) -> fmt::Result {
-        match self {
-            CodePointTrieTomlError::FromDeserialized => {
-                f.write_str("no TOML table of a code point trie")
-            }
-            CodePointTrieTomlError::Trie(fault) => write!(f, "{fault}"),
-            CodePointTrieTomlError::Memory => f.write_str("out of memory"),
-        }
-    }
-}
-
-impl Error for CodePointTrieTomlError {}

@@ -9,9 +9,8 @@ ghost use Rattle.icu_codepointtrie.specs.Places.{fast_limit, first_step, fast_pl
 use super::value::TrieValue;
 use icu_packed_vector::PackedVec;
 use std::alloc::{AllocError, Global};
-use std::error::Error;
-use std::fmt;
 use std::marker::Model;
+use thiserror::Error;
 
 /// Which trade between speed and size a trie makes.
 #[derive(Clone, Copy, Debug, PartialEq, Eq)]
@@ -22,10 +21,10 @@ pub enum TrieType {
     Small,
 }
 
-/// What a trie's tables do not say themselves.
+/// What the cells of a trie do not say themselves.
 #[derive(Clone, Copy, Debug, PartialEq, Eq)]
 pub struct CodePointTrieHeader {
-    /// From this code point on up to 10FFFF (hex) the value is that of the last cell but one.
+    /// From this code point up to 10FFFF (hex) the value is that of the last cell but one.
     pub high_start: u32,
     /// `high_start` divided by 4,096, rounded up.
     pub shifted12_high_start: u16,
@@ -39,32 +38,19 @@ pub struct CodePointTrieHeader {
     pub trie_type: TrieType,
 }
 
-/// Why tables are no trie.
-#[derive(Clone, Copy, Debug, PartialEq, Eq)]
+/// Why tables are not those of a trie.
+#[derive(Clone, Copy, Debug, PartialEq, Eq, Error)]
 pub enum CodePointTrieError {
     /// There is no data cell.
+    #[error("no data cell")]
     EmptyDataVector,
     /// There are fewer index cells than the fast limit divided by 64.
+    #[error("too few index cells for the code points below the fast limit")]
     IndexTooShortForFastAccess,
-    /// One of the first index cells, so many, names a block of 64 that ends past the last data cell.
+    /// A block of 64 below the fast limit ends past the last data cell.
+    #[error("a block below the fast limit ends past the last data cell")]
     DataTooShortForFastAccess,
 }
-
-impl fmt::Display for CodePointTrieError {
-    fn fmt<W: fmt::Write>(&self, f: &mut fmt::Formatter<W>) -> fmt::Result {
-        f.write_str(match self {
-            CodePointTrieError::EmptyDataVector => "a code point trie has at least one data cell",
-            CodePointTrieError::IndexTooShortForFastAccess => {
-                "the index of a code point trie has a cell for each block below the fast limit"
-            }
-            CodePointTrieError::DataTooShortForFastAccess => {
-                "each block of a code point trie below the fast limit stands within its data"
-            }
-        })
-    }
-}
-
-impl Error for CodePointTrieError {}
 
 /// A map from code points to values, as ICU4X has it. It answers from its cells for any number,
 /// past 10FFFF (hex) too.
@@ -86,7 +72,7 @@ impl<'a, T: TrieValue> Model for CodePointTrie<'a, T> {
 }
 
 impl TrieType {
-    /// The code point from which on a place is found in three steps.
+    /// From this code point on a place is found in three steps.
     #[inline]
     pub(super) fn fast_limit(self) -> u32
         ensures { result ≡ fast_limit self }
@@ -161,7 +147,7 @@ fn small_place(trie_type: TrieType, index: &PackedVec<'_, u16>, code_point: u32)
     Some(start + (code_point & 15) as usize)
 }
 
-/// Whether all cells below the fast limit stand within so many.
+/// Whether all cells below the fast limit are among the first `count`.
 fn has_fast_cells(index: &PackedVec<'_, u16>, blocks: usize, count: usize) -> bool
     requires { blocks ≤ length index.now }
     ensures { IsTrue result ↔ HasFastCells index.now blocks count }
@@ -179,8 +165,8 @@ fn has_fast_cells(index: &PackedVec<'_, u16>, blocks: usize, count: usize) -> bo
 impl<'a, T: TrieValue> CodePointTrie<'a, T> {
     /// The trie of these tables. Refused, in this order, as `EmptyDataVector` without a data cell,
     /// as `IndexTooShortForFastAccess` with fewer index cells than the fast limit divided by 64,
-    /// and as `DataTooShortForFastAccess` where one of the first index cells, so many, plus 63 is
-    /// past the last data cell.
+    /// and as `DataTooShortForFastAccess` where one of these index cells, plus 63, is past the last
+    /// data cell.
     pub fn try_new(
         header: CodePointTrieHeader,
         index: PackedVec<'a, u16>,
@@ -223,17 +209,18 @@ impl<'a, T: TrieValue> CodePointTrie<'a, T> {
         }
     }
 
-    /// The place that header and index name from the fast limit on.
+    /// The place that header and index name from the fast limit on, of a trie of this type.
     #[inline]
-    fn upper_place(&self, code_point: u32) -> Option<usize>
-        requires { fast_limit self.now.header.trie_type ≤ code_point }
+    fn upper_place(&self, trie_type: TrieType, code_point: u32) -> Option<usize>
+        requires trie_type { self.now.header.trie_type ≡ trie_type }
+        requires upper { fast_limit trie_type ≤ code_point }
         ensures { result ≡ named_place self.now.header self.now.index (length self.now.cells) code_point }
     {
         let count = self.cells.len();
         if code_point > 0x10_FFFF {
             Some(count - 1)
         } else if code_point < self.header.high_start {
-            small_place(self.header.trie_type, &self.index, code_point)
+            small_place(trie_type, &self.index, code_point)
         } else if count < 2 {
             None
         } else {
@@ -245,16 +232,17 @@ impl<'a, T: TrieValue> CodePointTrie<'a, T> {
     fn named_place(&self, code_point: u32) -> Option<usize>
         ensures { result ≡ named_place self.now.header self.now.index (length self.now.cells) code_point }
     {
-        if code_point < self.header.trie_type.fast_limit() {
+        let trie_type = self.header.trie_type;
+        if code_point < trie_type.fast_limit() {
             fast_place(&self.index, code_point)
         } else {
-            self.upper_place(code_point)
+            self.upper_place(trie_type, code_point)
         }
     }
 
     /// The value of a number below the fast limit: all such places are inside, so none is checked.
     #[inline]
-    pub(super) fn fast_value(&self, code_point: u32) -> T
+    fn fast_value(&self, code_point: u32) -> T
         requires { code_point < fast_limit self.now.header.trie_type }
         ensures value { Some result ≡ value_at self.now code_point }
         ensures is_value { T.is_value result }
@@ -263,19 +251,35 @@ impl<'a, T: TrieValue> CodePointTrie<'a, T> {
         self.cells.at(start as usize + (code_point % 64) as usize)
     }
 
-    /// The value of a number from the fast limit on.
+    /// The value of a number from the fast limit on, in a trie of this type.
     #[inline]
-    pub(super) fn upper_value(&self, code_point: u32) -> T
-        requires { fast_limit self.now.header.trie_type ≤ code_point }
+    fn upper_value(&self, trie_type: TrieType, code_point: u32) -> T
+        requires trie_type { self.now.header.trie_type ≡ trie_type }
+        requires upper { fast_limit trie_type ≤ code_point }
         ensures value { Some result ≡ value_at self.now code_point }
         ensures is_value { T.is_value result }
     {
         let last = self.cells.len() - 1;
-        let place = match self.upper_place(code_point) {
+        let place = match self.upper_place(trie_type, code_point) {
             Some(place) if place <= last => place,
             _ => last,
         };
         self.cells.at(place)
+    }
+
+    /// The value of a number in a trie of this type. Where the type is a constant, nothing is asked
+    /// of it when this runs.
+    #[inline]
+    pub(super) fn typed_value(&self, trie_type: TrieType, code_point: u32) -> T
+        requires { self.now.header.trie_type ≡ trie_type }
+        ensures value { Some result ≡ value_at self.now code_point }
+        ensures is_value { T.is_value result }
+    {
+        if code_point < trie_type.fast_limit() {
+            self.fast_value(code_point)
+        } else {
+            self.upper_value(trie_type, code_point)
+        }
     }
 
     /// Whether the trie has a cell for the number: true past 10FFFF (hex). Where it is false,
@@ -295,11 +299,7 @@ impl<'a, T: TrieValue> CodePointTrie<'a, T> {
         ensures value { Some result ≡ value_at self.now code_point }
         ensures is_value { T.is_value result }
     {
-        if code_point < self.header.trie_type.fast_limit() {
-            self.fast_value(code_point)
-        } else {
-            self.upper_value(code_point)
-        }
+        self.typed_value(self.header.trie_type, code_point)
     }
 
     /// The value of a character.
@@ -318,8 +318,8 @@ impl<'a, T: TrieValue> CodePointTrie<'a, T> {
         self.get32(code_point).to_u32()
     }
 
-    /// The same trie: borrowed tables are borrowed again, others copied. The only error is want of
-    /// memory.
+    /// The same trie: borrowed tables are borrowed again, others copied. The only error is
+    /// `AllocError`.
     pub fn clone(&self, alloc: Global) -> Result<CodePointTrie<'a, T>, AllocError>
         ensures { IfOk result (λ trie. trie ≡ self.now) }
     {

@@ -1,4 +1,4 @@
-//! Tries whose type is known, so that the fast limit is.
+//! Tries whose type is known, and with it the fast limit.
 ghost use Rattle.std.specs.Prelude.{◌≡◌, ◌≢◌, Some, MatchResult};
 ghost use Rattle.icu_codepointtrie.specs.Places.{TrieTables, value_at};
 ghost use Rattle.icu_codepointtrie.specs.declared.trie.TrieType.TheVariants.{Fast, Small};
@@ -85,11 +85,7 @@ impl<'a, T: TrieValue> TypedCodePointTrie<T> for FastCodePointTrie<'a, T> {
 
     #[inline]
     fn get32(&self, code_point: u32) -> T {
-        if code_point < 0x1_0000 {
-            self.trie.fast_value(code_point)
-        } else {
-            self.trie.upper_value(code_point)
-        }
+        self.trie.typed_value(TrieType::Fast, code_point)
     }
 
     fn as_untyped_ref(&self) -> &CodePointTrie<'_, T> {
@@ -111,11 +107,7 @@ impl<'a, T: TrieValue> TypedCodePointTrie<T> for SmallCodePointTrie<'a, T> {
 
     #[inline]
     fn get32(&self, code_point: u32) -> T {
-        if code_point < 0x1000 {
-            self.trie.fast_value(code_point)
-        } else {
-            self.trie.upper_value(code_point)
-        }
+        self.trie.typed_value(TrieType::Small, code_point)
     }
 
     fn as_untyped_ref(&self) -> &CodePointTrie<'_, T> {

@@ -1,13 +1,3 @@
-pub mod SetLemmas
-pub mod EditLemmas
-pub mod MergeLemmas
-pub mod UniqueLemmas
-pub mod GapLemmas
-pub mod SpanLemmas
-pub mod CharacterLemmas
-pub mod StringListLemmas
-pub mod SpellingLemmas
-pub mod JsonLemmas
-pub mod JsonStringListLemmas
-pub mod ToggleLemmas
-pub mod TextLemmas
+pub mod sets
+pub mod edits
+pub mod texts

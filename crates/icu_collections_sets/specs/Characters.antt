@@ -12,11 +12,11 @@ passing test = filter test (range_with_len 0 0x110000)
 abbrev pub characters_of : List ℕ → List ℕ
 characters_of list = passing (λ c. scalar c && holds list c)
 
--- the characters from a start up to an end, and those that are in behind it
+-- the characters from a start up to an end, and those that are in after it
 abbrev pub characters_left : ℕ → ℕ → List ℕ → List ℕ
 characters_left start end edges = passing (λ c. scalar c && (nat_le start c && is_in true (end ∷ edges) c))
 
--- a start up to an end, and an inversion list's edges behind it
+-- a start up to an end, and an inversion list's edges after it
 pub record IsLeft (start end : ℕ) (edges : List ℕ) : Type 0 where
   pub starts : start ≤ end
   pub ends : end ≤ 0x110000

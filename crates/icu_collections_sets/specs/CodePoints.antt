@@ -41,7 +41,7 @@ in_ranges (range ∷ ranges) c = (nat_le range.0 c && nat_le c range.1) || in_ra
 abbrev pub ends_of : RangeInclusive ℕ → ℕ × ℕ
 ends_of range = (range_inclusive_start range, range_inclusive_end range)
 
--- so many of the numbers are at most this one
+-- `count` of the numbers are at most `c`
 pub record IsCountUpTo (list : List ℕ) (c count : ℕ) : Type 0 where
   pub within : count ≤ length list
   pub before : (k d : ℕ) → k < count → slice_index_or list k d ≤ c

@@ -1,8 +1,8 @@
 -- The ranges that an inversion list leaves out.
-use Rattle.std.specs.Prelude.{◌≡◌, ℕ, ◌+◌, ◌-◌, ◌%◌, ◌<◌, not, ◌&&◌, nat_lt, if◌then◌else◌, List, [], ◌∷◌, length, Option, Some, None}
+use Rattle.std.specs.Prelude.{◌≡◌, ℕ, ◌+◌, ◌-◌, ◌%◌, ◌<◌, Bool, not, ◌&&◌, nat_lt, if◌then◌else◌, List, [], ◌∷◌, length, Option, Some, None}
 use Rattle.icu_collections_sets.specs.CodePoints.{Rises, IsInversionList, holds, ranges_of}
 
--- where a range begins that is left out behind an edge, if one does
+-- where the range begins that is left out after an edge, if there is one
 abbrev pub start_from : ℕ → Option ℕ
 start_from edge = if nat_lt edge 0x110000 then Some edge else None
 
@@ -17,6 +17,11 @@ gaps (Some start) (from ∷ till ∷ edges) = (start, from - 1) ∷ gaps (start_
 abbrev pub AreGapsFrom : Option ℕ → List ℕ → Type 0
 AreGapsFrom None edges = Unit {0}
 AreGapsFrom (Some start) edges = (start < 0x110000) × Rises (start + 1) edges × (length edges % 2 ≡ 0)
+
+-- whether the last code point is in is known, while a range is left
+abbrev pub IsLastHeld : Option ℕ → List ℕ → Bool → Type 0
+IsLastHeld None edges held = Unit {0}
+IsLastHeld (Some start) edges held = held ≡ holds edges 0x10FFFF
 
 -- the ranges are those of the inversion list of the code points that a list leaves out
 pub record AreGapsOf (list : List ℕ) (ranges : List (ℕ × ℕ)) : Type 0 where

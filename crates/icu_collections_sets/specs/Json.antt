@@ -4,7 +4,7 @@ use Rattle.serde_json.specs.Data.{Data, null, string, array}
 use Rattle.serde_json.specs.Find.{as_str, as_array}
 use Rattle.serde_json.specs.View.{items_of}
 use Rattle.icu_collections_sets.specs.CodePoints.{IsInversionList, ranges_of}
-use Rattle.icu_collections_sets.specs.Spelling.{Spells, range_text}
+use Rattle.icu_collections_sets.specs.Spelling.{SpellsRange, range_text}
 
 -- what a set is as JSON
 abbrev pub json_of : List ℕ → Data
@@ -14,7 +14,7 @@ json_of set = array (items_of (map (λ range. string (range_text range)) (ranges
 pub record IsItem (item : Data) (range : ℕ × ℕ) : Type 0 where
   pub text : List ℕ
   pub is_text : as_str item ≡ Some text
-  pub spells : Spells text range
+  pub spells : SpellsRange text range
 
 -- values are texts that spell ranges, each its own
 abbrev pub SpellRanges : List Data → List (ℕ × ℕ) → Type 0

@@ -8,7 +8,7 @@ use Rattle.icu_collections_sets.specs.StringListFaults.{fault_text}
 use Rattle.icu_collections_sets.specs.declared.json.error.JsonError.{JsonError}
 use Rattle.icu_collections_sets.specs.declared.json.error.JsonError.TheVariants.{JsonShape, JsonItem, JsonOrder, Strings, Memory}
 
--- why the values of an array spell no set: the first place at which a value spells no range, or one that is not behind the range before
+-- why the values of an array spell no set: the first place at which a value spells no range, or one that does not come after the range before
 abbrev pub IsRefusedItems : List Data → JsonError → Type 0
 IsRefusedItems items JsonShape = ⊥
 IsRefusedItems items (JsonItem place) = IsItemFault items place

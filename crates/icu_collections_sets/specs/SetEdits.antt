@@ -29,7 +29,7 @@ in_range range c = not (range_inclusive_exhausted range) && nat_le (range_inclus
 abbrev pub is_code_point : ℕ → ℕ → Bool
 is_code_point only c = (c == only) && nat_lt c 0x110000
 
--- so many of the numbers are below this one
+-- `count` of the numbers are below the bound
 pub record IsCountBelow (list : List ℕ) (bound count : ℕ) : Type 0 where
   pub within : count ≤ length list
   pub before : (k d : ℕ) → k < count → slice_index_or list k d < bound

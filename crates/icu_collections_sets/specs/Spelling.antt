@@ -21,7 +21,7 @@ abbrev pub range_text : ℕ × ℕ → List ℕ
 range_text range = if range.0 == range.1 then spelling range.0 else spelling range.0 ++ (codes "-" ++ spelling range.1)
 
 -- a text spells the range from one code point to another
-pub record Spells (text : List ℕ) (range : ℕ × ℕ) : Type 0 where
+pub record SpellsRange (text : List ℕ) (range : ℕ × ℕ) : Type 0 where
   pub rises : range.0 ≤ range.1
   pub within : range.1 < 0x110000
   pub spelled : ((text ≡ spelling range.0) × (range.0 ≡ range.1)) ⊎ (text ≡ spelling range.0 ++ (codes "-" ++ spelling range.1))

@@ -18,7 +18,7 @@ IsOneCharacter text = length (chars text) ≡ 1
 abbrev pub text_at : List (List ℕ) → ℕ → List ℕ
 text_at texts place = slice_index_or texts place []
 
--- among the first so many texts none is one character, and each is below the one behind it, by bytes
+-- none of the first `count` texts is one character, and each is below the next, by bytes
 pub record AreStringsUpTo (texts : List (List ℕ)) (count : ℕ) : Type 0 where
   pub several : (k : ℕ) → k < count → ¬ IsOneCharacter (text_at texts k)
   pub rising : (k : ℕ) → k + 1 < count → slice_cmp nat_cmp (text_at texts k) (text_at texts (k + 1)) ≡ Less

@@ -39,7 +39,7 @@ impl<'a> Model for CodePointInversionListAndStringList<'a> {
     ghost invariant = { λ inside. AreStrings (map string_bytes inside.strings.items) };
 }
 
-/// Why strings are no strings of a set: the first string that something is wrong with, and what.
+/// Why strings are not those of a set: the first string at fault, and its fault.
 #[derive(Debug, PartialEq, Eq, Drop)]
 pub enum InvalidStringList {
     /// The string is one character, which belongs to the code points.
@@ -71,7 +71,7 @@ impl fmt::Display for InvalidStringList {
 
 impl Error for InvalidStringList {}
 
-/// What is wrong with a string behind another one.
+/// What is wrong with a string that follows another one.
 enum Offence {
     Length,
     NotUnique,
@@ -110,7 +110,7 @@ fn offence_at(strings: &[String], place: usize) -> Option<Offence>
     }
 }
 
-/// The first string that something is wrong with, by its place, and what.
+/// The first string at fault, by its place, and its fault.
 fn first_offence(strings: &[String]) -> Option<(usize, Offence)>
     ensures { MatchOption result (AreStrings (map string_bytes strings.now)) (λ found.
         (found.0 < length strings.now) × AreStringsUpTo (map string_bytes strings.now) found.0 × IsOffence (map string_bytes strings.now) found.0 (Some found.1)) }
@@ -125,9 +125,9 @@ fn first_offence(strings: &[String]) -> Option<(usize, Offence)>
 
 impl<'a> CodePointInversionListAndStringList<'a> {
     /// The set of the code points of a list and of these strings, which are sorted by bytes, differ,
-    /// and have no string of one character. Refused with the first string for which that isn't so;
-    /// of one string its length is asked first, then whether it equals the string before, then
-    /// whether it is below that. It takes no memory.
+    /// and have no string of one character. Refused with the first string that breaks one of these
+    /// rules; of one string its length is asked first, then whether it equals the string before,
+    /// then whether it is below that. It takes no memory.
     pub fn try_from(
         code_points: CodePointInversionList<'a>,
         mut strings: Vec<String>,
@@ -169,7 +169,7 @@ impl<'a> CodePointInversionListAndStringList<'a> {
     }
 
     /// The same set and strings: borrowed code points are borrowed again, all else is copied. The only
-    /// error is want of memory.
+    /// error is `AllocError`.
     pub fn clone(
         &self,
         alloc: Global,

@@ -1,3 +1,4 @@
+//! Tests of the builder of sets.
 use icu_collections_sets::codepointinvlist::{
     CodePointInversionList, CodePointInversionListBuilder,
 };

@@ -1,3 +1,4 @@
+//! Tests of sets of code points.
 use icu_collections_sets::codepointinvlist::{
     CodePointInversionList, FromRangeError, RangeError, SetError,
 };
@@ -172,6 +173,13 @@ fn ranges_left_out(rt: HostRuntime) -> Result<(), Fail> {
     let ends = ends_left_out(rt.alloc(), &set)?;
     assert!(rt; ends.as_slice() == [0, 0x40, 0x46, 0x10_FFFF].as_slice());
     assert!(rt; ends_left_out(rt.alloc(), &CodePointInversionList::all())?.is_empty());
+    assert_eq!(rt; set.iter_ranges_complemented().len(), 2);
+    assert_eq!(rt;
+        CodePointInversionList::all()
+            .iter_ranges_complemented()
+            .len(),
+        0
+    );
     Ok(())
 }
 

@@ -1,3 +1,4 @@
+//! Tests of sets of code points and strings.
 use icu_collections_sets::codepointinvlist::CodePointInversionList;
 use icu_collections_sets::codepointinvliststringlist::{
     CodePointInversionListAndStringList, InvalidStringList,

@@ -1,3 +1,4 @@
+//! Tests of sets as JSON.
 ghost use Rattle.std.specs.Prelude.{◌≡◌, MatchResult};
 ghost use Rattle.icu_collections_sets.specs.declared.json.error.JsonError.TheVariants.{Memory};
 

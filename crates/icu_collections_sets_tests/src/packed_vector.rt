@@ -1,3 +1,4 @@
+//! Tests of packed vectors.
 use icu_collections_sets::packed_vector::{PackedItem, PackedVec, PackedVecError};
 use std::alloc::{AllocError, Global};
 use std::test::Fail;

@@ -1,3 +1,4 @@
+//! Tests of tries as TOML.
 use icu_collections::codepointtrie::{
     CodePointTrie, CodePointTrieError, CodePointTrieHeader, CodePointTrieTomlError, TrieType,
     TrieValue,
@@ -204,9 +205,6 @@ fn refused_tables(rt: HostRuntime) -> Result<(), Fail> {
 fn texts_of_errors(rt: HostRuntime) -> Result<(), Fail> {
     let fault = CodePointTrieTomlError::Trie(CodePointTrieError::EmptyDataVector);
     let text = format!(in rt.alloc(); "{fault}, {}", CodePointTrieTomlError::Memory)?;
-    assert_eq!(rt;
-        text.as_str(),
-        "a code point trie has at least one data cell, out of memory"
-    );
+    assert_eq!(rt; text.as_str(), "no data cell, out of memory");
     Ok(())
 }

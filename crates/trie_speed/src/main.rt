@@ -1,13 +1,14 @@
 //! Measures code point tries: builds one of 12,000 different small blocks, or one of a single written
-//! range; reads all code points of one of either type 100 times, or as often code points at random, up to
-//! FFFF (hex) or any; or goes over the ranges of a map of one range. `bench/libraries.sh` takes the
-//! times; the program prints a number.
+//! range; reads all code points of one of either type 100 times, by a typed trie too, or as often code
+//! points at random, up to FFFF (hex) or any; or goes over the ranges of a map of one range.
+//! `bench/libraries.sh` takes the times; the program prints a number.
 #![tactic(auto)]
 
 ghost use Rattle.std.specs.Prelude.{◌≤◌, ◌<◌};
 
 use icu_collections::codepointtrie::{
-    CodePointTrie, CodePointTrieBuildError, CodePointTrieBuilder, TrieType,
+    CodePointTrie, CodePointTrieBuildError, CodePointTrieBuilder, FastCodePointTrie,
+    SmallCodePointTrie, TrieType, TypedCodePointTrie,
 };
 use std::alloc::Global;
 use std::{env, io};
@@ -62,6 +63,17 @@ fn build(
     map.build(alloc)
 }
 
+/// The trie of a map whose blocks differ in their first values.
+fn build_first(
+    alloc: Global,
+    trie_type: TrieType,
+    count: u32,
+) -> Result<CodePointTrie<'static, u32>, CodePointTrieBuildError>
+    requires { count ≤ 11999 }
+{
+    build(alloc, trie_type, Blocks::First, count)
+}
+
 /// The sum of the values of the first small blocks with a value.
 fn sum_of_blocks(trie: &CodePointTrie<'_, u32>) -> u32 {
     let mut sum: u32 = 0;
@@ -90,6 +102,17 @@ fn build_ranges(
 
 /// The sum of the values of all code points, round by round.
 fn sum_of_rounds(trie: &CodePointTrie<'_, u32>) -> u32 {
+    let mut sum: u32 = 0;
+    for _round in 0..ROUNDS {
+        for code_point in 0..0x11_0000u32 {
+            sum = sum.wrapping_add(trie.get32(code_point));
+        }
+    }
+    sum
+}
+
+/// The same for a trie whose type is known.
+fn sum_of_typed<T: TypedCodePointTrie<u32>>(trie: &T) -> u32 {
     let mut sum: u32 = 0;
     for _round in 0..ROUNDS {
         for code_point in 0..0x11_0000u32 {
@@ -133,17 +156,19 @@ fn number_of(alloc: Global, task: &str, count: u32) -> Result<u32, CodePointTrie
         "two" => sum_of_blocks(&build(alloc, TrieType::Fast, Blocks::Two, blocks)?),
         "range" => build_ranges(alloc, TrieType::Fast, count)?,
         "ranges" => count_ranges(alloc, count)?,
-        "low" => sum_at_random(
-            &build(alloc, TrieType::Fast, Blocks::First, blocks)?,
-            0x1_0000,
-        ),
-        "random" => sum_at_random(
-            &build(alloc, TrieType::Fast, Blocks::First, blocks)?,
-            0x11_0000,
-        ),
-        "fast" => sum_of_rounds(&build(alloc, TrieType::Fast, Blocks::First, blocks)?),
-        "small" => sum_of_rounds(&build(alloc, TrieType::Small, Blocks::First, blocks)?),
-        _ => sum_of_blocks(&build(alloc, TrieType::Fast, Blocks::First, blocks)?),
+        "low" => sum_at_random(&build_first(alloc, TrieType::Fast, blocks)?, 0x1_0000),
+        "random" => sum_at_random(&build_first(alloc, TrieType::Fast, blocks)?, 0x11_0000),
+        "fast" => sum_of_rounds(&build_first(alloc, TrieType::Fast, blocks)?),
+        "small" => sum_of_rounds(&build_first(alloc, TrieType::Small, blocks)?),
+        "typed_fast" => {
+            let trie = build_first(alloc, TrieType::Fast, blocks)?;
+            FastCodePointTrie::try_from(trie).map_or(0, |trie| sum_of_typed(&trie))
+        }
+        "typed_small" => {
+            let trie = build_first(alloc, TrieType::Small, blocks)?;
+            SmallCodePointTrie::try_from(trie).map_or(0, |trie| sum_of_typed(&trie))
+        }
+        _ => sum_of_blocks(&build_first(alloc, TrieType::Fast, blocks)?),
     })
 }
 

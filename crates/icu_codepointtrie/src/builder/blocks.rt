@@ -48,7 +48,7 @@ pub(super) fn number_at<T: TrieValue>(values: &[T], place: usize) -> u32
     values[place].to_u32()
 }
 
-/// Whether two blocks are alike. All values are compared in any case, which takes few instructions.
+/// Whether two blocks are alike. All values are always compared, which takes few instructions.
 pub(super) fn are_alike<T: TrieValue>(values: &[T], width: usize, one: usize, other: usize) -> bool
     requires one { one * width + width ≤ length values.now }
     requires other { other * width + width ≤ length values.now }
@@ -74,7 +74,7 @@ pub(super) fn has_only<T: TrieValue>(values: &[T], width: usize, number: usize, 
     alike
 }
 
-/// The numbers of a block. The only error is want of memory.
+/// The numbers of a block. The only error is `AllocError`.
 pub(super) fn block_of<T: TrieValue>(
     alloc: Global,
     values: &[T],

@@ -13,8 +13,8 @@ use super::layout::Layout;
 use icu_packed_vector::PackedVec;
 use std::alloc::{AllocError, Global};
 
-/// Puts the last code point's value and the error value behind the cells. The only error is want of
-/// memory.
+/// Puts the last code point's value and the error value after the cells. The only error is
+/// `AllocError`.
 fn put_last_two<T: TrieValue>(cells: &mut Vec<T>, values: &[T], error: T) -> Result<(), AllocError>
     requires { length values.now ≡ 0x110000 }
     ensures { IfOk result (λ _. AreAllCells T.number (map T.number values.now) cells.old.items error cells.new.items) }

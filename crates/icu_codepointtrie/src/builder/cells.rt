@@ -10,7 +10,7 @@ use super::blocks::number_at;
 use super::compaction::{CodePointTrieBuildError, Compaction};
 use std::alloc::{AllocError, AllocFailed, Global};
 
-/// Whether so many cells from the place on have the values from the first on.
+/// Whether `width` cells from the place on have the values from the first on.
 fn stands_at<T: TrieValue>(
     cells: &[T],
     place: usize,
@@ -64,7 +64,7 @@ fn front_place<T: TrieValue>(cells: &[T], values: &[T], first: usize, width: usi
     None
 }
 
-/// Puts a value behind the cells. The only error is want of memory.
+/// Puts a value after the cells. The only error is `AllocError`.
 pub(super) fn put_value<T: TrieValue>(
     cells: &mut Vec<T>,
     values: &[T],
@@ -77,9 +77,9 @@ pub(super) fn put_value<T: TrieValue>(
     Ok(())
 }
 
-/// Puts the values from the first on behind the cells, the last of which have so many of them
-/// already. The only error is want of memory.
-fn put_behind<T: TrieValue>(
+/// Puts the values from the first on after the cells, the last `common` of which have the first of
+/// them already. The only error is `AllocError`.
+fn put_after<T: TrieValue>(
     cells: &mut Vec<T>,
     values: &[T],
     first: usize,
@@ -100,9 +100,9 @@ fn put_behind<T: TrieValue>(
     Ok(place)
 }
 
-/// The place where the values from the first on stand among the cells. They are put behind them, and
-/// overlap their end as far as it agrees, unless the first cells have them. The only error is want
-/// of memory.
+/// The place where the values from the first on stand among the cells. Unless the
+/// first cells have them, they are put after the cells, whose end they overlap as far as it agrees.
+/// The only error is `AllocError`.
 fn put<T: TrieValue>(
     cells: &mut Vec<T>,
     values: &[T],
@@ -117,10 +117,10 @@ fn put<T: TrieValue>(
         return Ok(place);
     }
     let common = overlap(cells.as_slice(), values, first, width);
-    put_behind(cells, values, first, width, common)
+    put_after(cells, values, first, width, common)
 }
 
-/// Puts blocks, and tells the place of each. The only error is want of memory.
+/// Puts blocks, and tells the place of each. The only error is `AllocError`.
 fn put_blocks<T: TrieValue>(
     alloc: Global,
     cells: &mut Vec<T>,
@@ -141,7 +141,7 @@ fn put_blocks<T: TrieValue>(
     Ok(places)
 }
 
-/// For each number the item at that place. The only error is want of memory.
+/// For each number the item at that place. The only error is `AllocError`.
 pub(super) fn items_at(
     alloc: Global,
     items: &[usize],

@@ -7,29 +7,19 @@ use super::super::value::TrieValue;
 use super::blocks::{Block, are_alike, block_of};
 use std::alloc::{AllocError, AllocFailed, Global};
 use std::collections::HashMap;
-use std::error::Error;
-use std::fmt;
+use thiserror::Error;
 
 /// Why no trie is built.
-#[derive(Clone, Copy, Debug, PartialEq, Eq)]
+#[derive(Clone, Copy, Debug, PartialEq, Eq, Error)]
 pub enum CodePointTrieBuildError {
     /// The map has more than 800 different aligned blocks of 512 code points, or more than 12,000
     /// of 16.
+    #[error("too many different blocks")]
     TooLarge,
     /// Memory was refused.
+    #[error("out of memory")]
     Memory,
 }
-
-impl fmt::Display for CodePointTrieBuildError {
-    fn fmt<W: fmt::Write>(&self, f: &mut fmt::Formatter<W>) -> fmt::Result {
-        match self {
-            CodePointTrieBuildError::TooLarge => f.write_str("too many different blocks"),
-            CodePointTrieBuildError::Memory => f.write_str("out of memory"),
-        }
-    }
-}
-
-impl Error for CodePointTrieBuildError {}
 
 impl From<AllocError> for CodePointTrieBuildError {
     ghost use Rattle.std.specs.Prelude.{◌≡◌};

@@ -1,4 +1,4 @@
-//! Where the tables of a built trie have what.
+//! Where the tables of a built trie have each part.
 ghost use Rattle.std.specs.Prelude.{◌≡◌, ℕ, ◌+◌, ◌-◌, ◌*◌, ◌/◌, ◌^◌, ◌<◌, ◌≤◌, ◌⊎◌, [], map, length, slice_index, IfOk, IfErr};
 ghost use Rattle.icu_codepointtrie.specs.Places.{fast_limit};
 ghost use Rattle.icu_codepointtrie.specs.Blocks.{HasMore};
@@ -51,7 +51,7 @@ fn end_of_blocks<T: TrieValue>(values: &[T], limit: usize) -> usize
     limit / 512
 }
 
-/// Puts the first two blocks of 64. The only error is want of memory.
+/// Puts the first two blocks of 64. The only error is `AllocError`.
 fn put_first_blocks<T: TrieValue>(cells: &mut Vec<T>, values: &[T]) -> Result<(), AllocError>
     requires none { cells.old.items ≡ [] }
     requires values { 128 ≤ length values.now }
@@ -145,7 +145,7 @@ impl Layout {
         cell as u16
     }
 
-    /// The index cells before the third blocks. The only error is want of memory.
+    /// The index cells before the third blocks. The only error is `AllocError`.
     fn head(&self, alloc: Global) -> Result<Vec<u16>, AllocError>
         requires { AreBounded self.now }
         ensures { IfOk result (λ head. HasCells self.now head.items) }
@@ -157,7 +157,7 @@ impl Layout {
         Ok(head)
     }
 
-    /// The index cells. The only error is want of memory.
+    /// The index cells. The only error is `AllocError`.
     pub(super) fn index(&self, alloc: Global) -> Result<Vec<u16>, AllocError>
         requires { AreBounded self.now }
         ensures { IfOk result (λ index. HasIndex self.now index.items) }
@@ -167,7 +167,7 @@ impl Layout {
         Ok(index)
     }
 
-    /// The header of the trie, whose blocks are no null blocks.
+    /// The header of the trie, which has no null blocks.
     pub(super) fn header(&self, null_value: u32) -> CodePointTrieHeader
         requires { AreBounded self.now }
         ensures high_start { result.high_start ≡ self.now.wide_end * 512 }

@@ -27,7 +27,7 @@ fn are_narrow(places: &[usize], first: usize) -> bool
     true
 }
 
-/// Puts a block of 32 cells. The only error is want of memory.
+/// Puts a block of 32 cells. The only error is `AllocError`.
 fn put_narrow(cells: &mut Vec<u16>, places: &[usize], first: usize) -> Result<(), AllocError>
     requires places { first + 32 ≤ length places.now }
     requires narrow { (i : ℕ) → i < 32 → slice_index places.now (first + i) < 2 ^ 16 }
@@ -69,7 +69,7 @@ fn wide_cell(places: &[usize], first: usize, number: usize) -> usize
     }
 }
 
-/// Puts a block of 36 cells. The only error is want of memory.
+/// Puts a block of 36 cells. The only error is `AllocError`.
 fn put_wide(cells: &mut Vec<u16>, places: &[usize], first: usize) -> Result<(), AllocError>
     requires places { first + 32 ≤ length places.now }
     requires small { (i : ℕ) → i < length places.now → slice_index places.now i < 2 ^ 18 }
@@ -81,8 +81,8 @@ fn put_wide(cells: &mut Vec<u16>, places: &[usize], first: usize) -> Result<(), 
     Ok(())
 }
 
-/// Puts a block, and tells what names it behind so many index cells. The only error is want of
-/// memory.
+/// Puts a block, and tells what names it where the blocks begin at `start` in the index. The only
+/// error is `AllocError`.
 fn put_third(
     cells: &mut Vec<u16>,
     start: usize,
@@ -106,7 +106,7 @@ fn put_third(
 }
 
 /// The third blocks of the kept blocks of 512. The places are those of the blocks of 16 from the
-/// first block of 512 on. The only error is want of memory.
+/// first block of 512 on. The only error is `AllocError`.
 pub(super) fn third_blocks(
     alloc: Global,
     start: usize,

@@ -28,7 +28,7 @@ impl<'a, T: TrieValue> CodePointTrie<'a, T> {
         }
     }
 
-    /// The set of the code points that have this value. The only error is want of memory.
+    /// The set of the code points that have this value. The only error is `AllocError`.
     pub fn get_set_for_value(
         &self,
         alloc: Global,

@@ -105,7 +105,7 @@ impl<T: TrieValue> CodePointTrie<'static, T> {
     /// The trie that this text spells as a TOML table of `high_start`, `shifted12_high_start`,
     /// `index3_null_offset`, `data_null_offset`, `null_value`, `trie_type` (`Fast` or `Small`), and
     /// the arrays `index` and `data`, a value by its number. Other keys are ignored. Refused as
-    /// `FromDeserialized` where the text is no TOML, or a field is missing, of another kind or out
+    /// `FromDeserialized` where the text is not TOML, or a field is missing, of another kind or out
     /// of its range, or a number of `data` is that of no value; then as `try_new` refuses. `Memory`
     /// may come before these.
     pub fn from_toml(

@@ -110,7 +110,7 @@ impl<T: TrieValue> CodePointTrie<'_, T> {
     /// The text of a TOML table of the header's fields (`high_start`, `shifted12_high_start`,
     /// `index3_null_offset`, `data_null_offset`, `null_value`, and `trie_type`, which is `Fast` or
     /// `Small`) and the arrays `index` and `data`, a value by its number. `from_toml` reads it as
-    /// the same trie. The only error is want of memory.
+    /// the same trie. The only error is `AllocError`.
     pub fn to_toml(&self, alloc: Global) -> Result<String, AllocError>
         ensures text { IfOk result (λ text. IsDocumentText false (table_of T.number self.now) (string_bytes text)) }
         ensures table { IfOk result (λ text. parse_document (string_bytes text) ≡ Some (table_of T.number self.now)) }

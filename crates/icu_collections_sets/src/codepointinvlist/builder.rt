@@ -15,7 +15,7 @@ use std::marker::Model;
 use std::ops::{Range, RangeInclusive};
 
 /// Builds a set of code points by adding, removing, keeping and complementing others. After an
-/// error, which is want of memory alone, it is as before.
+/// error, which is only ever `AllocError`, it is as before.
 #[derive(Debug, Drop)]
 pub struct CodePointInversionListBuilder {
     edges: Vec<u32>,
@@ -97,7 +97,7 @@ impl CodePointInversionListBuilder {
         }
     }
 
-    /// Makes the code points from one number up to another, exclusive, held or not.
+    /// Puts the code points from one number up to another, exclusive, in or takes them out.
     fn set_range(&mut self, from: u32, till: u32, held: bool) -> Result<(), AllocError>
         requires rise { from < till }
         requires end { till ≤ 0x110000 }
@@ -112,7 +112,7 @@ impl CodePointInversionListBuilder {
         Ok(())
     }
 
-    /// Makes the code points of a range held or not.
+    /// Puts the code points of a range in or takes them out.
     fn set_range32(&mut self, range: RangeInclusive<u32>, held: bool) -> Result<(), AllocError>
         ensures ok { OnOk result (IsSetTo held (in_range range) self.old self.new) }
         ensures err { OnErr result (self.new ≡ self.old) }
@@ -160,7 +160,7 @@ impl CodePointInversionListBuilder {
         self.set_code_point(character as u32, true)
     }
 
-    /// Makes a code point held or not.
+    /// Puts a code point in or takes it out.
     fn set_code_point(&mut self, code_point: u32, held: bool) -> Result<(), AllocError>
         ensures ok { OnOk result (IsSetTo held (is_code_point code_point) self.old self.new) }
         ensures err { OnErr result (self.new ≡ self.old) }
@@ -206,7 +206,7 @@ impl CodePointInversionListBuilder {
         self.set_code_point(character as u32, false)
     }
 
-    /// Makes of the set and another one, given by its edges, what an operation does.
+    /// Applies an operation to the set and another one, given by its edges.
     fn combine(&mut self, operation: Operation, others: &[u32]) -> Result<(), AllocError>
         requires { IsInversionList others.now }
         ensures ok { OnOk result (IsOperated operation (holds self.old) (holds others.now) self.new) }

@@ -6,9 +6,8 @@ ghost use Rattle.icu_collections_sets.specs.RangeErrors.{IsRefusedRange};
 use super::inversion_list::CodePointInversionList;
 use crate::packed_vector::PackedVec;
 use std::alloc::{AllocError, Global};
-use std::error::Error;
-use std::fmt;
 use std::ops::{Range, RangeFrom, RangeFull, RangeInclusive, RangeTo, RangeToInclusive};
+use thiserror::Error;
 
 /// A range of characters, of one of the six types of the standard library.
 pub trait CharRange {
@@ -76,36 +75,20 @@ impl CharRange for RangeFull {
 }
 
 /// A range that holds nothing: where it begins, and one past its last, which isn't above that.
-#[derive(Clone, Copy, Debug, PartialEq, Eq)]
+#[derive(Clone, Copy, Debug, PartialEq, Eq, Error)]
+#[error("Invalid range: {0}..{1}")]
 pub struct RangeError(pub u32, pub u32);
 
-impl fmt::Display for RangeError {
-    fn fmt<W: fmt::Write>(&self, f: &mut fmt::Formatter<W>) -> fmt::Result {
-        write!(f, "Invalid range: {}..{}", self.0, self.1)
-    }
-}
-
-impl Error for RangeError {}
-
 /// Why there is no set of a range.
-#[derive(Clone, Copy, Debug, PartialEq, Eq)]
+#[derive(Clone, Copy, Debug, PartialEq, Eq, Error)]
 pub enum FromRangeError {
     /// The range holds nothing.
+    #[error(transparent)]
     Range(RangeError),
     /// Memory was refused.
+    #[error("out of memory")]
     Memory,
 }
-
-impl fmt::Display for FromRangeError {
-    fn fmt<W: fmt::Write>(&self, f: &mut fmt::Formatter<W>) -> fmt::Result {
-        match self {
-            FromRangeError::Range(error) => write!(f, "{error}"),
-            FromRangeError::Memory => f.write_str("out of memory"),
-        }
-    }
-}
-
-impl Error for FromRangeError {}
 
 impl From<AllocError> for FromRangeError {
     ghost use Rattle.std.specs.Prelude.{◌≡◌};
@@ -120,7 +103,7 @@ impl From<AllocError> for FromRangeError {
 
 impl CodePointInversionList<'static> {
     /// The set of the code points of a range of characters, surrogates between them too, in memory
-    /// of its own. Refused for an empty range, or for want of memory.
+    /// of its own. Refused for an empty range, or when out of memory.
     pub fn try_from_range<R: CharRange>(
         alloc: Global,
         range: R,

@@ -11,7 +11,7 @@ use std::marker::Model;
 /// The characters of a set in order, surrogates left out, seen as the list of those that are left.
 #[derive(Drop)]
 pub struct Chars<'a> {
-    // What is left of the range at hand, and the ranges behind it.
+    // What is left of the current range, and the ranges after it.
     start: u32,
     end: u32,
     edges: PackedIter<'a, u32>,

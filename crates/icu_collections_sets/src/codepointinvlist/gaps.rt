@@ -16,28 +16,30 @@ pub struct ComplementedRanges<'a> {
     // Where the next range begins, or `None` where none is left.
     start: Option<u32>,
     edges: PackedIter<'a, u32>,
+    // Whether the set holds the last code point, so that no range is left after the last edge.
+    holds_last: bool,
 }
 
 impl<'a> Model for ComplementedRanges<'a> {
     ghost use Rattle.std.specs.Prelude.{ℕ, List};
-    ghost use Rattle.icu_collections_sets.specs.Gaps.{gaps, AreGapsFrom};
+    ghost use Rattle.icu_collections_sets.specs.Gaps.{gaps, AreGapsFrom, IsLastHeld};
 
     ghost Value = { List (ℕ × ℕ) };
 
     ghost view = { λ inside. gaps inside.start inside.edges };
 
-    ghost invariant = { λ inside. AreGapsFrom inside.start inside.edges };
+    ghost invariant = { λ inside. AreGapsFrom inside.start inside.edges × IsLastHeld inside.start inside.edges inside.holds_last };
 }
 
-/// Where a range begins that a set leaves out behind this edge, if one does.
+/// Where the range begins that a set leaves out after this edge, if there is one.
 fn start_of(edge: u32) -> Option<u32>
     ensures { result ≡ start_from edge }
 {
     if edge < 0x11_0000 { Some(edge) } else { None }
 }
 
-/// Passes the edge where a range of the set ends, and says where one begins behind it that the set
-/// leaves out.
+/// Passes the edge where a range of the set ends, and says where the range begins after it that the
+/// set leaves out.
 fn next_start(edges: &mut PackedIter<'_, u32>) -> Option<u32>
     requires { length edges.old % 2 ≡ 1 }
     ensures { (till : ℕ) × (edges.old ≡ till ∷ edges.new) × (result ≡ start_from till) }
@@ -46,7 +48,7 @@ fn next_start(edges: &mut PackedIter<'_, u32>) -> Option<u32>
     start_of(till)
 }
 
-/// The same behind the first range of a set that begins with the first code point.
+/// The same after the first range of a set that holds the first code point.
 fn first_start(edges: &mut PackedIter<'_, u32>) -> Option<u32>
     requires list { IsInversionList edges.old }
     requires first { holds edges.old 0 ≡ true }
@@ -58,19 +60,29 @@ fn first_start(edges: &mut PackedIter<'_, u32>) -> Option<u32>
 
 impl<'a> ComplementedRanges<'a> {
     /// The ranges that this inversion list leaves out.
-    pub(super) fn new(mut edges: PackedIter<'a, u32>, begins_in: bool) -> ComplementedRanges<'a>
+    pub(super) fn new(
+        mut edges: PackedIter<'a, u32>,
+        holds_first: bool,
+        holds_last: bool,
+    ) -> ComplementedRanges<'a>
         requires list { IsInversionList edges }
-        requires first { begins_in ≡ holds edges 0 }
+        requires first { holds_first ≡ holds edges 0 }
+        requires last { holds_last ≡ holds edges 0x10FFFF }
         ensures members { (c : ℕ) → in_ranges result c ≡ (nat_lt c 0x110000 && not (holds edges.entry c)) }
         ensures ranges { AreGapsOf edges.entry result }
     {
-        if begins_in {
+        if holds_first {
             let start = first_start(&mut edges);
-            return ComplementedRanges { start, edges };
+            return ComplementedRanges {
+                start,
+                edges,
+                holds_last,
+            };
         }
         ComplementedRanges {
             start: Some(0),
             edges,
+            holds_last,
         }
     }
 }
@@ -94,3 +106,13 @@ impl Iterator for ComplementedRanges<'_> {
 }
 
 impl FusedIterator for ComplementedRanges<'_> {}
+
+impl ExactSizeIterator for ComplementedRanges<'_> {
+    fn len(&self) -> usize {
+        match self.start {
+            Some(_) if self.holds_last => self.edges.len() / 2,
+            Some(_) => self.edges.len() / 2 + 1,
+            None => 0,
+        }
+    }
+}

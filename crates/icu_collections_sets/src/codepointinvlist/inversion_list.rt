@@ -16,11 +16,10 @@ use super::gaps::ComplementedRanges;
 use super::ranges::CodePointRanges;
 use crate::packed_vector::PackedVec;
 use std::alloc::{AllocError, Global};
-use std::error::Error;
-use std::fmt;
 use std::hash::{Hash, Hasher};
 use std::marker::Model;
 use std::ops::RangeInclusive;
+use thiserror::Error;
 
 /// A set of code points, seen as its inversion list: the numbers, each above the one before, at
 /// which the set begins and ends in turn, none past 110000 hex, one past the last code point.
@@ -40,38 +39,22 @@ impl<'a> Model for CodePointInversionList<'a> {
     ghost invariant = { λ inside. IsInversionList inside.edges };
 }
 
-/// A list of numbers that is no inversion list: it has an odd length, doesn't rise, or goes past
-/// 110000 hex.
-#[derive(Debug, PartialEq, Eq, Drop)]
+/// A list of numbers that is not an inversion list: it has an odd length, doesn't rise, or goes
+/// past 110000 hex.
+#[derive(Debug, PartialEq, Eq, Drop, Error)]
+#[error("Invalid set: {0:?}")]
 pub struct InvalidSetError<'a>(pub PackedVec<'a, u32>);
 
-impl fmt::Display for InvalidSetError<'_> {
-    fn fmt<W: fmt::Write>(&self, f: &mut fmt::Formatter<W>) -> fmt::Result {
-        write!(f, "Invalid set: {:?}", self.0)
-    }
-}
-
-impl Error for InvalidSetError<'_> {}
-
-/// Why a slice is no set of code points.
-#[derive(Debug, PartialEq, Eq, Drop)]
+/// Why a slice is not a set of code points.
+#[derive(Debug, PartialEq, Eq, Drop, Error)]
 pub enum SetError {
-    /// The numbers are no inversion list.
+    /// The numbers are not an inversion list.
+    #[error(transparent)]
     Invalid(InvalidSetError<'static>),
     /// Memory was refused.
+    #[error("out of memory")]
     Memory,
 }
-
-impl fmt::Display for SetError {
-    fn fmt<W: fmt::Write>(&self, f: &mut fmt::Formatter<W>) -> fmt::Result {
-        match self {
-            SetError::Invalid(error) => write!(f, "{error}"),
-            SetError::Memory => f.write_str("out of memory"),
-        }
-    }
-}
-
-impl Error for SetError {}
 
 impl From<AllocError> for SetError {
     ghost use Rattle.std.specs.Prelude.{◌≡◌};
@@ -101,7 +84,7 @@ fn is_inversion_list(edges: &PackedVec<'_, u32>) -> bool
     true
 }
 
-/// A count, and the length of a stretch on top where the stretch is held.
+/// A count, plus the length of a stretch where the stretch is held.
 fn grown(count: usize, held: bool, length: u32) -> usize
     requires { count ≤ 0x110000 }
     ensures { result ≡ count + (if held then length else 0) }
@@ -128,7 +111,7 @@ fn edges_up_to(edges: &PackedVec<'_, u32>, code_point: u32) -> usize
 }
 
 impl<'a> CodePointInversionList<'a> {
-    /// The set of this inversion list. Refused where the list is none, and handed back.
+    /// The set of this inversion list. A list that is not one is refused and handed back.
     pub fn try_from_inversion_list(
         list: PackedVec<'a, u32>,
     ) -> Result<CodePointInversionList<'a>, InvalidSetError<'a>>
@@ -164,7 +147,7 @@ impl<'a> CodePointInversionList<'a> {
         self.contains32(character as u32)
     }
 
-    /// The inversion list, in a vector. The only error is want of memory.
+    /// The inversion list, in a vector. The only error is `AllocError`.
     pub fn get_inversion_list_vec(&self, alloc: Global) -> Result<Vec<u32>, AllocError>
         ensures list { IfOk result (λ edges. edges.items ≡ self.now) }
         ensures valid { IfOk result (λ edges. IsInversionList edges.items) }
@@ -172,7 +155,7 @@ impl<'a> CodePointInversionList<'a> {
         self.edges.iter().collect(alloc)
     }
 
-    /// The same set in memory of its own. The only error is want of memory; then the set is dropped.
+    /// The same set in memory of its own. The only error is `AllocError`; then the set is dropped.
     pub fn into_owned(self, alloc: Global) -> Result<CodePointInversionList<'static>, AllocError>
         ensures { IfOk result (λ set. set ≡ self.entry) }
     {
@@ -180,8 +163,8 @@ impl<'a> CodePointInversionList<'a> {
         Ok(CodePointInversionList { edges })
     }
 
-    /// The same set: a borrowed list is borrowed again, another copied. The only error is want of
-    /// memory.
+    /// The same set: a borrowed list is borrowed again, another copied. The only error is
+    /// `AllocError`.
     pub fn clone(&self, alloc: Global) -> Result<CodePointInversionList<'a>, AllocError>
         ensures { IfOk result (λ set. set ≡ self.now) }
     {
@@ -215,7 +198,7 @@ impl<'a> CodePointInversionList<'a> {
         Some(start..=end - 1)
     }
 
-    /// The characters that the set holds in order; surrogates, which are none, are left out.
+    /// The characters that the set holds, in order; surrogates are not characters.
     pub fn iter_chars(&self) -> Chars<'_>
         ensures characters { result ≡ characters_of self.now }
         ensures count { length result ≤ 0x110000 }
@@ -232,13 +215,14 @@ impl<'a> CodePointInversionList<'a> {
         CodePointRanges::new(self.edges.iter())
     }
 
-    /// The ranges of code points that the set doesn't hold in order, both ends included: those of
+    /// The ranges of code points that the set doesn't hold, in order, both ends included: those of
     /// the complement.
     pub fn iter_ranges_complemented(&self) -> ComplementedRanges<'_>
         ensures members { (c : ℕ) → in_ranges result c ≡ (nat_lt c 0x110000 && not (holds self.now c)) }
         ensures ranges { AreGapsOf self.now result }
     {
-        ComplementedRanges::new(self.edges.iter(), self.contains32(0))
+        let edges = self.edges.iter();
+        ComplementedRanges::new(edges, self.contains32(0), self.contains32(0x10_FFFF))
     }
 
     /// How many code points below this one the set holds.
@@ -266,8 +250,7 @@ impl<'a> CodePointInversionList<'a> {
         self.count_before(0x11_0000)
     }
 
-    /// How many code points of the set are below one that it holds, or `None` for one that it
-    /// doesn't.
+    /// How many code points of the set are below one that it holds; `None` for one that it doesn't.
     pub fn position32(&self, code_point: u32) -> Option<usize>
         ensures { result ≡ (if holds self.now code_point then Some (count_below (holds self.now) code_point) else None) }
     {
@@ -370,8 +353,8 @@ impl CodePointInversionList<'static> {
         }
     }
 
-    /// The set of the inversion list in a slice, in memory of its own. Refused where the list is
-    /// none, or for want of memory.
+    /// The set of the inversion list in a slice, in memory of its own. Refused where the numbers
+    /// are not one, or when out of memory.
     pub fn try_from_u32_inversion_list_slice(
         alloc: Global,
         list: &[u32],

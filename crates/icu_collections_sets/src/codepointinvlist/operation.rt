@@ -5,7 +5,7 @@ ghost use Rattle.icu_collections_sets.specs.Operations.{operated, IsOperated, Pa
 
 use std::alloc::{AllocError, Global};
 
-/// What is made of two sets.
+/// What two sets are combined to.
 #[derive(Clone, Copy)]
 pub(super) enum Operation {
     /// What is in one of them.
@@ -56,8 +56,8 @@ fn pass_edge(rest: &[u32], inside: bool, edge: u32) -> (&[u32], bool)
     }
 }
 
-/// The edges of what an operation makes of two sets, both given by their edges. The only error is
-/// want of memory.
+/// The edges of the result of an operation on two sets, both given by their edges. The only error
+/// is `AllocError`.
 pub(super) fn combine(
     alloc: Global,
     operation: Operation,

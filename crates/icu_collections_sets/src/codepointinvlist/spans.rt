@@ -7,7 +7,7 @@ ghost use Rattle.icu_collections_sets.specs.CodePoints.{holds};
 use super::inversion_list::CodePointInversionList;
 
 impl CodePointInversionList<'_> {
-    /// Whether the set holds a character, or, where `held` is false, doesn't hold it.
+    /// Whether the set holds a character; where `held` is false, whether it doesn't.
     fn is_so(&self, character: char, held: bool) -> bool
         ensures so { IsTrue result ↔ (holds self.now character ≡ held) }
         ensures scalar { IsScalar character }
@@ -15,8 +15,8 @@ impl CodePointInversionList<'_> {
         self.contains(character) == held
     }
 
-    /// Where, in bytes, the longest prefix of the text ends whose characters the set all holds, or,
-    /// where `held` is false, all doesn't hold. It allocates nothing.
+    /// Where, in bytes, the longest prefix of the text ends that has only characters of the set, or,
+    /// where `held` is false, none of them. It allocates nothing.
     pub fn span(&self, text: &str, held: bool) -> usize
         ensures boundary { IsCharBoundary text.now result }
         ensures prefix { All (λ c. holds self.now c ≡ held) (chars (take result text.now)) }
@@ -30,8 +30,8 @@ impl CodePointInversionList<'_> {
         text.len()
     }
 
-    /// Where, in bytes, the longest suffix of the text begins whose characters the set all holds,
-    /// or, where `held` is false, all doesn't hold. It allocates nothing.
+    /// Where, in bytes, the longest suffix of the text begins that has only characters of the set,
+    /// or, where `held` is false, none of them. It allocates nothing.
     pub fn span_back(&self, text: &str, held: bool) -> usize
         ensures boundary { IsCharBoundary text.now result }
         ensures suffix { All (λ c. holds self.now c ≡ held) (chars (drop result text.now)) }

@@ -1,4 +1,4 @@
-//! Why a JSON value is no set.
+//! Why a JSON value is not a set.
 ghost use Rattle.std.specs.Prelude.{◌≡◌};
 
 use crate::codepointinvliststringlist::InvalidStringList;
@@ -6,18 +6,18 @@ use std::alloc::AllocError;
 use std::error::Error;
 use std::fmt;
 
-/// Why a JSON value is no set of code points, or of code points and strings.
+/// Why a JSON value is not a set of code points, or of code points and strings.
 #[derive(Debug, PartialEq, Eq, Drop)]
 pub enum JsonError {
-    /// The value has not the shape of a set: it is no array, or for a set with strings no object
-    /// of the two members, the second an array of strings.
+    /// The value does not have the shape of a set: an array, or for a set with strings an object
+    /// of two members, the second an array of strings.
     JsonShape,
-    /// The item at this place is the first at fault: it is no text that spells a range.
+    /// The item at this place is the first at fault: it is not a text that spells a range.
     JsonItem(usize),
     /// The item at this place is the first at fault: its range begins at most one past the end of
     /// the range before.
     JsonOrder(usize),
-    /// The strings are no strings of a set.
+    /// The strings are not those of a set.
     Strings(InvalidStringList),
     /// Memory was refused.
     Memory,

@@ -41,7 +41,7 @@ fn read_edges(alloc: Global, items: &[Value]) -> Result<Vec<u32>, JsonError>
 impl CodePointInversionList<'_> {
     /// The set as a JSON array of its ranges in order: `X` for one code point, else `X-Y`, where X
     /// and Y are characters, or `U+` and four upper-case hexadecimal digits for a surrogate. The
-    /// only error is want of memory.
+    /// only error is `AllocError`.
     pub fn to_json(&self, alloc: Global) -> Result<Value, AllocError>
         ensures exact { IfOk result (λ value. view value ≡ json_of self.now) }
         ensures stands { IfOk result (λ value. IsJson (view value) self.now) }
@@ -59,7 +59,7 @@ impl CodePointInversionList<'static> {
     /// The set that a JSON array stands for, in memory of its own; `X-X` is taken for `X`. Refused
     /// as `JsonShape` for a value that is no array; else for the first place i at fault as
     /// `JsonItem(i)` where the item is no text `X` or `X-Y`, or has Y below X, or as `JsonOrder(i)`
-    /// where X is at most one past the end of the item before; or for want of memory.
+    /// where X is at most one past the end of the item before; or as `Memory`.
     pub fn from_json(
         alloc: Global,
         value: &Value,

@@ -1,6 +1,6 @@
 //! Code points and ranges of them as texts.
 ghost use Rattle.std.specs.Prelude.{◌≡◌, ◌≢◌, ℕ, ◌<◌, ◌≤◌, List, [], ◌++◌, IfOk, OnOk, MatchOption, string_bytes};
-ghost use Rattle.icu_collections_sets.specs.Spelling.{IsSurrogate, hex_digit, hex_spelling, spelling, range_text, Spells, BeginsWithSurrogate, BeginsWith};
+ghost use Rattle.icu_collections_sets.specs.Spelling.{IsSurrogate, hex_digit, hex_spelling, spelling, range_text, SpellsRange, BeginsWithSurrogate, BeginsWith};
 
 use std::alloc::{AllocError, Global};
 
@@ -46,7 +46,7 @@ fn read_code_point(text: &str) -> Option<(u32, &str)>
 
 /// The range that a text spells, by its first and its last code point.
 pub(super) fn read_range(text: &str) -> Option<(u32, u32)>
-    ensures { MatchOption result ((range : ℕ × ℕ) → ¬ Spells text.now range) (Spells text.now) }
+    ensures { MatchOption result ((range : ℕ × ℕ) → ¬ SpellsRange text.now range) (SpellsRange text.now) }
 {
     let (first, rest) = read_code_point(text)?;
     if rest.is_empty() {
@@ -98,7 +98,7 @@ fn push_code_point(text: &mut String, code_point: u32) -> Result<(), AllocError>
     }
 }
 
-/// The text that spells a range of code points. The only error is want of memory.
+/// The text that spells a range of code points. The only error is `AllocError`.
 pub(super) fn write_range(alloc: Global, first: u32, last: u32) -> Result<String, AllocError>
     requires rises { first ≤ last }
     requires within { last < 0x110000 }

@@ -58,7 +58,7 @@ fn write_strings(alloc: Global, strings: &[String]) -> Result<Value, AllocError>
 
 impl CodePointInversionListAndStringList<'_> {
     /// The set as a JSON object of two members: `code_points`, the JSON array of its code points,
-    /// and `strings`, an array of its strings. The only error is want of memory.
+    /// and `strings`, an array of its strings. The only error is `AllocError`.
     pub fn to_json(&self, alloc: Global) -> Result<Value, AllocError>
         ensures exact { IfOk result (λ value. view value ≡ string_list_json_of self.now) }
         ensures stands { IfOk result (λ value. IsStringListJson (view value) self.now) }
@@ -76,7 +76,7 @@ impl CodePointInversionListAndStringList<'static> {
     /// The set that a JSON object stands for, in memory of its own. Refused as `JsonShape` for a
     /// value that is no object, or has not just the members `code_points`, an array, and `strings`,
     /// an array of strings; else as the set of code points is; else as `Strings` for the first
-    /// string that is none of a set; or for want of memory.
+    /// string that breaks the rules of a set; or as `Memory`.
     pub fn from_json(
         alloc: Global,
         value: &Value,

@@ -1,4 +1,4 @@
-use Rattle.icu_codepointtrie.proofs.RangeWalks.{maximal_walk}
+use Rattle.icu_codepointtrie.proofs.walks.MaximalRangeLemmas.{maximal_walk}
 use Rattle.icu_codepointtrie.proofs.laws.ranges_of_built_tries.Goals as goal
 
 pub returns : goal.returns

@@ -1,5 +1,5 @@
 use Rattle.std.proofs.Common.{⊎_elim, arith}
-use Rattle.icu_codepointtrie.proofs.PlaneLemmas.{few_wide, few_small}
+use Rattle.icu_codepointtrie.proofs.built.PlaneLemmas.{few_wide, few_small}
 use Rattle.icu_codepointtrie.proofs.planes.get_planes_trie.Goals as goal
 
 pub unreachable-requires : goal.unreachable-requires

@@ -1,7 +1,7 @@
 use Rattle.std.proofs.Common.{◌≡◌, arith, refl, length, map, string_bytes, subst}
 use Rattle.std.proofs.lemmas.List.{length-map}
 use Rattle.icu_collections_sets.specs.StringList.{AreStringsUpTo}
-use Rattle.icu_collections_sets.proofs.StringListLemmas.{AreStringsUpTo-none, AreStringsUpTo-more}
+use Rattle.icu_collections_sets.proofs.texts.StringListLemmas.{AreStringsUpTo-none, AreStringsUpTo-more}
 use Rattle.icu_collections_sets.proofs.codepointinvliststringlist.first_offence.Goals as goal
 
 pub returns-in-Some : goal.returns-in-Some

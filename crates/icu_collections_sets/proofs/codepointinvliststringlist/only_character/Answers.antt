@@ -1,7 +1,7 @@
 use Rattle.std.proofs.Common.{◌++◌, sym, ap, ◌∙◌, arith}
 use Rattle.std.proofs.lemmas.Bool.Decides.{nat_tests}
 use lib.Utf8.{encode}
-use Rattle.icu_collections_sets.proofs.StringListLemmas.{chars_only, chars_more}
+use Rattle.icu_collections_sets.proofs.texts.StringListLemmas.{chars_only, chars_more}
 use Rattle.icu_collections_sets.proofs.codepointinvliststringlist.only_character.Goals as goal
 
 pub returns-then-is_empty : goal.returns-then-is_empty

@@ -11,7 +11,7 @@ use std::alloc::AllocError;
 use std::ops::RangeInclusive;
 
 impl CodePointInversionListBuilder {
-    /// Makes of the set and another one what an operation does.
+    /// Applies an operation to the set and another one.
     fn combine_set(
         &mut self,
         operation: Operation,
@@ -55,7 +55,7 @@ impl CodePointInversionListBuilder {
         self.combine_set(Operation::Difference, set)
     }
 
-    /// Keeps the code points of a range alone, none for an empty range.
+    /// Keeps only the code points of a range; none for an empty range.
     pub fn retain_range32(&mut self, range: RangeInclusive<u32>) -> Result<(), AllocError>
         ensures ok { OnOk result (IsIntersection (holds self.old) (in_range range) self.new) }
         ensures err { OnErr result (self.new ≡ self.old) }
@@ -63,7 +63,7 @@ impl CodePointInversionListBuilder {
         self.combine_range32(Operation::Intersection, range)
     }
 
-    /// Keeps the code points from one character to another alone, none for an empty range.
+    /// Keeps only the code points from one character to another; none for an empty range.
     pub fn retain_range(&mut self, range: RangeInclusive<char>) -> Result<(), AllocError>
         ensures ok { OnOk result (IsIntersection (holds self.old) (in_range range) self.new) }
         ensures err { OnErr result (self.new ≡ self.old) }
@@ -71,7 +71,7 @@ impl CodePointInversionListBuilder {
         self.combine_chars(Operation::Intersection, range)
     }
 
-    /// Keeps a code point alone, none for a number past 10FFFF hex.
+    /// Keeps only a code point; none for a number past 10FFFF hex.
     pub fn retain32(&mut self, code_point: u32) -> Result<(), AllocError>
         ensures ok { OnOk result (IsIntersection (holds self.old) (is_code_point code_point) self.new) }
         ensures err { OnErr result (self.new ≡ self.old) }
@@ -79,7 +79,7 @@ impl CodePointInversionListBuilder {
         self.combine_code_point(Operation::Intersection, code_point)
     }
 
-    /// Keeps a character alone.
+    /// Keeps only a character.
     pub fn retain_char(&mut self, character: char) -> Result<(), AllocError>
         ensures ok { OnOk result (IsIntersection (holds self.old) (is_code_point character) self.new) }
         ensures err { OnErr result (self.new ≡ self.old) }
@@ -87,7 +87,7 @@ impl CodePointInversionListBuilder {
         self.combine_code_point(Operation::Intersection, character as u32)
     }
 
-    /// Keeps what another set holds too.
+    /// Keeps only what another set holds too.
     pub fn retain_set(&mut self, set: &CodePointInversionList<'_>) -> Result<(), AllocError>
         ensures ok { OnOk result (IsIntersection (holds self.old) (holds set.now) self.new) }
         ensures err { OnErr result (self.new ≡ self.old) }
@@ -95,7 +95,7 @@ impl CodePointInversionListBuilder {
         self.combine_set(Operation::Intersection, set)
     }
 
-    /// Complements within a range: what of it was held no longer is, and the other way round. An
+    /// Complements within a range: what was held of it no longer is, and the other way round. An
     /// empty range changes nothing.
     pub fn complement_range32(&mut self, range: RangeInclusive<u32>) -> Result<(), AllocError>
         ensures ok { OnOk result (IsSymmetricDifference (holds self.old) (in_range range) self.new) }
@@ -128,7 +128,7 @@ impl CodePointInversionListBuilder {
         self.combine_code_point(Operation::SymmetricDifference, character as u32)
     }
 
-    /// Complements where another set holds: what was in one of the two is held then.
+    /// Complements what another set holds: then the set holds what was in exactly one of the two.
     pub fn complement_set(&mut self, set: &CodePointInversionList<'_>) -> Result<(), AllocError>
         ensures ok { OnOk result (IsSymmetricDifference (holds self.old) (holds set.now) self.new) }
         ensures err { OnErr result (self.new ≡ self.old) }
@@ -136,7 +136,7 @@ impl CodePointInversionListBuilder {
         self.combine_set(Operation::SymmetricDifference, set)
     }
 
-    /// Complements the whole set: it holds then exactly the code points that it didn't.
+    /// Complements the whole set: it then holds exactly the code points that it didn't.
     pub fn complement(&mut self) -> Result<(), AllocError>
         ensures ok { OnOk result (IsSymmetricDifference (holds self.old) (is_within 0 0x110000) self.new) }
         ensures err { OnErr result (self.new ≡ self.old) }

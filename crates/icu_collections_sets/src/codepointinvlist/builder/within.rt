@@ -84,7 +84,7 @@ impl CodePointInversionListBuilder {
         }
     }
 
-    /// Keeps the code points from one number up to another, exclusive, alone.
+    /// Keeps only the code points from one number up to another, exclusive.
     pub(super) fn retain_within(&mut self, from: u32, till: u32) -> Result<(), AllocError>
         requires { till ≤ 0x110000 }
         ensures ok { OnOk result (IsIntersection (holds self.old) (is_within from till) self.new) }

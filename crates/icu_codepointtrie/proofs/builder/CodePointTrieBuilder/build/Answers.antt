@@ -2,8 +2,8 @@ use Rattle.std.proofs.Common.{◌≡◌, ◌+◌, List, length, map, sym, ap, su
 use Rattle.std.proofs.lemmas.List.{length-append}
 use Rattle.icu_codepointtrie.specs.Layouts.{HasIndex}
 use Rattle.icu_codepointtrie.specs.BuiltTries.{AreAllCells}
-use Rattle.icu_codepointtrie.proofs.BuiltTries.{IsTrieOf-built, IsTrie-built}
-use Rattle.icu_codepointtrie.proofs.BlockCounts.{layout_count, more_different}
+use Rattle.icu_codepointtrie.proofs.built.BuiltTrieLemmas.{IsTrieOf-built, IsTrie-built}
+use Rattle.icu_codepointtrie.proofs.built.BlockCountLemmas.{layout_count, more_different}
 use Rattle.icu_codepointtrie.proofs.builder.CodePointTrieBuilder.build.Goals as goal
 
 pub returns-in-Err-clause-refused : goal.returns-in-Err-clause-refused

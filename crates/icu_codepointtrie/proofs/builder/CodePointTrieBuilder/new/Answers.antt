@@ -1,5 +1,5 @@
 use Rattle.std.proofs.Common.{rules}
-use Rattle.icu_codepointtrie.proofs.BlockLaws.{different_blocks-constant}
+use Rattle.icu_codepointtrie.proofs.built.MapBlockLemmas.{different_blocks-constant}
 use Rattle.icu_codepointtrie.proofs.builder.CodePointTrieBuilder.new.Goals as goal
 
 pub returns-clause-blocks : goal.returns-clause-blocks

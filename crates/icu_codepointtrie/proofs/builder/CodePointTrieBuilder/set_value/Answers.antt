@@ -1,4 +1,4 @@
-use Rattle.icu_codepointtrie.proofs.BlockLaws.{different_blocks-set}
+use Rattle.icu_codepointtrie.proofs.built.MapBlockLemmas.{different_blocks-set}
 use Rattle.icu_codepointtrie.proofs.builder.CodePointTrieBuilder.set_value.Goals as goal
 
 pub returns-then-not-is_default-clause-blocks : goal.returns-then-not-is_default-clause-blocks

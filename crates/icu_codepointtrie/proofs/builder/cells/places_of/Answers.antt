@@ -1,6 +1,6 @@
 use Rattle.std.proofs.Common.{ℕ, ◌+◌, ◌*◌, ◌<◌, ◌≤◌, List, map, length}
 use Rattle.std.proofs.lemmas.List.{length-map}
-use Rattle.icu_codepointtrie.proofs.DataCells.{AllStand-kept}
+use Rattle.icu_codepointtrie.proofs.built.DataCellLemmas.{AllStand-kept}
 use Rattle.icu_codepointtrie.proofs.builder.cells.places_of.Goals as goal
 
 pub returns-clause-stand : goal.returns-clause-stand

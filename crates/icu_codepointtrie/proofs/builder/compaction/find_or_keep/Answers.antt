@@ -3,7 +3,7 @@ use Rattle.std.specs.Prelude.{None}
 use Rattle.std.specs.HashMap.{get}
 use Rattle.std.proofs.lemmas.List.{length-map}
 use Rattle.icu_codepointtrie.specs.Blocks.{has_same_numbers}
-use Rattle.icu_codepointtrie.proofs.Blocks.{AreKept-push, IsFound-push, not_found}
+use Rattle.icu_codepointtrie.proofs.built.BlockLemmas.{AreKept-push, IsFound-push, not_found}
 use Rattle.icu_codepointtrie.proofs.builder.compaction.find_or_keep.Goals as goal
 
 pub returns-clause-kept : goal.returns-clause-kept

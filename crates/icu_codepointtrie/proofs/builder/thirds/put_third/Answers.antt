@@ -1,5 +1,5 @@
 use Rattle.std.proofs.Common.{◌≡◌, length, arith}
-use Rattle.icu_codepointtrie.proofs.IndexBlocks.{Gives-wide}
+use Rattle.icu_codepointtrie.proofs.built.IndexBlockLemmas.{Gives-wide}
 use Rattle.icu_codepointtrie.proofs.builder.thirds.put_third.Goals as goal
 
 pub returns-in_ok-put_wide-clause-gives : goal.returns-in_ok-put_wide-clause-gives

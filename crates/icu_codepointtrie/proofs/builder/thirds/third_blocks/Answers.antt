@@ -1,5 +1,5 @@
 use Rattle.std.proofs.Common.{arith, rules}
-use Rattle.icu_codepointtrie.proofs.IndexBlocks.{gives_push}
+use Rattle.icu_codepointtrie.proofs.built.IndexBlockLemmas.{gives_push}
 use Rattle.icu_codepointtrie.proofs.builder.thirds.third_blocks.Goals as goal
 
 pub loop-block-preserved : goal.loop-block-preserved

@@ -1,7 +1,7 @@
 use Rattle.std.proofs.Common.{◌≡◌, ◌+◌, ◌/◌, ◌^◌, arith, refl}
 use Rattle.std.specs.Prelude.{slice_index}
 use Rattle.icu_codepointtrie.specs.IndexBlocks.{upper_cell}
-use Rattle.icu_codepointtrie.proofs.IndexBlocks.{joined_more, four_more, four_bound}
+use Rattle.icu_codepointtrie.proofs.built.IndexBlockLemmas.{joined_more, four_more, four_bound}
 use Rattle.icu_codepointtrie.proofs.builder.thirds.upper_cell.Goals as goal
 
 pub loop-number-init : goal.loop-number-init

@@ -1,7 +1,7 @@
 use Rattle.std.proofs.Common.{◌≡◌, None, get_or, sym, arith}
 use Rattle.toml.specs.View.{view}
 use Rattle.icu_codepointtrie.specs.TomlTables.{value_in}
-use Rattle.icu_codepointtrie.proofs.TomlLemmas.{values_in-none, values_in-more}
+use Rattle.icu_codepointtrie.proofs.tables.TomlTableLemmas.{values_in-none, values_in-more}
 use Rattle.icu_codepointtrie.proofs.toml_text.read.values_of.Goals as goal
 
 -- an item without a value leaves the whole array without values

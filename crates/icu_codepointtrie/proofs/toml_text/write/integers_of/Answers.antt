@@ -3,7 +3,7 @@ use Rattle.std.specs.List.{slice_get}
 use Rattle.std.proofs.lemmas.List.{take_all}
 use Rattle.toml.specs.Data.{integer}
 use Rattle.toml.specs.View.{view}
-use Rattle.icu_codepointtrie.proofs.TomlLemmas.{integers_of-more, values_in-found, value_in-number}
+use Rattle.icu_codepointtrie.proofs.tables.TomlTableLemmas.{integers_of-more, values_in-found, value_in-number}
 use Rattle.icu_codepointtrie.proofs.toml_text.write.integers_of.Goals as goal
 
 pub loop-place-preserved : goal.loop-place-preserved

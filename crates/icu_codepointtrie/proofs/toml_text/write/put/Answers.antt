@@ -1,6 +1,6 @@
 use Rattle.std.proofs.Common.{ap, ◌∙◌}
 use Rattle.toml.specs.View.{members_view}
-use Rattle.icu_codepointtrie.proofs.TomlLemmas.{members_view-insert}
+use Rattle.icu_codepointtrie.proofs.tables.TomlTableLemmas.{members_view-insert}
 use Rattle.icu_codepointtrie.proofs.toml_text.write.put.Goals as goal
 
 pub returns-in-Ok : goal.returns-in-Ok

@@ -1,9 +1,9 @@
 use Rattle.std.proofs.Common.{◌+◌, true, subst, arith}
 use Rattle.icu_codepointtrie.specs.MappedRanges.{IsAlike}
-use Rattle.icu_codepointtrie.proofs.RangeLemmas.{alike_further}
+use Rattle.icu_codepointtrie.proofs.walks.MappedRangeLemmas.{alike_further}
 use Rattle.icu_codepointtrie.proofs.trie.CodePointTrie.end_of_mapped.Goals as goal
 
--- the code points of the range behind the end are mapped alike too
+-- the code points of the range after the end are mapped alike too
 pub loop-end-preserved : goal.loop-end-preserved
 loop-end-preserved g c =
     let alike = IsAlike c.args.self.now (λ v w. g.F.Fn.post c.args.map.now (v, tt) w) g.U.PartialEq.eq in

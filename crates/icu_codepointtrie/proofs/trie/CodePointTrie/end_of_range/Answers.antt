@@ -3,7 +3,7 @@ use Rattle.std.specs.Prelude.{not, nat_eq, false}
 use Rattle.std.specs.Option.{option_eq}
 use Rattle.icu_codepointtrie.specs.Ranges.{IsConstant}
 use Rattle.icu_codepointtrie.specs.SharedBlocks.{key_width}
-use Rattle.icu_codepointtrie.proofs.SharedBlocks.{skipped, known_key}
+use Rattle.icu_codepointtrie.proofs.walks.SharedBlockLemmas.{skipped, known_key}
 use Rattle.icu_codepointtrie.proofs.trie.CodePointTrie.end_of_range.Goals.{in-Some, in-None}
 use Rattle.icu_codepointtrie.proofs.trie.CodePointTrie.end_of_range.Goals as goal
 

@@ -4,7 +4,7 @@ use Rattle.toml.specs.View.{view, table_view, members_view}
 use Rattle.toml.specs.declared.value.Value.{Array}
 use Rattle.toml.proofs.Views.{view-Array}
 use Rattle.icu_codepointtrie.specs.TomlTables.{integers_of}
-use Rattle.icu_codepointtrie.proofs.TomlLemmas.{IsHeader, tables_back}
+use Rattle.icu_codepointtrie.proofs.tables.TomlTableLemmas.{IsHeader, tables_back}
 use Rattle.icu_codepointtrie.proofs.trie.CodePointTrie.to_table.Goals as goal
 
 pub returns-clause-table : goal.returns-clause-table

@@ -3,7 +3,7 @@ use Rattle.std.proofs.lemmas.Bool.{false≢true}
 use Rattle.toml.specs.Data.{members_depth, members_have_valid_dates}
 use Rattle.toml.specs.Parse.{parse_document}
 use Rattle.toml.specs.View.{table_view}
-use Rattle.icu_codepointtrie.proofs.TomlLemmas.{table_depth, table_dates}
+use Rattle.icu_codepointtrie.proofs.tables.TomlTableLemmas.{table_depth, table_dates}
 use Rattle.icu_codepointtrie.proofs.trie.CodePointTrie.to_toml.Goals as goal
 
 pub returns-in-Ok-clause-table : goal.returns-in-Ok-clause-table

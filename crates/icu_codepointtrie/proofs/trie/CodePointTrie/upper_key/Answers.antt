@@ -1,5 +1,5 @@
 use Rattle.std.proofs.Common.{arith, rules}
-use Rattle.icu_codepointtrie.proofs.SharedBlocks.{upper_is_key}
+use Rattle.icu_codepointtrie.proofs.walks.SharedBlockLemmas.{upper_is_key}
 use Rattle.icu_codepointtrie.proofs.trie.CodePointTrie.upper_key.Goals as goal
 
 pub returns : goal.returns

@@ -1,6 +1,6 @@
 use Rattle.std.proofs.Common.{ℕ, ◌≤◌, ◌<◌, ◌+◌, ◌-◌, ◌/◌, get_or, length, arith}
 use Rattle.std.proofs.lemmas.List.{get_or_default}
-use Rattle.icu_collections_sets.proofs.SetLemmas.{low_side_below, high_side_from}
+use Rattle.icu_collections_sets.proofs.sets.InversionListLemmas.{low_side_below, high_side_from}
 use Rattle.icu_collections_sets.proofs.codepointinvlist.builder.place_of.Goals as goal
 
 pub loop-low-preserved-then-edges-middle : goal.loop-low-preserved-then-edges-middle

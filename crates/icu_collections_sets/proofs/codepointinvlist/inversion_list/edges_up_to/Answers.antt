@@ -1,5 +1,5 @@
 use Rattle.std.proofs.Common.{ℕ, ◌≤◌, ◌<◌, ◌+◌, ◌-◌, ◌/◌, get_or, length, arith}
-use Rattle.icu_collections_sets.proofs.SetLemmas.{low_side, high_side}
+use Rattle.icu_collections_sets.proofs.sets.InversionListLemmas.{low_side, high_side}
 use Rattle.icu_collections_sets.proofs.codepointinvlist.inversion_list.edges_up_to.Goals as goal
 
 pub loop-low-preserved-then-at-code_point : goal.loop-low-preserved-then-at-code_point

@@ -1,6 +1,6 @@
 use Rattle.std.proofs.Common.{◌≡◌, ◌+◌, [], not, sym, ◌∙◌, subst}
 use Rattle.icu_collections_sets.specs.Operations.{operated}
-use Rattle.icu_collections_sets.proofs.MergeLemmas.{Merging, Merging-none, Merging-same, Merging-turn, Merging-all, next_is, no_next, turned_about, turned_same}
+use Rattle.icu_collections_sets.proofs.edits.OperationLemmas.{Merging, Merging-none, Merging-same, Merging-turn, Merging-all, next_is, no_next, turned_about, turned_same}
 use Rattle.icu_collections_sets.proofs.codepointinvlist.operation.combine.Goals as goal
 
 pub loop-edge-init : goal.loop-edge-init

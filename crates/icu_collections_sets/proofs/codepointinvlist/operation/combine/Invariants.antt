@@ -1,5 +1,5 @@
 use Rattle.std.proofs.Common.{ℕ, ◌+◌, length}
-use Rattle.icu_collections_sets.proofs.MergeLemmas.{Merging}
+use Rattle.icu_collections_sets.proofs.edits.OperationLemmas.{Merging}
 use Rattle.icu_collections_sets.proofs.codepointinvlist.operation.combine.Given as goal
 
 abbrev pub invariant-loop-edge : goal.invariant-loop-edge

@@ -1,6 +1,6 @@
 use Rattle.std.proofs.Common.{map, string_bytes, sym, ap, subst, ◌∙◌}
 use Rattle.icu_collections_sets.specs.StringList.{AreStrings}
-use Rattle.icu_collections_sets.proofs.TextLemmas.{same_texts, set_of}
+use Rattle.icu_collections_sets.proofs.texts.TextLemmas.{same_texts, set_of}
 use Rattle.icu_collections_sets.proofs.codepointinvliststringlist.CodePointInversionListAndStringList.clone.Goals as goal
 
 pub invariant_of-result : goal.invariant_of-result

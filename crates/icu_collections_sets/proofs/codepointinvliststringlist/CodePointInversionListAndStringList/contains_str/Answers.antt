@@ -2,7 +2,7 @@ use Rattle.std.proofs.Common.{String, Global, map, string_bytes, nat_cmp, rules}
 use Rattle.std.proofs.lemmas.Fn.{always_returns_same}
 use Rattle.std.specs.Cmp.Lexicographic.{slice_cmp}
 use Rattle.icu_collections_sets.specs.StringList.{AreStrings}
-use Rattle.icu_collections_sets.proofs.StringListLemmas.{searched_text}
+use Rattle.icu_collections_sets.proofs.texts.StringListLemmas.{searched_text}
 use Rattle.icu_collections_sets.proofs.codepointinvliststringlist.CodePointInversionListAndStringList.contains_str.Goals as goal
 
 pub returns-in-None-clause-string : goal.returns-in-None-clause-string

@@ -3,7 +3,7 @@ use Rattle.std.proofs.lemmas.Result.{err_from_is_err_and}
 use Rattle.serde_json.specs.View.{view}
 use Rattle.icu_collections_sets.specs.StringList.{CodePointsAndStrings}
 use Rattle.icu_collections_sets.specs.declared.json.error.JsonError.TheVariants.{JsonShape, Strings}
-use Rattle.icu_collections_sets.proofs.JsonStringListLemmas.{refused_members, refused_list, refused_strings, not_refused_string_list, one_string_list, IsStringListJson-members}
+use Rattle.icu_collections_sets.proofs.texts.JsonStringListLemmas.{refused_members, refused_list, refused_strings, not_refused_string_list, one_string_list, IsStringListJson-members}
 use Rattle.icu_collections_sets.proofs.codepointinvliststringlist.CodePointInversionListAndStringList.from_json.Goals as goal
 
 pub returns-in_default-clause-exact : goal.returns-in_default-clause-exact

@@ -1,6 +1,6 @@
 use Rattle.std.proofs.Common.{arith}
 use Rattle.icu_collections_sets.specs.CodePoints.{holds}
-use Rattle.icu_collections_sets.proofs.SetLemmas.{count_below_least}
+use Rattle.icu_collections_sets.proofs.sets.InversionListLemmas.{count_below_least}
 use Rattle.icu_collections_sets.proofs.codepointinvliststringlist.CodePointInversionListAndStringList.size.Goals as goal
 
 pub overflow_add-result : goal.overflow_add-result

@@ -4,7 +4,7 @@ use Rattle.serde_json.specs.Data.{Data}
 use Rattle.serde_json.specs.View.{view}
 use Rattle.icu_collections_sets.specs.CodePoints.{IsInversionList}
 use Rattle.icu_collections_sets.specs.JsonStringList.{string_list_json_of, IsStringListJson}
-use Rattle.icu_collections_sets.proofs.JsonStringListLemmas.{IsStringListJson-json_of}
+use Rattle.icu_collections_sets.proofs.texts.JsonStringListLemmas.{IsStringListJson-json_of}
 use Rattle.icu_collections_sets.proofs.codepointinvliststringlist.CodePointInversionListAndStringList.to_json.Goals as goal
 
 pub returns-clause-stands : goal.returns-clause-stands

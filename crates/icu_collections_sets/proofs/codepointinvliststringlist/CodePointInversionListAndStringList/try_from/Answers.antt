@@ -1,5 +1,5 @@
 use Rattle.std.proofs.Common.{rules}
-use Rattle.icu_collections_sets.proofs.StringListLemmas.{not_unique}
+use Rattle.icu_collections_sets.proofs.texts.StringListLemmas.{not_unique}
 use Rattle.icu_collections_sets.proofs.codepointinvliststringlist.CodePointInversionListAndStringList.try_from.Goals as goal
 
 pub returns-in-NotUnique : goal.returns-in-NotUnique

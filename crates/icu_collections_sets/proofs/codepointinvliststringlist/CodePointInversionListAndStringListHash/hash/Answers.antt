@@ -1,6 +1,6 @@
 use Rattle.std.proofs.Common.{map, string_bytes}
 use Rattle.std.specs.Hash as fed
-use Rattle.icu_collections_sets.proofs.TextLemmas.{fed_texts}
+use Rattle.icu_collections_sets.proofs.texts.TextLemmas.{fed_texts}
 use Rattle.icu_collections_sets.proofs.codepointinvliststringlist.CodePointInversionListAndStringListHash.hash.Goals as goal
 
 pub returns : goal.returns

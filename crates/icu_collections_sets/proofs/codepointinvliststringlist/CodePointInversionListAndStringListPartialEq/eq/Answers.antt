@@ -1,7 +1,7 @@
 use Rattle.std.proofs.Common.{◌≡◌, true, sym, ◌∙◌}
 use Rattle.std.specs.Prelude.{nat_eq}
 use Rattle.std.specs.Cmp.Lexicographic.{pointwise}
-use Rattle.icu_collections_sets.proofs.TextLemmas.{equal_texts}
+use Rattle.icu_collections_sets.proofs.texts.TextLemmas.{equal_texts}
 use Rattle.icu_collections_sets.proofs.codepointinvliststringlist.CodePointInversionListAndStringListPartialEq.eq.Goals as goal
 
 pub returns-then-eq : goal.returns-then-eq

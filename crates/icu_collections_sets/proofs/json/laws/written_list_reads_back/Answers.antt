@@ -1,4 +1,4 @@
-use Rattle.icu_collections_sets.proofs.JsonLemmas.{written_once, written_taken}
+use Rattle.icu_collections_sets.proofs.texts.JsonLemmas.{written_once, written_taken}
 use Rattle.icu_collections_sets.proofs.json.laws.written_list_reads_back.Goals as goal
 
 pub returns-clause-same : goal.returns-clause-same

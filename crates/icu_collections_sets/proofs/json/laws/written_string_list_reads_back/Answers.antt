@@ -1,4 +1,4 @@
-use Rattle.icu_collections_sets.proofs.JsonStringListLemmas.{written_once, written_taken}
+use Rattle.icu_collections_sets.proofs.texts.JsonStringListLemmas.{written_once, written_taken}
 use Rattle.icu_collections_sets.proofs.json.laws.written_string_list_reads_back.Goals as goal
 
 pub returns-clause-same : goal.returns-clause-same

@@ -4,7 +4,7 @@ use Rattle.std.proofs.lemmas.Slice.{pushed}
 use Rattle.serde_json.specs.Data.{Data}
 use Rattle.serde_json.specs.View.{view}
 use Rattle.icu_collections_sets.specs.Json.{SpellSet, IsItem}
-use Rattle.icu_collections_sets.proofs.JsonLemmas.{SpellSet-none, SpellSet-more, IsOrderFault-early, least_behind, least_behind-none, least_behind-append, item_at-map}
+use Rattle.icu_collections_sets.proofs.texts.JsonLemmas.{SpellSet-none, SpellSet-more, IsOrderFault-early, least_behind, least_behind-none, least_behind-append, item_at-map}
 use Rattle.icu_collections_sets.proofs.json.list.read_edges.Goals as goal
 
 pub loop-place-init : goal.loop-place-init

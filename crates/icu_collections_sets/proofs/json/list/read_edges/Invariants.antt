@@ -1,7 +1,7 @@
 use Rattle.std.proofs.Common.{◌≡◌, map, take}
 use Rattle.serde_json.specs.View.{view}
 use Rattle.icu_collections_sets.specs.Json.{SpellSet}
-use Rattle.icu_collections_sets.proofs.JsonLemmas.{least_behind}
+use Rattle.icu_collections_sets.proofs.texts.JsonLemmas.{least_behind}
 use Rattle.icu_collections_sets.proofs.json.list.read_edges.Given as goal
 
 abbrev pub invariant-loop-place : goal.invariant-loop-place

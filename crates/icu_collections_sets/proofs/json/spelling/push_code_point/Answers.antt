@@ -1,7 +1,7 @@
 use Rattle.std.proofs.Common.{string_bytes, sym, ap, ◌∙◌}
 use lib.Utf8.{encode}
 use Rattle.icu_collections_sets.specs.Spelling.{spelling}
-use Rattle.icu_collections_sets.proofs.SpellingLemmas.{written, spelling-other, spelling-surrogate, not_surrogate, surrogate_of}
+use Rattle.icu_collections_sets.proofs.texts.SpellingLemmas.{written, spelling-other, spelling-surrogate, not_surrogate, surrogate_of}
 use Rattle.icu_collections_sets.proofs.json.spelling.push_code_point.Goals as goal
 
 pub returns-in-Some : goal.returns-in-Some

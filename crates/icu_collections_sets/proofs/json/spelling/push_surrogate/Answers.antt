@@ -1,7 +1,7 @@
 use Rattle.std.proofs.Common.{◌∙◌, string_bytes, codes, refl, arith}
 use Rattle.std.proofs.lemmas.Slice.{pushed}
 use lib.Utf8.{encode}
-use Rattle.icu_collections_sets.proofs.SpellingLemmas.{digits_written}
+use Rattle.icu_collections_sets.proofs.texts.SpellingLemmas.{digits_written}
 use Rattle.icu_collections_sets.proofs.json.spelling.push_surrogate.Goals as goal
 
 pub returns : goal.returns

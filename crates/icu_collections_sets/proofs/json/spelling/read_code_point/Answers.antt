@@ -1,6 +1,6 @@
 use Rattle.std.proofs.Common.{◌++◌, sym, ap, ◌∙◌}
 use lib.Utf8.{encode}
-use Rattle.icu_collections_sets.proofs.SpellingLemmas.{IsCharBoundary-number, BeginsWith-surrogate, BeginsWith-character, scalar_first}
+use Rattle.icu_collections_sets.proofs.texts.SpellingLemmas.{IsCharBoundary-number, BeginsWith-surrogate, BeginsWith-character, scalar_first}
 use Rattle.icu_collections_sets.proofs.json.spelling.read_code_point.Goals as goal
 
 pub range_from-requires : goal.range_from-requires

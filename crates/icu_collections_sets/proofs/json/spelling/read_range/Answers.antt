@@ -1,6 +1,6 @@
 use Rattle.std.proofs.Common.{◌≡◌, List, ℕ, ◌∷◌, None, Some, arith, inl, inr}
 use Rattle.std.proofs.lemmas.Str.Pattern.{strip_prefix_char}
-use Rattle.icu_collections_sets.proofs.SpellingLemmas.{no_text, no_dash, no_last, not_both, is_empty_false}
+use Rattle.icu_collections_sets.proofs.texts.SpellingLemmas.{no_text, no_dash, no_last, not_both, is_empty_false}
 use Rattle.icu_collections_sets.proofs.json.spelling.read_range.Goals as goal
 
 pub returns-in_err-first : goal.returns-in_err-first

@@ -1,5 +1,5 @@
 use Rattle.std.proofs.Common.{◌%◌, ◌/◌, arith}
-use Rattle.icu_collections_sets.proofs.SpellingLemmas.{IsNumber-spelling, no_low_digit, text_of_number}
+use Rattle.icu_collections_sets.proofs.texts.SpellingLemmas.{IsNumber-spelling, no_low_digit, text_of_number}
 use Rattle.icu_collections_sets.proofs.json.spelling.surrogate_at.Goals as goal
 
 pub returns-in_default : goal.returns-in_default

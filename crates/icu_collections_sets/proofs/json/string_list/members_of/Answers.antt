@@ -1,7 +1,7 @@
 use Rattle.std.proofs.Common.{sym, ◌∙◌}
 use Rattle.serde_json.proofs.Views.{members_len-members_view}
 use Rattle.serde_json.specs.View.{view, members_view}
-use Rattle.icu_collections_sets.proofs.JsonStringListLemmas.{counted}
+use Rattle.icu_collections_sets.proofs.texts.JsonStringListLemmas.{counted}
 use Rattle.icu_collections_sets.proofs.json.string_list.members_of.Goals as goal
 
 pub returns-then-len-ne2 : goal.returns-then-len-ne2

@@ -3,8 +3,8 @@ use Rattle.std.proofs.lemmas.List.{length-map}
 use Rattle.serde_json.specs.Data.{string}
 use Rattle.serde_json.specs.Find.{as_array}
 use Rattle.serde_json.specs.View.{view, items_of}
-use Rattle.icu_collections_sets.proofs.JsonLemmas.{item_at-map}
-use Rattle.icu_collections_sets.proofs.JsonStringListLemmas.{no_texts, string_of, map_more_texts}
+use Rattle.icu_collections_sets.proofs.texts.JsonLemmas.{item_at-map}
+use Rattle.icu_collections_sets.proofs.texts.JsonStringListLemmas.{no_texts, string_of, map_more_texts}
 use Rattle.icu_collections_sets.proofs.json.string_list.read_strings.Goals as goal
 
 pub returns-in_default-as_str : goal.returns-in_default-as_str

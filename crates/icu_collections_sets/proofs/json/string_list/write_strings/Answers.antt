@@ -3,7 +3,7 @@ use Rattle.std.proofs.lemmas.List.{length-map}
 use Rattle.std.proofs.lemmas.Slice.{pushed}
 use Rattle.serde_json.specs.Data.{string}
 use Rattle.serde_json.specs.View.{view}
-use Rattle.icu_collections_sets.proofs.JsonStringListLemmas.{map_more, value_at}
+use Rattle.icu_collections_sets.proofs.texts.JsonStringListLemmas.{map_more, value_at}
 use Rattle.icu_collections_sets.proofs.json.string_list.write_strings.Goals as goal
 
 pub loop-text-preserved : goal.loop-text-preserved

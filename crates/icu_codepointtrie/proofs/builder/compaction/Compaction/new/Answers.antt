@@ -1,6 +1,6 @@
 use Rattle.std.proofs.Common.{◌≡◌, ℕ, ◌+◌, true, List, map, refl, inr, ◌∙◌, arith, rules}
 use Rattle.std.specs.Result.{is_ok}
-use Rattle.icu_codepointtrie.proofs.Blocks.{AreKept-none, ArePlaces-none, FindsKept-none, AreKept-further, ArePlaces-push, last_inside}
+use Rattle.icu_codepointtrie.proofs.built.BlockLemmas.{AreKept-none, ArePlaces-none, FindsKept-none, AreKept-further, ArePlaces-push, last_inside}
 use Rattle.icu_codepointtrie.proofs.builder.compaction.Compaction.new.Goals as goal
 
 pub loop-number-init : goal.loop-number-init

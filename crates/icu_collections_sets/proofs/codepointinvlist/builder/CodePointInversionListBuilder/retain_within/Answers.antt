@@ -1,4 +1,4 @@
-use Rattle.icu_collections_sets.proofs.ToggleLemmas.{retained}
+use Rattle.icu_collections_sets.proofs.edits.ToggleLemmas.{retained}
 use Rattle.icu_collections_sets.proofs.codepointinvlist.builder.CodePointInversionListBuilder.retain_within.Goals as goal
 
 pub returns-clause-ok : goal.returns-clause-ok

@@ -1,7 +1,7 @@
 use Rattle.std.proofs.Common.{◌+◌, sym, subst}
 use Rattle.icu_collections_sets.specs.CodePoints.{IsInversionList}
 use Rattle.icu_collections_sets.specs.SetEdits.{IsCountBelow}
-use Rattle.icu_collections_sets.proofs.EditLemmas.{edited_from_put, edited_holds, edited_list}
+use Rattle.icu_collections_sets.proofs.edits.SetEditLemmas.{edited_from_put, edited_holds, edited_list}
 use Rattle.icu_collections_sets.proofs.codepointinvlist.builder.CodePointInversionListBuilder.set_range.Goals as goal
 
 pub invariant_of-self-2 : goal.invariant_of-self-2

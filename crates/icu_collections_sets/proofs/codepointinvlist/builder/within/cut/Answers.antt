@@ -3,7 +3,7 @@ use Rattle.std.proofs.lemmas.Bool.Decides.{nat_tests}
 use Rattle.std.proofs.lemmas.List.{append-nil}
 use Rattle.icu_collections_sets.specs.CodePoints.{IsInversionList}
 use Rattle.icu_collections_sets.specs.SetEdits.{IsSetTo, IsCountBelow, is_within}
-use Rattle.icu_collections_sets.proofs.ToggleLemmas.{set_cut}
+use Rattle.icu_collections_sets.proofs.edits.ToggleLemmas.{set_cut}
 use Rattle.icu_collections_sets.proofs.codepointinvlist.builder.within.cut.Goals as goal
 
 -- the last range is cut

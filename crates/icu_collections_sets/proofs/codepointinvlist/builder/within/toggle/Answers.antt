@@ -2,7 +2,7 @@ use Rattle.std.proofs.Common.{◌≢◌, ℕ, ◌<◌, length, get_or, sym, ap, 
 use Rattle.std.proofs.lemmas.List.{get_or_default}
 use Rattle.icu_collections_sets.specs.CodePoints.{Rises}
 use Rattle.icu_collections_sets.specs.SetEdits.{IsCountBelow, IsToggled}
-use Rattle.icu_collections_sets.proofs.ToggleLemmas.{edge_put, edge_taken}
+use Rattle.icu_collections_sets.proofs.edits.ToggleLemmas.{edge_put, edge_taken}
 use Rattle.icu_collections_sets.proofs.codepointinvlist.builder.within.toggle.Goals.{else-place-len-via-then-place-len+else-index-edge, else-place-len-via-else-place-len}
 use Rattle.icu_collections_sets.proofs.codepointinvlist.builder.within.toggle.Goals as goal
 

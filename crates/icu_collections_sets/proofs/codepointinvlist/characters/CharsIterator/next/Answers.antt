@@ -1,6 +1,6 @@
 use Rattle.std.proofs.Common.{◌<◌, ◌≤◌, ◌∷◌, length, sym, ap, ◌∙◌, subst, arith}
 use Rattle.icu_collections_sets.specs.Characters.{characters_left, IsLeft}
-use Rattle.icu_collections_sets.proofs.CharacterLemmas.{past, left_of_none, left_behind, left_first, first_is_scalar, some_of, IsLeft_behind}
+use Rattle.icu_collections_sets.proofs.sets.CharacterLemmas.{past, left_of_none, left_behind, left_first, first_is_scalar, some_of, IsLeft_behind}
 use Rattle.icu_collections_sets.proofs.codepointinvlist.characters.CharsIterator.next.Goals as goal
 
 pub returns-in_err-self-inside-clause-steps : goal.returns-in_err-self-inside-clause-steps

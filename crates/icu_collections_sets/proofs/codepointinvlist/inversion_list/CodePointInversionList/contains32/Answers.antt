@@ -1,6 +1,6 @@
 use Rattle.std.proofs.Common.{ap, sym, ◌∙◌, false}
 use Rattle.icu_collections_sets.specs.CodePoints.{holds}
-use Rattle.icu_collections_sets.proofs.SetLemmas.{is_in_count, turned_out}
+use Rattle.icu_collections_sets.proofs.sets.InversionListLemmas.{is_in_count, turned_out}
 use Rattle.icu_collections_sets.proofs.codepointinvlist.inversion_list.CodePointInversionList.contains32.Goals as goal
 
 pub returns : goal.returns

@@ -1,6 +1,6 @@
 use Rattle.std.proofs.Common.{false, not, sym, ◌∙◌, subst, arith}
 use Rattle.icu_collections_sets.specs.CodePoints.{Rises}
-use Rattle.icu_collections_sets.proofs.SetLemmas.{CountsUpTo, CountsUpTo-none, CountsUpTo-more, CountsUpTo-before, CountsUpTo-end, grown_small}
+use Rattle.icu_collections_sets.proofs.sets.InversionListLemmas.{CountsUpTo, CountsUpTo-none, CountsUpTo-more, CountsUpTo-before, CountsUpTo-end, grown_small}
 use Rattle.icu_collections_sets.proofs.codepointinvlist.inversion_list.CodePointInversionList.count_before.Goals as goal
 
 pub loop-edge-init : goal.loop-edge-init

@@ -1,5 +1,5 @@
 use Rattle.std.proofs.Common.{◌≤◌}
-use Rattle.icu_collections_sets.proofs.SetLemmas.{CountsUpTo}
+use Rattle.icu_collections_sets.proofs.sets.InversionListLemmas.{CountsUpTo}
 use Rattle.icu_collections_sets.proofs.codepointinvlist.inversion_list.CodePointInversionList.count_before.Given as goal
 
 abbrev pub invariant-loop-edge : goal.invariant-loop-edge

@@ -1,7 +1,7 @@
 use Rattle.std.proofs.Common.{map, ◌∙◌}
 use Rattle.std.proofs.lemmas.Result.{err_from_is_err_and}
 use Rattle.serde_json.specs.View.{view}
-use Rattle.icu_collections_sets.proofs.JsonLemmas.{not_refused_of, reads_of}
+use Rattle.icu_collections_sets.proofs.texts.JsonLemmas.{not_refused_of, reads_of}
 use Rattle.icu_collections_sets.proofs.codepointinvlist.inversion_list.CodePointInversionList.from_json.Goals as goal
 
 pub returns-in_err-edges-clause-reads : goal.returns-in_err-edges-clause-reads

@@ -1,7 +1,7 @@
 use Rattle.std.proofs.Common.{ap, sym, ◌∙◌, ◌*◌, ◌+◌, ◌-◌, length, Some, slice_get, slice_index_or, arith}
 use Rattle.std.specs.Range.{range_inclusive_start}
 use Rattle.icu_collections_sets.specs.CodePoints.{ranges_of}
-use Rattle.icu_collections_sets.proofs.SetLemmas.{length-ranges_of, slice_get-ranges_of, Rises_below}
+use Rattle.icu_collections_sets.proofs.sets.InversionListLemmas.{length-ranges_of, slice_get-ranges_of, Rises_below}
 use Rattle.icu_collections_sets.proofs.codepointinvlist.inversion_list.CodePointInversionList.get_nth_range.Goals as goal
 
 pub returns-then-place-len : goal.returns-then-place-len

@@ -1,5 +1,5 @@
 use Rattle.std.proofs.Common.{arith, ap, length}
-use Rattle.icu_collections_sets.proofs.SetLemmas.{length-ranges_of}
+use Rattle.icu_collections_sets.proofs.sets.InversionListLemmas.{length-ranges_of}
 use Rattle.icu_collections_sets.proofs.codepointinvlist.inversion_list.CodePointInversionList.get_range_count.Goals as goal
 
 pub returns : goal.returns

@@ -1,6 +1,6 @@
 use Rattle.std.proofs.Common.{subst, arith, IsTrue, nat_lt, ◌↔◌}
 use Rattle.std.proofs.lemmas.Bool.Decides.{nat_tests}
-use Rattle.icu_collections_sets.proofs.SetLemmas.{HoldsStretch, stretch_held, stretch_out}
+use Rattle.icu_collections_sets.proofs.sets.InversionListLemmas.{HoldsStretch, stretch_held, stretch_out}
 use Rattle.icu_collections_sets.proofs.codepointinvlist.inversion_list.CodePointInversionList.holds_all.Goals as goal
 
 pub returns-then-place-eq1 : goal.returns-then-place-eq1

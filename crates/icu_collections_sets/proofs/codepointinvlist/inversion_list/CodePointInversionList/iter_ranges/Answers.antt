@@ -1,6 +1,6 @@
 use Rattle.std.proofs.Common.{ap, ◌∙◌}
 use Rattle.icu_collections_sets.specs.CodePoints.{holds, ranges_of, in_ranges}
-use Rattle.icu_collections_sets.proofs.SetLemmas.{in_ranges_of}
+use Rattle.icu_collections_sets.proofs.sets.InversionListLemmas.{in_ranges_of}
 use Rattle.icu_collections_sets.proofs.codepointinvlist.inversion_list.CodePointInversionList.iter_ranges.Goals as goal
 
 pub returns-clause-members : goal.returns-clause-members

@@ -3,7 +3,7 @@ use Rattle.std.specs.Prelude.{Bool, true, false, IsTrue, ◌↔◌}
 use Rattle.std.proofs.Common.{rules}
 use Rattle.std.specs.Str.Iter.{char_indices_offset, char_indices_rest}
 use Rattle.icu_collections_sets.specs.CodePoints.{holds}
-use Rattle.icu_collections_sets.proofs.SpanLemmas.{UpTo, UpTo-start, UpTo-more, UpTo-boundary, UpTo-all, UpTo-next, UpTo-end, none_next}
+use Rattle.icu_collections_sets.proofs.sets.SpanLemmas.{UpTo, UpTo-start, UpTo-more, UpTo-boundary, UpTo-all, UpTo-next, UpTo-end, none_next}
 use Rattle.icu_collections_sets.proofs.codepointinvlist.inversion_list.CodePointInversionList.span.Goals as goal
 
 fails : {Q : Type 0} (b : Bool) → b ≡ false → (IsTrue b ↔ Q) → ¬ Q

@@ -1,7 +1,7 @@
 use Rattle.std.proofs.Common.{◌≡◌}
 use Rattle.std.specs.Str.Iter.{char_indices_offset, char_indices_rest}
 use Rattle.icu_collections_sets.specs.CodePoints.{holds}
-use Rattle.icu_collections_sets.proofs.SpanLemmas.{UpTo}
+use Rattle.icu_collections_sets.proofs.sets.SpanLemmas.{UpTo}
 use Rattle.icu_collections_sets.proofs.codepointinvlist.inversion_list.CodePointInversionList.span.Given as goal
 
 abbrev pub invariant-loop-place : goal.invariant-loop-place

@@ -3,7 +3,7 @@ use Rattle.std.specs.Prelude.{Bool, true, false, IsTrue, ◌↔◌}
 use Rattle.std.proofs.Common.{rules}
 use Rattle.std.specs.Iterator.Adapters.{rev_source}
 use Rattle.icu_collections_sets.specs.CodePoints.{holds}
-use Rattle.icu_collections_sets.proofs.SpanLemmas.{Behind-start, Behind-more, Behind-boundary, Behind-all, Behind-next, none_before}
+use Rattle.icu_collections_sets.proofs.sets.SpanLemmas.{Behind-start, Behind-more, Behind-boundary, Behind-all, Behind-next, none_before}
 use Rattle.icu_collections_sets.proofs.codepointinvlist.inversion_list.CodePointInversionList.span_back.Goals as goal
 
 fails : {Q : Type 0} (b : Bool) → b ≡ false → (IsTrue b ↔ Q) → ¬ Q

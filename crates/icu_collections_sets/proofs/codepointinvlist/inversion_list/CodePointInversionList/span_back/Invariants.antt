@@ -2,7 +2,7 @@ use Rattle.std.proofs.Common.{◌≡◌, length}
 use Rattle.std.specs.Str.Iter.{char_indices_offset, char_indices_rest}
 use Rattle.std.specs.Iterator.Adapters.{rev_source}
 use Rattle.icu_collections_sets.specs.CodePoints.{holds}
-use Rattle.icu_collections_sets.proofs.SpanLemmas.{Behind}
+use Rattle.icu_collections_sets.proofs.sets.SpanLemmas.{Behind}
 use Rattle.icu_collections_sets.proofs.codepointinvlist.inversion_list.CodePointInversionList.span_back.Given as goal
 
 abbrev pub invariant-loop-place : goal.invariant-loop-place

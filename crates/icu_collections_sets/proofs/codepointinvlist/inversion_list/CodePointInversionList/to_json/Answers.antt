@@ -3,7 +3,7 @@ use Rattle.std.proofs.lemmas.Grind.{common_steps}
 use Rattle.serde_json.specs.Data.{Data}
 use Rattle.serde_json.specs.View.{view}
 use Rattle.icu_collections_sets.specs.Json.{json_of, IsJson}
-use Rattle.icu_collections_sets.proofs.JsonLemmas.{AreRanges-Rises, IsJson-json_of}
+use Rattle.icu_collections_sets.proofs.texts.JsonLemmas.{AreRanges-Rises, IsJson-json_of}
 use Rattle.icu_collections_sets.proofs.codepointinvlist.inversion_list.CodePointInversionList.to_json.Goals as goal
 
 pub loop-range-init : goal.loop-range-init

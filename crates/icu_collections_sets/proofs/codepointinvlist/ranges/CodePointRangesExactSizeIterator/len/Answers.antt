@@ -1,5 +1,5 @@
 use Rattle.std.proofs.Common.{◌/◌, length, sym, ap, ◌∙◌}
-use Rattle.icu_collections_sets.proofs.SetLemmas.{length-ranges_of}
+use Rattle.icu_collections_sets.proofs.sets.InversionListLemmas.{length-ranges_of}
 use Rattle.icu_collections_sets.proofs.codepointinvlist.ranges.CodePointRangesExactSizeIterator.len.Goals as goal
 
 pub returns-clause-value : goal.returns-clause-value

@@ -23,7 +23,7 @@ empty_list : {A : Type 0} → (xs : List A) → length xs ≡ 0 → xs ≡ []
 empty_list [] h = refl
 empty_list (x ∷ xs) h = absurd (omega arith)
 
--- a text of which nothing is left behind its first character, and one of which something is
+-- a text of which nothing is left after its first character, and one of which something is
 pub chars_only : (text rest : List ℕ) (c : ℕ) → IsUtf8 text → text ≡ encode c ++ rest → length rest ≡ 0 → chars text ≡ c ∷ []
 chars_only text rest c u e h = chars_past_char text rest c u e ∙ ap (λ r. c ∷ chars r) (empty_list rest h) ∙ ap (λ r. c ∷ r) chars-nil
 

@@ -19,8 +19,8 @@ use Rattle.icu_collections_sets.specs.declared.codepointinvliststringlist.Invali
 use Rattle.icu_collections_sets.specs.declared.codepointinvliststringlist.InvalidStringList.TheVariants.{InvalidStringLength, StringListNotUnique, StringListNotSorted}
 use Rattle.icu_collections_sets.specs.declared.json.error.JsonError.{JsonError}
 use Rattle.icu_collections_sets.specs.declared.json.error.JsonError.TheVariants.{JsonShape, JsonItem, JsonOrder, Strings, Memory}
-use Rattle.icu_collections_sets.proofs.JsonLemmas.{some_same, same_items, item_at-map, no_item_fault, no_order_fault, one_list, one_set, IsJson-json_of}
-use Rattle.icu_collections_sets.proofs.StringListLemmas.{text_at-map}
+use Rattle.icu_collections_sets.proofs.texts.JsonLemmas.{some_same, same_items, item_at-map, no_item_fault, no_order_fault, one_list, one_set, IsJson-json_of}
+use Rattle.icu_collections_sets.proofs.texts.StringListLemmas.{text_at-map}
 
 -- ---- members and texts
 

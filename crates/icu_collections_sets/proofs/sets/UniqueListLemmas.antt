@@ -2,8 +2,8 @@
 use Rattle.std.proofs.Common.{◌≡◌, ℕ, ◌+◌, ◌<◌, ◌≤◌, Bool, true, false, not, List, [], ◌∷◌, length, refl, sym, ap, ◌∙◌, subst, arith, inl, inr}
 use Rattle.std.proofs.lemmas.Bool.{cases_lt, false≢true}
 use Rattle.icu_collections_sets.specs.CodePoints.{Rises, IsInversionList, is_in, holds}
-use Rattle.icu_collections_sets.proofs.SetLemmas.{turned, is_in_past, is_in_before}
-use Rattle.icu_collections_sets.proofs.EditLemmas.{is_in_early, even_turns}
+use Rattle.icu_collections_sets.proofs.sets.InversionListLemmas.{turned, is_in_past, is_in_before}
+use Rattle.icu_collections_sets.proofs.edits.SetEditLemmas.{is_in_early, even_turns}
 
 not_itself : (b : Bool) → not b ≡ b → ⊥
 not_itself true h = false≢true h

@@ -18,7 +18,7 @@ use Rattle.icu_codepointtrie.specs.Blocks.{block, blocks, different_blocks, AreK
 use Rattle.icu_codepointtrie.specs.Places.{fast_limit}
 use Rattle.icu_codepointtrie.specs.Layouts.{AreFew}
 use Rattle.icu_codepointtrie.specs.declared.trie.TrieType.{TrieType}
-use Rattle.icu_codepointtrie.proofs.BuiltTries.{type_facts}
+use Rattle.icu_codepointtrie.proofs.built.BuiltTrieLemmas.{type_facts}
 
 -- whether two blocks have the same numbers
 abbrev pub Same : List ℕ → List ℕ → Bool
@@ -82,7 +82,7 @@ kept_count width first end xs ys kept are covered =
           let from = covered b (are.from k below) (are.before k below) in
           block_among width ys from.0 q from.1 (from.2 ∙ sym (get_or-map (block width xs) kept k 0 q below) ∙ is)
 
--- a block that is one of so many is whole
+-- each of `n / width` blocks is whole
 pub whole_block : (width n j : ℕ) → j < n / width → j * width + width ≤ n
 whole_block width n j inside = omega (arith, mul-le (j + 1) width (n / width) width (omega arith) (omega arith), div-add-mod' n width)
 
@@ -127,7 +127,7 @@ layout_count number values trie_type wide_end count all to (fast, small, (fast_k
     (j, omega (arith, x.1, x.2), subst (λ n. block 16 (drop n xs) j ≡ block 16 xs b) whole (subst (λ n. block 16 (drop (limit / 16 * 16) xs) j ≡ block 16 xs n) same (block_of_drop xs (limit / 16) j)))) in
     rw (before, behind) (omega (arith, fast_count, small_count, fast_most, small_most, most))
 
--- more kept blocks than the limit are so many different ones
+-- more kept blocks than the limit are more different ones
 pub more_different : {T : Type 0} (number : T → ℕ) (width first end limit : ℕ) (values : List T) → ((b : ℕ) → b < end → b < length values / width)
     → HasMore width (map number values) first end limit → limit < different_blocks number width values
 unfolding different_blocks
@@ -136,7 +136,7 @@ more_different number width first end limit values all (kept, are, more) =
     kept_count width first end (map number values) (map number values) kept are (λ b from inside. (b, rw (length-map values number) (all b inside), refl)) in
     omega arith
 
--- where each block is one of so many
+-- where each block is one of these
 pub different_blocks-few : {T : Type 0} (number : T → ℕ) (width n : ℕ) (values : List T) (some : ℕ → List ℕ)
     → ((j : ℕ) → j < length (map number values) / width → (k : ℕ) × (k < n) × (some k ≡ block width (map number values) j)) → different_blocks number width values ≤ n
 unfolding different_blocks

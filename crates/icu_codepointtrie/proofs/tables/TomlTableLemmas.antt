@@ -1,4 +1,4 @@
--- Values and the integers that stand for them, one value further.
+-- Values and the integers that stand for them, one value at a time.
 use Rattle.std.proofs.Common.{◌≡◌, ℕ, zero, suc, ◌+◌, ◌^◌, ◌<◌, ◌≤◌, String, Global, Ordering, Less, Equal, Greater, string_bytes, nat_lt, pos, List, [], ◌∷◌, ◌++◌, length, get_or, take, true, Option, Some, None, option_map, option_and_then, refl, ap, ◌∙◌, arith}
 use Rattle.std.proofs.lemmas.Bool.{lt-ltb}
 use Rattle.std.proofs.lemmas.List.{take_more}

@@ -1,11 +1,12 @@
 -- The ranges that an inversion list leaves out hold what it does not.
+use Rattle.std.specs.Prelude.{if◌then◌else◌, ◌/◌}
 use Rattle.std.proofs.Common.{◌≡◌, ℕ, ◌+◌, ◌%◌, ◌<◌, ◌≤◌, Bool, true, false, not, nat_lt, nat_le, ◌&&◌, List, [], ◌∷◌, length, ◌-◌, Option, Some, None, sym, ap, refl, subst, ◌∙◌, arith, inl, inr}
 use Rattle.std.proofs.lemmas.Bool.{cases_lt, false≢true}
 use Rattle.std.proofs.lemmas.Bool.Decides.{nat_tests}
 use Rattle.icu_collections_sets.specs.CodePoints.{Rises, IsInversionList, is_in, holds, in_ranges, ranges_of}
-use Rattle.icu_collections_sets.specs.Gaps.{gaps, start_from, AreGapsFrom, AreGapsOf}
-use Rattle.icu_collections_sets.proofs.SetLemmas.{is_in_past, is_in_before, holds_range, holds_behind, in_ranges_of, Rises_lower}
-use Rattle.icu_collections_sets.proofs.EditLemmas.{is_in_early}
+use Rattle.icu_collections_sets.specs.Gaps.{gaps, start_from, AreGapsFrom, IsLastHeld, AreGapsOf}
+use Rattle.icu_collections_sets.proofs.sets.InversionListLemmas.{is_in_past, is_in_before, holds_range, holds_behind, in_ranges_of, Rises_lower}
+use Rattle.icu_collections_sets.proofs.edits.SetEditLemmas.{is_in_early}
 
 -- whether a code point is left out, from a start on
 abbrev left_out : ℕ → List ℕ → ℕ → Bool
@@ -126,3 +127,31 @@ AreGapsFrom_behind t es list = elim (cases_lt t 1114112) [
   | inl low ↦ subst (λ s. AreGapsFrom s es) (sym (started t low)) (low, list.rises.2.2, omega (arith, list.even))
   | inr end ↦ subst (λ s. AreGapsFrom s es) (sym (ended t end)) tt
 ]
+
+nothing_past_end : (till : ℕ) (edges : List ℕ) → 1114112 ≤ till → Rises (till + 1) edges → edges ≡ []
+nothing_past_end till [] end r = refl
+nothing_past_end till (x ∷ xs) end r = absurd (omega (arith, r.0, r.1))
+
+-- how many ranges a list leaves out from a start on: one more than it has, but where it holds the last code point
+length-gaps : (start : ℕ) (edges : List ℕ) → start < 1114112 → Rises (start + 1) edges → length edges % 2 ≡ 0
+    → length (gaps (Some start) edges) + (if holds edges 1114111 then 1 else 0) ≡ length edges / 2 + 1
+length-gaps start [] h r e = refl
+length-gaps start (f ∷ []) h r e = absurd (omega arith)
+length-gaps start (f ∷ t ∷ es) h r e =
+    let rise : f < t = omega (arith, r.2.0) in
+    elim (cases_lt t 1114112) [
+      | inl low ↦
+          let more = length-gaps t es low r.2.2 (omega arith) in
+          rw (started t low, holds_behind f t es 1114111 rise (omega arith)) (omega (arith, more))
+      | inr end ↦
+          let none = nothing_past_end t es end r.2.2 in
+          rw (ended t end, holds_range f t es 1114111 (omega (arith, r.2.1)) (omega arith), none) refl
+    ]
+
+-- the same from what an iterator over what is left knows
+pub gap_count : (start : Option ℕ) (first : ℕ) (edges : List ℕ) (held : Bool) → start ≡ Some first → AreGapsFrom start edges → IsLastHeld start edges held
+    → length (gaps start edges) + (if held then 1 else 0) ≡ length edges / 2 + 1
+gap_count start first edges held is good last =
+    let from : AreGapsFrom (Some first) edges = subst (λ s. AreGapsFrom s edges) is good in
+    let ends : held ≡ holds edges 1114111 = subst (λ s. IsLastHeld s edges held) is last in
+    rw (is, ends) (length-gaps first edges from.0 from.1 from.2)

@@ -7,7 +7,7 @@ use Rattle.std.proofs.lemmas.Str.{encode_same, encode_ascii, length-encode, len_
 use Rattle.std.specs.Char.{InScalarRange, OutOfScalarRange}
 use Rattle.std.specs.declared.alloc.AllocError.{AllocError}
 use lib.Utf8.{encode, scalar, scalars, scalar_cases}
-use Rattle.icu_collections_sets.specs.Spelling.{IsSurrogate, hex_digit, hex_spelling, spelling, range_text, Spells, BeginsWithSurrogate, BeginsWith}
+use Rattle.icu_collections_sets.specs.Spelling.{IsSurrogate, hex_digit, hex_spelling, spelling, range_text, SpellsRange, BeginsWithSurrogate, BeginsWith}
 
 pub surrogate_or : (c : ℕ) → IsSurrogate c ⊎ (IsSurrogate c → ⊥)
 surrogate_or c = elim (cases_lt c 55296) [
@@ -133,14 +133,14 @@ hex_digit_small x h = elim (cases_lt x 10) [
   | inr high ↦ grind (arith, nat_tests)
 ]
 
--- a text may be cut behind a surrogate's number
+-- a text may be cut after a surrogate's number
 pub IsCharBoundary-number : (text : List ℕ) (c : ℕ) → IsUtf8 text → BeginsWithSurrogate text c → IsCharBoundary text 6
 IsCharBoundary-number text c u h =
     let number = IsNumber-spelling text (drop 6 text) c h.0 h.1 in
     let small : hex_digit (c % 16) < 128 = hex_digit_small (c % 16) (omega arith) in
     IsCharBoundary-after_ascii text 5 u (omega (arith, number.long)) (omega (arith, number.fourth))
 
--- four digits behind `U+`
+-- four digits after `U+`
 encode_digit : (x a : ℕ) → x < 16 → a ≡ hex_digit x → encode a ≡ hex_digit x ∷ []
 encode_digit x a h e = ap encode e ∙ encode_ascii (hex_digit x) (hex_digit_small x h)
 
@@ -207,7 +207,7 @@ not_number c x s t h other end e =
     ap (λ f. f ++ t) (sym (spelling-other x other)) ∙ sym e ∙ ap (λ f. f ++ s) (spelling-surrogate c h ∙ hex_form c h) ∙ ap (λ f. f ++ (43 ∷ more)) (sym (encode_ascii 85 (omega arith))) in
     no_plus t more end (encode_same x 85 t (43 ∷ more) whole).1
 
--- what a text begins with, where it ends behind that or goes on with `-`
+-- what a text begins with, where it ends after that or goes on with `-`
 pub one_reading : (text rest tail : List ℕ) (c x : ℕ) → BeginsWith text c rest → text ≡ spelling x ++ tail → IsEnd tail → (c ≡ x) × (rest ≡ tail)
 one_reading text rest tail c x begins e end = elim (surrogate_or x) [
   | inl is ↦
@@ -258,7 +258,7 @@ spelling-some c e = elim (surrogate_or c) [
 abbrev pub GoesOn : List ℕ → ℕ × ℕ → Type 0
 GoesOn rest range = ((rest ≡ []) × (range.0 ≡ range.1)) ⊎ (rest ≡ 45 ∷ spelling range.1)
 
-pub first_read : (text rest : List ℕ) (c : ℕ) (range : ℕ × ℕ) → BeginsWith text c rest → Spells text range → (c ≡ range.0) × GoesOn rest range
+pub first_read : (text rest : List ℕ) (c : ℕ) (range : ℕ × ℕ) → BeginsWith text c rest → SpellsRange text range → (c ≡ range.0) × GoesOn rest range
 first_read text rest c range begins h = elim h.spelled [
   | inl one ↦
       let read = one_reading text rest [] c range.0 begins (one.0 ∙ sym (append-nil (spelling range.0))) (inl refl) in
@@ -272,22 +272,22 @@ pub last_read : (text rest : List ℕ) (c x : ℕ) → BeginsWith text c rest �
 last_read text rest c x begins e = one_reading text rest [] c x begins (e ∙ sym (append-nil (spelling x))) (inl refl)
 
 -- a text that is read as a range spells it
-pub Spells-one : (text rest : List ℕ) (c : ℕ) → BeginsWith text c rest → rest ≡ [] → Spells text (c, c)
-Spells-one text rest c begins e = record {
+pub SpellsRange-one : (text rest : List ℕ) (c : ℕ) → BeginsWith text c rest → rest ≡ [] → SpellsRange text (c, c)
+SpellsRange-one text rest c begins e = record {
   rises = omega arith;
   within = begins.within;
   spelled = inl (begins.split ∙ ap (λ r. spelling c ++ r) e ∙ append-nil (spelling c), refl);
 }
 
-pub Spells-both : (text rest more left : List ℕ) (c d : ℕ) → BeginsWith text c rest → rest ≡ 45 ∷ more → BeginsWith more d left → left ≡ [] → c ≤ d → Spells text (c, d)
-Spells-both text rest more left c d begins e again end h = record {
+pub SpellsRange-both : (text rest more left : List ℕ) (c d : ℕ) → BeginsWith text c rest → rest ≡ 45 ∷ more → BeginsWith more d left → left ≡ [] → c ≤ d → SpellsRange text (c, d)
+SpellsRange-both text rest more left c d begins e again end h = record {
   rises = h;
   within = again.within;
   spelled = inr (begins.split ∙ ap (λ r. spelling c ++ r) (e ∙ ap (λ r. 45 ∷ r) (again.split ∙ ap (λ r. spelling d ++ r) end ∙ append-nil (spelling d))));
 }
 
 -- and a text that can't be read spells none
-pub no_text : (text : List ℕ) (range : ℕ × ℕ) → text ≡ [] → Spells text range → ⊥
+pub no_text : (text : List ℕ) (range : ℕ × ℕ) → text ≡ [] → SpellsRange text range → ⊥
 no_text text range e h = elim h.spelled [
   | inl one ↦ spelling-some range.0 (sym one.0 ∙ e)
   | inr both ↦
@@ -295,13 +295,13 @@ no_text text range e h = elim h.spelled [
       omega (arith, ap length none, length-append (spelling range.0) (45 ∷ spelling range.1))
 ]
 
-pub no_dash : (text rest : List ℕ) (c : ℕ) (range : ℕ × ℕ) → BeginsWith text c rest → (rest ≡ [] → ⊥) → ((more : List ℕ) → rest ≡ 45 ∷ more → ⊥) → Spells text range → ⊥
+pub no_dash : (text rest : List ℕ) (c : ℕ) (range : ℕ × ℕ) → BeginsWith text c rest → (rest ≡ [] → ⊥) → ((more : List ℕ) → rest ≡ 45 ∷ more → ⊥) → SpellsRange text range → ⊥
 no_dash text rest c range begins some none h = elim (first_read text rest c range begins h).1 [
   | inl one ↦ some one.0
   | inr both ↦ none (spelling range.1) both
 ]
 
-pub last_part : (text rest more : List ℕ) (c : ℕ) (range : ℕ × ℕ) → BeginsWith text c rest → rest ≡ 45 ∷ more → Spells text range → (c ≡ range.0) × (more ≡ spelling range.1)
+pub last_part : (text rest more : List ℕ) (c : ℕ) (range : ℕ × ℕ) → BeginsWith text c rest → rest ≡ 45 ∷ more → SpellsRange text range → (c ≡ range.0) × (more ≡ spelling range.1)
 last_part text rest more c range begins e h =
     let read = first_read text rest c range begins h in (
       read.0,
@@ -311,17 +311,17 @@ last_part text rest more c range begins e h =
       ],
     )
 
-pub no_last : (text rest more : List ℕ) (c : ℕ) (range : ℕ × ℕ) → BeginsWith text c rest → rest ≡ 45 ∷ more → more ≡ [] → Spells text range → ⊥
+pub no_last : (text rest more : List ℕ) (c : ℕ) (range : ℕ × ℕ) → BeginsWith text c rest → rest ≡ 45 ∷ more → more ≡ [] → SpellsRange text range → ⊥
 no_last text rest more c range begins e none h = spelling-some range.1 (sym (last_part text rest more c range begins e h).1 ∙ none)
 
-pub not_both : (text rest more left : List ℕ) (c d : ℕ) (range : ℕ × ℕ) → BeginsWith text c rest → rest ≡ 45 ∷ more → BeginsWith more d left → Spells text range → (c ≡ range.0) × (d ≡ range.1) × (left ≡ [])
+pub not_both : (text rest more left : List ℕ) (c d : ℕ) (range : ℕ × ℕ) → BeginsWith text c rest → rest ≡ 45 ∷ more → BeginsWith more d left → SpellsRange text range → (c ≡ range.0) × (d ≡ range.1) × (left ≡ [])
 not_both text rest more left c d range begins e again h =
     let part = last_part text rest more c range begins e h in
     let last = last_read more left d range.1 again part.1 in
     (part.0, last.0, last.1)
 
 -- a text spells one range at most
-pub one_range : (text : List ℕ) (range other : ℕ × ℕ) → Spells text range → Spells text other → (range.0 ≡ other.0) × (range.1 ≡ other.1)
+pub one_range : (text : List ℕ) (range other : ℕ × ℕ) → SpellsRange text range → SpellsRange text other → (range.0 ≡ other.0) × (range.1 ≡ other.1)
 one_range text range other h l = elim h.spelled [
   | inl one ↦
       let begins = BeginsWith-spelling text [] range.0 (omega (arith, h.rises, h.within)) (one.0 ∙ sym (append-nil (spelling range.0))) (inl refl) in
@@ -340,8 +340,8 @@ one_range text range other h l = elim h.spelled [
 ]
 
 -- what is written for a range spells it
-pub Spells-range_text : (range : ℕ × ℕ) → range.0 ≤ range.1 → range.1 < 1114112 → Spells (range_text range) range
-Spells-range_text range h l = elim (cases_lt range.0 range.1) [
+pub SpellsRange-range_text : (range : ℕ × ℕ) → range.0 ≤ range.1 → range.1 < 1114112 → SpellsRange (range_text range) range
+SpellsRange-range_text range h l = elim (cases_lt range.0 range.1) [
   | inl below ↦ record {
     rises = h;
     within = l;

@@ -6,12 +6,12 @@ use Rattle.std.proofs.lemmas.List.{get_or-map, length-map}
 use Rattle.icu_codepointtrie.specs.Places.{fast_limit, data_offset}
 use Rattle.icu_codepointtrie.specs.declared.builder.layout.Layout.{Layout}
 use Rattle.icu_codepointtrie.specs.Layouts.{AreBounded, IsLayout, IsLastRun, third_start}
-use Rattle.icu_codepointtrie.proofs.BuiltTries.{type_facts}
+use Rattle.icu_codepointtrie.proofs.built.BuiltTrieLemmas.{type_facts}
 use Rattle.icu_codepointtrie.specs.Blocks.{AreKept, ArePlaces}
 use Rattle.icu_codepointtrie.specs.DataCells.{Stands, Grows, AllStand}
 use Rattle.icu_codepointtrie.specs.IndexBlocks.{Gives}
-use Rattle.icu_codepointtrie.proofs.Blocks.{at_block}
-use Rattle.icu_codepointtrie.proofs.DataCells.{Stands-grown}
+use Rattle.icu_codepointtrie.proofs.built.BlockLemmas.{at_block}
+use Rattle.icu_codepointtrie.proofs.built.DataCellLemmas.{Stands-grown}
 
 -- where blocks stand is within the cells
 pub places_inside : (width : ℕ) (values : List ℕ) (first end : ℕ) (cells places : List ℕ) → length places ≡ end - first → AllStand width values first end cells places

@@ -34,7 +34,7 @@ pub record UpTo (P : ℕ → Type 0) (text rest : List ℕ) (place : ℕ) : Type
   pub rest_utf8 : IsUtf8 rest
   pub all : All P (chars front)
 
--- the characters behind what is left all have the property
+-- the characters after what is left all have the property
 pub record Behind (P : ℕ → Type 0) (text rest : List ℕ) : Type 0 where
   pub back : List ℕ
   pub joined : text ≡ rest ++ back

@@ -8,12 +8,12 @@ use Rattle.serde_json.specs.declared.value.Value.{Value}
 use Rattle.icu_collections_sets.specs.CodePoints.{Rises, IsInversionList, ranges_of, in_ranges}
 use Rattle.icu_collections_sets.specs.Json.{IsItem, SpellRanges, SpellSet, IsJson, item_at, IsItemFault, IsOrderFault, json_of}
 use Rattle.icu_collections_sets.specs.JsonFaults.{IsRefusedItems, IsRefusedJson}
-use Rattle.icu_collections_sets.specs.Spelling.{Spells, range_text}
+use Rattle.icu_collections_sets.specs.Spelling.{SpellsRange, range_text}
 use Rattle.icu_collections_sets.specs.declared.json.error.JsonError.{JsonError}
 use Rattle.icu_collections_sets.specs.declared.json.error.JsonError.TheVariants.{JsonShape, JsonItem, JsonOrder, Strings, Memory}
-use Rattle.icu_collections_sets.proofs.SetLemmas.{in_ranges_of}
-use Rattle.icu_collections_sets.proofs.SpellingLemmas.{one_range, Spells-range_text}
-use Rattle.icu_collections_sets.proofs.UniqueLemmas.{same_list}
+use Rattle.icu_collections_sets.proofs.sets.InversionListLemmas.{in_ranges_of}
+use Rattle.icu_collections_sets.proofs.texts.SpellingLemmas.{one_range, SpellsRange-range_text}
+use Rattle.icu_collections_sets.proofs.sets.UniqueListLemmas.{same_list}
 
 -- ---- one reading
 
@@ -23,7 +23,7 @@ some_same x y e = cc
 pub one_item : (item : Data) (range other : ℕ × ℕ) → IsItem item range → IsItem item other → (range.0 ≡ other.0) × (range.1 ≡ other.1)
 one_item item range other h l =
     let same : h.text ≡ l.text = some_same h.text l.text (sym h.is_text ∙ l.is_text) in
-    one_range l.text range other (subst (λ t. Spells t range) same h.spells) l.spells
+    one_range l.text range other (subst (λ t. SpellsRange t range) same h.spells) l.spells
 
 pair : (range other : ℕ × ℕ) → range.0 ≡ other.0 → range.1 ≡ other.1 → range ≡ other
 pair range other e f = ap (λ (n : ℕ). (n, range.1)) e ∙ ap (λ (n : ℕ). (other.0, n)) f
@@ -102,7 +102,7 @@ SpellRanges-append (j ∷ items) (s ∷ ss) i r h l = (h.0, SpellRanges-append i
 pub SpellSet-none : SpellSet [] []
 SpellSet-none = record { spelled = tt; list = record { even = refl; rises = tt } }
 
--- one more item, behind the others
+-- one more item, after the others
 pub SpellSet-more : (items : List Data) (place : ℕ) (set : List ℕ) (range : ℕ × ℕ) → place < length items → SpellSet (take place items) set → IsItem (item_at items place) range → least_behind 0 set ≤ range.0 → SpellSet (take (place + 1) items) (set ++ (range.0 ∷ (range.1 + 1) ∷ []))
 SpellSet-more items place set range h w l behind =
     let last : range.1 + 1 - 1 ≡ range.1 = omega arith in
@@ -219,7 +219,7 @@ AreRanges-Rises least (x ∷ y ∷ xs) h = (omega (arith, h.2.0), omega (arith, 
 
 texts_spell : (ranges : List (ℕ × ℕ)) → AreRanges ranges → SpellRanges (map (λ range. string (range_text range)) ranges) ranges
 texts_spell [] h = tt
-texts_spell (r ∷ rs) h = (record { text = range_text r; is_text = refl; spells = Spells-range_text r h.0 h.1 }, texts_spell rs h.2)
+texts_spell (r ∷ rs) h = (record { text = range_text r; is_text = refl; spells = SpellsRange-range_text r h.0 h.1 }, texts_spell rs h.2)
 
 pub IsJson-json_of : (set : List ℕ) → IsInversionList set → IsJson (json_of set) set
 IsJson-json_of set h = record {

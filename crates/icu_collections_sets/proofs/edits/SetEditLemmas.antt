@@ -7,7 +7,7 @@ use Rattle.std.proofs.lemmas.List.{take-append-drop, length-append, length-take-
 use Rattle.icu_collections_sets.specs.CodePoints.{Rises, IsInversionList, is_in, holds}
 use Rattle.icu_collections_sets.specs.Operations.{differ}
 use Rattle.icu_collections_sets.specs.SetEdits.{IsSetTo, is_within, stretch, IsCountBelow}
-use Rattle.icu_collections_sets.proofs.SetLemmas.{turned, turned_out, Rises_lower, is_in_past}
+use Rattle.icu_collections_sets.proofs.sets.InversionListLemmas.{turned, turned_out, Rises_lower, is_in_past}
 
 -- all numbers are below a bound
 abbrev pub Below : ℕ → List ℕ → Type 0

@@ -4,8 +4,8 @@ use Rattle.std.specs.Prelude.{slice_index, slice_index_or}
 use Rattle.std.proofs.lemmas.List.{length-map, get_or-map}
 use Rattle.icu_codepointtrie.specs.Blocks.{block, different_blocks}
 use Rattle.icu_codepointtrie.specs.CodePointMaps.{CodePointMap, mapped}
-use Rattle.icu_codepointtrie.proofs.BlockCounts.{different_blocks-few}
-use Rattle.icu_codepointtrie.proofs.Blocks.{same_block}
+use Rattle.icu_codepointtrie.proofs.built.BlockCountLemmas.{different_blocks-few}
+use Rattle.icu_codepointtrie.proofs.built.BlockLemmas.{same_block}
 
 -- the number at a place
 number_at : {T : Type 0} (number : T → ℕ) (values : List T) (c : ℕ) (default : T) → c < length values → slice_index (map number values) c ≡ number (slice_index_or values c default)

@@ -5,7 +5,7 @@ use Rattle.std.proofs.lemmas.Bool.{cases_lt}
 use Rattle.std.proofs.lemmas.List.{get_or_append_left, get_or_push, length_push, get_or-map}
 use Rattle.icu_codepointtrie.specs.Blocks.{block, AreKept, ArePlaces}
 use Rattle.icu_codepointtrie.specs.DataCells.{Stands, Grows, AllStand, IsPutting}
-use Rattle.icu_codepointtrie.proofs.Blocks.{at_block}
+use Rattle.icu_codepointtrie.proofs.built.BlockLemmas.{at_block}
 
 -- what stands among the cells still does when they grow
 pub Stands-grown : (values : List ℕ) (first : ℕ) (old new : List ℕ) (place width most : ℕ) → Stands values first old place width → Grows old new most → Stands values first new place width
@@ -18,7 +18,7 @@ Stands-grown values first old new place width most stands grows =
 pub Grows-none : (cells : List ℕ) (most : ℕ) → Grows cells cells most
 Grows-none cells most = record { longer = omega arith; few = omega arith; same = λ i h. refl }
 
--- one growth behind another
+-- one growth after another
 pub Grows-then : (one two three : List ℕ) (a b c : ℕ) → a + b ≤ c → Grows one two a → Grows two three b → Grows one three c
 Grows-then one two three a b c sum first second =
     record {

@@ -7,8 +7,8 @@ use Rattle.std.proofs.lemmas.Bool.{cases_eq}
 use Rattle.std.proofs.lemmas.List.{get_or-map, get_or-set_other, map-set, length-map, length-set}
 use Rattle.std.proofs.lemmas.Nat.{div-mul-add}
 use Rattle.icu_codepointtrie.specs.Blocks.{block, blocks, different_blocks}
-use Rattle.icu_codepointtrie.proofs.Blocks.{same_block}
-use Rattle.icu_codepointtrie.proofs.BlockCounts.{Same, among_blocks, block_among, count_below, whole_block}
+use Rattle.icu_codepointtrie.proofs.built.BlockLemmas.{same_block}
+use Rattle.icu_codepointtrie.proofs.built.BlockCountLemmas.{Same, among_blocks, block_among, count_below, whole_block}
 
 -- one list more than others
 one_more : (b : List ℕ) (bs : List (List ℕ)) → distinct_count Same (b ∷ bs) ≤ distinct_count Same bs + 1

@@ -1,6 +1,6 @@
 use Rattle.std.proofs.Common.{map}
 use Rattle.icu_codepointtrie.specs.DataCells.{IsPutting}
-use Rattle.icu_codepointtrie.proofs.builder.cells.put_behind.Given as goal
+use Rattle.icu_codepointtrie.proofs.builder.cells.put_after.Given as goal
 
 abbrev pub invariant-loop-i : goal.invariant-loop-i
 invariant-loop-i g l =

@@ -1,4 +1,4 @@
--- Third index blocks that the cells behind them leave as they are.
+-- Third index blocks stay as they are when cells are put after them.
 use Rattle.std.proofs.Common.{◌≡◌, ℕ, zero, suc, ◌+◌, ◌-◌, ◌*◌, ◌/◌, ◌%◌, ◌^◌, ◌<◌, ◌≤◌, refl, add-one, arith}
 use Rattle.std.proofs.Math.Nat.{pow-suc, pow-le-pow_right}
 use Rattle.icu_codepointtrie.specs.Places.{data_offset, found}
@@ -47,17 +47,17 @@ joined_bits f i h small =
     let k : f 7 < 4 = small 7 (omega arith) in
     by_eight (λ n. joined f 8 / 2 ^ (14 - 2 * n) % 4 ≡ f n) (omega arith) (omega arith) (omega arith) (omega arith) (omega arith) (omega arith) (omega arith) (omega arith) i h
 
--- a cell behind others
-get_behind : (head xs : List ℕ) (k : ℕ) → get_or (head ++ xs) (length head + k) 0 ≡ get_or xs k 0
-get_behind head xs k =
+-- a cell after others
+get_after : (head xs : List ℕ) (k : ℕ) → get_or (head ++ xs) (length head + k) 0 ≡ get_or xs k 0
+get_after head xs k =
     let back : length head + k - length head ≡ k = omega arith in
     rw back at (get_or-append_right head xs (length head) (length head + k) 0 refl (omega arith))
 
--- what is read behind the head
+-- what is read after the head
 get_third : (head thirds : List ℕ) (start place value : ℕ) → length head ≡ start → place < length thirds → slice_index thirds place ≡ value → slice_get (head ++ thirds) (start + place) ≡ Some value
 get_third head thirds start place value is inside same =
     slice_get-get_or (head ++ thirds) (start + place) 0 (omega (arith, length-append head thirds))
-    ∙ ap Some (ap (λ n. get_or (head ++ thirds) (n + place) 0) (sym is) ∙ get_behind head thirds place ∙ same)
+    ∙ ap Some (ap (λ n. get_or (head ++ thirds) (n + place) 0) (sym is) ∙ get_after head thirds place ∙ same)
 
 -- a block of 32 cells gives its places
 pub Gives-narrow : (start : ℕ) (old new places : List ℕ) (first : ℕ) → start + length old + 36 ≤ 0x8000 → Stands places first new (length old) 32
@@ -115,7 +115,7 @@ get_grown head old new most k value grows is =
     let j : ℕ = k - length head in
     let sum : length head + j ≡ k = omega arith in
     let both : get_or (head ++ new) (length head + j) 0 ≡ get_or (head ++ old) (length head + j) 0 =
-    get_behind head new j ∙ grows.same j (omega (arith, length-append head old)) ∙ sym (get_behind head old j) in
+    get_after head new j ∙ grows.same j (omega (arith, length-append head old)) ∙ sym (get_after head old j) in
     rw sum at both ∙ old_is)
     (cases_lt k (length head)))
 
@@ -126,7 +126,7 @@ found_grown head old new most k value next next' grows further is = by (slice_ge
   by None at h = absurd cc
   by (Some cell) at h = rw (get_grown head old new most k cell grows at) (further cell h)
 
--- a block stays what it is when more cells come behind it
+-- a block stays what it is when more cells come after it
 pub Gives-grown : (start : ℕ) (old new : List ℕ) (most entry : ℕ) (places : List ℕ) (first : ℕ) → Grows old new most → Gives start old entry places first → Gives start new entry places first
 Gives-grown start old new most entry places first grows gives =
     record {

@@ -7,8 +7,8 @@ use Rattle.std.proofs.lemmas.Bool.Decides.{nat_tests}
 use Rattle.icu_collections_sets.specs.CodePoints.{Rises, IsInversionList, is_in, holds}
 use Rattle.icu_collections_sets.specs.Operations.{differ, IsIntersection, IsSymmetricDifference}
 use Rattle.icu_collections_sets.specs.SetEdits.{IsSetTo, IsToggled, is_within, stretch, IsCountBelow}
-use Rattle.icu_collections_sets.proofs.SetLemmas.{turned, turned_out, Rises_end, Rises_below, Rises_lower, is_in_count, is_in_past}
-use Rattle.icu_collections_sets.proofs.EditLemmas.{Below, Below_higher, Below-take, Rises-take, Rises-drop, Rises-append, is_in_past_all, is_in_before_all, edited, edited_from_put, edited_list, edited_holds}
+use Rattle.icu_collections_sets.proofs.sets.InversionListLemmas.{turned, turned_out, Rises_end, Rises_below, Rises_lower, is_in_count, is_in_past}
+use Rattle.icu_collections_sets.proofs.edits.SetEditLemmas.{Below, Below_higher, Below-take, Rises-take, Rises-drop, Rises-append, is_in_past_all, is_in_before_all, edited, edited_from_put, edited_list, edited_holds}
 
 -- what begins the other way round is the other way round
 is_in_turned : (now : Bool) (xs : List ℕ) (c : ℕ) → is_in (not now) xs c ≡ not (is_in now xs c)

@@ -7,8 +7,8 @@ use Rattle.icu_collections_sets.specs.CodePoints.{Rises, IsInversionList, is_in,
 use Rattle.icu_collections_sets.specs.Operations.{operated, IsOperated, PassesEdge, IsNextEdge}
 use Rattle.icu_collections_sets.specs.declared.codepointinvlist.operation.Operation.{Operation}
 use Rattle.icu_collections_sets.specs.declared.codepointinvlist.operation.Operation.TheVariants.{Union, Difference, Intersection, SymmetricDifference}
-use Rattle.icu_collections_sets.proofs.SetLemmas.{turned, Rises_lower, is_in_past, is_in_before}
-use Rattle.icu_collections_sets.proofs.EditLemmas.{Below, Below_higher, turned-add, is_in_past_all, is_in_before_all, is_in_early, Rises-append, even_turns, turns_even}
+use Rattle.icu_collections_sets.proofs.sets.InversionListLemmas.{turned, Rises_lower, is_in_past, is_in_before}
+use Rattle.icu_collections_sets.proofs.edits.SetEditLemmas.{Below, Below_higher, turned-add, is_in_past_all, is_in_before_all, is_in_early, Rises-append, even_turns, turns_even}
 
 -- the edge is the next of one of the lists, and no edge of either is below it
 pub record Next (xs ys : List ℕ) (edge bound : ℕ) : Type 0 where
@@ -35,7 +35,7 @@ no_next (x ∷ xs) [] r n e = let no : None ≡ Some x = sym e ∙ n in cc
 no_next [] (y ∷ ys) r n e = let no : None ≡ Some y = sym e ∙ n in cc
 no_next (x ∷ xs) (y ∷ ys) r n e = let no : None ≡ Some (min x y) = sym e ∙ n in cc
 
--- a list that rises from an edge on either has the edge next or rises from behind it on
+-- a list that rises from an edge on either has the edge next or rises from after it on
 pub passes : (edge next : ℕ) (others : List ℕ) (inside : Bool) → Rises edge (next ∷ others) → next ≡ edge → PassesEdge (next ∷ others) inside edge others (not inside)
 passes edge next others inside r e =
     record {
@@ -91,7 +91,7 @@ Merging-none operation xs ys first second = record {
   held_is = sym (out_of_both operation);
 }
 
--- what the output holds behind its edges
+-- what the output holds after its edges
 pub held_behind : (out : List ℕ) (bound : ℕ) (held : Bool) (c : ℕ) → Below bound out → turned false (length out) ≡ held → bound ≤ c → holds out c ≡ held
 held_behind out bound held c b t h =
     ap (λ xs. holds xs c) (sym (append-nil out)) ∙ is_in_past_all false out [] c (Below_higher bound (c + 1) out (omega arith) b) ∙ t

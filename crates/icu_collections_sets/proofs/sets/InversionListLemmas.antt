@@ -21,7 +21,7 @@ Rises_below least (x ∷ xs) i zero d r h l = absurd (omega arith)
 Rises_below least (x ∷ xs) zero (suc j) d r h l = omega (arith, Rises_least (x + 1) xs j d r.2 (omega arith))
 Rises_below least (x ∷ xs) (suc i) (suc j) d r h l = Rises_below (x + 1) xs i j d r.2 (omega arith) (omega arith)
 
--- in or out, after so many turns
+-- in or out, after a number of turns
 unfoldable pub turned : Bool → ℕ → Bool
 turned now zero = now
 turned now (suc n) = turned (not now) n
@@ -97,7 +97,7 @@ one_more : (held : Bool) (n : ℕ) → ◌≡◌ {A = ℕ} (cond held (suc n) 0)
 one_more true n = omega arith
 one_more false n = omega arith
 
--- so many of the numbers below a bound pass as below a lower one and in the stretch between
+-- as many of the numbers below a bound pass as below a lower one and in the stretch between
 pub count_stretch : (test : ℕ → Bool) (held : Bool) (low n : ℕ) → ((c : ℕ) → low ≤ c → c < low + n → test c ≡ held) → count_below test (low + n) ≡ count_below test low + cond held n 0
 unfolding count_below
 count_stretch test held low zero h =

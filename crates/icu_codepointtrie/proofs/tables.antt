@@ -1,0 +1,2 @@
+pub mod FastPlaceLemmas
+pub mod TomlTableLemmas

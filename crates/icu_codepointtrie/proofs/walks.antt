@@ -1,0 +1,3 @@
+pub mod MappedRangeLemmas
+pub mod SharedBlockLemmas
+pub mod MaximalRangeLemmas

@@ -1,0 +1,3 @@
+pub mod SetEditLemmas
+pub mod OperationLemmas
+pub mod ToggleLemmas
