@@ -23,6 +23,8 @@ measure "10,000,000 times contains32, of 10,000 ranges" set_speed questions
 measure "a trie of 12,000 different small blocks built" trie_speed build
 measure "the same and 111,411,200 reads, type Fast" trie_speed fast
 measure "the same and 111,411,200 reads, type Small" trie_speed small
+measure "the same by a typed trie, type Fast" trie_speed typed_fast
+measure "the same by a typed trie, type Small" trie_speed typed_small
 measure "12,000 blocks that differ in their last cell" trie_speed last
 measure "two blocks that alternate, 12,000 times" trie_speed two
 measure "100 maps of one written range made and built" trie_speed range 100
