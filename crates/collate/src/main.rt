@@ -1,7 +1,7 @@
 //! `collate`: names in collation order, by the records of a file (README.md, "The program").
 #![tactic(auto)]
 
-use collate_run::arguments::Arguments;
+use collate_run::choice::Choice;
 use collate_run::serve::{self, FileFault};
 use collate_run::watched::Watched;
 use std::env;
@@ -35,9 +35,9 @@ fn contents(rt: &HostRuntime, path: &str) -> Result<Vec<u8>, FileFault> {
 /// Serves the words of the program, from standard input to standard output. Answers its status.
 fn serve_words(rt: &HostRuntime, words: &[String]) -> u8 {
     let alloc = rt.alloc();
-    let arguments = Arguments::parse(words);
-    let file = match &arguments {
-        Some(arguments) => contents(rt, arguments.file),
+    let choice = Choice::read(words);
+    let file = match &choice {
+        Some(choice) => contents(rt, choice.file),
         None => Err(FileFault::Unreadable),
     };
     let bytes = match &file {
@@ -45,13 +45,13 @@ fn serve_words(rt: &HostRuntime, words: &[String]) -> u8 {
         Err(fault) => Err(*fault),
     };
     let mut writer = Watched::new(io::writer(rt));
-    let mut errors = Watched::new(rt.stderr());
+    let mut errors = rt.stderr();
     let Ok(input) = BufReader::new(alloc, rt.reader()) else {
         let mut reader = Watched::new(io::empty());
         let bytes = Err(FileFault::Memory);
         return serve::serve(
             alloc,
-            arguments.as_ref(),
+            choice.as_ref(),
             bytes,
             &mut reader,
             &mut writer,
@@ -61,7 +61,7 @@ fn serve_words(rt: &HostRuntime, words: &[String]) -> u8 {
     let mut reader = Watched::new(input);
     serve::serve(
         alloc,
-        arguments.as_ref(),
+        choice.as_ref(),
         bytes,
         &mut reader,
         &mut writer,

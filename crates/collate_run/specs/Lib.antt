@@ -1,4 +1,4 @@
-pub mod Arguments
+pub mod Choices
 pub mod OptionWords
 pub mod Reading
 pub mod Replies

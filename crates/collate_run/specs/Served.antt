@@ -1,5 +1,5 @@
 -- what the program does, but for reading its words and FILE
-use Rattle.std.specs.Prelude.{◌≡◌, ℕ, Bool, false, Option, Result, Ok, Err, List, [], ◌++◌, codes, MatchOption, MatchResult}
+use Rattle.std.specs.Prelude.{◌≡◌, ℕ, Option, Result, Ok, Err, List, [], ◌++◌, codes, MatchOption, MatchResult}
 use denote.Bor.{Bor}
 use Rattle.std.specs.Io.KnownBytes.{Appends, Keeps}
 use Rattle.collate_records.specs.Files.{IsReadFrom}
@@ -10,7 +10,7 @@ use Rattle.collate_records.specs.declared.rule.RecordsError.TheVariants.{Fault, 
 use Rattle.collate_index.specs.Catalogue.{Catalogue, opened}
 use Rattle.collate_run.specs.Runs.{Ran}
 use Rattle.collate_index.specs.ServedOptions.{AreDefault, GiveStrengthOnly}
-use Rattle.collate_run.specs.declared.arguments.Arguments.{Arguments}
+use Rattle.collate_run.specs.declared.choice.Choice.{Choice}
 use Rattle.collate_run.specs.declared.run.RunFault.{RunFault}
 use Rattle.collate_run.specs.declared.run.RunFault.TheVariants.{Memory, Read, Write, LineTooLong, InputTooLong}
 use Rattle.collate_run.specs.declared.serve.FileFault.{FileFault}
@@ -38,21 +38,20 @@ run_line Write = codes "collate: write\n"
 run_line LineTooLong = codes "collate: line too long\n"
 run_line InputTooLong = codes "collate: input too long\n"
 
--- what a writer of errors got of this text: all of it, or a first part where a call of the writer failed
-pub record Tells (failed : Bool) (old new : Option (List ℕ)) (text : List ℕ) : Type 0 where
+-- what a writer of errors got of this text: all of it, or a first part where the writer stopped taking
+pub record Tells (old new : Option (List ℕ)) (text : List ℕ) : Type 0 where
   pub told : List ℕ
   pub untold : List ℕ
   pub text_is : text ≡ told ++ untold
   pub appends : Appends old new told
-  pub whole : failed ≡ false → untold ≡ []
 
 -- The program stopped before its run: its status, and the text for the writer of errors. Nothing was
 -- read, nothing was written.
-pub record Stops (wanted : ℕ) (text : List ℕ) (status : ℕ) (reader_old reader_new writer_old writer_new errors_old errors_new : Option (List ℕ)) (errors_failed : Bool) : Type 0 where
+pub record Stops (wanted : ℕ) (text : List ℕ) (status : ℕ) (reader_old reader_new writer_old writer_new errors_old errors_new : Option (List ℕ)) : Type 0 where
   pub status_is : status ≡ wanted
   pub reader : Keeps reader_old reader_new
   pub writer : Keeps writer_old writer_new
-  pub tells : Tells errors_failed errors_old errors_new text
+  pub tells : Tells errors_old errors_new text
 
 -- the status and the text of a run
 abbrev pub run_status : Result (Unit {0}) RunFault → ℕ
@@ -64,29 +63,29 @@ run_text (Ok _) = []
 run_text (Err fault) = run_line fault
 
 -- The program ran: its status and the text for the writer of errors are those of the run's result.
-pub record Runs (start : Catalogue) (status : ℕ) (reader_old reader_new writer_old writer_new errors_old errors_new : Option (List ℕ)) (errors_failed : Bool) : Type 0 where
+pub record Runs (start : Catalogue) (status : ℕ) (reader_old reader_new writer_old writer_new errors_old errors_new : Option (List ℕ)) : Type 0 where
   pub result : Result (Unit {0}) RunFault
   pub ran : Ran start result reader_old reader_new writer_old writer_new
   pub status_is : status ≡ run_status result
-  pub tells : Tells errors_failed errors_old errors_new (run_text result)
+  pub tells : Tells errors_old errors_new (run_text result)
 
-module _ (status : ℕ) (reader_old reader_new writer_old writer_new errors_old errors_new : Option (List ℕ)) (errors_failed : Bool) where
+module _ (status : ℕ) (reader_old reader_new writer_old writer_new errors_old errors_new : Option (List ℕ)) where
   -- what is served of a file of records: a run over them, or their refusal
-  pub record ServesFile (arguments : Arguments) (bytes : List ℕ) : Type 0 where
+  pub record ServesFile (choice : Choice) (bytes : List ℕ) : Type 0 where
     pub read : Result (List Record) RecordsError
     pub read_is : IsReadFrom bytes read
     pub served : MatchResult read
-        (λ records. Runs (opened records arguments.preferences arguments.options) status reader_old reader_new writer_old writer_new errors_old errors_new errors_failed)
-        (λ refusal. Stops 1 (records_line refusal) status reader_old reader_new writer_old writer_new errors_old errors_new errors_failed)
+        (λ records. Runs (opened records choice.preferences choice.options) status reader_old reader_new writer_old writer_new errors_old errors_new)
+        (λ refusal. Stops 1 (records_line refusal) status reader_old reader_new writer_old writer_new errors_old errors_new)
 
   -- what is served of the words and of FILE: the usage line, or what is wrong with FILE, or with its records, or the run
-  abbrev pub Serves : Option (Bor Arguments) → Result (Bor (List ℕ)) FileFault → Type 0
-  Serves arguments file = MatchOption arguments
-      (Stops 2 usage_line status reader_old reader_new writer_old writer_new errors_old errors_new errors_failed)
+  abbrev pub Serves : Option (Bor Choice) → Result (Bor (List ℕ)) FileFault → Type 0
+  Serves choice file = MatchOption choice
+      (Stops 2 usage_line status reader_old reader_new writer_old writer_new errors_old errors_new)
       (λ given. MatchResult file
       (λ bytes. ServesFile given.now bytes.now)
-      (λ fault. Stops 1 (file_line given.now.file.now fault) status reader_old reader_new writer_old writer_new errors_old errors_new errors_failed))
+      (λ fault. Stops 1 (file_line given.now.file.now fault) status reader_old reader_new writer_old writer_new errors_old errors_new))
 
 -- the preferences and options that the words give are served
-abbrev pub IsServed : Bor Arguments → Type 0
-IsServed arguments = AreDefault arguments.now.preferences × GiveStrengthOnly arguments.now.options
+abbrev pub IsServed : Bor Choice → Type 0
+IsServed choice = AreDefault choice.now.preferences × GiveStrengthOnly choice.now.options

@@ -2,7 +2,7 @@
 //! Begin with `serve::serve`, all of the program but reading its words and its file, or with `run::run`, the commands alone.
 #![tactic(auto)]
 
-pub mod arguments;
+pub mod choice;
 mod replies;
 pub mod run;
 pub mod serve;

@@ -111,7 +111,7 @@ fn next_line<R: Read>(
 }
 
 /// Writes all bytes, up to the first call that fails, an interrupted one too, or takes no byte.
-pub(crate) fn write_whole<W: Write>(writer: &mut Watched<W>, bytes: &[u8]) -> Result<(), RunFault>
+fn write_whole<W: Write>(writer: &mut Watched<W>, bytes: &[u8]) -> Result<(), RunFault>
     ensures bytes { Sends result
         (W.contents (watched_inner writer.old)) (W.contents (watched_inner writer.new)) bytes.now }
     ensures failed { watched_failed writer.new ≡ watched_failed writer.old || is_err result }

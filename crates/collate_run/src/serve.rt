@@ -2,11 +2,12 @@
 
 ghost use Rattle.std.specs.Prelude.{◌≡◌, false, flat_map};
 ghost use Rattle.std.specs.Option.{ForSome};
+ghost use Rattle.collate_run.specs.Sending.{Sends};
 ghost use Rattle.collate_run.specs.Served.{IsServed, Serves, Tells, records_line, run_line};
 ghost use Rattle.collate_run.specs.Watched.{watched_failed, watched_inner};
 
-use crate::arguments::Arguments;
-use crate::run::{RunFault, run, write_whole};
+use crate::choice::Choice;
+use crate::run::{RunFault, run};
 use crate::watched::Watched;
 use collate_records::records::Records;
 use collate_records::rule::RecordsError;
@@ -26,26 +27,41 @@ pub enum FileFault {
     Memory,
 }
 
+/// The writer of errors took no more.
+#[derive(Clone, Copy)]
+struct Untold;
+
+/// Writes all bytes, up to the first call that fails or takes no byte.
+fn tell_part<E: Write>(errors: &mut E, part: &[u8]) -> Result<(), Untold>
+    ensures { Sends result (E.contents errors.old) (E.contents errors.new) part.now }
+{
+    let mut rest = part;
+    'writes: while !rest.is_empty() {
+        match errors.write(rest) {
+            Ok(taken) if taken > 0 => rest = &rest[taken..],
+            Ok(_) | Err(_) => return Err(Untold),
+        }
+    }
+    Ok(())
+}
+
 /// Writes the parts of a text, one after another, up to the first call that fails or takes no
 /// byte.
-fn tell<E: Write>(errors: &mut Watched<E>, parts: &[&[u8]])
-    ensures { Tells (watched_failed errors.new)
-        (E.contents (watched_inner errors.old)) (E.contents (watched_inner errors.new))
+fn tell<E: Write>(errors: &mut E, parts: &[&[u8]])
+    ensures { Tells (E.contents errors.old) (E.contents errors.new)
         (flat_map (λ part. part.now) parts.now) }
 {
     for part in parts {
-        match write_whole(errors, part) {
+        match tell_part(errors, part) {
             Ok(()) => {}
-            Err(_) => return,
+            Err(Untold) => return,
         }
     }
 }
 
 /// Tells why records were refused.
-fn tell_refusal<E: Write>(errors: &mut Watched<E>, error: RecordsError)
-    ensures { Tells (watched_failed errors.new)
-        (E.contents (watched_inner errors.old)) (E.contents (watched_inner errors.new))
-        (records_line error) }
+fn tell_refusal<E: Write>(errors: &mut E, error: RecordsError)
+    ensures { Tells (E.contents errors.old) (E.contents errors.new) (records_line error) }
 {
     match error {
         RecordsError::Fault(fault) => {
@@ -58,12 +74,9 @@ fn tell_refusal<E: Write>(errors: &mut Watched<E>, error: RecordsError)
     }
 }
 
-/// Tells in one line why a run ended before its input did: the whole line, unless a call of the
-/// writer fails.
-pub fn tell_run_fault<E: Write>(errors: &mut Watched<E>, fault: RunFault)
-    ensures { Tells (watched_failed errors.new)
-        (E.contents (watched_inner errors.old)) (E.contents (watched_inner errors.new))
-        (run_line fault) }
+/// Tells in one line why a run ended before its input did.
+pub fn tell_run_fault<E: Write>(errors: &mut E, fault: RunFault)
+    ensures { Tells (E.contents errors.old) (E.contents errors.new) (run_line fault) }
 {
     let line: &[u8] = match fault {
         RunFault::Memory => b"collate: memory\n",
@@ -78,35 +91,35 @@ pub fn tell_run_fault<E: Write>(errors: &mut Watched<E>, fault: RunFault)
 /// Serves the words of the program and the bytes of FILE: a run over the records of FILE, from the
 /// reader to the writer. Answers the status of the program (README.md, "The program").
 ///
-/// Status 2 and the usage line to `errors` if `arguments` is `None`, whatever `file` is. Status 1
+/// Status 2 and the usage line to `errors` if `choice` is `None`, whatever `file` is. Status 1
 /// and a line that begins with `collate: ` if FILE wasn't read, its records are refused, or the
-/// run ends by a fault, in this order. Else status 0. An error of `errors` is dropped, and noted by
-/// it. Before the run nothing is read or written.
+/// run ends by a fault, in this order. Else status 0. An error of `errors` is dropped.
+/// Before the run nothing is read or written.
 pub fn serve<R: Read, W: Write, E: Write>(
     alloc: Global,
-    arguments: Option<&Arguments<'_>>,
+    choice: Option<&Choice<'_>>,
     file: Result<&[u8], FileFault>,
     reader: &mut Watched<R>,
     writer: &mut Watched<W>,
-    errors: &mut Watched<E>,
+    errors: &mut E,
 ) -> u8
-    requires arguments { ForSome arguments IsServed }
+    requires choice { ForSome choice IsServed }
     requires reader { watched_failed reader.old ≡ false }
     requires writer { watched_failed writer.old ≡ false }
     ensures { Serves result
         (R.remaining (watched_inner reader.old)) (R.remaining (watched_inner reader.new))
         (W.contents (watched_inner writer.old)) (W.contents (watched_inner writer.new))
-        (E.contents (watched_inner errors.old)) (E.contents (watched_inner errors.new))
-        (watched_failed errors.new) arguments.entry file.entry }
+        (E.contents errors.old) (E.contents errors.new)
+        choice.entry file.entry }
 {
-    let Some(arguments) = arguments else {
+    let Some(choice) = choice else {
         tell(errors, &[b"usage: collate FILE [OPTION=VALUE]..\n"]);
         return 2;
     };
     let bytes = match file {
         Ok(bytes) => bytes,
         Err(FileFault::Unreadable) => {
-            let path = arguments.file.as_bytes();
+            let path = choice.file.as_bytes();
             tell(errors, &[b"collate: cannot read ", path, b"\n"]);
             return 1;
         }
@@ -122,7 +135,7 @@ pub fn serve<R: Read, W: Write, E: Write>(
             return 1;
         }
     };
-    let (preferences, options) = (&arguments.preferences, &arguments.options);
+    let (preferences, options) = (&choice.preferences, &choice.options);
     match run(alloc, records, preferences, options, reader, writer) {
         Ok(()) => 0,
         Err(fault) => {

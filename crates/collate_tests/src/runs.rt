@@ -5,7 +5,7 @@ ghost use Rattle.collate_run.specs.Served.{IsServed};
 
 use collate_index::index::AddError;
 use collate_records::records::Records;
-use collate_run::arguments::Arguments;
+use collate_run::choice::Choice;
 use collate_run::run::{self, RunFault};
 use collate_run::serve::{self, FileFault};
 use collate_run::watched::Watched;
@@ -214,7 +214,7 @@ fn words_of(alloc: Global, texts: &[&str]) -> Result<Vec<String>, AllocError> {
 }
 
 #[test]
-fn arguments_are_a_file_and_a_strength(rt: HostRuntime) -> Result<(), Fail> {
+fn choices_are_a_file_and_a_strength(rt: HostRuntime) -> Result<(), Fail> {
     let alloc = rt.alloc();
     let rows = [
         (["a.records", "strength=primary"], Strength::Primary),
@@ -226,14 +226,14 @@ fn arguments_are_a_file_and_a_strength(rt: HostRuntime) -> Result<(), Fail> {
     ];
     for (texts, strength) in rows {
         let words = words_of(alloc, &texts)?;
-        let arguments = Arguments::parse(&words).ok_or("no arguments")?;
-        assert_eq!(rt; arguments.file, texts[0]);
-        assert_eq!(rt; arguments.options.strength, Some(strength));
+        let choice = Choice::read(&words).ok_or("no choice")?;
+        assert_eq!(rt; choice.file, texts[0]);
+        assert_eq!(rt; choice.options.strength, Some(strength));
     }
     let words = words_of(alloc, &["a.records"])?;
-    let arguments = Arguments::parse(&words).ok_or("no arguments")?;
-    assert_eq!(rt; arguments.file, "a.records");
-    assert_eq!(rt; arguments.options.strength, None);
+    let choice = Choice::read(&words).ok_or("no choice")?;
+    assert_eq!(rt; choice.file, "a.records");
+    assert_eq!(rt; choice.options.strength, None);
     let others: [&[&str]; 8] = [
         &[],
         &["a.records", "strength=loud"],
@@ -246,23 +246,23 @@ fn arguments_are_a_file_and_a_strength(rt: HostRuntime) -> Result<(), Fail> {
     ];
     for texts in others {
         let words = words_of(alloc, texts)?;
-        assert!(rt; Arguments::parse(&words).is_none(), "{texts:?}");
+        assert!(rt; Choice::read(&words).is_none(), "{texts:?}");
     }
     Ok(())
 }
 
-/// Serves arguments with a reader and a writer that fail after some calls, and looks at the status
+/// Serves choice with a reader and a writer that fail after some calls, and looks at the status
 /// and at what the writer of errors got.
 fn assert_served(
     rt: &impl Abort,
     alloc: Global,
-    arguments: Option<&Arguments<'_>>,
+    choice: Option<&Choice<'_>>,
     file: Result<&[u8], FileFault>,
     reads: usize,
     writes: usize,
     wanted: (u8, &[u8]),
 )
-    requires { ForSome arguments IsServed }
+    requires { ForSome choice IsServed }
 {
     let mut written = Vec::new(alloc);
     let mut errors = Vec::new(alloc);
@@ -276,8 +276,7 @@ fn assert_served(
         calls: writes,
         failure: Failure::NoByte,
     });
-    let mut told = Watched::new(&mut errors);
-    let status = serve::serve(alloc, arguments, file, &mut reader, &mut writer, &mut told);
+    let status = serve::serve(alloc, choice, file, &mut reader, &mut writer, &mut errors);
     assert_eq!(rt; status, wanted.0);
     assert_eq!(rt; errors.as_slice(), wanted.1);
 }
@@ -287,40 +286,40 @@ fn serve_answers_status_and_text(rt: HostRuntime) -> Result<(), Fail> {
     let alloc = rt.alloc();
     let usage = (2, b"usage: collate FILE [OPTION=VALUE]..\n".as_slice());
     let loud = words_of(alloc, &["a.records", "strength=loud"])?;
-    for arguments in [Arguments::parse(&[]), Arguments::parse(&loud)] {
+    for choice in [Choice::read(&[]), Choice::read(&loud)] {
         assert_served(
             &rt,
             alloc,
-            arguments.as_ref(),
+            choice.as_ref(),
             Err(FileFault::Unreadable),
             9,
             9,
             usage,
         );
-        assert_served(&rt, alloc, arguments.as_ref(), Ok(b"x"), 9, 9, usage);
+        assert_served(&rt, alloc, choice.as_ref(), Ok(b"x"), 9, 9, usage);
     }
     let words = words_of(alloc, &["a.records"])?;
-    let arguments = Arguments::parse(&words);
-    let arguments = arguments.as_ref();
+    let choice = Choice::read(&words);
+    let choice = choice.as_ref();
     let unreadable = (1, b"collate: cannot read a.records\n".as_slice());
     assert_served(
         &rt,
         alloc,
-        arguments,
+        choice,
         Err(FileFault::Unreadable),
         9,
         9,
         unreadable,
     );
     let memory = (1, b"collate: memory\n".as_slice());
-    assert_served(&rt, alloc, arguments, Err(FileFault::Memory), 9, 9, memory);
+    assert_served(&rt, alloc, choice, Err(FileFault::Memory), 9, 9, memory);
     let refused = (1, b"collate: refused 1 grammar\n".as_slice());
-    assert_served(&rt, alloc, arguments, Ok(b"x"), 9, 9, refused);
-    assert_served(&rt, alloc, arguments, Ok(b""), 9, 9, (0, b""));
+    assert_served(&rt, alloc, choice, Ok(b"x"), 9, 9, refused);
+    assert_served(&rt, alloc, choice, Ok(b""), 9, 9, (0, b""));
     assert_served(
         &rt,
         alloc,
-        arguments,
+        choice,
         Ok(b""),
         3,
         9,
@@ -329,7 +328,7 @@ fn serve_answers_status_and_text(rt: HostRuntime) -> Result<(), Fail> {
     assert_served(
         &rt,
         alloc,
-        arguments,
+        choice,
         Ok(b""),
         9,
         1,
@@ -342,11 +341,11 @@ fn serve_answers_status_and_text(rt: HostRuntime) -> Result<(), Fail> {
 fn serve_drops_an_error_of_the_writer_of_errors(rt: HostRuntime) {
     let alloc = rt.alloc();
     let (mut written, mut told) = (Vec::new(alloc), Vec::new(alloc));
-    let mut errors = Watched::new(FailingWriter {
+    let mut errors = FailingWriter {
         written: &mut told,
         calls: 2,
         failure: Failure::Error(io::ErrorKind::Other),
-    });
+    };
     let mut reader = Watched::new(b"list\n".as_slice());
     let mut writer = Watched::new(&mut written);
     let file = Err(FileFault::Unreadable);
@@ -367,7 +366,7 @@ fn each_fault_of_a_run_has_its_line(rt: HostRuntime) {
     ];
     for (fault, line) in rows {
         let mut errors = Vec::new(rt.alloc());
-        serve::tell_run_fault(&mut Watched::new(&mut errors), fault);
+        serve::tell_run_fault(&mut errors, fault);
         assert_eq!(rt; errors.as_slice(), line);
     }
 }

@@ -1,5 +1,5 @@
 -- a text told part by part
-use Rattle.std.proofs.Common.{◌≡◌, ℕ, ◌+◌, ◌<◌, Bool, true, false, ◌||◌, true≢false, refl, Option, Result, List, [], ◌∷◌, ◌++◌, length, take, drop, get_or, flat_map, ap, sym, ◌∙◌, append_assoc, subst}
+use Rattle.std.proofs.Common.{◌≡◌, ℕ, ◌+◌, ◌<◌, Option, Result, List, [], ◌∷◌, ◌++◌, length, take, drop, get_or, flat_map, ap, sym, ◌∙◌, append_assoc, subst}
 use Rattle.std.proofs.lemmas.List.{append-nil, take_more, take-append-drop}
 use Rattle.std.proofs.lemmas.Grind.{flat_map-append}
 use Rattle.std.specs.Io.KnownBytes.{Appends}
@@ -14,8 +14,8 @@ module _ {X : Type 0} (bytes : X → List ℕ) (parts : List X) (i : ℕ) (d : X
   pub told-more : (a b c : Option (List ℕ)) → Appends a b (flat_map bytes (take i parts)) → Appends b c (bytes (get_or parts i d)) → Appends a c (flat_map bytes (take (i + 1) parts))
   told-more a b c h k = subst (λ (xs : List ℕ). Appends a c xs) (sym front-more) (Appends-then a b c (flat_map bytes (take i parts)) (bytes (get_or parts i d)) h k)
 
-  pub told-front : {E : Type 0} (result : Result (Unit {0}) E) (failed : Bool) (a b c : Option (List ℕ)) → (failed ≡ false → ⊥) → Appends a b (flat_map bytes (take i parts)) → Sends result b c (bytes (get_or parts i d)) → Tells failed a c (flat_map bytes parts)
-  told-front result failed a b c fails h sends = record {
+  pub told-front : {E : Type 0} (result : Result (Unit {0}) E) (a b c : Option (List ℕ)) → Appends a b (flat_map bytes (take i parts)) → Sends result b c (bytes (get_or parts i d)) → Tells a c (flat_map bytes parts)
+  told-front result a b c h sends = record {
     told = flat_map bytes (take i parts) ++ sends.sent;
     untold = sends.unsent ++ flat_map bytes (drop (i + 1) parts);
     text_is =
@@ -24,16 +24,10 @@ module _ {X : Type 0} (bytes : X → List ℕ) (parts : List X) (i : ℕ) (d : X
         ∙ ap (λ (xs : List ℕ). xs ++ flat_map bytes (drop (i + 1) parts)) (front-more ∙ ap (λ (xs : List ℕ). flat_map bytes (take i parts) ++ xs) sends.bytes_are ∙ sym (append_assoc (flat_map bytes (take i parts)) sends.sent sends.unsent))
         ∙ append_assoc (flat_map bytes (take i parts) ++ sends.sent) sends.unsent (flat_map bytes (drop (i + 1) parts));
     appends = Appends-then a b c (flat_map bytes (take i parts)) sends.sent h sends.appends;
-    whole = λ e. absurd (fails e);
   }
 
-pub told-all : (failed : Bool) (a b : Option (List ℕ)) (text : List ℕ) → Appends a b text → Tells failed a b text
-told-all failed a b text h = record { told = text; untold = []; text_is = sym (append-nil text); appends = h; whole = λ _. refl }
+pub told-all : (a b : Option (List ℕ)) (text : List ℕ) → Appends a b text → Tells a b text
+told-all a b text h = record { told = text; untold = []; text_is = sym (append-nil text); appends = h }
 
-pub tells-nothing : (failed : Bool) (a : Option (List ℕ)) → Tells failed a a []
-tells-nothing failed a = told-all failed a a [] (Appends-none a)
-
--- a writer of which a call failed has failed
-pub failed-now : (new old : Bool) → new ≡ (old || true) → new ≡ false → ⊥
-failed-now new true h e = true≢false (sym h ∙ e)
-failed-now new false h e = true≢false (sym h ∙ e)
+pub tells-nothing : (a : Option (List ℕ)) → Tells a a []
+tells-nothing a = told-all a a [] (Appends-none a)

@@ -1,5 +1,4 @@
 use Rattle.std.proofs.Common.{Ok, refl}
-use Rattle.collate_run.specs.Watched.{watched_inner, watched_failed}
 use Rattle.collate_run.proofs.bytes.TellingLemmas.{tells-nothing}
 use Rattle.collate_run.proofs.serve.serve.Goals as goal
 
@@ -11,6 +10,6 @@ returns-in-Ok-run g c = rw (c.in-Some.is, c.in-Ok.is) (record {
     result = Ok c.in-Ok-run.field-0;
     ran = c.in-Ok-run.ensures.ran;
     status_is = refl;
-    tells = tells-nothing (watched_failed c.args.errors.now) (g.E.Write.contents (watched_inner c.args.errors.now));
+    tells = tells-nothing (g.E.Write.contents c.args.errors.now);
   };
 })

@@ -1,4 +1,4 @@
-//! The arguments of the program: the words that it was given after its name.
+//! What the words choose that the program was given after its name.
 
 ghost use Rattle.std.specs.Prelude.{◌≡◌, ◌≢◌, ℕ, List, ◌∷◌, Option, Some, map, string_bytes, MatchOption};
 ghost use Rattle.icu_collator_types.specs.declared.options.Strength.{Strength};
@@ -9,7 +9,7 @@ use icu_collator_types::options::{CollatorOptions, CollatorPreferences, Strength
 
 /// What the words of the program ask for: a records file, and options.
 #[derive(Clone, Copy, Debug)]
-pub struct Arguments<'a> {
+pub struct Choice<'a> {
     /// The path of the records file.
     pub file: &'a str,
     /// The preferences, all of them the default ones.
@@ -18,22 +18,22 @@ pub struct Arguments<'a> {
     pub options: CollatorOptions,
 }
 
-impl<'a> Arguments<'a> {
-    ghost use Rattle.collate_run.specs.Arguments.{AreArguments};
+impl<'a> Choice<'a> {
+    ghost use Rattle.collate_run.specs.Choices.{IsChoice};
 
     /// Reads the words of the program: FILE, then at most one of `strength=primary`, `strength=secondary` and
     /// `strength=tertiary` (README.md, "The program"). `None` for any other words.
-    pub fn parse(words: &'a [String]) -> Option<Arguments<'a>>
+    pub fn read(words: &'a [String]) -> Option<Choice<'a>>
         ensures { MatchOption result
             ((file : List ℕ) (strength : Option Strength) → IsServedStrength strength → map string_bytes words.now ≢ file ∷ option_words strength)
-            (AreArguments (map string_bytes words.now)) }
+            (IsChoice (map string_bytes words.now)) }
     {
         let (file, strength) = match words {
             [file] => (file, None),
             [file, word] => (file, Some(parse_strength(word)?)),
             _ => return None,
         };
-        Some(Arguments {
+        Some(Choice {
             file: file.as_str(),
             preferences: CollatorPreferences {
                 locale: "",
