@@ -12,8 +12,8 @@ use Rattle.std.specs.Char.{IsScalar}
 use Rattle.icu_normalizer_core.specs.BuiltIn.{built_in_step, built_in_compatibility_step, built_in_class, is_syllable, is_jamo, syllable_step, singled_out}
 use Rattle.icu_normalizer_core.specs.Canonical.{IsDecomposing, IsFree, Leaves, nothing, unmapped, mapped}
 use Rattle.icu_normalizer_core.proofs.DecomposedLemmas.{left_append}
-use Rattle.worked_rows.specs.Tables.{Mapping, class_of, step_of, expanded, first_found}
-use Rattle.worked_rows.specs.Letters.{letters as letters_table}
+use Rattle.icu_collator_examples.specs.Tables.{Mapping, class_of, step_of, expanded, first_found}
+use Rattle.icu_collator_examples.specs.LetterTables.{letters_table}
 use Rattle.icu_collator_examples.specs.Letters.{letters}
 use Rattle.icu_collator_examples.proofs.FoundLemmas.{by_character}
 
