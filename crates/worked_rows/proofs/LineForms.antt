@@ -33,7 +33,7 @@ comments_say_nothing = refl
 pub several_elements :
     order (letters ++ codes "w 00C6 ; [2A100000.0500.0.0500.0] [2A500000.0500.0.0500.0]" ∷ [])
     (at_strength Tertiary)
-    (codes "c\u{c6}")
+    (codes "cÆ")
     (codes "cae")
     ≡ Equal
 unfolding computing

@@ -19,20 +19,24 @@ pub a_and_diaeresis_compose : (meant with_a_diaeresis).canonical.pair 0x61 0x308
 unfolding computing
 a_and_diaeresis_compose = refl
 
--- a diaeresis of which "ä" is made, and that doesn't compose with "a"
-abbrev without_a_diaeresis : Lines
-without_a_diaeresis = letters ++ codes "map 00E4 0061 0308 x" ∷ []
+-- Letters with a dot below them: U+0929, and U+0958, which an x keeps out of the composed pairs.
+abbrev with_dotted_letters : Lines
+with_dotted_letters = letters ++ codes "class 093C 7" ∷ codes "map 0929 0928 093C" ∷ codes "map 0958 0915 093C x" ∷ []
 
-pub kept_out_of_the_pairs : (meant without_a_diaeresis).canonical.pair 0x61 0x308 ≡ None
+pub letter_and_dot_compose : (meant with_dotted_letters).canonical.pair 0x928 0x93c ≡ Some 0x929
+unfolding computing
+letter_and_dot_compose = refl
+
+pub kept_out_of_the_pairs : (meant with_dotted_letters).canonical.pair 0x915 0x93c ≡ None
 unfolding computing
 kept_out_of_the_pairs = refl
 
 -- The letter is decomposed all the same, and isn't composed again.
-pub kept_out_and_decomposed : decomposed (meant without_a_diaeresis).canonical (0xe4 ∷ []) ≡ 0x61 ∷ 0x308 ∷ []
+pub kept_out_and_decomposed : decomposed (meant with_dotted_letters).canonical (0x958 ∷ []) ≡ 0x915 ∷ 0x93c ∷ []
 unfolding computing
 kept_out_and_decomposed = refl
 
-pub kept_out_and_not_composed : composed (meant without_a_diaeresis).canonical (0xe4 ∷ []) ≡ 0x61 ∷ 0x308 ∷ []
+pub kept_out_and_not_composed : composed (meant with_dotted_letters).canonical (0x958 ∷ []) ≡ 0x915 ∷ 0x93c ∷ []
 unfolding computing
 kept_out_and_not_composed = refl
 
