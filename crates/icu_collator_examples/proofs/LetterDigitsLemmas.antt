@@ -1,4 +1,4 @@
--- The digits of the worked examples keep what the law of numbers asks, and some numbers in texts of these.
+-- The digits of the written tables keep what the law of numbers asks, and some numbers in texts of these.
 use Rattle.std.proofs.Common.{◌≡◌, ℕ, ◌<◌, ◌≤◌, true, leb, List, [], ◌∷◌, refl, subst, arith, Option, Some, None}
 use Rattle.std.proofs.lemmas.Bool.{and_parts, leb-true}
 use Rattle.std.proofs.lemmas.Bool.Decides.{nat_tests}

@@ -1,4 +1,4 @@
--- The canonical data of the worked examples meet what canonical data promise.
+-- The table of letters meets what canonical data promise.
 use Rattle.std.proofs.Common.{◌≡◌, ℕ, zero, suc, cond, ap, ◌+◌, ◌-◌, ◌%◌, ◌/◌, ◌<◌, ◌≤◌, true, false, List, [], ◌∷◌, ◌++◌, length, refl, sym, subst, ◌∙◌, ◌==◌, ◌||◌, ◌⊎◌, inl, inr, arith, Option, Some, None}
 use Rattle.std.specs.Option.{unwrap_or, is_some}
 use Rattle.std.proofs.lemmas.Bool.{cases_Bool, cond_both, eqb-true, eqb-false, false≢true}

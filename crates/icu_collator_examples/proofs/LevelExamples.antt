@@ -1,4 +1,4 @@
--- A pair of texts for each level over the records of the worked examples, whose levels before it are equal.
+-- A pair of texts for each level over written tables, whose levels before it are equal.
 use Rattle.std.proofs.Common.{◌≡◌, ◌≢◌, ◌≤◌, Bool, true, false, [], ◌∷◌, refl, arith}
 use Rattle.std.proofs.lemmas.List.Elements.{All-from_recursion}
 use Rattle.std.specs.List.{All, AllByRecursion}

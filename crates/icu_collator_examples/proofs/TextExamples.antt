@@ -1,4 +1,4 @@
--- Texts over the records of the worked examples, computed.
+-- Texts over written tables, computed.
 use Rattle.std.proofs.Common.{◌≡◌, true, [], ◌∷◌, refl}
 use Rattle.std.specs.Prelude.{All}
 use Rattle.std.specs.List.{AllByRecursion}

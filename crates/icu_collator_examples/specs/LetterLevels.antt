@@ -1,4 +1,4 @@
--- Levels over the records of the worked examples: a pair of texts for each level that first differ in it.
+-- Levels over written tables: a pair of texts for each level that first differ in it.
 use Rattle.std.specs.Prelude.{ℕ, List, [], ◌∷◌}
 use Rattle.icu_collator_types.specs.declared.elements.Element.{Element}
 use Rattle.icu_collator_types.specs.declared.options.AlternateHandling.TheVariants.{Shifted}
