@@ -4,7 +4,7 @@ use Rattle.std.proofs.lemmas.Bool.{cond_both, and_parts, eqb-true, leb-true}
 use Rattle.std.proofs.lemmas.List.Elements.{Contains-append_left, Contains-append_right}
 use Rattle.std.specs.List.{AllByRecursion, Contains, flat_map, list_all}
 use Rattle.icu_collator_types.specs.declared.elements.Element.{Element}
-use Rattle.worked_rows.specs.Tables.{Recorded, first_found, is_same_text, recorded_of}
+use Rattle.icu_collator_examples.specs.Tables.{Recorded, first_found, is_same_text, recorded_of}
 
 -- what is true of each line and its character, and of a character with none, is true of what is found for a character
 pub by_character : {A : Type 0} {B : Type 0} (character : A → ℕ) (said : A → B) (P : ℕ → Option B → Type 0) (lines : List A) (c : ℕ)

@@ -1,4 +1,4 @@
--- The records of the worked examples keep the rules, so the laws of keys speak of them.
+-- The written tables keep the rules, so the laws of keys speak of them.
 use Rattle.std.proofs.Common.{◌≡◌, ℕ, Bool, true, false, List, refl, sym, ◌∙◌, ap, subst, arith, Option, Some, None}
 use Rattle.std.proofs.lemmas.Bool.{cond_both}
 use Rattle.std.proofs.lemmas.Bool.Decides.{nat_tests}

@@ -1,4 +1,4 @@
--- The digits of the worked examples keep what the law of numbers asks, and some numbers in texts of these.
+-- The digits of the written tables keep what the law of numbers asks, and some numbers in texts of these.
 use Rattle.std.proofs.Common.{◌≡◌, ℕ, ◌<◌, ◌≤◌, true, leb, List, [], ◌∷◌, refl, subst, arith, Option, Some, None}
 use Rattle.std.proofs.lemmas.Bool.{and_parts, leb-true}
 use Rattle.std.proofs.lemmas.Bool.Decides.{nat_tests}
@@ -9,8 +9,8 @@ use Rattle.std.specs.Option.{is_some}
 use Rattle.icu_collator_core.specs.Defaults.{special_primary}
 use Rattle.icu_collator_examples.specs.Letters.{digits_collation, digits_table}
 use Rattle.icu_collator.specs.NumbersInTexts.{AreDigitsApart, IsNumberBetween, holds_digit, run_value}
-use Rattle.worked_rows.specs.Tables.{Digit, recorded_of}
-use Rattle.worked_rows.proofs.Computing.{computing}
+use Rattle.icu_collator_examples.specs.Tables.{Digit, recorded_of}
+use Rattle.icu_collator_examples.proofs.Computing.{computing}
 use Rattle.icu_collator_examples.proofs.FoundLemmas.{by_character, longer_unrecorded}
 use Rattle.icu_collator_examples.proofs.LetterPairsLemmas.{letters_low_starters, letters_unmapped, letters_full_unmapped}
 

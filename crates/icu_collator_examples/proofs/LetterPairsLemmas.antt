@@ -1,4 +1,4 @@
--- The composed pairs of the canonical data of the worked examples.
+-- The composed pairs of the table of letters.
 use Rattle.std.proofs.Common.{◌≡◌, ℕ, ◌+◌, ◌-◌, ◌*◌, ◌%◌, ◌/◌, ◌<◌, ◌≤◌, true, false, List, [], ◌∷◌, ◌++◌, refl, sym, subst, ◌==◌, ◌&&◌, ◌⊎◌, inl, inr, arith, Option, Some, None}
 use Rattle.std.specs.Prelude.{◌≢◌, IfSome}
 use Rattle.std.proofs.lemmas.Bool.{cond_both}
@@ -7,8 +7,8 @@ use Rattle.std.proofs.Math.Utf8.{low_scalar}
 use Rattle.std.specs.Char.{IsScalar}
 use Rattle.icu_normalizer_core.specs.BuiltIn.{built_in_step, built_in_compatibility_step, built_in_class, is_open_syllable, is_syllable, is_within, singled_out, syllable_of}
 use Rattle.icu_normalizer_core.specs.Canonical.{IsComposing, IsCanonical, composed, composing, decomposed, marks_in_order, put_in_order, recomposed}
-use Rattle.worked_rows.specs.Tables.{class_of, step_of, pair_of, expanded, composed_by, first_found}
-use Rattle.worked_rows.specs.Letters.{letters as letters_table}
+use Rattle.icu_collator_examples.specs.Tables.{class_of, step_of, pair_of, expanded, composed_by, first_found}
+use Rattle.icu_collator_examples.specs.LetterTables.{letters_table}
 use Rattle.icu_collator_examples.proofs.LettersLemmas.{letters_class, letters_step, letters_full, by_full, letters_is_decomposing, open_step, closed_step}
 use Rattle.icu_collator_examples.specs.Letters.{letters}
 

@@ -1,4 +1,4 @@
--- The canonical data of the worked examples meet what canonical data promise.
+-- The table of letters meets what canonical data promise.
 use Rattle.std.proofs.Common.{◌≡◌, ℕ, zero, suc, cond, ap, ◌+◌, ◌-◌, ◌%◌, ◌/◌, ◌<◌, ◌≤◌, true, false, List, [], ◌∷◌, ◌++◌, length, refl, sym, subst, ◌∙◌, ◌==◌, ◌||◌, ◌⊎◌, inl, inr, arith, Option, Some, None}
 use Rattle.std.specs.Option.{unwrap_or, is_some}
 use Rattle.std.proofs.lemmas.Bool.{cases_Bool, cond_both, eqb-true, eqb-false, false≢true}
@@ -12,8 +12,8 @@ use Rattle.std.specs.Char.{IsScalar}
 use Rattle.icu_normalizer_core.specs.BuiltIn.{built_in_step, built_in_compatibility_step, built_in_class, is_syllable, is_jamo, syllable_step, singled_out}
 use Rattle.icu_normalizer_core.specs.Canonical.{IsDecomposing, IsFree, Leaves, nothing, unmapped, mapped}
 use Rattle.icu_normalizer_core.proofs.DecomposedLemmas.{left_append}
-use Rattle.worked_rows.specs.Tables.{Mapping, class_of, step_of, expanded, first_found}
-use Rattle.worked_rows.specs.Letters.{letters as letters_table}
+use Rattle.icu_collator_examples.specs.Tables.{Mapping, class_of, step_of, expanded, first_found}
+use Rattle.icu_collator_examples.specs.LetterTables.{letters_table}
 use Rattle.icu_collator_examples.specs.Letters.{letters}
 use Rattle.icu_collator_examples.proofs.FoundLemmas.{by_character}
 

@@ -1,4 +1,4 @@
--- A pair of texts for each level over the records of the worked examples, whose levels before it are equal.
+-- A pair of texts for each level over written tables, whose levels before it are equal.
 use Rattle.std.proofs.Common.{◌≡◌, ◌≢◌, ◌≤◌, Bool, true, false, [], ◌∷◌, refl, arith}
 use Rattle.std.proofs.lemmas.List.Elements.{All-from_recursion}
 use Rattle.std.specs.List.{All, AllByRecursion}
@@ -17,8 +17,8 @@ use Rattle.icu_collator.specs.LevelOrders.{primaries_order, secondaries_order, c
 use Rattle.icu_collator.specs.Levels.{levels_of}
 use Rattle.icu_collator.specs.Order.{levels_order}
 use Rattle.icu_collator.specs.SoundCollation.{AreSoundLevels, read}
-use Rattle.worked_rows.specs.Tables.{recorded_of}
-use Rattle.worked_rows.proofs.Computing.{computing}
+use Rattle.icu_collator_examples.specs.Tables.{recorded_of}
+use Rattle.icu_collator_examples.proofs.Computing.{computing}
 
 small_a_is_recorded : IsRecorded digits_collation.weights small_a
 unfolding recorded_of

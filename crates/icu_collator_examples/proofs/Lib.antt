@@ -1,3 +1,4 @@
+pub mod Computing
 pub mod FoundLemmas
 pub mod LettersLemmas
 pub mod LetterPairsLemmas

@@ -1,4 +1,4 @@
--- Texts over the records of the worked examples, computed.
+-- Texts over written tables, computed.
 use Rattle.std.proofs.Common.{◌≡◌, true, [], ◌∷◌, refl}
 use Rattle.std.specs.Prelude.{All}
 use Rattle.std.specs.List.{AllByRecursion}
@@ -11,7 +11,7 @@ use Rattle.icu_collator_types.specs.Options.{is_at_least}
 use Rattle.icu_normalizer_core.specs.Canonical.{composed, decomposed}
 use Rattle.icu_collator.specs.Order.{collation_order}
 use Rattle.icu_collator_examples.specs.Letters.{letters, letters_collation, digits_collation, plain_options, numeric_options, acute_composed, dot_composed, acute_before_dot, dot_before_acute, cote_with_acute, cote_with_circumflex}
-use Rattle.worked_rows.proofs.Computing.{computing}
+use Rattle.icu_collator_examples.proofs.Computing.{computing}
 
 pub acute_composed_scalars : All IsScalar acute_composed
 acute_composed_scalars =

@@ -1,4 +1,4 @@
--- Levels over the records of the worked examples: a pair of texts for each level that first differ in it.
+-- Levels over written tables: a pair of texts for each level that first differ in it.
 use Rattle.std.specs.Prelude.{ℕ, List, [], ◌∷◌}
 use Rattle.icu_collator_types.specs.declared.elements.Element.{Element}
 use Rattle.icu_collator_types.specs.declared.options.AlternateHandling.TheVariants.{Shifted}
@@ -9,7 +9,7 @@ use Rattle.icu_collator_core.specs.Defaults.{primary_element}
 use Rattle.icu_collator_core.specs.Numbers.{number_elements}
 use Rattle.icu_collator_examples.specs.Letters.{digits_collation, plain_options}
 use Rattle.icu_collator.specs.Levels.{Levels, levels_of}
-use Rattle.worked_rows.specs.Letters.{accent_element, upper_element}
+use Rattle.icu_collator_examples.specs.LetterTables.{accent_element, upper_element}
 
 -- the elements of "a", "b" and "c"
 abbrev pub small_a : Element

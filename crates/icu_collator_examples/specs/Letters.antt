@@ -1,4 +1,4 @@
--- The collations that the laws are applied to: those of the tables of the worked rows, with their options and texts.
+-- The collations that the laws are applied to, with options and texts.
 use Rattle.std.specs.Prelude.{ℕ, List, [], ◌∷◌}
 use Rattle.icu_normalizer_core.specs.Canonical.{Canonical}
 use Rattle.icu_collator_types.specs.declared.options.AlternateHandling.TheVariants.{NonIgnorable}
@@ -10,8 +10,8 @@ use Rattle.icu_collator_types.specs.declared.options.Strength.{Strength}
 use Rattle.icu_collator_types.specs.declared.options.ResolvedCollatorOptions.{ResolvedCollatorOptions}
 use Rattle.icu_collator_core.specs.Collation.{Collation}
 use Rattle.icu_collator_core.specs.Weights.{Range}
-use Rattle.worked_rows.specs.Tables.{Table, canonical_of, collation_of}
-use Rattle.worked_rows.specs.Letters.{letters as letters_table, upper_a, with_records, with_stops, with_digits}
+use Rattle.icu_collator_examples.specs.Tables.{Table, canonical_of, collation_of}
+use Rattle.icu_collator_examples.specs.LetterTables.{letters_table, upper_a, with_records, with_stops, with_digits}
 
 -- eight letters, three accents and two composed letters
 abbrev pub letters : Canonical

@@ -1,8 +1,8 @@
 -- Two tables that say the same in other lines.
 use Rattle.std.specs.Prelude.{[], ◌∷◌, reverse}
 use Rattle.icu_collator_core.specs.Collation.{Collation}
-use Rattle.worked_rows.specs.Tables.{Table, collation_of}
-use Rattle.worked_rows.specs.Letters.{text_at, with_records}
+use Rattle.icu_collator_examples.specs.Tables.{Table, collation_of}
+use Rattle.icu_collator_examples.specs.LetterTables.{text_at, with_records}
 use Rattle.icu_collator_examples.specs.Letters.{digits_table, ideographs}
 
 -- a range whose first character has a record of its own, which counts before the range

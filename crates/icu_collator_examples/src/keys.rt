@@ -1,4 +1,4 @@
-//! The laws of keys applied to texts over the records of the worked examples.
+//! The laws of keys applied to texts over written tables.
 
 ghost use Rattle.std.specs.Char.{IsScalar};
 ghost use Rattle.std.specs.Cmp.Lexicographic.{slice_cmp};

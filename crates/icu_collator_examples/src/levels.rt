@@ -1,4 +1,4 @@
-//! The laws of levels applied to elements over the records of the worked examples.
+//! The laws of levels applied to elements over written tables.
 
 ghost use Rattle.std.specs.Prelude.{◌≡◌};
 ghost use Rattle.std.specs.declared.cmp.Ordering.TheVariants.{Greater, Less};

@@ -1,4 +1,4 @@
-//! The laws of `icu_collator` applied to texts over the records of the worked examples.
+//! The laws of `icu_collator` applied to texts over written tables.
 #![tactic(auto)]
 
 #[cfg(test)]

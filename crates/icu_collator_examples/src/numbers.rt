@@ -1,4 +1,4 @@
-//! The law of numbers applied to texts over the records of the worked examples.
+//! The law of numbers applied to texts over written tables.
 
 ghost use Rattle.std.specs.Cmp.Lexicographic.{slice_cmp};
 ghost use Rattle.std.specs.Ordering.{nat_cmp};

@@ -1,4 +1,4 @@
-//! The laws applied to texts over the records of the worked examples.
+//! The laws applied to texts over written tables.
 
 ghost use Rattle.std.specs.Prelude.{◌≡◌, ℕ, List, [], ◌∷◌, IsTrue};
 ghost use Rattle.std.specs.declared.cmp.Ordering.TheVariants.{Less, Equal, Greater};

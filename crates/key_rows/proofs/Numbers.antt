@@ -3,13 +3,13 @@ use Rattle.std.specs.Prelude.{◌≡◌, ℕ, List, ◌∷◌, ◌++◌, replica
 use Rattle.std.specs.declared.cmp.Ordering.TheVariants.{Greater}
 use Rattle.icu_collator_types.specs.declared.options.Strength.TheVariants.{Primary}
 use Rattle.worked_rows.specs.Asked.{by_value}
-use Rattle.worked_rows.specs.Letters.{letters, with_digits}
+use Rattle.worked_rows.specs.Letters.{with_digits}
 use Rattle.key_rows.specs.Keys.{key, hex, bytes_order}
 use Rattle.key_rows.proofs.Computing.{computing}
 
 -- the key of a text at Primary, with numbers by value
 abbrev number_key : List ℕ → List ℕ
-number_key text = key (with_digits letters) (by_value Primary) text
+number_key text = key with_digits (by_value Primary) text
 
 pub key_of_0 : number_key (codes "0") ≡ hex (codes "1002")
 unfolding computing

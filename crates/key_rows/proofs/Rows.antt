@@ -1,11 +1,11 @@
 -- Keys of short texts, level by level.
-use Rattle.std.specs.Prelude.{◌≡◌, ℕ, true, List, [], ◌∷◌, ◌++◌, replicate, refl, codes}
+use Rattle.std.specs.Prelude.{◌≡◌, ℕ, List, [], ◌∷◌, ◌++◌, replicate, refl, codes}
 use Rattle.std.specs.List.{flat_map}
 use Rattle.std.specs.declared.cmp.Ordering.TheVariants.{Less}
 use Rattle.icu_normalizer_core.specs.Decoding.{utf8_chars}
 use Rattle.icu_collator_types.specs.declared.options.Strength.TheVariants.{Primary, Secondary, Tertiary, Quaternary, Identical}
-use Rattle.worked_rows.specs.Asked.{at_strength, shifted_at, accents_then_upper_first}
-use Rattle.worked_rows.specs.Letters.{letters, with_upper_a, with_punctuation, with_ideographs, with_e_behind_abc, with_two_prefixes}
+use Rattle.worked_rows.specs.Asked.{at_strength, by_value, shifted_at, accents_then_upper_first}
+use Rattle.worked_rows.specs.Letters.{letters, with_upper_a, with_digits, with_punctuation, with_ideographs, with_e_behind_abc, with_two_prefixes}
 use Rattle.key_rows.specs.Keys.{key, hex, last_bytes, bytes_order}
 use Rattle.key_rows.proofs.Computing.{computing}
 
@@ -89,7 +89,7 @@ unfolding computing
 fourteen_lower_cases = refl
 
 -- Under backward too the secondary level of nothing is its end alone.
-pub key_of_nothing_backward : key (record letters { backward = true }) (at_strength Secondary) [] ≡ hex (codes "0101")
+pub key_of_nothing_backward : key (letters ++ codes "set backward on" ∷ []) (at_strength Secondary) [] ≡ hex (codes "0101")
 unfolding computing
 key_of_nothing_backward = refl
 
@@ -143,3 +143,49 @@ pub key_behind_the_shorter_prefix :
     ≡ hex (codes "2a202a302a70")
 unfolding computing
 key_behind_the_shorter_prefix = refl
+
+-- A compressible lead that the file sets is left out behind the same lead.
+pub key_under_a_compressible_lead :
+    key (letters ++ codes "set compress 2A" ∷ []) (at_strength Primary) (codes "ab")
+    ≡ hex (codes "2a1020")
+unfolding computing
+key_under_a_compressible_lead = refl
+
+-- A higher lead ends such a run with FF, the end of the text with nothing.
+pub key_across_two_leads :
+    key (letters ++ codes "set compress 2A" ∷ []) (at_strength Primary) (codes "abtab")
+    ≡ hex (codes "2a1020ff2b402a1020")
+unfolding computing
+key_across_two_leads = refl
+
+-- Each lead that a line lists is compressible.
+pub key_under_two_compressible_leads :
+    key (letters ++ codes "set compress 2A 2B" ∷ codes "w 0073 ; [2B100000.0500.0.0500.0]" ∷ []) (at_strength Primary) (codes "abst")
+    ≡ hex (codes "2a1020ff2b1040")
+unfolding computing
+key_under_two_compressible_leads = refl
+
+pub key_without_a_compressible_lead : key letters (at_strength Primary) (codes "ab") ≡ hex (codes "2a102a20")
+unfolding computing
+key_without_a_compressible_lead = refl
+
+-- Leads that change places do so in keys.
+pub key_reordered :
+    key (letters ++ codes "set reorder 2A 2B 2B 2A" ∷ []) (at_strength Primary) (codes "at")
+    ≡ hex (codes "2b102a40")
+unfolding computing
+key_reordered = refl
+
+-- A number by value under the lead that the file sets.
+pub key_of_a_number_under_another_lead :
+    key (with_digits ++ codes "set numeric 12" ∷ []) (by_value Primary) (codes "10233")
+    ≡ hex (codes "1273ff")
+unfolding computing
+key_of_a_number_under_another_lead = refl
+
+-- A weight of the tailoring takes the place of the root's.
+pub key_of_a_moved_letter :
+    key (letters ++ codes "t 0061 ; [2A600000.0500.0.0500.0]" ∷ []) (at_strength Primary) (codes "ab")
+    ≡ hex (codes "2a602a20")
+unfolding computing
+key_of_a_moved_letter = refl

@@ -1,15 +1,15 @@
--- The keys that a collator over a table makes, and bytes as they are printed.
+-- The keys that a collator over a records file makes, and bytes as they are printed.
 use Rattle.std.specs.Prelude.{ℕ, ◌+◌, ◌-◌, ◌*◌, cond, ltb, List, [], ◌∷◌, length, drop}
 use Rattle.std.specs.Ordering.{nat_cmp}
 use Rattle.std.specs.Cmp.Lexicographic.{slice_cmp}
 use Rattle.std.specs.declared.cmp.Ordering.{Ordering}
 use Rattle.icu_collator.specs.KeyBytes.{key_of_text}
-use Rattle.worked_rows.specs.Tables.{Table, collation_of}
+use Rattle.worked_rows.specs.Files.{Lines, meant}
 use Rattle.worked_rows.specs.Asked.{Asked, options_of}
 
 -- the key of a text, given as characters
-abbrev pub key : Table → Asked → List ℕ → List ℕ
-key table asked text = key_of_text (collation_of table) (options_of table asked) text
+abbrev pub key : Lines → Asked → List ℕ → List ℕ
+key lines asked text = key_of_text (meant lines) (options_of lines asked) text
 
 -- the value of a digit of hexadecimal, in lower case
 abbrev pub hex_digit : ℕ → ℕ

@@ -1,14 +1,14 @@
 -- Accents compared from the end of a text.
-use Rattle.std.specs.Prelude.{◌≡◌, true, refl, codes}
+use Rattle.std.specs.Prelude.{◌≡◌, [], ◌∷◌, ◌++◌, refl, codes}
 use Rattle.std.specs.declared.cmp.Ordering.TheVariants.{Less, Greater}
 use Rattle.icu_collator_types.specs.declared.options.Strength.TheVariants.{Secondary, Tertiary}
-use Rattle.worked_rows.specs.Tables.{Table}
+use Rattle.worked_rows.specs.Files.{Lines}
 use Rattle.worked_rows.specs.Asked.{at_strength, order}
 use Rattle.worked_rows.specs.Letters.{letters}
 use Rattle.worked_rows.proofs.Computing.{computing}
 
-abbrev backward_letters : Table
-backward_letters = record letters { backward = true }
+abbrev backward_letters : Lines
+backward_letters = letters ++ codes "set backward on" ∷ []
 
 -- Read forward, the first accent decides: there is none on the "o" of the first word.
 pub cote_is_below_cote : order letters (at_strength Tertiary) (codes "coté") (codes "côte") ≡ Less

@@ -4,9 +4,9 @@ use Rattle.std.specs.declared.cmp.Ordering.TheVariants.{Less, Equal, Greater}
 use Rattle.icu_collator_types.specs.declared.options.Strength.TheVariants.{Primary, Secondary, Tertiary}
 use Rattle.icu_collator_types.specs.declared.options.CaseLevel.TheVariants.{On}
 use Rattle.icu_collator_types.specs.declared.options.CollationCaseFirst.TheVariants.{Lower, Upper}
-use Rattle.worked_rows.specs.Tables.{Table}
+use Rattle.worked_rows.specs.Files.{Lines, without}
 use Rattle.worked_rows.specs.Asked.{Asked, at_strength, accents_then_upper_first, order}
-use Rattle.worked_rows.specs.Letters.{letters, with_records, with_upper_a, text_at, text_with, accent_at, case_element, composed_of}
+use Rattle.worked_rows.specs.Letters.{letters, with_upper_a}
 use Rattle.worked_rows.proofs.Computing.{computing}
 
 -- Upper case is below lower case, in the fourteenth place too.
@@ -16,8 +16,8 @@ unfolding computing
 upper_in_fourteenth_place_is_first = refl
 
 -- "t" as a mark of upper case without a letter or an accent
-abbrev with_case_t : Table
-with_case_t = with_records (text_with (codes "t") (case_element ∷ []) ∷ []) letters
+abbrev with_case_t : Lines
+with_case_t = without (codes "w 0074 ") letters ++ codes "w 0074 ; [0.0000.2.0900.0]" ∷ []
 
 -- An element without a secondary has no place at the level of case, and its tertiary is above that of "a".
 pub a_is_below_ta :
@@ -26,11 +26,8 @@ unfolding computing
 a_is_below_ta = refl
 
 -- the same, and "B" as a "b" with the tertiary of upper case but no case
-abbrev with_case_t_and_b : Table
-with_case_t_and_b =
-    with_records
-    (text_with (codes "B") (record { primary = 0x2a200000; secondary = 0x500; case = 0; tertiary = 0x900; quaternary = 0 } ∷ []) ∷ [])
-    with_case_t
+abbrev with_case_t_and_b : Lines
+with_case_t_and_b = with_case_t ++ codes "w 0042 ; [2A200000.0500.0.0900.0]" ∷ []
 
 -- upper case first, ahead of other tertiary differences
 abbrev upper_first : Asked
@@ -47,11 +44,10 @@ unfolding computing
 ab_is_below_atb = refl
 
 -- "A", an "s", and a grave that composes with "a" and "o"
-abbrev with_graves : Table
+abbrev with_graves : Lines
 with_graves =
-    record (with_records (accent_at 0x300 0x8600 ∷ text_at (codes "s") 0x2b10 ∷ []) with_upper_a) {
-      mappings = composed_of 0xe0 0x61 0x300 ∷ composed_of 0xf2 0x6f 0x300 ∷ letters.mappings;
-    }
+    with_upper_a ++ codes "w 0300 ; [0.8600.0.0500.0]" ∷ codes "w 0073 ; [2B100000.0500.0.0500.0]"
+    ∷ codes "map 00E0 0061 0300" ∷ codes "map 00F2 006F 0300" ∷ []
 
 -- An accent counts at Secondary.
 pub as_is_below_as_grave : order with_graves (at_strength Secondary) (codes "as") (codes "às") ≡ Less

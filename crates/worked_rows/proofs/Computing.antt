@@ -9,7 +9,7 @@ use Rattle.icu_collator_core.specs.Elements.{placed_behind, at_greatest, joining
 use Rattle.icu_collator.specs.Shifted.{counted_behind}
 use Rattle.icu_collator.specs.Levels.{backward_from, levels_of}
 use Rattle.icu_collator.specs.Order.{levels_order}
-use Rattle.worked_rows.specs.Tables.{class_of, step_of, pair_of, expanded, recorded_of}
+use Rattle.collate_records.specs.Meaning.{expanded}
 use Rattle.collate_names.specs.Names.{placed_before, in_order}
 
 unfoldable pub computing : Unit {0}
@@ -20,5 +20,5 @@ unfolding pieces_from utf16_chars
     significant pairs_of without_last_zeros pair_bytes elements_of_bytes long_number number_part number_parts
     placed_behind at_greatest joining text_match text_reading number_reading is_before_accent reading elements_within
     counted_behind backward_from levels_of levels_order
-    class_of step_of pair_of expanded recorded_of placed_before in_order
+    expanded placed_before in_order
 computing = tt

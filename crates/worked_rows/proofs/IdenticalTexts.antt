@@ -1,10 +1,10 @@
 -- Texts that are canonically equivalent, and texts that only their characters set apart.
-use Rattle.std.specs.Prelude.{◌≡◌, [], ◌∷◌, refl, codes}
+use Rattle.std.specs.Prelude.{◌≡◌, [], ◌∷◌, ◌++◌, refl, codes}
 use Rattle.std.specs.declared.cmp.Ordering.TheVariants.{Less, Equal}
 use Rattle.icu_collator_types.specs.declared.options.Strength.TheVariants.{Identical}
-use Rattle.worked_rows.specs.Tables.{Table}
+use Rattle.worked_rows.specs.Files.{Lines, without}
 use Rattle.worked_rows.specs.Asked.{at_strength, order}
-use Rattle.worked_rows.specs.Letters.{letters, with_records, class_at, text_with}
+use Rattle.worked_rows.specs.Letters.{letters}
 use Rattle.worked_rows.proofs.Computing.{computing}
 
 -- An accent of its own is as good as one composed with its letter.
@@ -18,11 +18,10 @@ unfolding computing
 marks_are_equivalent = refl
 
 -- three marks without elements, of which U+0350 has the class of the acute
-abbrev with_ignored_marks : Table
+abbrev with_ignored_marks : Lines
 with_ignored_marks =
-    record (with_records (text_with (0x301 ∷ []) [] ∷ text_with (0x323 ∷ []) [] ∷ text_with (0x350 ∷ []) [] ∷ []) letters) {
-      classes = class_at 0x350 230 ∷ letters.classes;
-    }
+    without (codes "w 0301 ") (without (codes "w 0323 ") letters)
+    ++ codes "class 0350 230" ∷ codes "w 0301 ;" ∷ codes "w 0323 ;" ∷ codes "w 0350 ;" ∷ []
 
 -- The whole decomposed texts are compared, where the dot below stands first.
 pub ignored_marks_count_as_characters :

@@ -1,6 +1,7 @@
 pub mod Computing
 pub mod Contractions
-pub mod FromBytes
+pub mod LineForms
+pub mod Tailoring
 pub mod Prefixes
 pub mod Numbers
 pub mod Backward

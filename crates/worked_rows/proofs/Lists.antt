@@ -1,12 +1,12 @@
 -- Names in order, each given by its bytes.
-use Rattle.std.specs.Prelude.{◌≡◌, ℕ, List, [], ◌∷◌, refl, codes}
+use Rattle.std.specs.Prelude.{◌≡◌, ℕ, List, [], ◌∷◌, ◌++◌, refl, codes}
 use Rattle.std.specs.declared.cmp.Ordering.TheVariants.{Less}
 use Rattle.icu_collator_types.specs.declared.options.Strength.TheVariants.{Primary, Tertiary}
 use Rattle.icu_normalizer_core.specs.Decoding.{utf8_chars}
-use Rattle.worked_rows.specs.Tables.{Table}
+use Rattle.worked_rows.specs.Files.{Lines}
 use Rattle.worked_rows.specs.Asked.{at_strength, order, list_of}
 use Rattle.collate_names.specs.Names.{equal_names}
-use Rattle.worked_rows.specs.Letters.{letters, with_records, text_at}
+use Rattle.worked_rows.specs.Letters.{letters}
 use Rattle.worked_rows.proofs.Computing.{computing}
 
 -- three names as they arrive
@@ -19,8 +19,8 @@ unfolding computing
 names_letter_by_letter = refl
 
 -- "ch" as a letter behind "c"
-abbrev with_ch : Table
-with_ch = with_records (text_at (codes "ch") 0x2a40 ∷ []) letters
+abbrev with_ch : Lines
+with_ch = letters ++ codes "w 0063 0068 ; [2A400000.0500.0.0500.0]" ∷ []
 
 -- As a letter of its own it is above "cl".
 pub names_with_ch : list_of with_ch (at_strength Primary) arrived ≡ codes "ab" ∷ codes "cl" ∷ codes "ch" ∷ []

@@ -2,14 +2,9 @@
 use Rattle.std.specs.Prelude.{◌≡◌, [], ◌∷◌, refl, codes}
 use Rattle.std.specs.declared.cmp.Ordering.TheVariants.{Less, Greater}
 use Rattle.icu_collator_types.specs.declared.options.Strength.TheVariants.{Primary, Tertiary}
-use Rattle.worked_rows.specs.Tables.{Table}
 use Rattle.worked_rows.specs.Asked.{at_strength, order, list_of}
-use Rattle.worked_rows.specs.Letters.{letters, with_records, with_e_behind_abc, with_two_prefixes, behind_at}
+use Rattle.worked_rows.specs.Letters.{letters, with_c_behind_ab, with_e_behind_abc, with_two_prefixes}
 use Rattle.worked_rows.proofs.Computing.{computing}
-
--- "c" behind "ab" as a letter between "e" and "h"
-abbrev with_c_behind_ab : Table
-with_c_behind_ab = with_records (behind_at (codes "ab") 0x63 0x2a60 ∷ []) letters
 
 -- Behind "ab" the letter "c" is above "e".
 pub abc_is_above_abe : order with_c_behind_ab (at_strength Tertiary) (codes "abc") (codes "abe") ≡ Greater

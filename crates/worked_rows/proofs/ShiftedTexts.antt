@@ -1,8 +1,9 @@
 -- Spaces and punctuation that count at the quaternary level alone.
-use Rattle.std.specs.Prelude.{◌≡◌, [], ◌∷◌, Some, refl, codes}
+use Rattle.std.specs.Prelude.{◌≡◌, [], ◌∷◌, ◌++◌, Some, refl, codes}
 use Rattle.std.specs.declared.cmp.Ordering.TheVariants.{Less, Equal}
 use Rattle.icu_collator_types.specs.declared.options.Strength.TheVariants.{Tertiary, Quaternary}
 use Rattle.icu_collator_types.specs.declared.options.MaxVariable.TheVariants.{Space}
+use Rattle.worked_rows.specs.Files.{without}
 use Rattle.worked_rows.specs.Asked.{shifted_at, order}
 use Rattle.worked_rows.specs.Letters.{with_punctuation}
 use Rattle.worked_rows.proofs.Computing.{computing}
@@ -47,7 +48,7 @@ a_stop_c_is_below_ac_by_spaces = refl
 -- So does a character whose primary is where the group ends, not below it.
 pub end_of_a_group_is_outside :
     order
-    (record with_punctuation { groups = 0x304 ∷ 0x30a ∷ 0x30a ∷ 0x30a ∷ [] })
+    (without (codes "set groups ") with_punctuation ++ codes "set groups 0304 030A 030A 030A" ∷ [])
     (record (shifted_at Tertiary) { max_variable = Some Space })
     (codes "a c")
     (codes "ac")

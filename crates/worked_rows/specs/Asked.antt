@@ -1,4 +1,4 @@
--- What a caller asks of a collator over a table, and what it answers.
+-- What a caller asks of a collator over a records file, and what it answers.
 use Rattle.std.specs.Prelude.{ℕ, List, [], Option, Some, None}
 use Rattle.std.specs.declared.cmp.Ordering.{Ordering}
 use Rattle.icu_normalizer_core.specs.Decoding.{utf8_chars}
@@ -20,7 +20,7 @@ use Rattle.icu_collator_types.specs.declared.elements.Element.{Element}
 use Rattle.icu_collator_types.specs.Options.{resolved_options}
 use Rattle.icu_collator.specs.Levels.{elements_of_text}
 use Rattle.icu_collator.specs.Order.{collation_order}
-use Rattle.worked_rows.specs.Tables.{Table, collation_of}
+use Rattle.worked_rows.specs.Files.{Lines, meant}
 use Rattle.collate_names.specs.Names.{in_order}
 
 -- the options and the preferences of a caller; what is None is not asked
@@ -76,18 +76,18 @@ asked_preferences asked =
       numeric_ordering = asked.numeric;
     }
 
--- the options that a collator over the table goes by
-abbrev pub options_of : Table → Asked → ResolvedCollatorOptions
-options_of table asked = resolved_options (asked_options asked) (asked_preferences asked) table.settings
+-- the options that a collator over a file goes by
+abbrev pub options_of : Lines → Asked → ResolvedCollatorOptions
+options_of lines asked = resolved_options (asked_options asked) (asked_preferences asked) (meant lines).options
 
 -- the order of two texts, given as characters
-abbrev pub order : Table → Asked → List ℕ → List ℕ → Ordering
-order table asked a b = collation_order (collation_of table) (options_of table asked) a b
+abbrev pub order : Lines → Asked → List ℕ → List ℕ → Ordering
+order lines asked a b = collation_order (meant lines) (options_of lines asked) a b
 
 -- the elements of a text, given as characters
-abbrev pub elements : Table → Asked → List ℕ → List Element
-elements table asked text = elements_of_text (collation_of table) (options_of table asked) text
+abbrev pub elements : Lines → Asked → List ℕ → List Element
+elements lines asked text = elements_of_text (meant lines) (options_of lines asked) text
 
 -- names, given by their bytes as they arrived, in order
-abbrev pub list_of : Table → Asked → List (List ℕ) → List (List ℕ)
-list_of table asked names = in_order (λ a b. order table asked (utf8_chars a) (utf8_chars b)) names
+abbrev pub list_of : Lines → Asked → List (List ℕ) → List (List ℕ)
+list_of lines asked names = in_order (λ a b. order lines asked (utf8_chars a) (utf8_chars b)) names

@@ -1,99 +1,54 @@
--- A table of eight letters and three accents, lines to put with it, and the tables with more lines that orders and keys share.
-use Rattle.std.specs.Prelude.{ℕ, ◌*◌, ◌+◌, ◌^◌, true, List, [], ◌∷◌, ◌++◌, map, codes}
-use Rattle.icu_collator_types.specs.declared.elements.Element.{Element}
-use Rattle.icu_collator_types.specs.declared.options.MaxVariable.TheVariants.{Punctuation}
-use Rattle.icu_collator_types.specs.Options.{default_settings}
-use Rattle.icu_collator_core.specs.Defaults.{primary_element}
-use Rattle.worked_rows.specs.Tables.{Table, Recorded, Class, Mapping, empty_table}
-
--- an element without a primary: an accent
-abbrev pub accent_element : ℕ → Element
-accent_element s = record { primary = 0; secondary = s; case = 0; tertiary = 0x500; quaternary = 0 }
-
--- an element of a letter in upper case
-abbrev pub upper_element : ℕ → Element
-upper_element p = record { primary = p; secondary = 0x500; case = 2; tertiary = 0x900; quaternary = 0 }
-
--- an element of an upper case alone
-abbrev pub case_element : Element
-case_element = record { primary = 0; secondary = 0; case = 2; tertiary = 0x900; quaternary = 0 }
-
--- a line that gives a text elements
-abbrev pub text_with : List ℕ → List Element → Recorded
-text_with text elements = record { prefix = []; text = text; elements = elements }
-
--- a line that gives a text a primary with this upper half
-abbrev pub text_at : List ℕ → ℕ → Recorded
-text_at text p = text_with text (primary_element (p * 2 ^ 16) ∷ [])
-
--- a line that gives a character a primary with this upper half behind a prefix
-abbrev pub behind_at : List ℕ → ℕ → ℕ → Recorded
-behind_at prefix c p = record { prefix = prefix; text = c ∷ []; elements = primary_element (p * 2 ^ 16) ∷ [] }
-
--- a line that gives an accent a secondary
-abbrev pub accent_at : ℕ → ℕ → Recorded
-accent_at c s = text_with (c ∷ []) (accent_element s ∷ [])
-
-abbrev pub class_at : ℕ → ℕ → Class
-class_at c k = record { character = c; class = k }
-
--- a line by which a character is composed of two
-abbrev pub composed_of : ℕ → ℕ → ℕ → Mapping
-composed_of c first second = record { character = c; mapping = first ∷ second ∷ []; is_composed = true }
+-- A file of eight letters and three accents, and the files with more lines that orders and keys share.
+use Rattle.std.specs.Prelude.{[], ◌∷◌, ◌++◌, codes}
+use Rattle.worked_rows.specs.Files.{Lines}
 
 -- the letters a, b, c, e, h, l, o and t, with an acute, a circumflex and a dot below
-abbrev pub letters : Table
+abbrev pub letters : Lines
 letters =
-    record empty_table {
-      classes = class_at 0x302 230 ∷ class_at 0x323 220 ∷ [];
-      mappings = composed_of 0xe1 0x61 0x301 ∷ composed_of 0x1ea1 0x61 0x323 ∷ [];
-      records =
-          text_at (0x61 ∷ []) 0x2a10 ∷ text_at (0x62 ∷ []) 0x2a20 ∷ text_at (0x63 ∷ []) 0x2a30
-          ∷ text_at (0x65 ∷ []) 0x2a50 ∷ text_at (0x68 ∷ []) 0x2a80 ∷ text_at (0x6c ∷ []) 0x2ac0
-          ∷ text_at (0x6f ∷ []) 0x2af0 ∷ text_at (0x74 ∷ []) 0x2b40
-          ∷ accent_at 0x301 0x8800 ∷ accent_at 0x302 0x8a00 ∷ accent_at 0x323 0x8c00 ∷ [];
-    }
-
--- A table with these records too. They stand in front, so each counts before one for the same text.
-abbrev pub with_records : List Recorded → Table → Table
-with_records records table = record table { records = records ++ table.records }
+    codes "class 0302 230" ∷ codes "class 0323 220" ∷ codes "map 00E1 0061 0301" ∷ codes "map 1EA1 0061 0323"
+    ∷ codes "w 0061 ; [2A100000.0500.0.0500.0]" ∷ codes "w 0062 ; [2A200000.0500.0.0500.0]"
+    ∷ codes "w 0063 ; [2A300000.0500.0.0500.0]" ∷ codes "w 0065 ; [2A500000.0500.0.0500.0]"
+    ∷ codes "w 0068 ; [2A800000.0500.0.0500.0]" ∷ codes "w 006C ; [2AC00000.0500.0.0500.0]"
+    ∷ codes "w 006F ; [2AF00000.0500.0.0500.0]" ∷ codes "w 0074 ; [2B400000.0500.0.0500.0]"
+    ∷ codes "w 0301 ; [0.8800.0.0500.0]" ∷ codes "w 0302 ; [0.8A00.0.0500.0]" ∷ codes "w 0323 ; [0.8C00.0.0500.0]" ∷ []
 
 -- "A" as an "a" in upper case
-abbrev pub upper_a : Recorded
-upper_a = text_with (0x41 ∷ []) (upper_element 0x2a100000 ∷ [])
+abbrev pub with_upper_a : Lines
+with_upper_a = letters ++ codes "w 0041 ; [2A100000.0500.2.0900.0]" ∷ []
 
--- a table with a space and a full stop too, each the last of a variable group
-abbrev pub with_stops : Table → Table
-with_stops table =
-    record (with_records (text_at (0x20 ∷ []) 0x304 ∷ text_at (0x2e ∷ []) 0x308 ∷ []) table) {
-      groups = 0x306 ∷ 0x30a ∷ 0x30a ∷ 0x30a ∷ [];
-    }
-
--- a table with the ten digits too, which by themselves are letters at 1110 to 1119
-abbrev pub with_digits : Table → Table
-with_digits table =
-    let values = 0 ∷ 1 ∷ 2 ∷ 3 ∷ 4 ∷ 5 ∷ 6 ∷ 7 ∷ 8 ∷ 9 ∷ []
-    in record table {
-      digits = map (λ v. record { character = 0x30 + v; value = v }) values;
-      records = map (λ v. text_at ((0x30 + v) ∷ []) (0x1110 + v)) values ++ table.records;
-    }
-
--- "A" as an "a" in upper case
-abbrev pub with_upper_a : Table
-with_upper_a = with_records (upper_a ∷ []) letters
+-- a space and a full stop, each the last of a variable group
+abbrev pub with_stops : Lines
+with_stops =
+    letters ++ codes "w 0020 ; [03040000.0500.0.0500.0]" ∷ codes "w 002E ; [03080000.0500.0.0500.0]"
+    ∷ codes "set groups 0306 030A 030A 030A" ∷ []
 
 -- a space and a full stop, which the file's last variable group holds
-abbrev pub with_punctuation : Table
-with_punctuation = record (with_stops letters) { settings = record default_settings { max_variable = Punctuation } }
+abbrev pub with_punctuation : Lines
+with_punctuation = with_stops ++ codes "set maxvariable punctuation" ∷ []
+
+-- the ten digits, which by themselves are letters at 1110 to 1119
+abbrev pub with_digits : Lines
+with_digits =
+    letters ++ codes "digit 0030 0" ∷ codes "digit 0031 1" ∷ codes "digit 0032 2" ∷ codes "digit 0033 3" ∷ codes "digit 0034 4"
+    ∷ codes "digit 0035 5" ∷ codes "digit 0036 6" ∷ codes "digit 0037 7" ∷ codes "digit 0038 8" ∷ codes "digit 0039 9"
+    ∷ codes "w 0030 ; [11100000.0500.0.0500.0]" ∷ codes "w 0031 ; [11110000.0500.0.0500.0]"
+    ∷ codes "w 0032 ; [11120000.0500.0.0500.0]" ∷ codes "w 0033 ; [11130000.0500.0.0500.0]"
+    ∷ codes "w 0034 ; [11140000.0500.0.0500.0]" ∷ codes "w 0035 ; [11150000.0500.0.0500.0]"
+    ∷ codes "w 0036 ; [11160000.0500.0.0500.0]" ∷ codes "w 0037 ; [11170000.0500.0.0500.0]"
+    ∷ codes "w 0038 ; [11180000.0500.0.0500.0]" ∷ codes "w 0039 ; [11190000.0500.0.0500.0]" ∷ []
 
 -- a range of ideographs
-abbrev pub with_ideographs : Table
-with_ideographs = record letters { ranges = record { first = 0x4e00; last = 0x9fff; primary = 0xe0020200; step = 1 } ∷ [] }
+abbrev pub with_ideographs : Lines
+with_ideographs = letters ++ codes "range 4E00 9FFF E0020200 1" ∷ []
+
+-- "c" behind "ab" as a letter between "e" and "h"
+abbrev pub with_c_behind_ab : Lines
+with_c_behind_ab = letters ++ codes "w 0061 0062 | 0063 ; [2A600000.0500.0.0500.0]" ∷ []
 
 -- "e" behind "abc" as a letter between "h" and "l"
-abbrev pub with_e_behind_abc : Table
-with_e_behind_abc = with_records (behind_at (codes "abc") 0x65 0x2aa0 ∷ []) letters
+abbrev pub with_e_behind_abc : Lines
+with_e_behind_abc = letters ++ codes "w 0061 0062 0063 | 0065 ; [2AA00000.0500.0.0500.0]" ∷ []
 
 -- besides, "e" behind "c" alone as a letter between "e" and "h"
-abbrev pub with_two_prefixes : Table
-with_two_prefixes = with_records (behind_at (codes "c") 0x65 0x2a70 ∷ []) with_e_behind_abc
+abbrev pub with_two_prefixes : Lines
+with_two_prefixes = with_e_behind_abc ++ codes "w 0063 | 0065 ; [2A700000.0500.0.0500.0]" ∷ []

@@ -1,4 +1,3 @@
-pub mod Tables
+pub mod Files
 pub mod Asked
 pub mod Letters
-pub mod Files
