@@ -1,5 +1,7 @@
 pub mod DecodedLemmas
 pub mod DecodingComputing
 mod DecodingRows
+pub mod PairLemmas
 pub mod TextLemmas
+pub mod TripleLemmas
 pub mod Utf16Lemmas

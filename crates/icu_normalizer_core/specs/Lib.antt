@@ -1,4 +1,9 @@
 pub mod BuiltIn
 pub mod Canonical
+pub mod CanonicalFaults
+pub mod CanonicalLists
+pub mod CanonicalMeaning
+pub mod CanonicalWords
 pub mod Decoding
 pub mod Properties
+pub mod Triples

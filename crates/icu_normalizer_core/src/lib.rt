@@ -3,5 +3,6 @@
 #![tactic(auto)]
 
 pub mod built_in;
+pub mod canonical;
 pub mod decoding;
 pub mod properties;

@@ -1,0 +1,13 @@
+//! Canonical data in packed tables: classes, mappings, full lists and composed pairs of all characters.
+
+mod borrowed;
+mod data;
+mod pairs;
+mod search;
+mod steps;
+mod tables;
+mod words;
+
+pub use borrowed::CanonicalBorrowed;
+pub use data::CanonicalData;
+pub use tables::{CanonicalFault, CanonicalTables};
