@@ -1,9 +1,7 @@
--- What packed tables, and data that were checked, mean.
-use Rattle.std.specs.Prelude.{ℕ, List}
+-- What packed tables mean.
 use Rattle.std.specs.Option.{unwrap_or}
 use Rattle.icu_codepointtrie.specs.Places.{value_at, has_cell}
 use Rattle.icu_normalizer_core.specs.declared.canonical.tables.CanonicalTables.{CanonicalTables}
-use Rattle.icu_normalizer_core.specs.declared.canonical.borrowed.CanonicalBorrowed.{CanonicalBorrowed}
 use Rattle.icu_normalizer_core.specs.Canonical.{Canonical}
 use Rattle.icu_normalizer_core.specs.CanonicalWords.{plain_word}
 use Rattle.icu_normalizer_core.specs.CanonicalLists.{CanonicalLists, canonical_of}
@@ -22,7 +20,3 @@ lists_of tables = record {
 -- what tables mean
 abbrev pub meaning : CanonicalTables → Canonical
 meaning tables = canonical_of (lists_of tables)
-
--- what borrowed data mean
-abbrev pub borrowed_meaning : CanonicalBorrowed → Canonical
-borrowed_meaning borrowed = meaning borrowed.checked.now

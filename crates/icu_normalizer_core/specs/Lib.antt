@@ -1,3 +1,4 @@
+pub mod BorrowedMeaning
 pub mod BuiltIn
 pub mod Canonical
 pub mod CanonicalFaults

@@ -2,7 +2,7 @@
 
 ghost use Rattle.std.specs.Prelude.{◌≡◌, ◌↔◌, IsTrue};
 ghost use Rattle.icu_normalizer_core.specs.Canonical.{is_starter};
-ghost use Rattle.icu_normalizer_core.specs.CanonicalMeaning.{borrowed_meaning};
+ghost use Rattle.icu_normalizer_core.specs.BorrowedMeaning.{borrowed_meaning};
 ghost use Rattle.icu_normalizer_core.specs.Properties.{mapped_to};
 
 use super::data::CanonicalData;

@@ -1,6 +1,7 @@
 //! Canonical data: tables that were checked.
 
 ghost use Rattle.std.specs.Prelude.{◌≡◌};
+ghost use Rattle.icu_normalizer_core.specs.BorrowedMeaning.{borrowed_tables};
 
 use super::borrowed::CanonicalBorrowed;
 use super::tables::CanonicalTables;
@@ -27,7 +28,7 @@ impl<'a> Model for CanonicalData<'a> {
 impl<'a> CanonicalData<'a> {
     /// The data, borrowed.
     pub fn as_borrowed(&self) -> CanonicalBorrowed<'_>
-        ensures { result.checked.now ≡ self.now }
+        ensures { borrowed_tables result ≡ self.now }
     {
         CanonicalBorrowed { checked: self }
     }
