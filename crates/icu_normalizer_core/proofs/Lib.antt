@@ -1,7 +1,9 @@
+pub mod AcceptedForms
 pub mod DecodedLemmas
 pub mod DecodingComputing
 mod DecodingRows
 pub mod PairLemmas
+pub mod TableMeanings
 pub mod TextLemmas
 pub mod TripleLemmas
 pub mod Utf16Lemmas

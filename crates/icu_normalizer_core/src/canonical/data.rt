@@ -2,6 +2,8 @@
 
 ghost use Rattle.std.specs.Prelude.{◌≡◌};
 ghost use Rattle.icu_normalizer_core.specs.BorrowedMeaning.{borrowed_tables};
+ghost use Rattle.icu_normalizer_core.specs.CanonicalFaults.{IsAccepted};
+ghost use Rattle.icu_normalizer_core.specs.CanonicalMeaning.{lists_of};
 
 use super::borrowed::CanonicalBorrowed;
 use super::tables::CanonicalTables;
@@ -36,7 +38,8 @@ impl<'a> CanonicalData<'a> {
     /// The tables.
     #[inline]
     pub(super) fn tables(&self) -> &CanonicalTables<'a>
-        ensures { result.now ≡ self.now }
+        ensures same { result.now ≡ self.now }
+        ensures accepted { IsAccepted (lists_of result.now) }
     {
         &self.tables
     }
