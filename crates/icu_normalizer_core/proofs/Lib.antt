@@ -1,7 +1,9 @@
 pub mod AcceptedForms
+pub mod BuiltInFacts
 pub mod DecodedLemmas
 pub mod DecodingComputing
 mod DecodingRows
+pub mod LeftLemmas
 pub mod PairLemmas
 pub mod TableMeanings
 pub mod TextLemmas

@@ -48,8 +48,16 @@ OffendsList lists c = ((c ≡ 0) × (AreTriples lists.steps → ⊥)) ⊎ (IsFre
 
 -- ---- Loop: steps don't end
 
+-- the steps from the character end
+abbrev pub Ends : CanonicalLists → ℕ → Type 0
+Ends lists c = (list : List ℕ) × LeavesOf lists c list
+
 abbrev pub OffendsLoop : CanonicalLists → ℕ → Type 0
-OffendsLoop lists c = (list : List ℕ) → LeavesOf lists c list → ⊥
+OffendsLoop lists c = Ends lists c → ⊥
+
+-- the steps from each character end
+abbrev pub AllEnd : CanonicalLists → Type 0
+AllEnd lists = (c : ℕ) → IsScalar c → Ends lists c
 
 -- ---- BuiltIn: what is built in is contradicted
 
@@ -100,7 +108,7 @@ OffendsPair lists c =
 pub record IsAccepted (lists : CanonicalLists) : Type 0 where
   pub values : IsNone (OffendsValue lists)
   pub full_lists : IsNone (OffendsList lists)
-  pub no_loops : IsNone (OffendsLoop lists)
+  pub ends : AllEnd lists
   pub built_ins : IsNone (OffendsBuiltIn lists)
   pub composing : IsNone (OffendsPair lists)
 
@@ -109,7 +117,7 @@ IsFirstFault lists (BadValue c) = IsLeast (OffendsValue lists) c
 IsFirstFault lists (BadList c) = IsNone (OffendsValue lists) × IsLeast (OffendsList lists) c
 IsFirstFault lists (Loop c) = IsNone (OffendsValue lists) × IsNone (OffendsList lists) × IsLeast (OffendsLoop lists) c
 IsFirstFault lists (BuiltIn c) =
-    IsNone (OffendsValue lists) × IsNone (OffendsList lists) × IsNone (OffendsLoop lists) × IsLeast (OffendsBuiltIn lists) c
+    IsNone (OffendsValue lists) × IsNone (OffendsList lists) × AllEnd lists × IsLeast (OffendsBuiltIn lists) c
 IsFirstFault lists (BadPair c) =
-    IsNone (OffendsValue lists) × IsNone (OffendsList lists) × IsNone (OffendsLoop lists) × IsNone (OffendsBuiltIn lists)
+    IsNone (OffendsValue lists) × IsNone (OffendsList lists) × AllEnd lists × IsNone (OffendsBuiltIn lists)
     × IsLeast (OffendsPair lists) c
