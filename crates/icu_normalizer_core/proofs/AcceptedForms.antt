@@ -7,13 +7,13 @@ use Rattle.icu_normalizer_core.specs.CanonicalLists.{CanonicalLists, AreTriples,
 use Rattle.icu_normalizer_core.specs.CanonicalFaults.{IsAccepted}
 
 -- each fact is one that a test tells, so it holds where it can't fail
-lt_stands : (a b : ℕ) → ((a < b → ⊥) → ⊥) → a < b
+pub lt_stands : (a b : ℕ) → ((a < b → ⊥) → ⊥) → a < b
 lt_stands a b h = ⊎_elim (λ lt. lt) (λ ge. absurd (h (λ lt. omega arith))) (cases_lt a b)
 
-eq_stands : (a b : ℕ) → ((a ≡ b → ⊥) → ⊥) → a ≡ b
+pub eq_stands : (a b : ℕ) → ((a ≡ b → ⊥) → ⊥) → a ≡ b
 eq_stands a b h = ⊎_elim (λ eq. eq) (λ ne. absurd (h ne)) (cases_eq a b)
 
-scalar_stands : (c : ℕ) → ((IsScalar c → ⊥) → ⊥) → IsScalar c
+pub scalar_stands : (c : ℕ) → ((IsScalar c → ⊥) → ⊥) → IsScalar c
 scalar_stands c h = ⊎_elim (λ yes. yes) (λ no. absurd (h (λ yes. absurd (false≢true (let e : false ≡ true = cc in e))))) (cases_Bool (scalar c))
 
 triples_stand : (steps : List ℕ) → ((AreTriples steps → ⊥) → ⊥) → AreTriples steps

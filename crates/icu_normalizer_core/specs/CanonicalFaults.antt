@@ -1,5 +1,5 @@
 -- What canonical tables are refused for. Each fault names the least character of its kind, and a kind comes only where no earlier one does.
-use Rattle.std.specs.Prelude.{◌≡◌, ◌≢◌, ℕ, ◌<◌, ◌⊎◌, Bool, true, false, not, ◌&&◌, ◌||◌, ◌==◌, List, [], ◌∷◌, length, slice_index, Contains, Some, None}
+use Rattle.std.specs.Prelude.{◌≡◌, ◌≢◌, ℕ, ◌<◌, ◌⊎◌, Bool, true, false, not, ◌&&◌, ◌||◌, ◌==◌, List, [], ◌∷◌, length, slice_index, SomeIndex, Contains, Some, None}
 use Rattle.std.specs.Char.{IsScalar}
 use Rattle.icu_normalizer_core.specs.declared.canonical.tables.CanonicalFault.{CanonicalFault}
 use Rattle.icu_normalizer_core.specs.declared.canonical.tables.CanonicalFault.TheVariants.{BadValue, BadList, Loop, BuiltIn, BadPair}
@@ -9,12 +9,12 @@ use Rattle.icu_normalizer_core.specs.CanonicalWords.{is_word, is_inside, states_
 use Rattle.icu_normalizer_core.specs.CanonicalLists.{CanonicalLists, canonical_of, listed_step, AreTriples, ArePairs, pair_first, pair_second, pair_composed}
 
 -- no character offends
-abbrev pub IsNone : (ℕ → Type 0) → Type 0
-IsNone Offends = (c : ℕ) → IsScalar c → Offends c → ⊥
+abbrev pub NoneOffends : (ℕ → Type 0) → Type 0
+NoneOffends Offends = (c : ℕ) → IsScalar c → Offends c → ⊥
 
 -- the character offends, and none below it
-abbrev pub IsLeast : (ℕ → Type 0) → ℕ → Type 0
-IsLeast Offends c = IsScalar c × Offends c × ((d : ℕ) → IsScalar d → d < c → Offends d → ⊥)
+abbrev pub IsLeastOffender : (ℕ → Type 0) → ℕ → Type 0
+IsLeastOffender Offends c = IsScalar c × Offends c × ((d : ℕ) → IsScalar d → d < c → Offends d → ⊥)
 
 -- what mapping steps leave of the character, where they end
 abbrev pub LeavesOf : CanonicalLists → ℕ → List ℕ → Type 0
@@ -100,24 +100,24 @@ IsBadPair lists pair =
 abbrev pub OffendsPair : CanonicalLists → ℕ → Type 0
 OffendsPair lists c =
     ((c ≡ 0) × (ArePairs lists.pairs → ⊥))
-    ⊎ (((pair : ℕ) × Contains lists.pairs pair × (pair_composed pair ≡ c) × IsBadPair lists pair)
+    ⊎ (SomeIndex lists.pairs (λ i. (pair_composed (slice_index lists.pairs i) ≡ c) × IsBadPair lists (slice_index lists.pairs i))
     ⊎ ((c < 0x300) × (composed (canonical_of lists) (c ∷ []) ≢ c ∷ [])))
 
 -- ---- Accepted, or refused by the first fault
 
 pub record IsAccepted (lists : CanonicalLists) : Type 0 where
-  pub values : IsNone (OffendsValue lists)
-  pub full_lists : IsNone (OffendsList lists)
+  pub values : NoneOffends (OffendsValue lists)
+  pub full_lists : NoneOffends (OffendsList lists)
   pub ends : AllEnd lists
-  pub built_ins : IsNone (OffendsBuiltIn lists)
-  pub composing : IsNone (OffendsPair lists)
+  pub built_ins : NoneOffends (OffendsBuiltIn lists)
+  pub composing : NoneOffends (OffendsPair lists)
 
 abbrev pub IsFirstFault : CanonicalLists → CanonicalFault → Type 0
-IsFirstFault lists (BadValue c) = IsLeast (OffendsValue lists) c
-IsFirstFault lists (BadList c) = IsNone (OffendsValue lists) × IsLeast (OffendsList lists) c
-IsFirstFault lists (Loop c) = IsNone (OffendsValue lists) × IsNone (OffendsList lists) × IsLeast (OffendsLoop lists) c
+IsFirstFault lists (BadValue c) = IsLeastOffender (OffendsValue lists) c
+IsFirstFault lists (BadList c) = NoneOffends (OffendsValue lists) × IsLeastOffender (OffendsList lists) c
+IsFirstFault lists (Loop c) = NoneOffends (OffendsValue lists) × NoneOffends (OffendsList lists) × IsLeastOffender (OffendsLoop lists) c
 IsFirstFault lists (BuiltIn c) =
-    IsNone (OffendsValue lists) × IsNone (OffendsList lists) × AllEnd lists × IsLeast (OffendsBuiltIn lists) c
+    NoneOffends (OffendsValue lists) × NoneOffends (OffendsList lists) × AllEnd lists × IsLeastOffender (OffendsBuiltIn lists) c
 IsFirstFault lists (BadPair c) =
-    IsNone (OffendsValue lists) × IsNone (OffendsList lists) × AllEnd lists × IsNone (OffendsBuiltIn lists)
-    × IsLeast (OffendsPair lists) c
+    NoneOffends (OffendsValue lists) × NoneOffends (OffendsList lists) × AllEnd lists × NoneOffends (OffendsBuiltIn lists)
+    × IsLeastOffender (OffendsPair lists) c
