@@ -89,7 +89,7 @@ listed_scalars (k ∷ a ∷ b ∷ rest) c t =
 free_letter : (c : ℕ) → built_in_step c ≡ None → is_syllable c ≡ false
 free_letter c free = ⊎_elim (λ t. absurd (none-some _ (sym free ∙ syllable_mapped c t))) (λ f. f) (cases_Bool (is_syllable c))
 
-free_single : (c : ℕ) → built_in_step c ≡ None → singled_out c ≡ None
+pub free_single : (c : ℕ) → built_in_step c ≡ None → singled_out c ≡ None
 free_single c free = ⊎_elim (λ none. none) (λ some. absurd (none-some some.0 (sym free ∙ singled_mapped c some.0 some.1))) (cases_step (singled_out c))
 
 -- the word of a character without a built-in mapping states a list, or the character is its own full list

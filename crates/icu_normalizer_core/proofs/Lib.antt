@@ -1,4 +1,5 @@
 pub mod AcceptedForms
+pub mod AcceptedPairs
 pub mod AcceptedTables
 pub mod BuiltInFacts
 pub mod DecodedLemmas

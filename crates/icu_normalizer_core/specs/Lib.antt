@@ -6,5 +6,6 @@ pub mod CanonicalLists
 pub mod CanonicalMeaning
 pub mod CanonicalWords
 pub mod Decoding
+pub mod FullLists
 pub mod Properties
 pub mod Triples

@@ -2,6 +2,7 @@
 
 mod borrowed;
 mod data;
+mod full_list;
 mod pairs;
 mod search;
 mod steps;
@@ -10,4 +11,5 @@ mod words;
 
 pub use borrowed::CanonicalBorrowed;
 pub use data::CanonicalData;
+pub use full_list::FullList;
 pub use tables::{CanonicalFault, CanonicalTables};

@@ -5,4 +5,5 @@
 pub mod built_in;
 pub mod canonical;
 pub mod decoding;
+pub mod laws;
 pub mod properties;

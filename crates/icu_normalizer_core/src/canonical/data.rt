@@ -1,7 +1,8 @@
 //! Canonical data: tables that were checked.
 
 ghost use Rattle.std.specs.Prelude.{◌≡◌};
-ghost use Rattle.icu_normalizer_core.specs.BorrowedMeaning.{borrowed_tables};
+ghost use Rattle.icu_normalizer_core.specs.BorrowedMeaning.{borrowed_tables, borrowed_meaning};
+ghost use Rattle.icu_normalizer_core.specs.Canonical.{IsCanonical};
 ghost use Rattle.icu_normalizer_core.specs.CanonicalFaults.{IsAccepted};
 ghost use Rattle.icu_normalizer_core.specs.CanonicalMeaning.{lists_of};
 
@@ -30,8 +31,10 @@ impl<'a> Model for CanonicalData<'a> {
 impl<'a> CanonicalData<'a> {
     /// The data, borrowed.
     pub fn as_borrowed(&self) -> CanonicalBorrowed<'_>
-        ensures { borrowed_tables result ≡ self.now }
+        ensures same { borrowed_tables result ≡ self.now }
+        ensures canonical { IsCanonical (borrowed_meaning result) }
     {
+        let _tables = self.tables();
         CanonicalBorrowed { checked: self }
     }
 
