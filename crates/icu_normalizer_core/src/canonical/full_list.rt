@@ -1,9 +1,9 @@
 //! Full lists, read where they stand.
 
-ghost use Rattle.std.specs.Prelude.{◌≡◌, ℕ, ◌-◌, ◌<◌, length, slice_index, All, ◌∷◌};
+ghost use Rattle.std.specs.Prelude.{◌≡◌, ◌-◌, ◌<◌, ◌≤◌, true, length, take, slice_index, All};
 ghost use Rattle.std.specs.Char.{IsScalar};
 ghost use Rattle.std.specs.Iterator.{YieldsFirst, item_count};
-ghost use Rattle.icu_normalizer_core.specs.CanonicalWords.{items_at};
+ghost use Rattle.icu_normalizer_core.specs.CanonicalWords.{items_at, is_list_word, list_at};
 ghost use Rattle.icu_normalizer_core.specs.FullLists.{source_items, IsPart};
 
 use super::tables::CanonicalTables;
@@ -60,7 +60,7 @@ fn character_at(tables: &CanonicalTables<'_>, source: Source, place: usize) -> c
 impl<'d> FullList<'d> {
     /// The characters from one place to before another.
     #[inline]
-    pub(super) fn new(
+    fn new(
         tables: &'d CanonicalTables<'d>,
         source: Source,
         next: usize,
@@ -75,6 +75,46 @@ impl<'d> FullList<'d> {
             next,
             end,
         }
+    }
+}
+
+/// So many characters from a place on, as many as there are.
+#[inline]
+fn part<'d>(tables: &'d CanonicalTables<'d>, source: Source, items: usize, place: usize, count: usize) -> FullList<'d>
+    requires items { items ≡ length (source_items tables.now source) }
+    requires scalars { All IsScalar (items_at (source_items tables.now source) place count) }
+    ensures { result ≡ items_at (source_items tables.now source) place count }
+{
+    let next = place.min(items);
+    let end = next + count.min(items - next);
+    FullList::new(tables, source, next, end)
+}
+
+/// The first of three characters, so many.
+#[inline]
+fn few<'d>(tables: &'d CanonicalTables<'d>, characters: [char; 3], count: usize) -> FullList<'d>
+    requires count { count ≤ 3 }
+    requires scalars { All IsScalar (take count characters) }
+    ensures { result ≡ take count characters }
+{
+    FullList::new(tables, Source::Few(characters), 0, count)
+}
+
+/// The list that a word names a place of.
+#[tactic(auto, unfolding(crate::specs::CanonicalWords::list_at))]
+fn listed<'d>(tables: &'d CanonicalTables<'d>, word: u32) -> FullList<'d>
+    requires word { is_list_word word ≡ true }
+    requires scalars { All IsScalar (list_at tables.now.scalars16 tables.now.scalars24 word) }
+    ensures { result ≡ list_at tables.now.scalars16 tables.now.scalars24 word }
+{
+    let offset = (word / 0x1_0000) as usize - 1;
+    let count = (word % 16) as usize;
+    let in_16 = tables.scalars16.len();
+    if offset < in_16 {
+        part(tables, Source::In16, in_16, offset, count + 2)
+    } else {
+        let in_24 = tables.scalars24.len();
+        part(tables, Source::In24, in_24, offset - in_16, count + 1)
     }
 }
 
