@@ -15,7 +15,7 @@ use Rattle.icu_normalizer_core.specs.CanonicalLists.{CanonicalLists, AreTriples,
 use Rattle.icu_normalizer_core.specs.CanonicalFaults.{IsAccepted, IsBadPair, begins_with_mark}
 use Rattle.icu_normalizer_core.proofs.AcceptedForms.{accepted_triples, accepted_pairs, eq_stands}
 use Rattle.icu_normalizer_core.proofs.TableMeanings.{class_is, full_is, step_built_in, step_free, pair_syllable, pair_listed}
-use Rattle.icu_normalizer_core.proofs.LeftLemmas.{unmapped_itself, left_alone}
+use Rattle.icu_normalizer_core.proofs.LeftLemmas.{unmapped_itself, left_alone, left_scalars}
 use Rattle.icu_normalizer_core.proofs.BuiltInFacts.{small_class, class_scalar, built_in_short, built_in_left, syllable_mapped, singled_mapped, syllable_pair, syllable_scalar, syllable_unsingled}
 
 -- lists are equal where they can't differ
@@ -201,6 +201,10 @@ module _ (lists : CanonicalLists) (a : IsAccepted lists) where
 
   pub full_left : (c : ℕ) → IsScalar c → Leaves step (c ∷ []) (full c)
   full_left c scalar = ⊎_elim (λ free. free_left c scalar free) (λ b. (built_list c b.0 scalar b.1).left) (cases_step (built_in_step c))
+
+  -- each character of a full list is a scalar value
+  pub full_scalars : (c : ℕ) → IsScalar c → All IsScalar (full c)
+  full_scalars c scalar = left_scalars step (c ∷ []) (full c) step_scalars (All-cons IsScalar c [] scalar (All-nil IsScalar)) (full_left c scalar)
 
   pub full_bounded : (c : ℕ) → IsScalar c → length (full c) ≤ 8
   full_bounded c scalar =

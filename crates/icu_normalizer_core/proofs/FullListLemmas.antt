@@ -1,10 +1,10 @@
 -- Parts of a list of characters, and the full lists of words.
-use Rattle.std.proofs.Common.{◌≡◌, ◌≢◌, ℕ, suc, ◌+◌, ◌-◌, ◌<◌, ◌≤◌, List, [], ◌∷◌, length, take, drop, get_or, slice_index, refl, sym, subst, arith, drop-cons, add-one}
+use Rattle.std.proofs.Common.{◌≡◌, ◌≢◌, ℕ, suc, ◌+◌, ◌-◌, ◌<◌, ◌≤◌, List, [], ◌∷◌, length, take, drop, get_or, slice_index, true, refl, sym, subst, arith, drop-cons, add-one}
 use Rattle.std.specs.List.{All}
 use Rattle.std.specs.Char.{IsScalar}
 use Rattle.std.proofs.lemmas.List.Elements.{All-tail}
 use Rattle.std.proofs.lemmas.Bool.{cond-true, cond-false, lt-ltb, le-ltb}
-use Rattle.icu_normalizer_core.specs.CanonicalWords.{items_at, list_offset, length_in_16, length_in_24, list_at}
+use Rattle.icu_normalizer_core.specs.CanonicalWords.{items_at, list_offset, length_in_16, length_in_24, list_at, is_list_word, full_of_word}
 use Rattle.icu_normalizer_core.specs.FullLists.{IsPart}
 
 -- a part begins with the item at its place
@@ -35,3 +35,8 @@ pub listed_in_24 : (s16 s24 : List ℕ) (word : ℕ) → length s16 ≤ list_off
     → list_at s16 s24 word ≡ items_at s24 (list_offset word - length s16) (length_in_24 word)
 unfolding list_at
 listed_in_24 s16 s24 word h = cond-false _ _ _ (le-ltb (list_offset word) (length s16) h)
+
+-- the full list of a word that names a place, and of one that doesn't
+pub full_listed : (s16 s24 : List ℕ) (c word : ℕ) → is_list_word word ≡ true → full_of_word s16 s24 c word ≡ list_at s16 s24 word
+unfolding full_of_word
+full_listed s16 s24 c word h = cond-true _ _ _ h

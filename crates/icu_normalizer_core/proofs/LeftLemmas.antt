@@ -1,5 +1,8 @@
 -- What mapping steps leave of a text: one list, of characters that aren't mapped.
 use Rattle.std.proofs.Common.{◌≡◌, ℕ, List, [], ◌∷◌, ◌++◌, refl, sym, ap, subst, append_assoc}
+use Rattle.std.specs.List.{All}
+use Rattle.std.specs.Char.{IsScalar}
+use Rattle.std.proofs.lemmas.List.Elements.{All-cons, All-head, All-tail, All-append}
 use Rattle.icu_normalizer_core.specs.Canonical.{Leaves, nothing, unmapped, mapped}
 
 -- both parts, one behind the other
@@ -75,3 +78,11 @@ left_single step c d xs e h = mapped c d [] [] xs e h
 pub left_double : (step : ℕ → List ℕ) (c d e : ℕ) (xs ys : List ℕ) → step c ≡ d ∷ e ∷ [] → Leaves step (d ∷ []) xs → Leaves step (e ∷ []) ys
     → Leaves step (c ∷ []) (xs ++ ys)
 left_double step c d e xs ys is first second = mapped c d (e ∷ []) [] (xs ++ ys) is (left_append step (d ∷ []) (e ∷ []) xs ys first second)
+
+-- what is left of scalar values are scalar values
+pub left_scalars : (step : ℕ → List ℕ) (xs ns : List ℕ) → ((c : ℕ) → All IsScalar (step c)) → All IsScalar xs → Leaves step xs ns → All IsScalar ns
+left_scalars step xs ns steps all nothing = all
+left_scalars step xs ns steps all (unmapped c cs ms e h) =
+    All-cons IsScalar c ms (All-head IsScalar c cs all) (left_scalars step cs ms steps (All-tail IsScalar c cs all) h)
+left_scalars step xs ns steps all (mapped c d ds cs ms e h) =
+    left_scalars step ((d ∷ ds) ++ cs) ms steps (All-append IsScalar (d ∷ ds) cs (subst (All IsScalar) e (steps c)) (All-tail IsScalar c cs all)) h

@@ -23,7 +23,7 @@ pub fn is_jamo(c: u32) -> bool
 /// The canonical mapping of the seven characters whose mapping is built in without a composed pair (our profile); `None`
 /// for any other.
 #[tactic(auto, unfolding(crate::specs::BuiltIn::singled_out))]
-fn singled_out(c: u32) -> Option<Decomposed>
+pub(crate) fn singled_out(c: u32) -> Option<Decomposed>
     ensures { option_map mapped_to result ≡ singled_out c }
 {
     match c {
@@ -89,7 +89,7 @@ fn is_open_syllable(c: u32) -> bool
 }
 
 /// A Hangul syllable or a jamo as a character.
-fn letter(c: u32) -> char
+pub(crate) fn letter(c: u32) -> char
     requires from { 0x1100 ≤ c }
     requires to { c < 0xd800 }
     ensures { result ≡ c }

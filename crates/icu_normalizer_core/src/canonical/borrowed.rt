@@ -6,6 +6,7 @@ ghost use Rattle.icu_normalizer_core.specs.BorrowedMeaning.{borrowed_meaning};
 ghost use Rattle.icu_normalizer_core.specs.Properties.{mapped_to};
 
 use super::data::CanonicalData;
+use super::full_list::{full_list, FullList};
 use super::pairs::listed_pair;
 use super::steps::listed_step;
 use crate::built_in::{built_in_step, syllable_of};
@@ -17,7 +18,7 @@ pub struct CanonicalBorrowed<'d> {
     pub(super) checked: &'d CanonicalData<'d>,
 }
 
-impl CanonicalBorrowed<'_> {
+impl<'d> CanonicalBorrowed<'d> {
     /// The canonical combining class of a character; a starter has 0 (UAX 15).
     #[inline]
     pub fn class(&self, c: char) -> u8
@@ -52,5 +53,13 @@ impl CanonicalBorrowed<'_> {
             Some(syllable) => Some(syllable),
             None => listed_pair(&self.checked.tables().pairs, first as u32, second as u32),
         }
+    }
+
+    /// The full list of a character: what mapping steps leave of it (UAX 15). It has one to eight characters.
+    #[inline]
+    pub fn full_list(&self, c: char) -> FullList<'d>
+        ensures { result ≡ (borrowed_meaning self.now).full c }
+    {
+        full_list(self.checked.tables(), c)
     }
 }

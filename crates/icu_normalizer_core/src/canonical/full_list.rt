@@ -1,12 +1,17 @@
 //! Full lists, read where they stand.
 
-ghost use Rattle.std.specs.Prelude.{◌≡◌, ◌-◌, ◌<◌, ◌≤◌, true, length, take, slice_index, All};
+ghost use Rattle.std.specs.Prelude.{◌≡◌, ◌-◌, ◌^◌, ◌<◌, true, false, [], ◌∷◌, length, slice_index, All, unwrap_or};
 ghost use Rattle.std.specs.Char.{IsScalar};
 ghost use Rattle.std.specs.Iterator.{YieldsFirst, item_count};
-ghost use Rattle.icu_normalizer_core.specs.CanonicalWords.{items_at, is_list_word, list_at};
+ghost use Rattle.icu_normalizer_core.specs.CanonicalWords.{items_at, is_list_word, list_at, syllable_letters, full_of_word};
+ghost use Rattle.icu_normalizer_core.specs.CanonicalMeaning.{meaning};
+ghost use Rattle.icu_normalizer_core.specs.BuiltIn.{singled_out};
 ghost use Rattle.icu_normalizer_core.specs.FullLists.{source_items, IsPart};
 
 use super::tables::CanonicalTables;
+use super::words::{is_list_word, is_one_word, is_pair_word, is_singled_word};
+use crate::built_in::{letter, singled_out};
+use crate::properties::Decomposed;
 use std::iter::FusedIterator;
 use std::marker::Model;
 
@@ -90,14 +95,50 @@ fn part<'d>(tables: &'d CanonicalTables<'d>, source: Source, items: usize, place
     FullList::new(tables, source, next, end)
 }
 
-/// The first of three characters, so many.
+/// The list of one character.
 #[inline]
-fn few<'d>(tables: &'d CanonicalTables<'d>, characters: [char; 3], count: usize) -> FullList<'d>
-    requires count { count ≤ 3 }
-    requires scalars { All IsScalar (take count characters) }
-    ensures { result ≡ take count characters }
+fn one<'d>(tables: &'d CanonicalTables<'d>, a: char) -> FullList<'d>
+    ensures { result ≡ a ∷ [] }
 {
-    FullList::new(tables, Source::Few(characters), 0, count)
+    FullList::new(tables, Source::Few([a, a, a]), 0, 1)
+}
+
+/// The list of two characters.
+#[inline]
+fn two<'d>(tables: &'d CanonicalTables<'d>, a: char, b: char) -> FullList<'d>
+    ensures { result ≡ a ∷ b ∷ [] }
+{
+    FullList::new(tables, Source::Few([a, b, b]), 0, 2)
+}
+
+/// The letters of a Hangul syllable (UAX 15).
+#[tactic(auto, unfolding(crate::specs::CanonicalWords::syllable_letters))]
+fn letters<'d>(tables: &'d CanonicalTables<'d>, c: u32) -> FullList<'d>
+    requires { c < 0x110000 }
+    ensures { result ≡ syllable_letters c }
+{
+    let place = c.saturating_sub(0xac00);
+    let leading = letter(0x1100 + place / 588);
+    let vowel = letter(0x1161 + place % 588 / 28);
+    let trailing = place % 28;
+    if trailing == 0 {
+        two(tables, leading, vowel)
+    } else {
+        let last = letter(0x11a7 + trailing);
+        FullList::new(tables, Source::Few([leading, vowel, last]), 0, 3)
+    }
+}
+
+/// The list of a built-in mapping to characters that aren't mapped, or the character itself.
+fn singled<'d>(tables: &'d CanonicalTables<'d>, c: char) -> FullList<'d>
+    ensures { result ≡ unwrap_or (singled_out c) (c ∷ []) }
+{
+    match singled_out(c as u32) {
+        None => one(tables, c),
+        Some(Decomposed::Default) => FullList::new(tables, Source::In24, 0, 0),
+        Some(Decomposed::Singleton(a)) => one(tables, a),
+        Some(Decomposed::Expansion(a, b)) => two(tables, a, b),
+    }
 }
 
 /// The list that a word names a place of.
@@ -115,6 +156,48 @@ fn listed<'d>(tables: &'d CanonicalTables<'d>, word: u32) -> FullList<'d>
     } else {
         let in_24 = tables.scalars24.len();
         part(tables, Source::In24, in_24, offset - in_16, count + 1)
+    }
+}
+
+/// The list that a word states by itself.
+#[tactic(auto, unfolding(crate::specs::CanonicalWords::full_of_word))]
+fn stated<'d>(tables: &'d CanonicalTables<'d>, c: char, word: u32) -> FullList<'d>
+    requires word { is_list_word word ≡ false }
+    requires bound { word < 2 ^ 30 }
+    ensures { result ≡ full_of_word tables.now.scalars16 tables.now.scalars24 c word }
+{
+    if is_pair_word(word) {
+        two(tables, character(word % 0x8000), character(word / 0x8000))
+    } else if is_one_word(word) {
+        one(tables, character(word))
+    } else if word == 1 {
+        letters(tables, c as u32)
+    } else if is_singled_word(word) {
+        singled(tables, c)
+    } else {
+        one(tables, c)
+    }
+}
+
+/// A scalar value as a character.
+fn character(code: u32) -> char
+    requires { IsScalar code }
+    ensures { result ≡ code }
+{
+    char::from_u32(code).unwrap()
+}
+
+/// The full list of a character.
+#[inline]
+pub(super) fn full_list<'d>(tables: &'d CanonicalTables<'d>, c: char) -> FullList<'d>
+    requires { All IsScalar ((meaning tables.now).full c) }
+    ensures { result ≡ (meaning tables.now).full c }
+{
+    let word = tables.word(c);
+    if is_list_word(word) {
+        listed(tables, word)
+    } else {
+        stated(tables, c, word)
     }
 }
 
