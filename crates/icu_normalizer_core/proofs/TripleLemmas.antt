@@ -2,7 +2,7 @@
 use Rattle.std.proofs.Common.{◌≡◌, ◌≢◌, ℕ, zero, suc, ◌+◌, ◌-◌, ◌*◌, ◌/◌, ◌%◌, ◌<◌, ◌≤◌, ◌⊎◌, inl, inr, ⊎_elim, List, [], ◌∷◌, length, get_or, slice_index, ◌==◌, cond, refl, sym, ap, subst, ◌∙◌, arith}
 use Rattle.std.proofs.lemmas.Bool.{cases_lt, cases_eq, cond-true, cond-false, eq-eqb, ne_eqb}
 use Rattle.icu_normalizer_core.specs.CanonicalLists.{AreTriples, listed_step, mapping}
-use Rattle.icu_normalizer_core.specs.Triples.{IsUnlisted, IsTripleOf}
+use Rattle.icu_normalizer_core.specs.Triples.{IsUnlisted, IsTripleOf, IsTripleAt}
 
 -- keys rise
 rises_by : (steps : List ℕ) → AreTriples steps → (i d : ℕ) → 3 * (i + suc d) < length steps → slice_index steps (3 * i) < slice_index steps (3 * (i + suc d))
@@ -84,3 +84,30 @@ pub listed_of : (steps : List ℕ) (c place : ℕ) → AreTriples steps → IsTr
 listed_of steps c place t is =
     listed_at steps c place is.0 is.1
     (λ j lt same. let rises = keys_rise steps t j place lt (omega arith) in let key = is.1 in omega arith)
+
+-- ---- Triples, one by one
+
+pub triple_at : (steps : List ℕ) (i : ℕ) → AreTriples steps → 3 * i + 2 < length steps → IsTripleAt steps i
+triple_at steps i t h = record {
+  character = t.characters i (omega arith);
+  first = t.firsts i (omega arith);
+  second = t.seconds i (omega arith);
+  above = λ some.
+      let same : 3 * (i - 1) + 3 ≡ 3 * i = omega arith in
+      let before : 3 * (i - 1) ≡ 3 * i - 3 = omega arith in
+      let rises = t.rising (i - 1) (omega arith) in
+      subst (λ (n : ℕ). slice_index steps n < slice_index steps (3 * i)) before (subst (λ (n : ℕ). slice_index steps (3 * (i - 1)) < slice_index steps n) same rises);
+}
+
+pub triples_from : (steps : List ℕ) → length steps % 3 ≡ 0 → ((i : ℕ) → i < length steps / 3 → IsTripleAt steps i) → AreTriples steps
+triples_from steps whole each = record {
+  whole = whole;
+  rising = λ i h.
+      let next : 3 * suc i ≡ 3 * i + 3 = omega arith in
+      let before : 3 * suc i - 3 ≡ 3 * i = omega arith in
+      let above = (each (suc i) (omega arith)).above (omega arith) in
+      subst (λ (n : ℕ). slice_index steps (3 * i) < slice_index steps n) next (subst (λ (n : ℕ). slice_index steps n < slice_index steps (3 * suc i)) before above);
+  characters = λ i h. (each i (omega arith)).character;
+  firsts = λ i h. (each i (omega arith)).first;
+  seconds = λ i h. (each i (omega arith)).second;
+}

@@ -1,6 +1,7 @@
 //! Canonical data in packed tables: classes, mappings, full lists and composed pairs of all characters.
 
 mod borrowed;
+mod check;
 mod data;
 mod full_list;
 mod pairs;
