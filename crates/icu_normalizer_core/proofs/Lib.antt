@@ -8,6 +8,7 @@ mod DecodingRows
 pub mod FullListLemmas
 pub mod LeftLemmas
 pub mod PairLemmas
+pub mod SettledLemmas
 pub mod TableMeanings
 pub mod TextLemmas
 pub mod TripleLemmas

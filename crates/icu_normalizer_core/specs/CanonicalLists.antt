@@ -64,11 +64,15 @@ pub record ArePairs (pairs : List ℕ) : Type 0 where
 
 -- ---- Meaning
 
+-- the mapping of a character: the built-in one, else that of the triples
+unfoldable pub step_in : List ℕ → ℕ → List ℕ
+step_in steps c = unwrap_or (built_in_step c) (listed_step steps c)
+
 -- what the tables say; built-in mappings and syllables come first
 unfoldable pub canonical_of : CanonicalLists → Canonical
 canonical_of lists = record {
   class = λ c. class_of_word c (lists.word c);
-  step = λ c. unwrap_or (built_in_step c) (listed_step lists.steps c);
+  step = step_in lists.steps;
   full = λ c. full_of_word lists.scalars16 lists.scalars24 c (lists.word c);
   pair = λ a b. elim (syllable_of a b) [ Some c ↦ Some c | None ↦ listed_pair lists.pairs a b ];
 }

@@ -8,4 +8,5 @@ pub mod CanonicalWords
 pub mod Decoding
 pub mod FullLists
 pub mod Properties
+pub mod Settled
 pub mod Triples

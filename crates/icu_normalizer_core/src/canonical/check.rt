@@ -2,4 +2,6 @@
 
 mod characters;
 mod forms;
+mod left;
+mod settle;
 mod values;

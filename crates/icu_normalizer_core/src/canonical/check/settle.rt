@@ -1,0 +1,128 @@
+//! What mapping steps leave of each character, found triple by triple.
+
+ghost use Rattle.std.specs.Prelude.{◌≡◌, ◌<◌, ◌≤◌, [], ◌∷◌, ◌++◌, true, length, take, Some, MatchOption};
+ghost use Rattle.icu_normalizer_core.specs.BuiltIn.{is_syllable, built_in_step};
+ghost use Rattle.icu_normalizer_core.specs.Canonical.{IsFree};
+ghost use Rattle.icu_normalizer_core.specs.CanonicalLists.{AreTriples};
+ghost use Rattle.icu_normalizer_core.specs.CanonicalWords.{syllable_letters};
+ghost use Rattle.icu_normalizer_core.specs.Properties.{mapped_to};
+ghost use Rattle.icu_normalizer_core.specs.Settled.{left_items, IsStartOf, AreStarts, IsOpen, IsStuck};
+
+use super::left::Left;
+use crate::built_in::{built_in_step, is_syllable};
+use crate::canonical::steps::triple_of;
+use crate::properties::Decomposed;
+use icu_packed_vector::PackedVec;
+
+impl Left {
+    /// One character.
+    pub(super) fn one(c: u32) -> Left
+        ensures { left_items result ≡ c ∷ [] }
+    {
+        Left {
+            characters: [c; 9],
+            count: 1,
+        }
+    }
+
+    /// Both, one behind the other, cut to nine.
+    pub(super) fn joined(self, other: Left) -> Left
+        ensures { left_items result ≡ take 9 (left_items self ++ left_items other) }
+    {
+        let mut left = self;
+        for i in 0..other.count {
+            left = left.with(other.characters[i]);
+        }
+        left
+    }
+
+    /// With one more character, if there is room.
+    fn with(self, c: u32) -> Left
+        ensures { left_items result ≡ take 9 (left_items self ++ c ∷ []) }
+    {
+        if self.count == 9 {
+            return self;
+        }
+        let mut characters = self.characters;
+        characters[self.count] = c;
+        Left {
+            characters,
+            count: self.count + 1,
+        }
+    }
+}
+
+/// The letters of a Hangul syllable (UAX 15).
+#[tactic(auto, unfolding(crate::specs::CanonicalWords::syllable_letters))]
+fn letters(c: u32) -> Left
+    requires { is_syllable c ≡ true }
+    ensures { left_items result ≡ syllable_letters c }
+{
+    let place = c - 0xac00;
+    let pair = Left::one(0x1100 + place / 588).with(0x1161 + place % 588 / 28);
+    if place % 28 == 0 {
+        pair
+    } else {
+        pair.with(0x11a7 + place % 28)
+    }
+}
+
+/// What steps leave of a character without a built-in mapping; `None` where that isn't settled.
+fn listed_left(steps: &PackedVec<'_, u32>, settled: &[Option<Left>], c: u32) -> Option<Left>
+    requires triples { AreTriples steps.now }
+    requires starts { AreStarts steps.now settled.now }
+    requires free { IsFree c }
+    ensures { MatchOption result (IsOpen steps.now settled.now c) (IsStartOf steps.now (c ∷ [])) }
+{
+    match triple_of(steps, c) {
+        Some(place) => settled[place],
+        None => Some(Left::one(c)),
+    }
+}
+
+/// What steps leave of a character with a built-in mapping; `None` where that isn't settled.
+fn built_in_left(
+    steps: &PackedVec<'_, u32>,
+    settled: &[Option<Left>],
+    c: u32,
+    step: Decomposed,
+) -> Option<Left>
+    requires triples { AreTriples steps.now }
+    requires starts { AreStarts steps.now settled.now }
+    requires built_in { built_in_step c ≡ Some (mapped_to step) }
+    ensures { MatchOption result (IsStuck steps.now settled.now c) (IsStartOf steps.now (c ∷ [])) }
+{
+    if is_syllable(c) {
+        return Some(letters(c));
+    }
+    match step {
+        Decomposed::Default => Some(Left::one(c)),
+        Decomposed::Singleton(a) => {
+            let Some(left) = listed_left(steps, settled, a as u32) else {
+                return None;
+            };
+            Some(left)
+        }
+        Decomposed::Expansion(a, b) => {
+            let Some(first) = listed_left(steps, settled, a as u32) else {
+                return None;
+            };
+            let Some(second) = listed_left(steps, settled, b as u32) else {
+                return None;
+            };
+            Some(first.joined(second))
+        }
+    }
+}
+
+/// What steps leave of a character; `None` where that isn't settled.
+fn left_of(steps: &PackedVec<'_, u32>, settled: &[Option<Left>], c: u32) -> Option<Left>
+    requires triples { AreTriples steps.now }
+    requires starts { AreStarts steps.now settled.now }
+    ensures { MatchOption result (IsStuck steps.now settled.now c) (IsStartOf steps.now (c ∷ [])) }
+{
+    match built_in_step(c) {
+        None => listed_left(steps, settled, c),
+        Some(step) => built_in_left(steps, settled, c, step),
+    }
+}
