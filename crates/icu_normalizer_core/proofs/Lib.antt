@@ -9,6 +9,7 @@ pub mod FullListLemmas
 pub mod LeftLemmas
 pub mod PairLemmas
 pub mod SettledLemmas
+pub mod SettlingLemmas
 pub mod TableMeanings
 pub mod TextLemmas
 pub mod TripleLemmas

@@ -1,16 +1,16 @@
 //! What mapping steps leave of each character, found triple by triple.
 
-ghost use Rattle.std.specs.Prelude.{◌≡◌, ◌<◌, ◌≤◌, [], ◌∷◌, ◌++◌, true, length, take, Some, MatchOption};
+ghost use Rattle.std.specs.Prelude.{◌≡◌, ◌+◌, ◌*◌, ◌^◌, ◌<◌, ◌≤◌, [], ◌∷◌, ◌++◌, true, false, length, take, slice_get, Some, None, MatchOption};
 ghost use Rattle.icu_normalizer_core.specs.BuiltIn.{is_syllable, built_in_step};
 ghost use Rattle.icu_normalizer_core.specs.Canonical.{IsFree};
 ghost use Rattle.icu_normalizer_core.specs.CanonicalLists.{AreTriples};
 ghost use Rattle.icu_normalizer_core.specs.CanonicalWords.{syllable_letters};
 ghost use Rattle.icu_normalizer_core.specs.Properties.{mapped_to};
-ghost use Rattle.icu_normalizer_core.specs.Settled.{left_items, IsStartOf, AreStarts, IsOpen, IsStuck};
+ghost use Rattle.icu_normalizer_core.specs.Settled.{left_items, IsStartOf, AreStarts, IsOpen, IsStuck, HasStuck, IsDone, mapping_of, open_count};
 
 use super::left::Left;
 use crate::built_in::{built_in_step, is_syllable};
-use crate::canonical::steps::triple_of;
+use crate::canonical::steps::{triple_of, NO_SECOND};
 use crate::properties::Decomposed;
 use icu_packed_vector::PackedVec;
 
@@ -125,4 +125,68 @@ fn left_of(steps: &PackedVec<'_, u32>, settled: &[Option<Left>], c: u32) -> Opti
         None => listed_left(steps, settled, c),
         Some(step) => built_in_left(steps, settled, c, step),
     }
+}
+
+/// What steps leave of the mapping of a triple; `None` where that isn't settled.
+fn mapping_left(
+    steps: &PackedVec<'_, u32>,
+    settled: &[Option<Left>],
+    place: usize,
+) -> Option<Left>
+    requires triples { AreTriples steps.now }
+    requires starts { AreStarts steps.now settled.now }
+    requires inside { 3 * place + 2 < length steps.now }
+    requires fits { 3 * place + 2 < 2 ^ 64 }
+    ensures { MatchOption result (HasStuck steps.now settled.now (mapping_of steps.now place)) (IsStartOf steps.now (mapping_of steps.now place)) }
+{
+    let Some(first) = left_of(steps, settled, steps.at(3 * place + 1)) else {
+        return None;
+    };
+    let second = steps.at(3 * place + 2);
+    if second == NO_SECOND {
+        return Some(first);
+    }
+    let Some(other) = left_of(steps, settled, second) else {
+        return None;
+    };
+    Some(first.joined(other))
+}
+
+/// Settles a triple, where it wasn't settled and can be; whether it was.
+fn settle_at(steps: &PackedVec<'_, u32>, settled: &mut [Option<Left>], place: usize) -> bool
+    requires triples { AreTriples steps.now }
+    requires starts { AreStarts steps.now settled.old }
+    requires inside { 3 * place + 2 < length steps.now }
+    requires fits { 3 * place + 2 < 2 ^ 64 }
+    ensures starts { AreStarts steps.now settled.new }
+    ensures progress { result ≡ true → open_count settled.new < open_count settled.old }
+    ensures same { result ≡ false → settled.new ≡ settled.old }
+    ensures stuck { result ≡ false → slice_get settled.new place ≡ Some None → HasStuck steps.now settled.new (mapping_of steps.now place) }
+{
+    if settled[place].is_some() {
+        return false;
+    }
+    let Some(left) = mapping_left(steps, settled, place) else {
+        return false;
+    };
+    settled[place] = Some(left);
+    true
+}
+
+/// Settles the triples that can be, one after another; whether there was one.
+fn settle_once(steps: &PackedVec<'_, u32>, settled: &mut [Option<Left>]) -> bool
+    requires triples { AreTriples steps.now }
+    requires starts { AreStarts steps.now settled.old }
+    ensures starts { AreStarts steps.now settled.new }
+    ensures progress { result ≡ true → open_count settled.new < open_count settled.old }
+    ensures done { result ≡ false → IsDone steps.now settled.new }
+{
+    let count = steps.len() / 3;
+    let mut more = false;
+    for place in 0..count {
+        if settle_at(steps, settled, place) {
+            more = true;
+        }
+    }
+    more
 }
