@@ -1,7 +1,9 @@
 -- Triples settled one after another, until no more can be.
-use Rattle.std.proofs.Common.{◌≡◌, ◌≢◌, ℕ, zero, suc, ◌+◌, ◌*◌, ◌/◌, ◌%◌, ◌<◌, ◌≤◌, ◌⊎◌, inl, inr, ⊎_elim, List, [], ◌∷◌, ◌++◌, length, take, set, slice_index, slice_get, Option, None, Some, ◌==◌, true, false, refl, sym, ap, subst, ◌∙◌, arith}
-use Rattle.std.proofs.lemmas.Bool.{cases_eq, cond-true, cond-false}
+use Rattle.std.proofs.Common.{◌≡◌, ◌≢◌, ℕ, zero, suc, ◌+◌, ◌*◌, ◌/◌, ◌%◌, ◌<◌, ◌≤◌, ◌⊎◌, inl, inr, ⊎_elim, List, [], ◌∷◌, ◌++◌, length, take, drop, set, slice_index, slice_get, get_or, Bool, Option, None, Some, ◌==◌, true, false, refl, sym, ap, subst, ◌∙◌, arith}
+use Rattle.std.proofs.lemmas.Bool.{cases_eq, cases_lt, ne_eqb, false≢true, cond-true, cond-false}
+use Rattle.std.specs.Option.{is_some}
 use Rattle.std.proofs.lemmas.Bool.Decides.{eqb_tells}
+use Rattle.std.proofs.Math.Seq.{take-append_seam}
 use Rattle.std.proofs.lemmas.Option.{none-some, same_Some}
 use Rattle.icu_normalizer_core.specs.declared.canonical.check.left.Left.{Left}
 use Rattle.icu_normalizer_core.specs.BuiltIn.{built_in_step}
@@ -90,6 +92,7 @@ among_behind [] ys c h = h
 among_behind (x ∷ xs) ys c h = inr (among_behind xs ys c h)
 
 among_front : (xs ys : List ℕ) (c : ℕ) → IsAmong xs c → IsAmong (xs ++ ys) c
+among_front [] ys c h = elim h [ ]
 among_front (x ∷ xs) ys c (inl e) = inl e
 among_front (x ∷ xs) ys c (inr h) = inr (among_front xs ys c h)
 
@@ -97,12 +100,12 @@ module _ (steps : List ℕ) (settled : List (Option Left)) (t : AreTriples steps
   -- the mapping of a stuck character has one too
   stuck_further : (c : ℕ) → IsStuck steps settled c → HasStuck steps settled (step_in steps c)
   stuck_further c (inl o) =
-      let i : ℕ = o.1 in
-      let inside = got_inside settled i None o.3 in
-      let behind = done i inside o.3 in
-      let key : key_at steps i ≡ c = o.2.1 in
+      let i : ℕ = o.1.0 in
+      let inside = got_inside settled i None o.1.2 in
+      let behind = done i inside o.1.2 in
+      let key : key_at steps i ≡ c = o.1.1.1 in
       let free : IsFree (key_at steps i) = subst (λ (k : ℕ). IsFree k) (sym key) o.0 in
-      let step : mapping_of steps i ≡ step_in steps c = sym (key_step steps i t o.2.0 free) ∙ ap (step_in steps) key in
+      let step : mapping_of steps i ≡ step_in steps c = sym (key_step steps i t o.1.1.0 free) ∙ ap (step_in steps) key in
       subst (HasStuck steps settled) step behind
   stuck_further c (inr w) = (w.0, w.1, inl w.2)
 
@@ -124,4 +127,95 @@ module _ (steps : List ℕ) (settled : List (Option Left)) (t : AreTriples steps
 
   pub open_endless : (i : ℕ) → slice_get settled i ≡ Some None → 3 * i + 2 < length steps → IsFree (key_at steps i) → (list : List ℕ)
       → Leaves (step_in steps) (key_at steps i ∷ []) list → ⊥
-  open_endless i e h free list left = never_left (key_at steps i ∷ []) list left (key_at steps i, inl refl, inl (free, i, (h, refl), e))
+  open_endless i e h free list left = never_left (key_at steps i ∷ []) list left (key_at steps i, inl refl, inl (free, (i, (h, refl), e)))
+
+-- ---- Steps of the code
+
+pub mapping_double : (a b x y : ℕ) → x ≡ a → y ≡ b → y ≢ 0x110000 → mapping a b ≡ x ∷ y ∷ []
+mapping_double a b x y e f ne =
+    cond-false (b == 0x110000) (a ∷ []) (a ∷ b ∷ []) (ne_eqb b 0x110000 (λ same. ne (f ∙ same))) ∙ ap (λ (n : ℕ). n ∷ b ∷ []) (sym e) ∙ ap (λ (n : ℕ). x ∷ n ∷ []) (sym f)
+
+got_at : {X : Type 0} (xs : List X) (i : ℕ) (x : X) → i < length xs → x ≡ get_or xs i x → slice_get xs i ≡ Some x
+got_at [] i x h e = absurd (omega arith)
+got_at (y ∷ xs) zero x h e = ap (λ (z : _). Some z) (sym e)
+got_at (y ∷ xs) (suc i) x h e = got_at xs i x (omega arith) e
+
+not_some : (o : Option Left) → is_some o ≡ false → o ≡ None
+not_some None e = refl
+not_some (Some left) e = absurd (false≢true (sym e))
+
+pub open_at : (xs : List (Option Left)) (i : ℕ) (x : Option Left) (b : Bool) → i < length xs → x ≡ get_or xs i x → b ≡ is_some x → b ≡ false → slice_get xs i ≡ Some None
+open_at xs i x b h e is false_is = got_at xs i x h e ∙ ap (λ (o : Option Left). Some o) (not_some x (sym is ∙ false_is))
+
+-- one more triple is looked at: it was settled, and fewer are open
+pub record HasProgress (steps : List ℕ) (initial settled : List (Option Left)) (more : Bool) (place : ℕ) : Type 0 where
+  pub starts : AreStarts steps settled
+  pub most : open_count settled ≤ open_count initial
+  pub progress : more ≡ true → open_count settled < open_count initial
+  pub done : more ≡ false → (i : ℕ) → i < place → slice_get settled i ≡ Some None → HasStuck steps settled (mapping_of steps i)
+
+pub progress_made : (steps : List ℕ) (initial old new : List (Option Left)) (more after : Bool) (place : ℕ) → HasProgress steps initial old more place
+    → AreStarts steps new → open_count new < open_count old → after ≡ true → HasProgress steps initial new after (place + 1)
+progress_made steps initial old new more after place p starts fewer is =
+    let most = p.most in
+    record {
+      starts = starts;
+      most = omega arith;
+      progress = λ happened. omega arith;
+      done = λ none. let off : true ≡ false = sym is ∙ none in absurd cc;
+    }
+
+-- or it stays as it was, and can't be settled now
+pub progress_none : (steps : List ℕ) (initial old new : List (Option Left)) (more after : Bool) (place : ℕ) → HasProgress steps initial old more place
+    → AreStarts steps new → new ≡ old → (slice_get new place ≡ Some None → HasStuck steps new (mapping_of steps place)) → after ≡ more
+    → HasProgress steps initial new after (place + 1)
+progress_none steps initial old new more after place p starts same stuck is =
+    record {
+      starts = starts;
+      most = subst (λ (xs : List (Option Left)). open_count xs ≤ open_count initial) (sym same) p.most;
+      progress = λ happened. subst (λ (xs : List (Option Left)). open_count xs < open_count initial) (sym same) (p.progress (sym is ∙ happened));
+      done = λ none i h e. ⊎_elim
+          (λ before. subst (λ (xs : List (Option Left)). HasStuck steps xs (mapping_of steps i)) (sym same)
+            (p.done (sym is ∙ none) i before (subst (λ (xs : List (Option Left)). slice_get xs i ≡ Some None) same e)))
+          (λ here.
+            let at : i ≡ place = omega arith in
+            subst (λ (k : ℕ). HasStuck steps new (mapping_of steps k)) (sym at) (stuck (subst (λ (k : ℕ). slice_get new k ≡ Some None) at e)))
+          (cases_lt i place);
+    }
+
+-- triples of which none is settled
+pub record AreOpen (settled : List (Option Left)) (count : ℕ) : Type 0 where
+  pub length : length settled ≡ count
+  pub none : (i : ℕ) (left : Left) → slice_get settled i ≡ Some (Some left) → ⊥
+
+open_pushed : (settled : List (Option Left)) (i : ℕ) (left : Left) → ((j : ℕ) (l : Left) → slice_get settled j ≡ Some (Some l) → ⊥)
+    → slice_get (settled ++ None ∷ []) i ≡ Some (Some left) → ⊥
+open_pushed [] zero left h e = none-some left (same_Some None (Some left) e)
+open_pushed [] (suc i) left h e = none-some (Some left) e
+open_pushed (x ∷ xs) zero left h e = h 0 left e
+open_pushed (x ∷ xs) (suc i) left h e = open_pushed xs i left (λ j l f. h (suc j) l f) e
+
+pushed_length : (settled : List (Option Left)) → length (settled ++ None ∷ []) ≡ suc (length settled)
+pushed_length [] = refl
+pushed_length (x ∷ xs) = ap suc (pushed_length xs)
+
+pub one_more_open : (settled new : List (Option Left)) (count : ℕ) → AreOpen settled count → new ≡ settled ++ None ∷ [] → AreOpen new (count + 1)
+one_more_open settled new count o is = record {
+  length = let n = pushed_length settled in let m = o.length in let e = ap (λ (xs : List (Option Left)). length xs) is in omega (arith, n, m, e);
+  none = λ i left e. open_pushed settled i left o.none (subst (λ (xs : List (Option Left)). slice_get xs i ≡ Some (Some left)) is e);
+}
+
+pub open_starts : (steps : List ℕ) (settled : List (Option Left)) (count : ℕ) → AreOpen settled count → count ≡ length steps / 3 → AreStarts steps settled
+open_starts steps settled count o e = record { count = o.length ∙ e; each = λ i left is free. absurd (o.none i left is) }
+
+-- a vector's items after a write through its slice
+pub vector_written : (n : ℕ) (new old : List (Option Left)) → length new ≡ length old → n ≡ length old → take n (new ++ drop (length new) old) ≡ new
+vector_written n new old e f =
+    let g : n ≡ length new = omega arith in
+    rw (g) (take-append_seam new (drop (length new) old))
+
+-- what an element that was read by reference tells
+pub open_read : (xs : List (Option Left)) (i : ℕ) (x : Option Left) → i < length xs → false ≡ is_some (get_or xs i x) → slice_get xs i ≡ Some None
+open_read [] i x h e = absurd (omega arith)
+open_read (y ∷ xs) zero x h e = ap (λ (o : Option Left). Some o) (not_some y (sym e))
+open_read (y ∷ xs) (suc i) x h e = open_read xs i x (omega arith) e

@@ -1,6 +1,6 @@
 //! What mapping steps leave of each character, found triple by triple.
 
-ghost use Rattle.std.specs.Prelude.{◌≡◌, ◌+◌, ◌*◌, ◌^◌, ◌<◌, ◌≤◌, [], ◌∷◌, ◌++◌, true, false, length, take, slice_get, Some, None, MatchOption};
+ghost use Rattle.std.specs.Prelude.{◌≡◌, ◌+◌, ◌*◌, ◌^◌, ◌<◌, ◌≤◌, [], ◌∷◌, ◌++◌, true, false, length, take, slice_get, Some, None, MatchOption, IfOk};
 ghost use Rattle.icu_normalizer_core.specs.BuiltIn.{is_syllable, built_in_step};
 ghost use Rattle.icu_normalizer_core.specs.Canonical.{IsFree};
 ghost use Rattle.icu_normalizer_core.specs.CanonicalLists.{AreTriples};
@@ -13,6 +13,7 @@ use crate::built_in::{built_in_step, is_syllable};
 use crate::canonical::steps::{triple_of, NO_SECOND};
 use crate::properties::Decomposed;
 use icu_packed_vector::PackedVec;
+use std::alloc::{AllocError, Global};
 
 impl Left {
     /// One character.
@@ -189,4 +190,29 @@ fn settle_once(steps: &PackedVec<'_, u32>, settled: &mut [Option<Left>]) -> bool
         }
     }
     more
+}
+
+/// What steps leave of the triples' characters, where they end. The only error is want of memory.
+pub(super) fn settle(
+    alloc: Global,
+    steps: &PackedVec<'_, u32>,
+) -> Result<Vec<Option<Left>>, AllocError>
+    requires { AreTriples steps.now }
+    ensures starts { IfOk result (λ settled. AreStarts steps.now settled.items) }
+    ensures done { IfOk result (λ settled. IsDone steps.now settled.items) }
+{
+    let mut settled = all_open(alloc, steps)?;
+    while settle_once(steps, settled.as_mut_slice()) {}
+    Ok(settled)
+}
+
+/// No triple is settled yet. The only error is want of memory.
+fn all_open(alloc: Global, steps: &PackedVec<'_, u32>) -> Result<Vec<Option<Left>>, AllocError>
+    ensures { IfOk result (λ settled. AreStarts steps.now settled.items) }
+{
+    let mut settled = Vec::new(alloc);
+    for _ in 0..steps.len() / 3 {
+        settled.push(None)?;
+    }
+    Ok(settled)
 }
