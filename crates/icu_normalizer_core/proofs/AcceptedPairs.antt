@@ -1,15 +1,15 @@
 -- The composed pairs of accepted tables keep the promises of canonical data.
-use Rattle.std.proofs.Common.{◌≡◌, ◌≢◌, ℕ, zero, suc, ◌+◌, ◌*◌, ◌/◌, ◌%◌, ◌^◌, ◌<◌, ◌≤◌, ◌⊎◌, inl, inr, ⊎_elim, cond, ◌==◌, ◌&&◌, Bool, List, [], ◌∷◌, length, slice_index, true, false, Option, Some, None, refl, sym, ap, ◌∙◌, arith, subst}
+use Rattle.std.proofs.Common.{◌≡◌, ℕ, suc, ◌<◌, ◌≤◌, ◌⊎◌, inl, inr, ⊎_elim, ◌==◌, ◌&&◌, List, [], ◌∷◌, length, slice_index, false, Option, Some, None, refl, sym, ◌∙◌, arith, subst}
 use Rattle.std.specs.Option.{IfSome}
 use Rattle.std.specs.Char.{IsScalar}
 use lib.Utf8.{low_scalar}
-use Rattle.std.proofs.lemmas.Bool.{and_parts, cases_Bool, cases_lt, cases_eq, cond-true, cond-false, eqb-true}
+use Rattle.std.proofs.lemmas.Bool.{and_parts, cases_Bool, cases_lt, cond-true, cond-false, eqb-true}
 use Rattle.std.proofs.lemmas.Option.{none-some, same_Some}
 use Rattle.icu_normalizer_core.specs.BuiltIn.{is_within, singled_out, syllable_of, built_in_step}
-use Rattle.icu_normalizer_core.specs.Canonical.{Canonical, IsFree, IsComposing, IsCanonical, composed}
+use Rattle.icu_normalizer_core.specs.Canonical.{IsComposing, IsCanonical, composed}
 use Rattle.icu_normalizer_core.specs.CanonicalLists.{CanonicalLists, listed_pair, canonical_of, pair_first, pair_second, pair_composed}
 use Rattle.icu_normalizer_core.specs.CanonicalFaults.{IsAccepted, IsBadPair}
-use Rattle.icu_normalizer_core.proofs.AcceptedForms.{accepted_pairs, eq_stands, lt_stands}
+use Rattle.icu_normalizer_core.proofs.AcceptedForms.{accepted_pairs, eq_stands}
 use Rattle.icu_normalizer_core.proofs.AcceptedTables.{list_stands, cases_step, free_single, decomposing}
 use Rattle.icu_normalizer_core.proofs.TableMeanings.{step_built_in, pair_syllable, pair_listed}
 use Rattle.icu_normalizer_core.proofs.BuiltInFacts.{syllable_pair, syllable_scalar, syllable_unsingled}
@@ -28,23 +28,23 @@ listed_entry [] a b c e = absurd (none-some c e)
 listed_entry (pair ∷ rest) a b c e =
     ⊎_elim
     (λ t.
-      let both = and_parts (pair_first pair == a) (pair_second pair == b) t in
-      record {
-        place = 0;
-        inside = omega arith;
-        first = eqb-true (pair_first pair) a both.0;
-        second = eqb-true (pair_second pair) b both.1;
-        composes = same_Some (pair_composed pair) c (sym (cond-true _ (Some (pair_composed pair)) (listed_pair rest a b) t) ∙ e);
-      })
+    let both = and_parts (pair_first pair == a) (pair_second pair == b) t in
+    record {
+      place = 0;
+      inside = omega arith;
+      first = eqb-true (pair_first pair) a both.0;
+      second = eqb-true (pair_second pair) b both.1;
+      composes = same_Some (pair_composed pair) c (sym (cond-true _ (Some (pair_composed pair)) (listed_pair rest a b) t) ∙ e);
+    })
     (λ f.
-      let later = listed_entry rest a b c (sym (cond-false _ (Some (pair_composed pair)) (listed_pair rest a b) f) ∙ e) in
-      record {
-        place = suc later.place;
-        inside = let within = later.inside in omega arith;
-        first = later.first;
-        second = later.second;
-        composes = later.composes;
-      })
+    let later = listed_entry rest a b c (sym (cond-false _ (Some (pair_composed pair)) (listed_pair rest a b) f) ∙ e) in
+    record {
+      place = suc later.place;
+      inside = let within = later.inside in omega arith;
+      first = later.first;
+      second = later.second;
+      composes = later.composes;
+    })
     (cases_Bool ((pair_first pair == a) && (pair_second pair == b)))
 
 -- two optional characters
@@ -92,8 +92,8 @@ module _ (lists : CanonicalLists) (a : IsAccepted lists) where
       ⊎_elim
       (λ none. listed x y z (listed_good x y z e none))
       (λ some.
-        let same : some.0 ≡ z = same_Some some.0 z (sym (pair_syllable lists x y some.0 some.1) ∙ e) in
-        subst (λ (n : ℕ). Q x y n) same (syllables x y some.0 some.1))
+      let same : some.0 ≡ z = same_Some some.0 z (sym (pair_syllable lists x y some.0 some.1) ∙ e) in
+      subst (λ (n : ℕ). Q x y n) same (syllables x y some.0 some.1))
       (cases_option (syllable_of x y))
 
   syllables_agree : (x y : ℕ) (o : Option ℕ) → syllable_of x y ≡ o → IfSome o (λ c. (canonical_of lists).pair x y ≡ Some c)

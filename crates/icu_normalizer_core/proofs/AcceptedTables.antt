@@ -1,22 +1,21 @@
 -- What accepted tables mean keeps the promises of canonical data.
-use Rattle.std.proofs.Common.{◌≡◌, ◌≢◌, ℕ, zero, suc, ◌+◌, ◌-◌, ◌*◌, ◌/◌, ◌%◌, ◌<◌, ◌≤◌, ◌⊎◌, inl, inr, ⊎_elim, cond, not, ◌==◌, ◌||◌, ◌&&◌, Bool, List, [], ◌∷◌, length, slice_index, true, false, Option, Some, None, refl, sym, ap, ◌∙◌, arith, subst}
-use Rattle.std.specs.Option.{is_some, IfSome, unwrap_or}
+use Rattle.std.proofs.Common.{◌≡◌, ◌≢◌, ℕ, suc, ◌+◌, ◌-◌, ◌*◌, ◌<◌, ◌≤◌, ◌⊎◌, inl, inr, ⊎_elim, not, ◌==◌, ◌||◌, List, [], ◌∷◌, length, slice_index, true, false, Option, Some, None, refl, sym, ap, ◌∙◌, arith, subst}
+use Rattle.std.specs.Option.{IfSome, unwrap_or}
 use Rattle.std.specs.List.{All, Contains}
 use Rattle.std.specs.Char.{IsScalar}
-use lib.Utf8.{low_scalar}
-use Rattle.std.proofs.lemmas.Bool.{and_parts, leb-true, and_from, and_left, and_right, cases_Bool, cases_lt, cases_eq, cond-true, cond-false, eq-eqb, eqb-true, ne_eqb, or_left, or_right, both_ways, false≢true}
+use Rattle.std.proofs.lemmas.Bool.{and_parts, leb-true, and_from, and_right, cases_Bool, cases_lt, cases_eq, cond-true, cond-false, ne_eqb, or_left, or_right}
 use Rattle.std.proofs.lemmas.Bool.Decides.{eqb_tells, nat_tests}
-use Rattle.std.proofs.lemmas.Option.{none-some, same_Some}
+use Rattle.std.proofs.lemmas.Option.{none-some}
 use Rattle.std.proofs.lemmas.List.Elements.{All-nil, All-cons}
-use Rattle.icu_normalizer_core.specs.BuiltIn.{is_within, is_syllable, is_jamo, singled_out, syllable_of, built_in_step, built_in_class}
-use Rattle.icu_normalizer_core.specs.Canonical.{Canonical, Leaves, IsFree, IsDecomposing, IsComposing, IsCanonical, is_starter}
-use Rattle.icu_normalizer_core.specs.CanonicalWords.{is_word, states_list, is_mark_word, is_singled_word, class_of_word, full_of_word, built_in_full}
-use Rattle.icu_normalizer_core.specs.CanonicalLists.{CanonicalLists, AreTriples, listed_step, listed_pair, mapping, canonical_of, pair_first, pair_second, pair_composed}
-use Rattle.icu_normalizer_core.specs.CanonicalFaults.{IsAccepted, IsBadPair, begins_with_mark}
-use Rattle.icu_normalizer_core.proofs.AcceptedForms.{accepted_triples, accepted_pairs, eq_stands}
-use Rattle.icu_normalizer_core.proofs.TableMeanings.{class_is, full_is, step_built_in, step_free, pair_syllable, pair_listed}
-use Rattle.icu_normalizer_core.proofs.LeftLemmas.{unmapped_itself, left_alone, left_scalars}
-use Rattle.icu_normalizer_core.proofs.BuiltInFacts.{small_class, class_scalar, built_in_short, built_in_left, syllable_mapped, singled_mapped, syllable_pair, syllable_scalar, syllable_unsingled}
+use Rattle.icu_normalizer_core.specs.BuiltIn.{is_syllable, is_jamo, singled_out, built_in_step, built_in_class}
+use Rattle.icu_normalizer_core.specs.Canonical.{Leaves, IsFree, IsDecomposing}
+use Rattle.icu_normalizer_core.specs.CanonicalWords.{is_word, states_list, is_mark_word, is_singled_word, class_of_word, full_of_word}
+use Rattle.icu_normalizer_core.specs.CanonicalLists.{CanonicalLists, listed_step, mapping, canonical_of}
+use Rattle.icu_normalizer_core.specs.CanonicalFaults.{IsAccepted, begins_with_mark}
+use Rattle.icu_normalizer_core.proofs.AcceptedForms.{accepted_triples, eq_stands}
+use Rattle.icu_normalizer_core.proofs.TableMeanings.{class_is, full_is, step_built_in, step_free}
+use Rattle.icu_normalizer_core.proofs.LeftLemmas.{unmapped_itself, left_scalars}
+use Rattle.icu_normalizer_core.proofs.BuiltInFacts.{small_class, class_scalar, built_in_short, built_in_left, syllable_mapped, singled_mapped}
 
 -- lists are equal where they can't differ
 pub list_stands : (xs ys : List ℕ) → ((xs ≢ ys) → ⊥) → xs ≡ ys
@@ -112,12 +111,12 @@ unfolding class_of_word
 class_small c w =
     ⊎_elim
     (λ t. let h = and_parts _ _ t in
-      let top : w ≤ 0xd8fe = leb-true w 0xd8fe h.1 in
-      subst (λ (k : ℕ). k < 255) (sym (cond-true (is_mark_word w) (w - 0xd800) _ t)) (omega arith))
+    let top : w ≤ 0xd8fe = leb-true w 0xd8fe h.1 in
+    subst (λ (k : ℕ). k < 255) (sym (cond-true (is_mark_word w) (w - 0xd800) _ t)) (omega arith))
     (λ f. ⊎_elim
-      (λ t. subst (λ (k : ℕ). k < 255) (sym (cond-false (is_mark_word w) _ _ f ∙ cond-true (is_singled_word w) _ 0 t)) (unwrapped_small c (built_in_class c) refl))
-      (λ g. subst (λ (k : ℕ). k < 255) (sym (cond-false (is_mark_word w) _ _ f ∙ cond-false (is_singled_word w) _ 0 g)) (omega arith))
-      (cases_Bool (is_singled_word w)))
+    (λ t. subst (λ (k : ℕ). k < 255) (sym (cond-false (is_mark_word w) _ _ f ∙ cond-true (is_singled_word w) _ 0 t)) (unwrapped_small c (built_in_class c) refl))
+    (λ g. subst (λ (k : ℕ). k < 255) (sym (cond-false (is_mark_word w) _ _ f ∙ cond-false (is_singled_word w) _ 0 g)) (omega arith))
+    (cases_Bool (is_singled_word w)))
     (cases_Bool (is_mark_word w))
 
 module _ (lists : CanonicalLists) (a : IsAccepted lists) where
@@ -168,9 +167,9 @@ module _ (lists : CanonicalLists) (a : IsAccepted lists) where
   mapped_states c d ds scalar free leads =
       ⊎_elim (λ t. t)
       (λ f.
-        let left = subst (λ (xs : List ℕ). Leaves step (c ∷ []) xs) (own_list c scalar free f) (free_left c scalar free) in
-        let none : step c ≡ [] = unmapped_itself step c left in
-        let off : [] ≡ d ∷ ds = sym none ∙ leads in absurd cc)
+      let left = subst (λ (xs : List ℕ). Leaves step (c ∷ []) xs) (own_list c scalar free f) (free_left c scalar free) in
+      let none : step c ≡ [] = unmapped_itself step c left in
+      let off : [] ≡ d ∷ ds = sym none ∙ leads in absurd cc)
       (cases_Bool (states_list (lists.word c)))
 
   mapped_starter : (c d : ℕ) (ds : List ℕ) → IsScalar c → IsFree c → step c ≡ d ∷ ds → class c ≡ 0
@@ -217,9 +216,9 @@ module _ (lists : CanonicalLists) (a : IsAccepted lists) where
   list_begins c d ds scalar free leads e es is =
       ⊎_elim (λ zero. zero)
       (λ mark.
-        let states = mapped_states c d ds scalar free leads in
-        let begins : begins_with_mark (canonical_of lists) (full c) ≡ true = ap (begins_with_mark (canonical_of lists)) is ∙ ap not (ne_eqb (class e) 0 mark) in
-        absurd (a.full_lists c scalar (inr (free, inr (inr (inl (and_from (states_list (lists.word c)) (begins_with_mark (canonical_of lists) (full c)) states begins)))))))
+      let states = mapped_states c d ds scalar free leads in
+      let begins : begins_with_mark (canonical_of lists) (full c) ≡ true = ap (begins_with_mark (canonical_of lists)) is ∙ ap not (ne_eqb (class e) 0 mark) in
+      absurd (a.full_lists c scalar (inr (free, inr (inr (inl (and_from (states_list (lists.word c)) (begins_with_mark (canonical_of lists) (full c)) states begins)))))))
       (cases_eq (class e) 0)
 
   no_letters : (c d : ℕ) → IsScalar c → IsFree c → Contains (step c) d → (is_jamo d ≡ false) × (is_syllable d ≡ false)

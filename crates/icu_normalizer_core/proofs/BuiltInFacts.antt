@@ -1,10 +1,9 @@
 -- What is built in: its mappings end, and name scalar values; a syllable's pair is its mapping.
 use Rattle.std.proofs.Common.{◌≡◌, ◌≢◌, ℕ, ◌+◌, ◌-◌, ◌*◌, ◌/◌, ◌%◌, ◌<◌, ◌≤◌, ◌⊎◌, inl, inr, ⊎_elim, cond, ◌==◌, ◌||◌, ◌&&◌, leb, Bool, List, [], ◌∷◌, length, true, false, Option, Some, None, refl, sym, ap, ◌∙◌, arith, subst}
-use Rattle.std.specs.Option.{is_some}
 use Rattle.std.specs.List.{All}
 use Rattle.std.specs.Char.{IsScalar}
-use lib.Utf8.{scalar, low_scalar}
-use Rattle.std.proofs.lemmas.Bool.{and_parts, and_from, leb-true, le-leb, lt-leb, and_right, and_left, cases_Bool, cond-true, cond-false, eq-eqb, eqb-true, ne_eqb, or_left, both_ways, false≢true, cases_lt}
+use lib.Utf8.{low_scalar}
+use Rattle.std.proofs.lemmas.Bool.{and_parts, and_from, leb-true, le-leb, lt-leb, and_right, and_left, cases_Bool, cond-true, cond-false, eq-eqb, eqb-true, ne_eqb, or_left, both_ways, cases_lt}
 use Rattle.std.proofs.lemmas.Bool.Decides.{eqb_tells, nat_tests}
 use Rattle.std.proofs.lemmas.Option.{none-some, same_Some}
 use Rattle.std.proofs.lemmas.List.Elements.{All-nil, All-cons}
@@ -121,7 +120,6 @@ open_syllable_cases c e =
     let w = syllable_cases c (and_parts (is_syllable c) _ e).0 in
     (w.0, w.1, w.2, ⊎_elim (λ j. j) (λ v. absurd (both_ways (is_open_syllable c) v.1 e)) w.6, w.3)
 
-
 -- ---- Classes
 
 at_choice : (P : ℕ → Type 0) (b : Bool) (x k : ℕ) (rest : Option ℕ) → P x → (rest ≡ Some k → P k) → cond b (Some x) rest ≡ Some k → P k
@@ -212,9 +210,9 @@ closed_left step built c e f =
     let first : leading (a - 0xac00) ≡ leading (c - 0xac00) = omega arith in
     let second : vowel (a - 0xac00) ≡ vowel (c - 0xac00) = omega arith in
     let front : Leaves step (a ∷ []) (leading (c - 0xac00) ∷ vowel (c - 0xac00) ∷ []) =
-      subst (λ (v : ℕ). Leaves step (a ∷ []) (leading (c - 0xac00) ∷ v ∷ [])) second
-      (subst (λ (l : ℕ). Leaves step (a ∷ []) (l ∷ vowel (a - 0xac00) ∷ [])) first
-      (open_left step built a inside (eq-eqb ((a - 0xac00) % 28) 0 even))) in
+    subst (λ (v : ℕ). Leaves step (a ∷ []) (leading (c - 0xac00) ∷ v ∷ [])) second
+    (subst (λ (l : ℕ). Leaves step (a ∷ []) (l ∷ vowel (a - 0xac00) ∷ [])) first
+    (open_left step built a inside (eq-eqb ((a - 0xac00) % 28) 0 even))) in
     left_double step c a b (leading (c - 0xac00) ∷ vowel (c - 0xac00) ∷ []) (b ∷ []) (built c _ (step_closed c e f)) front
     (jamo_left step built b (omega arith) (omega arith))
 
@@ -267,21 +265,21 @@ unfolding syllable_of
 syllable_pair a b c e =
     ⊎_elim
     (λ t.
-      let both = and_parts (is_within 0x1100 0x1112 a) (is_within 0x1161 0x1175 b) t in
-      let first = is_within-true 0x1100 0x1112 a both.0 in
-      let second = is_within-true 0x1161 0x1175 b both.1 in
-      jamo_pair a b c first.0 first.1 second.0 second.1 (sym (same_Some _ c (sym (cond-true _ _ _ t) ∙ e))))
+    let both = and_parts (is_within 0x1100 0x1112 a) (is_within 0x1161 0x1175 b) t in
+    let first = is_within-true 0x1100 0x1112 a both.0 in
+    let second = is_within-true 0x1161 0x1175 b both.1 in
+    jamo_pair a b c first.0 first.1 second.0 second.1 (sym (same_Some _ c (sym (cond-true _ _ _ t) ∙ e))))
     (λ f.
-      let rest = sym (cond-false _ _ _ f) ∙ e in
-      ⊎_elim
-      (λ t.
-        let both = and_parts (is_open_syllable a) (is_within 0x11a8 0x11c2 b) t in
-        let opened = and_parts (is_syllable a) (((a - 0xac00) % 28) == 0) both.0 in
-        let first = is_within-true 0xac00 0xd7a3 a opened.0 in
-        let second = is_within-true 0x11a8 0x11c2 b both.1 in
-        long_pair a b c first.0 first.1 (eqb-true ((a - 0xac00) % 28) 0 opened.1) second.0 second.1 (sym (same_Some _ c (sym (cond-true _ _ _ t) ∙ rest))))
-      (λ g. absurd (none-some c (sym (cond-false _ _ _ g) ∙ rest)))
-      (cases_Bool (is_open_syllable a && is_within 0x11a8 0x11c2 b)))
+    let rest = sym (cond-false _ _ _ f) ∙ e in
+    ⊎_elim
+    (λ t.
+    let both = and_parts (is_open_syllable a) (is_within 0x11a8 0x11c2 b) t in
+    let opened = and_parts (is_syllable a) (((a - 0xac00) % 28) == 0) both.0 in
+    let first = is_within-true 0xac00 0xd7a3 a opened.0 in
+    let second = is_within-true 0x11a8 0x11c2 b both.1 in
+    long_pair a b c first.0 first.1 (eqb-true ((a - 0xac00) % 28) 0 opened.1) second.0 second.1 (sym (same_Some _ c (sym (cond-true _ _ _ t) ∙ rest))))
+    (λ g. absurd (none-some c (sym (cond-false _ _ _ g) ∙ rest)))
+    (cases_Bool (is_open_syllable a && is_within 0x11a8 0x11c2 b)))
     (cases_Bool (is_within 0x1100 0x1112 a && is_within 0x1161 0x1175 b))
 
 -- ---- Mappings
@@ -308,10 +306,10 @@ pub built_in_short : (c : ℕ) (ds : List ℕ) → built_in_step c ≡ Some ds �
 built_in_short c ds e =
     ⊎_elim
     (λ w. let s = syllable_cases c w.0 in
-      subst (λ (t : List ℕ). All IsScalar t × (length t ≤ 2)) (sym s.2 ∙ w.1) (short_two s.0 s.1 (low_scalar s.0 s.5) (low_scalar s.1 s.4)))
+    subst (λ (t : List ℕ). All IsScalar t × (length t ≤ 2)) (sym s.2 ∙ w.1) (short_two s.0 s.1 (low_scalar s.0 s.5) (low_scalar s.1 s.4)))
     (λ w. ⊎_elim
-      (λ none. subst (λ (t : List ℕ). All IsScalar t × (length t ≤ 2)) (sym none) short_none)
-      (λ one. singled_short c ds one) w)
+    (λ none. subst (λ (t : List ℕ). All IsScalar t × (length t ≤ 2)) (sym none) short_none)
+    (λ one. singled_short c ds one) w)
     (built_in_cases c ds e)
 
 -- what has a built-in mapping is a scalar value
@@ -379,22 +377,22 @@ built_in_left step built marks c ds e =
       short = letters_short c;
     })
     (λ f. let rest = sym (cond-false (is_syllable c) (Some (syllable_step c)) (cond (is_jamo c || (c == 0xfffd)) (Some []) (singled_out c)) f) ∙ e in
-      ⊎_elim
-      (λ t.
-        let none : [] ≡ ds = same_Some [] ds (sym (cond-true (is_jamo c || (c == 0xfffd)) (Some []) (singled_out c) t) ∙ rest) in
-        record {
-          list = c ∷ [];
-          is = cond-false (is_syllable c) _ _ f ∙ cond-true (is_jamo c || (c == 0xfffd)) _ _ t;
-          left = left_alone step c (built c ds e ∙ sym none);
-          short = omega arith;
-        })
-      (λ g.
-        let one : singled_out c ≡ Some ds = sym (cond-false (is_jamo c || (c == 0xfffd)) (Some []) (singled_out c) g) ∙ rest in
-        record {
-          list = ds;
-          is = cond-false (is_syllable c) _ _ f ∙ cond-false (is_jamo c || (c == 0xfffd)) _ _ g ∙ one;
-          left = singled_left step built marks c ds one;
-          short = let s = (singled_short c ds one).1 in omega arith;
-        })
-      (cases_Bool (is_jamo c || (c == 0xfffd))))
+    ⊎_elim
+    (λ t.
+    let none : [] ≡ ds = same_Some [] ds (sym (cond-true (is_jamo c || (c == 0xfffd)) (Some []) (singled_out c) t) ∙ rest) in
+    record {
+      list = c ∷ [];
+      is = cond-false (is_syllable c) _ _ f ∙ cond-true (is_jamo c || (c == 0xfffd)) _ _ t;
+      left = left_alone step c (built c ds e ∙ sym none);
+      short = omega arith;
+    })
+    (λ g.
+    let one : singled_out c ≡ Some ds = sym (cond-false (is_jamo c || (c == 0xfffd)) (Some []) (singled_out c) g) ∙ rest in
+    record {
+      list = ds;
+      is = cond-false (is_syllable c) _ _ f ∙ cond-false (is_jamo c || (c == 0xfffd)) _ _ g ∙ one;
+      left = singled_left step built marks c ds one;
+      short = let s = (singled_short c ds one).1 in omega arith;
+    })
+    (cases_Bool (is_jamo c || (c == 0xfffd))))
     (cases_Bool (is_syllable c))

@@ -1,5 +1,5 @@
 -- Composed pairs in rising order: where that of two characters stands.
-use Rattle.std.proofs.Common.{◌≡◌, ◌≢◌, ℕ, zero, suc, ◌+◌, ◌-◌, ◌*◌, ◌/◌, ◌%◌, ◌^◌, ◌<◌, ◌≤◌, ◌⊎◌, inl, inr, ⊎_elim, Bool, true, false, List, [], ◌∷◌, length, slice_index, Option, None, Some, ◌==◌, ◌&&◌, cond, refl, sym, ap, subst, ◌∙◌, arith}
+use Rattle.std.proofs.Common.{◌≡◌, ◌≢◌, ℕ, zero, suc, ◌+◌, ◌-◌, ◌*◌, ◌/◌, ◌^◌, ◌<◌, ◌≤◌, ⊎_elim, true, false, List, [], ◌∷◌, length, slice_index, None, Some, ◌==◌, ◌&&◌, refl, sym, ap, subst, ◌∙◌, arith}
 use Rattle.std.proofs.lemmas.Bool.{cases_lt, cases_eq, cond-true, cond-false, eq-eqb, ne_eqb, and_from, and_left, and_right}
 use Rattle.icu_normalizer_core.specs.CanonicalLists.{ArePairs, listed_pair, pair_first, pair_second, pair_composed}
 
@@ -37,9 +37,9 @@ test_false : (pair a b : ℕ) → pair / 2 ^ 21 ≢ key_of a b → ((pair_first 
 test_false pair a b ne =
     ⊎_elim
     (λ first. ⊎_elim
-      (λ second. absurd (ne (omega arith)))
-      (λ other. and_right (pair_first pair == a) (pair_second pair == b) (ne_eqb (pair_second pair) b other))
-      (cases_eq (pair_second pair) b))
+    (λ second. absurd (ne (omega arith)))
+    (λ other. and_right (pair_first pair == a) (pair_second pair == b) (ne_eqb (pair_second pair) b other))
+    (cases_eq (pair_second pair) b))
     (λ other. and_left (pair_first pair == a) (pair_second pair == b) (ne_eqb (pair_first pair) a other))
     (cases_eq (pair_first pair) a)
 
@@ -75,13 +75,13 @@ unlisted_pair_between pairs a b place p below above within =
     unlisted_pair pairs a b (λ i h same.
     ⊎_elim
     (λ before. let last = below (omega arith) in ⊎_elim
-      (λ lt. let rises = pairs_rise pairs p i (place - 1) lt (omega arith) in omega arith)
-      (λ ge. let at : i ≡ place - 1 = omega arith in
-        let key : slice_index pairs i ≡ slice_index pairs (place - 1) = ap (λ (k : ℕ). slice_index pairs k) at in omega (arith, ap (λ (n : ℕ). n / 2 ^ 21) key))
-      (cases_lt i (place - 1)))
+    (λ lt. let rises = pairs_rise pairs p i (place - 1) lt (omega arith) in omega arith)
+    (λ ge. let at : i ≡ place - 1 = omega arith in
+    let key : slice_index pairs i ≡ slice_index pairs (place - 1) = ap (λ (k : ℕ). slice_index pairs k) at in omega (arith, ap (λ (n : ℕ). n / 2 ^ 21) key))
+    (cases_lt i (place - 1)))
     (λ behind. let first = above (omega arith) in ⊎_elim
-      (λ lt. let rises = pairs_rise pairs p place i lt h in omega arith)
-      (λ ge. let at : i ≡ place = omega arith in
-        let key : slice_index pairs i ≡ slice_index pairs place = ap (λ (k : ℕ). slice_index pairs k) at in omega (arith, ap (λ (n : ℕ). n / 2 ^ 21) key))
-      (cases_lt place i))
+    (λ lt. let rises = pairs_rise pairs p place i lt h in omega arith)
+    (λ ge. let at : i ≡ place = omega arith in
+    let key : slice_index pairs i ≡ slice_index pairs place = ap (λ (k : ℕ). slice_index pairs k) at in omega (arith, ap (λ (n : ℕ). n / 2 ^ 21) key))
+    (cases_lt place i))
     (cases_lt i place))

@@ -1,17 +1,14 @@
 -- Lists cut to nine, and what is settled.
-use Rattle.std.proofs.Common.{◌≡◌, ◌≢◌, ℕ, zero, suc, ◌+◌, ◌*◌, ◌/◌, ◌%◌, ◌<◌, ◌≤◌, ◌⊎◌, inl, inr, ⊎_elim, List, [], ◌∷◌, ◌++◌, length, take, slice_index, slice_get, Option, None, Some, true, false, refl, sym, ap, subst, ◌∙◌, append_assoc, arith}
-use Rattle.std.proofs.lemmas.Option.{none-some, same_Some}
+use Rattle.std.proofs.Common.{◌≡◌, ℕ, zero, suc, ◌+◌, ◌<◌, ◌≤◌, inl, inr, ⊎_elim, List, [], ◌∷◌, ◌++◌, length, take, slice_index, Option, None, Some, true, false, refl, sym, ap, subst, ◌∙◌, append_assoc, arith}
 use Rattle.std.proofs.lemmas.List.{append-nil, take_all, take_more}
 use Rattle.icu_normalizer_core.specs.declared.canonical.check.left.Left.{Left}
 use Rattle.icu_normalizer_core.specs.BuiltIn.{is_syllable, singled_out, built_in_step}
-use Rattle.icu_normalizer_core.specs.Canonical.{Leaves, nothing, unmapped, mapped, IsFree}
-use Rattle.icu_normalizer_core.specs.CanonicalLists.{step_in, listed_step, mapping, AreTriples}
+use Rattle.icu_normalizer_core.specs.Canonical.{Leaves, mapped}
+use Rattle.icu_normalizer_core.specs.CanonicalLists.{step_in}
 use Rattle.icu_normalizer_core.specs.CanonicalWords.{syllable_letters}
-use Rattle.icu_normalizer_core.specs.Triples.{IsUnlisted, IsTripleOf}
-use Rattle.icu_normalizer_core.specs.Settled.{left_items, IsStartOf, AreStarts, IsOpen, IsAmong, IsStuck, HasStuck, IsDone, key_at, mapping_of}
-use Rattle.icu_normalizer_core.proofs.LeftLemmas.{left_alone, left_single, left_double, left_append}
-use Rattle.icu_normalizer_core.proofs.TripleLemmas.{listed_none, listed_of}
-use Rattle.icu_normalizer_core.proofs.TableMeanings.{step_in_built_in, step_in_free}
+use Rattle.icu_normalizer_core.specs.Settled.{left_items, IsStartOf, IsOpen, IsAmong, IsStuck}
+use Rattle.icu_normalizer_core.proofs.LeftLemmas.{left_alone, left_append}
+use Rattle.icu_normalizer_core.proofs.TableMeanings.{step_in_built_in}
 use Rattle.icu_normalizer_core.proofs.BuiltInFacts.{all_singled_out, built_in_cases, syllable_left}
 
 -- ---- Lists cut

@@ -1,16 +1,14 @@
 -- Triples settled one after another, until no more can be.
-use Rattle.std.proofs.Common.{◌≡◌, ◌≢◌, ℕ, zero, suc, ◌+◌, ◌*◌, ◌/◌, ◌%◌, ◌<◌, ◌≤◌, ◌⊎◌, inl, inr, ⊎_elim, List, [], ◌∷◌, ◌++◌, length, take, drop, set, slice_index, slice_get, get_or, Bool, Option, None, Some, ◌==◌, true, false, refl, sym, ap, subst, ◌∙◌, arith}
+use Rattle.std.proofs.Common.{◌≡◌, ◌≢◌, ℕ, zero, suc, ◌+◌, ◌*◌, ◌/◌, ◌<◌, ◌≤◌, ◌⊎◌, inl, inr, ⊎_elim, List, [], ◌∷◌, ◌++◌, length, take, drop, set, slice_index, slice_get, get_or, Bool, Option, None, Some, ◌==◌, true, false, refl, sym, ap, subst, ◌∙◌, arith}
 use Rattle.std.proofs.lemmas.Bool.{cases_eq, cases_lt, ne_eqb, false≢true, cond-true, cond-false}
 use Rattle.std.specs.Option.{is_some}
 use Rattle.std.proofs.lemmas.Bool.Decides.{eqb_tells}
 use Rattle.std.proofs.Math.Seq.{take-append_seam}
 use Rattle.std.proofs.lemmas.Option.{none-some, same_Some}
 use Rattle.icu_normalizer_core.specs.declared.canonical.check.left.Left.{Left}
-use Rattle.icu_normalizer_core.specs.BuiltIn.{built_in_step}
 use Rattle.icu_normalizer_core.specs.Canonical.{Leaves, nothing, unmapped, mapped, IsFree}
-use Rattle.icu_normalizer_core.specs.CanonicalLists.{step_in, listed_step, mapping, AreTriples}
-use Rattle.icu_normalizer_core.specs.Triples.{IsTripleOf}
-use Rattle.icu_normalizer_core.specs.Settled.{left_items, IsStartOf, AreStarts, IsOpen, IsAmong, IsStuck, HasStuck, IsDone, key_at, mapping_of, open_count}
+use Rattle.icu_normalizer_core.specs.CanonicalLists.{step_in, mapping, AreTriples}
+use Rattle.icu_normalizer_core.specs.Settled.{IsStartOf, AreStarts, IsAmong, IsStuck, HasStuck, IsDone, key_at, mapping_of, open_count}
 use Rattle.icu_normalizer_core.proofs.TripleLemmas.{listed_of}
 use Rattle.icu_normalizer_core.proofs.TableMeanings.{step_in_free}
 use Rattle.icu_normalizer_core.proofs.SettledLemmas.{start_mapped}
@@ -75,12 +73,12 @@ starts_written steps settled i left t h starts s = record {
   each = λ j other e free.
       ⊎_elim
       (λ same.
-        let inside : i < length settled = let n = starts.count in omega arith in
-        let here : slice_get (set settled i (Some left)) i ≡ Some (Some other) = subst (λ (k : ℕ). slice_get (set settled i (Some left)) k ≡ Some (Some other)) same e in
-        let is : left ≡ other = same_Some left other (same_Some (Some left) (Some other) (sym (got_same settled i (Some left) inside) ∙ here)) in
-        let key : IsFree (key_at steps i) = subst (λ (k : ℕ). IsFree (key_at steps k)) same free in
-        subst (λ (k : ℕ). IsStartOf steps (key_at steps k ∷ []) other) (sym same)
-        (subst (λ (l : Left). IsStartOf steps (key_at steps i ∷ []) l) is (start_of_key steps i left t h key s)))
+      let inside : i < length settled = let n = starts.count in omega arith in
+      let here : slice_get (set settled i (Some left)) i ≡ Some (Some other) = subst (λ (k : ℕ). slice_get (set settled i (Some left)) k ≡ Some (Some other)) same e in
+      let is : left ≡ other = same_Some left other (same_Some (Some left) (Some other) (sym (got_same settled i (Some left) inside) ∙ here)) in
+      let key : IsFree (key_at steps i) = subst (λ (k : ℕ). IsFree (key_at steps k)) same free in
+      subst (λ (k : ℕ). IsStartOf steps (key_at steps k ∷ []) other) (sym same)
+      (subst (λ (l : Left). IsStartOf steps (key_at steps i ∷ []) l) is (start_of_key steps i left t h key s)))
       (λ ne. starts.each j other (sym (got_other settled i j (Some left) ne) ∙ e) free)
       (cases_eq j i);
 }
@@ -176,10 +174,10 @@ progress_none steps initial old new more after place p starts same stuck is =
       progress = λ happened. subst (λ (xs : List (Option Left)). open_count xs < open_count initial) (sym same) (p.progress (sym is ∙ happened));
       done = λ none i h e. ⊎_elim
           (λ before. subst (λ (xs : List (Option Left)). HasStuck steps xs (mapping_of steps i)) (sym same)
-            (p.done (sym is ∙ none) i before (subst (λ (xs : List (Option Left)). slice_get xs i ≡ Some None) same e)))
+          (p.done (sym is ∙ none) i before (subst (λ (xs : List (Option Left)). slice_get xs i ≡ Some None) same e)))
           (λ here.
-            let at : i ≡ place = omega arith in
-            subst (λ (k : ℕ). HasStuck steps new (mapping_of steps k)) (sym at) (stuck (subst (λ (k : ℕ). slice_get new k ≡ Some None) at e)))
+          let at : i ≡ place = omega arith in
+          subst (λ (k : ℕ). HasStuck steps new (mapping_of steps k)) (sym at) (stuck (subst (λ (k : ℕ). slice_get new k ≡ Some None) at e)))
           (cases_lt i place);
     }
 

@@ -1,8 +1,7 @@
 -- What tables mean, part by part.
-use Rattle.std.proofs.Common.{◌≡◌, ℕ, List, [], Option, None, Some, refl, ap}
+use Rattle.std.proofs.Common.{◌≡◌, ℕ, List, Option, None, Some, refl, ap}
 use Rattle.std.specs.Option.{unwrap_or}
 use Rattle.icu_normalizer_core.specs.BuiltIn.{built_in_step, syllable_of}
-use Rattle.icu_normalizer_core.specs.Canonical.{Canonical}
 use Rattle.icu_normalizer_core.specs.CanonicalWords.{class_of_word, full_of_word}
 use Rattle.icu_normalizer_core.specs.CanonicalLists.{CanonicalLists, canonical_of, step_in, listed_step, listed_pair}
 

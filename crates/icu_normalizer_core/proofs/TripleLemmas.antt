@@ -1,6 +1,6 @@
 -- Triples in rising order: where a character's stands.
-use Rattle.std.proofs.Common.{◌≡◌, ◌≢◌, ℕ, zero, suc, ◌+◌, ◌-◌, ◌*◌, ◌/◌, ◌%◌, ◌<◌, ◌≤◌, ◌⊎◌, inl, inr, ⊎_elim, List, [], ◌∷◌, length, get_or, slice_index, ◌==◌, cond, refl, sym, ap, subst, ◌∙◌, arith}
-use Rattle.std.proofs.lemmas.Bool.{cases_lt, cases_eq, cond-true, cond-false, eq-eqb, ne_eqb}
+use Rattle.std.proofs.Common.{◌≡◌, ◌≢◌, ℕ, zero, suc, ◌+◌, ◌-◌, ◌*◌, ◌/◌, ◌%◌, ◌<◌, ◌≤◌, ⊎_elim, List, [], ◌∷◌, length, slice_index, ◌==◌, refl, sym, ap, subst, ◌∙◌, arith}
+use Rattle.std.proofs.lemmas.Bool.{cases_lt, cond-true, cond-false, eq-eqb, ne_eqb}
 use Rattle.icu_normalizer_core.specs.CanonicalLists.{AreTriples, listed_step, mapping}
 use Rattle.icu_normalizer_core.specs.Triples.{IsUnlisted, IsTripleOf, IsTripleAt}
 
@@ -33,16 +33,16 @@ pub unlisted_between : (steps : List ℕ) (c place : ℕ) → AreTriples steps
 unlisted_between steps c place t below above within i h same =
     ⊎_elim
     (λ before. let inside : 3 * (place - 1) < length steps = omega arith in ⊎_elim
-      (λ lt. let first = keys_rise steps t i (place - 1) lt inside in let last = below (omega arith) in omega arith)
-      (λ ge. let at : i ≡ place - 1 = omega arith in let last = below (omega arith) in
-        let key : slice_index steps (3 * i) ≡ slice_index steps (3 * (place - 1)) = ap (λ (k : ℕ). slice_index steps (3 * k)) at in omega arith)
-      (cases_lt i (place - 1)))
+    (λ lt. let first = keys_rise steps t i (place - 1) lt inside in let last = below (omega arith) in omega arith)
+    (λ ge. let at : i ≡ place - 1 = omega arith in let last = below (omega arith) in
+    let key : slice_index steps (3 * i) ≡ slice_index steps (3 * (place - 1)) = ap (λ (k : ℕ). slice_index steps (3 * k)) at in omega arith)
+    (cases_lt i (place - 1)))
     (λ behind. ⊎_elim
-      (λ lt. let last = keys_rise steps t place i lt h in let first = above (omega arith) in omega arith)
-      (λ ge. let at : i ≡ place = omega arith in
-        let key : slice_index steps (3 * i) ≡ slice_index steps (3 * place) = ap (λ (k : ℕ). slice_index steps (3 * k)) at in
-        let first = above (omega arith) in omega arith)
-      (cases_lt place i))
+    (λ lt. let last = keys_rise steps t place i lt h in let first = above (omega arith) in omega arith)
+    (λ ge. let at : i ≡ place = omega arith in
+    let key : slice_index steps (3 * i) ≡ slice_index steps (3 * place) = ap (λ (k : ℕ). slice_index steps (3 * k)) at in
+    let first = above (omega arith) in omega arith)
+    (cases_lt place i))
     (cases_lt i place)
 
 -- ---- A character's mapping, by the place of its triple
@@ -64,7 +64,7 @@ listed_at (k ∷ a ∷ b ∷ rest) c zero h e before = cond-true (k == c) _ _ (e
 listed_at (k ∷ a ∷ b ∷ rest) c (suc i) h e before =
     let other : k ≢ c = before 0 (omega arith) in
     let later = listed_at rest c i (omega arith) (sym (further_key k a b rest i) ∙ e)
-      (λ j lt same. before (suc j) (omega arith) (further_key k a b rest j ∙ same)) in
+    (λ j lt same. before (suc j) (omega arith) (further_key k a b rest j ∙ same)) in
     cond-false (k == c) _ _ (ne_eqb k c other) ∙ later
     ∙ ap (λ (n : ℕ). mapping n (slice_index rest (3 * i + 2))) (sym (further k a b rest i 1))
     ∙ ap (λ (n : ℕ). mapping (slice_index (k ∷ a ∷ b ∷ rest) (3 * suc i + 1)) n) (sym (further k a b rest i 2))

@@ -1,5 +1,5 @@
 -- Canonical tables as plain lists and a word of each code point, and what they mean.
-use Rattle.std.specs.Prelude.{◌≡◌, ◌≢◌, ℕ, suc, ◌+◌, ◌-◌, ◌*◌, ◌/◌, ◌%◌, ◌^◌, ◌<◌, ◌≤◌, ◌⊎◌, Bool, true, cond, ◌==◌, ◌&&◌, leb, ltb, List, [], ◌∷◌, length, slice_index, Option, Some, None}
+use Rattle.std.specs.Prelude.{◌≡◌, ◌≢◌, ℕ, suc, ◌+◌, ◌*◌, ◌/◌, ◌%◌, ◌^◌, ◌<◌, Bool, cond, ◌==◌, ◌&&◌, List, [], ◌∷◌, length, slice_index, Option, Some, None}
 use Rattle.std.specs.Option.{unwrap_or}
 use Rattle.std.specs.Char.{IsScalar}
 use Rattle.icu_normalizer_core.specs.BuiltIn.{built_in_step, syllable_of}

@@ -1,5 +1,5 @@
 -- The words of canonical tables. A word says of its character a class or a full list, which may stand in two lists: scalars16 for characters below 2 ^ 16, scalars24 for any.
-use Rattle.std.specs.Prelude.{ℕ, ◌+◌, ◌-◌, ◌*◌, ◌/◌, ◌%◌, ◌^◌, Bool, true, false, cond, ◌==◌, ◌&&◌, ◌||◌, leb, ltb, List, [], ◌∷◌, length, take, drop, Option, Some}
+use Rattle.std.specs.Prelude.{ℕ, ◌+◌, ◌-◌, ◌/◌, ◌%◌, ◌^◌, Bool, true, cond, ◌==◌, ◌&&◌, ◌||◌, leb, ltb, List, [], ◌∷◌, length, take, drop, Option, Some}
 use Rattle.std.specs.Option.{is_some, unwrap_or}
 use Rattle.icu_normalizer_core.specs.BuiltIn.{is_within, is_syllable, is_jamo, singled_out, built_in_class}
 

@@ -7,5 +7,4 @@ ghost use Rattle.icu_normalizer_core.specs.CanonicalFaults.{IsAccepted};
 /// What accepted tables mean keeps both promises of canonical data.
 pub fn accepted_tables_are_canonical()
     ensures { (lists : CanonicalLists) → IsAccepted lists → IsCanonical (canonical_of lists) }
-{
-}
+{}

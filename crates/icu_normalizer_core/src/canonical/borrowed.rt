@@ -6,7 +6,7 @@ ghost use Rattle.icu_normalizer_core.specs.BorrowedMeaning.{borrowed_meaning};
 ghost use Rattle.icu_normalizer_core.specs.Properties.{mapped_to};
 
 use super::data::CanonicalData;
-use super::full_list::{full_list, FullList};
+use super::full_list::{FullList, full_list};
 use super::pairs::listed_pair;
 use super::steps::listed_step;
 use crate::built_in::{built_in_step, syllable_of};

@@ -65,12 +65,7 @@ fn character_at(tables: &CanonicalTables<'_>, source: Source, place: usize) -> c
 impl<'d> FullList<'d> {
     /// The characters from one place to before another.
     #[inline]
-    fn new(
-        tables: &'d CanonicalTables<'d>,
-        source: Source,
-        next: usize,
-        end: usize,
-    ) -> FullList<'d>
+    fn new(tables: &'d CanonicalTables<'d>, source: Source, next: usize, end: usize) -> FullList<'d>
         requires { IsPart (source_items tables.now source) next end }
         ensures { result ≡ items_at (source_items tables.now source) next (end - next) }
     {
@@ -85,7 +80,13 @@ impl<'d> FullList<'d> {
 
 /// So many characters from a place on, as many as there are.
 #[inline]
-fn part<'d>(tables: &'d CanonicalTables<'d>, source: Source, items: usize, place: usize, count: usize) -> FullList<'d>
+fn part<'d>(
+    tables: &'d CanonicalTables<'d>,
+    source: Source,
+    items: usize,
+    place: usize,
+    count: usize,
+) -> FullList<'d>
     requires items { items ≡ length (source_items tables.now source) }
     requires scalars { All IsScalar (items_at (source_items tables.now source) place count) }
     ensures { result ≡ items_at (source_items tables.now source) place count }

@@ -19,13 +19,14 @@ pub(super) fn triple_of(steps: &PackedVec<'_, u32>, c: u32) -> Option<usize>
     ensures fits { IfSome result (λ place. 3 * place + 2 < 2 ^ 64) }
 {
     let count = steps.len() / 3;
-    let place = first_past(count, |i|
-        requires inside { 3 * i < length steps.now }
-        requires fits { 3 * i < 2 ^ 64 }
-        ensures { IsTrue result ↔ (slice_index steps.entry.now (3 * i) < c) }
-    {
-        steps.at(3 * i) < c
-    });
+    let place = first_past(
+        count,
+        |i|
+            requires inside { 3 * i < length steps.now }
+            requires fits { 3 * i < 2 ^ 64 }
+            ensures { IsTrue result ↔ (slice_index steps.entry.now (3 * i) < c) }
+        { steps.at(3 * i) < c },
+    );
     if place < count && steps.at(3 * place) == c {
         Some(place)
     } else {

@@ -4,7 +4,7 @@ ghost use Rattle.std.specs.Prelude.{◌≡◌, ◌<◌, ◌^◌};
 ghost use Rattle.icu_normalizer_core.specs.CanonicalMeaning.{lists_of};
 ghost use Rattle.icu_normalizer_core.specs.CanonicalMeaning.{meaning};
 
-use super::words::{class_of_word, PLAIN_WORD};
+use super::words::{PLAIN_WORD, class_of_word};
 use icu_codepointtrie::CodePointTrie;
 use icu_packed_vector::PackedVec;
 

@@ -10,7 +10,7 @@ ghost use Rattle.icu_normalizer_core.specs.Settled.{left_items, IsStartOf, AreSt
 
 use super::left::Left;
 use crate::built_in::{built_in_step, is_syllable};
-use crate::canonical::steps::{triple_of, NO_SECOND};
+use crate::canonical::steps::{NO_SECOND, triple_of};
 use crate::properties::Decomposed;
 use icu_packed_vector::PackedVec;
 use std::alloc::{AllocError, Global};
@@ -129,11 +129,7 @@ fn left_of(steps: &PackedVec<'_, u32>, settled: &[Option<Left>], c: u32) -> Opti
 }
 
 /// What steps leave of the mapping of a triple; `None` where that isn't settled.
-fn mapping_left(
-    steps: &PackedVec<'_, u32>,
-    settled: &[Option<Left>],
-    place: usize,
-) -> Option<Left>
+fn mapping_left(steps: &PackedVec<'_, u32>, settled: &[Option<Left>], place: usize) -> Option<Left>
     requires triples { AreTriples steps.now }
     requires starts { AreStarts steps.now settled.now }
     requires inside { 3 * place + 2 < length steps.now }

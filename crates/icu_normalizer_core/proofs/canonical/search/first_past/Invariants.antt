@@ -1,4 +1,4 @@
-use Rattle.std.proofs.Common.{ℕ, ◌-◌, ◌<◌, ◌≤◌, true, false}
+use Rattle.std.proofs.Common.{◌-◌, ◌<◌, ◌≤◌, true, false}
 use Rattle.icu_normalizer_core.proofs.canonical.search.first_past.Given as goal
 
 abbrev pub invariant-loop-low : goal.invariant-loop-low

@@ -1,4 +1,4 @@
-use Rattle.std.proofs.Common.{◌≡◌, sym, ◌∙◌}
+use Rattle.std.proofs.Common.{sym, ◌∙◌}
 use Rattle.icu_normalizer_core.proofs.TripleLemmas.{listed_of, listed_none}
 use Rattle.icu_normalizer_core.proofs.canonical.steps.listed_step.Goals as goal
 

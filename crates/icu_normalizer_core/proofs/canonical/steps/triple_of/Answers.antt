@@ -1,4 +1,4 @@
-use Rattle.std.proofs.Common.{rules, ◌≡◌, ◌≢◌, ℕ, ◌+◌, ◌*◌, ◌-◌, ◌/◌, ◌<◌, ◌≤◌, length, slice_index, arith}
+use Rattle.std.proofs.Common.{rules, ◌*◌, ◌-◌, ◌<◌, slice_index, arith}
 use Rattle.icu_normalizer_core.proofs.TripleLemmas.{unlisted_between}
 use Rattle.icu_normalizer_core.proofs.canonical.steps.triple_of.Goals as goal
 use Rattle.icu_normalizer_core.proofs.canonical.steps.triple_of.Goals.{else-place-count-via-then-place-count+else-at-c, else-place-count-via-else-place-count}
@@ -9,10 +9,10 @@ returns-else-place-count-clause-place c =
     unlisted_between c.args.steps.now c.args.c c.first_past-place.result c.requires below
     (λ h. elim c.else-place-count.branch [
       | else-place-count-via-then-place-count+else-at-c w ↦
-        let past = c.first_past-place.ensures.past w.if-place-count.true in
-        let key = w.at.ensures.item 0 in
-        let not_below : slice_index c.args.steps.now (3 * c.first_past-place.result) < c.args.c → ⊥ = search rules in
-        omega (arith, not_below, key)
+          let past = c.first_past-place.ensures.past w.if-place-count.true in
+          let key = w.at.ensures.item 0 in
+          let not_below : slice_index c.args.steps.now (3 * c.first_past-place.result) < c.args.c → ⊥ = search rules in
+          omega (arith, not_below, key)
       | else-place-count-via-else-place-count w ↦ omega arith
     ])
     (let bound = c.first_past-place.ensures.bound in omega arith)

@@ -1,6 +1,5 @@
-use Rattle.std.proofs.Common.{◌≡◌, ℕ, Option, Some, None, sym, ◌∙◌}
+use Rattle.std.proofs.Common.{sym, ◌∙◌}
 use Rattle.icu_normalizer_core.specs.CanonicalMeaning.{lists_of}
-use Rattle.icu_normalizer_core.specs.BuiltIn.{syllable_of}
 use Rattle.icu_normalizer_core.proofs.AcceptedForms.{accepted_pairs}
 use Rattle.icu_normalizer_core.proofs.TableMeanings.{pair_syllable, pair_listed}
 use Rattle.icu_normalizer_core.proofs.canonical.borrowed.CanonicalBorrowed.compose.Goals as goal

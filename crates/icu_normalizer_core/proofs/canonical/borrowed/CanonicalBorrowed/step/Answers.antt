@@ -1,4 +1,4 @@
-use Rattle.std.proofs.Common.{◌≡◌, ℕ, List, Option, Some, None, sym, ap, ◌∙◌}
+use Rattle.std.proofs.Common.{◌≡◌, Some, None, sym, ap, ◌∙◌}
 use Rattle.std.specs.Option.{option_map}
 use Rattle.icu_normalizer_core.specs.CanonicalMeaning.{lists_of}
 use Rattle.icu_normalizer_core.specs.BuiltIn.{built_in_step}

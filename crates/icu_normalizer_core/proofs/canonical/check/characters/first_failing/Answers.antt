@@ -1,4 +1,4 @@
-use Rattle.std.proofs.Common.{rules, ◌≡◌, ℕ, Bool, true, false, ◌<◌, ◌≤◌, ⊎_elim, refl, sym, ap, subst, ◌∙◌, arith}
+use Rattle.std.proofs.Common.{◌≡◌, ◌<◌, ⊎_elim, sym, ap, subst, ◌∙◌, arith}
 use Rattle.std.specs.Char.{IsScalar}
 use lib.Utf8.{scalar_cases}
 use Rattle.std.proofs.lemmas.Bool.{both_ways, cases_lt}
@@ -19,14 +19,14 @@ loop-code-preserved g c = λ p same d scalar lt.
     ⊎_elim
     (λ before. c.loop-code.invariant p same d scalar before)
     (λ here.
-      let at : d ≡ c.loop-code.code = omega arith in
-      elim c.match-from_u32.branch [
-        | in-Some+else-not-passes w ↦
+    let at : d ≡ c.loop-code.code = omega arith in
+    elim c.match-from_u32.branch [
+      | in-Some+else-not-passes w ↦
           let is : w.in-Some.c ≡ c.loop-code.code = w.in-Some.ensures.value.1 in
           let s : IsScalar w.in-Some.c = subst IsScalar (sym is) w.in-Some.ensures.value.0 in
           ap p (at ∙ sym is) ∙ sym (same w.in-Some.c w.passes.result s w.passes.ensures) ∙ w.if-not-passes.false
-        | in_default w ↦ absurd (w.in_default.ensures.value (subst IsScalar at scalar))
-      ])
+      | in_default w ↦ absurd (w.in_default.ensures.value (subst IsScalar at scalar))
+    ])
     (cases_lt d c.loop-code.code)
 
 pub returns : goal.returns

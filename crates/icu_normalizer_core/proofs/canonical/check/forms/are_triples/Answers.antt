@@ -1,6 +1,4 @@
-use Rattle.std.proofs.Common.{rules, ◌≡◌, ℕ, ◌+◌, ◌*◌, ◌/◌, ◌%◌, ◌<◌, length, IsTrue, true, false, arith}
-use Rattle.icu_normalizer_core.specs.CanonicalLists.{AreTriples}
-use Rattle.icu_normalizer_core.specs.Triples.{IsTripleAt}
+use Rattle.std.proofs.Common.{rules, ◌≡◌, ◌+◌, ◌*◌, ◌%◌, ◌<◌, length, arith}
 use Rattle.icu_normalizer_core.proofs.TripleLemmas.{triple_at, triples_from}
 use Rattle.icu_normalizer_core.proofs.canonical.check.forms.are_triples.Goals as goal
 

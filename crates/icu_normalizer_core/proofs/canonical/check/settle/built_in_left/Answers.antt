@@ -1,7 +1,6 @@
-use Rattle.std.proofs.Common.{◌≡◌, ℕ, ◌≤◌, Option, Some, None, List, [], ◌∷◌, length, true, false, sym, ap, ◌∙◌, arith}
+use Rattle.std.proofs.Common.{◌≡◌, ℕ, Some, [], ◌∷◌, sym, ap, ◌∙◌, arith}
 use Rattle.icu_normalizer_core.specs.declared.properties.Decomposed.{Decomposed}
-use Rattle.icu_normalizer_core.specs.BuiltIn.{is_syllable, built_in_step}
-use Rattle.icu_normalizer_core.specs.CanonicalWords.{syllable_letters}
+use Rattle.icu_normalizer_core.specs.BuiltIn.{built_in_step}
 use Rattle.icu_normalizer_core.specs.Properties.{mapped_to}
 use Rattle.icu_normalizer_core.proofs.BuiltInFacts.{letters_short}
 use Rattle.icu_normalizer_core.proofs.TableMeanings.{step_in_built_in}

@@ -1,4 +1,4 @@
-use Rattle.std.proofs.Common.{◌≡◌, ◌∙◌}
+use Rattle.std.proofs.Common.{◌∙◌}
 use Rattle.icu_normalizer_core.proofs.SettledLemmas.{start_alone}
 use Rattle.icu_normalizer_core.proofs.TableMeanings.{step_in_free}
 use Rattle.icu_normalizer_core.proofs.TripleLemmas.{listed_none}

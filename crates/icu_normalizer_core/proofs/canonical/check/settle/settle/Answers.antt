@@ -1,4 +1,4 @@
-use Rattle.std.proofs.Common.{rules, ◌≡◌, List, Option, length, sym, subst, arith}
+use Rattle.std.proofs.Common.{rules, ◌≡◌, List, Option, length, sym, subst}
 use Rattle.icu_normalizer_core.specs.declared.canonical.check.left.Left.{Left}
 use Rattle.icu_normalizer_core.specs.Settled.{IsDone}
 use Rattle.icu_normalizer_core.proofs.SettlingLemmas.{vector_written}

@@ -1,4 +1,4 @@
-use Rattle.std.proofs.Common.{◌≡◌, ℕ, ◌<◌, length, Some, None, slice_get, arith}
+use Rattle.std.proofs.Common.{◌<◌, length, arith}
 use Rattle.icu_normalizer_core.proofs.SettlingLemmas.{starts_written, fewer_open, open_read}
 use Rattle.icu_normalizer_core.proofs.canonical.check.settle.settle_at.Goals as goal
 

@@ -1,4 +1,4 @@
-use Rattle.std.proofs.Common.{rules, ◌≡◌, ℕ, Bool, ◌&&◌}
+use Rattle.std.proofs.Common.{rules, ◌&&◌}
 use Rattle.icu_normalizer_core.specs.CanonicalMeaning.{lists_of}
 use Rattle.icu_normalizer_core.specs.CanonicalWords.{is_word}
 use Rattle.icu_normalizer_core.proofs.canonical.check.values.first_bad_value.Goals as goal

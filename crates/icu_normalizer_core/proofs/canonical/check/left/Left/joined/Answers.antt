@@ -1,4 +1,4 @@
-use Rattle.std.proofs.Common.{rules, ◌≡◌, ℕ, ◌<◌, length, arith}
+use Rattle.std.proofs.Common.{rules, ◌<◌, length}
 use Rattle.icu_normalizer_core.specs.Settled.{left_items}
 use Rattle.icu_normalizer_core.proofs.SettledLemmas.{cut_begun, cut_more}
 use Rattle.icu_normalizer_core.proofs.canonical.check.left.Left.joined.Goals as goal
