@@ -10,7 +10,9 @@ pub mod LeftLemmas
 pub mod PairLemmas
 pub mod SettledLemmas
 pub mod SettlingLemmas
+pub mod TableComputing
 pub mod TableMeanings
+mod TableRows
 pub mod TextLemmas
 pub mod TripleLemmas
 pub mod Utf16Lemmas
