@@ -5,6 +5,7 @@ pub mod BuiltInFacts
 pub mod DecodedLemmas
 pub mod DecodingComputing
 mod DecodingRows
+pub mod EndingLemmas
 pub mod FullListLemmas
 pub mod LeftLemmas
 pub mod PairLemmas
