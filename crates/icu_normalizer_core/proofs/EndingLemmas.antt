@@ -21,12 +21,12 @@ search_below steps c (suc n) =
     ⊎_elim
     (λ here. inr (n, omega arith, here))
     (λ other. ⊎_elim
-      (λ none. inl (λ i h same. ⊎_elim
-        (λ before. none i before same)
-        (λ last. let at : i ≡ n = omega arith in other (sym (ap (λ (k : ℕ). slice_index steps (3 * k)) at) ∙ same))
-        (cases_lt i n)))
-      (λ found. inr (found.0, (let h = found.1 in omega arith), found.2))
-      (search_below steps c n))
+    (λ none. inl (λ i h same. ⊎_elim
+    (λ before. none i before same)
+    (λ last. let at : i ≡ n = omega arith in other (sym (ap (λ (k : ℕ). slice_index steps (3 * k)) at) ∙ same))
+    (cases_lt i n)))
+    (λ found. inr (found.0, (let h = found.1 in omega arith), found.2))
+    (search_below steps c n))
     (cases_eq (slice_index steps (3 * n)) c)
 
 listed_or_not : (steps : List ℕ) (c : ℕ) → length steps % 3 ≡ 0 → IsUnlisted steps c ⊎ ((i : ℕ) × IsTripleOf steps c i)
@@ -89,9 +89,9 @@ module _ (steps : List ℕ) (settled : List (Option Left)) (t : AreTriples steps
       ⊎_elim
       (λ free. free_ends c free)
       (λ b. ⊎_elim
-        (λ w. (syllable_letters c, syllable_left (step_in steps) (step_in_built_in steps) c w.0))
-        (λ w. ⊎_elim
-          (λ none. (c ∷ [], left_alone (step_in steps) c (step_in_built_in steps c b.0 b.1 ∙ none)))
-          (λ one. singled_ends c b.0 one) w)
-        (built_in_cases c b.0 b.1))
+      (λ w. (syllable_letters c, syllable_left (step_in steps) (step_in_built_in steps) c w.0))
+      (λ w. ⊎_elim
+      (λ none. (c ∷ [], left_alone (step_in steps) c (step_in_built_in steps c b.0 b.1 ∙ none)))
+      (λ one. singled_ends c b.0 one) w)
+      (built_in_cases c b.0 b.1))
       (cases_step (built_in_step c))
