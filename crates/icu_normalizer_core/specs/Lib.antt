@@ -1,5 +1,13 @@
+pub mod BorrowedMeaning
 pub mod BuiltIn
 pub mod Canonical
+pub mod CanonicalFaults
+pub mod CanonicalLists
+pub mod CanonicalMeaning
+pub mod CanonicalWords
 pub mod Decoding
+pub mod FullLists
 pub mod Properties
 pub mod Sameness
+pub mod Settled
+pub mod Triples

@@ -1,7 +1,7 @@
 // What is built in: Hangul, jamo, U+FFFD, seven decompositions, two compatibility mappings, and classes.
 
-ghost use Rattle.std.specs.Prelude.{◌≡◌, ◌↔◌, ◌<◌, ◌≤◌, ℕ, Option, Some, option_map, true, IsTrue};
-ghost use Rattle.icu_normalizer_core.specs.BuiltIn.{is_syllable, is_jamo, singled_out, syllable_step, built_in_step, built_in_compatibility_step, built_in_class};
+ghost use Rattle.std.specs.Prelude.{◌≡◌, ◌↔◌, ◌<◌, ◌≤◌, ℕ, Option, Some, option_map, is_some, true, IsTrue};
+ghost use Rattle.icu_normalizer_core.specs.BuiltIn.{is_syllable, is_open_syllable, is_jamo, singled_out, syllable_step, syllable_of, built_in_step, built_in_compatibility_step, built_in_class};
 ghost use Rattle.icu_normalizer_core.specs.Properties.{mapped_to};
 
 use crate::properties::Decomposed;
@@ -23,7 +23,7 @@ pub fn is_jamo(c: u32) -> bool
 /// The canonical mapping of the seven characters whose mapping is built in without a composed pair (our profile); `None`
 /// for any other.
 #[tactic(auto, unfolding(crate::specs::BuiltIn::singled_out))]
-fn singled_out(c: u32) -> Option<Decomposed>
+pub(crate) fn singled_out(c: u32) -> Option<Decomposed>
     ensures { option_map mapped_to result ≡ singled_out c }
 {
     match c {
@@ -36,6 +36,14 @@ fn singled_out(c: u32) -> Option<Decomposed>
         0xf81 => Some(Decomposed::Expansion('\u{f71}', '\u{f80}')),
         _ => None,
     }
+}
+
+/// Whether the character is one of those seven.
+#[tactic(auto, unfolding(crate::specs::BuiltIn::singled_out))]
+pub(crate) fn is_singled_out(c: u32) -> bool
+    ensures { result ≡ is_some (singled_out c) }
+{
+    matches!(c, 0x340 | 0x341 | 0x343 | 0x344 | 0xf73 | 0xf75 | 0xf81)
 }
 
 /// The built-in mapping of a Hangul syllable: its leading consonant and vowel, or the syllable without its trailing
@@ -57,8 +65,31 @@ fn syllable_step(c: u32) -> Decomposed
     }
 }
 
+/// The Hangul syllable that two characters compose to: a leading consonant and a vowel, or a syllable of two and a
+/// trailing consonant (UAX 15); `None` of any other two.
+#[tactic(auto, unfolding(crate::specs::BuiltIn::syllable_of))]
+pub fn syllable_of(first: u32, second: u32) -> Option<char>
+    ensures { result ≡ syllable_of first second }
+{
+    if (0x1100..=0x1112).contains(&first) && (0x1161..=0x1175).contains(&second) {
+        let place = (first - 0x1100) * 21 + (second - 0x1161);
+        Some(letter(0xac00 + place * 28))
+    } else if is_open_syllable(first) && (0x11a8..=0x11c2).contains(&second) {
+        Some(letter(first + (second - 0x11a7)))
+    } else {
+        None
+    }
+}
+
+/// Whether a code point is a Hangul syllable of two jamo.
+fn is_open_syllable(c: u32) -> bool
+    ensures { result ≡ is_open_syllable c }
+{
+    is_syllable(c) && (c - 0xac00) % 28 == 0
+}
+
 /// A Hangul syllable or a jamo as a character.
-fn letter(c: u32) -> char
+pub(crate) fn letter(c: u32) -> char
     requires from { 0x1100 ≤ c }
     requires to { c < 0xd800 }
     ensures { result ≡ c }

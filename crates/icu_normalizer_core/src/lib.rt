@@ -3,5 +3,7 @@
 #![tactic(auto)]
 
 pub mod built_in;
+pub mod canonical;
 pub mod decoding;
+pub mod laws;
 pub mod properties;

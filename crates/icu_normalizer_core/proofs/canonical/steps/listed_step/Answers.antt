@@ -1,0 +1,9 @@
+use Rattle.std.proofs.Common.{sym, ◌∙◌}
+use Rattle.icu_normalizer_core.proofs.TripleLemmas.{listed_of, listed_none}
+use Rattle.icu_normalizer_core.proofs.canonical.steps.listed_step.Goals as goal
+
+pub returns-in-Some : goal.returns-in-Some
+returns-in-Some c = c.mapping_at.ensures ∙ sym (listed_of c.args.steps.now c.args.c c.in-Some.place c.requires c.in-Some.ensures.place)
+
+pub returns-in-None : goal.returns-in-None
+returns-in-None c = sym (listed_none c.args.steps.now c.args.c c.in-None.ensures.place)

@@ -1,0 +1,16 @@
+//! Canonical data in packed tables: classes, mappings, full lists and composed pairs of all characters.
+
+mod borrowed;
+mod check;
+mod data;
+mod full_list;
+mod pairs;
+mod search;
+mod steps;
+mod tables;
+mod words;
+
+pub use borrowed::CanonicalBorrowed;
+pub use data::CanonicalData;
+pub use full_list::FullList;
+pub use tables::{CanonicalFault, CanonicalTables};

@@ -1,0 +1,65 @@
+//! Canonical data, borrowed: what they say of each character. No call here takes memory.
+
+ghost use Rattle.std.specs.Prelude.{◌≡◌, ◌↔◌, IsTrue};
+ghost use Rattle.icu_normalizer_core.specs.Canonical.{is_starter};
+ghost use Rattle.icu_normalizer_core.specs.BorrowedMeaning.{borrowed_meaning};
+ghost use Rattle.icu_normalizer_core.specs.Properties.{mapped_to};
+
+use super::data::CanonicalData;
+use super::full_list::{FullList, full_list};
+use super::pairs::listed_pair;
+use super::steps::listed_step;
+use crate::built_in::{built_in_step, syllable_of};
+use crate::properties::Decomposed;
+
+/// Canonical data, borrowed.
+#[derive(Clone, Copy, Debug)]
+pub struct CanonicalBorrowed<'d> {
+    pub(super) checked: &'d CanonicalData<'d>,
+}
+
+impl<'d> CanonicalBorrowed<'d> {
+    /// The canonical combining class of a character; a starter has 0 (UAX 15).
+    #[inline]
+    pub fn class(&self, c: char) -> u8
+        ensures { result ≡ (borrowed_meaning self.now).class c }
+    {
+        self.checked.tables().class(c)
+    }
+
+    /// Whether a character is a starter: its class is 0 (UAX 15).
+    #[inline]
+    pub fn is_starter(&self, c: char) -> bool
+        ensures { result ≡ is_starter (borrowed_meaning self.now) c }
+    {
+        self.class(c) == 0
+    }
+
+    /// The canonical mapping of a character (UAX 15); built-in ones too.
+    pub fn step(&self, c: char) -> Decomposed
+        ensures { mapped_to result ≡ (borrowed_meaning self.now).step c }
+    {
+        match built_in_step(c as u32) {
+            Some(step) => step,
+            None => listed_step(&self.checked.tables().steps, c as u32),
+        }
+    }
+
+    /// The character that two compose to, `None` where they don't compose (UAX 15); Hangul too.
+    pub fn compose(&self, first: char, second: char) -> Option<char>
+        ensures { result ≡ (borrowed_meaning self.now).pair first second }
+    {
+        match syllable_of(first as u32, second as u32) {
+            Some(syllable) => Some(syllable),
+            None => listed_pair(&self.checked.tables().pairs, first as u32, second as u32),
+        }
+    }
+
+    /// The full list of a character: what mapping steps leave of it (UAX 15). It has one to eight characters.
+    #[inline]
+    pub fn full_list(&self, c: char) -> FullList<'d>
+        ensures { result ≡ (borrowed_meaning self.now).full c }
+    {
+        full_list(self.checked.tables(), c)
+    }
+}

@@ -1,0 +1,7 @@
+//! The check of canonical tables: a function for each kind of fault, which names its least character.
+
+mod characters;
+mod forms;
+mod left;
+mod settle;
+mod values;

@@ -1,0 +1,21 @@
+//! The least character that fails a test.
+
+ghost use Rattle.std.specs.Prelude.{◌≡◌, ℕ, Bool, false, MatchOption};
+ghost use Rattle.std.specs.Char.{IsScalar};
+ghost use Rattle.icu_normalizer_core.specs.CanonicalFaults.{NoneOffends, IsLeastOffender};
+
+/// The least character that fails the test, `None` where each passes it.
+pub(super) fn first_failing<F: Fn(char) -> bool>(passes: F) -> Option<char>
+    requires { F.IsAlwaysCallable passes }
+    ensures { (p : ℕ → Bool) → ((c : ℕ) (b : Bool) → IsScalar c → F.post passes c b → b ≡ p c)
+        → MatchOption result (NoneOffends (λ c. p c ≡ false)) (IsLeastOffender (λ c. p c ≡ false)) }
+{
+    for code in 0..0x11_0000u32 {
+        if let Some(c) = char::from_u32(code) {
+            if !passes(c) {
+                return Some(c);
+            }
+        }
+    }
+    None
+}

@@ -1,0 +1,214 @@
+//! What mapping steps leave of each character, found triple by triple.
+
+ghost use Rattle.std.specs.Prelude.{◌≡◌, ◌+◌, ◌*◌, ◌^◌, ◌<◌, ◌≤◌, [], ◌∷◌, ◌++◌, true, false, length, take, slice_get, Some, None, MatchOption, IfOk};
+ghost use Rattle.icu_normalizer_core.specs.BuiltIn.{is_syllable, built_in_step};
+ghost use Rattle.icu_normalizer_core.specs.Canonical.{IsFree};
+ghost use Rattle.icu_normalizer_core.specs.CanonicalLists.{AreTriples};
+ghost use Rattle.icu_normalizer_core.specs.CanonicalWords.{syllable_letters};
+ghost use Rattle.icu_normalizer_core.specs.Properties.{mapped_to};
+ghost use Rattle.icu_normalizer_core.specs.Settled.{left_items, IsStartOf, AreStarts, IsOpen, IsStuck, HasStuck, IsDone, mapping_of, open_count};
+
+use super::left::Left;
+use crate::built_in::{built_in_step, is_syllable};
+use crate::canonical::steps::{NO_SECOND, triple_of};
+use crate::properties::Decomposed;
+use icu_packed_vector::PackedVec;
+use std::alloc::{AllocError, Global};
+
+impl Left {
+    /// One character.
+    pub(super) fn one(c: u32) -> Left
+        ensures { left_items result ≡ c ∷ [] }
+    {
+        Left {
+            characters: [c; 9],
+            count: 1,
+        }
+    }
+
+    /// Both, one behind the other, cut to nine.
+    pub(super) fn joined(self, other: Left) -> Left
+        ensures { left_items result ≡ take 9 (left_items self ++ left_items other) }
+    {
+        let mut left = self;
+        for i in 0..other.count {
+            left = left.with(other.characters[i]);
+        }
+        left
+    }
+
+    /// With one more character, if there is room.
+    fn with(self, c: u32) -> Left
+        ensures { left_items result ≡ take 9 (left_items self ++ c ∷ []) }
+    {
+        if self.count == 9 {
+            return self;
+        }
+        let mut characters = self.characters;
+        characters[self.count] = c;
+        Left {
+            characters,
+            count: self.count + 1,
+        }
+    }
+}
+
+/// The letters of a Hangul syllable (UAX 15).
+#[tactic(auto, unfolding(crate::specs::CanonicalWords::syllable_letters))]
+fn letters(c: u32) -> Left
+    requires { is_syllable c ≡ true }
+    ensures { left_items result ≡ syllable_letters c }
+{
+    let place = c - 0xac00;
+    let pair = Left::one(0x1100 + place / 588).with(0x1161 + place % 588 / 28);
+    if place % 28 == 0 {
+        pair
+    } else {
+        pair.with(0x11a7 + place % 28)
+    }
+}
+
+/// What steps leave of a character without a built-in mapping; `None` where that isn't settled.
+fn listed_left(steps: &PackedVec<'_, u32>, settled: &[Option<Left>], c: u32) -> Option<Left>
+    requires triples { AreTriples steps.now }
+    requires starts { AreStarts steps.now settled.now }
+    requires free { IsFree c }
+    ensures { MatchOption result (IsOpen steps.now settled.now c) (IsStartOf steps.now (c ∷ [])) }
+{
+    match triple_of(steps, c) {
+        Some(place) => settled[place],
+        None => Some(Left::one(c)),
+    }
+}
+
+/// What steps leave of a character with a built-in mapping; `None` where that isn't settled.
+fn built_in_left(
+    steps: &PackedVec<'_, u32>,
+    settled: &[Option<Left>],
+    c: u32,
+    step: Decomposed,
+) -> Option<Left>
+    requires triples { AreTriples steps.now }
+    requires starts { AreStarts steps.now settled.now }
+    requires built_in { built_in_step c ≡ Some (mapped_to step) }
+    ensures { MatchOption result (IsStuck steps.now settled.now c) (IsStartOf steps.now (c ∷ [])) }
+{
+    if is_syllable(c) {
+        return Some(letters(c));
+    }
+    match step {
+        Decomposed::Default => Some(Left::one(c)),
+        Decomposed::Singleton(a) => {
+            let Some(left) = listed_left(steps, settled, a as u32) else {
+                return None;
+            };
+            Some(left)
+        }
+        Decomposed::Expansion(a, b) => {
+            let Some(first) = listed_left(steps, settled, a as u32) else {
+                return None;
+            };
+            let Some(second) = listed_left(steps, settled, b as u32) else {
+                return None;
+            };
+            Some(first.joined(second))
+        }
+    }
+}
+
+/// What steps leave of a character; `None` where that isn't settled.
+fn left_of(steps: &PackedVec<'_, u32>, settled: &[Option<Left>], c: u32) -> Option<Left>
+    requires triples { AreTriples steps.now }
+    requires starts { AreStarts steps.now settled.now }
+    ensures { MatchOption result (IsStuck steps.now settled.now c) (IsStartOf steps.now (c ∷ [])) }
+{
+    match built_in_step(c) {
+        None => listed_left(steps, settled, c),
+        Some(step) => built_in_left(steps, settled, c, step),
+    }
+}
+
+/// What steps leave of the mapping of a triple; `None` where that isn't settled.
+fn mapping_left(steps: &PackedVec<'_, u32>, settled: &[Option<Left>], place: usize) -> Option<Left>
+    requires triples { AreTriples steps.now }
+    requires starts { AreStarts steps.now settled.now }
+    requires inside { 3 * place + 2 < length steps.now }
+    requires fits { 3 * place + 2 < 2 ^ 64 }
+    ensures { MatchOption result (HasStuck steps.now settled.now (mapping_of steps.now place)) (IsStartOf steps.now (mapping_of steps.now place)) }
+{
+    let Some(first) = left_of(steps, settled, steps.at(3 * place + 1)) else {
+        return None;
+    };
+    let second = steps.at(3 * place + 2);
+    if second == NO_SECOND {
+        return Some(first);
+    }
+    let Some(other) = left_of(steps, settled, second) else {
+        return None;
+    };
+    Some(first.joined(other))
+}
+
+/// Settles a triple, where it wasn't settled and can be; whether it was.
+fn settle_at(steps: &PackedVec<'_, u32>, settled: &mut [Option<Left>], place: usize) -> bool
+    requires triples { AreTriples steps.now }
+    requires starts { AreStarts steps.now settled.old }
+    requires inside { 3 * place + 2 < length steps.now }
+    requires fits { 3 * place + 2 < 2 ^ 64 }
+    ensures starts { AreStarts steps.now settled.new }
+    ensures progress { result ≡ true → open_count settled.new < open_count settled.old }
+    ensures same { result ≡ false → settled.new ≡ settled.old }
+    ensures stuck { result ≡ false → slice_get settled.new place ≡ Some None → HasStuck steps.now settled.new (mapping_of steps.now place) }
+{
+    if settled[place].is_some() {
+        return false;
+    }
+    let Some(left) = mapping_left(steps, settled, place) else {
+        return false;
+    };
+    settled[place] = Some(left);
+    true
+}
+
+/// Settles the triples that can be, one after another; whether there was one.
+fn settle_once(steps: &PackedVec<'_, u32>, settled: &mut [Option<Left>]) -> bool
+    requires triples { AreTriples steps.now }
+    requires starts { AreStarts steps.now settled.old }
+    ensures starts { AreStarts steps.now settled.new }
+    ensures progress { result ≡ true → open_count settled.new < open_count settled.old }
+    ensures done { result ≡ false → IsDone steps.now settled.new }
+{
+    let count = steps.len() / 3;
+    let mut more = false;
+    for place in 0..count {
+        if settle_at(steps, settled, place) {
+            more = true;
+        }
+    }
+    more
+}
+
+/// What steps leave of the triples' characters, where they end. The only error is want of memory.
+pub(super) fn settle(
+    alloc: Global,
+    steps: &PackedVec<'_, u32>,
+) -> Result<Vec<Option<Left>>, AllocError>
+    requires { AreTriples steps.now }
+    ensures starts { IfOk result (λ settled. AreStarts steps.now settled.items) }
+    ensures done { IfOk result (λ settled. IsDone steps.now settled.items) }
+{
+    let mut settled = all_open(alloc, steps)?;
+    while settle_once(steps, settled.as_mut_slice()) {}
+    Ok(settled)
+}
+
+/// No triple is settled yet. The only error is want of memory.
+fn all_open(alloc: Global, steps: &PackedVec<'_, u32>) -> Result<Vec<Option<Left>>, AllocError>
+    ensures { IfOk result (λ settled. AreStarts steps.now settled.items) }
+{
+    let mut settled = Vec::new(alloc);
+    for _ in 0..steps.len() / 3 {
+        settled.push(None)?;
+    }
+    Ok(settled)
+}

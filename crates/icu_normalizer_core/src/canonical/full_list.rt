@@ -1,0 +1,224 @@
+//! Full lists, read where they stand.
+
+ghost use Rattle.std.specs.Prelude.{◌≡◌, ◌-◌, ◌^◌, ◌<◌, true, false, [], ◌∷◌, length, slice_index, All, unwrap_or};
+ghost use Rattle.std.specs.Char.{IsScalar};
+ghost use Rattle.std.specs.Iterator.{YieldsFirst, item_count};
+ghost use Rattle.icu_normalizer_core.specs.CanonicalWords.{items_at, is_list_word, list_at, syllable_letters, full_of_word};
+ghost use Rattle.icu_normalizer_core.specs.CanonicalMeaning.{meaning};
+ghost use Rattle.icu_normalizer_core.specs.BuiltIn.{singled_out};
+ghost use Rattle.icu_normalizer_core.specs.FullLists.{source_items, IsPart};
+
+use super::tables::CanonicalTables;
+use super::words::{is_list_word, is_one_word, is_pair_word, is_singled_word};
+use crate::built_in::{letter, singled_out};
+use crate::properties::Decomposed;
+use std::iter::FusedIterator;
+use std::marker::Model;
+
+/// Where the characters of a full list stand.
+#[derive(Clone, Copy, Debug)]
+pub(super) enum Source {
+    /// Here, from the first on.
+    Few([char; 3]),
+    /// In the tables' `scalars16`.
+    In16,
+    /// In the tables' `scalars24`.
+    In24,
+}
+
+/// The full list of a character, in order, seen as the list of the characters that are left. Nothing is
+/// allocated.
+#[derive(Debug, Drop)]
+pub struct FullList<'d> {
+    tables: &'d CanonicalTables<'d>,
+    source: Source,
+    next: usize,
+    end: usize,
+}
+
+impl<'d> Model for FullList<'d> {
+    ghost use Rattle.std.specs.Prelude.{ℕ, ◌-◌, List};
+    ghost use Rattle.icu_normalizer_core.specs.CanonicalWords.{items_at};
+    ghost use Rattle.icu_normalizer_core.specs.FullLists.{source_items, IsPart};
+
+    ghost Value = { List ℕ };
+
+    ghost view = { λ it. items_at (source_items it.tables.now it.source) it.next (it.end - it.next) };
+
+    ghost invariant = { λ it. IsPart (source_items it.tables.now it.source) it.next it.end };
+}
+
+/// The character at a place.
+#[inline]
+fn character_at(tables: &CanonicalTables<'_>, source: Source, place: usize) -> char
+    requires inside { place < length (source_items tables.now source) }
+    requires scalar { IsScalar (slice_index (source_items tables.now source) place) }
+    ensures { result ≡ slice_index (source_items tables.now source) place }
+{
+    match source {
+        Source::Few(characters) => characters[place],
+        Source::In16 => char::from_u32(tables.scalars16.at(place) as u32).unwrap(),
+        Source::In24 => tables.scalars24.at(place),
+    }
+}
+
+impl<'d> FullList<'d> {
+    /// The characters from one place to before another.
+    #[inline]
+    fn new(tables: &'d CanonicalTables<'d>, source: Source, next: usize, end: usize) -> FullList<'d>
+        requires { IsPart (source_items tables.now source) next end }
+        ensures { result ≡ items_at (source_items tables.now source) next (end - next) }
+    {
+        FullList {
+            tables,
+            source,
+            next,
+            end,
+        }
+    }
+}
+
+/// So many characters from a place on, as many as there are.
+#[inline]
+fn part<'d>(
+    tables: &'d CanonicalTables<'d>,
+    source: Source,
+    items: usize,
+    place: usize,
+    count: usize,
+) -> FullList<'d>
+    requires items { items ≡ length (source_items tables.now source) }
+    requires scalars { All IsScalar (items_at (source_items tables.now source) place count) }
+    ensures { result ≡ items_at (source_items tables.now source) place count }
+{
+    let next = place.min(items);
+    let end = next + count.min(items - next);
+    FullList::new(tables, source, next, end)
+}
+
+/// The list of one character.
+#[inline]
+fn one<'d>(tables: &'d CanonicalTables<'d>, a: char) -> FullList<'d>
+    ensures { result ≡ a ∷ [] }
+{
+    FullList::new(tables, Source::Few([a, a, a]), 0, 1)
+}
+
+/// The list of two characters.
+#[inline]
+fn two<'d>(tables: &'d CanonicalTables<'d>, a: char, b: char) -> FullList<'d>
+    ensures { result ≡ a ∷ b ∷ [] }
+{
+    FullList::new(tables, Source::Few([a, b, b]), 0, 2)
+}
+
+/// The letters of a Hangul syllable (UAX 15).
+#[tactic(auto, unfolding(crate::specs::CanonicalWords::syllable_letters))]
+fn letters<'d>(tables: &'d CanonicalTables<'d>, c: u32) -> FullList<'d>
+    requires { c < 0x110000 }
+    ensures { result ≡ syllable_letters c }
+{
+    let place = c.saturating_sub(0xac00);
+    let leading = letter(0x1100 + place / 588);
+    let vowel = letter(0x1161 + place % 588 / 28);
+    let trailing = place % 28;
+    if trailing == 0 {
+        two(tables, leading, vowel)
+    } else {
+        let last = letter(0x11a7 + trailing);
+        FullList::new(tables, Source::Few([leading, vowel, last]), 0, 3)
+    }
+}
+
+/// The list of a built-in mapping to characters that aren't mapped, or the character itself.
+fn singled<'d>(tables: &'d CanonicalTables<'d>, c: char) -> FullList<'d>
+    ensures { result ≡ unwrap_or (singled_out c) (c ∷ []) }
+{
+    match singled_out(c as u32) {
+        None => one(tables, c),
+        Some(Decomposed::Default) => FullList::new(tables, Source::In24, 0, 0),
+        Some(Decomposed::Singleton(a)) => one(tables, a),
+        Some(Decomposed::Expansion(a, b)) => two(tables, a, b),
+    }
+}
+
+/// The list that a word names a place of.
+#[tactic(auto, unfolding(crate::specs::CanonicalWords::list_at))]
+fn listed<'d>(tables: &'d CanonicalTables<'d>, word: u32) -> FullList<'d>
+    requires word { is_list_word word ≡ true }
+    requires scalars { All IsScalar (list_at tables.now.scalars16 tables.now.scalars24 word) }
+    ensures { result ≡ list_at tables.now.scalars16 tables.now.scalars24 word }
+{
+    let offset = (word / 0x1_0000) as usize - 1;
+    let count = (word % 16) as usize;
+    let in_16 = tables.scalars16.len();
+    if offset < in_16 {
+        part(tables, Source::In16, in_16, offset, count + 2)
+    } else {
+        let in_24 = tables.scalars24.len();
+        part(tables, Source::In24, in_24, offset - in_16, count + 1)
+    }
+}
+
+/// The list that a word states by itself.
+#[tactic(auto, unfolding(crate::specs::CanonicalWords::full_of_word))]
+fn stated<'d>(tables: &'d CanonicalTables<'d>, c: char, word: u32) -> FullList<'d>
+    requires word { is_list_word word ≡ false }
+    requires bound { word < 2 ^ 30 }
+    ensures { result ≡ full_of_word tables.now.scalars16 tables.now.scalars24 c word }
+{
+    if is_pair_word(word) {
+        two(tables, character(word % 0x8000), character(word / 0x8000))
+    } else if is_one_word(word) {
+        one(tables, character(word))
+    } else if word == 1 {
+        letters(tables, c as u32)
+    } else if is_singled_word(word) {
+        singled(tables, c)
+    } else {
+        one(tables, c)
+    }
+}
+
+/// A scalar value as a character.
+fn character(code: u32) -> char
+    requires { IsScalar code }
+    ensures { result ≡ code }
+{
+    char::from_u32(code).unwrap()
+}
+
+/// The full list of a character.
+#[inline]
+pub(super) fn full_list<'d>(tables: &'d CanonicalTables<'d>, c: char) -> FullList<'d>
+    requires { All IsScalar ((meaning tables.now).full c) }
+    ensures { result ≡ (meaning tables.now).full c }
+{
+    let word = tables.word(c);
+    if is_list_word(word) {
+        listed(tables, word)
+    } else {
+        stated(tables, c, word)
+    }
+}
+
+impl Iterator for FullList<'_> {
+    type Item = char;
+
+    ghost next_gives = { YieldsFirst (λ rest. rest) };
+
+    ghost remaining = { item_count (λ rest. rest) };
+
+    #[inline]
+    fn next(&mut self) -> Option<char> {
+        if self.next == self.end {
+            return None;
+        }
+        let place = self.next;
+        let c = character_at(self.tables, self.source, place);
+        self.next = place + 1;
+        Some(c)
+    }
+}
+
+impl FusedIterator for FullList<'_> {}

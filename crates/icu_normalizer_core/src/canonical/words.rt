@@ -1,0 +1,83 @@
+//! What the words of canonical tables say.
+
+ghost use Rattle.std.specs.Prelude.{◌≡◌, ◌<◌, ◌^◌};
+ghost use Rattle.icu_normalizer_core.specs.CanonicalWords.{is_mark_word, is_singled_word, is_one_word, is_pair_word, is_list_word, states_list, class_of_word, is_word};
+
+use crate::built_in::{built_in_class, is_singled_out, is_syllable};
+
+/// A word without its two uppermost bits.
+pub(super) const PLAIN_WORD: u32 = 0x3fff_ffff;
+
+/// Whether the word is that of a mark, which states its class.
+#[inline]
+pub(super) fn is_mark_word(word: u32) -> bool
+    ensures { result ≡ is_mark_word word }
+{
+    (0xd801..=0xd8fe).contains(&word)
+}
+
+/// Whether the word is that of the seven characters with a built-in mapping but without a composed pair.
+#[inline]
+pub(super) fn is_singled_word(word: u32) -> bool
+    ensures { result ≡ is_singled_word word }
+{
+    (0xd900..=0xd9ff).contains(&word)
+}
+
+/// Whether the word states a list of one character, itself.
+#[inline]
+pub(super) fn is_one_word(word: u32) -> bool
+    ensures { result ≡ is_one_word word }
+{
+    (2..=0xd7ff).contains(&word) || (0xe000..=0xffff).contains(&word)
+}
+
+/// Whether the word states a list of two characters, one in its lower 15 bits.
+#[inline]
+pub(super) fn is_pair_word(word: u32) -> bool
+    ensures { result ≡ is_pair_word word }
+{
+    word >= 0x1_0000 && word & 0x7fff >= 0x20
+}
+
+/// Whether the word states where a list stands.
+#[inline]
+pub(super) fn is_list_word(word: u32) -> bool
+    ensures { result ≡ is_list_word word }
+{
+    word >= 0x1_0000 && word & 0xffff < 0x20
+}
+
+/// Whether the word states a full list.
+pub(super) fn states_list(word: u32) -> bool
+    ensures { result ≡ states_list word }
+{
+    is_one_word(word) || is_pair_word(word) || is_list_word(word)
+}
+
+/// Whether the word has one of the forms for the character.
+#[tactic(auto, unfolding(crate::specs::CanonicalWords::is_word))]
+pub(super) fn is_word(c: u32, word: u32) -> bool
+    ensures { result ≡ is_word c word }
+{
+    word == 0
+        || (word == 1 && is_syllable(c))
+        || is_mark_word(word)
+        || (is_singled_word(word) && is_singled_out(c))
+        || states_list(word)
+}
+
+/// The class that the word says of the character.
+#[inline]
+#[tactic(auto, unfolding(crate::specs::CanonicalWords::class_of_word))]
+pub(super) fn class_of_word(c: u32, word: u32) -> u8
+    ensures { result ≡ class_of_word c word }
+{
+    if is_mark_word(word) {
+        (word - 0xd800) as u8
+    } else if is_singled_word(word) {
+        built_in_class(c).unwrap_or(0)
+    } else {
+        0
+    }
+}
