@@ -1,5 +1,5 @@
 -- What is built in: Hangul, jamo, U+FFFD, seven decompositions that compose to nothing, two compatibility mappings,
--- and the classes of the marks that these name (UAX 15; our profile fixes the list).
+-- and the classes of the marks that these name (UAX 15; the list is that of docs/RECORDS.md).
 use Rattle.std.specs.Prelude.{ℕ, ◌+◌, ◌-◌, ◌*◌, ◌/◌, ◌%◌, Bool, cond, ◌==◌, ◌&&◌, ◌||◌, leb, List, [], ◌∷◌, Option, Some, None}
 
 -- first ≤ c ≤ last

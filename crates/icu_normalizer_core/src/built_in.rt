@@ -13,14 +13,14 @@ pub fn is_syllable(c: u32) -> bool
     (0xac00..=0xd7a3).contains(&c)
 }
 
-/// Whether a code point is in the block of Hangul jamo, U+1100 to U+11FF (our profile).
+/// Whether a code point is in the block of Hangul jamo, U+1100 to U+11FF (docs/RECORDS.md, "What is built in").
 pub fn is_jamo(c: u32) -> bool
     ensures { result ≡ is_jamo c }
 {
     (0x1100..=0x11ff).contains(&c)
 }
 
-/// The canonical mapping of the seven characters whose mapping is built in without a composed pair (our profile); `None`
+/// The canonical mapping of the seven characters whose mapping is built in without a composed pair (docs/RECORDS.md, "What is built in"); `None`
 /// for any other.
 #[tactic(auto, unfolding(crate::specs::BuiltIn::singled_out))]
 pub(crate) fn singled_out(c: u32) -> Option<Decomposed>
@@ -98,7 +98,7 @@ pub(crate) fn letter(c: u32) -> char
 }
 
 /// The canonical mapping of a character that has a built-in one, `Default` where it is built in that there is none; `None`
-/// where nothing is built in (our profile).
+/// where nothing is built in (docs/RECORDS.md, "What is built in").
 #[tactic(auto, unfolding(crate::specs::BuiltIn::built_in_step))]
 pub fn built_in_step(c: u32) -> Option<Decomposed>
     ensures { option_map mapped_to result ≡ built_in_step c }
@@ -112,7 +112,7 @@ pub fn built_in_step(c: u32) -> Option<Decomposed>
     }
 }
 
-/// The compatibility mapping of a character that has a built-in one (our profile).
+/// The compatibility mapping of a character that has a built-in one (docs/RECORDS.md, "What is built in").
 #[tactic(auto, unfolding(crate::specs::BuiltIn::built_in_compatibility_step))]
 pub fn built_in_compatibility_step(c: u32) -> Option<Decomposed>
     ensures { option_map mapped_to result ≡ built_in_compatibility_step c }
@@ -124,7 +124,7 @@ pub fn built_in_compatibility_step(c: u32) -> Option<Decomposed>
     }
 }
 
-/// The canonical combining class of a character that has a built-in one (our profile).
+/// The canonical combining class of a character that has a built-in one (docs/RECORDS.md, "What is built in").
 #[tactic(auto, unfolding(crate::specs::BuiltIn::built_in_class))]
 pub fn built_in_class(c: u32) -> Option<u8>
     ensures { result ≡ built_in_class c }

@@ -247,6 +247,3 @@ pub fn text_reads_as_written()
     ensures utf8 { (chars : List ℕ) → All IsScalar chars → utf8_chars (encode_utf8_all chars) ≡ chars }
     ensures utf16 { (chars : List ℕ) → All IsScalar chars → utf16_chars (flat_map encode_utf16 chars) ≡ chars }
 {}
-
-#[cfg(test)]
-mod tests;

@@ -1,13 +1,13 @@
-// Vectors of the Unicode Standard from both ends, and callers as a library above writes them.
+//! Vectors of the Unicode Standard from both ends, and callers as a library above writes them.
 ghost use Rattle.std.specs.Prelude.{◌≡◌, IfOk};
 ghost use Rattle.std.specs.List.{All};
 ghost use Rattle.std.specs.Char.{IsScalar};
 ghost use Rattle.icu_normalizer_core.specs.Decoding.{utf8_chars, utf16_chars};
 
-use super::{decode_latin1, decode_utf8, decode_utf16};
+use icu_normalizer_core::decoding::{decode_latin1, decode_utf8, decode_utf16};
 use std::alloc::{AllocError, Global};
 
-// The characters of UTF-8 bytes, kept.
+/// The characters of UTF-8 bytes, kept.
 fn kept_utf8(alloc: Global, bytes: &[u8]) -> Result<Vec<char>, AllocError>
     ensures chars { IfOk result (λ chars. chars.items ≡ utf8_chars bytes.now) }
     ensures scalars { IfOk result (λ chars. All IsScalar chars.items) }
@@ -19,7 +19,7 @@ fn kept_utf8(alloc: Global, bytes: &[u8]) -> Result<Vec<char>, AllocError>
     Ok(chars)
 }
 
-// The characters of UTF-16 units, collected.
+/// The characters of UTF-16 units, collected.
 fn collected_utf16(alloc: Global, units: &[u16]) -> Result<Vec<char>, AllocError>
     ensures { IfOk result (λ chars. chars.items ≡ utf16_chars units.now) }
 {
