@@ -143,7 +143,7 @@ impl fmt::Display for RecordFault {
 
 impl Error for RecordFault {}
 
-/// Why a records file was refused.
+/// Why a records file was refused. A fault prints as `LINE RULE`, memory that is refused as `out of memory`.
 #[derive(Clone, Copy, Debug, PartialEq, Eq)]
 pub enum RecordsError {
     /// The file breaks a rule.
@@ -151,6 +151,22 @@ pub enum RecordsError {
     /// Memory was refused.
     Memory,
 }
+
+impl fmt::Display for RecordsError {
+    ghost use Rattle.std.specs.Prelude.{Some};
+    ghost use Rattle.collate_records.specs.Rule.{records_error_text};
+
+    ghost output = { λ error. Some (records_error_text error) };
+
+    fn fmt<W: fmt::Write>(&self, f: &mut fmt::Formatter<W>) -> fmt::Result {
+        match self {
+            RecordsError::Fault(fault) => write!(f, "{fault}"),
+            RecordsError::Memory => f.write_str("out of memory"),
+        }
+    }
+}
+
+impl Error for RecordsError {}
 
 impl From<AllocError> for RecordsError {
     ghost use Rattle.std.specs.Prelude.{◌≡◌};
