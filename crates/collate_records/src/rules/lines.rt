@@ -22,12 +22,7 @@ use icu_normalizer_core::properties::Decomposed;
 pub fn first_bad_class(records: &[Record]) -> Option<usize>
     ensures { MatchOption result (NoneOffends Rule.C3 (map said records.now)) (λ i. IsFirstOffender Rule.C3 (map said records.now) i) }
 {
-    for (i, given) in records.iter().enumerate() {
-        if is_bad_class(given) {
-            return Some(i);
-        }
-    }
-    None
+    records.iter().position(is_bad_class)
 }
 
 /// The first line that contradicts what is built in (rule C8, our profile); a line that says the
@@ -35,12 +30,7 @@ pub fn first_bad_class(records: &[Record]) -> Option<usize>
 pub fn first_contradiction(records: &[Record]) -> Option<usize>
     ensures { MatchOption result (NoneOffends Rule.C8 (map said records.now)) (λ i. IsFirstOffender Rule.C8 (map said records.now) i) }
 {
-    for (i, given) in records.iter().enumerate() {
-        if contradicts(given) {
-            return Some(i);
-        }
-    }
-    None
+    records.iter().position(contradicts)
 }
 
 /// The first line whose mapping names a jamo or a syllable, unless the mapping is built in (rule
@@ -48,12 +38,7 @@ pub fn first_contradiction(records: &[Record]) -> Option<usize>
 pub fn first_mapped_hangul(records: &[Record]) -> Option<usize>
     ensures { MatchOption result (NoneOffends Rule.C9 (map said records.now)) (λ i. IsFirstOffender Rule.C9 (map said records.now) i) }
 {
-    for (i, given) in records.iter().enumerate() {
-        if maps_hangul(given) {
-            return Some(i);
-        }
-    }
-    None
+    records.iter().position(maps_hangul)
 }
 
 /// Whether a line gives a class outside 1 to 254 that isn't built in.
