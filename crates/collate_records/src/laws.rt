@@ -15,7 +15,7 @@ ghost use Rattle.collate_records.specs.Files.{IsAccepted, records_of};
 /// profile; after UAX 15.)
 ///
 /// It computes nothing: its contract is the law.
-#[tactic(auto, using(crate::proofs::Decomposing::decomposing))]
+#[tactic(auto, using(crate::proofs::mappings::DecomposingLemmas::decomposing))]
 pub fn accepted_lines_decompose()
     ensures { (records : List Record) → AreScalars records → NoneOffends C1 records → NoneOffends C2 records
         → NoneOffends C3 records → NoneOffends C4 records → NoneOffends C9 records → IsDecomposing (canonical_of records) }
@@ -25,7 +25,7 @@ pub fn accepted_lines_decompose()
 /// rule. (Our profile.)
 ///
 /// It computes nothing: its contract is the law.
-#[tactic(auto, using(crate::proofs::AcceptedLines::accepted_lines))]
+#[tactic(auto, using(crate::proofs::reading::AcceptedLemmas::accepted_lines))]
 pub fn accepted_files_have_accepted_lines()
     ensures { (file : List ℕ) → IsAccepted file → AreAccepted (records_of file) }
 {}
@@ -34,7 +34,7 @@ pub fn accepted_files_have_accepted_lines()
 /// profile; after UAX 15.)
 ///
 /// It computes nothing: its contract is the law.
-#[tactic(auto, using(crate::proofs::AcceptedLines::accepted_decompose))]
+#[tactic(auto, using(crate::proofs::reading::AcceptedLemmas::accepted_decompose))]
 pub fn accepted_records_decompose()
     ensures { (records : List Record) → AreAccepted records → IsDecomposing (canonical_of records) }
 {}
@@ -43,7 +43,7 @@ pub fn accepted_records_decompose()
 /// settings are the default ones. (docs/RECORDS.md.)
 ///
 /// It computes nothing: its contract is the law.
-#[tactic(auto, using(crate::proofs::KnownRecords::accepted_plain))]
+#[tactic(auto, using(crate::proofs::reading::KnownRecordLemmas::accepted_plain))]
 pub fn accepted_records_are_plain()
     ensures { (records : List Record) → AreAccepted records → ArePlain records }
 {}
@@ -51,7 +51,7 @@ pub fn accepted_records_are_plain()
 /// An accepted file gives canonical data, as far as decomposing goes. (Our profile; after UAX 15.)
 ///
 /// It computes nothing: its contract is the law.
-#[tactic(auto, using(crate::proofs::AcceptedLines::accepted_file))]
+#[tactic(auto, using(crate::proofs::reading::AcceptedLemmas::accepted_file))]
 pub fn accepted_files_decompose()
     ensures { (file : List ℕ) → IsAccepted file → IsDecomposing (canonical_of (records_of file)) }
 {}

@@ -57,7 +57,7 @@ impl Records {
 
     /// Reads a records file, as `read` does, into tables over tries of this type: small ones take less memory, fast ones
     /// less time a look-up.
-    #[tactic(auto, using(crate::proofs::Classes::accepted_classes, crate::proofs::Keys::accepted_once))]
+    #[tactic(auto, using(crate::proofs::offenders::ClassLemmas::accepted_classes, crate::proofs::lookups::KeyLemmas::accepted_once))]
     pub fn read_over(
         alloc: Global,
         bytes: &[u8],
@@ -74,7 +74,7 @@ impl Records {
     /// they give canonical data, as far as decomposing goes (our profile; after UAX 15).
     ///
     /// It computes nothing: its contract is what every holder of records knows.
-    #[tactic(auto, using(crate::proofs::AcceptedLines::accepted_decompose))]
+    #[tactic(auto, using(crate::proofs::reading::AcceptedLemmas::accepted_decompose))]
     pub fn keep_rules(&self)
         ensures accepted { AreAccepted self.now }
         ensures canonical { IsDecomposing (canonical_of self.now) }
@@ -83,7 +83,7 @@ impl Records {
     }
 
     /// What the file sets of the options (docs/RECORDS.md). No line that sets any is read yet.
-    #[tactic(auto, using(crate::proofs::KnownRecords::default_set))]
+    #[tactic(auto, using(crate::proofs::reading::KnownRecordLemmas::default_set))]
     pub fn settings(&self) -> FileSettings
         ensures { let collation = collation_of self.now in result ≡ collation.options }
     {

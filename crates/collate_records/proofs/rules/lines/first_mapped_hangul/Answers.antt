@@ -1,6 +1,6 @@
 use Rattle.std.proofs.Common.{rules}
 use Rattle.std.proofs.lemmas.Iterator.{IsFirst-from_position, YieldsList-from_slice}
-use Rattle.collate_records.proofs.Lines.{first_by_test}
+use Rattle.collate_records.proofs.offenders.LineRuleLemmas.{first_by_test}
 use Rattle.collate_records.specs.Record.{said}
 use Rattle.collate_records.specs.Rules.{MapsHangul}
 use Rattle.collate_records.proofs.rules.lines.first_mapped_hangul.Goals as goal

@@ -1,7 +1,7 @@
 use Rattle.std.proofs.Common.{◌≡◌, ◌+◌, take, List, subst, sym, map, ◌∙◌, ap, Vec, Global}
 use Rattle.std.proofs.lemmas.Bool.{false≢true}
-use Rattle.collate_records.proofs.Breaches.{breach_at, unbroken_at, unbroken_past, none_at_end}
-use Rattle.collate_records.proofs.BadLists.{HasBadList-same}
+use Rattle.collate_records.proofs.offenders.BreachLemmas.{breach_at, unbroken_at, unbroken_past, none_at_end}
+use Rattle.collate_records.proofs.lists.BadListLemmas.{HasBadList-same}
 use Rattle.collate_records.specs.declared.canonical_part.CanonicalPart.{CanonicalPart}
 use Rattle.collate_records.specs.Record.{said}
 use Rattle.collate_records.specs.Rules.{HasBadList}

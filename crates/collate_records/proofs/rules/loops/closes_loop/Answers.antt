@@ -9,8 +9,8 @@ use Rattle.collate_records.specs.declared.canonical_part.CanonicalPart.{Canonica
 use Rattle.collate_records.specs.Meaning.{any_step}
 use Rattle.collate_records.specs.Rules.{HasLoop}
 use Rattle.collate_records.specs.CanonicalParts.{in_full}
-use Rattle.collate_records.proofs.LoopParts.{class_closes_none, built_in_closes_none, mapped_closes_none, mapped_found, mapped_not_found, closes_iff}
-use Rattle.collate_records.proofs.SameParts.{parts_without_compatibility}
+use Rattle.collate_records.proofs.mappings.LoopPartLemmas.{class_closes_none, built_in_closes_none, mapped_closes_none, mapped_found, mapped_not_found, closes_iff}
+use Rattle.collate_records.proofs.mappings.CanonicalPartLemmas.{parts_without_compatibility}
 use Rattle.collate_records.proofs.rules.loops.closes_loop.Goals as goal
 use Rattle.collate_records.proofs.rules.loops.closes_loop.Goals.{then-is_built_in, else-is_built_in}
 

@@ -4,9 +4,9 @@ use Rattle.collate_records.specs.declared.canonical_part.CanonicalPart.{Canonica
 use Rattle.collate_records.specs.Record.{said}
 use Rattle.collate_records.specs.Rules.{HasLoop}
 use Rattle.collate_records.specs.CanonicalParts.{in_full, SaysSame}
-use Rattle.collate_records.proofs.SameParts.{stated_read_push, SaysSame-none}
-use Rattle.collate_records.proofs.Breaches.{breach_at, unbroken_at, unbroken_past, none_at_end}
-use Rattle.collate_records.proofs.LoopParts.{HasLoop-same, HasLoop-none}
+use Rattle.collate_records.proofs.mappings.CanonicalPartLemmas.{stated_read_push, SaysSame-none}
+use Rattle.collate_records.proofs.offenders.BreachLemmas.{breach_at, unbroken_at, unbroken_past, none_at_end}
+use Rattle.collate_records.proofs.mappings.LoopPartLemmas.{HasLoop-same, HasLoop-none}
 use Rattle.collate_records.proofs.rules.loops.first_loop.Goals as goal
 use Rattle.collate_records.proofs.rules.loops.first_loop.Goals.{in-Some+in_ok-is_closed+in_ok-push+else-is_closed, in_default}
 

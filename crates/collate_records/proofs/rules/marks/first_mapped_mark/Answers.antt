@@ -1,6 +1,6 @@
 use Rattle.std.proofs.Common.{◌≡◌, ◌+◌, take, List, subst, sym, map, ◌∙◌, ap, Vec, Global}
-use Rattle.collate_records.proofs.Breaches.{breach_at, unbroken_at, unbroken_past, none_at_end}
-use Rattle.collate_records.proofs.Marks.{MapsMark-same, marked_parts, unmarked}
+use Rattle.collate_records.proofs.offenders.BreachLemmas.{breach_at, unbroken_at, unbroken_past, none_at_end}
+use Rattle.collate_records.proofs.offenders.MappedMarkLemmas.{MapsMark-same, marked_parts, unmarked}
 use Rattle.collate_records.specs.declared.canonical_part.CanonicalPart.{CanonicalPart}
 use Rattle.collate_records.specs.Record.{said}
 use Rattle.collate_records.specs.Rules.{MapsMark}

@@ -13,7 +13,7 @@ use Rattle.collate_records.specs.declared.rule.RecordsError.TheVariants.{Fault}
 use Rattle.collate_records.specs.Grammar.{checked, record_of}
 use Rattle.collate_records.specs.Known.{is_known, if_known, known_record_of}
 use Rattle.collate_records.specs.Forms.{known_line}
-use Rattle.collate_records.proofs.KnownForms.{line_known}
+use Rattle.collate_records.proofs.reading.KnownFormLemmas.{line_known}
 use Rattle.collate_records.specs.Record.{Record, nothing, said}
 use Rattle.collate_records.specs.Seen.{is_seen}
 use Rattle.collate_records.specs.Rules.{record_at, is_second, Repeats}

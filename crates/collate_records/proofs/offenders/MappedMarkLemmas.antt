@@ -10,7 +10,7 @@ use Rattle.collate_records.specs.Record.{Record}
 use Rattle.collate_records.specs.Meaning.{first_found, mapping_in, is_built_in, class_of}
 use Rattle.collate_records.specs.Rules.{MapsMark, IsMappedMark}
 use Rattle.collate_records.specs.CanonicalParts.{in_full, SaysSame, subject_of, IsMarkOfParts}
-use Rattle.collate_records.proofs.SameParts.{class_of-same, first_found-other_class, first_found-other_mapping, first_found-other_compatibility, parts_without_compatibility, stated_push}
+use Rattle.collate_records.proofs.mappings.CanonicalPartLemmas.{class_of-same, first_found-other_class, first_found-other_mapping, first_found-other_compatibility, parts_without_compatibility, stated_push}
 
 -- a character is a mapped mark by its class and by what lines say of its mappings
 abbrev IsMarkBy : ℕ → ℕ → Option (List ℕ) → Option (List ℕ) → Type 0

@@ -21,7 +21,7 @@ use Rattle.collate_records.specs.Rules.{record_at, named, names_in, different, i
 use Rattle.collate_records.specs.Offenders.{NoneOffends}
 use Rattle.collate_records.specs.Files.{IsAccepted, lines_of, read_line, records_of}
 use Rattle.collate_records.specs.declared.record.Record.{Record as Line}
-use Rattle.collate_records.proofs.Limits.{said_of}
+use Rattle.collate_records.proofs.offenders.LimitLemmas.{said_of}
 use Rattle.collate_records.specs.Tables.{class_key, mapping_key, weights_key}
 
 -- a line is for one character, as others of its kind are for theirs

@@ -12,7 +12,7 @@ use Rattle.collate_records.specs.Meaning.{first_found, mapping_in, compatibility
 use Rattle.collate_records.specs.Rules.{is_mapped, IsBadlyMapped, compatibility_full_of, begins_with_mark, IsBadList, HasBadList}
 use Rattle.collate_records.specs.CanonicalParts.{in_full, SaysSame, subject_of, IsBadOfParts}
 use Rattle.collate_records.specs.Lists.{is_mark_at, IsFront}
-use Rattle.collate_records.proofs.SameParts.{other_mapping, class_of-same, step_of-same, any_step-same, parts_without_compatibility}
+use Rattle.collate_records.proofs.mappings.CanonicalPartLemmas.{other_mapping, class_of-same, step_of-same, any_step-same, parts_without_compatibility}
 
 pub expanded_none : (step : ℕ → List ℕ) (n c : ℕ) → n ≡ 0 → expanded step n c ≡ c ∷ []
 unfolding expanded
