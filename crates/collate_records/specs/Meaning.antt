@@ -71,7 +71,7 @@ any_step records c =
 abbrev pub pair_of : List Record → ℕ → ℕ → Option ℕ
 pair_of records a b = elim (syllable_of a b) [ Some c ↦ Some c | None ↦ first_found (composed_in a b) records ]
 
--- what at most so many steps, one after another, leave of a character
+-- what is left of a character after at most n steps, one after another
 unfoldable pub expanded : (ℕ → List ℕ) → ℕ → ℕ → List ℕ
 expanded step zero c = c ∷ []
 expanded step (suc n) c = elim (step c) [ [] ↦ c ∷ [] | d ∷ ds ↦ flat_map (expanded step n) (d ∷ ds) ]

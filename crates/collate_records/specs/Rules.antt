@@ -112,7 +112,7 @@ abbrev pub begins_with_mark : List Record → List ℕ → Bool
 begins_with_mark records [] = false
 begins_with_mark records (c ∷ cs) = not (class_of records c == 0)
 
--- what at most so many steps of either kind leave of a character
+-- what is left of a character after all steps of either kind
 abbrev pub compatibility_full_of : List Record → ℕ → List ℕ
 compatibility_full_of records c = expanded (any_step records) 0x110000 c
 

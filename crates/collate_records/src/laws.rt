@@ -11,8 +11,8 @@ ghost use Rattle.collate_records.specs.Known.{ArePlain};
 ghost use Rattle.collate_records.specs.Files.{IsAccepted, records_of};
 
 /// Lines of the grammar of which none breaks `C1` to `C4` or `C9` give canonical data, as far as
-/// decomposing goes: mapping steps end, and a full list has at most eight characters. (Our
-/// profile; after UAX 15.)
+/// decomposing goes: mapping steps end, and a full list has at most eight characters
+/// (docs/RECORDS.md; UAX 15).
 ///
 /// It computes nothing: its contract is the law.
 #[tactic(auto, using(crate::proofs::mappings::DecomposingLemmas::decomposing))]
@@ -22,7 +22,7 @@ pub fn accepted_lines_decompose()
 {}
 
 /// The lines of an accepted file are accepted: each is in the grammar, and none offends against a
-/// rule. (Our profile.)
+/// rule (docs/RECORDS.md).
 ///
 /// It computes nothing: its contract is the law.
 #[tactic(auto, using(crate::proofs::reading::AcceptedLemmas::accepted_lines))]
@@ -30,8 +30,8 @@ pub fn accepted_files_have_accepted_lines()
     ensures { (file : List ℕ) → IsAccepted file → AreAccepted (records_of file) }
 {}
 
-/// Accepted lines, as those of all records are, give canonical data, as far as decomposing goes. (Our
-/// profile; after UAX 15.)
+/// Accepted lines, as those of all records are, give canonical data, as far as decomposing goes
+/// (docs/RECORDS.md; UAX 15).
 ///
 /// It computes nothing: its contract is the law.
 #[tactic(auto, using(crate::proofs::reading::AcceptedLemmas::accepted_decompose))]
@@ -40,7 +40,7 @@ pub fn accepted_records_decompose()
 {}
 
 /// Records are plain so far: they give elements to single characters alone, without prefixes, digits or ranges, and all
-/// settings are the default ones. (docs/RECORDS.md.)
+/// settings are the default ones (docs/RECORDS.md).
 ///
 /// It computes nothing: its contract is the law.
 #[tactic(auto, using(crate::proofs::reading::KnownRecordLemmas::accepted_plain))]
@@ -48,7 +48,7 @@ pub fn accepted_records_are_plain()
     ensures { (records : List Record) → AreAccepted records → ArePlain records }
 {}
 
-/// An accepted file gives canonical data, as far as decomposing goes. (Our profile; after UAX 15.)
+/// An accepted file gives canonical data, as far as decomposing goes (docs/RECORDS.md; UAX 15).
 ///
 /// It computes nothing: its contract is the law.
 #[tactic(auto, using(crate::proofs::reading::AcceptedLemmas::accepted_file))]

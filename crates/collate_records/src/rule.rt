@@ -1,4 +1,4 @@
-// The rules that a records file keeps, and the fault of a file that breaks one.
+//! The rules that a records file keeps, and the fault of a file that breaks one.
 
 ghost use Rattle.std.specs.Prelude.{◌≡◌};
 
@@ -6,7 +6,7 @@ use std::alloc::AllocError;
 use std::error::Error;
 use std::fmt;
 
-/// A rule of the records file (our profile). It prints as the program names it: `grammar`,
+/// A rule of the records file (docs/RECORDS.md). It prints as the program names it: `grammar`,
 /// `limit`, `set`, `C1` to `C9`, `V1` to `V15`.
 #[derive(Clone, Copy, Debug, PartialEq, Eq)]
 pub enum Rule {

@@ -1,4 +1,4 @@
-// Small files and the first fault that the rules find in each. The answers are those of another reading of the rules.
+//! Small files and the first fault that the rules find in each. The answers are those of another reading of the rules.
 
 use crate::reader::{at, fault_of};
 use collate_records::rule::{RecordFault, RecordsError, Rule};

@@ -32,7 +32,7 @@ line_read lines i d h = get_or-map (λ (line : Bor (List ℕ)). line.now) lines 
 pub many_taken : (n : ℕ) (bs : List ℕ) → n < length bs → n ≡ length (take n bs)
 many_taken n bs h = omega (arith, length-take n bs)
 
--- what was seen is what the first so many lines are for
+-- what was seen is what the lines read so far are for
 pub record HasSeen (seen : Seen) (records : List Record) : Type 0 where
   pub each : (other : Record) → is_seen seen other ≡ list_any (λ s. is_second s other) records
 
