@@ -7,7 +7,7 @@ use Rattle.icu_normalizer_core.specs.Canonical.{Reaches}
 use Rattle.collate_records.specs.declared.rule.Rule.{Rule}
 use Rattle.collate_records.specs.declared.rule.Rule.TheVariants.{Grammar, Limit, Set, C1, C2, C3, C4, C5, C6, C7, C8, C9, V1, V2, V3, V4, V5, V6, V7, V8, V9, V10, V11, V12, V13, V14, V15}
 use Rattle.collate_records.specs.Record.{Record, nothing, class, mapping, compatibility, weights, range, digit, setting, Setting, alternate, backward, case_first, max_variable, dot_above, numeric, groups, compress, reorder}
-use Rattle.collate_records.specs.Meaning.{is_built_in, first_found, mapping_in, compatibility_in, class_of, step_of, any_step, expanded, full_of, is_same_layer}
+use Rattle.collate_records.specs.Meaning.{is_built_in, first_found, mapping_in, compatibility_in, class_of, any_step, expanded, full_of, is_same_layer}
 
 -- what line i says
 abbrev pub record_at : List Record → ℕ → Record

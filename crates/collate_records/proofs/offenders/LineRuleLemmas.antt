@@ -1,5 +1,5 @@
 -- What line i says, and the rules that look at one line.
-use Rattle.std.proofs.Common.{◌≡◌, ℕ, ◌+◌, ◌<◌, ◌≤◌, List, length, get_or, map, sym, ap, ◌∙◌, subst, arith, Option, Some, None, MatchOption, HoldsAt}
+use Rattle.std.proofs.Common.{◌≡◌, ℕ, ◌<◌, List, length, get_or, map, sym, ap, ◌∙◌, subst, arith, Option, Some, None, MatchOption, HoldsAt}
 use Rattle.std.specs.List.{AllWithin}
 use Rattle.std.specs.Option.{unwrap_or, option_map}
 use Rattle.std.proofs.lemmas.Option.{slice_get-map, slice_get-get_or}

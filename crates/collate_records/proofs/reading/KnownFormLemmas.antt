@@ -1,5 +1,5 @@
 -- Which forms of lines are known so far.
-use Rattle.std.proofs.Common.{◌≡◌, ℕ, Bool, true, false, List, [], ◌∷◌, length, map, Bor, Option, Some, None, option_map, refl, sym, ap, ◌∙◌, bytes_eq, subst, leb, ⊎_elim}
+use Rattle.std.proofs.Common.{◌≡◌, ℕ, Bool, true, false, List, [], ◌∷◌, length, Option, Some, None, option_map, refl, sym, ap, ◌∙◌, bytes_eq, leb}
 use Rattle.std.specs.Prelude.{if◌then◌else◌, codes, ◌==◌, not}
 use Rattle.std.specs.List.{slice_split}
 use Rattle.std.proofs.lemmas.Option.{same_Some}
