@@ -5,3 +5,4 @@ pub mod LimitLemmas
 pub mod LineRuleLemmas
 pub mod MappedMarkLemmas
 pub mod NamedCharacterLemmas
+pub mod PartRuleLemmas

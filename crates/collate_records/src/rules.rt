@@ -4,3 +4,4 @@ pub(crate) mod lines;
 pub(crate) mod lists;
 pub(crate) mod loops;
 pub(crate) mod marks;
+pub(crate) mod parts;

@@ -7,14 +7,14 @@ ghost use Rattle.collate_records.specs.Meaning.{expanded};
 ghost use Rattle.collate_records.specs.Rules.{HasBadList, IsBadList};
 ghost use Rattle.collate_records.specs.CanonicalParts.{in_full, IsBadOfParts};
 ghost use Rattle.collate_records.specs.Lists.{steps_by, is_mark_at, IsFront};
+ghost use Rattle.collate_records.specs.Breaches.{AnswersBreach};
 ghost use Rattle.collate_records.specs.Offenders.{NoneOffends, IsFirstOffender};
 
-use crate::canonical_part::{
-    CanonicalPart, any_step, canonical_part, class_of, said_mapping, step_of,
-};
+use crate::canonical_part::{CanonicalPart, any_step, class_of, said_mapping, step_of};
 use crate::record::Record;
 use crate::rule::Rule;
 use crate::rules::lines::is_built_in;
+use crate::rules::parts::first_breach;
 use icu_normalizer_core::properties::Decomposed;
 use std::alloc::{AllocError, Global};
 
@@ -44,16 +44,13 @@ struct Front {
 pub(crate) fn first_bad_list(alloc: Global, records: &[Record]) -> Result<Option<usize>, AllocError>
     ensures { IfOk result (λ found. MatchOption found (NoneOffends Rule.C4 (map said records.now)) (λ i. IsFirstOffender Rule.C4 (map said records.now) i)) }
 {
-    let mut parts = Vec::new(alloc);
-    for (i, given) in records.iter().enumerate() {
-        if let Some(part) = canonical_part(given) {
-            parts.push(part)?;
-            if has_bad_list(&parts) {
-                return Ok(Some(i));
-            }
-        }
-    }
-    Ok(None)
+    first_breach(
+        alloc,
+        records,
+        |parts: &[CanonicalPart]|
+            ensures { AnswersBreach Rule.C4 parts.now result }
+        { Ok(has_bad_list(parts)) },
+    )
 }
 
 /// Whether a full list of a mapped character that isn't built in is bad.

@@ -7,13 +7,15 @@ ghost use Rattle.collate_records.specs.Meaning.{any_step};
 ghost use Rattle.collate_records.specs.Record.{said};
 ghost use Rattle.collate_records.specs.Rules.{HasLoop};
 ghost use Rattle.collate_records.specs.CanonicalParts.{in_full};
+ghost use Rattle.collate_records.specs.Breaches.{AnswersBreach};
 ghost use Rattle.collate_records.specs.Offenders.{NoneOffends, IsFirstOffender};
 ghost use Rattle.collate_records.specs.Reached.{with_one, with_all, AreSmall};
 
-use crate::canonical_part::{CanonicalPart, any_step, canonical_part, said_mapping};
+use crate::canonical_part::{CanonicalPart, any_step, said_mapping};
 use crate::record::Record;
 use crate::rule::Rule;
 use crate::rules::lines::is_built_in;
+use crate::rules::parts::first_breach;
 use icu_normalizer_core::properties::Decomposed;
 use std::alloc::{AllocError, Global};
 
@@ -24,17 +26,23 @@ use std::alloc::{AllocError, Global};
 pub(crate) fn first_loop(alloc: Global, records: &[Record]) -> Result<Option<usize>, AllocError>
     ensures { IfOk result (λ found. MatchOption found (NoneOffends Rule.C2 (map said records.now)) (λ i. IsFirstOffender Rule.C2 (map said records.now) i)) }
 {
-    let mut parts = Vec::new(alloc);
-    for (i, given) in records.iter().enumerate() {
-        if let Some(part) = canonical_part(given) {
-            let is_closed = closes_loop(alloc, &parts, part)?;
-            parts.push(part)?;
-            if is_closed {
-                return Ok(Some(i));
-            }
-        }
+    first_breach(
+        alloc,
+        records,
+        |parts: &[CanonicalPart]|
+            ensures { AnswersBreach Rule.C2 parts.now result }
+        { ends_in_loop(alloc, parts) },
+    )
+}
+
+/// Whether the last part closes a loop of mapping steps, where those before it have none.
+fn ends_in_loop(alloc: Global, parts: &[CanonicalPart]) -> Result<bool, AllocError>
+    ensures { AnswersBreach Rule.C2 parts.now result }
+{
+    match parts.split_last() {
+        Some((part, before)) => closes_loop(alloc, before, *part),
+        None => Ok(false),
     }
-    Ok(None)
 }
 
 /// Whether one more part closes a loop of mapping steps.
@@ -43,8 +51,7 @@ fn closes_loop(
     parts: &[CanonicalPart],
     part: CanonicalPart,
 ) -> Result<bool, AllocError>
-    requires { HasLoop (map in_full parts.now) → ⊥ }
-    ensures { IfOk result (λ b. IsTrue b ↔ HasLoop (map in_full parts.now ++ in_full part ∷ [])) }
+    ensures { (HasLoop (map in_full parts.now) → ⊥) → IfOk result (λ b. IsTrue b ↔ HasLoop (map in_full parts.now ++ in_full part ∷ [])) }
 {
     match part {
         CanonicalPart::Map { character, step } => {
