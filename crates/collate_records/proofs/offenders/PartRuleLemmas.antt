@@ -1,9 +1,8 @@
 -- The rules that classes and mappings break together: what a test tells once one more part stands last.
-use Rattle.std.proofs.Common.{◌≡◌, ◌-◌, List, [], ◌∷◌, ◌++◌, length, map, take, sym, ap, ◌∙◌, subst, arith, Bool, IsTrue, ◌↔◌, Result, Ok}
+use Rattle.std.proofs.Common.{◌≡◌, ◌-◌, List, [], ◌∷◌, ◌++◌, length, map, ap, ◌∙◌, subst, arith, Bool, IsTrue, ◌↔◌, Result, Ok}
 use Rattle.std.proofs.lemmas.List.{length-append, take-append-le, take_all}
 use Rattle.collate_records.specs.declared.canonical_part.CanonicalPart.{CanonicalPart}
 use Rattle.collate_records.specs.declared.rule.Rule.{Rule}
-use Rattle.collate_records.specs.Record.{Record}
 use Rattle.collate_records.specs.CanonicalParts.{in_full}
 use Rattle.collate_records.specs.Breaches.{Breach, TellsBreach, AnswersBreach, earlier}
 

@@ -1,4 +1,4 @@
-use Rattle.std.proofs.Common.{List, ◌↔◌, ◌∷◌, ◌++◌, [], Bool, IsTrue, map, sym, subst}
+use Rattle.std.proofs.Common.{List, ◌↔◌, ◌∷◌, ◌++◌, [], IsTrue, map, sym, subst}
 use Rattle.std.proofs.lemmas.Result.{IfOk-weaker}
 use Rattle.collate_records.specs.declared.canonical_part.CanonicalPart.{CanonicalPart}
 use Rattle.collate_records.specs.Record.{Record}
