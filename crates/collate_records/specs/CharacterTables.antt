@@ -16,7 +16,7 @@ looked_up places values c = elim (value_at places c) [ Some place ↦ value_in v
 abbrev pub placed : {V : Type 0} → CodePointMap ℕ → List V → ℕ → Option V
 placed places values c = cond (nat_le c 0x10_FFFF) (value_in values (mapped places c)) None
 
--- so many values fit: a map that gives them places has one different block more at most, and its trie is built
+-- how many values fit: a map that gives them places has one more different block at most, and its trie is built
 abbrev pub most_values : ℕ
 most_values = 799
 

@@ -43,7 +43,7 @@ records_of file = records_in (lines_of file)
 abbrev pub size_limit : ℕ
 size_limit = 1048576
 
--- Line i holds the first byte past the most: so many LFs stand before that byte.
+-- Line i holds the first byte past the limit: i LFs stand before that byte.
 abbrev pub PassesSize : List ℕ → ℕ → Type 0
 PassesSize file i = (size_limit < length file) × (i ≡ count_by (λ b. b == 10) (take size_limit file))
 
@@ -71,7 +71,7 @@ pub record IsFirstFault (file : List ℕ) (rule : Rule) (i : ℕ) : Type 0 where
   pub breaks : Breaks rule file i
   pub first : (other : Rule) (j : ℕ) → IsEarlier other j rule i → Breaks other file j → ⊥
 
--- an error names the first fault of a file, its line counted from 1, or want of memory
+-- an error names the first fault of a file, its line counted from 1, or says that memory ran out
 abbrev pub Refuses : List ℕ → RecordsError → Type 0
 Refuses file (Fault fault) = (i : ℕ) × (fault.line ≡ i + 1) × IsFirstFault file fault.rule i
 Refuses file Memory = Unit {0}

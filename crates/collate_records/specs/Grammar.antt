@@ -42,7 +42,7 @@ decimal_number = number_after 10 decimal_digit 0
 abbrev pub hex_number : List ℕ → Option ℕ
 hex_number = number_after 16 hex_digit 0
 
--- so many digits at least and so many at most, without a leading zero past the least
+-- from `least` to `most` digits, without a leading zero if they are more than `least`
 abbrev pub is_short : ℕ → ℕ → List ℕ → Bool
 is_short least most field = is_within least most (length field) && (length field == least || not (slice_index field 0 == 48))
 
@@ -65,7 +65,7 @@ class_number field = if is_short 1 3 field then decimal_number field else None
 abbrev pub step_number : List ℕ → Option ℕ
 step_number field = if is_within 1 3 (length field) then decimal_number field else None
 
--- a number of so many hexadecimal digits
+-- a number of exactly `digits` hexadecimal digits
 abbrev pub hex_of : ℕ → List ℕ → Option ℕ
 hex_of digits field = if length field == digits then hex_number field else None
 
@@ -163,10 +163,10 @@ parted word (field ∷ fields) =
 abbrev pub key_by : List (List ℕ) → Option (List ℕ × List ℕ)
 key_by fields =
     elim (parted (codes "|") fields) [
-      None ↦ some_listed code_point fields >>= λ text. Some ([], text)
-    | Some parts ↦ some_listed code_point parts.0
-        >>= λ prefix. some_listed code_point parts.1
-        >>= λ text. checked (leb (length prefix) 3) (prefix, text)
+      | None ↦ some_listed code_point fields >>= λ text. Some ([], text)
+      | Some parts ↦ some_listed code_point parts.0
+          >>= λ prefix. some_listed code_point parts.1
+          >>= λ text. checked (leb (length prefix) 3) (prefix, text)
     ]
 
 -- what stands after w or t: a key, a semicolon, and elements
@@ -239,7 +239,7 @@ setting_by name values =
     then (word_among ((codes "off", NoCaseFirst) ∷ (codes "lower", Lower) ∷ (codes "upper", Upper) ∷ []) values >>= λ c. Some (case_first c))
     else (if bytes_eq name (codes "maxvariable")
     then (word_among ((codes "space", Space) ∷ (codes "punctuation", Punctuation) ∷ (codes "symbol", Symbol) ∷ (codes "currency", Currency) ∷ []) values
-      >>= λ m. Some (max_variable m))
+    >>= λ m. Some (max_variable m))
     else (if bytes_eq name (codes "dotabove") then (switch values >>= λ b. Some (dot_above b))
     else (if bytes_eq name (codes "numeric") then (one_lead values >>= λ lead. Some (numeric lead))
     else (if bytes_eq name (codes "groups") then (four_groups values >>= λ ends. Some (groups ends))

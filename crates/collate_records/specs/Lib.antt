@@ -1,4 +1,5 @@
 pub mod Accepted
+pub mod Breaches
 pub mod CanonicalParts
 pub mod CharacterTables
 pub mod Files

@@ -1,5 +1,5 @@
 -- What the lines of a records file mean together.
-use Rattle.std.specs.Prelude.{ℕ, ◌*◌, ◌-◌, Bool, true, false, cond, not, ◌==◌, ◌&&◌, ◌||◌, List, [], ◌∷◌, flat_map, replicate, zero, suc, Option, Some, None, bytes_eq}
+use Rattle.std.specs.Prelude.{ℕ, Bool, true, false, cond, not, ◌==◌, ◌&&◌, ◌||◌, List, [], ◌∷◌, flat_map, replicate, zero, suc, Option, Some, None, bytes_eq}
 use Rattle.std.specs.Option.{unwrap_or, is_some}
 use Rattle.std.specs.List.{list_any}
 use Rattle.icu_normalizer_core.specs.BuiltIn.{built_in_class, built_in_step, built_in_compatibility_step, syllable_of, is_within}
@@ -13,7 +13,7 @@ use Rattle.icu_collator_types.specs.Options.{default_settings}
 use Rattle.icu_collator_core.specs.Weights.{Weights, Range}
 use Rattle.icu_collator_core.specs.Defaults.{range_primary}
 use Rattle.icu_collator_core.specs.Collation.{Collation, with_lead}
-use Rattle.collate_records.specs.Record.{Record, class, mapping, compatibility, weights, range, digit, setting, Layer, root, tailoring, Setting, alternate, backward, case_first, max_variable, dot_above, numeric, groups, compress, reorder}
+use Rattle.collate_records.specs.Record.{Record, class, mapping, compatibility, weights, range, digit, setting, Layer, root, tailoring, alternate, backward, case_first, max_variable, dot_above, numeric, groups, compress, reorder}
 
 -- whether a mapping of this character, or that it has none, is built in
 abbrev pub is_built_in : ℕ → Bool
@@ -71,7 +71,7 @@ any_step records c =
 abbrev pub pair_of : List Record → ℕ → ℕ → Option ℕ
 pair_of records a b = elim (syllable_of a b) [ Some c ↦ Some c | None ↦ first_found (composed_in a b) records ]
 
--- what at most so many steps, one after another, leave of a character
+-- what is left of a character after at most n steps, one after another
 unfoldable pub expanded : (ℕ → List ℕ) → ℕ → ℕ → List ℕ
 expanded step zero c = c ∷ []
 expanded step (suc n) c = elim (step c) [ [] ↦ c ∷ [] | d ∷ ds ↦ flat_map (expanded step n) (d ∷ ds) ]

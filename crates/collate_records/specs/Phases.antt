@@ -9,7 +9,7 @@ use Rattle.collate_records.specs.Offenders.{NoneOffends, IsFirstOffender}
 use Rattle.collate_records.specs.Rules.{Offends, Repeats, rank}
 use Rattle.collate_records.specs.Files.{IsOutside, records_in}
 
--- the first so many lines are in the grammar, and no two are for one thing
+-- the first `count` lines are in the grammar, and no two are for one thing
 pub record AreSound (lines : List (List ℕ)) (count : ℕ) : Type 0 where
   pub inside : (i : ℕ) → i < count → IsOutside lines i → ⊥
   pub apart : (i : ℕ) → i < count → Repeats (records_in lines) i → ⊥
@@ -20,7 +20,7 @@ IsUnsound Grammar lines i = IsOutside lines i
 IsUnsound V14 lines i = (IsOutside lines i → ⊥) × Repeats (records_in lines) i
 IsUnsound rule lines i = ⊥
 
--- an error names the first of so many lines that is unsound, counted from 1, or want of memory
+-- an error names the first unsound line of the first `count`, counted from 1, or says that memory ran out
 abbrev pub RefusesLine : List (List ℕ) → ℕ → RecordsError → Type 0
 RefusesLine lines count (Fault fault) =
     (i : ℕ) × (fault.line ≡ i + 1) × (i < count) × IsUnsound fault.rule lines i × AreSound lines i
@@ -39,7 +39,7 @@ pub record BreaksFirst (records : List Record) (rule : Rule) (i : ℕ) : Type 0 
   pub least : (j : ℕ) → j < i → Offends rule records j → ⊥
   pub lower : KeepsBelow (rank rule) records
 
--- an error names that line, counted from 1, or want of memory
+-- an error names that line, counted from 1, or says that memory ran out
 abbrev pub RefusesRecords : List Record → RecordsError → Type 0
 RefusesRecords records (Fault fault) = (i : ℕ) × (fault.line ≡ i + 1) × BreaksFirst records fault.rule i
 RefusesRecords records Memory = Unit {0}

@@ -2,6 +2,8 @@
 use Rattle.std.specs.Prelude.{ℕ, List, ◌++◌, codes}
 use Rattle.std.specs.Fmt.{decimal}
 use Rattle.collate_records.specs.declared.rule.Rule.{Rule}
+use Rattle.collate_records.specs.declared.rule.RecordsError.{RecordsError}
+use Rattle.collate_records.specs.declared.rule.RecordsError.TheVariants.{Fault, Memory}
 use Rattle.collate_records.specs.declared.rule.Rule.TheVariants.{Grammar, Limit, Set, C1, C2, C3, C4, C5, C6, C7, C8, C9, V1, V2, V3, V4, V5, V6, V7, V8, V9, V10, V11, V12, V13, V14, V15}
 
 -- a rule as it is printed
@@ -37,3 +39,8 @@ rule_text V15 = codes "V15"
 -- a fault as it is printed: its line, counted from 1, and its rule
 abbrev pub fault_text : ℕ → Rule → List ℕ
 fault_text line rule = decimal line ++ codes " " ++ rule_text rule
+
+-- why a file was refused, as it is printed
+abbrev pub records_error_text : RecordsError → List ℕ
+records_error_text (Fault fault) = fault_text fault.line fault.rule
+records_error_text Memory = codes "out of memory"

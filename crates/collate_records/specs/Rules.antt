@@ -7,7 +7,7 @@ use Rattle.icu_normalizer_core.specs.Canonical.{Reaches}
 use Rattle.collate_records.specs.declared.rule.Rule.{Rule}
 use Rattle.collate_records.specs.declared.rule.Rule.TheVariants.{Grammar, Limit, Set, C1, C2, C3, C4, C5, C6, C7, C8, C9, V1, V2, V3, V4, V5, V6, V7, V8, V9, V10, V11, V12, V13, V14, V15}
 use Rattle.collate_records.specs.Record.{Record, nothing, class, mapping, compatibility, weights, range, digit, setting, Setting, alternate, backward, case_first, max_variable, dot_above, numeric, groups, compress, reorder}
-use Rattle.collate_records.specs.Meaning.{is_built_in, first_found, mapping_in, compatibility_in, class_of, step_of, any_step, expanded, full_of, is_same_layer}
+use Rattle.collate_records.specs.Meaning.{is_built_in, first_found, mapping_in, compatibility_in, class_of, any_step, expanded, full_of, is_same_layer}
 
 -- what line i says
 abbrev pub record_at : List Record → ℕ → Record
@@ -112,7 +112,7 @@ abbrev pub begins_with_mark : List Record → List ℕ → Bool
 begins_with_mark records [] = false
 begins_with_mark records (c ∷ cs) = not (class_of records c == 0)
 
--- what at most so many steps of either kind leave of a character
+-- what is left of a character after all steps of either kind
 abbrev pub compatibility_full_of : List Record → ℕ → List ℕ
 compatibility_full_of records c = expanded (any_step records) 0x110000 c
 

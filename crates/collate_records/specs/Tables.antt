@@ -43,6 +43,6 @@ pub record HaveRoom (tables : TablesBuilder) : Type 0 where
   pub mappings : length tables.mappings.values.items < most_values
   pub weights : length tables.weights.values.items < most_values
 
--- a list has some of the front of another behind what it had
+-- a list has what it had, and after it some of the front of another
 abbrev pub AddsFront : List ℕ → List ℕ → List ℕ → Type 0
 AddsFront old new whole = (front : List ℕ) × (rest : List ℕ) × (new ≡ old ++ front) × (whole ≡ front ++ rest)

@@ -1,4 +1,4 @@
-// What lines say of classes and mappings, kept apart from what else they say, and looked up.
+//! What lines say of classes and mappings, kept apart from what else they say, and looked up.
 
 ghost use Rattle.std.specs.Prelude.{◌≡◌, ℕ, ◌↔◌, ◌∷◌, ◌++◌, List, [], Option, option_map, map, true, IsTrue, MatchOption, IfOk, OnOk, OnErr};
 ghost use Rattle.icu_normalizer_core.specs.Properties.{mapped_to};
@@ -6,14 +6,14 @@ ghost use Rattle.collate_records.specs.Record.{Record as PlainRecord, said};
 ghost use Rattle.collate_records.specs.Meaning.{class_in, mapping_in, first_found, class_of, step_of, any_step};
 ghost use Rattle.collate_records.specs.CanonicalParts.{in_full, SaysSame};
 
-use crate::rules::lines::is_built_in;
 use crate::record::Record;
+use crate::rules::lines::is_built_in;
 use icu_normalizer_core::built_in::{built_in_class, built_in_compatibility_step, built_in_step};
 use icu_normalizer_core::properties::Decomposed;
 
 /// What a line says of a character's class or mapping.
 #[derive(Clone, Copy, Debug, PartialEq, Eq)]
-pub enum CanonicalPart {
+pub(crate) enum CanonicalPart {
     /// The character's canonical combining class.
     Class { character: char, class: u16 },
     /// The character's canonical mapping.
@@ -53,7 +53,7 @@ fn said_class(parts: &[CanonicalPart], c: u32) -> Option<u16>
 }
 
 /// The mapping that the first part on it gives to a character.
-pub fn said_mapping(parts: &[CanonicalPart], c: u32) -> Option<Decomposed>
+pub(crate) fn said_mapping(parts: &[CanonicalPart], c: u32) -> Option<Decomposed>
     ensures { option_map mapped_to result ≡ first_found (mapping_in c) (map in_full parts.now) }
 {
     for part in parts {
@@ -65,7 +65,7 @@ pub fn said_mapping(parts: &[CanonicalPart], c: u32) -> Option<Decomposed>
 }
 
 /// The class of a character: what is built in, else what a part says, else 0.
-pub fn class_of(parts: &[CanonicalPart], c: u32) -> u16
+pub(crate) fn class_of(parts: &[CanonicalPart], c: u32) -> u16
     ensures { result ≡ class_of (map in_full parts.now) c }
 {
     match built_in_class(c) {
@@ -75,7 +75,7 @@ pub fn class_of(parts: &[CanonicalPart], c: u32) -> u16
 }
 
 /// The canonical mapping of a character: what is built in, else what a part says, else none.
-pub fn step_of(parts: &[CanonicalPart], c: u32) -> Decomposed
+pub(crate) fn step_of(parts: &[CanonicalPart], c: u32) -> Decomposed
     ensures { mapped_to result ≡ step_of (map in_full parts.now) c }
 {
     let step = if is_built_in(c) {
@@ -87,7 +87,7 @@ pub fn step_of(parts: &[CanonicalPart], c: u32) -> Decomposed
 }
 
 /// The mapping of a character of either kind, canonical or compatibility.
-pub fn any_step(parts: &[CanonicalPart], c: u32) -> Decomposed
+pub(crate) fn any_step(parts: &[CanonicalPart], c: u32) -> Decomposed
     ensures { mapped_to result ≡ any_step (map in_full parts.now) c }
 {
     match built_in_compatibility_step(c) {
@@ -97,7 +97,7 @@ pub fn any_step(parts: &[CanonicalPart], c: u32) -> Decomposed
 }
 
 /// What a line says of a class or a mapping, if it does.
-pub fn canonical_part(given: &Record) -> Option<CanonicalPart>
+pub(crate) fn canonical_part(given: &Record) -> Option<CanonicalPart>
     ensures { MatchOption result (SaysSame [] (said given.now ∷ [])) (λ part. SaysSame (in_full part ∷ []) (said given.now ∷ [])) }
 {
     match given {
@@ -128,11 +128,12 @@ impl CanonicalPart {
     ghost use Rattle.collate_records.specs.CanonicalParts.{subject_of};
 
     /// The character of which it says something.
-    pub fn character(self) -> u32
+    pub(crate) fn character(self) -> u32
         ensures { result ≡ subject_of self }
     {
         match self {
-            CanonicalPart::Class { character, .. } | CanonicalPart::Map { character, .. } => character as u32,
+            CanonicalPart::Class { character, .. } | CanonicalPart::Map { character, .. } =>
+                character as u32,
         }
     }
 }

@@ -1,4 +1,4 @@
-// Tables from characters to values, read through a trie.
+//! Tables from characters to values, read through a trie.
 
 ghost use Rattle.std.specs.Prelude.{◌≡◌, ℕ, ◌+◌, ◌<◌, ◌==◌, cond, length, Some, None, [], IfOk, OnOk};
 ghost use Rattle.std.specs.Option.{option_copied};

@@ -1,4 +1,4 @@
-// The fields of a line of a records file: words, code points, numbers and elements.
+//! The fields of a line of a records file: words, code points, numbers and elements.
 
 ghost use Rattle.std.specs.Prelude.{◌≡◌, ◌^◌, ◌<◌, ◌≤◌, ◌==◌, length, map, option_map, IfOk, IfSome};
 ghost use Rattle.std.specs.List.{slice_split};
@@ -53,7 +53,7 @@ fn hexadecimal(digits: &[u8]) -> Option<u32>
     Some(number)
 }
 
-/// Whether a field has so many bytes at least and so many at most, and no leading zero past the least.
+/// Whether a field has from `least` to `most` bytes, and no leading zero if it has more than `least`.
 fn is_short_number(field: &[u8], least: usize, most: usize) -> bool
     requires { 1 ≤ least }
     ensures { result ≡ is_short least most field.now }
@@ -61,7 +61,7 @@ fn is_short_number(field: &[u8], least: usize, most: usize) -> bool
     least <= field.len() && field.len() <= most && (field.len() == least || field[0] != b'0')
 }
 
-/// The character that a field names: four to six hexadecimal digits in upper case, no leading zero past four (our profile).
+/// The character that a field names: four to six hexadecimal digits in upper case, no leading zero in more than four (docs/RECORDS.md).
 pub(crate) fn character(field: &[u8]) -> Option<char>
     ensures { result ≡ code_point field.now }
 {
@@ -71,7 +71,7 @@ pub(crate) fn character(field: &[u8]) -> Option<char>
     char::from_u32(hexadecimal(field)?)
 }
 
-/// The class that a field gives: one to three digits without a leading zero (our profile).
+/// The class that a field gives: one to three digits without a leading zero (docs/RECORDS.md).
 pub(crate) fn class_value(field: &[u8]) -> Option<u16>
     ensures { result ≡ class_number field.now }
 {
@@ -154,7 +154,7 @@ pub(crate) fn split_by<'a>(
     bytes.split(|byte| *byte == separator).collect(alloc)
 }
 
-/// The element that a field lists, as `[P.S.C.T.Q]` (our profile).
+/// The element that a field lists, as `[P.S.C.T.Q]` (docs/RECORDS.md).
 ///
 /// Errors: `AllocError` where memory is refused.
 pub(crate) fn listed_element(alloc: Global, field: &[u8]) -> Result<Option<Element>, AllocError>

@@ -11,47 +11,47 @@ ghost use Rattle.collate_records.specs.Known.{ArePlain};
 ghost use Rattle.collate_records.specs.Files.{IsAccepted, records_of};
 
 /// Lines of the grammar of which none breaks `C1` to `C4` or `C9` give canonical data, as far as
-/// decomposing goes: mapping steps end, and a full list has at most eight characters. (Our
-/// profile; after UAX 15.)
+/// decomposing goes: mapping steps end, and a full list has at most eight characters
+/// (docs/RECORDS.md; UAX 15).
 ///
 /// It computes nothing: its contract is the law.
-#[tactic(auto, using(crate::proofs::Decomposing::decomposing))]
+#[tactic(auto, using(crate::proofs::mappings::DecomposingLemmas::decomposing))]
 pub fn accepted_lines_decompose()
     ensures { (records : List Record) → AreScalars records → NoneOffends C1 records → NoneOffends C2 records
         → NoneOffends C3 records → NoneOffends C4 records → NoneOffends C9 records → IsDecomposing (canonical_of records) }
 {}
 
 /// The lines of an accepted file are accepted: each is in the grammar, and none offends against a
-/// rule. (Our profile.)
+/// rule (docs/RECORDS.md).
 ///
 /// It computes nothing: its contract is the law.
-#[tactic(auto, using(crate::proofs::AcceptedLines::accepted_lines))]
+#[tactic(auto, using(crate::proofs::reading::AcceptedLemmas::accepted_lines))]
 pub fn accepted_files_have_accepted_lines()
     ensures { (file : List ℕ) → IsAccepted file → AreAccepted (records_of file) }
 {}
 
-/// Accepted lines, as those of all records are, give canonical data, as far as decomposing goes. (Our
-/// profile; after UAX 15.)
+/// Accepted lines, as those of all records are, give canonical data, as far as decomposing goes
+/// (docs/RECORDS.md; UAX 15).
 ///
 /// It computes nothing: its contract is the law.
-#[tactic(auto, using(crate::proofs::AcceptedLines::accepted_decompose))]
+#[tactic(auto, using(crate::proofs::reading::AcceptedLemmas::accepted_decompose))]
 pub fn accepted_records_decompose()
     ensures { (records : List Record) → AreAccepted records → IsDecomposing (canonical_of records) }
 {}
 
 /// Records are plain so far: they give elements to single characters alone, without prefixes, digits or ranges, and all
-/// settings are the default ones. (docs/RECORDS.md.)
+/// settings are the default ones (docs/RECORDS.md).
 ///
 /// It computes nothing: its contract is the law.
-#[tactic(auto, using(crate::proofs::KnownRecords::accepted_plain))]
+#[tactic(auto, using(crate::proofs::reading::KnownRecordLemmas::accepted_plain))]
 pub fn accepted_records_are_plain()
     ensures { (records : List Record) → AreAccepted records → ArePlain records }
 {}
 
-/// An accepted file gives canonical data, as far as decomposing goes. (Our profile; after UAX 15.)
+/// An accepted file gives canonical data, as far as decomposing goes (docs/RECORDS.md; UAX 15).
 ///
 /// It computes nothing: its contract is the law.
-#[tactic(auto, using(crate::proofs::AcceptedLines::accepted_file))]
+#[tactic(auto, using(crate::proofs::reading::AcceptedLemmas::accepted_file))]
 pub fn accepted_files_decompose()
     ensures { (file : List ℕ) → IsAccepted file → IsDecomposing (canonical_of (records_of file)) }
 {}

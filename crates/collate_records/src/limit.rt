@@ -8,8 +8,8 @@ ghost use Rattle.collate_records.specs.Offenders.{IsFirstOffender, NoneOffends};
 ghost use Rattle.collate_records.specs.Rules.{IsLong, named, says_something};
 ghost use Rattle.collate_records.specs.Record.{said};
 
-use crate::rule::Rule;
 use crate::record::Record;
+use crate::rule::Rule;
 use std::alloc::{AllocError, Global};
 use std::collections::BTreeSet;
 
@@ -93,11 +93,9 @@ pub(crate) fn first_over_limit(
     Ok(None)
 }
 
-/// Whether a limit is passed by these names, so many lines that say something, and the elements of this line.
+/// Whether a limit is passed: by the number of these names, of the lines that say something, or of this line's elements.
 fn is_over(names: &BTreeSet<char>, record_count: usize, given: &Record) -> bool
     ensures { IsTrue result ↔ ((150 < btree_set_len names.now) ⊎ ((1000 < record_count) ⊎ IsLong (said given.now))) }
 {
-    names.len() > CODE_POINT_LIMIT
-        || record_count > RECORD_LIMIT
-        || is_long(given)
+    names.len() > CODE_POINT_LIMIT || record_count > RECORD_LIMIT || is_long(given)
 }

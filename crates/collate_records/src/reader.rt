@@ -1,4 +1,4 @@
-// A records file, from its bytes to what its lines say.
+//! A records file, from its bytes to what its lines say.
 
 ghost use Rattle.std.specs.Prelude.{◌≡◌, ℕ, ◌+◌, ◌<◌, ◌≤◌, List, map, length, take, IfOk, IfSome, MatchOption, MatchResult};
 ghost use Rattle.collate_records.specs.Record.{Record as Said, said};
@@ -8,19 +8,19 @@ ghost use Rattle.collate_records.specs.Phases.{AreSound, AsksRule, KeepsBelow, R
 use crate::fields::split_by;
 use crate::limit::first_over_limit;
 use crate::line::parse_line;
+use crate::record::Record;
 use crate::rule::{RecordFault, RecordsError, Rule};
 use crate::rules::lines::{first_bad_class, first_contradiction, first_mapped_hangul};
 use crate::rules::lists::first_bad_list;
 use crate::rules::loops::first_loop;
 use crate::rules::marks::first_mapped_mark;
-use crate::record::Record;
 use crate::seen::Seen;
 use std::alloc::{AllocError, Global};
 
-/// The most bytes of a file (our profile).
+/// The most bytes of a file (docs/RECORDS.md).
 pub(crate) const FILE_LIMIT: usize = 1048576;
 
-/// Reads a records file (our profile): what its lines say, one given a line.
+/// Reads a records file (docs/RECORDS.md): what its lines say, a record for each line.
 ///
 /// Errors: the first fault of a file that is not accepted, in the order of faults; `Memory` where memory is refused.
 pub(crate) fn read_records(alloc: Global, bytes: &[u8]) -> Result<Vec<Record>, RecordsError>
@@ -81,7 +81,7 @@ fn line_past_size(bytes: &[u8]) -> Option<usize>
     )
 }
 
-/// What the first so many lines say, one given a line.
+/// What the first `count` lines say, a record for each line.
 fn read_lines(alloc: Global, lines: &[&[u8]], count: usize) -> Result<Vec<Record>, RecordsError>
     requires { count ≤ length lines.now }
     ensures { let texts = map (λ line. line.now) lines.now in MatchResult result (λ records. AreSound texts count × (map said records.items ≡ take count (records_in texts))) (RefusesLine texts count) }

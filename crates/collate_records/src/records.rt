@@ -10,8 +10,8 @@ ghost use Rattle.collate_records.specs.Tables.{AddsFront};
 ghost use Rattle.collate_records.specs.Files.{IsReadFrom};
 
 use crate::reader::read_records;
-use crate::rule::RecordsError;
 use crate::record::Record;
+use crate::rule::RecordsError;
 use crate::tables::Tables;
 use icu_collator_types::elements::Element;
 use icu_collator_types::options::FileSettings;
@@ -22,7 +22,7 @@ use std::alloc::{AllocError, Global};
 use std::marker::Model;
 
 /// What an accepted records file says of characters: a list of lines, as its contracts see it, and
-/// look-up tables of them (our profile). Whoever holds records knows that the lines are accepted: `keep_rules` says so.
+/// look-up tables of them (docs/RECORDS.md). The lines of records are always accepted: `keep_rules` says so.
 #[derive(Drop)]
 pub struct Records {
     records: Vec<Record>,
@@ -43,8 +43,8 @@ impl Model for Records {
 }
 
 impl Records {
-    /// Reads a records file (our profile). It is accepted exactly if no line breaks a rule; the records are what its lines
-    /// say, one given a line.
+    /// Reads a records file (docs/RECORDS.md). It is accepted exactly if no line breaks a rule; the records are what its
+    /// lines say, one for each line.
     ///
     /// Errors: `Fault` with the first fault of any other file, in the order of faults, its line counted from 1; `Memory`
     /// where memory is refused.
@@ -57,7 +57,7 @@ impl Records {
 
     /// Reads a records file, as `read` does, into tables over tries of this type: small ones take less memory, fast ones
     /// less time a look-up.
-    #[tactic(auto, using(crate::proofs::Classes::accepted_classes, crate::proofs::Keys::accepted_once))]
+    #[tactic(auto, using(crate::proofs::offenders::ClassLemmas::accepted_classes, crate::proofs::lookups::KeyLemmas::accepted_once))]
     pub fn read_over(
         alloc: Global,
         bytes: &[u8],
@@ -71,10 +71,10 @@ impl Records {
     }
 
     /// The lines of records are those of an accepted file: each is in the grammar, and none offends against a rule. So
-    /// they give canonical data, as far as decomposing goes (our profile; after UAX 15).
+    /// they give canonical data, as far as decomposing goes (docs/RECORDS.md; UAX 15).
     ///
     /// It computes nothing: its contract is what every holder of records knows.
-    #[tactic(auto, using(crate::proofs::AcceptedLines::accepted_decompose))]
+    #[tactic(auto, using(crate::proofs::reading::AcceptedLemmas::accepted_decompose))]
     pub fn keep_rules(&self)
         ensures accepted { AreAccepted self.now }
         ensures canonical { IsDecomposing (canonical_of self.now) }
@@ -83,7 +83,7 @@ impl Records {
     }
 
     /// What the file sets of the options (docs/RECORDS.md). No line that sets any is read yet.
-    #[tactic(auto, using(crate::proofs::KnownRecords::default_set))]
+    #[tactic(auto, using(crate::proofs::reading::KnownRecordLemmas::default_set))]
     pub fn settings(&self) -> FileSettings
         ensures { let collation = collation_of self.now in result ≡ collation.options }
     {
@@ -92,7 +92,7 @@ impl Records {
     }
 
     /// The canonical combining class of a character: what is built in, else what a line says, else
-    /// 0 (UAX 15; our profile fixes what is built in).
+    /// 0 (UAX 15; docs/RECORDS.md lists what is built in).
     pub fn class(&self, c: char) -> u8
         ensures { result ≡ class_of self.now c }
     {
@@ -110,7 +110,7 @@ impl Records {
     }
 
     /// The canonical mapping of a character, one step: what is built in, else what a line says,
-    /// else none (UAX 15; our profile fixes what is built in).
+    /// else none (UAX 15; docs/RECORDS.md lists what is built in).
     pub fn mapping(&self, c: char) -> Decomposed
         ensures { mapped_to result ≡ step_of self.now c }
     {
@@ -164,7 +164,7 @@ impl Records {
         self.append_steps(c, 0x11_0000, list)
     }
 
-    /// Appends what at most so many steps, one after another, leave of a code point.
+    /// Appends what is left of a code point after at most `steps` steps, one after another.
     fn append_steps(&self, c: u32, steps: u32, list: &mut Vec<u32>) -> Result<(), AllocError>
         ensures full { OnOk result (list.new.items ≡ list.old.items ++ expanded (step_of self.now) steps c) }
         ensures part { OnErr result (AddsFront list.old.items list.new.items (expanded (step_of self.now) steps c)) }

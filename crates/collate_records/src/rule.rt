@@ -1,4 +1,4 @@
-// The rules that a records file keeps, and the fault of a file that breaks one.
+//! The rules that a records file keeps, and the fault of a file that breaks one.
 
 ghost use Rattle.std.specs.Prelude.{◌≡◌};
 
@@ -6,7 +6,7 @@ use std::alloc::AllocError;
 use std::error::Error;
 use std::fmt;
 
-/// A rule of the records file (our profile). It prints as the program names it: `grammar`,
+/// A rule of the records file (docs/RECORDS.md). It prints as the program names it: `grammar`,
 /// `limit`, `set`, `C1` to `C9`, `V1` to `V15`.
 #[derive(Clone, Copy, Debug, PartialEq, Eq)]
 pub enum Rule {
@@ -143,7 +143,7 @@ impl fmt::Display for RecordFault {
 
 impl Error for RecordFault {}
 
-/// Why a records file was refused.
+/// Why a records file was refused. A fault prints as `LINE RULE`, memory that is refused as `out of memory`.
 #[derive(Clone, Copy, Debug, PartialEq, Eq)]
 pub enum RecordsError {
     /// The file breaks a rule.
@@ -151,6 +151,22 @@ pub enum RecordsError {
     /// Memory was refused.
     Memory,
 }
+
+impl fmt::Display for RecordsError {
+    ghost use Rattle.std.specs.Prelude.{Some};
+    ghost use Rattle.collate_records.specs.Rule.{records_error_text};
+
+    ghost output = { λ error. Some (records_error_text error) };
+
+    fn fmt<W: fmt::Write>(&self, f: &mut fmt::Formatter<W>) -> fmt::Result {
+        match self {
+            RecordsError::Fault(fault) => write!(f, "{fault}"),
+            RecordsError::Memory => f.write_str("out of memory"),
+        }
+    }
+}
+
+impl Error for RecordsError {}
 
 impl From<AllocError> for RecordsError {
     ghost use Rattle.std.specs.Prelude.{◌≡◌};

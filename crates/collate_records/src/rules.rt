@@ -1,6 +1,7 @@
-// The rules on lines that are in the grammar: for each, the first line that offends against it. Lines count from 0 here.
+//! The rules on lines that are in the grammar: for each, the first line that offends against it. Lines count from 0 here.
 
-pub mod lines;
-pub mod lists;
-pub mod loops;
-pub mod marks;
+pub(crate) mod lines;
+pub(crate) mod lists;
+pub(crate) mod loops;
+pub(crate) mod marks;
+pub(crate) mod parts;

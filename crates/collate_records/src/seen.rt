@@ -1,4 +1,4 @@
-// The things that lines of a records file were for.
+//! The things that lines of a records file were for.
 
 use crate::record::Record;
 use std::alloc::{AllocError, Global};

@@ -1,4 +1,4 @@
-// What lines say of characters, to look up.
+//! What lines say of characters, to look up.
 
 ghost use Rattle.std.specs.Prelude.{◌≡◌, ◌++◌, ◌∷◌, [], false, List, OnOk, IfOk, All, map};
 ghost use Rattle.std.specs.List.{list_any};
@@ -16,7 +16,7 @@ use icu_collections::codepointtrie::TrieType;
 use icu_normalizer_core::properties::Decomposed;
 use std::alloc::{AllocError, Global};
 
-/// What lines say of characters, to look up.
+///! What lines say of characters, to look up.
 #[derive(Drop)]
 pub(crate) struct Tables {
     pub(crate) classes: CharacterTable<u8>,

@@ -1,4 +1,4 @@
-// Files of a few lines: what they say, and the first fault of each that is refused.
+//! Files of a few lines: what they say, and the first fault of each that is refused.
 
 use collate_records::records::Records;
 use collate_records::rule::{RecordFault, RecordsError, Rule};

@@ -1,4 +1,4 @@
-// What the records of an accepted file answer.
+//! What the records of an accepted file answer.
 
 use crate::reader::{at, fault_of};
 use collate_records::records::Records;

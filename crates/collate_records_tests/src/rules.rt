@@ -1,7 +1,31 @@
-// Small files and the first fault that the rules find in each. The answers are those of another reading of the rules.
+//! Small files and the first fault that the rules find in each. The answers are those of another reading of the rules.
 
 use crate::reader::{at, fault_of};
-use collate_records::rule::Rule;
+use collate_records::rule::{RecordFault, RecordsError, Rule};
+use std::alloc::Global;
+use std::error::Error;
+use std::test::Fail;
+
+/// The text that an error prints, as a caller knows it that knows of the error no more than that it is one.
+fn shown<E: Error>(alloc: Global, error: &E) -> Result<String, Fail> {
+    Ok(format!(in alloc; "{error}")?)
+}
+
+#[test]
+fn errors_print(rt: HostRuntime) -> Result<(), Fail> {
+    let alloc = rt.alloc();
+    let fault = RecordFault {
+        line: 1048577,
+        rule: Rule::Grammar,
+    };
+    assert_eq!(rt; shown(alloc, &Rule::V14)?.as_str(), "V14");
+    assert_eq!(rt; shown(alloc, &fault)?.as_str(), "1048577 grammar");
+    let refused = RecordsError::Fault(fault);
+    assert_eq!(rt; shown(alloc, &refused)?.as_str(), "1048577 grammar");
+    let refused = RecordsError::Memory;
+    assert_eq!(rt; shown(alloc, &refused)?.as_str(), "out of memory");
+    Ok(())
+}
 
 #[test]
 fn mapped_marks(rt: HostRuntime) {

@@ -8,7 +8,7 @@ use Rattle.icu_collator.specs.Settings.{AreSoundSettings, are_sound_groups}
 use Rattle.collate_records.specs.Accepted.{AreAccepted}
 use Rattle.collate_records.specs.Record.{Record}
 use Rattle.collate_records.specs.Meaning.{collation_of, groups_in, is_compressible_in, place_among, reorder_in, set_to}
-use Rattle.collate_records.proofs.KnownRecords.{accepted_plain}
+use Rattle.collate_records.proofs.reading.KnownRecordLemmas.{accepted_plain}
 
 implicit_alone : (a b : Bool) → b ≡ true → (a || b) ≡ true
 implicit_alone true b h = refl

@@ -22,7 +22,7 @@ use Rattle.icu_collator.proofs.orders.TotalOrderLemmas.{collation_order_total}
 use Rattle.icu_collator.proofs.keys.TextKeyLemmas.{text_keys_order}
 use Rattle.collate_records.specs.Accepted.{AreAccepted}
 use Rattle.collate_records.specs.Meaning.{collation_of, weights_of}
-use Rattle.collate_records.proofs.AcceptedLines.{accepted_decompose}
+use Rattle.collate_records.proofs.reading.AcceptedLemmas.{accepted_decompose}
 use Rattle.collate_index.proofs.order.FileSettingLemmas.{accepted_settings}
 use Rattle.collate_index.specs.Meaning.{Meaning, name_order, order_by}
 

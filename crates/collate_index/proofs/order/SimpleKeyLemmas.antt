@@ -12,7 +12,7 @@ use Rattle.icu_collator_core.specs.Collation.{Collation}
 use Rattle.icu_collator.specs.Levels.{levels_of_text}
 use Rattle.icu_collator.specs.Settings.{has_plain_leads}
 use Rattle.collate_records.specs.Meaning.{collation_of, place_among, reorder_in, set_to}
-use Rattle.collate_records.proofs.KnownRecords.{accepted_plain}
+use Rattle.collate_records.proofs.reading.KnownRecordLemmas.{accepted_plain}
 use Rattle.collate_index.proofs.order.FileSettingLemmas.{primary_stays}
 use Rattle.collate_index.specs.Simple.{AreSimple}
 use Rattle.collate_index.specs.Keys.{IsKeyOf, elements_of_name}

@@ -10,7 +10,7 @@ use Rattle.icu_collator_types.specs.Options.{default_settings, is_at_least, reso
 use Rattle.collate_records.specs.Record.{Record}
 use Rattle.collate_records.specs.Accepted.{AreAccepted}
 use Rattle.collate_records.specs.Meaning.{settings_of}
-use Rattle.collate_records.proofs.KnownRecords.{accepted_plain}
+use Rattle.collate_records.proofs.reading.KnownRecordLemmas.{accepted_plain}
 use Rattle.collate_index.specs.Simple.{AreSimple}
 use Rattle.collate_index.specs.ServedOptions.{AreDefault, GiveStrengthOnly}
 use Rattle.collate_index.specs.Strengths.{IsServedStrength}

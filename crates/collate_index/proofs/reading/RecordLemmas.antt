@@ -10,7 +10,7 @@ use Rattle.icu_collator_types.specs.declared.elements.Element.{Element}
 use Rattle.collate_records.specs.Record.{Record}
 use Rattle.collate_records.specs.Accepted.{AreAccepted}
 use Rattle.collate_records.specs.Meaning.{canonical_of, is_compressible_in, recorded_in, weights_of}
-use Rattle.collate_records.proofs.KnownRecords.{accepted_plain}
+use Rattle.collate_records.proofs.reading.KnownRecordLemmas.{accepted_plain}
 use Rattle.collate_index.specs.Simple.{IsContextFree, elements_of_character}
 use Rattle.collate_index.proofs.reading.ContextFreeLemmas.{elements_alone, elements_unrecorded}
 

@@ -1,5 +1,5 @@
-// The rules that look at one line: classes from 1 to 254 (C3), nothing against what is built in (C8), and no jamo or
-// syllable in a mapping (C9).
+//! The rules that look at one line: classes from 1 to 254 (C3), nothing against what is built in (C8), and no jamo or
+//! syllable in a mapping (C9).
 
 ghost use Rattle.std.specs.Prelude.{◌≡◌, ℕ, ◌↔◌, ◌∷◌, ◌++◌, ◌||◌, Option, map, true, IsTrue, MatchOption};
 ghost use Rattle.std.specs.Option.{option_to_list};
@@ -10,50 +10,35 @@ ghost use Rattle.collate_records.specs.Meaning.{is_built_in};
 ghost use Rattle.collate_records.specs.Rules.{IsBadClass, Contradicts, MapsHangul, is_built_in_record};
 ghost use Rattle.collate_records.specs.Offenders.{NoneOffends, IsFirstOffender};
 
-use crate::rule::Rule;
 use crate::record::Record;
+use crate::rule::Rule;
 use icu_normalizer_core::built_in::{
     built_in_class, built_in_compatibility_step, built_in_step, is_jamo, is_syllable,
 };
 use icu_normalizer_core::properties::Decomposed;
 
 /// The first line that gives a class outside 1 to 254, other than one that is built in (rule C3,
-/// our profile). Lines count from 0; `None` where no line offends.
-pub fn first_bad_class(records: &[Record]) -> Option<usize>
+/// docs/RECORDS.md). Lines count from 0; `None` where no line offends.
+pub(crate) fn first_bad_class(records: &[Record]) -> Option<usize>
     ensures { MatchOption result (NoneOffends Rule.C3 (map said records.now)) (λ i. IsFirstOffender Rule.C3 (map said records.now) i) }
 {
-    for (i, given) in records.iter().enumerate() {
-        if is_bad_class(given) {
-            return Some(i);
-        }
-    }
-    None
+    records.iter().position(is_bad_class)
 }
 
-/// The first line that contradicts what is built in (rule C8, our profile); a line that says the
+/// The first line that contradicts what is built in (rule C8, docs/RECORDS.md); a line that says the
 /// same again doesn't. Lines count from 0; `None` where no line offends.
-pub fn first_contradiction(records: &[Record]) -> Option<usize>
+pub(crate) fn first_contradiction(records: &[Record]) -> Option<usize>
     ensures { MatchOption result (NoneOffends Rule.C8 (map said records.now)) (λ i. IsFirstOffender Rule.C8 (map said records.now) i) }
 {
-    for (i, given) in records.iter().enumerate() {
-        if contradicts(given) {
-            return Some(i);
-        }
-    }
-    None
+    records.iter().position(contradicts)
 }
 
 /// The first line whose mapping names a jamo or a syllable, unless the mapping is built in (rule
-/// C9, our profile). Lines count from 0; `None` where no line offends.
-pub fn first_mapped_hangul(records: &[Record]) -> Option<usize>
+/// C9, docs/RECORDS.md). Lines count from 0; `None` where no line offends.
+pub(crate) fn first_mapped_hangul(records: &[Record]) -> Option<usize>
     ensures { MatchOption result (NoneOffends Rule.C9 (map said records.now)) (λ i. IsFirstOffender Rule.C9 (map said records.now) i) }
 {
-    for (i, given) in records.iter().enumerate() {
-        if maps_hangul(given) {
-            return Some(i);
-        }
-    }
-    None
+    records.iter().position(maps_hangul)
 }
 
 /// Whether a line gives a class outside 1 to 254 that isn't built in.
@@ -114,8 +99,8 @@ fn is_hangul(c: char) -> bool
     is_jamo(c as u32) || is_syllable(c as u32)
 }
 
-/// Whether a mapping of this character, or that it has none, is built in (our profile).
-pub fn is_built_in(c: u32) -> bool
+/// Whether a mapping of this character, or that it has none, is built in (docs/RECORDS.md).
+pub(crate) fn is_built_in(c: u32) -> bool
     ensures { result ≡ is_built_in c }
 {
     built_in_step(c).is_some() || built_in_compatibility_step(c).is_some()

@@ -1,4 +1,4 @@
-// The rule that full lists begin with a starter and have at most eight characters (C4).
+//! The rule that full lists begin with a starter and have at most eight characters (C4).
 
 ghost use Rattle.std.specs.Prelude.{◌≡◌, ℕ, ◌↔◌, ◌∷◌, ◌++◌, List, [], map, true, IsTrue, IfOk, MatchOption};
 ghost use Rattle.icu_normalizer_core.specs.Properties.{mapped_to};
@@ -7,12 +7,14 @@ ghost use Rattle.collate_records.specs.Meaning.{expanded};
 ghost use Rattle.collate_records.specs.Rules.{HasBadList, IsBadList};
 ghost use Rattle.collate_records.specs.CanonicalParts.{in_full, IsBadOfParts};
 ghost use Rattle.collate_records.specs.Lists.{steps_by, is_mark_at, IsFront};
+ghost use Rattle.collate_records.specs.Breaches.{AnswersBreach};
 ghost use Rattle.collate_records.specs.Offenders.{NoneOffends, IsFirstOffender};
 
-use crate::canonical_part::{CanonicalPart, any_step, class_of, canonical_part, said_mapping, step_of};
+use crate::canonical_part::{CanonicalPart, any_step, class_of, said_mapping, step_of};
+use crate::record::Record;
 use crate::rule::Rule;
 use crate::rules::lines::is_built_in;
-use crate::record::Record;
+use crate::rules::parts::first_breach;
 use icu_normalizer_core::properties::Decomposed;
 use std::alloc::{AllocError, Global};
 
@@ -33,25 +35,22 @@ struct Front {
 }
 
 /// The first line with which a full list of a mapped character that isn't built in has over eight
-/// characters, or begins with a mark (rule C4, our profile). Lines count from 0; `None` where no
+/// characters, or begins with a mark (rule C4, docs/RECORDS.md). Lines count from 0; `None` where no
 /// line offends.
 ///
 /// It is meant for lines that close no loop (C2): else a list is followed for as many steps as there are code points.
 ///
 /// Errors: `AllocError` where memory is refused.
-pub fn first_bad_list(alloc: Global, records: &[Record]) -> Result<Option<usize>, AllocError>
+pub(crate) fn first_bad_list(alloc: Global, records: &[Record]) -> Result<Option<usize>, AllocError>
     ensures { IfOk result (λ found. MatchOption found (NoneOffends Rule.C4 (map said records.now)) (λ i. IsFirstOffender Rule.C4 (map said records.now) i)) }
 {
-    let mut parts = Vec::new(alloc);
-    for (i, given) in records.iter().enumerate() {
-        if let Some(part) = canonical_part(given) {
-            parts.push(part)?;
-            if has_bad_list(&parts) {
-                return Ok(Some(i));
-            }
-        }
-    }
-    Ok(None)
+    first_breach(
+        alloc,
+        records,
+        |parts: &[CanonicalPart]|
+            ensures { AnswersBreach Rule.C4 parts.now result }
+        { Ok(has_bad_list(parts)) },
+    )
 }
 
 /// Whether a full list of a mapped character that isn't built in is bad.
@@ -97,7 +96,7 @@ fn is_mark(parts: &[CanonicalPart], first: Option<u32>) -> bool
     }
 }
 
-/// A list with what at most so many steps, one after another, leave of a character; a list of over eight characters stays.
+/// A list, and after it what is left of a character after at most `limit` steps; a list of over eight characters stays.
 fn expanded(parts: &[CanonicalPart], mappings: Mappings, limit: u32, c: u32, list: Front) -> Front
     ensures { (before : List ℕ) → IsFront list before → IsFront result (before ++ expanded (steps_by mappings (map in_full parts.now)) limit c) }
 {

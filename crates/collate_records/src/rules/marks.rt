@@ -1,33 +1,46 @@
-// The rule that a mapping stands on a starter (C1).
+//! The rule that a mapping stands on a starter (C1).
 
 ghost use Rattle.std.specs.Prelude.{◌≡◌, ℕ, ◌↔◌, map, true, IsTrue, IfOk, MatchOption};
 ghost use Rattle.collate_records.specs.Record.{said};
 ghost use Rattle.collate_records.specs.CanonicalParts.{in_full, IsMarkOfParts};
+ghost use Rattle.collate_records.specs.Rules.{MapsMark};
+ghost use Rattle.collate_records.specs.Breaches.{AnswersBreach, earlier};
 ghost use Rattle.collate_records.specs.Offenders.{NoneOffends, IsFirstOffender};
 
-use crate::canonical_part::{CanonicalPart, class_of, canonical_part, said_mapping};
+use crate::canonical_part::{CanonicalPart, class_of, said_mapping};
+use crate::record::Record;
 use crate::rule::Rule;
 use crate::rules::lines::is_built_in;
-use crate::record::Record;
+use crate::rules::parts::first_breach;
 use std::alloc::{AllocError, Global};
 
 /// The first line with which a character that isn't built in has a mapping and a class other than
-/// 0 (rule C1, our profile). Lines count from 0; `None` where no line offends.
+/// 0 (rule C1, docs/RECORDS.md). Lines count from 0; `None` where no line offends.
 ///
 /// Errors: `AllocError` where memory is refused.
-pub fn first_mapped_mark(alloc: Global, records: &[Record]) -> Result<Option<usize>, AllocError>
+pub(crate) fn first_mapped_mark(
+    alloc: Global,
+    records: &[Record],
+) -> Result<Option<usize>, AllocError>
     ensures { IfOk result (λ found. MatchOption found (NoneOffends Rule.C1 (map said records.now)) (λ i. IsFirstOffender Rule.C1 (map said records.now) i)) }
 {
-    let mut parts = Vec::new(alloc);
-    for (i, given) in records.iter().enumerate() {
-        if let Some(part) = canonical_part(given) {
-            parts.push(part)?;
-            if is_mapped_mark(&parts, part.character()) {
-                return Ok(Some(i));
-            }
-        }
+    first_breach(
+        alloc,
+        records,
+        |parts: &[CanonicalPart]|
+            ensures { AnswersBreach Rule.C1 parts.now result }
+        { Ok(maps_mark(parts)) },
+    )
+}
+
+/// Whether parts map a mark, where those before the last map none.
+fn maps_mark(parts: &[CanonicalPart]) -> bool
+    ensures { (MapsMark (map in_full (earlier parts.now)) → ⊥) → IsTrue result ↔ MapsMark (map in_full parts.now) }
+{
+    match parts.split_last() {
+        Some((part, _)) => is_mapped_mark(parts, part.character()),
+        None => false,
     }
-    Ok(None)
 }
 
 /// Whether a character that isn't built in has a mapping and a class other than 0.

@@ -1,4 +1,4 @@
-use Rattle.collate_records.proofs.SameParts.{any_step_parts}
+use Rattle.collate_records.proofs.mappings.CanonicalPartLemmas.{any_step_parts}
 use Rattle.collate_records.proofs.canonical_part.any_step.Goals as goal
 
 pub returns-in-None : goal.returns-in-None

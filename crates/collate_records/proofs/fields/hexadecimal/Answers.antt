@@ -1,5 +1,5 @@
 use Rattle.std.proofs.Common.{◌<◌, ◌^◌, arith, lit<}
-use Rattle.collate_records.proofs.Numbers.{power_most}
+use Rattle.collate_records.proofs.reading.NumberLemmas.{power_most}
 use Rattle.collate_records.proofs.fields.hexadecimal.Goals as goal
 
 pub overflow_mul-number : goal.overflow_mul-number

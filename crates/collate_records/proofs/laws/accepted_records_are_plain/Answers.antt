@@ -1,4 +1,4 @@
-use Rattle.collate_records.proofs.KnownRecords.{accepted_plain}
+use Rattle.collate_records.proofs.reading.KnownRecordLemmas.{accepted_plain}
 use Rattle.collate_records.proofs.laws.accepted_records_are_plain.Goals as goal
 
 pub returns : goal.returns

@@ -1,4 +1,4 @@
-use Rattle.collate_records.proofs.Naming.{holds_more}
+use Rattle.collate_records.proofs.offenders.NamedCharacterLemmas.{holds_more}
 use Rattle.collate_records.proofs.limit.add_name.Goals as goal
 
 pub returns : goal.returns

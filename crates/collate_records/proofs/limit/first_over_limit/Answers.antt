@@ -2,7 +2,7 @@ use Rattle.std.proofs.Common.{map, sym, ◌∙◌, arith}
 use Rattle.std.proofs.lemmas.List.{length-map}
 use Rattle.std.proofs.lemmas.Bool.{false≢true}
 use Rattle.collate_records.specs.Record.{said}
-use Rattle.collate_records.proofs.Limits.{within_none, counted_at, over_at, within_more}
+use Rattle.collate_records.proofs.offenders.LimitLemmas.{within_none, counted_at, over_at, within_more}
 use Rattle.collate_records.proofs.limit.first_over_limit.Goals as goal
 
 pub loop-i-init : goal.loop-i-init

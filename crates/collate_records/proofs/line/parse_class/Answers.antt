@@ -1,6 +1,6 @@
 use Rattle.std.proofs.Common.{arith}
 use borrow.Author.Tests.{ltb-true, ltb-false}
-use Rattle.collate_records.proofs.Forms.{class_other}
+use Rattle.collate_records.proofs.reading.FormLemmas.{class_other}
 use Rattle.collate_records.proofs.line.parse_class.Goals as goal
 use Rattle.collate_records.proofs.line.parse_class.Goals.{in_default-via-then-fields-lt2, in_default-via-else-fields-lt2+else-fields-lt3}
 

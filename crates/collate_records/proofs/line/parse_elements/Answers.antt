@@ -1,7 +1,7 @@
 use Rattle.std.proofs.Common.{◌≡◌, ◌+◌, List, [], ◌∷◌, ◌++◌, drop, option_map, sym, ap, ◌∙◌}
 use Rattle.icu_collator_types.specs.declared.elements.Element.{Element}
 use Rattle.collate_records.specs.Grammar.{element, listed}
-use Rattle.collate_records.proofs.Forms.{bytes_of, elements_more}
+use Rattle.collate_records.proofs.reading.FormLemmas.{bytes_of, elements_more}
 use Rattle.collate_records.proofs.line.parse_elements.Goals as goal
 
 pub loop-field-preserved : goal.loop-field-preserved

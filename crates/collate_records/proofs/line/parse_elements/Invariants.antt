@@ -1,6 +1,6 @@
 use Rattle.std.proofs.Common.{◌≡◌, ◌++◌, drop, option_map}
 use Rattle.collate_records.specs.Grammar.{element, listed}
-use Rattle.collate_records.proofs.Forms.{bytes_of}
+use Rattle.collate_records.proofs.reading.FormLemmas.{bytes_of}
 use Rattle.collate_records.proofs.line.parse_elements.Given as goal
 
 -- The elements of the fields that are left join those so far.

@@ -1,5 +1,5 @@
 use Rattle.std.proofs.Common.{arith}
-use Rattle.collate_records.proofs.Forms.{mapping_few}
+use Rattle.collate_records.proofs.reading.FormLemmas.{mapping_few}
 use Rattle.collate_records.proofs.line.parse_map.Goals as goal
 
 pub returns-in_default : goal.returns-in_default

@@ -1,4 +1,4 @@
-use Rattle.collate_records.proofs.Reading.{many_taken}
+use Rattle.collate_records.proofs.reading.ReadLineLemmas.{many_taken}
 use Rattle.collate_records.proofs.reader.line_past_size.Goals as goal
 
 pub slice_bounds-iter-end : goal.slice_bounds-iter-end

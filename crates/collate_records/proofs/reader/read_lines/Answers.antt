@@ -3,7 +3,7 @@ use Rattle.std.proofs.lemmas.List.{length-map, map_push}
 use Rattle.collate_records.specs.declared.record.Record.{Record as Line}
 use Rattle.collate_records.specs.Record.{Record, said}
 use Rattle.collate_records.specs.Seen.{is_seen}
-use Rattle.collate_records.proofs.Reading.{read_at, outside_at, refuses_at, said_to, sound_more, seen_more, repeats_here}
+use Rattle.collate_records.proofs.reading.ReadLineLemmas.{read_at, outside_at, refuses_at, said_to, sound_more, seen_more, repeats_here}
 use Rattle.collate_records.proofs.reader.read_lines.Goals as goal
 
 not_true : (b c : Bool) → c ≡ not b → c ≡ true → b ≡ false

@@ -4,10 +4,10 @@ use Rattle.collate_records.specs.declared.seen.Seen.{Seen}
 use Rattle.collate_records.specs.Record.{said}
 use Rattle.collate_records.specs.Files.{records_in}
 use Rattle.collate_records.specs.Phases.{AreSound}
-use Rattle.collate_records.proofs.Reading.{HasSeen}
+use Rattle.collate_records.proofs.reading.ReadLineLemmas.{HasSeen}
 use Rattle.collate_records.proofs.reader.read_lines.Given as goal
 
--- The first so many lines are read.
+-- The first i lines are read.
 pub record AreRead (lines : List (List ℕ)) (i : ℕ) (records : List Line) (seen : Seen) : Type 0 where
   pub sound : AreSound lines i
   pub same : map said records ≡ take i (records_in lines)

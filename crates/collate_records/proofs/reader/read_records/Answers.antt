@@ -1,6 +1,6 @@
 use Rattle.std.proofs.Common.{ℕ, List, Bor, map, ap, ◌∙◌, arith, rules}
 use Rattle.collate_records.specs.Files.{Refuses}
-use Rattle.collate_records.proofs.Faults.{past_small, past_lines, past_refused, past_fault, answers_within}
+use Rattle.collate_records.proofs.reading.FaultLemmas.{past_small, past_lines, past_refused, past_fault, answers_within}
 use Rattle.collate_records.proofs.reader.read_records.Goals as goal
 
 pub read_lines-requires : goal.read_lines-requires

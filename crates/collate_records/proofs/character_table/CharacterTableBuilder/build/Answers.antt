@@ -1,4 +1,4 @@
-use Rattle.collate_records.proofs.CharacterTables.{looked_up-placed}
+use Rattle.collate_records.proofs.lookups.CharacterTableLemmas.{looked_up-placed}
 use Rattle.collate_records.proofs.character_table.CharacterTableBuilder.build.Goals as goal
 
 pub returns-in-Ok : goal.returns-in-Ok

@@ -1,6 +1,6 @@
 use Rattle.std.proofs.Common.{◌≡◌, ◌≤◌, ◌+◌, ◌∷◌, [], length, length-append, arith, ap, List, subst, sym}
 use Rattle.collate_records.specs.CharacterTables.{ArePlaces}
-use Rattle.collate_records.proofs.CharacterTables.{ArePlaces-more, made_from, placed-more, written_from}
+use Rattle.collate_records.proofs.lookups.CharacterTableLemmas.{ArePlaces-more, made_from, placed-more, written_from}
 use Rattle.collate_records.proofs.character_table.CharacterTableBuilder.insert.Goals as goal
 
 pub invariant_of-self-2 : goal.invariant_of-self-2

@@ -1,4 +1,4 @@
-use Rattle.collate_records.proofs.CharacterTables.{ArePlaces-new}
+use Rattle.collate_records.proofs.lookups.CharacterTableLemmas.{ArePlaces-new}
 use Rattle.collate_records.proofs.character_table.CharacterTableBuilder.new.Goals as goal
 
 pub invariant_of-result : goal.invariant_of-result

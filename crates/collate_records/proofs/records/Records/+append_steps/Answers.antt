@@ -1,6 +1,6 @@
 use Rattle.std.proofs.Common.{◌++◌, ◌-◌, ap, sym, ◌∙◌, refl}
 use Rattle.collate_records.specs.Meaning.{step_of, expanded}
-use Rattle.collate_records.proofs.FullLists.{expanded-none, expanded-one, expanded-two, AddsFront-first, AddsFront-second, append_both, OnErr-always}
+use Rattle.collate_records.proofs.lists.FullListLemmas.{expanded-none, expanded-one, expanded-two, AddsFront-first, AddsFront-second, append_both, OnErr-always}
 use Rattle.collate_records.proofs.records.Records.+append_steps.Goals as goal
 
 pub returns-in_err-append_steps-in-Singleton-clause-part : goal.returns-in_err-append_steps-in-Singleton-clause-part

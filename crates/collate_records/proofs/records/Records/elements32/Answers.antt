@@ -1,4 +1,4 @@
-use Rattle.collate_records.proofs.KnownRecords.{recorded_alone}
+use Rattle.collate_records.proofs.reading.KnownRecordLemmas.{recorded_alone}
 use Rattle.collate_records.proofs.records.Records.elements32.Goals as goal
 
 pub returns : goal.returns

@@ -5,8 +5,8 @@ use Rattle.collate_records.specs.Offenders.{NoneOffends}
 use Rattle.collate_records.specs.Record.{said}
 use Rattle.collate_records.specs.Accepted.{AreAccepted}
 use Rattle.collate_records.specs.Tables.{AreTablesOf}
-use Rattle.collate_records.proofs.AcceptedLines.{accepted_lines}
-use Rattle.collate_records.proofs.Keys.{accepted_few}
+use Rattle.collate_records.proofs.reading.AcceptedLemmas.{accepted_lines}
+use Rattle.collate_records.proofs.lookups.KeyLemmas.{accepted_few}
 use Rattle.collate_records.proofs.records.Records.read_over.Goals as goal
 
 pub new-requires-clause-few : goal.new-requires-clause-few

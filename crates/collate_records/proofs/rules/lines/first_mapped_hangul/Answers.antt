@@ -1,14 +1,12 @@
-use Rattle.collate_records.proofs.Lines.{first_line, none_more, none_at_end}
+use Rattle.std.proofs.Common.{rules}
+use Rattle.std.proofs.lemmas.Iterator.{IsFirst-from_position, YieldsList-from_slice}
+use Rattle.collate_records.proofs.offenders.LineRuleLemmas.{first_by_test}
+use Rattle.collate_records.specs.Record.{said}
 use Rattle.collate_records.specs.Rules.{MapsHangul}
 use Rattle.collate_records.proofs.rules.lines.first_mapped_hangul.Goals as goal
 
-pub returns-then-maps_hangul : goal.returns-then-maps_hangul
-returns-then-maps_hangul c =
-    first_line MapsHangul c.args.records.now c.loop-i.i _ _ c.loop-i.invariant c.loop-i-test.true c.index-records-i.is c.maps_hangul.ensures.0 c.if-maps_hangul.true
-
-pub loop-i-preserved : goal.loop-i-preserved
-loop-i-preserved c =
-    none_more MapsHangul c.args.records.now c.loop-i.i _ _ c.loop-i.invariant c.loop-i-test.true c.index-records-i.is c.maps_hangul.ensures.1 c.if-maps_hangul.false
-
 pub returns : goal.returns
-returns c = none_at_end MapsHangul c.args.records.now c.loop-i.i c.loop-i.invariant c.loop-i-test.false
+returns c =
+    first_by_test MapsHangul c.args.records.now c.position.result
+    (IsFirst-from_position _ _ c.position.result (λ x. MapsHangul (said x)) (λ x. MapsHangul (said x) → ⊥) c.position.ensures.ran
+    (YieldsList-from_slice c.args.records.now c.iter.ensures.rest) (λ x q k. search rules) (λ x q k. search rules))

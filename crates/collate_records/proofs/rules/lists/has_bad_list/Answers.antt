@@ -1,6 +1,6 @@
 use Rattle.std.proofs.Common.{refl}
 use Rattle.std.proofs.lemmas.Bool.{false≢true}
-use Rattle.collate_records.proofs.BadLists.{bad_more, bad_none, bad_of_parts}
+use Rattle.collate_records.proofs.lists.BadListLemmas.{bad_more, bad_none, bad_of_parts}
 use Rattle.collate_records.proofs.rules.lists.has_bad_list.Goals as goal
 
 pub loop-part-preserved : goal.loop-part-preserved

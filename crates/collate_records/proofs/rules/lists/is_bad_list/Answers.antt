@@ -1,7 +1,7 @@
 use Rattle.std.proofs.Common.{[], map, refl, arith}
 use Rattle.std.proofs.lemmas.Bool.Decides.{nat_tests}
 use Rattle.collate_records.specs.CanonicalParts.{in_full}
-use Rattle.collate_records.proofs.BadLists.{bad_long, bad_short}
+use Rattle.collate_records.proofs.lists.BadListLemmas.{bad_long, bad_short}
 use Rattle.collate_records.proofs.rules.lists.is_bad_list.Goals as goal
 
 pub returns-then-list-gt8 : goal.returns-then-list-gt8

@@ -7,7 +7,7 @@ use Rattle.icu_normalizer_core.specs.Properties.{mapped_to}
 use Rattle.collate_records.specs.Meaning.{any_step}
 use Rattle.collate_records.specs.CanonicalParts.{in_full}
 use Rattle.collate_records.specs.Reached.{with_all, AreSmall}
-use Rattle.collate_records.proofs.Exploring.{exploring_begun, exploring_more, exploring_end, exploring_bound}
+use Rattle.collate_records.proofs.mappings.ExploringLemmas.{exploring_begun, exploring_more, exploring_end, exploring_bound}
 use Rattle.collate_records.proofs.rules.loops.reaches.Goals as goal
 
 pub loop-next-init : goal.loop-next-init

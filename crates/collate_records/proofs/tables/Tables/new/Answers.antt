@@ -3,9 +3,9 @@ use Rattle.std.proofs.lemmas.List.{length-map}
 use Rattle.collate_records.specs.Accepted.{HasSmallClass}
 use Rattle.collate_records.specs.Record.{Record, said}
 use Rattle.collate_records.specs.Tables.{AreFilledWith, class_key, mapping_key, weights_key}
-use Rattle.collate_records.proofs.Keys.{class_kind, mapping_kind, weights_kind, keys_limit, fresh_at}
-use Rattle.collate_records.proofs.Limits.{lines_to}
-use Rattle.collate_records.proofs.Lookups.{All-map_at}
+use Rattle.collate_records.proofs.lookups.KeyLemmas.{class_kind, mapping_kind, weights_kind, keys_limit, fresh_at}
+use Rattle.collate_records.proofs.offenders.LimitLemmas.{lines_to}
+use Rattle.collate_records.proofs.lookups.LookupLemmas.{All-map_at}
 use Rattle.collate_records.proofs.tables.Tables.new.Goals as goal
 
 pub add-requires-clause-class : goal.add-requires-clause-class

@@ -3,8 +3,8 @@ use Rattle.icu_normalizer_core.specs.Properties.{mapped_to}
 use Rattle.collate_records.specs.CharacterTables.{placed}
 use Rattle.collate_records.specs.Meaning.{class_in, mapping_in, lone_elements_in}
 use Rattle.collate_records.specs.Tables.{class_key, mapping_key, weights_key}
-use Rattle.collate_records.proofs.Keys.{class-absent, mapping-absent, weights-absent, lone_is, count_same, count_more}
-use Rattle.collate_records.proofs.Lookups.{finds_more, finds_more_same, first_found-skip, OnOk-both}
+use Rattle.collate_records.proofs.lookups.KeyLemmas.{class-absent, mapping-absent, weights-absent, lone_is, count_same, count_more}
+use Rattle.collate_records.proofs.lookups.LookupLemmas.{finds_more, finds_more_same, first_found-skip, OnOk-both}
 use Rattle.collate_records.proofs.tables.TablesBuilder.add.Goals as goal
 use Rattle.collate_records.proofs.tables.TablesBuilder.add.Goals.{in-Some, in-None}
 

@@ -1,5 +1,5 @@
 -- The code points that lines map to are scalar values.
-use Rattle.std.proofs.Common.{◌≡◌, ℕ, ◌≤◌, Bool, true, false, not, List, [], ◌∷◌, length, Option, Some, None, All, refl, arith, ◌==◌, bytes_eq, ◌⊎◌, inl, inr}
+use Rattle.std.proofs.Common.{◌≡◌, ℕ, ◌≤◌, Bool, true, false, List, [], ◌∷◌, length, Option, Some, None, All, refl, arith, ◌==◌, ◌⊎◌, inl, inr}
 use Rattle.std.proofs.lemmas.Bool.Decides.{nat_tests}
 use Rattle.std.proofs.lemmas.List.Elements.{All-cons, All-nil}
 use Rattle.std.specs.List.{slice_split}
@@ -7,7 +7,7 @@ use Rattle.std.proofs.lemmas.Option.{same_Some}
 use Rattle.std.specs.Char.{IsScalar}
 use Rattle.std.specs.Prelude.{if◌then◌else◌, codes}
 use Rattle.collate_records.specs.Known.{known_record_of}
-use Rattle.collate_records.proofs.Reading.{known_said}
+use Rattle.collate_records.proofs.reading.ReadLineLemmas.{known_said}
 use Rattle.collate_records.specs.Record.{Record, nothing, Layer, root, tailoring}
 use Rattle.collate_records.specs.Accepted.{MapsToScalars}
 use Rattle.collate_records.specs.Grammar.{◌>>=◌, checked, class_by, class_number, code_point, compatibility_by, digit_by, digit_to, element, ending_by, hex_number, hex_of, is_scalar, is_short, key_by, listed, mapping_by, parted, range_by, record_by, record_of, set_by, setting_by, some_listed, step_number, weights_by}

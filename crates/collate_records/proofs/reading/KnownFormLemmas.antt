@@ -1,5 +1,5 @@
 -- Which forms of lines are known so far.
-use Rattle.std.proofs.Common.{◌≡◌, ℕ, Bool, true, false, List, [], ◌∷◌, length, map, Bor, Option, Some, None, option_map, refl, sym, ap, ◌∙◌, bytes_eq, subst, leb, ⊎_elim}
+use Rattle.std.proofs.Common.{◌≡◌, ℕ, Bool, true, false, List, [], ◌∷◌, length, Option, Some, None, option_map, refl, sym, ap, ◌∙◌, bytes_eq, leb}
 use Rattle.std.specs.Prelude.{if◌then◌else◌, codes, ◌==◌, not}
 use Rattle.std.specs.List.{slice_split}
 use Rattle.std.proofs.lemmas.Option.{same_Some}
@@ -133,8 +133,8 @@ some_read o p = o >>= λ first. p >>= λ others. Some (first ∷ others)
 abbrev key_of_parts : Option (List ℕ) → Option Parts → Option Key
 key_of_parts text o =
     elim o as (λ _. Option Key) [
-      None ↦ text_key text
-    | Some parts ↦ prefix_key (some_listed code_point parts.0) (some_listed code_point parts.1)
+      | None ↦ text_key text
+      | Some parts ↦ prefix_key (some_listed code_point parts.0) (some_listed code_point parts.1)
     ]
 
 abbrev root_record : Option (List Element) → Option Key → Option Record
@@ -149,8 +149,8 @@ no_key c more none = by (bytes_eq c (codes "|")) (code_point c) (parted (codes "
   where
     by : (b : Bool) (o : Option ℕ) (later : Option Parts) → o ≡ None
         → elim (parted_at b c more later) as (λ _. Option Key) [
-          None ↦ text_key (some_read o (listed code_point more))
-        | Some parts ↦ prefix_key (some_listed code_point parts.0) (some_listed code_point parts.1)
+          | None ↦ text_key (some_read o (listed code_point more))
+          | Some parts ↦ prefix_key (some_listed code_point parts.0) (some_listed code_point parts.1)
         ] ≡ None
     by true o later e = refl
     by false None None e = refl

@@ -9,7 +9,7 @@ use Rattle.std.proofs.lemmas.Map.Keys.{IsDistinct-push}
 use Rattle.std.proofs.lemmas.Map.Steps.{length-le_from_distinct_below}
 use Rattle.icu_normalizer_core.specs.Canonical.{Reaches, stands, steps, Leaves, nothing, unmapped, mapped}
 use Rattle.collate_records.specs.Meaning.{expanded}
-use Rattle.collate_records.proofs.FullLists.{by_first, expanded-suc}
+use Rattle.collate_records.proofs.lists.FullListLemmas.{by_first, expanded-suc}
 
 pub Contains-head : (d : ℕ) (ds : List ℕ) → Contains (d ∷ ds) d
 Contains-head d ds = Contains-append_left (d ∷ []) ds d (Contains-push [] d)

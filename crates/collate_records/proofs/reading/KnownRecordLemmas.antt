@@ -1,5 +1,5 @@
 -- What lines come to that are known so far.
-use Rattle.std.proofs.Common.{◌≡◌, ℕ, Bool, true, false, cond, ◌&&◌, ◌||◌, eqb, List, [], ◌∷◌, length, Option, Some, None, refl, sym, ap, ◌∙◌, bytes_eq, All}
+use Rattle.std.proofs.Common.{◌≡◌, ℕ, Bool, true, false, cond, ◌&&◌, ◌||◌, eqb, List, [], ◌∷◌, Option, Some, None, refl, sym, ap, ◌∙◌, All}
 use Rattle.std.specs.Prelude.{◌==◌, replicate}
 use Rattle.std.specs.List.{list_any}
 use Rattle.std.specs.Option.{unwrap_or}
@@ -13,8 +13,8 @@ use Rattle.icu_collator_types.specs.declared.options.FileSettings.{FileSettings}
 use Rattle.icu_collator_types.specs.Options.{default_settings}
 use Rattle.collate_records.specs.Record.{Record, nothing, class, mapping, compatibility, weights, range, digit, setting, root, tailoring, lone_weights}
 use Rattle.collate_records.specs.Grammar.{checked, record_of}
-use Rattle.collate_records.specs.Known.{ArePlain, is_known, if_known, known_record_of}
-use Rattle.collate_records.specs.Meaning.{first_found, compatibility_in, elements_in, lone_elements_in, recorded_in, digit_in, range_in, alternate_in, backward_in, case_first_in, max_variable_in, dot_above_in, numeric_in, groups_in, compress_in, reorder_in, set_to, is_compressible_in, place_among, settings_of}
+use Rattle.collate_records.specs.Known.{ArePlain, is_known, if_known}
+use Rattle.collate_records.specs.Meaning.{first_found, compatibility_in, elements_in, lone_elements_in, recorded_in, digit_in, range_in, alternate_in, backward_in, case_first_in, max_variable_in, dot_above_in, numeric_in, groups_in, compress_in, reorder_in, set_to, place_among, settings_of}
 use Rattle.collate_records.specs.Accepted.{AreAccepted, IsSaid}
 
 -- a record that is known so far

@@ -11,10 +11,10 @@ use Rattle.collate_records.specs.Files.{IsAccepted, lines_of, read_line, records
 use Rattle.collate_records.specs.Offenders.{NoneOffends}
 use Rattle.collate_records.specs.Record.{Record}
 use Rattle.collate_records.specs.Meaning.{canonical_of}
-use Rattle.collate_records.proofs.Decomposing.{decomposing}
-use Rattle.collate_records.proofs.Keys.{accepted_once}
-use Rattle.collate_records.proofs.Reading.{known_read}
-use Rattle.collate_records.proofs.Scalars.{line_scalars}
+use Rattle.collate_records.proofs.mappings.DecomposingLemmas.{decomposing}
+use Rattle.collate_records.proofs.lookups.KeyLemmas.{accepted_once}
+use Rattle.collate_records.proofs.reading.ReadLineLemmas.{known_read}
+use Rattle.collate_records.proofs.reading.ScalarLemmas.{line_scalars}
 
 -- a line that is in the grammar, as far as it is known, says what was read
 said_here : (line : List ℕ) (o : Option Record) → known_record_of line ≡ o → (o ≡ None → ⊥) → IsSaid (read_line line)

@@ -9,8 +9,8 @@ use Rattle.std.proofs.lemmas.Map.Views.{Contains-from_any}
 use Rattle.std.proofs.lemmas.Bool.Decides.{Decides-eqb}
 use Rattle.icu_normalizer_core.specs.Canonical.{Reaches, stands}
 use Rattle.collate_records.specs.Reached.{with_all, AreSmall, IsExploring}
-use Rattle.collate_records.proofs.Loops.{reaches_on, reached_in_closed}
-use Rattle.collate_records.proofs.Reached.{with_all-keeps, with_all-has, with_all-only, with_all-extends, with_all-distinct}
+use Rattle.collate_records.proofs.mappings.LoopLemmas.{reaches_on, reached_in_closed}
+use Rattle.collate_records.proofs.mappings.ReachedLemmas.{with_all-keeps, with_all-has, with_all-only, with_all-extends, with_all-distinct}
 
 distinct_none : IsDistinct nat_eq []
 unfolding IsDistinct

@@ -5,7 +5,7 @@ use Rattle.collate_records.specs.declared.record.Record.{Record as Line}
 use Rattle.collate_records.specs.Record.{Record, said}
 use Rattle.collate_records.specs.declared.canonical_part.CanonicalPart.{CanonicalPart}
 use Rattle.collate_records.specs.CanonicalParts.{in_full, SaysSame}
-use Rattle.collate_records.proofs.SameParts.{SaysSame-append, SaysSame-sym, stated_push}
+use Rattle.collate_records.proofs.mappings.CanonicalPartLemmas.{SaysSame-append, SaysSame-sym, stated_push}
 
 -- what the lines up to line i say, with line i read as x
 up_to : (lines : List Line) (i : ℕ) (x : Line) → i < length lines → x ≡ get_or lines i x

@@ -1,5 +1,5 @@
 -- A character that isn't built in has a mapping and a class other than 0.
-use Rattle.std.proofs.Common.{◌≡◌, ◌≢◌, ℕ, List, [], ◌∷◌, ◌++◌, sym, ◌∙◌, subst, map, ap, Option, Some, None, Bool, true, false, ⊎_elim, inl, ◌⊎◌, ◌↔◌, ◌||◌, ◌&&◌}
+use Rattle.std.proofs.Common.{refl, ◌≡◌, ◌≢◌, ℕ, List, [], ◌∷◌, ◌++◌, sym, ◌∙◌, subst, map, ap, Option, Some, None, Bool, true, false, ⊎_elim, inl, ◌⊎◌, ◌↔◌, ◌||◌, ◌&&◌}
 use Rattle.std.proofs.lemmas.Bool.{false≢true}
 use Rattle.std.specs.Bool.{IsTrue}
 use Rattle.std.specs.Option.{unwrap_or, is_some}
@@ -10,7 +10,7 @@ use Rattle.collate_records.specs.Record.{Record}
 use Rattle.collate_records.specs.Meaning.{first_found, mapping_in, is_built_in, class_of}
 use Rattle.collate_records.specs.Rules.{MapsMark, IsMappedMark}
 use Rattle.collate_records.specs.CanonicalParts.{in_full, SaysSame, subject_of, IsMarkOfParts}
-use Rattle.collate_records.proofs.SameParts.{class_of-same, first_found-other_class, first_found-other_mapping, first_found-other_compatibility, parts_without_compatibility, stated_push}
+use Rattle.collate_records.proofs.mappings.CanonicalPartLemmas.{class_of-same, first_found-other_class, first_found-other_mapping, first_found-other_compatibility, parts_without_compatibility, stated_push}
 
 -- a character is a mapped mark by its class and by what lines say of its mappings
 abbrev IsMarkBy : ℕ → ℕ → Option (List ℕ) → Option (List ℕ) → Type 0
@@ -65,3 +65,10 @@ unmarked parts after part c b e at holds is_false unbroken maps =
     let Q : ℕ → Type 0 = λ d. IsMappedMark (map in_full after) d in
     let t : b ≡ true = holds ((marked_parts after c).0 (subst Q (sym at) (subst P (sym whole) (mark_of_part (map in_full parts) part unbroken (subst MapsMark whole maps))))) in
     false≢true (sym is_false ∙ t)
+
+-- where the parts before the last map no mark, all of them map one exactly if the last part's character is one
+pub mark_tells : (before after : List CanonicalPart) (part : CanonicalPart) (c : ℕ) (b : Bool) → after ≡ before ++ part ∷ [] → c ≡ subject_of part
+    → (IsTrue b ↔ IsMarkOfParts (map in_full after) c) → (MapsMark (map in_full before) → ⊥) → IsTrue b ↔ MapsMark (map in_full after)
+mark_tells before after part c true e at tells unbroken = (λ t. (c, (marked_parts after c).1 (tells.0 t)), λ maps. refl)
+mark_tells before after part c false e at tells unbroken =
+    (λ t. (c, (marked_parts after c).1 (tells.0 t)), λ maps. absurd (unmarked before after part c false e at tells.1 refl unbroken maps))

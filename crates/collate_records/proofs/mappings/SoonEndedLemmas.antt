@@ -4,8 +4,8 @@ use Rattle.std.specs.List.{Contains}
 use Rattle.std.proofs.lemmas.List.Elements.{All-contains, All-cons, All-nil, All-head, All-tail}
 use Rattle.icu_normalizer_core.specs.Canonical.{Leaves, nothing, unmapped}
 use Rattle.collate_records.specs.Meaning.{expanded}
-use Rattle.collate_records.proofs.FullLists.{by_first, expanded-suc}
-use Rattle.collate_records.proofs.Endings.{Leaves-by_first}
+use Rattle.collate_records.proofs.lists.FullListLemmas.{by_first, expanded-suc}
+use Rattle.collate_records.proofs.mappings.EndingLemmas.{Leaves-by_first}
 
 module _ (step : ℕ → List ℕ) where
   -- no step leads on from what one step gives

@@ -14,9 +14,9 @@ use Rattle.collate_records.specs.Record.{Record}
 use Rattle.collate_records.specs.Meaning.{mapping_in, compatibility_in, else_mapped, first_found, is_built_in, any_step}
 use Rattle.collate_records.specs.Rules.{HasLoop}
 use Rattle.collate_records.specs.CanonicalParts.{in_full, SaysSame, subject_of}
-use Rattle.collate_records.proofs.SameParts.{any_step-same, else_found, first_found-append, first_found-push, first_found-other_mapping, first_found-other_compatibility}
-use Rattle.collate_records.proofs.BuiltInFalls.{built_in_falls}
-use Rattle.collate_records.proofs.Loops.{falling_never, reaches_same, reaches_still, no_new_loop}
+use Rattle.collate_records.proofs.mappings.CanonicalPartLemmas.{any_step-same, else_found, first_found-append, first_found-push, first_found-other_mapping, first_found-other_compatibility}
+use Rattle.collate_records.proofs.mappings.BuiltInFallLemmas.{built_in_falls}
+use Rattle.collate_records.proofs.mappings.LoopLemmas.{falling_never, reaches_same, reaches_still, no_new_loop}
 
 pub HasLoop-steps : (lines others : List Record) → ((d : ℕ) → any_step lines d ≡ any_step others d) → HasLoop lines → HasLoop others
 HasLoop-steps lines others agree loop = (

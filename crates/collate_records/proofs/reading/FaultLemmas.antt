@@ -16,7 +16,7 @@ use Rattle.collate_records.specs.Record.{nothing, said}
 use Rattle.collate_records.specs.Rules.{Offends, rank}
 use Rattle.collate_records.specs.Files.{ended, ends_empty, size_limit, lines_of, read_line, records_in, records_of, PassesSize, IsOutside, Breaks, IsEarlier, IsAccepted, IsFirstFault, Refuses}
 use Rattle.collate_records.specs.Phases.{AreSound, IsUnsound, RefusesLine, KeepsBelow, BreaksFirst, RefusesRecords, RefusesLines}
-use Rattle.collate_records.proofs.Ranks.{same_from_rank}
+use Rattle.collate_records.proofs.reading.RankLemmas.{same_from_rank}
 
 -- past the last line there is nothing, which is in the grammar
 outside_within : (lines : List (List ℕ)) (i : ℕ) → IsOutside lines i → i < length lines

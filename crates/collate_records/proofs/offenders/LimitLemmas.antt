@@ -15,7 +15,7 @@ use Rattle.collate_records.specs.Record.{Record, nothing, said}
 use Rattle.collate_records.specs.Rules.{record_at, named, says_something, IsLong, is_range, names_in, different, IsOverLimit}
 use Rattle.collate_records.specs.Limits.{Holds}
 
--- the first so many lines are within the limits
+-- the first i lines are within the limits
 pub record AreWithin (records : List Record) (i : ℕ) (names : BTreeSet ℕ) (record_count : ℕ) : Type 0 where
   pub holds : Holds names (flat_map named (take i records))
   pub counts : record_count ≡ length (filter says_something (take i records))
@@ -66,7 +66,7 @@ count_to lines i x h e =
     ∙ length-append (filter says_something (take i (map said lines))) (filter says_something (said x ∷ []))
     ∙ ap (λ (n : ℕ). length (filter says_something (take i (map said lines))) + n) (one_kept (said x) _ refl)
 
--- one of the limits is passed by so many names, so many lines that say something, and what a line lists
+-- one of the limits is passed: by the number of names, of lines that say something, or of what a line lists
 abbrev pub IsOver : ℕ → ℕ → Record → Type 0
 IsOver names record_count s = (150 < names) ⊎ ((1000 < record_count) ⊎ IsLong s)
 

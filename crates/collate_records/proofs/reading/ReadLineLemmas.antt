@@ -13,7 +13,7 @@ use Rattle.collate_records.specs.declared.rule.RecordsError.TheVariants.{Fault}
 use Rattle.collate_records.specs.Grammar.{checked, record_of}
 use Rattle.collate_records.specs.Known.{is_known, if_known, known_record_of}
 use Rattle.collate_records.specs.Forms.{known_line}
-use Rattle.collate_records.proofs.KnownForms.{line_known}
+use Rattle.collate_records.proofs.reading.KnownFormLemmas.{line_known}
 use Rattle.collate_records.specs.Record.{Record, nothing, said}
 use Rattle.collate_records.specs.Seen.{is_seen}
 use Rattle.collate_records.specs.Rules.{record_at, is_second, Repeats}
@@ -32,7 +32,7 @@ line_read lines i d h = get_or-map (λ (line : Bor (List ℕ)). line.now) lines 
 pub many_taken : (n : ℕ) (bs : List ℕ) → n < length bs → n ≡ length (take n bs)
 many_taken n bs h = omega (arith, length-take n bs)
 
--- what was seen is what the first so many lines are for
+-- what was seen is what the lines read so far are for
 pub record HasSeen (seen : Seen) (records : List Record) : Type 0 where
   pub each : (other : Record) → is_seen seen other ≡ list_any (λ s. is_second s other) records
 

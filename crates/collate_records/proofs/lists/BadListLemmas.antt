@@ -12,7 +12,7 @@ use Rattle.collate_records.specs.Meaning.{first_found, mapping_in, compatibility
 use Rattle.collate_records.specs.Rules.{is_mapped, IsBadlyMapped, compatibility_full_of, begins_with_mark, IsBadList, HasBadList}
 use Rattle.collate_records.specs.CanonicalParts.{in_full, SaysSame, subject_of, IsBadOfParts}
 use Rattle.collate_records.specs.Lists.{is_mark_at, IsFront}
-use Rattle.collate_records.proofs.SameParts.{other_mapping, class_of-same, step_of-same, any_step-same, parts_without_compatibility}
+use Rattle.collate_records.proofs.mappings.CanonicalPartLemmas.{other_mapping, class_of-same, step_of-same, any_step-same, parts_without_compatibility}
 
 pub expanded_none : (step : ℕ → List ℕ) (n c : ℕ) → n ≡ 0 → expanded step n c ≡ c ∷ []
 unfolding expanded
@@ -101,16 +101,18 @@ IsBadList-same lines others list further same e bad =
 pub HasBadList-same : (lines others : List Record) → SaysSame lines others → HasBadList lines → HasBadList others
 HasBadList-same lines others same bad =
     let c = bad.0 in (
-      c, (
-      subst (λ (o : Option (List ℕ)). IsTrue (is_some (first_found (mapping_in c) others) || is_some o)) (same.compatibilities c)
-          (subst (λ (o : Option (List ℕ)). IsTrue (is_some o || is_some (first_found (compatibility_in c) lines))) (same.mappings c) bad.1.0),
-      bad.1.1,
-      ⊎_elim
-          (λ canonical. inl (IsBadList-same lines others (full_of lines c) (full_of others c) same
-          (expanded_same (step_of lines) (step_of others) (λ d. step_of-same lines others d same) 0x110000 c) canonical))
-          (λ all. inr (IsBadList-same lines others (compatibility_full_of lines c) (compatibility_full_of others c) same
-          (expanded_same (any_step lines) (any_step others) (λ d. any_step-same lines others d same) 0x110000 c) all))
-          bad.1.2),
+      c,
+      (
+        subst (λ (o : Option (List ℕ)). IsTrue (is_some (first_found (mapping_in c) others) || is_some o)) (same.compatibilities c)
+            (subst (λ (o : Option (List ℕ)). IsTrue (is_some o || is_some (first_found (compatibility_in c) lines))) (same.mappings c) bad.1.0),
+        bad.1.1,
+        ⊎_elim
+            (λ canonical. inl (IsBadList-same lines others (full_of lines c) (full_of others c) same
+            (expanded_same (step_of lines) (step_of others) (λ d. step_of-same lines others d same) 0x110000 c) canonical))
+            (λ all. inr (IsBadList-same lines others (compatibility_full_of lines c) (compatibility_full_of others c) same
+            (expanded_same (any_step lines) (any_step others) (λ d. any_step-same lines others d same) 0x110000 c) all))
+            bad.1.2,
+      ),
     )
 
 pub HasBadList-none : HasBadList [] → ⊥

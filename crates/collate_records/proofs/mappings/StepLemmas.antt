@@ -14,10 +14,10 @@ use Rattle.collate_records.specs.Record.{Record, nothing, class, mapping}
 use Rattle.collate_records.specs.Meaning.{is_built_in, first_found, mapping_in, class_in, step_of, class_of}
 use Rattle.collate_records.specs.Rules.{record_at, MapsMark, MapsHangul, IsBadClass, is_built_in_record}
 use Rattle.collate_records.specs.Accepted.{AreScalars, MapsToScalars}
-use Rattle.collate_records.proofs.BuiltIns.{built_in_cases, compatibility_alone, all_singled_out, syllable_cases}
-use Rattle.collate_records.proofs.Classes.{built_in_class-small}
-use Rattle.collate_records.proofs.Endings.{Contains-tail}
-use Rattle.collate_records.proofs.Found.{mapping_line, class_line}
+use Rattle.collate_records.proofs.mappings.BuiltInLemmas.{built_in_cases, compatibility_alone, all_singled_out, syllable_cases}
+use Rattle.collate_records.proofs.offenders.ClassLemmas.{built_in_class-small}
+use Rattle.collate_records.proofs.mappings.EndingLemmas.{Contains-tail}
+use Rattle.collate_records.proofs.lookups.FoundLemmas.{mapping_line, class_line}
 
 pub some_or_none : {A : Type 0} (o : Option A) → ((x : A) × (o ≡ Some x)) ⊎ (o ≡ None)
 some_or_none (Some x) = inl (x, refl)

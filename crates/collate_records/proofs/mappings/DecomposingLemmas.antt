@@ -17,10 +17,10 @@ use Rattle.collate_records.specs.Rules.{begins_with_mark, is_mapped, MapsMark, H
 use Rattle.collate_records.specs.declared.rule.Rule.TheVariants.{C1, C2, C3, C4, C9}
 use Rattle.collate_records.specs.Offenders.{NoneOffends}
 use Rattle.collate_records.specs.Accepted.{AreScalars}
-use Rattle.collate_records.proofs.BuiltIns.{built_in_cases, all_singled_out, syllable_cases, open_syllable_cases, jamo_unmapped, syllable_mapped}
-use Rattle.collate_records.proofs.Endings.{ends}
-use Rattle.collate_records.proofs.SoonEnded.{EndsSoon, unmapped-ends_soon, two-ends_soon, expanded-unmapped, ends_built_in, ends_unmapped, bounded_built_in}
-use Rattle.collate_records.proofs.Steps.{IsMapped, step_cases, free_step_cases, step_scalars, mark_unmapped, mapped_starter, no_letters, small_class, step_of-built_in, step_of-compatibility, some_or_none}
+use Rattle.collate_records.proofs.mappings.BuiltInLemmas.{built_in_cases, all_singled_out, syllable_cases, open_syllable_cases, jamo_unmapped, syllable_mapped}
+use Rattle.collate_records.proofs.mappings.EndingLemmas.{ends}
+use Rattle.collate_records.proofs.mappings.SoonEndedLemmas.{EndsSoon, unmapped-ends_soon, two-ends_soon, expanded-unmapped, ends_built_in, ends_unmapped, bounded_built_in}
+use Rattle.collate_records.proofs.mappings.StepLemmas.{IsMapped, step_cases, free_step_cases, step_scalars, mark_unmapped, mapped_starter, no_letters, small_class, step_of-built_in, step_of-compatibility, some_or_none}
 
 -- what is reached from a text that has more
 reaches_from : (step : ℕ → List ℕ) (s t : List ℕ) (x : ℕ) → ((d : ℕ) → Contains s d → Contains t d) → Reaches step s x → Reaches step t x

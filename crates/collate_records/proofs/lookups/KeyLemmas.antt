@@ -21,7 +21,7 @@ use Rattle.collate_records.specs.Rules.{record_at, named, names_in, different, i
 use Rattle.collate_records.specs.Offenders.{NoneOffends}
 use Rattle.collate_records.specs.Files.{IsAccepted, lines_of, read_line, records_of}
 use Rattle.collate_records.specs.declared.record.Record.{Record as Line}
-use Rattle.collate_records.proofs.Limits.{said_of}
+use Rattle.collate_records.proofs.offenders.LimitLemmas.{said_of}
 use Rattle.collate_records.specs.Tables.{class_key, mapping_key, weights_key}
 
 -- a line is for one character, as others of its kind are for theirs
@@ -250,7 +250,7 @@ module _ (key : Record → List ℕ) (kind : IsKind key) where
       let few = length-le_from_is_member nat_eq_equiv (flat_map key (take i records)) (unique_keys eqb names) (distinct_to records once i h) (λ q is. is_member-unique q names ∙ key_named q (take i records) is) in
       omega (arith, different-unique names, few)
 
-  -- so many lines of the kind
+  -- how many lines of the kind there are at most
   pub keys_limit : (records : List Record) → NoneOffends V14 records → NoneOffends Limit records → (i : ℕ) → i ≤ length records → length (flat_map key (take i records)) ≤ 150
   keys_limit records once few zero h = omega arith
   keys_limit records once few (suc i) h =

@@ -1,0 +1,3 @@
+-- full lists
+pub mod BadListLemmas
+pub mod FullListLemmas

@@ -1,0 +1,8 @@
+-- which line offends first against a rule
+pub mod BreachLemmas
+pub mod ClassLemmas
+pub mod LimitLemmas
+pub mod LineRuleLemmas
+pub mod MappedMarkLemmas
+pub mod NamedCharacterLemmas
+pub mod PartRuleLemmas
