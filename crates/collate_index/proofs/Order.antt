@@ -15,10 +15,11 @@ use Rattle.icu_collator_core.specs.Collation.{Collation}
 use Rattle.icu_collator_core.specs.WeightRules.{AreSoundWeights}
 use Rattle.icu_collator.specs.KeyBytes.{key_of_text}
 use Rattle.icu_collator.specs.Order.{collation_order}
-use Rattle.icu_collator.specs.Settings.{AreSoundSettings, has_plain_leads}
-use Rattle.icu_collator.proofs.LevelKeys.{same_numbers}
-use Rattle.icu_collator.proofs.OrderTotal.{collation_order_total}
-use Rattle.icu_collator.proofs.TextKeys.{text_keys_order}
+use Rattle.icu_collator.specs.Settings.{has_plain_leads}
+use Rattle.icu_collator.specs.SoundCollation.{IsSoundCollation}
+use Rattle.icu_collator.proofs.keys.KeyBytesLemmas.{same_numbers}
+use Rattle.icu_collator.proofs.orders.TotalOrderLemmas.{collation_order_total}
+use Rattle.icu_collator.proofs.keys.TextKeyLemmas.{text_keys_order}
 use Rattle.collate_records.specs.Accepted.{AreAccepted}
 use Rattle.collate_records.specs.Sayings.{collation_of, weights_of}
 use Rattle.collate_records.proofs.AcceptedLines.{accepted_decompose}
@@ -44,23 +45,23 @@ order_total m = on_total utf8_chars (name_order_total (collation_of m.sayings) m
 
 -- the keys of names compare as the names do
 pub keys_order_as_names : (collation : Collation) (options : ResolvedCollatorOptions) (a b : List ℕ)
-    → IsDecomposing collation.canonical → AreSoundWeights collation.weights → AreSoundSettings collation → All IsScalar a → All IsScalar b
+    → IsDecomposing collation.canonical → IsSoundCollation collation → All IsScalar a → All IsScalar b
     → slice_cmp nat_cmp (key_of_text collation options a) (key_of_text collation options b) ≡ name_order collation options a b
 unfolding name_order
-keys_order_as_names collation options a b decomposing sound settings sa sb = by_leads (has_plain_leads collation options) refl
+keys_order_as_names collation options a b decomposing sound sa sb = by_leads (has_plain_leads collation options) refl
   where
     by_leads : (plain : Bool) → has_plain_leads collation options ≡ plain
         → slice_cmp nat_cmp (key_of_text collation options a) (key_of_text collation options b)
         ≡ cond plain (collation_order collation options a b) (slice_cmp nat_cmp (key_of_text collation options a) (key_of_text collation options b))
-    by_leads true e = text_keys_order collation options a b decomposing sound settings e sa sb
+    by_leads true e = text_keys_order collation options a b decomposing sound e sa sb
     by_leads false e = refl
 
 -- names are equal exactly where their keys are the same
 pub equal_keys_of_names : (collation : Collation) (options : ResolvedCollatorOptions) (a b : List ℕ)
-    → IsDecomposing collation.canonical → AreSoundWeights collation.weights → AreSoundSettings collation → All IsScalar a → All IsScalar b
+    → IsDecomposing collation.canonical → IsSoundCollation collation → All IsScalar a → All IsScalar b
     → (key_of_text collation options a ≡ key_of_text collation options b) ↔ (name_order collation options a b ≡ Equal)
-equal_keys_of_names collation options a b decomposing sound settings sa sb =
-    let order = keys_order_as_names collation options a b decomposing sound settings sa sb
+equal_keys_of_names collation options a b decomposing sound sa sb =
+    let order = keys_order_as_names collation options a b decomposing sound sa sb
     in (
       λ e. sym order ∙ subst (λ (k : List ℕ). slice_cmp nat_cmp (key_of_text collation options a) k ≡ Equal) e (tied_itself nat_list_cmp_total (key_of_text collation options a)),
       λ e. same_numbers (key_of_text collation options a) (key_of_text collation options b) (order ∙ e),
@@ -71,4 +72,4 @@ pub keys_order_in_index : (m : Meaning) (a b : List ℕ) → AreAccepted m.sayin
     → slice_cmp nat_cmp (key_of_text (collation_of m.sayings) m.options (utf8_chars a)) (key_of_text (collation_of m.sayings) m.options (utf8_chars b)) ≡ order_by m a b
 unfolding order_by
 keys_order_in_index m a b accepted sound =
-    keys_order_as_names (collation_of m.sayings) m.options (utf8_chars a) (utf8_chars b) (accepted_decompose m.sayings accepted) sound (accepted_settings m.sayings accepted) (utf8_scalars a) (utf8_scalars b)
+    keys_order_as_names (collation_of m.sayings) m.options (utf8_chars a) (utf8_chars b) (accepted_decompose m.sayings accepted) (record { weights = sound; settings = accepted_settings m.sayings accepted }) (utf8_scalars a) (utf8_scalars b)

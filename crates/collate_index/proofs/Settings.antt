@@ -3,7 +3,7 @@ use Rattle.std.proofs.Common.{◌≡◌, ℕ, Bool, true, false, List, refl, sym
 use Rattle.std.specs.Prelude.{◌==◌, ◌||◌}
 use Rattle.icu_collator_core.specs.Collation.{reordered_lead, with_lead}
 use Rattle.icu_collator_core.specs.WeightRules.{is_letter_lead}
-use Rattle.icu_collator_core.proofs.Reordering.{given_lead, given_rest}
+use Rattle.icu_collator_core.proofs.weights.ReorderingLemmas.{given_lead, given_rest}
 use Rattle.icu_collator.specs.Settings.{AreSoundSettings}
 use Rattle.collate_records.specs.Accepted.{AreAccepted}
 use Rattle.collate_records.specs.Sayings.{Saying, collation_of}

@@ -13,6 +13,7 @@ ghost use Rattle.icu_collator_core.specs.Collation.{Collation};
 ghost use Rattle.icu_collator_core.specs.WeightRules.{AreSoundWeights};
 ghost use Rattle.icu_collator.specs.KeyBytes.{key_of_text};
 ghost use Rattle.icu_collator.specs.Settings.{AreSoundSettings};
+ghost use Rattle.icu_collator.specs.SoundCollation.{IsSoundCollation};
 ghost use Rattle.collate_records.specs.Accepted.{AreAccepted};
 ghost use Rattle.collate_records.specs.Sayings.{Saying, collation_of, weights_of};
 ghost use Rattle.collate_index.specs.Meaning.{Meaning, name_order, order_by};
@@ -30,7 +31,7 @@ pub fn names_are_in_total_order()
 #[tactic(auto, using(crate::proofs::Order::keys_order_as_names))]
 pub fn keys_order_as_names()
     ensures { (collation : Collation) (options : ResolvedCollatorOptions) (a b : List ℕ)
-        → IsDecomposing collation.canonical → AreSoundWeights collation.weights → AreSoundSettings collation → All IsScalar a → All IsScalar b
+        → IsDecomposing collation.canonical → IsSoundCollation collation → All IsScalar a → All IsScalar b
         → slice_cmp nat_cmp (key_of_text collation options a) (key_of_text collation options b) ≡ name_order collation options a b }
 {}
 
@@ -38,7 +39,7 @@ pub fn keys_order_as_names()
 #[tactic(auto, using(crate::proofs::Order::equal_keys_of_names))]
 pub fn equal_keys_are_of_equal_names()
     ensures { (collation : Collation) (options : ResolvedCollatorOptions) (a b : List ℕ)
-        → IsDecomposing collation.canonical → AreSoundWeights collation.weights → AreSoundSettings collation → All IsScalar a → All IsScalar b
+        → IsDecomposing collation.canonical → IsSoundCollation collation → All IsScalar a → All IsScalar b
         → (key_of_text collation options a ≡ key_of_text collation options b) ↔ (name_order collation options a b ≡ Equal) }
 {}
 

@@ -1,4 +1,4 @@
--- The key of a text: bytes that order as the text's levels do. The shape is ICU4X's, the numbers are our profile's.
+-- The key of a text: bytes that order as the text's levels do. The shape is ICU4X's, the numbers are this project's own.
 use Rattle.std.specs.Prelude.{ℕ, zero, suc, ◌+◌, ◌-◌, ◌*◌, ◌/◌, ◌%◌, ◌^◌, Bool, true, false, cond, not, ◌==◌, ◌&&◌, leb, ltb, List, [], ◌∷◌, ◌++◌, replicate, Option, Some, None}
 use Rattle.std.specs.List.{list_all}
 use Rattle.std.specs.Ordering.{nat_cmp}
@@ -23,13 +23,13 @@ codes_from code next s (w ∷ ws) = code s w ++ codes_from code next (next s w) 
 abbrev pub run_end : ℕ → ℕ → List ℕ
 run_end before lead = cond (ltb before lead) (0xff ∷ []) (cond (lead == 0x02) [] (0x03 ∷ []))
 
--- a primary behind a run of primaries with a compressible lead, which isn't written again, or behind no run
+-- a primary after no run, or after a run of primaries with a compressible lead, which isn't written again
 unfoldable pub primary_code : Option ℕ → ℕ → List ℕ
 primary_code None p = primary_bytes p
 primary_code (Some before) p =
     let lead = p / 2 ^ 24 in cond (lead == before) (primary_rest p) (run_end before lead ++ primary_bytes p)
 
--- the lead of the run behind a primary
+-- the lead of the run after a primary
 abbrev pub primary_run : Weights → Option ℕ → ℕ → Option ℕ
 primary_run weights run p = let lead = p / 2 ^ 24 in cond (weights.is_compressible lead) (Some lead) None
 
@@ -59,7 +59,7 @@ run_bytes code is_below_next (suc n) =
     let last = cond is_below_next (code.high - n % code.most) (code.low + n % code.most)
     in replicate (n / code.most) code.middle ++ last ∷ []
 
--- weights behind n common ones that aren't written yet
+-- weights after n common ones that aren't written yet
 unfoldable pub behind_run : {W : Type 0} → RunCode W → ℕ → List W → List ℕ
 behind_run code n [] = run_bytes code false n
 behind_run code n (w ∷ ws) =
@@ -105,7 +105,7 @@ paired_halves [] = []
 paired_halves (a ∷ []) = a * 16 ∷ []
 paired_halves (a ∷ b ∷ halves) = (a * 16 + b) ∷ paired_halves halves
 
--- Tertiaries, without case bits or behind those of lower case first: weights above the common one are moved up, so that
+-- Tertiaries. Without case bits, or below those of lower case first, weights above the common one are moved up, so that
 -- the bytes of runs are free.
 abbrev pub tertiary_code : RunCode ℕ
 tertiary_code =
@@ -144,8 +144,8 @@ quaternary_level options places =
     in let are_common = list_all (λ place. quaternary_rank place == quaternary_code.common) places
     in cond (not (is_shifted options.alternate_handling) && are_common) [] written
 
--- Characters. Where a character is looked for behind another: near the middle of its block, and behind an ideograph such
--- that two bytes reach all of these.
+-- Characters. Where the character after another is expected: near the middle of that one's block, and after an ideograph
+-- where two bytes reach all ideographs.
 abbrev pub expected_near : ℕ → ℕ
 expected_near last = cond (is_within 0x4e00 0x9fff last) (0x9fff - 10667) (last / 128 * 128 + 80)
 
@@ -171,7 +171,7 @@ difference_bytes p c =
     (cond (leb c (p + 192785)) (moved_by 252 64009 p c ∷ two)
     (0xff ∷ three))))))
 
--- a character behind another; U+FFFE is below all, and the one behind it is written as behind U+0000
+-- a character after another; U+FFFE is below all, and what follows it is written as if after U+0000
 abbrev pub character_code : ℕ → ℕ → List ℕ
 character_code last c = cond (c == 0xfffe) (0x02 ∷ []) (difference_bytes (expected_near last) c)
 
@@ -182,7 +182,7 @@ last_character last c = cond (c == 0xfffe) 0 c
 abbrev pub character_level : List ℕ → List ℕ
 character_level characters = codes_from character_code last_character 0 characters
 
--- a level behind another, where it is in force
+-- a level that is in force, after what separates it from the one before
 abbrev pub level_bytes : Bool → List ℕ → List ℕ
 level_bytes is_in_force bytes = cond is_in_force (0x01 ∷ bytes) []
 

@@ -15,7 +15,7 @@ pub data SecondaryPlace : Type 0 where
   segment_end : SecondaryPlace
   secondary : ℕ → SecondaryPlace
 
--- a place at the quaternary level: the primary of a variable element, or the quaternary of another, which is above
+-- a place at the quaternary level: the primary of a variable element, or the quaternary of any other, which is above
 pub data QuaternaryPlace : Type 0 where
   shifted : ℕ → QuaternaryPlace
   quaternary : ℕ → QuaternaryPlace
@@ -68,8 +68,8 @@ case_at options (whole e) =
     in cond counts (Some (cond (is_upper_first options.case_first) (2 - e.case) e.case)) None
 case_at options (variable p) = None
 
--- A tertiary, with case first and no case level behind the case bits. With upper first the bits are exchanged, but an
--- element without a secondary is above all others.
+-- A tertiary weight; with case first, and no case level, the case bits stand above it. With upper first the bits are
+-- exchanged, but an element without a secondary is above all others.
 abbrev pub tertiary_weight : ResolvedCollatorOptions → Element → ℕ
 tertiary_weight options e =
     let exchanged = cond (e.secondary == 0) (e.case * 2 ^ 14 + e.tertiary + 0x4000) ((3 - e.case) * 2 ^ 14 + e.tertiary)

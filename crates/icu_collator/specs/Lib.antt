@@ -5,6 +5,7 @@ pub mod Strengths
 pub mod Equivalence
 pub mod KeyBytes
 pub mod Settings
+pub mod SoundCollation
 pub mod NumbersInTexts
 pub mod LevelOrders
 pub mod Sameness

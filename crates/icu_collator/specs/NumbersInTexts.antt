@@ -1,4 +1,4 @@
--- Runs of digits in a text: when they are read as numbers that count, and what their values are.
+-- Runs of digits in a text: when they are read as numbers, and what their values are.
 use Rattle.std.specs.Prelude.{◌≡◌, ℕ, ◌*◌, ◌/◌, ◌^◌, ◌<◌, ◌≤◌, Bool, true, false, not, ◌||◌, leb, get_or, List, [], ◌∷◌, length, filter_map, Some, None}
 use Rattle.std.specs.List.{list_all, list_any}
 use Rattle.std.specs.Option.{is_some}
@@ -35,21 +35,21 @@ digits_of weights run = filter_map weights.digit run
 abbrev pub run_value : Weights → List ℕ → ℕ
 run_value weights run = value_of (digits_of weights run)
 
--- one digit or more, and nothing else; at most 254 digits count, those from the first on that isn't 0
+-- one digit or more, and nothing else; at most 254 digits count, those from the first nonzero one on
 pub record IsRunOfDigits (weights : Weights) (run : List ℕ) : Type 0 where
   pub digits : list_all (is_digit weights) run ≡ true
   pub filled : 0 < length run
   pub short : length (significant (digits_of weights run)) ≤ 254
 
--- a run of digits between two texts, neither of which goes on with a digit there once it is decomposed
+-- a run of digits between two texts, neither of which has a digit next to it once it is decomposed
 pub record IsNumberBetween (collation : Collation) (x run y : List ℕ) : Type 0 where
   pub number : IsRunOfDigits collation.weights run
   pub before : ends_with_digit collation.weights (decomposed collation.canonical x) ≡ false
   pub behind : begins_with_digit collation.weights (decomposed collation.canonical y) ≡ false
 
 -- Whether no number is variable: nothing is, or the last variable group ends at the lead of numbers or below it.
-abbrev pub do_numbers_count : Collation → ResolvedCollatorOptions → Bool
-do_numbers_count collation options =
+abbrev pub no_number_is_variable : Collation → ResolvedCollatorOptions → Bool
+no_number_is_variable collation options =
     not (is_shifted options.alternate_handling)
     || leb (get_or collation.groups (group_index options.max_variable) 0) (collation.weights.numeric_lead * 256)
 
@@ -59,7 +59,7 @@ AreNumbersTogether collation =
     (p : ℕ) → p / 2 ^ 24 ≡ collation.weights.numeric_lead → collation.reordered p ≡ with_lead (reordered_lead collation) p
 
 -- What collation data must keep for a digit to be read as part of a number wherever it stands, and to change nothing
--- that is read before or behind the number.
+-- that is read before or after the number.
 pub record AreDigitsApart (collation : Collation) : Type 0 where
   pub lead : is_letter_lead collation.weights.numeric_lead ≡ true
   pub values : (c d : ℕ) → collation.weights.digit c ≡ Some d → leb d 9 ≡ true

@@ -1,4 +1,4 @@
--- What a collation's settings must keep (the rule `set` of our profile), and when keys order as levels do.
+-- What a collation's settings must keep (rule `set` of records files), and when keys order as levels do.
 use Rattle.std.specs.Prelude.{◌≡◌, ℕ, ◌+◌, ◌*◌, Bool, true, false, not, ◌==◌, ◌&&◌, ◌||◌, leb, List, [], ◌∷◌, length}
 use Rattle.std.specs.List.{list_all}
 use Rattle.icu_normalizer_core.specs.BuiltIn.{is_within}

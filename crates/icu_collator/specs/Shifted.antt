@@ -17,7 +17,7 @@ is_variable collation options e =
     && ltb 0x02000000 e.primary
     && ltb e.primary (get_or collation.groups (group_index options.max_variable) 0 * 2 ^ 16)
 
--- The elements that count. Those without a primary behind a variable one, up to the next with one, count nowhere.
+-- The elements that count. After a variable element, those without a primary count nowhere, up to the next that has one.
 unfoldable pub counted_behind : Collation → ResolvedCollatorOptions → Bool → List Element → List Counted
 counted_behind collation options is_behind [] = []
 counted_behind collation options is_behind (e ∷ es) =

@@ -17,17 +17,17 @@ ghost use Rattle.icu_collator.specs.Levels.{levels_of_text};
 ghost use Rattle.icu_collator.specs.Order.{collation_order};
 ghost use Rattle.icu_collator.specs.Strengths.{at_strength};
 
-/// Whatever collation data and options say, the collation order is a total preorder: turning two
-/// texts round turns the answer round, "below" and "equal" are transitive, and texts that compare
-/// equal compare alike to any third.
-#[tactic(auto, using(crate::proofs::OrderTotal::collation_order_total))]
+/// Whatever collation data and options say, the collation order is a total preorder: swapping two
+/// texts reverses the answer, "below" and "equal" are transitive, and texts that compare equal
+/// compare alike to any third.
+#[tactic(auto, using(crate::proofs::orders::TotalOrderLemmas::collation_order_total))]
 pub fn order_is_total()
     ensures { (collation : Collation) (options : ResolvedCollatorOptions) → IsTotalOrder (collation_order collation options) }
 {}
 
-/// With the case level off, what a strength tells apart every higher strength tells apart in the
-/// same way: an answer that isn't `Equal` stays when the strength alone is raised.
-#[tactic(auto, using(crate::proofs::Strengths::raised_order))]
+/// With the case level off, texts that differ at a strength differ in the same way at every higher
+/// one: an answer that isn't `Equal` stays when the strength alone is raised.
+#[tactic(auto, using(crate::proofs::orders::StrengthsLemmas::raised_order))]
 pub fn raised_strength_keeps_order()
     ensures { (collation : Collation) (options : ResolvedCollatorOptions) (lower higher : Strength) (a b : List ℕ)
         → options.case_level ≡ Off → IsTrue (is_at_least higher lower)
@@ -37,9 +37,9 @@ pub fn raised_strength_keeps_order()
 
 /// Two texts of scalar values are canonically equivalent exactly where they have the same
 /// decomposed list (UAX 15). Equivalent means here that mapping characters where they stand and
-/// exchanging neighbouring marks of different classes, forward and back, lead from the one text to
-/// the other.
-#[tactic(auto, using(crate::proofs::Equivalence::one_decomposed))]
+/// exchanging neighbouring marks of different classes, forward and back, lead from one text to the
+/// other.
+#[tactic(auto, using(crate::proofs::equivalence::EquivalenceLemmas::one_decomposed))]
 pub fn equal_lists_are_equivalent()
     ensures { (canonical : Canonical) (xs ys : List ℕ)
         → IsDecomposing canonical → All IsScalar xs → All IsScalar ys
@@ -48,7 +48,7 @@ pub fn equal_lists_are_equivalent()
 
 /// Two texts of scalar values are canonically equivalent exactly where they have the same composed
 /// list.
-#[tactic(auto, using(crate::proofs::NormalForms::composed_one))]
+#[tactic(auto, using(crate::proofs::equivalence::NormalFormLemmas::composed_one))]
 pub fn equal_composed_lists_are_equivalent()
     ensures { (canonical : Canonical) (xs ys : List ℕ)
         → IsCanonical canonical → All IsScalar xs → All IsScalar ys
@@ -57,7 +57,7 @@ pub fn equal_composed_lists_are_equivalent()
 
 /// Each normal form of a normal form is that of the text: the decomposed and the composed list of a
 /// decomposed list, and those of a composed list.
-#[tactic(auto, using(crate::proofs::NormalForms::decomposed_twice, crate::proofs::NormalForms::decomposed_composed, crate::proofs::NormalForms::composed_decomposed, crate::proofs::NormalForms::composed_twice))]
+#[tactic(auto, using(crate::proofs::equivalence::NormalFormLemmas::decomposed_twice, crate::proofs::equivalence::NormalFormLemmas::decomposed_composed, crate::proofs::equivalence::NormalFormLemmas::composed_decomposed, crate::proofs::equivalence::NormalFormLemmas::composed_twice))]
 pub fn normal_forms_stay()
     ensures decomposed_twice { (canonical : Canonical) (xs : List ℕ) → IsDecomposing canonical → All IsScalar xs
         → decomposed canonical (decomposed canonical xs) ≡ decomposed canonical xs }
@@ -70,7 +70,7 @@ pub fn normal_forms_stay()
 {}
 
 /// Canonically equivalent texts compare equal, at every strength and with every option.
-#[tactic(auto, using(crate::proofs::Identical::equivalent_equal))]
+#[tactic(auto, using(crate::proofs::equivalence::IdenticalLemmas::equivalent_equal))]
 pub fn equivalent_texts_are_equal()
     ensures { (collation : Collation) (options : ResolvedCollatorOptions) (a b : List ℕ)
         → IsDecomposing collation.canonical → All IsScalar a → All IsScalar b
@@ -80,7 +80,7 @@ pub fn equivalent_texts_are_equal()
 
 /// At strength `Identical` the texts that compare equal are exactly those that are canonically
 /// equivalent, whatever the other options are.
-#[tactic(auto, using(crate::proofs::Identical::equal_at_identical))]
+#[tactic(auto, using(crate::proofs::equivalence::IdenticalLemmas::equal_at_identical))]
 pub fn equal_at_identical_is_equivalence()
     ensures { (collation : Collation) (options : ResolvedCollatorOptions) (a b : List ℕ)
         → IsDecomposing collation.canonical → options.strength ≡ Identical → All IsScalar a → All IsScalar b
@@ -88,8 +88,8 @@ pub fn equal_at_identical_is_equivalence()
 {}
 
 /// A text has the levels of its decomposed list and of its composed list, at every strength and with
-/// every option; so what goes by the levels alone, as the order and the keys, is the same for them.
-#[tactic(auto, using(crate::proofs::NormalForms::decomposed_levels, crate::proofs::NormalForms::composed_levels))]
+/// every option; so whatever depends on the levels alone, such as order and keys, is the same for them.
+#[tactic(auto, using(crate::proofs::equivalence::NormalFormLemmas::decomposed_levels, crate::proofs::equivalence::NormalFormLemmas::composed_levels))]
 pub fn normalising_keeps_levels()
     ensures decomposed { (collation : Collation) (options : ResolvedCollatorOptions) (text : List ℕ)
         → IsDecomposing collation.canonical → All IsScalar text
@@ -99,8 +99,8 @@ pub fn normalising_keeps_levels()
         → levels_of_text collation options (composed collation.canonical text) ≡ levels_of_text collation options text }
 {}
 
-/// To put a text in a normal form before it is compared changes no answer, on either side.
-#[tactic(auto, using(crate::proofs::NormalForms::decomposed_first, crate::proofs::NormalForms::decomposed_second, crate::proofs::NormalForms::composed_first, crate::proofs::NormalForms::composed_second))]
+/// Putting a text in a normal form before it is compared changes no answer, on either side.
+#[tactic(auto, using(crate::proofs::equivalence::NormalFormLemmas::decomposed_first, crate::proofs::equivalence::NormalFormLemmas::decomposed_second, crate::proofs::equivalence::NormalFormLemmas::composed_first, crate::proofs::equivalence::NormalFormLemmas::composed_second))]
 pub fn normalising_first_keeps_order()
     ensures decomposed_left { (collation : Collation) (options : ResolvedCollatorOptions) (a b : List ℕ)
         → IsDecomposing collation.canonical → All IsScalar a

@@ -1,13 +1,14 @@
-//! Laws of sameness: collation data that are kept in two ways, as records and as tables, but say the
-//! same of scalar values, answer alike for all texts of scalar values, with every option. Each
-//! function's contract is the law, and its body is empty.
+//! Laws of sameness: collation data in two forms, as records and as tables, that say the same of scalar
+//! values give the same answers for all texts of scalar values, with every option. Each function's
+//! contract is the law, and its body is empty.
 
 ghost use Rattle.std.specs.Char.{IsScalar};
 ghost use Rattle.std.specs.Prelude.{◌≡◌, ℕ, All, List};
 ghost use Rattle.icu_normalizer_core.specs.Canonical.{IsDecomposing};
 ghost use Rattle.icu_collator_types.specs.declared.options.ResolvedCollatorOptions.{ResolvedCollatorOptions};
 ghost use Rattle.icu_collator_core.specs.Collation.{Collation};
-ghost use Rattle.icu_collator_core.specs.Sameness.{AreSameCanonical, AreSameWeights};
+ghost use Rattle.icu_normalizer_core.specs.Sameness.{AreSameCanonical};
+ghost use Rattle.icu_collator_core.specs.Sameness.{AreSameWeights};
 ghost use Rattle.icu_collator.specs.KeyBytes.{key_of_text};
 ghost use Rattle.icu_collator.specs.Levels.{levels_of_text};
 ghost use Rattle.icu_collator.specs.Order.{collation_order};

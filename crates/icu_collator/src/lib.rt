@@ -1,5 +1,5 @@
-//! Collation: the levels of texts, and the order in which they are compared. Now it holds
-//! definitions and laws, functions whose contracts state them. Begin with `laws::order_is_total`.
+//! Collation: the levels of texts, their order and their sort keys. So far it holds definitions, and
+//! laws: functions whose contracts state them. Begin with `laws::order_is_total`.
 #![tactic(auto)]
 
 pub mod laws;

@@ -1,12 +1,4 @@
-pub mod NumbersDigits
-pub mod NumbersPairs
-pub mod NumbersBytes
-pub mod NumbersOrder
-pub mod NumbersExamples
-pub mod Reordering
-pub mod RangePrimaries
-pub mod DecomposedScalars
-pub mod ReadingsLeft
-pub mod SameDecomposed
-pub mod SameReadings
-pub mod SoundReadings
+pub mod numbers
+pub mod readings
+pub mod weights
+pub mod NumberExamples

@@ -11,7 +11,7 @@ pub record Collation : Type 0 where
   pub options : FileSettings
   -- whether the secondary level is read backward, between one U+FFFE and the next
   pub backward : Bool
-  -- the upper halves of the first primaries behind spaces, punctuation, symbols and currency signs
+  -- the upper halves of the first primaries after spaces, punctuation, symbols and currency signs
   pub groups : List ℕ
   -- the primary that stands in the place of another
   pub reordered : ℕ → ℕ

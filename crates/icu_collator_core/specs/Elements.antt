@@ -35,14 +35,14 @@ unfoldable pub at_greatest : {A : Type 0} → (ℕ → Option A) → ℕ → Opt
 at_greatest found zero = found zero
 at_greatest found (suc n) = elim (found (suc n)) [ Some x ↦ Some x | None ↦ at_greatest found n ]
 
--- the record of a character behind a prefix of n characters that stands directly before it
+-- the record of a character after a prefix of n characters that stands directly before it
 abbrev pub behind_prefix : Weights → Placed → ℕ → Option (List Element)
 behind_prefix weights p n =
     cond (ltb 0 n && leb n (length p.before))
     (weights.recorded (reverse (take n p.before)) (p.character ∷ []))
     None
 
--- the record of a character behind the longest prefix that stands before it and is recorded
+-- the record of a character after the longest prefix that stands before it and is recorded
 abbrev pub prefix_match : Weights → Placed → Option (List Element)
 prefix_match weights p = at_greatest (behind_prefix weights p) longest_prefix
 
@@ -55,18 +55,18 @@ recorded_length weights list n =
 abbrev pub match_length : Weights → List ℕ → ℕ
 match_length weights list = unwrap_or (at_greatest (recorded_length weights list) (length list)) 1
 
--- what a match gives, and what is left to be read behind it
+-- what a match gives, and what is left to be read after it
 pub record Reading : Type 0 where
   pub elements : List Element
   pub left : List Placed
 
--- a text with the marks that joined it, and what is left behind it
+-- a text with the marks that joined it, and what is left after it
 pub record Joining : Type 0 where
   pub text : List ℕ
   pub left : List Placed
 
--- The marks that follow a text join it in turn, up to the next starter: one joins where no mark left between has a class
--- that isn't lower, and the longer text is recorded. These marks were left between so far.
+-- The marks that follow a text join it in turn, up to the next starter: a mark joins if every mark left between has a lower
+-- class and the longer text is recorded. `between` holds the marks left so far.
 unfoldable pub joining : Canonical → Weights → List ℕ → List Placed → List Placed → Joining
 joining canonical weights text between [] = record { text = text; left = between }
 joining canonical weights text between (m ∷ ms) =
@@ -110,7 +110,7 @@ is_before_accent [] = false
 is_before_accent (p ∷ ps) = (p.character == 0x300) || (p.character == 0x301) || (p.character == 0x303)
 
 -- The reading at the first character of a list, in this order: a special character; a number, where numeric ordering is
--- on; a dot above that is dropped; a record behind a prefix; a text match.
+-- on; a dot above that is dropped; a record after a prefix; a text match.
 unfoldable pub reading : Canonical → Weights → Bool → Placed → List Placed → Reading
 reading canonical weights numeric p ps =
     let c = p.character

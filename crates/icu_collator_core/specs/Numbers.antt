@@ -3,7 +3,7 @@ use Rattle.std.specs.Prelude.{ℕ, zero, suc, ◌+◌, ◌-◌, ◌*◌, ◌/◌
 use Rattle.icu_collator_types.specs.declared.elements.Element.{Element}
 use Rattle.icu_collator_core.specs.Defaults.{primary_of, primary_element}
 
--- the digits from the first that isn't 0 on, or the last one
+-- the digits from the first nonzero one on, or the last digit
 unfoldable pub significant : List ℕ → List ℕ
 significant [] = []
 significant (d ∷ []) = d ∷ []
@@ -25,13 +25,13 @@ without_last_zeros [] = []
 without_last_zeros (p ∷ ps) =
     elim (without_last_zeros ps) [ [] ↦ cond (p == 0) [] (p ∷ []) | q ∷ qs ↦ p ∷ q ∷ qs ]
 
--- the bytes of pairs, the last one less than it would be with more behind it
+-- the bytes of pairs; the last byte is one less than it would be if more followed
 unfoldable pub pair_bytes : List ℕ → List ℕ
 pair_bytes [] = []
 pair_bytes (p ∷ []) = (10 + 2 * p) ∷ []
 pair_bytes (p ∷ q ∷ ps) = (11 + 2 * p) ∷ pair_bytes (q ∷ ps)
 
--- bytes as elements of three each behind the lead
+-- elements of bytes, three to an element, after the lead byte
 unfoldable pub elements_of_bytes : ℕ → List ℕ → List Element
 elements_of_bytes lead [] = []
 elements_of_bytes lead (a ∷ []) = primary_element (primary_of lead a 0 0) ∷ []

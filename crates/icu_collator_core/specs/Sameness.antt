@@ -1,13 +1,7 @@
--- When data that are kept in two ways say the same of characters and texts.
+-- When two sets of weights say the same of every character and text.
 use Rattle.std.specs.Prelude.{◌≡◌, ℕ, List, [], ◌∷◌, All, None}
 use Rattle.std.specs.Char.{IsScalar}
-use Rattle.icu_normalizer_core.specs.Canonical.{Canonical}
 use Rattle.icu_collator_core.specs.Weights.{Weights}
-
--- canonical data of which each character has one class and one full list
-pub record AreSameCanonical (a b : Canonical) : Type 0 where
-  pub class : (c : ℕ) → IsScalar c → a.class c ≡ b.class c
-  pub full : (c : ℕ) → IsScalar c → a.full c ≡ b.full c
 
 -- weights that record the same texts, and say the same of each character
 pub record AreSameWeights (a b : Weights) : Type 0 where

@@ -1,6 +1,5 @@
--- The rules on weights (our profile): what a recorded element, a range, and all weights of a level together must keep for
--- keys to order as levels do. What a file's reader and the check of tables ask, and what the laws of keys rest on, is
--- said here once.
+-- The rules on weights, V1 to V6: what a recorded element, a range, and all weights of a level together must keep for
+-- keys to order as levels do. A file's reader and the check of tables ask them, and the laws of keys rest on them.
 use Rattle.std.specs.Prelude.{◌≡◌, ℕ, ◌+◌, ◌-◌, ◌*◌, ◌/◌, ◌%◌, ◌^◌, Bool, true, false, cond, not, ◌==◌, ◌&&◌, ◌||◌, leb, ltb, List, [], ◌∷◌, Some}
 use Rattle.std.specs.List.{list_all, Contains}
 use Rattle.icu_normalizer_core.specs.BuiltIn.{is_within}
@@ -8,7 +7,7 @@ use Rattle.icu_collator_types.specs.declared.elements.Element.{Element}
 use Rattle.icu_collator_core.specs.Weights.{Range, Weights}
 use Rattle.icu_collator_core.specs.Numbers.{without_last_zeros}
 
--- the bytes of a primary behind its lead, without those of 00 at the end
+-- the bytes of a primary after its lead, without those of 00 at the end
 abbrev pub primary_rest : ℕ → List ℕ
 primary_rest p = without_last_zeros (p / 2 ^ 16 % 256 ∷ p / 2 ^ 8 % 256 ∷ p % 256 ∷ [])
 
@@ -24,7 +23,7 @@ weight_bytes w = w / 256 ∷ cond (w % 256 == 0) [] (w % 256 ∷ [])
 abbrev pub is_letter_lead : ℕ → Bool
 is_letter_lead lead = is_within 0x03 0xfc lead
 
--- whether none of these bytes, which stand behind a lead, is one that ends or separates levels
+-- whether none of these bytes, which stand after a lead, is one that ends or separates levels
 abbrev pub are_inner_bytes : List ℕ → Bool
 are_inner_bytes bytes = list_all (leb 2) bytes
 

@@ -12,13 +12,13 @@ pub record Range : Type 0 where
   pub step : ℕ
 
 pub record Weights : Type 0 where
-  -- the recorded elements of a text behind a prefix (both in reading order), or none
+  -- the recorded elements of a text after a prefix (both in reading order), or none
   pub recorded : List ℕ → List ℕ → Option (List Element)
   -- the value of a digit
   pub digit : ℕ → Option ℕ
   -- the primary of a character in a range
   pub ranged_primary : ℕ → Option ℕ
-  -- whether a primary's lead byte is left out of a key behind a primary with the same lead
+  -- whether a primary's lead byte is left out of a key after a primary with the same lead
   pub is_compressible : ℕ → Bool
   -- the lead byte of numbers
   pub numeric_lead : ℕ

@@ -1,4 +1,5 @@
-//! The elements of characters that no record names: special, jamo and implicit (UTS 10, in the numbers of our profile).
+//! The elements of characters that no record names: special ones, jamo and implicit ones, as UTS 10 has
+//! them, with weights that are this project's own (`docs/RECORDS.md`).
 
 ghost use Rattle.std.specs.Prelude.{◌≡◌, cond};
 ghost use Rattle.icu_normalizer_core.specs.BuiltIn.{is_jamo};

@@ -10,16 +10,16 @@ ghost use Rattle.icu_collator_core.specs.WholeNumbers.{IsWholeNumber, primaries_
 
 /// The primaries of two numbers of at most 254 digits, leading zeros aside, compare as the values
 /// do, whatever primaries follow them; those that follow decide only between equal values.
-#[tactic(auto, using(crate::proofs::NumbersOrder::numbers_order))]
+#[tactic(auto, using(crate::proofs::numbers::NumberOrderLemmas::numbers_order))]
 pub fn numbers_order_as_values()
-    ensures { (lead : ℕ) (digits others : List ℕ) (behind behind_others : List ℕ)
+    ensures { (lead : ℕ) (digits others : List ℕ) (following following_others : List ℕ)
         → IsWholeNumber digits → IsWholeNumber others
-        → slice_cmp nat_cmp (primaries_of (number_elements lead digits) ++ behind) (primaries_of (number_elements lead others) ++ behind_others)
-        ≡ ordering_then (nat_cmp (value_of digits) (value_of others)) (slice_cmp nat_cmp behind behind_others) }
+        → slice_cmp nat_cmp (primaries_of (number_elements lead digits) ++ following) (primaries_of (number_elements lead others) ++ following_others)
+        ≡ ordering_then (nat_cmp (value_of digits) (value_of others)) (slice_cmp nat_cmp following following_others) }
 {}
 
-/// Numbers of one value have the same elements, however many zeros stand before them.
-#[tactic(auto, using(crate::proofs::NumbersOrder::equal_numbers))]
+/// Numbers of the same value have the same elements, however many zeros stand before them.
+#[tactic(auto, using(crate::proofs::numbers::NumberOrderLemmas::equal_numbers))]
 pub fn equal_values_have_equal_elements()
     ensures { (lead : ℕ) (digits others : List ℕ)
         → IsWholeNumber digits → IsWholeNumber others → value_of digits ≡ value_of others
@@ -27,7 +27,7 @@ pub fn equal_values_have_equal_elements()
 {}
 
 /// No number's elements are the beginning of another number's.
-#[tactic(auto, using(crate::proofs::NumbersOrder::none_begins))]
+#[tactic(auto, using(crate::proofs::numbers::NumberOrderLemmas::none_begins))]
 pub fn no_number_begins_another()
     ensures { (lead : ℕ) (digits others : List ℕ) (more : List Element)
         → IsWholeNumber digits → IsWholeNumber others

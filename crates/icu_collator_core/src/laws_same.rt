@@ -1,13 +1,14 @@
-//! Laws of sameness: data that are kept in two ways, as records and as tables, but say the same of
-//! scalar values, give each text of scalar values the same lists. Each function's contract is the law,
-//! and its body is empty.
+//! Laws of sameness: data in two forms, as records and as tables, that say the same of scalar values
+//! give each text of scalar values the same lists. Each function's contract is the law, and its body is
+//! empty.
 
 ghost use Rattle.std.specs.Char.{IsScalar};
 ghost use Rattle.std.specs.Prelude.{◌≡◌, ℕ, All, Bool, List};
 ghost use Rattle.icu_normalizer_core.specs.Canonical.{Canonical, IsDecomposing, decomposed};
 ghost use Rattle.icu_collator_core.specs.Weights.{Weights};
 ghost use Rattle.icu_collator_core.specs.Elements.{elements_of_list};
-ghost use Rattle.icu_collator_core.specs.Sameness.{AreSameCanonical, AreSameWeights};
+ghost use Rattle.icu_normalizer_core.specs.Sameness.{AreSameCanonical};
+ghost use Rattle.icu_collator_core.specs.Sameness.{AreSameWeights};
 
 /// Canonical data that say the same of each scalar value give a text one decomposed list.
 pub fn same_characters_have_same_decomposed_lists()

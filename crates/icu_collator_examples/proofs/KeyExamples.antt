@@ -1,32 +1,24 @@
 -- The records of the worked examples keep the rules, so the laws of keys speak of them.
-use Rattle.std.proofs.Common.{◌≡◌, ℕ, Bool, true, false, List, [], ◌∷◌, refl, sym, ◌∙◌, ap, subst, arith, Option, Some, None}
+use Rattle.std.proofs.Common.{◌≡◌, ℕ, Bool, true, false, List, refl, sym, ◌∙◌, ap, subst, arith, Option, Some, None}
 use Rattle.std.proofs.lemmas.Bool.{cond_both}
 use Rattle.std.proofs.lemmas.Bool.Decides.{nat_tests}
-use Rattle.std.proofs.lemmas.List.Elements.{All-from_recursion, All-contains}
+use Rattle.std.proofs.lemmas.List.Elements.{All-contains}
 use Rattle.std.proofs.lemmas.List.Sums.{AllPass-from_list_all}
 use Rattle.std.specs.Prelude.{◌==◌, ◌||◌}
-use Rattle.std.specs.List.{All, AllByRecursion, Contains, list_all}
-use Rattle.std.specs.Char.{IsScalar}
-use Rattle.std.specs.declared.cmp.Ordering.TheVariants.{Less}
+use Rattle.std.specs.List.{Contains, list_all}
 use Rattle.icu_collator_types.specs.declared.elements.Element.{Element}
-use Rattle.icu_collator_types.specs.declared.options.Strength.TheVariants.{Tertiary}
 use Rattle.icu_normalizer_core.specs.BuiltIn.{is_within}
 use Rattle.icu_collator_core.specs.Defaults.{range_primary}
-use Rattle.icu_collator_core.specs.SoundElements.{IsSoundSequence, single, nothing, of_record}
 use Rattle.icu_collator_core.specs.Numbers.{without_last_zeros}
 use Rattle.icu_collator_core.specs.Collation.{reordered_lead}
-use Rattle.icu_collator_core.proofs.Reordering.{given_lead, given_rest}
+use Rattle.icu_collator_core.proofs.weights.ReorderingLemmas.{given_lead, given_rest}
 use Rattle.icu_collator_core.specs.WeightRules.{AreSoundWeights, IsRecorded, has_widths, is_sound_element, is_sound_range, is_of_other_lead, are_apart_elements, is_letter_lead, is_proper_beginning}
-use Rattle.icu_collator_examples.specs.Letters.{digits_collation, digits_table, ideographs, ideographs_collation, plain_options}
-use Rattle.icu_collator_examples.specs.LetterLevels.{small_a, small_b}
-use Rattle.worked_rows.specs.Tables.{recorded_of}
-use Rattle.icu_collator_examples.proofs.Found.{elements_of, found_elements}
-use Rattle.icu_collator.specs.Levels.{levels_of}
+use Rattle.icu_collator_examples.specs.Letters.{digits_collation, digits_table, ideographs, ideographs_collation}
+use Rattle.icu_collator_examples.proofs.FoundLemmas.{elements_of, found_elements}
 use Rattle.icu_collator.specs.NumbersInTexts.{AreNumbersTogether}
-use Rattle.icu_collator.specs.Order.{levels_order}
 use Rattle.icu_collator.specs.Settings.{AreSoundSettings}
-use Rattle.worked_rows.proofs.Computing.{computing}
-use Rattle.icu_collator_examples.proofs.LettersDigits.{digit_values}
+use Rattle.icu_collator.specs.SoundCollation.{IsSoundCollation}
+use Rattle.icu_collator_examples.proofs.LetterDigitsLemmas.{digit_values}
 
 -- the elements of all records: of ten digits, eight letters, three accents, a capital, a space and a full stop
 abbrev all_elements : List Element
@@ -98,32 +90,8 @@ digits_settings_sound =
       alike = λ lead. ap digits_collation.weights.is_compressible (lead_stays lead);
     }
 
+pub digits_sound : IsSoundCollation digits_collation
+digits_sound = record { weights = digits_weights_sound; settings = digits_settings_sound }
+
 pub numbers_together : AreNumbersTogether digits_collation
 numbers_together p h = digits_settings_sound.rest p
-
--- the elements of "a" and "b" are single ones, alone and one after the other
-a_is_recorded : IsRecorded digits_collation.weights small_a
-unfolding recorded_of
-a_is_recorded = ([], 0x61 ∷ [], small_a ∷ [], refl, (0, omega arith, refl))
-
-b_is_recorded : IsRecorded digits_collation.weights small_b
-unfolding recorded_of
-b_is_recorded = ([], 0x62 ∷ [], small_b ∷ [], refl, (0, omega arith, refl))
-
-pub only_b : IsSoundSequence digits_collation.weights false (small_b ∷ [])
-only_b = single _ _ (of_record _ b_is_recorded) nothing
-
-pub a_then_b : IsSoundSequence digits_collation.weights false (small_a ∷ small_b ∷ [])
-a_then_b = single _ _ (of_record _ a_is_recorded) only_b
-
-pub only_b_scalars : All IsScalar (0x62 ∷ [])
-only_b_scalars = let each : AllByRecursion IsScalar (0x62 ∷ []) = (refl, tt) in All-from_recursion IsScalar (0x62 ∷ []) each
-
-pub a_then_b_scalars : All IsScalar (0x61 ∷ 0x62 ∷ [])
-a_then_b_scalars =
-    let each : AllByRecursion IsScalar (0x61 ∷ 0x62 ∷ []) = (refl, (refl, tt)) in All-from_recursion IsScalar (0x61 ∷ 0x62 ∷ []) each
-
--- the levels of those elements
-pub a_then_b_is_below : levels_order (plain_options Tertiary) (levels_of digits_collation (plain_options Tertiary) (small_a ∷ small_b ∷ []) (0x61 ∷ 0x62 ∷ [])) (levels_of digits_collation (plain_options Tertiary) (small_b ∷ []) (0x62 ∷ [])) ≡ Less
-unfolding computing
-a_then_b_is_below = refl

@@ -1,9 +1,12 @@
 -- A pair of texts for each level over the records of the worked examples, whose levels before it are equal.
-use Rattle.std.proofs.Common.{◌≡◌, ◌≢◌, ◌≤◌, true, false, [], ◌∷◌, refl, arith}
+use Rattle.std.proofs.Common.{◌≡◌, ◌≢◌, ◌≤◌, Bool, true, false, [], ◌∷◌, refl, arith}
 use Rattle.std.proofs.lemmas.List.Elements.{All-from_recursion}
 use Rattle.std.specs.List.{All, AllByRecursion}
 use Rattle.std.specs.Char.{IsScalar}
 use Rattle.std.specs.declared.cmp.Ordering.TheVariants.{Equal, Less, Greater}
+use Rattle.icu_collator_types.specs.declared.options.ResolvedCollatorOptions.{ResolvedCollatorOptions}
+use Rattle.icu_collator_types.specs.declared.options.Strength.{Strength}
+use Rattle.icu_collator_types.specs.Options.{is_numeric}
 use Rattle.icu_collator_types.specs.declared.options.Strength.TheVariants.{Primary, Secondary, Tertiary, Identical}
 use Rattle.icu_collator_core.specs.Numbers.{significant, pairs_of, without_last_zeros, pair_bytes, elements_of_bytes, long_number, number_part, number_parts}
 use Rattle.icu_collator_core.specs.SoundElements.{IsSoundSequence, single, nothing, number, of_record}
@@ -11,7 +14,9 @@ use Rattle.icu_collator_core.specs.WeightRules.{IsRecorded}
 use Rattle.icu_collator_examples.specs.Letters.{digits_collation, plain_options, numeric_options}
 use Rattle.icu_collator_examples.specs.LetterLevels.{small_a, small_b, small_c, capital_a, space, acute, circumflex, seven, case_options, shifted_options, levels_of_a, levels_of_b, levels_of_capital_a, levels_of_a_acute, levels_of_a_circumflex, levels_of_a_space_c, levels_of_ac, levels_of_7, levels_of_07}
 use Rattle.icu_collator.specs.LevelOrders.{primaries_order, secondaries_order, cases_order, tertiaries_order, quaternaries_order, characters_order}
+use Rattle.icu_collator.specs.Levels.{levels_of}
 use Rattle.icu_collator.specs.Order.{levels_order}
+use Rattle.icu_collator.specs.SoundCollation.{AreSoundLevels, read}
 use Rattle.worked_rows.specs.Tables.{recorded_of}
 use Rattle.worked_rows.proofs.Computing.{computing}
 
@@ -43,63 +48,101 @@ circumflex_is_recorded : IsRecorded digits_collation.weights circumflex
 unfolding recorded_of
 circumflex_is_recorded = ([], 0x302 ∷ [], circumflex ∷ [], refl, (0, omega arith, refl))
 
--- the sequences of elements
-pub only_a : IsSoundSequence digits_collation.weights false (small_a ∷ [])
-only_a = single _ _ (of_record _ small_a_is_recorded) nothing
+-- elements of the texts, with numeric ordering or without
+only_a : (numeric : Bool) → IsSoundSequence digits_collation.weights numeric (small_a ∷ [])
+only_a numeric = single _ _ (of_record _ small_a_is_recorded) nothing
 
-pub only_b : IsSoundSequence digits_collation.weights false (small_b ∷ [])
-only_b = single _ _ (of_record _ small_b_is_recorded) nothing
+only_b : (numeric : Bool) → IsSoundSequence digits_collation.weights numeric (small_b ∷ [])
+only_b numeric = single _ _ (of_record _ small_b_is_recorded) nothing
 
-pub only_capital : IsSoundSequence digits_collation.weights false (capital_a ∷ [])
-only_capital = single _ _ (of_record _ capital_a_is_recorded) nothing
+only_capital : (numeric : Bool) → IsSoundSequence digits_collation.weights numeric (capital_a ∷ [])
+only_capital numeric = single _ _ (of_record _ capital_a_is_recorded) nothing
 
-pub a_acute : IsSoundSequence digits_collation.weights false (small_a ∷ acute ∷ [])
-a_acute = single _ _ (of_record _ small_a_is_recorded) (single _ _ (of_record _ acute_is_recorded) nothing)
+a_acute : (numeric : Bool) → IsSoundSequence digits_collation.weights numeric (small_a ∷ acute ∷ [])
+a_acute numeric = single _ _ (of_record _ small_a_is_recorded) (single _ _ (of_record _ acute_is_recorded) nothing)
 
-pub a_circumflex : IsSoundSequence digits_collation.weights false (small_a ∷ circumflex ∷ [])
-a_circumflex = single _ _ (of_record _ small_a_is_recorded) (single _ _ (of_record _ circumflex_is_recorded) nothing)
+a_circumflex : (numeric : Bool) → IsSoundSequence digits_collation.weights numeric (small_a ∷ circumflex ∷ [])
+a_circumflex numeric = single _ _ (of_record _ small_a_is_recorded) (single _ _ (of_record _ circumflex_is_recorded) nothing)
 
-pub a_then_c : IsSoundSequence digits_collation.weights false (small_a ∷ small_c ∷ [])
-a_then_c = single _ _ (of_record _ small_a_is_recorded) (single _ _ (of_record _ small_c_is_recorded) nothing)
+a_then_c : (numeric : Bool) → IsSoundSequence digits_collation.weights numeric (small_a ∷ small_c ∷ [])
+a_then_c numeric = single _ _ (of_record _ small_a_is_recorded) (single _ _ (of_record _ small_c_is_recorded) nothing)
 
-pub a_space_c : IsSoundSequence digits_collation.weights false (small_a ∷ space ∷ small_c ∷ [])
-a_space_c =
+a_space_c : (numeric : Bool) → IsSoundSequence digits_collation.weights numeric (small_a ∷ space ∷ small_c ∷ [])
+a_space_c numeric =
     single _ _ (of_record _ small_a_is_recorded)
     (single _ _ (of_record _ space_is_recorded) (single _ _ (of_record _ small_c_is_recorded) nothing))
 
-pub one_seven : IsSoundSequence digits_collation.weights true seven
+one_seven : IsSoundSequence digits_collation.weights true seven
 unfolding number_parts number_part significant long_number
 one_seven =
     let each : AllByRecursion (λ d. d ≤ 9) (7 ∷ []) = (omega arith, tt) in
     number (7 ∷ []) [] refl (record { filled = omega arith; up_to_nine = All-from_recursion (λ d. d ≤ 9) (7 ∷ []) each }) nothing
 
 -- the lists that they were read from
-pub scalars_a : All IsScalar (0x61 ∷ [])
+scalars_a : All IsScalar (0x61 ∷ [])
 scalars_a = let each : AllByRecursion IsScalar (0x61 ∷ []) = (refl, tt) in All-from_recursion IsScalar (0x61 ∷ []) each
 
-pub scalars_b : All IsScalar (0x62 ∷ [])
+scalars_b : All IsScalar (0x62 ∷ [])
 scalars_b = let each : AllByRecursion IsScalar (0x62 ∷ []) = (refl, tt) in All-from_recursion IsScalar (0x62 ∷ []) each
 
-pub scalars_capital : All IsScalar (0x41 ∷ [])
+scalars_capital : All IsScalar (0x41 ∷ [])
 scalars_capital = let each : AllByRecursion IsScalar (0x41 ∷ []) = (refl, tt) in All-from_recursion IsScalar (0x41 ∷ []) each
 
-pub scalars_acute : All IsScalar (0x61 ∷ 0x301 ∷ [])
+scalars_acute : All IsScalar (0x61 ∷ 0x301 ∷ [])
 scalars_acute = let each : AllByRecursion IsScalar (0x61 ∷ 0x301 ∷ []) = (refl, (refl, tt)) in All-from_recursion IsScalar (0x61 ∷ 0x301 ∷ []) each
 
-pub scalars_circumflex : All IsScalar (0x61 ∷ 0x302 ∷ [])
+scalars_circumflex : All IsScalar (0x61 ∷ 0x302 ∷ [])
 scalars_circumflex = let each : AllByRecursion IsScalar (0x61 ∷ 0x302 ∷ []) = (refl, (refl, tt)) in All-from_recursion IsScalar (0x61 ∷ 0x302 ∷ []) each
 
-pub scalars_ac : All IsScalar (0x61 ∷ 0x63 ∷ [])
+scalars_ac : All IsScalar (0x61 ∷ 0x63 ∷ [])
 scalars_ac = let each : AllByRecursion IsScalar (0x61 ∷ 0x63 ∷ []) = (refl, (refl, tt)) in All-from_recursion IsScalar (0x61 ∷ 0x63 ∷ []) each
 
-pub scalars_a_c : All IsScalar (0x61 ∷ 0x20 ∷ 0x63 ∷ [])
+scalars_a_c : All IsScalar (0x61 ∷ 0x20 ∷ 0x63 ∷ [])
 scalars_a_c = let each : AllByRecursion IsScalar (0x61 ∷ 0x20 ∷ 0x63 ∷ []) = (refl, (refl, (refl, tt))) in All-from_recursion IsScalar (0x61 ∷ 0x20 ∷ 0x63 ∷ []) each
 
-pub scalars_7 : All IsScalar (0x37 ∷ [])
+scalars_7 : All IsScalar (0x37 ∷ [])
 scalars_7 = let each : AllByRecursion IsScalar (0x37 ∷ []) = (refl, tt) in All-from_recursion IsScalar (0x37 ∷ []) each
 
-pub scalars_07 : All IsScalar (0x30 ∷ 0x37 ∷ [])
+scalars_07 : All IsScalar (0x30 ∷ 0x37 ∷ [])
 scalars_07 = let each : AllByRecursion IsScalar (0x30 ∷ 0x37 ∷ []) = (refl, (refl, tt)) in All-from_recursion IsScalar (0x30 ∷ 0x37 ∷ []) each
+
+-- "a" and "b", one after the other
+a_then_b : (numeric : Bool) → IsSoundSequence digits_collation.weights numeric (small_a ∷ small_b ∷ [])
+a_then_b numeric = single _ _ (of_record _ small_a_is_recorded) (only_b numeric)
+
+scalars_a_b : All IsScalar (0x61 ∷ 0x62 ∷ [])
+scalars_a_b = let each : AllByRecursion IsScalar (0x61 ∷ 0x62 ∷ []) = (refl, (refl, tt)) in All-from_recursion IsScalar (0x61 ∷ 0x62 ∷ []) each
+
+-- so the levels are sound
+pub a_then_b_sound : AreSoundLevels digits_collation (plain_options Tertiary) (levels_of digits_collation (plain_options Tertiary) (small_a ∷ small_b ∷ []) (0x61 ∷ 0x62 ∷ []))
+a_then_b_sound = read _ _ (a_then_b false) scalars_a_b
+
+pub a_sound : (options : ResolvedCollatorOptions) → AreSoundLevels digits_collation options (levels_of_a options)
+a_sound options = read _ _ (only_a (is_numeric options.numeric)) scalars_a
+
+pub b_sound : (options : ResolvedCollatorOptions) → AreSoundLevels digits_collation options (levels_of_b options)
+b_sound options = read _ _ (only_b (is_numeric options.numeric)) scalars_b
+
+pub capital_a_sound : (options : ResolvedCollatorOptions) → AreSoundLevels digits_collation options (levels_of_capital_a options)
+capital_a_sound options = read _ _ (only_capital (is_numeric options.numeric)) scalars_capital
+
+pub a_acute_sound : (options : ResolvedCollatorOptions) → AreSoundLevels digits_collation options (levels_of_a_acute options)
+a_acute_sound options = read _ _ (a_acute (is_numeric options.numeric)) scalars_acute
+
+pub a_circumflex_sound : (options : ResolvedCollatorOptions) → AreSoundLevels digits_collation options (levels_of_a_circumflex options)
+a_circumflex_sound options = read _ _ (a_circumflex (is_numeric options.numeric)) scalars_circumflex
+
+pub ac_sound : (options : ResolvedCollatorOptions) → AreSoundLevels digits_collation options (levels_of_ac options)
+ac_sound options = read _ _ (a_then_c (is_numeric options.numeric)) scalars_ac
+
+pub a_space_c_sound : (options : ResolvedCollatorOptions) → AreSoundLevels digits_collation options (levels_of_a_space_c options)
+a_space_c_sound options = read _ _ (a_space_c (is_numeric options.numeric)) scalars_a_c
+
+pub sound_7 : (strength : Strength) → AreSoundLevels digits_collation (numeric_options strength) (levels_of_7 (numeric_options strength))
+sound_7 strength = read _ _ one_seven scalars_7
+
+pub sound_07 : (strength : Strength) → AreSoundLevels digits_collation (numeric_options strength) (levels_of_07 (numeric_options strength))
+sound_07 strength = read _ _ one_seven scalars_07
 
 unfoldable with_numbers : Unit {0}
 unfolding computing pairs_of without_last_zeros pair_bytes elements_of_bytes long_number
@@ -217,3 +260,8 @@ characters_differ h = let order : characters_order (numeric_options Identical) (
 pub sevens_are_equal : levels_order (numeric_options Tertiary) (levels_of_7 (numeric_options Tertiary)) (levels_of_07 (numeric_options Tertiary)) ≡ Equal
 unfolding with_numbers
 sevens_are_equal = refl
+
+-- the key of "ab" is below that of "b"
+pub a_then_b_is_below : levels_order (plain_options Tertiary) (levels_of digits_collation (plain_options Tertiary) (small_a ∷ small_b ∷ []) (0x61 ∷ 0x62 ∷ [])) (levels_of digits_collation (plain_options Tertiary) (small_b ∷ []) (0x62 ∷ [])) ≡ Less
+unfolding computing
+a_then_b_is_below = refl

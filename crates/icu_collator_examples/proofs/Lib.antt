@@ -1,8 +1,8 @@
-pub mod Found
-pub mod Letters
-pub mod LettersPairs
-pub mod Examples
-pub mod LettersDigits
+pub mod FoundLemmas
+pub mod LettersLemmas
+pub mod LetterPairsLemmas
+pub mod TextExamples
+pub mod LetterDigitsLemmas
 pub mod KeyExamples
-pub mod SameTables
+pub mod SameTablesLemmas
 pub mod LevelExamples

@@ -15,21 +15,20 @@ ghost use Rattle.icu_collator_core.specs.WeightRules.{AreSoundWeights};
 ghost use Rattle.icu_collator.specs.Equivalence.{IsEquivalent};
 ghost use Rattle.icu_collator.specs.KeyBytes.{key_bytes, key_of_text};
 ghost use Rattle.icu_collator_examples.specs.Letters.{letters, digits_collation, ideographs_collation, plain_options, numeric_options, acute_composed, dot_composed, cote_with_acute, cote_with_circumflex};
-ghost use Rattle.icu_collator.specs.Levels.{levels_of};
-ghost use Rattle.icu_collator.specs.Settings.{AreSoundSettings};
+ghost use Rattle.icu_collator.specs.Levels.{levels_of, levels_of_text};
+ghost use Rattle.icu_collator.specs.SoundCollation.{AreSoundLevels, IsSoundCollation};
 
 use icu_collator::laws::{equal_lists_are_equivalent, equivalent_texts_are_equal};
 use icu_collator::laws_keys::{
     equal_keys_are_of_equal_texts, equal_keys_at_identical_are_of_equivalent_texts,
-    keys_order_as_levels, keys_order_as_texts,
+    keys_order_as_levels, keys_order_as_texts, texts_have_sound_levels,
 };
 use icu_collator_core::laws_texts::{ranges_have_sound_primaries, texts_have_sound_elements};
 
 // The records meet what the laws ask for, so the laws speak of them.
-#[tactic(auto, using(crate::proofs::KeyExamples::digits_weights_sound, crate::proofs::KeyExamples::digits_settings_sound))]
+#[tactic(auto, using(crate::proofs::KeyExamples::digits_sound))]
 fn rules_are_kept()
-    ensures weights { AreSoundWeights digits_collation.weights }
-    ensures settings { AreSoundSettings digits_collation }
+    ensures { IsSoundCollation digits_collation }
 {}
 
 // So do they with a range of ideographs beside them.
@@ -83,8 +82,16 @@ fn keys_of_elements_are_in_order()
     keys_order_as_levels();
 }
 
+// So the laws of levels speak of every text under these records.
+fn levels_are_sound()
+    ensures { (strength : Strength) (text : List ℕ) → All IsScalar text
+        → AreSoundLevels digits_collation (numeric_options strength) (levels_of_text digits_collation (numeric_options strength) text) }
+{
+    texts_have_sound_levels();
+}
+
 // Every text has a sequence of single elements and whole numbers under these records.
-#[tactic(auto, using(crate::proofs::KeyExamples::digits_weights_sound, crate::proofs::Letters::letters_is_decomposing))]
+#[tactic(auto, using(crate::proofs::KeyExamples::digits_weights_sound, crate::proofs::LettersLemmas::letters_is_decomposing))]
 fn elements_are_sound()
     ensures { (text : List ℕ) → All IsScalar text
         → IsSoundSequence digits_collation.weights true (elements_of_list letters digits_collation.weights true (decomposed letters text)) }
@@ -111,6 +118,11 @@ fn ok_equal_keys_at_identical_are_of_equivalent_texts() {
 #[test]
 fn ok_keys_order_as_levels() {
     keys_of_elements_are_in_order();
+}
+
+#[test]
+fn ok_texts_have_sound_levels() {
+    levels_are_sound();
 }
 
 #[test]

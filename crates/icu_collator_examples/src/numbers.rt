@@ -15,7 +15,7 @@ ghost use Rattle.icu_collator.specs.Order.{collation_order};
 use icu_collator::laws::numbers::{number_keys_order_by_value, numbers_order_by_value};
 
 // The digits there keep what the law asks, so it speaks of something.
-#[tactic(auto, using(crate::proofs::LettersDigits::letters_digits_apart, crate::proofs::KeyExamples::numbers_together))]
+#[tactic(auto, using(crate::proofs::LetterDigitsLemmas::letters_digits_apart, crate::proofs::KeyExamples::numbers_together))]
 fn digits_are_apart()
     ensures apart { AreDigitsApart digits_collation }
     ensures together { AreNumbersTogether digits_collation }
@@ -29,7 +29,7 @@ fn two_is_before_ten()
     numbers_order_by_value();
 }
 
-// "0007" and "7" are equal below `Identical`, also before a mark, which stays behind the last digit.
+// "0007" and "7" are equal below `Identical`, also before a mark, which stays after the last digit.
 fn leading_zeros_are_nothing()
     ensures { (strength : Strength) → is_at_least strength Identical ≡ false
         → collation_order digits_collation (numeric_options strength)

@@ -20,7 +20,7 @@ use icu_collator::laws::{
 };
 
 // The records meet what canonical data promise, so the laws speak of them.
-#[tactic(auto, using(crate::proofs::LettersPairs::letters_is_canonical))]
+#[tactic(auto, using(crate::proofs::LetterPairsLemmas::letters_is_canonical))]
 fn letters_are_canonical()
     ensures { IsCanonical letters }
 {}

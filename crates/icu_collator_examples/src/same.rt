@@ -5,7 +5,8 @@ ghost use Rattle.std.specs.Prelude.{◌≡◌, ℕ, true, All, List};
 ghost use Rattle.icu_normalizer_core.specs.Canonical.{decomposed};
 ghost use Rattle.icu_collator_types.specs.declared.options.Strength.{Strength};
 ghost use Rattle.icu_collator_core.specs.Elements.{elements_of_list};
-ghost use Rattle.icu_collator_core.specs.Sameness.{AreSameCanonical, AreSameWeights};
+ghost use Rattle.icu_normalizer_core.specs.Sameness.{AreSameCanonical};
+ghost use Rattle.icu_collator_core.specs.Sameness.{AreSameWeights};
 ghost use Rattle.icu_collator.specs.KeyBytes.{key_of_text};
 ghost use Rattle.icu_collator.specs.Levels.{levels_of_text};
 ghost use Rattle.icu_collator.specs.Order.{collation_order};
@@ -21,7 +22,7 @@ use icu_collator_core::laws_same::{
 };
 
 // The tables say the same of each character, so the laws speak of them.
-#[tactic(auto, using(crate::proofs::SameTables::same_characters, crate::proofs::SameTables::same_weights, crate::proofs::SameTables::same_settings))]
+#[tactic(auto, using(crate::proofs::SameTablesLemmas::same_characters, crate::proofs::SameTablesLemmas::same_weights, crate::proofs::SameTablesLemmas::same_settings))]
 fn tables_are_the_same()
     ensures characters { AreSameCanonical other_collation.canonical ranged_collation.canonical }
     ensures weights { AreSameWeights other_collation.weights ranged_collation.weights }

@@ -1,1 +1,1 @@
-mod Examples
+mod OptionsExamples

@@ -1,6 +1,6 @@
 //! The options of a collator: those that a caller gives, those that a locale's preferences give,
 //! those that a records file sets, and what they resolve to. Names and meanings are ICU4X's; the
-//! records file, in the place of CLDR data, is our profile.
+//! records file, which stands in for CLDR data, is described in `docs/RECORDS.md`.
 
 ghost use Rattle.std.specs.Prelude.{◌≡◌};
 
@@ -84,8 +84,8 @@ pub enum CollationNumericOrdering {
     True,
 }
 
-/// What a caller asks of a collator. `None` leaves the choice to the records file, and where the
-/// file says nothing of it to the default.
+/// What a caller asks of a collator. `None` leaves the choice to the records file, or to the default
+/// where the file says nothing.
 #[derive(Clone, Copy, Debug, Default)]
 pub struct CollatorOptions {
     /// How many levels count.

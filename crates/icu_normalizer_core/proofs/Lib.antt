@@ -3,6 +3,7 @@ pub mod AcceptedPairs
 pub mod AcceptedTables
 pub mod BuiltInFacts
 pub mod DecodedLemmas
+pub mod DecomposedLemmas
 pub mod DecodingComputing
 mod DecodingRows
 pub mod FullListLemmas

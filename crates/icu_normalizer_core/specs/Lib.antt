@@ -8,5 +8,6 @@ pub mod CanonicalWords
 pub mod Decoding
 pub mod FullLists
 pub mod Properties
+pub mod Sameness
 pub mod Settled
 pub mod Triples

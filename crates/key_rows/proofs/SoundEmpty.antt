@@ -3,7 +3,7 @@ use Rattle.std.proofs.Common.{◌≡◌, ℕ, Bool, true, false, List, Option, N
 use Rattle.std.specs.Prelude.{◌==◌, ◌||◌}
 use Rattle.icu_collator_types.specs.declared.elements.Element.{Element}
 use Rattle.icu_collator_core.specs.Collation.{reordered_lead}
-use Rattle.icu_collator_core.proofs.Reordering.{given_lead, given_rest}
+use Rattle.icu_collator_core.proofs.weights.ReorderingLemmas.{given_lead, given_rest}
 use Rattle.icu_collator_core.specs.WeightRules.{AreSoundWeights, IsRecorded, is_letter_lead}
 use Rattle.icu_collator.specs.Settings.{AreSoundSettings}
 use Rattle.worked_rows.specs.Tables.{empty_table, weights_of, collation_of, recorded_of}

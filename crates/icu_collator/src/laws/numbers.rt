@@ -11,34 +11,34 @@ ghost use Rattle.icu_collator_types.specs.declared.options.ResolvedCollatorOptio
 ghost use Rattle.icu_collator_types.specs.declared.options.Strength.TheVariants.{Identical};
 ghost use Rattle.icu_collator_types.specs.Options.{is_at_least, is_numeric};
 ghost use Rattle.icu_collator_core.specs.Collation.{Collation};
-ghost use Rattle.icu_collator_core.specs.WeightRules.{AreSoundWeights};
 ghost use Rattle.icu_collator.specs.KeyBytes.{key_of_text};
-ghost use Rattle.icu_collator.specs.Settings.{AreSoundSettings, has_plain_leads};
-ghost use Rattle.icu_collator.specs.NumbersInTexts.{AreDigitsApart, AreNumbersTogether, IsNumberBetween, do_numbers_count, run_value};
+ghost use Rattle.icu_collator.specs.Settings.{has_plain_leads};
+ghost use Rattle.icu_collator.specs.SoundCollation.{IsSoundCollation};
+ghost use Rattle.icu_collator.specs.NumbersInTexts.{AreDigitsApart, AreNumbersTogether, IsNumberBetween, no_number_is_variable, run_value};
 ghost use Rattle.icu_collator.specs.Order.{collation_order};
 
-/// With numeric ordering on, let two texts be alike but for one run of digits, which in each has at
-/// most 254 digits from the first on that isn't 0, and beside which neither text goes on with a digit
-/// once it is decomposed. Where no number is variable, and reordering keeps numbers together, the text
-/// whose run has the lower value is below the other, at every strength. Where the values are the same,
-/// the texts are equal at every strength but `Identical`, whatever zeros lead the digits, whatever is
+/// With numeric ordering on, let two texts differ in one run of digits alone. Each run has at most 254
+/// digits from its first nonzero digit on, and neither text has another digit next to the run once it
+/// is decomposed. Where no number is variable, and reordering keeps numbers together, the text whose
+/// run has the lower value is below the other, at every strength. Where the values are the same, the
+/// texts are equal at every strength but `Identical`, whatever zeros lead the digits, whatever is
 /// variable and whatever is reordered.
 ///
-/// The collation data must keep what `AreDigitsApart` says; among it is that a tilde (U+0303) is no
-/// digit where a dot above is dropped before accents: else a dot above at the end of the text before
-/// would be dropped before a number that begins with U+0303 and not before its equal with a zero in
-/// front.
-#[tactic(auto, using(crate::proofs::NumbersInTexts::lower_first, crate::proofs::NumbersInTexts::higher_behind, crate::proofs::NumbersInTexts::equal_runs))]
+/// The collation data must keep what `AreDigitsApart` says. Part of it: where a dot above is dropped
+/// before accents, a tilde (U+0303) is no digit. Otherwise a dot above that ends the text before the
+/// number would be dropped before a number that begins with U+0303, but not before the same number with
+/// a zero in front.
+#[tactic(auto, using(crate::proofs::numbers::NumbersInTextsLemmas::lower_first, crate::proofs::numbers::NumbersInTextsLemmas::higher_behind, crate::proofs::numbers::NumbersInTextsLemmas::equal_runs))]
 pub fn numbers_order_by_value()
     ensures lower { (collation : Collation) (options : ResolvedCollatorOptions) (x r s y : List ℕ)
         → IsDecomposing collation.canonical → AreDigitsApart collation → AreNumbersTogether collation
-        → is_numeric options.numeric ≡ true → do_numbers_count collation options ≡ true
+        → is_numeric options.numeric ≡ true → no_number_is_variable collation options ≡ true
         → IsNumberBetween collation x r y → IsNumberBetween collation x s y
         → run_value collation.weights r < run_value collation.weights s
         → collation_order collation options (x ++ (r ++ y)) (x ++ (s ++ y)) ≡ Less }
     ensures higher { (collation : Collation) (options : ResolvedCollatorOptions) (x r s y : List ℕ)
         → IsDecomposing collation.canonical → AreDigitsApart collation → AreNumbersTogether collation
-        → is_numeric options.numeric ≡ true → do_numbers_count collation options ≡ true
+        → is_numeric options.numeric ≡ true → no_number_is_variable collation options ≡ true
         → IsNumberBetween collation x r y → IsNumberBetween collation x s y
         → run_value collation.weights s < run_value collation.weights r
         → collation_order collation options (x ++ (r ++ y)) (x ++ (s ++ y)) ≡ Greater }
@@ -50,18 +50,18 @@ pub fn numbers_order_by_value()
         → collation_order collation options (x ++ (r ++ y)) (x ++ (s ++ y)) ≡ Equal }
 {}
 
-/// The keys of such texts order alike, byte by byte, over weights and settings that keep the rules,
-/// where the lead byte of numbers is not compressible: the lower value has the lower key, and equal
-/// values have one key at every strength but `Identical`.
+/// The keys of such texts order in the same way, byte by byte, over weights and settings that keep the
+/// rules, where the lead byte of numbers is not compressible: the lower value has the lower key, and
+/// equal values have the same key at every strength but `Identical`.
 pub fn number_keys_order_by_value()
     ensures lower { (collation : Collation) (options : ResolvedCollatorOptions) (x r s y : List ℕ)
-        → IsDecomposing collation.canonical → AreSoundWeights collation.weights → AreSoundSettings collation → has_plain_leads collation options ≡ true
-        → AreDigitsApart collation → is_numeric options.numeric ≡ true → do_numbers_count collation options ≡ true
+        → IsDecomposing collation.canonical → IsSoundCollation collation → has_plain_leads collation options ≡ true
+        → AreDigitsApart collation → is_numeric options.numeric ≡ true → no_number_is_variable collation options ≡ true
         → IsNumberBetween collation x r y → IsNumberBetween collation x s y → All IsScalar (x ++ (r ++ y)) → All IsScalar (x ++ (s ++ y))
         → run_value collation.weights r < run_value collation.weights s
         → slice_cmp nat_cmp (key_of_text collation options (x ++ (r ++ y))) (key_of_text collation options (x ++ (s ++ y))) ≡ Less }
     ensures equal { (collation : Collation) (options : ResolvedCollatorOptions) (x r s y : List ℕ)
-        → IsDecomposing collation.canonical → AreSoundWeights collation.weights → AreSoundSettings collation → has_plain_leads collation options ≡ true
+        → IsDecomposing collation.canonical → IsSoundCollation collation → has_plain_leads collation options ≡ true
         → AreDigitsApart collation → is_numeric options.numeric ≡ true → is_at_least options.strength Identical ≡ false
         → IsNumberBetween collation x r y → IsNumberBetween collation x s y → All IsScalar (x ++ (r ++ y)) → All IsScalar (x ++ (s ++ y))
         → run_value collation.weights r ≡ run_value collation.weights s

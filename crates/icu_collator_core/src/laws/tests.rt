@@ -1,4 +1,4 @@
-// The laws of numbers applied to digits.
+//! The laws of numbers applied to digits.
 
 ghost use Rattle.std.specs.Cmp.Lexicographic.{slice_cmp};
 ghost use Rattle.std.specs.Ordering.{nat_cmp};
@@ -12,8 +12,8 @@ use super::{equal_values_have_equal_elements, no_number_begins_another, numbers_
 
 // 9 is below 10, whatever follows.
 fn nine_is_below_ten()
-    ensures { (lead : ℕ) (behind behind_others : List ℕ)
-        → slice_cmp nat_cmp (primaries_of (number_elements lead (9 ∷ [])) ++ behind) (primaries_of (number_elements lead (1 ∷ 0 ∷ [])) ++ behind_others) ≡ Less }
+    ensures { (lead : ℕ) (following following_others : List ℕ)
+        → slice_cmp nat_cmp (primaries_of (number_elements lead (9 ∷ [])) ++ following) (primaries_of (number_elements lead (1 ∷ 0 ∷ [])) ++ following_others) ≡ Less }
 {
     numbers_order_as_values();
 }
@@ -25,7 +25,7 @@ fn leading_zeros_are_nothing()
     equal_values_have_equal_elements();
 }
 
-// The elements of 9 with any more behind them are not those of 10.
+// The elements of 9 with any more after them are not those of 10.
 fn nine_does_not_begin_ten()
     ensures { (lead : ℕ) (more : List Element)
         → number_elements lead (1 ∷ 0 ∷ []) ≡ number_elements lead (9 ∷ []) ++ more → more ≡ [] }

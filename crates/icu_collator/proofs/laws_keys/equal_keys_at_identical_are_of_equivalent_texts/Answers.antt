@@ -1,4 +1,4 @@
-use Rattle.icu_collator.proofs.TextKeys.{identical_text_keys}
+use Rattle.icu_collator.proofs.keys.TextKeyLemmas.{identical_text_keys}
 use Rattle.icu_collator.proofs.laws_keys.equal_keys_at_identical_are_of_equivalent_texts.Goals as goal
 
 pub returns : goal.returns

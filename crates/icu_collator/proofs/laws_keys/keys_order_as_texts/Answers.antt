@@ -1,4 +1,4 @@
-use Rattle.icu_collator.proofs.TextKeys.{text_keys_order}
+use Rattle.icu_collator.proofs.keys.TextKeyLemmas.{text_keys_order}
 use Rattle.icu_collator.proofs.laws_keys.keys_order_as_texts.Goals as goal
 
 pub returns : goal.returns

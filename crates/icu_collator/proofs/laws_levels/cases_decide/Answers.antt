@@ -1,4 +1,4 @@
-use Rattle.icu_collator.proofs.DecidingLevels.{cases_decide}
+use Rattle.icu_collator.proofs.keys.DecidingLevelLemmas.{cases_decide}
 use Rattle.icu_collator.proofs.laws_levels.cases_decide.Goals as goal
 
 pub returns : goal.returns

@@ -1,4 +1,4 @@
-use Rattle.icu_collator.proofs.DecidingLevels.{characters_decide}
+use Rattle.icu_collator.proofs.keys.DecidingLevelLemmas.{characters_decide}
 use Rattle.icu_collator.proofs.laws_levels.characters_decide.Goals as goal
 
 pub returns : goal.returns

@@ -1,4 +1,4 @@
-use Rattle.icu_collator.proofs.DecidingLevels.{primaries_decide}
+use Rattle.icu_collator.proofs.keys.DecidingLevelLemmas.{primaries_decide}
 use Rattle.icu_collator.proofs.laws_levels.primaries_decide.Goals as goal
 
 pub returns : goal.returns

@@ -1,4 +1,4 @@
-use Rattle.icu_collator.proofs.DecidingLevels.{quaternaries_decide}
+use Rattle.icu_collator.proofs.keys.DecidingLevelLemmas.{quaternaries_decide}
 use Rattle.icu_collator.proofs.laws_levels.quaternaries_decide.Goals as goal
 
 pub returns : goal.returns

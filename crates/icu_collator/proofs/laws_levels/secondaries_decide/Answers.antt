@@ -1,4 +1,4 @@
-use Rattle.icu_collator.proofs.DecidingLevels.{secondaries_decide}
+use Rattle.icu_collator.proofs.keys.DecidingLevelLemmas.{secondaries_decide}
 use Rattle.icu_collator.proofs.laws_levels.secondaries_decide.Goals as goal
 
 pub returns : goal.returns

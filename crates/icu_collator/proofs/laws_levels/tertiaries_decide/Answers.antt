@@ -1,4 +1,4 @@
-use Rattle.icu_collator.proofs.DecidingLevels.{tertiaries_decide}
+use Rattle.icu_collator.proofs.keys.DecidingLevelLemmas.{tertiaries_decide}
 use Rattle.icu_collator.proofs.laws_levels.tertiaries_decide.Goals as goal
 
 pub returns : goal.returns

@@ -1,4 +1,4 @@
-use Rattle.icu_collator.proofs.SameLevels.{keys_same}
+use Rattle.icu_collator.proofs.orders.SamenessLemmas.{keys_same}
 use Rattle.icu_collator.proofs.laws_same.same_data_have_same_keys.Goals as goal
 
 pub returns : goal.returns

@@ -1,4 +1,4 @@
-use Rattle.icu_collator.proofs.SameLevels.{levels_same}
+use Rattle.icu_collator.proofs.orders.SamenessLemmas.{levels_same}
 use Rattle.icu_collator.proofs.laws_same.same_data_have_same_levels.Goals as goal
 
 pub returns : goal.returns

@@ -1,4 +1,4 @@
-use Rattle.icu_collator.proofs.SameLevels.{order_same}
+use Rattle.icu_collator.proofs.orders.SamenessLemmas.{order_same}
 use Rattle.icu_collator.proofs.laws_same.same_data_order_alike.Goals as goal
 
 pub returns : goal.returns

@@ -1,4 +1,4 @@
-use Rattle.icu_collator_core.proofs.SameReadings.{elements_same}
+use Rattle.icu_collator_core.proofs.readings.SamenessLemmas.{elements_same}
 use Rattle.icu_collator_core.proofs.laws_same.same_weights_have_same_elements.Goals as goal
 
 pub returns : goal.returns

@@ -1,13 +1,15 @@
 use Rattle.std.proofs.Common.{[], ◌∷◌, refl, ◌∙◌}
 use Rattle.icu_collator_types.specs.declared.options.Strength.TheVariants.{Tertiary}
-use Rattle.icu_collator_core.specs.Defaults.{primary_element}
 use Rattle.icu_collator_examples.specs.Letters.{digits_collation, plain_options}
-use Rattle.icu_collator_examples.proofs.KeyExamples.{digits_weights_sound, digits_settings_sound, a_then_b, only_b, a_then_b_scalars, only_b_scalars, a_then_b_is_below}
+use Rattle.icu_collator_examples.specs.LetterLevels.{small_a, small_b, levels_of_b}
+use Rattle.icu_collator.specs.Levels.{levels_of}
+use Rattle.icu_collator_examples.proofs.KeyExamples.{digits_sound}
+use Rattle.icu_collator_examples.proofs.LevelExamples.{a_then_b_sound, a_then_b_is_below, b_sound}
 use Rattle.icu_collator_examples.proofs.keys.keys_of_elements_are_in_order.Goals as goal
 
 pub returns : goal.returns
 returns c =
     c.keys_order_as_levels.ensures digits_collation (plain_options Tertiary)
-    (primary_element 0x2a100000 ∷ primary_element 0x2a200000 ∷ []) (primary_element 0x2a200000 ∷ []) (0x61 ∷ 0x62 ∷ []) (0x62 ∷ [])
-    digits_weights_sound digits_settings_sound refl a_then_b only_b a_then_b_scalars only_b_scalars
+    (levels_of digits_collation (plain_options Tertiary) (small_a ∷ small_b ∷ []) (0x61 ∷ 0x62 ∷ [])) (levels_of_b (plain_options Tertiary))
+    digits_sound a_then_b_sound (b_sound (plain_options Tertiary)) refl
     ∙ a_then_b_is_below

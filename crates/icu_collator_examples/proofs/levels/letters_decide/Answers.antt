@@ -1,13 +1,13 @@
-use Rattle.std.proofs.Common.{[], ◌∷◌, refl, ◌∙◌}
+use Rattle.std.proofs.Common.{refl, ◌∙◌}
 use Rattle.icu_collator_types.specs.declared.options.Strength.TheVariants.{Primary}
 use Rattle.icu_collator_examples.specs.Letters.{digits_collation, plain_options}
-use Rattle.icu_collator_examples.specs.LetterLevels.{small_a, small_b}
-use Rattle.icu_collator_examples.proofs.KeyExamples.{digits_weights_sound, digits_settings_sound}
-use Rattle.icu_collator_examples.proofs.LevelExamples.{only_a, only_b, primaries_differ, primaries_order_them, scalars_a, scalars_b}
+use Rattle.icu_collator_examples.specs.LetterLevels.{levels_of_a, levels_of_b}
+use Rattle.icu_collator_examples.proofs.KeyExamples.{digits_sound}
+use Rattle.icu_collator_examples.proofs.LevelExamples.{a_sound, b_sound, primaries_differ, primaries_order_them}
 use Rattle.icu_collator_examples.proofs.levels.letters_decide.Goals as goal
 
 pub returns : goal.returns
 returns c =
-    c.primaries_decide.ensures digits_collation (plain_options Primary) (small_a ∷ []) (small_b ∷ []) (0x61 ∷ []) (0x62 ∷ []) digits_weights_sound digits_settings_sound only_a only_b scalars_a scalars_b
+    c.primaries_decide.ensures digits_collation (plain_options Primary) (levels_of_a (plain_options Primary)) (levels_of_b (plain_options Primary)) digits_sound (a_sound (plain_options Primary)) (b_sound (plain_options Primary))
     refl primaries_differ
     ∙ primaries_order_them

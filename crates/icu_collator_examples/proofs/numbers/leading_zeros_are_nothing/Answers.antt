@@ -1,7 +1,7 @@
 use Rattle.std.proofs.Common.{[], ◌∷◌, refl}
 use Rattle.icu_collator_examples.specs.Letters.{digits_collation, numeric_options}
-use Rattle.icu_collator_examples.proofs.Letters.{letters_is_decomposing}
-use Rattle.icu_collator_examples.proofs.LettersDigits.{letters_digits_apart, seven_before_dot, padded_before_dot, padded_seven}
+use Rattle.icu_collator_examples.proofs.LettersLemmas.{letters_is_decomposing}
+use Rattle.icu_collator_examples.proofs.LetterDigitsLemmas.{letters_digits_apart, seven_before_dot, padded_before_dot, padded_seven}
 use Rattle.icu_collator_examples.proofs.numbers.leading_zeros_are_nothing.Goals as goal
 
 pub returns : goal.returns

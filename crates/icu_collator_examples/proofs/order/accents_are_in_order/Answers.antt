@@ -4,7 +4,7 @@ use Rattle.std.specs.declared.cmp.Ordering.TheVariants.{Equal}
 use Rattle.icu_collator_types.specs.declared.options.Strength.TheVariants.{Tertiary}
 use Rattle.icu_collator_examples.specs.Letters.{letters_collation, plain_options, cote_with_acute, cote_with_circumflex}
 use Rattle.icu_collator.specs.Order.{collation_order}
-use Rattle.icu_collator_examples.proofs.Examples.{acute_is_below_circumflex}
+use Rattle.icu_collator_examples.proofs.TextExamples.{acute_is_below_circumflex}
 use Rattle.icu_collator_examples.proofs.order.accents_are_in_order.Goals as goal
 
 pub returns : goal.returns

@@ -1,7 +1,7 @@
 use Rattle.std.proofs.Common.{◌∙◌, sym}
 use Rattle.icu_collator_examples.specs.Letters.{letters, dot_composed, acute_composed, acute_before_dot}
-use Rattle.icu_collator_examples.proofs.LettersPairs.{letters_is_canonical}
-use Rattle.icu_collator_examples.proofs.Examples.{dot_composed_scalars, acute_composed_scalars, acute_before_dot_scalars, dot_recomposed, marks_recomposed}
+use Rattle.icu_collator_examples.proofs.LetterPairsLemmas.{letters_is_canonical}
+use Rattle.icu_collator_examples.proofs.TextExamples.{dot_composed_scalars, acute_composed_scalars, acute_before_dot_scalars, dot_recomposed, marks_recomposed}
 use Rattle.icu_collator_examples.proofs.order.composed_spellings_are_equivalent.Goals as goal
 
 pub returns-clause-one_list : goal.returns-clause-one_list

@@ -3,8 +3,8 @@ use Rattle.std.specs.declared.cmp.Ordering.TheVariants.{Equal}
 use Rattle.icu_collator_types.specs.declared.options.Strength.TheVariants.{Identical}
 use Rattle.icu_collator_examples.specs.Letters.{letters_collation, plain_options, dot_composed, acute_composed, cote_with_acute, cote_with_circumflex}
 use Rattle.icu_collator.specs.Order.{collation_order}
-use Rattle.icu_collator_examples.proofs.Letters.{letters_is_decomposing}
-use Rattle.icu_collator_examples.proofs.Examples.{dot_composed_scalars, acute_composed_scalars, cote_with_acute_scalars, cote_with_circumflex_scalars}
+use Rattle.icu_collator_examples.proofs.LettersLemmas.{letters_is_decomposing}
+use Rattle.icu_collator_examples.proofs.TextExamples.{dot_composed_scalars, acute_composed_scalars, cote_with_acute_scalars, cote_with_circumflex_scalars}
 use Rattle.icu_collator_examples.proofs.order.equal_at_identical.Goals as goal
 
 pub returns-clause-spellings : goal.returns-clause-spellings

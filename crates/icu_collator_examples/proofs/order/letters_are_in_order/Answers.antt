@@ -4,7 +4,7 @@ use Rattle.std.specs.declared.cmp.Ordering.TheVariants.{Equal}
 use Rattle.icu_collator_types.specs.declared.options.Strength.TheVariants.{Primary}
 use Rattle.icu_collator_examples.specs.Letters.{letters_collation, plain_options}
 use Rattle.icu_collator.specs.Order.{collation_order}
-use Rattle.icu_collator_examples.proofs.Examples.{a_is_below_b, b_is_below_c, lowest_is_lowest}
+use Rattle.icu_collator_examples.proofs.TextExamples.{a_is_below_b, b_is_below_c, lowest_is_lowest}
 use Rattle.icu_collator_examples.proofs.order.letters_are_in_order.Goals as goal
 
 pub returns-clause-first : goal.returns-clause-first

@@ -1,9 +1,9 @@
 use Rattle.std.proofs.Common.{◌≡◌, ℕ, List, subst}
 use Rattle.icu_collator_examples.specs.Letters.{letters_collation, acute_composed}
 use Rattle.icu_collator.specs.Levels.{levels_of_text}
-use Rattle.icu_collator_examples.proofs.Letters.{letters_is_decomposing}
-use Rattle.icu_collator_examples.proofs.LettersPairs.{letters_is_canonical}
-use Rattle.icu_collator_examples.proofs.Examples.{acute_composed_scalars, acute_decomposed, acute_recomposed}
+use Rattle.icu_collator_examples.proofs.LettersLemmas.{letters_is_decomposing}
+use Rattle.icu_collator_examples.proofs.LetterPairsLemmas.{letters_is_canonical}
+use Rattle.icu_collator_examples.proofs.TextExamples.{acute_composed_scalars, acute_decomposed, acute_recomposed}
 use Rattle.icu_collator_examples.proofs.order.levels_of_spellings.Goals as goal
 
 pub returns-clause-decomposed : goal.returns-clause-decomposed

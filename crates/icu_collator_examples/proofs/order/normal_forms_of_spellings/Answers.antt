@@ -1,8 +1,8 @@
 use Rattle.std.proofs.Common.{◌∙◌, sym}
 use Rattle.icu_collator_examples.specs.Letters.{letters, acute_composed}
-use Rattle.icu_collator_examples.proofs.Letters.{letters_is_decomposing}
-use Rattle.icu_collator_examples.proofs.LettersPairs.{letters_is_canonical}
-use Rattle.icu_collator_examples.proofs.Examples.{acute_composed_scalars, acute_decomposed, dot_decomposed, acute_recomposed, dot_recomposed}
+use Rattle.icu_collator_examples.proofs.LettersLemmas.{letters_is_decomposing}
+use Rattle.icu_collator_examples.proofs.LetterPairsLemmas.{letters_is_canonical}
+use Rattle.icu_collator_examples.proofs.TextExamples.{acute_composed_scalars, acute_decomposed, dot_decomposed, acute_recomposed, dot_recomposed}
 use Rattle.icu_collator_examples.proofs.order.normal_forms_of_spellings.Goals as goal
 
 pub returns-clause-decomposed_twice : goal.returns-clause-decomposed_twice

@@ -4,7 +4,7 @@ use Rattle.std.specs.declared.cmp.Ordering.TheVariants.{Equal}
 use Rattle.icu_collator_types.specs.declared.options.Strength.TheVariants.{Primary}
 use Rattle.icu_collator_examples.specs.Letters.{digits_collation, plain_options, numeric_options}
 use Rattle.icu_collator.specs.Order.{collation_order}
-use Rattle.icu_collator_examples.proofs.Examples.{two_is_above_ten, two_is_below_ten, lowest_is_lowest}
+use Rattle.icu_collator_examples.proofs.TextExamples.{two_is_above_ten, two_is_below_ten, lowest_is_lowest}
 use Rattle.icu_collator_examples.proofs.order.numbers_are_in_order.Goals as goal
 
 pub returns-clause-by_letters : goal.returns-clause-by_letters

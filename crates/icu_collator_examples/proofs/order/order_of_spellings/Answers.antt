@@ -1,9 +1,9 @@
 use Rattle.std.proofs.Common.{◌≡◌, ℕ, List, subst}
 use Rattle.icu_collator_examples.specs.Letters.{letters_collation, acute_composed, cote_with_acute}
 use Rattle.icu_collator.specs.Order.{collation_order}
-use Rattle.icu_collator_examples.proofs.Letters.{letters_is_decomposing}
-use Rattle.icu_collator_examples.proofs.LettersPairs.{letters_is_canonical}
-use Rattle.icu_collator_examples.proofs.Examples.{acute_composed_scalars, acute_decomposed, acute_recomposed}
+use Rattle.icu_collator_examples.proofs.LettersLemmas.{letters_is_decomposing}
+use Rattle.icu_collator_examples.proofs.LetterPairsLemmas.{letters_is_canonical}
+use Rattle.icu_collator_examples.proofs.TextExamples.{acute_composed_scalars, acute_decomposed, acute_recomposed}
 use Rattle.icu_collator_examples.proofs.order.order_of_spellings.Goals as goal
 
 pub returns-clause-decomposed_left : goal.returns-clause-decomposed_left

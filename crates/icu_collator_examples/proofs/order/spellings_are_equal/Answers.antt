@@ -1,6 +1,6 @@
 use Rattle.icu_collator_examples.specs.Letters.{letters_collation, dot_composed, acute_composed}
-use Rattle.icu_collator_examples.proofs.Letters.{letters_is_decomposing}
-use Rattle.icu_collator_examples.proofs.Examples.{dot_composed_scalars, acute_composed_scalars}
+use Rattle.icu_collator_examples.proofs.LettersLemmas.{letters_is_decomposing}
+use Rattle.icu_collator_examples.proofs.TextExamples.{dot_composed_scalars, acute_composed_scalars}
 use Rattle.icu_collator_examples.proofs.order.spellings_are_equal.Goals as goal
 
 pub returns-clause-equal : goal.returns-clause-equal

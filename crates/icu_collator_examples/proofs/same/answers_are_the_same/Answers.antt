@@ -1,7 +1,7 @@
 use Rattle.icu_collator_examples.specs.Letters.{numeric_options}
 use Rattle.icu_collator_examples.specs.SameTables.{other_collation, ranged_collation}
-use Rattle.icu_collator_examples.proofs.Letters.{letters_is_decomposing}
-use Rattle.icu_collator_examples.proofs.SameTables.{same_characters, same_weights, same_settings}
+use Rattle.icu_collator_examples.proofs.LettersLemmas.{letters_is_decomposing}
+use Rattle.icu_collator_examples.proofs.SameTablesLemmas.{same_characters, same_weights, same_settings}
 use Rattle.icu_collator_examples.proofs.same.answers_are_the_same.Goals as goal
 
 pub returns-clause-levels : goal.returns-clause-levels

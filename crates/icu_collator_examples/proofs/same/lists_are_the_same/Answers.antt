@@ -1,7 +1,7 @@
 use Rattle.std.proofs.Common.{true}
 use Rattle.icu_collator_examples.specs.SameTables.{other_collation, ranged_collation}
-use Rattle.icu_collator_examples.proofs.Letters.{letters_is_decomposing}
-use Rattle.icu_collator_examples.proofs.SameTables.{same_characters, same_weights}
+use Rattle.icu_collator_examples.proofs.LettersLemmas.{letters_is_decomposing}
+use Rattle.icu_collator_examples.proofs.SameTablesLemmas.{same_characters, same_weights}
 use Rattle.icu_collator_examples.proofs.same.lists_are_the_same.Goals as goal
 
 pub returns-clause-lists : goal.returns-clause-lists

@@ -1,5 +1,5 @@
 use Rattle.std.proofs.Common.{[], ◌∷◌, refl, arith}
-use Rattle.icu_collator_core.proofs.NumbersExamples.{one_digit, padded_is_whole}
+use Rattle.icu_collator_core.proofs.NumberExamples.{one_digit, padded_is_whole}
 use Rattle.icu_collator_core.proofs.laws.tests.leading_zeros_are_nothing.Goals as goal
 
 pub returns : goal.returns

@@ -1,5 +1,5 @@
 use Rattle.std.proofs.Common.{[], ◌∷◌, arith}
-use Rattle.icu_collator_core.proofs.NumbersExamples.{one_digit, ten_is_whole}
+use Rattle.icu_collator_core.proofs.NumberExamples.{one_digit, ten_is_whole}
 use Rattle.icu_collator_core.proofs.laws.tests.nine_is_below_ten.Goals as goal
 
 pub returns : goal.returns

@@ -1,0 +1,13 @@
+pub mod CaseLevelLemmas
+pub mod CharacterLevelLemmas
+pub mod CodesLemmas
+pub mod CommonAloneLemmas
+pub mod DecidingLevelLemmas
+pub mod KeyBytesLemmas
+pub mod PrimaryLevelLemmas
+pub mod QuaternaryLevelLemmas
+pub mod RunCodeLemmas
+pub mod SecondaryLevelLemmas
+pub mod TertiaryLevelLemmas
+pub mod TextKeyLemmas
+pub mod WeightBytesLemmas

@@ -1,0 +1,4 @@
+pub mod DecomposedDigitsLemmas
+pub mod NumberKeyLemmas
+pub mod NumberLevelLemmas
+pub mod NumbersInTextsLemmas

@@ -1,0 +1,262 @@
+-- Texts that differ in a number alone compare as the values of the numbers do.
+use Rattle.std.proofs.Common.{◌≡◌, ℕ, suc, ◌+◌, ◌<◌, true, false, leb, List, [], ◌∷◌, ◌++◌, length, take, drop, refl, sym, ap, ◌∙◌, inl, arith, Option, Some, None, filter_map, length-append}
+use Rattle.std.specs.Prelude.{◌≢◌}
+use Rattle.std.specs.List.{list_all, prefix_len, cons_option, AllByRecursion}
+use Rattle.std.specs.Option.{is_some}
+use Rattle.std.specs.Ordering.{nat_cmp}
+use Rattle.std.specs.declared.cmp.Ordering.TheVariants.{Less, Equal, Greater}
+use Rattle.std.proofs.lemmas.Bool.{and_parts, leb-true}
+use Rattle.std.proofs.lemmas.Bool.Decides.{nat_tests}
+use Rattle.std.proofs.lemmas.List.Elements.{All-from_recursion}
+use Rattle.icu_normalizer_core.specs.Canonical.{Canonical, IsDecomposing, decomposed}
+use Rattle.icu_collator_types.specs.declared.elements.Element.{Element}
+use Rattle.icu_collator_types.specs.declared.options.ResolvedCollatorOptions.{ResolvedCollatorOptions}
+use Rattle.icu_collator_types.specs.declared.options.Strength.TheVariants.{Identical}
+use Rattle.icu_collator_types.specs.Options.{is_at_least, is_numeric}
+use Rattle.icu_collator_core.specs.Collation.{Collation}
+use Rattle.icu_collator_core.specs.Weights.{Weights}
+use Rattle.icu_collator_core.specs.Defaults.{special_primary}
+use Rattle.icu_collator_core.specs.Numbers.{number_elements}
+use Rattle.icu_collator_core.specs.WholeNumbers.{IsWholeNumber}
+use Rattle.icu_collator_core.specs.Elements.{Placed, Reading, placed_behind, characters_of, digit_count, number_reading, reading, elements_within, elements_of_list}
+use Rattle.icu_collator_core.proofs.numbers.NumberOrderLemmas.{equal_numbers}
+use Rattle.icu_collator.specs.Levels.{levels_of, elements_of_text, levels_of_text}
+use Rattle.icu_collator.specs.Order.{levels_order, collation_order}
+use Rattle.icu_collator.specs.NumbersInTexts.{AreNumbersTogether, AreDigitsApart, IsRunOfDigits, IsNumberBetween, is_digit, begins_with_digit, ends_with_digit, digits_of, run_value, no_number_is_variable}
+use Rattle.icu_collator.proofs.numbers.DecomposedDigitsLemmas.{decomposed_run}
+use Rattle.icu_collator.proofs.numbers.NumberLevelLemmas.{different_numbers, same_elements}
+use Rattle.icu_collator.proofs.readings.BeforeDigitLemmas.{reading_is, EndsPlain}
+use Rattle.icu_collator.proofs.readings.SplitAtDigitLemmas.{any_count, split_at_digit}
+use Rattle.icu_collator.proofs.readings.AfterNumberLemmas.{AgreeToDigit, count_of, taken_of, placed_alike, elements_alike}
+
+-- what stands directly before what follows these characters
+abbrev after : List ℕ → List ℕ → List ℕ
+after before [] = before
+after before (c ∷ cs) = after (take 3 (c ∷ before)) cs
+
+placed_append : (before xs ys : List ℕ) → placed_behind before (xs ++ ys) ≡ placed_behind before xs ++ placed_behind (after before xs) ys
+unfolding placed_behind
+placed_append before [] ys = refl
+placed_append before (x ∷ xs) ys = ap (λ (w : List Placed). record { character = x; before = before } ∷ w) (placed_append (take 3 (x ∷ before)) xs ys)
+
+characters_placed : (before xs : List ℕ) → characters_of (placed_behind before xs) ≡ xs
+unfolding placed_behind
+characters_placed before [] = refl
+characters_placed before (x ∷ xs) = ap (λ (w : List ℕ). x ∷ w) (characters_placed (take 3 (x ∷ before)) xs)
+
+length_placed : (before xs : List ℕ) → length (placed_behind before xs) ≡ length xs
+unfolding placed_behind
+length_placed before [] = refl
+length_placed before (x ∷ xs) = ap suc (length_placed (take 3 (x ∷ before)) xs)
+
+drop_placed : (before xs ys : List ℕ) → drop (length xs) (placed_behind before (xs ++ ys)) ≡ placed_behind (after before xs) ys
+unfolding placed_behind
+drop_placed before [] ys = refl
+drop_placed before (x ∷ xs) ys = drop_placed (take 3 (x ∷ before)) xs ys
+
+-- a run of digits is read up to its end
+run_length : (weights : Weights) (run ys : List ℕ) → list_all (is_digit weights) run ≡ true → begins_with_digit weights ys ≡ false
+    → prefix_len (is_digit weights) (run ++ ys) ≡ length run
+run_length weights [] [] h g = refl
+run_length weights [] (y ∷ ys) h g = rw g refl
+run_length weights (d ∷ run) ys h g =
+    let both = and_parts (is_digit weights d) (list_all (is_digit weights) run) h
+    in let rest = run_length weights run ys both.1 g
+    in rw both.0 (omega arith)
+
+run_taken : (run ys : List ℕ) → take (length run) (run ++ ys) ≡ run
+run_taken [] ys = refl
+run_taken (d ∷ run) ys = ap (λ (w : List ℕ). d ∷ w) (run_taken run ys)
+
+-- the reading of a run of digits
+record IsNumberRead (weights : Weights) (before run ys : List ℕ) (r : Reading) : Type 0 where
+  elements : r.elements ≡ number_elements weights.numeric_lead (digits_of weights run)
+  left : r.left ≡ placed_behind (after before run) ys
+
+number_read : (weights : Weights) (before run ys : List ℕ) → list_all (is_digit weights) run ≡ true → begins_with_digit weights ys ≡ false
+    → IsNumberRead weights before run ys (number_reading weights (placed_behind before (run ++ ys)))
+unfolding number_reading
+number_read weights before run ys h g =
+    let ps = placed_behind before (run ++ ys)
+    in let same = characters_placed before (run ++ ys)
+    in let count : digit_count weights ps ≡ length run = count_of weights ps ∙ ap (prefix_len (is_digit weights)) same ∙ run_length weights run ys h g
+    in record {
+      elements =
+          ap (λ (k : ℕ). number_elements weights.numeric_lead (filter_map (λ p. weights.digit p.character) (take k ps))) count
+          ∙ ap (number_elements weights.numeric_lead)
+          (taken_of weights (length run) ps ∙ ap (λ (w : List ℕ). digits_of weights (take (length run) w)) same ∙ ap (digits_of weights) (run_taken run ys));
+      left = ap (λ (k : ℕ). drop k ps) count ∙ drop_placed before run ys;
+    }
+
+digit_reading : (canonical : Canonical) (weights : Weights) (p : Placed) (ps : List Placed) → special_primary p.character ≡ None → is_digit weights p.character ≡ true
+    → reading canonical weights true p ps ≡ number_reading weights (p ∷ ps)
+digit_reading canonical weights p ps e h = reading_is canonical weights true p ps ∙ rw (e, h) refl
+
+number_within : (collation : Collation) (n : ℕ) (before run ys : List ℕ) (d : ℕ) → AreDigitsApart collation
+    → list_all (is_digit collation.weights) (d ∷ run) ≡ true → begins_with_digit collation.weights ys ≡ false
+    → elements_within (suc n) collation.canonical collation.weights true (placed_behind before ((d ∷ run) ++ ys))
+    ≡ number_elements collation.weights.numeric_lead (digits_of collation.weights (d ∷ run))
+    ++ elements_within n collation.canonical collation.weights true (placed_behind (after before (d ∷ run)) ys)
+unfolding elements_within placed_behind
+number_within collation n before run ys d a h g =
+    let weights = collation.weights
+    in let both = and_parts (is_digit weights d) (list_all (is_digit weights) run) h
+    in let first = digit_reading collation.canonical weights (record { character = d; before = before }) (placed_behind (take 3 (d ∷ before)) (run ++ ys)) (a.plain d both.0) both.0
+    in let number = number_read weights before (d ∷ run) ys h g
+    in ap (λ (r : Reading). r.elements ++ elements_within n collation.canonical weights true r.left) first
+    ∙ cc (number.elements, number.left)
+
+-- the elements of a list with a run of digits in it
+unfoldable behind_number : Collation → List ℕ → List ℕ → List ℕ → List Element
+behind_number collation xs run ys =
+    elements_within (length ys) collation.canonical collation.weights true (placed_behind (after (after [] xs) run) ys)
+
+list_split : (collation : Collation) (xs run ys : List ℕ) (d : ℕ) → AreDigitsApart collation → IsDecomposing collation.canonical
+    → list_all (is_digit collation.weights) (d ∷ run) ≡ true → ends_with_digit collation.weights xs ≡ false → begins_with_digit collation.weights ys ≡ false
+    → elements_of_list collation.canonical collation.weights true (xs ++ ((d ∷ run) ++ ys))
+    ≡ elements_of_list collation.canonical collation.weights true xs
+    ++ (number_elements collation.weights.numeric_lead (digits_of collation.weights (d ∷ run)) ++ behind_number collation xs (d ∷ run) ys)
+unfolding placed_behind behind_number
+list_split collation xs run ys d a c h e g =
+    let canonical = collation.canonical
+    in let weights = collation.weights
+    in let before = after [] xs
+    in let whole = xs ++ ((d ∷ run) ++ ys)
+    in let front = placed_behind [] xs
+    in let q : Placed = record { character = d; before = before }
+    in let qs = placed_behind (take 3 (d ∷ before)) (run ++ ys)
+    in let rest = placed_behind (after before (d ∷ run)) ys
+    in let m = length run + length ys
+    in let split : placed_behind [] whole ≡ front ++ q ∷ qs = placed_append [] xs ((d ∷ run) ++ ys)
+    in let both = and_parts (is_digit weights d) (list_all (is_digit weights) run) h
+    in let plain : EndsPlain weights front = ap (ends_with_digit weights) (characters_placed [] xs) ∙ e
+    in let count : length (front ++ q ∷ qs) ≡ length whole = sym (ap length split) ∙ length_placed [] whole
+    in let front_count : length front ≡ length xs = length_placed [] xs
+    in let rest_count : length rest ≡ length ys = length_placed (after before (d ∷ run)) ys
+    in let behind_count : length qs ≡ m = length_placed (take 3 (d ∷ before)) (run ++ ys) ∙ length-append run ys
+    in let parts = length-append front (q ∷ qs)
+    in let first : elements_within (length whole) canonical weights true front ≡ elements_within (length xs) canonical weights true front =
+    any_count canonical weights true (length whole) (length xs) front (omega arith) (omega arith)
+    in let second : elements_within (length whole) canonical weights true (q ∷ qs) ≡ elements_within (suc m) canonical weights true (q ∷ qs) =
+    any_count canonical weights true (length whole) (suc m) (q ∷ qs) (omega arith) (omega arith)
+    in let third : elements_within m canonical weights true rest ≡ elements_within (length ys) canonical weights true rest =
+    any_count canonical weights true m (length ys) rest (omega arith) (omega arith)
+    in let number = number_within collation m before run ys d a h g
+    in ap (elements_within (length whole) canonical weights true) split
+    ∙ split_at_digit collation true (length whole) front q qs a c both.0 plain (omega arith)
+    ∙ cc (first, second, third, number)
+
+-- after two runs of digits the same elements stand
+begins_agree : (weights : Weights) (xs ys : List ℕ) → begins_with_digit weights xs ≡ true → begins_with_digit weights ys ≡ true → AgreeToDigit weights xs ys
+begins_agree weights [] ys h g = cc
+begins_agree weights (x ∷ xs) [] h g = cc
+begins_agree weights (x ∷ xs) (y ∷ ys) h g = inl (h, g)
+
+after_begins : (weights : Weights) (before run : List ℕ) (d : ℕ) → list_all (is_digit weights) (d ∷ run) ≡ true
+    → begins_with_digit weights (after before (d ∷ run)) ≡ true
+after_begins weights before [] d h = (and_parts (is_digit weights d) true h).0
+after_begins weights before (c ∷ run) d h =
+    after_begins weights (take 3 (d ∷ before)) run c (and_parts (is_digit weights d) (list_all (is_digit weights) (c ∷ run)) h).1
+
+behind_same : (collation : Collation) (xs run other ys : List ℕ) (d c : ℕ) → AreDigitsApart collation
+    → list_all (is_digit collation.weights) (d ∷ run) ≡ true → list_all (is_digit collation.weights) (c ∷ other) ≡ true
+    → behind_number collation xs (d ∷ run) ys ≡ behind_number collation xs (c ∷ other) ys
+unfolding behind_number
+behind_same collation xs run other ys d c a h g =
+    let before = after [] xs
+    in elements_alike collation.canonical collation.weights true (length ys) _ _
+    (placed_alike collation (after before (d ∷ run)) (after before (c ∷ other)) ys a
+    (begins_agree collation.weights (after before (d ∷ run)) (after before (c ∷ other)) (after_begins collation.weights before run d h) (after_begins collation.weights before other c g)))
+
+-- a run of digits is a whole number
+option_below : (o : Option ℕ) (ds : List ℕ) → ((d : ℕ) → o ≡ Some d → leb d 9 ≡ true) → AllByRecursion (λ d. d < 10) ds
+    → AllByRecursion (λ d. d < 10) (cons_option o ds)
+option_below None ds h g = g
+option_below (Some d) ds h g = let low = leb-true d 9 (h d refl) in (omega arith, g)
+
+digits_below : (collation : Collation) (run : List ℕ) → AreDigitsApart collation → AllByRecursion (λ d. d < 10) (digits_of collation.weights run)
+digits_below collation [] a = tt
+digits_below collation (c ∷ run) a = option_below (collation.weights.digit c) (digits_of collation.weights run) (a.values c) (digits_below collation run a)
+
+option_filled : (o : Option ℕ) (ds : List ℕ) → is_some o ≡ true → 0 < length (cons_option o ds)
+option_filled None ds h = cc
+option_filled (Some d) ds h = omega arith
+
+whole_number : (collation : Collation) (run : List ℕ) → AreDigitsApart collation → IsRunOfDigits collation.weights run → IsWholeNumber (digits_of collation.weights run)
+whole_number collation [] a h = let filled = h.filled in absurd (omega arith)
+whole_number collation (d ∷ run) a h =
+    record {
+      below_ten = All-from_recursion (λ d. d < 10) (digits_of collation.weights (d ∷ run)) (digits_below collation (d ∷ run) a);
+      filled =
+          option_filled (collation.weights.digit d) (digits_of collation.weights run)
+          (and_parts (is_digit collation.weights d) (list_all (is_digit collation.weights) run) h.digits).0;
+      short = h.short;
+    }
+
+-- the elements of a text with a run of digits in it
+text_split : (collation : Collation) (options : ResolvedCollatorOptions) (x run y : List ℕ) (d : ℕ) → AreDigitsApart collation → IsDecomposing collation.canonical
+    → is_numeric options.numeric ≡ true → list_all (is_digit collation.weights) (d ∷ run) ≡ true
+    → ends_with_digit collation.weights (decomposed collation.canonical x) ≡ false → begins_with_digit collation.weights (decomposed collation.canonical y) ≡ false
+    → elements_of_text collation options (x ++ ((d ∷ run) ++ y))
+    ≡ elements_of_list collation.canonical collation.weights true (decomposed collation.canonical x)
+    ++ (number_elements collation.weights.numeric_lead (digits_of collation.weights (d ∷ run))
+    ++ behind_number collation (decomposed collation.canonical x) (d ∷ run) (decomposed collation.canonical y))
+text_split collation options x run y d a c n h e g =
+    let canonical = collation.canonical
+    in rw (n, decomposed_run collation x y d run a h) (list_split collation (decomposed canonical x) run (decomposed canonical y) d a c h e g)
+
+-- numbers of different values decide
+different_runs : (collation : Collation) (options : ResolvedCollatorOptions) (x r s y : List ℕ)
+    → IsDecomposing collation.canonical → AreDigitsApart collation → AreNumbersTogether collation
+    → is_numeric options.numeric ≡ true → no_number_is_variable collation options ≡ true
+    → IsNumberBetween collation x r y → IsNumberBetween collation x s y
+    → run_value collation.weights r ≢ run_value collation.weights s
+    → collation_order collation options (x ++ (r ++ y)) (x ++ (s ++ y)) ≡ nat_cmp (run_value collation.weights r) (run_value collation.weights s)
+different_runs collation options x [] s y c a t n v hr hs ne = let filled = hr.number.filled in absurd (omega arith)
+different_runs collation options x (d ∷ r) [] y c a t n v hr hs ne = let filled = hs.number.filled in absurd (omega arith)
+different_runs collation options x (d ∷ r) (b ∷ s) y c a t n v hr hs ne =
+    rw (text_split collation options x r y d a c n hr.number.digits hr.before hr.behind, text_split collation options x s y b a c n hs.number.digits hs.before hs.behind)
+    (different_numbers collation options _ _ _ (digits_of collation.weights (d ∷ r)) (digits_of collation.weights (b ∷ s)) _ _ a.lead v t
+    (whole_number collation (d ∷ r) a hr.number) (whole_number collation (b ∷ s) a hs.number) ne)
+
+-- a number of a lower value comes first, and one of a higher value comes after
+pub lower_first : (collation : Collation) (options : ResolvedCollatorOptions) (x r s y : List ℕ)
+    → IsDecomposing collation.canonical → AreDigitsApart collation → AreNumbersTogether collation
+    → is_numeric options.numeric ≡ true → no_number_is_variable collation options ≡ true
+    → IsNumberBetween collation x r y → IsNumberBetween collation x s y
+    → run_value collation.weights r < run_value collation.weights s
+    → collation_order collation options (x ++ (r ++ y)) (x ++ (s ++ y)) ≡ Less
+lower_first collation options x r s y c a t n v hr hs below =
+    let less : nat_cmp (run_value collation.weights r) (run_value collation.weights s) ≡ Less = grind (arith, nat_tests)
+    in different_runs collation options x r s y c a t n v hr hs (λ e. omega arith) ∙ less
+
+pub higher_behind : (collation : Collation) (options : ResolvedCollatorOptions) (x r s y : List ℕ)
+    → IsDecomposing collation.canonical → AreDigitsApart collation → AreNumbersTogether collation
+    → is_numeric options.numeric ≡ true → no_number_is_variable collation options ≡ true
+    → IsNumberBetween collation x r y → IsNumberBetween collation x s y
+    → run_value collation.weights s < run_value collation.weights r
+    → collation_order collation options (x ++ (r ++ y)) (x ++ (s ++ y)) ≡ Greater
+higher_behind collation options x r s y c a t n v hr hs below =
+    let greater : nat_cmp (run_value collation.weights r) (run_value collation.weights s) ≡ Greater = grind (arith, nat_tests)
+    in different_runs collation options x r s y c a t n v hr hs (λ e. omega arith) ∙ greater
+
+-- numbers of one value are the same below Identical
+pub equal_runs : (collation : Collation) (options : ResolvedCollatorOptions) (x r s y : List ℕ)
+    → IsDecomposing collation.canonical → AreDigitsApart collation
+    → is_numeric options.numeric ≡ true → is_at_least options.strength Identical ≡ false
+    → IsNumberBetween collation x r y → IsNumberBetween collation x s y
+    → run_value collation.weights r ≡ run_value collation.weights s
+    → collation_order collation options (x ++ (r ++ y)) (x ++ (s ++ y)) ≡ Equal
+equal_runs collation options x [] s y c a n v hr hs same = let filled = hr.number.filled in absurd (omega arith)
+equal_runs collation options x (d ∷ r) [] y c a n v hr hs same = let filled = hs.number.filled in absurd (omega arith)
+equal_runs collation options x (d ∷ r) (b ∷ s) y c a n v hr hs same =
+    let weights = collation.weights
+    in let first = text_split collation options x r y d a c n hr.number.digits hr.before hr.behind
+    in let second = text_split collation options x s y b a c n hs.number.digits hs.before hs.behind
+    in let number =
+    equal_numbers weights.numeric_lead (digits_of weights (d ∷ r)) (digits_of weights (b ∷ s))
+    (whole_number collation (d ∷ r) a hr.number) (whole_number collation (b ∷ s) a hs.number) same
+    in let behind = behind_same collation (decomposed collation.canonical x) r s (decomposed collation.canonical y) d b a hr.number.digits hs.number.digits
+    in let one : elements_of_text collation options (x ++ ((d ∷ r) ++ y)) ≡ elements_of_text collation options (x ++ ((b ∷ s) ++ y)) = cc
+    in ap (λ (es : List Element). levels_order options (levels_of collation options es (decomposed collation.canonical (x ++ ((d ∷ r) ++ y)))) (levels_of_text collation options (x ++ ((b ∷ s) ++ y)))) one
+    ∙ same_elements collation options (elements_of_text collation options (x ++ ((b ∷ s) ++ y))) _ _ v

@@ -1,0 +1,3 @@
+pub mod SamenessLemmas
+pub mod StrengthsLemmas
+pub mod TotalOrderLemmas

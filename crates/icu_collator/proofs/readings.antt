@@ -1,0 +1,3 @@
+pub mod AfterNumberLemmas
+pub mod BeforeDigitLemmas
+pub mod SplitAtDigitLemmas

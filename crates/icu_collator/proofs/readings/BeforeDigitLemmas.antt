@@ -1,0 +1,199 @@
+-- What stands before a digit, and doesn't end in one, is read without what stands from there on.
+use Rattle.std.proofs.Common.{◌≡◌, ℕ, zero, suc, ◌+◌, ◌<◌, ◌≤◌, ◌==◌, Bool, true, false, cond, ◌&&◌, ltb, List, [], ◌∷◌, ◌++◌, length, take, drop, refl, sym, ap, ◌∙◌, ◌⊎◌, inl, inr, arith, append_assoc, length-append, Option, Some, None}
+use Rattle.std.specs.List.{list_all}
+use Rattle.std.specs.Option.{unwrap_or, is_some}
+use Rattle.std.proofs.lemmas.Bool.{cond_both, cases_lt, eq-eqb, false_from_ne_true, or_right, or_left}
+use Rattle.std.proofs.lemmas.List.{take-append-le, map-append}
+use Rattle.icu_normalizer_core.specs.Canonical.{Canonical}
+use Rattle.icu_collator_types.specs.declared.elements.Element.{Element}
+use Rattle.icu_collator_core.specs.Collation.{Collation}
+use Rattle.icu_collator_core.specs.Weights.{Weights}
+use Rattle.icu_collator_core.specs.Defaults.{special_primary, primary_element}
+use Rattle.icu_collator_core.specs.Elements.{Placed, Reading, Joining, characters_of, at_greatest, recorded_length, match_length, prefix_match, joining, text_reading, number_reading, is_before_accent, reading}
+use Rattle.icu_collator.specs.NumbersInTexts.{AreDigitsApart, is_digit, holds_digit, ends_with_digit}
+
+-- The choice among the kinds of reading.
+abbrev pub chosen : Option ℕ → (ℕ → Reading) → Bool → Reading → Bool → Reading → Option (List Element) → (List Element → Reading) → Reading → Reading
+chosen special of_special is_number number is_dropped dropped prefixed of_prefix text =
+    let undotted = cond is_dropped dropped (elim prefixed [ Some es ↦ of_prefix es | None ↦ text ])
+    in elim special [ Some s ↦ of_special s | None ↦ cond is_number number undotted ]
+
+pub reading_is : (canonical : Canonical) (weights : Weights) (numeric : Bool) (p : Placed) (ps : List Placed)
+    → reading canonical weights numeric p ps
+    ≡ chosen (special_primary p.character) (λ s. record { elements = primary_element s ∷ []; left = ps })
+    (numeric && is_some (weights.digit p.character)) (number_reading weights (p ∷ ps))
+    (weights.dot_above && (p.character == 0x307) && is_before_accent ps) (record { elements = []; left = ps })
+    (prefix_match weights p) (λ es. record { elements = es; left = ps })
+    (text_reading canonical weights p.character (p ∷ ps))
+unfolding reading
+reading_is canonical weights numeric p ps = refl
+
+-- two choices by the same tests are as what is chosen from
+pub chosen_alike : (Q : Reading → Reading → Type 0) (o : Option ℕ) (f f' : ℕ → Reading) (a : Bool) (n n' : Reading) (b : Bool) (d d' : Reading)
+    (m : Option (List Element)) (g g' : List Element → Reading) (t t' : Reading)
+    → ((s : ℕ) → Q (f s) (f' s)) → (a ≡ true → Q n n') → Q d d' → ((es : List Element) → Q (g es) (g' es)) → Q t t'
+    → Q (chosen o f a n b d m g t) (chosen o f' a n' b d' m g' t')
+chosen_alike Q (Some s) f f' a n n' b d d' m g g' t t' h i j k l = h s
+chosen_alike Q None f f' true n n' b d d' m g g' t t' h i j k l = i refl
+chosen_alike Q None f f' false n n' true d d' m g g' t t' h i j k l = j
+chosen_alike Q None f f' false n n' false d d' (Some es) g g' t t' h i j k l = k es
+chosen_alike Q None f f' false n n' false d d' None g g' t t' h i j k l = l
+
+-- characters that don't end in a digit
+abbrev pub EndsPlain : Weights → List Placed → Type 0
+EndsPlain weights ps = ends_with_digit weights (characters_of ps) ≡ false
+
+pub tail_plain : (weights : Weights) (p : Placed) (ps : List Placed) → EndsPlain weights (p ∷ ps) → EndsPlain weights ps
+tail_plain weights p [] h = refl
+tail_plain weights p (q ∷ qs) h = h
+
+pub drop_plain : (weights : Weights) (n : ℕ) (ps : List Placed) → EndsPlain weights ps → EndsPlain weights (drop n ps)
+drop_plain weights zero ps h = h
+drop_plain weights (suc n) [] h = refl
+drop_plain weights (suc n) (p ∷ ps) h = drop_plain weights n ps (tail_plain weights p ps h)
+
+append_plain : (weights : Weights) (ps qs : List Placed) → EndsPlain weights ps → EndsPlain weights qs → EndsPlain weights (ps ++ qs)
+append_plain weights [] qs h g = g
+append_plain weights (p ∷ []) [] h g = h
+append_plain weights (p ∷ []) (q ∷ qs) h g = g
+append_plain weights (p ∷ r ∷ rs) qs h g = append_plain weights (r ∷ rs) qs h g
+
+-- marks join no further than up to a starter, and what stands from there on is left after what is left before it
+pub record JoinsAlike (behind : List Placed) (whole front : Joining) : Type 0 where
+  pub text : whole.text ≡ front.text
+  pub left : whole.left ≡ front.left ++ behind
+
+two_ways : (b c : Bool) (x y z x' y' z' : Joining) (Q : Joining → Joining → Type 0) → Q x x' → Q y y' → Q z z'
+    → Q (cond b x (cond c y z)) (cond b x' (cond c y' z'))
+two_ways true c x y z x' y' z' Q h i j = h
+two_ways false true x y z x' y' z' Q h i j = i
+two_ways false false x y z x' y' z' Q h i j = j
+
+pub joining_apart : (canonical : Canonical) (weights : Weights) (text : List ℕ) (between ms : List Placed) (q : Placed) (qs : List Placed)
+    → canonical.class q.character ≡ 0
+    → JoinsAlike (q ∷ qs) (joining canonical weights text between (ms ++ q ∷ qs)) (joining canonical weights text between ms)
+unfolding joining
+joining_apart canonical weights text between [] q qs h =
+    let starter : (canonical.class q.character == 0) ≡ true = eq-eqb (canonical.class q.character) 0 h
+    in rw starter (record { text = refl; left = refl })
+joining_apart canonical weights text between (m ∷ ms) q qs h =
+    two_ways (canonical.class m.character == 0)
+    (list_all (λ b. ltb (canonical.class b.character) (canonical.class m.character)) between && is_some (weights.recorded [] (text ++ m.character ∷ [])))
+    _ _ _ _ _ _ (JoinsAlike (q ∷ qs))
+    (record { text = refl {a = text}; left = sym (append_assoc between (m ∷ ms) (q ∷ qs)) })
+    (joining_apart canonical weights (text ++ m.character ∷ []) between ms q qs h)
+    (joining_apart canonical weights text (between ++ m ∷ []) ms q qs h)
+
+mark_plain : (collation : Collation) (c : ℕ) → AreDigitsApart collation → (collation.canonical.class c == 0) ≡ false
+    → is_digit collation.weights c ≡ false
+mark_plain collation c d h =
+    false_from_ne_true (is_digit collation.weights c)
+    (λ e. let zero = eq-eqb (collation.canonical.class c) 0 (d.starters c e) in cc)
+
+pub joining_plain : (collation : Collation) (text : List ℕ) (between ms : List Placed) → AreDigitsApart collation
+    → EndsPlain collation.weights between → EndsPlain collation.weights ms
+    → EndsPlain collation.weights (joining collation.canonical collation.weights text between ms).left
+unfolding joining
+joining_plain collation text between [] d h g = h
+joining_plain collation text between (m ∷ ms) d h g =
+    let P : Joining → Type 0 = λ j. EndsPlain collation.weights j.left
+    in let longer = text ++ m.character ∷ []
+    in cond_both (collation.canonical.class m.character == 0) _ _ P
+    (λ _. append_plain collation.weights between (m ∷ ms) h g)
+    (λ n. cond_both (list_all (λ b. ltb (collation.canonical.class b.character) (collation.canonical.class m.character)) between && is_some (collation.weights.recorded [] longer)) _ _ P
+    (λ _. joining_plain collation longer between ms d h (tail_plain collation.weights m ms g))
+    (λ _. joining_plain collation text (between ++ m ∷ []) ms d
+    (append_plain collation.weights between (m ∷ []) h (mark_plain collation m.character d n)) (tail_plain collation.weights m ms g)))
+
+pub joining_shrinks : (canonical : Canonical) (weights : Weights) (text : List ℕ) (between ms : List Placed)
+    → length (joining canonical weights text between ms).left ≤ length between + length ms
+unfolding joining
+joining_shrinks canonical weights text between [] = omega arith
+joining_shrinks canonical weights text between (m ∷ ms) =
+    let longer = text ++ m.character ∷ []
+    in let joined = joining_shrinks canonical weights longer between ms
+    in let stays = joining_shrinks canonical weights text (between ++ m ∷ []) ms
+    in let P : Joining → Type 0 = λ j. length j.left ≤ length between + suc (length ms)
+    in cond_both (canonical.class m.character == 0) _ _ P
+    (λ _. omega (arith, length-append between (m ∷ ms)))
+    (λ _. cond_both (list_all (λ b. ltb (canonical.class b.character) (canonical.class m.character)) between && is_some (weights.recorded [] longer)) _ _ P
+    (λ _. omega arith)
+    (λ _. omega (arith, length-append between (m ∷ []))))
+
+-- the characters of two lists of placed characters, one after the other
+pub characters_append : (ps qs : List Placed) → characters_of (ps ++ qs) ≡ characters_of ps ++ characters_of qs
+characters_append ps qs = map-append (λ p. p.character) ps qs
+
+-- what is found at no number above m is found up to m
+greatest_below : (found : ℕ → Option ℕ) (m n : ℕ) → m ≤ n → ((k : ℕ) → m < k → found k ≡ None) → at_greatest found n ≡ at_greatest found m
+unfolding at_greatest
+greatest_below found m zero h none = let same : m ≡ 0 = omega arith in ap (at_greatest found) (sym same)
+greatest_below found m (suc n) h none =
+    elim (cases_lt n m) [
+      | inl above ↦ let same : suc n ≡ m = omega arith in ap (at_greatest found) same
+      | inr below ↦
+          ap (λ (o : Option ℕ). elim o as (λ _. Option ℕ) [ Some x ↦ Some x | None ↦ at_greatest found n ]) (none (suc n) (omega arith))
+          ∙ greatest_below found m n below none
+    ]
+
+greatest_same : (f g : ℕ → Option ℕ) (n : ℕ) → ((k : ℕ) → k ≤ n → f k ≡ g k) → at_greatest f n ≡ at_greatest g n
+unfolding at_greatest
+greatest_same f g zero h = h zero (omega arith)
+greatest_same f g (suc n) h = cc (h (suc n) (omega arith), greatest_same f g n (λ k l. h k (omega arith)))
+
+-- the longest recorded text is not longer than the list, and not empty
+one_length : (b : Bool) (n : ℕ) (o : Option ℕ) → 0 < unwrap_or o 1 → (unwrap_or o 1 ≤ n) ⊎ (unwrap_or o 1 ≡ 1)
+    → (0 < unwrap_or (elim (cond b (Some (suc n)) None) as (λ _. Option ℕ) [ Some x ↦ Some x | None ↦ o ]) 1)
+    × ((unwrap_or (elim (cond b (Some (suc n)) None) as (λ _. Option ℕ) [ Some x ↦ Some x | None ↦ o ]) 1 ≤ suc n)
+    ⊎ (unwrap_or (elim (cond b (Some (suc n)) None) as (λ _. Option ℕ) [ Some x ↦ Some x | None ↦ o ]) 1 ≡ 1))
+one_length true n o h g = (omega arith, inl (omega arith))
+one_length false n o h (inl g) = (h, inl (omega arith))
+one_length false n o h (inr g) = (h, inr g)
+
+length_bounds : (weights : Weights) (list : List ℕ) (n : ℕ)
+    → (0 < unwrap_or (at_greatest (recorded_length weights list) n) 1)
+    × ((unwrap_or (at_greatest (recorded_length weights list) n) 1 ≤ n) ⊎ (unwrap_or (at_greatest (recorded_length weights list) n) 1 ≡ 1))
+unfolding at_greatest
+length_bounds weights list zero = (omega arith, inr refl)
+length_bounds weights list (suc n) =
+    let rest = length_bounds weights list n
+    in one_length (ltb 0 (suc n) && is_some (weights.recorded [] (take (suc n) list))) n (at_greatest (recorded_length weights list) n) rest.0 rest.1
+
+pub match_filled : (weights : Weights) (list : List ℕ) → 0 < match_length weights list
+match_filled weights list = (length_bounds weights list (length list)).0
+
+pub match_within : (weights : Weights) (c : ℕ) (cs : List ℕ) → match_length weights (c ∷ cs) ≤ length (c ∷ cs)
+match_within weights c cs =
+    elim (length_bounds weights (c ∷ cs) (length (c ∷ cs))).1 [ inl h ↦ h | inr e ↦ omega arith ]
+
+-- no recorded text reaches to a digit
+taken_holds : (weights : Weights) (xs ys : List ℕ) (d n : ℕ) → is_digit weights d ≡ true → length xs < n
+    → holds_digit weights (take n (xs ++ d ∷ ys)) ≡ true
+taken_holds weights xs ys d zero h l = absurd (omega arith)
+taken_holds weights [] ys d (suc n) h l = or_left (is_digit weights d) (holds_digit weights (take n ys)) h
+taken_holds weights (x ∷ xs) ys d (suc n) h l =
+    or_right (is_digit weights x) (holds_digit weights (take n (xs ++ d ∷ ys))) (taken_holds weights xs ys d n h (omega arith))
+
+taken_long : (xs ys : List ℕ) (c d n : ℕ) → suc (length xs) < n → 1 < length (take n (c ∷ (xs ++ d ∷ ys)))
+taken_long xs ys c d zero l = absurd (omega arith)
+taken_long xs ys c d (suc zero) l = absurd (omega arith)
+taken_long [] ys c d (suc (suc n)) l = omega arith
+taken_long (x ∷ xs) ys c d (suc (suc n)) l = omega arith
+
+none_where : (b c : Bool) (n : ℕ) → c ≡ false → cond (b && c) (Some n) None ≡ None
+none_where true c n e = rw e refl
+none_where false c n e = refl
+
+pub match_kept : (collation : Collation) (c : ℕ) (xs ys : List ℕ) (d : ℕ) → AreDigitsApart collation → is_digit collation.weights d ≡ true
+    → match_length collation.weights ((c ∷ xs) ++ d ∷ ys) ≡ match_length collation.weights (c ∷ xs)
+match_kept collation c xs ys d a h =
+    let weights = collation.weights
+    in let whole = (c ∷ xs) ++ d ∷ ys
+    in let above : (k : ℕ) → length (c ∷ xs) < k → recorded_length weights whole k ≡ None =
+    λ k l. none_where (ltb 0 k) (is_some (weights.recorded [] (take k whole))) k
+    (ap is_some (a.alone [] (take k whole) (taken_long xs ys c d k l) (taken_holds weights (c ∷ xs) ys d k h l)))
+    in let below : (k : ℕ) → k ≤ length (c ∷ xs) → recorded_length weights whole k ≡ recorded_length weights (c ∷ xs) k =
+    λ k l. ap (λ (w : List ℕ). cond (ltb 0 k && is_some (weights.recorded [] w)) (Some k) None) (take-append-le k (c ∷ xs) (d ∷ ys) l)
+    in ap (λ (o : Option ℕ). unwrap_or o 1)
+    (greatest_below (recorded_length weights whole) (length (c ∷ xs)) (length whole) (omega (arith, length-append (c ∷ xs) (d ∷ ys))) above
+    ∙ greatest_same (recorded_length weights whole) (recorded_length weights (c ∷ xs)) (length (c ∷ xs)) below)

@@ -1,0 +1,4 @@
+pub mod DigitLemmas
+pub mod DigitPairLemmas
+pub mod NumberBytesLemmas
+pub mod NumberOrderLemmas

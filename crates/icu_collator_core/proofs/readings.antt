@@ -1,0 +1,3 @@
+pub mod ReadingLeftLemmas
+pub mod SamenessLemmas
+pub mod SoundElementsLemmas

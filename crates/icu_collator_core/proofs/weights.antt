@@ -1,0 +1,2 @@
+pub mod RangePrimaryLemmas
+pub mod ReorderingLemmas
