@@ -1,0 +1,4 @@
+pub mod IterLemmas
+pub mod RunLemmas
+pub mod SortLemmas
+pub mod StepLemmas

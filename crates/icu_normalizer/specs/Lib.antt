@@ -1,0 +1,4 @@
+pub mod Decompositions
+pub mod Iter
+pub mod Marks
+pub mod Run
