@@ -5,10 +5,14 @@ ghost use Rattle.std.specs.Iterator.{at_most, IsFinite, size};
 ghost use Rattle.icu_normalizer_core.specs.BorrowedMeaning.{borrowed_meaning};
 ghost use Rattle.icu_normalizer_core.specs.Canonical.{IsCanonical, decomposed};
 ghost use Rattle.icu_normalizer.specs.Iter.{Spells};
+ghost use Rattle.icu_normalizer.specs.Readable.{IsReadable};
 ghost use Rattle.icu_normalizer.specs.Run.{pending};
+
+mod normalizer;
 
 use crate::run::Run;
 use icu_normalizer_core::canonical::CanonicalBorrowed;
+pub use normalizer::DecomposingNormalizerBorrowed;
 use std::alloc::{AllocError, Global};
 use std::iter::FusedIterator;
 
@@ -29,6 +33,21 @@ impl<'d, I: Iterator<Item = char> + Drop> Decomposition<'d, I> {
     #[inline]
     pub fn new(alloc: Global, canonical: CanonicalBorrowed<'d>, chars: I) -> Decomposition<'d, I>
         requires { IsCanonical (borrowed_meaning canonical) }
+        ensures text { (cs : List ℕ) → Spells I.next_gives chars cs → DecomposesTo I.next_gives result (decomposed (borrowed_meaning canonical.entry) cs) }
+        ensures ready { I.can_next chars → IsFinite (I.remaining chars) → CanDecompose I.can_next I.remaining result }
+        ensures size { decomposition_size I.remaining result ≡ 8 * size (I.remaining chars) }
+    {
+        Self::over(alloc, canonical, chars)
+    }
+
+    /// The same, by data that are read fast.
+    #[inline]
+    pub(crate) fn over(
+        alloc: Global,
+        canonical: CanonicalBorrowed<'d>,
+        chars: I,
+    ) -> Decomposition<'d, I>
+        requires { IsReadable (borrowed_meaning canonical) }
         ensures text { (cs : List ℕ) → Spells I.next_gives chars cs → DecomposesTo I.next_gives result (decomposed (borrowed_meaning canonical.entry) cs) }
         ensures ready { I.can_next chars → IsFinite (I.remaining chars) → CanDecompose I.can_next I.remaining result }
         ensures size { decomposition_size I.remaining result ≡ 8 * size (I.remaining chars) }

@@ -4,3 +4,4 @@
 
 pub mod decomposing;
 mod run;
+pub mod sinks;

@@ -5,7 +5,7 @@ ghost use Rattle.std.specs.Char.{IsScalar};
 ghost use Rattle.std.specs.List.{list_all};
 ghost use Rattle.smallvec.specs.SmallVec.{small_vec_len};
 ghost use Rattle.icu_normalizer_core.specs.BorrowedMeaning.{borrowed_meaning};
-ghost use Rattle.icu_normalizer_core.specs.Canonical.{IsCanonical, marks_in_order};
+ghost use Rattle.icu_normalizer_core.specs.Canonical.{marks_in_order};
 ghost use Rattle.icu_normalizer.specs.Marks.{is_mark};
 
 use icu_normalizer_core::canonical::CanonicalBorrowed;
@@ -29,11 +29,12 @@ pub(crate) struct Run<'d> {
 }
 
 impl<'d> Run<'d> {
+    ghost use Rattle.icu_normalizer.specs.Readable.{IsReadable};
     ghost use Rattle.icu_normalizer.specs.Run.{reordered, held, pending, data_of, KeepsOutput};
 
     /// No characters yet.
     pub(crate) fn new(alloc: Global, canonical: CanonicalBorrowed<'d>) -> Run<'d>
-        requires { IsCanonical (borrowed_meaning canonical) }
+        requires { IsReadable (borrowed_meaning canonical) }
         ensures held { held result ≡ 0 }
         ensures same { data_of result ≡ borrowed_meaning canonical.entry }
     {
