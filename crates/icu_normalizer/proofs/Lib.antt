@@ -1,0 +1,5 @@
+pub mod IterLemmas
+pub mod RunLemmas
+pub mod SinkLemmas
+pub mod SortLemmas
+pub mod StepLemmas

@@ -1,0 +1,31 @@
+-- What a sink holds while a text is written to it.
+use Rattle.std.proofs.Common.{◌≡◌, ℕ, List, [], ◌∷◌, ◌++◌, encode_utf8_all, sym, ap, ◌∙◌, append_assoc, append-nil}
+use Rattle.std.proofs.lemmas.Str.{encodes-append}
+use Rattle.icu_normalizer.specs.Sinks.{AddsPrefix}
+
+pub seen_more : (all seen left : List ℕ) (c : ℕ) (rest : List ℕ) → all ≡ seen ++ left → left ≡ c ∷ rest → all ≡ (seen ++ c ∷ []) ++ rest
+seen_more all seen left c rest e f = e ∙ ap (λ l. seen ++ l) f ∙ sym (append_assoc seen (c ∷ []) rest)
+
+pub sink_more : (old mid new seen : List ℕ) (c : ℕ) → mid ≡ old ++ encode_utf8_all seen → new ≡ mid ++ encode_utf8_all (c ∷ []) → new ≡ old ++ encode_utf8_all (seen ++ c ∷ [])
+sink_more old mid new seen c before after =
+    after ∙ ap (λ l. l ++ encode_utf8_all (c ∷ [])) before ∙ append_assoc old (encode_utf8_all seen) (encode_utf8_all (c ∷ []))
+    ∙ ap (λ l. old ++ l) (sym (encodes-append seen (c ∷ [])))
+
+pub sink_all : (old new all seen left : List ℕ) → all ≡ seen ++ left → left ≡ [] → new ≡ old ++ encode_utf8_all seen → new ≡ old ++ encode_utf8_all all
+sink_all old new all seen left e none now =
+    now ∙ ap (λ l. old ++ encode_utf8_all l) (sym (e ∙ ap (λ l. seen ++ l) none ∙ append-nil seen))
+
+-- no more came
+pub sink_cut : (old new all seen left : List ℕ) → all ≡ seen ++ left → new ≡ old ++ encode_utf8_all seen → AddsPrefix old (encode_utf8_all all) new
+sink_cut old new all seen left e now = (encode_utf8_all seen, encode_utf8_all left, ap encode_utf8_all e ∙ encodes-append seen left, now)
+
+-- the sink took no more than a part of a character
+pub sink_part : (old mid new all seen left : List ℕ) (c : ℕ) (rest : List ℕ) → all ≡ seen ++ left → left ≡ c ∷ rest → mid ≡ old ++ encode_utf8_all seen → AddsPrefix mid (encode_utf8_all (c ∷ [])) new → AddsPrefix old (encode_utf8_all all) new
+sink_part old mid new all seen left c rest e f before h = (
+  encode_utf8_all seen ++ h.0,
+  h.1 ++ encode_utf8_all rest,
+  ap encode_utf8_all (e ∙ ap (λ l. seen ++ l) f) ∙ encodes-append seen (c ∷ rest)
+      ∙ ap (λ l. encode_utf8_all seen ++ l) (encodes-append (c ∷ []) rest ∙ ap (λ l. l ++ encode_utf8_all rest) h.2 ∙ append_assoc h.0 h.1 (encode_utf8_all rest))
+      ∙ sym (append_assoc (encode_utf8_all seen) h.0 (h.1 ++ encode_utf8_all rest)),
+  h.3 ∙ ap (λ l. l ++ h.0) before ∙ append_assoc old (encode_utf8_all seen) h.0,
+)

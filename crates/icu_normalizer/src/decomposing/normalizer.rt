@@ -1,0 +1,53 @@
+//! Texts in NFD.
+
+ghost use Rattle.std.specs.Prelude.{◌≡◌, ◌++◌, OnOk, OnErr, chars, encode_utf8_all};
+ghost use Rattle.icu_normalizer_core.specs.BorrowedMeaning.{borrowed_meaning};
+ghost use Rattle.icu_normalizer_core.specs.Canonical.{IsCanonical, decomposed};
+ghost use Rattle.icu_normalizer.specs.Readable.{IsReadable};
+ghost use Rattle.icu_normalizer.specs.Sinks.{AddsPrefix};
+
+use super::Decomposition;
+use crate::sinks::{NormError, TextSink};
+use icu_normalizer_core::canonical::CanonicalBorrowed;
+use std::alloc::Global;
+
+/// A normaliser to NFD (UAX 15), borrowed.
+#[derive(Clone, Copy, Debug)]
+pub struct DecomposingNormalizerBorrowed<'d> {
+    canonical: CanonicalBorrowed<'d>,
+    ghost readable: { IsReadable (borrowed_meaning canonical) },
+}
+
+impl<'d> DecomposingNormalizerBorrowed<'d> {
+    ghost use Rattle.icu_normalizer.specs.Normalizers.{normalizer_data};
+
+    /// A normaliser over canonical data. It takes no memory.
+    pub fn new_with_data(canonical: CanonicalBorrowed<'d>) -> DecomposingNormalizerBorrowed<'d>
+        requires { IsCanonical (borrowed_meaning canonical) }
+        ensures { normalizer_data result ≡ borrowed_meaning canonical.entry }
+    {
+        DecomposingNormalizerBorrowed { canonical }
+    }
+
+    /// Writes a text in NFD to a sink. After an error the sink holds what it held, and a prefix of the text in NFD.
+    pub fn normalize_to<S: TextSink>(
+        &self,
+        alloc: Global,
+        text: &str,
+        sink: &mut S,
+    ) -> Result<(), NormError<S::Error>>
+        ensures ok { OnOk result (S.contents sink.new ≡ S.contents sink.old ++ encode_utf8_all (decomposed (normalizer_data self.now) (chars text.now))) }
+        ensures err { OnErr result (AddsPrefix (S.contents sink.old) (encode_utf8_all (decomposed (normalizer_data self.now) (chars text.now))) (S.contents sink.new)) }
+    {
+        let mut decomposition = Decomposition::over(alloc, self.canonical, text.chars());
+        while let Some(item) = decomposition.next() {
+            let Ok(c) = item else {
+                return Err(NormError::Memory);
+            };
+            if let Err(error) = sink.write_char(c) {
+                return Err(NormError::Sink(error));
+            }
+        }
+        Ok(())
+    }
+}

@@ -1,0 +1,7 @@
+//! Normal forms of texts (UAX 15) over canonical data. Begin with `decomposing::Decomposition`, the characters of a
+//! text in NFD.
+#![tactic(auto)]
+
+pub mod decomposing;
+mod run;
+pub mod sinks;
