@@ -316,24 +316,8 @@ fn serve_answers_status_and_text(rt: HostRuntime) -> Result<(), Fail> {
     let refused = (1, b"collate: refused 1 grammar\n".as_slice());
     assert_served(&rt, alloc, choice, Ok(b"x"), 9, 9, refused);
     assert_served(&rt, alloc, choice, Ok(b""), 9, 9, (0, b""));
-    assert_served(
-        &rt,
-        alloc,
-        choice,
-        Ok(b""),
-        3,
-        9,
-        (1, b"collate: read\n"),
-    );
-    assert_served(
-        &rt,
-        alloc,
-        choice,
-        Ok(b""),
-        9,
-        1,
-        (1, b"collate: write\n"),
-    );
+    assert_served(&rt, alloc, choice, Ok(b""), 3, 9, (1, b"collate: read\n"));
+    assert_served(&rt, alloc, choice, Ok(b""), 9, 1, (1, b"collate: write\n"));
     Ok(())
 }
 
