@@ -1,5 +1,9 @@
 //! Tests of characters and their canonical data, by public calls. They stand here so that the crate below is proved once.
+//! `tables` has canonical tables that the tests of crates above use too.
 #![tactic(auto)]
 
 #[cfg(test)]
+mod canonical;
+#[cfg(test)]
 mod decoding;
+pub mod tables;

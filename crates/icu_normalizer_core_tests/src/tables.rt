@@ -1,0 +1,64 @@
+//! The canonical tables of the worked rows, written out word by word.
+
+use icu_codepointtrie::{CodePointTrieBuilder, TrieType};
+use icu_normalizer_core::canonical::CanonicalTables;
+use icu_packed_vector::PackedVec;
+use std::alloc::Global;
+use std::test::Fail;
+
+/// The words of characters other than syllables: marks with their classes, the seven with a built-in mapping, and two pairs.
+pub const WORDS: [(u32, u32); 21] = [
+    (0xe1, 0x180_8061),
+    (0x300, 0xd8e6),
+    (0x301, 0xd8e6),
+    (0x302, 0xd8e6),
+    (0x308, 0xd8e6),
+    (0x313, 0xd8e6),
+    (0x323, 0xd8dc),
+    (0x340, 0xd9e6),
+    (0x341, 0xd9e6),
+    (0x343, 0xd9e6),
+    (0x344, 0xd9e6),
+    (0xf71, 0xd881),
+    (0xf72, 0xd882),
+    (0xf73, 0xd900),
+    (0xf74, 0xd884),
+    (0xf75, 0xd900),
+    (0xf80, 0xd882),
+    (0xf81, 0xd900),
+    (0x1ea1, 0x191_8061),
+    (0x3099, 0xd808),
+    (0x309a, 0xd808),
+];
+
+/// The mappings of U+00E1 and U+1EA1.
+pub const STEPS: [u32; 6] = [0xe1, 0x61, 0x301, 0x1ea1, 0x61, 0x323];
+
+/// The pairs of these two, as `pair` packs them.
+pub const PAIRS: [u64; 2] = [0x18400602000e1, 0x1840064601ea1];
+
+/// A pair as it is packed.
+pub fn pair(first: u64, second: u64, composed: u64) -> u64 {
+    (first << 42) | (second << 21) | composed
+}
+
+/// The tables of the worked rows, with other words for some characters, and these mappings and pairs.
+pub fn tables(
+    alloc: Global,
+    words: &[(u32, u32)],
+    steps: &[u32],
+    pairs: &[u64],
+) -> Result<CanonicalTables<'static>, Fail> {
+    let mut map = CodePointTrieBuilder::new(alloc, 0u32, 0, TrieType::Fast)?;
+    map.set_range_value(0xac00..=0xd7a3, 1)?;
+    for (code_point, word) in WORDS.iter().chain(words) {
+        map.set_value(*code_point, *word)?;
+    }
+    Ok(CanonicalTables {
+        trie: map.build(alloc)?,
+        scalars16: PackedVec::from_slice(alloc, &[])?,
+        scalars24: PackedVec::from_slice(alloc, &[])?,
+        steps: PackedVec::from_slice(alloc, steps)?,
+        pairs: PackedVec::from_slice(alloc, pairs)?,
+    })
+}
