@@ -7,6 +7,7 @@ pub mod DecomposedLemmas
 pub mod DecodingComputing
 mod DecodingRows
 pub mod EndingLemmas
+pub mod FaultLemmas
 pub mod FullListLemmas
 pub mod LeftLemmas
 pub mod PairLemmas

@@ -2,6 +2,8 @@
 
 mod characters;
 mod forms;
+mod full_lists;
 mod left;
+mod loops;
 mod settle;
 mod values;
