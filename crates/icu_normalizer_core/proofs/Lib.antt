@@ -2,13 +2,16 @@ pub mod AcceptedForms
 pub mod AcceptedPairs
 pub mod AcceptedTables
 pub mod BuiltInFacts
+pub mod BuiltInTestLemmas
 pub mod DecodedLemmas
 pub mod DecomposedLemmas
 pub mod DecodingComputing
 mod DecodingRows
 pub mod EndingLemmas
 pub mod FullListLemmas
+pub mod FullStartLemmas
 pub mod LeftLemmas
+pub mod OffenderLemmas
 pub mod PairLemmas
 pub mod SettledLemmas
 pub mod SettlingLemmas

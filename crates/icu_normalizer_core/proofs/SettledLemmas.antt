@@ -32,7 +32,7 @@ take_nothing : (m : ℕ) → take {A = ℕ} m [] ≡ []
 take_nothing zero = refl
 take_nothing (suc m) = refl
 
-cut_front : (n k : ℕ) (xs ys : List ℕ) → n ≤ k → take n (take k xs ++ ys) ≡ take n (xs ++ ys)
+pub cut_front : (n k : ℕ) (xs ys : List ℕ) → n ≤ k → take n (take k xs ++ ys) ≡ take n (xs ++ ys)
 cut_front zero k xs ys h = refl
 cut_front (suc n) zero xs ys h = absurd (omega arith)
 cut_front (suc n) (suc k) [] ys h = refl

@@ -1,7 +1,9 @@
 //! The check of canonical tables: a function for each kind of fault, which names its least character.
 
+mod built_in;
 mod characters;
 mod forms;
+mod full_start;
 mod left;
 mod settle;
 mod values;

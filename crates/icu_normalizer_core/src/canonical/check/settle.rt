@@ -38,7 +38,7 @@ impl Left {
     }
 
     /// With one more character, if there is room.
-    fn with(self, c: u32) -> Left
+    pub(super) fn with(self, c: u32) -> Left
         ensures { left_items result ≡ take 9 (left_items self ++ c ∷ []) }
     {
         if self.count == 9 {
@@ -55,7 +55,7 @@ impl Left {
 
 /// The letters of a Hangul syllable (UAX 15).
 #[tactic(auto, unfolding(crate::specs::CanonicalWords::syllable_letters))]
-fn letters(c: u32) -> Left
+pub(super) fn letters(c: u32) -> Left
     requires { is_syllable c ≡ true }
     ensures { left_items result ≡ syllable_letters c }
 {
