@@ -19,20 +19,6 @@ left_from lists c list h = subst (λ (step : ℕ → List ℕ). Leaves step (c �
 pub left_to : (lists : CanonicalLists) (c : ℕ) (list : List ℕ) → LeavesOf lists c list → Leaves (step_in lists.steps) (c ∷ []) list
 left_to lists c list h = subst (λ (step : ℕ → List ℕ). Leaves step (c ∷ []) list) (step_is lists) h
 
--- ---- Where a list stands
-
-pub inside_16 : (s16 s24 : List ℕ) (word : ℕ) → is_list_word word ≡ true → list_offset word < length s16 → is_inside s16 s24 word ≡ true
-    → list_offset word + length_in_16 word ≤ length s16
-unfolding is_inside
-inside_16 s16 s24 word is h inside =
-    leb-true _ _ (sym (cond-true (is_list_word word) _ _ is ∙ cond-true (is_in_16 s16 word) _ _ (lt-ltb (list_offset word) (length s16) h)) ∙ inside)
-
-pub inside_24 : (s16 s24 : List ℕ) (word : ℕ) → is_list_word word ≡ true → length s16 ≤ list_offset word → is_inside s16 s24 word ≡ true
-    → list_offset word - length s16 + length_in_24 word ≤ length s24
-unfolding is_inside
-inside_24 s16 s24 word is h inside =
-    leb-true _ _ (sym (cond-true (is_list_word word) _ _ is ∙ cond-false (is_in_16 s16 word) _ _ (le-ltb (list_offset word) (length s16) h)) ∙ inside)
-
 -- ---- Marks first
 
 pub begins_cut : (canonical : Canonical) (n : ℕ) (xs : List ℕ) → begins_with_mark canonical (take (suc n) xs) ≡ begins_with_mark canonical xs
@@ -50,9 +36,6 @@ begins_some canonical (suc n) (x ∷ xs) h some = refl
 
 -- ---- Full lists
 
-pub none_states : (a b c : Bool) → a ≡ false → b ≡ false → c ≡ false → (a || (b || c)) ≡ false
-none_states a b c e f g = rw (e, f, g) refl
-
 pub off_left : (a b : Bool) → a ≡ false → (a && b) ≡ false
 off_left a b e = rw e refl
 
@@ -66,11 +49,6 @@ module _ (lists : CanonicalLists) (c : ℕ) where
 
   abbrev canonical : Canonical
   canonical = canonical_of lists
-
-  pub full_known : (word : ℕ) (left : Left) → left_items left ≡ take 9 (full_of_word lists.scalars16 lists.scalars24 c word) → word ≡ lists.word c
-      → left_items left ≡ take 9 full
-  full_known word left is same =
-      is ∙ ap (λ (w : ℕ). take 9 (full_of_word lists.scalars16 lists.scalars24 c w)) same ∙ ap (λ (xs : List ℕ). take 9 xs) (sym (full_is lists c))
 
   pub long_bad : (left : Left) → left_items left ≡ take 9 full → 8 < length (left_items left) → HasBadList lists c
   long_bad left is long = inr (inl (cut_long (left_items left) full is long))

@@ -2,6 +2,7 @@ pub mod AcceptedForms
 pub mod AcceptedPairs
 pub mod AcceptedTables
 pub mod BuiltInFacts
+pub mod BuiltInTestLemmas
 pub mod DecodedLemmas
 pub mod DecomposedLemmas
 pub mod DecodingComputing
@@ -9,7 +10,9 @@ mod DecodingRows
 pub mod EndingLemmas
 pub mod FaultLemmas
 pub mod FullListLemmas
+pub mod FullStartLemmas
 pub mod LeftLemmas
+pub mod OffenderLemmas
 pub mod PairLemmas
 pub mod SettledLemmas
 pub mod SettlingLemmas

@@ -1,11 +1,11 @@
 -- Lists cut to nine, and what is settled.
-use Rattle.std.proofs.Common.{◌≡◌, ℕ, zero, suc, ◌+◌, ◌<◌, ◌≤◌, inl, inr, ⊎_elim, List, [], ◌∷◌, ◌++◌, length, take, drop, slice_index, Option, None, Some, true, false, refl, sym, ap, subst, ◌∙◌, append_assoc, length-drop, arith}
-use Rattle.std.proofs.lemmas.List.{append-nil, get_or-drop, length-take, length-take-le, take_all, take_more}
+use Rattle.std.proofs.Common.{◌≡◌, ℕ, zero, suc, ◌+◌, ◌<◌, ◌≤◌, inl, inr, ⊎_elim, List, [], ◌∷◌, ◌++◌, length, take, slice_index, Option, None, Some, true, false, refl, sym, ap, subst, ◌∙◌, append_assoc, arith}
+use Rattle.std.proofs.lemmas.List.{append-nil, length-take, length-take-le, take_all, take_more}
 use Rattle.icu_normalizer_core.specs.declared.canonical.check.left.Left.{Left}
 use Rattle.icu_normalizer_core.specs.BuiltIn.{is_syllable, singled_out, built_in_step}
 use Rattle.icu_normalizer_core.specs.Canonical.{Leaves, mapped}
 use Rattle.icu_normalizer_core.specs.CanonicalLists.{step_in}
-use Rattle.icu_normalizer_core.specs.CanonicalWords.{syllable_letters, items_at}
+use Rattle.icu_normalizer_core.specs.CanonicalWords.{syllable_letters}
 use Rattle.icu_normalizer_core.specs.Settled.{left_items, IsStartOf, IsOpen, IsAmong, IsStuck}
 use Rattle.icu_normalizer_core.proofs.LeftLemmas.{left_alone, left_append}
 use Rattle.icu_normalizer_core.proofs.TableMeanings.{step_in_built_in}
@@ -32,7 +32,7 @@ take_nothing : (m : ℕ) → take {A = ℕ} m [] ≡ []
 take_nothing zero = refl
 take_nothing (suc m) = refl
 
-cut_front : (n k : ℕ) (xs ys : List ℕ) → n ≤ k → take n (take k xs ++ ys) ≡ take n (xs ++ ys)
+pub cut_front : (n k : ℕ) (xs ys : List ℕ) → n ≤ k → take n (take k xs ++ ys) ≡ take n (xs ++ ys)
 cut_front zero k xs ys h = refl
 cut_front (suc n) zero xs ys h = absurd (omega arith)
 cut_front (suc n) (suc k) [] ys h = refl
@@ -55,14 +55,6 @@ cut_more first second old new i h is more =
     ∙ cut_front 9 9 (first ++ take i second) (slice_index second i ∷ []) (omega arith)
     ∙ ap (take 9) (append_assoc first (take i second) (slice_index second i ∷ []))
     ∙ ap (λ (t : List ℕ). take 9 (first ++ t)) (sym (take_more second i 0 h))
-
--- one more of a part of a list
-pub part_more : (items : List ℕ) (place i code : ℕ) (old new : List ℕ) → place + i < length items → old ≡ take 9 (items_at items place i)
-    → code ≡ slice_index items (place + i) → new ≡ take 9 (old ++ code ∷ []) → new ≡ take 9 (items_at items place (i + 1))
-part_more items place i code old new h is e more =
-    let here : code ≡ slice_index (drop place items) i = e ∙ sym (get_or-drop place items i 0) in
-    let inside : i < length (drop place items) = let n = length-drop place items in omega (arith, n) in
-    cut_more [] (drop place items) old new i inside is (more ∙ ap (λ (n : ℕ). take 9 (old ++ n ∷ [])) here)
 
 -- a list of at most eight is known by its first nine
 pub cut_known : (xs ys : List ℕ) → length xs ≤ 8 → take 9 xs ≡ take 9 ys → xs ≡ ys

@@ -1,49 +1,21 @@
 //! Full lists that stand outside the tables, are too long, begin with a mark or aren't what mapping steps leave.
 
-ghost use Rattle.std.specs.Prelude.{◌≡◌, ◌+◌, ◌^◌, ◌<◌, ◌≤◌, [], ◌∷◌, true, false, length, slice_index, take, MatchBool, MatchOption};
+ghost use Rattle.std.specs.Prelude.{◌≡◌, [], ◌∷◌, true, false, MatchBool, MatchOption};
 ghost use Rattle.icu_normalizer_core.specs.Canonical.{IsFree};
-ghost use Rattle.icu_normalizer_core.specs.CanonicalFaults.{NoneOffends, IsLeastOffender, OffendsValue, HasBadList, OffendsList, begins_with_mark};
+ghost use Rattle.icu_normalizer_core.specs.CanonicalFaults.{NoneOffends, IsLeastOffender, HasBadList, OffendsList, begins_with_mark};
 ghost use Rattle.icu_normalizer_core.specs.CanonicalLists.{AreTriples};
 ghost use Rattle.icu_normalizer_core.specs.CanonicalMeaning.{lists_of, meaning};
-ghost use Rattle.icu_normalizer_core.specs.CanonicalWords.{items_at, is_word, is_list_word, is_inside, list_at, full_of_word};
-ghost use Rattle.icu_normalizer_core.specs.FullLists.{source_items};
+ghost use Rattle.icu_normalizer_core.specs.CanonicalWords.{is_inside};
 ghost use Rattle.icu_normalizer_core.specs.Settled.{left_items, AreStarts, IsDone, IsLeftOf, LeavesOther};
 
 use super::characters::first_refused;
+use super::full_start::full_start;
 use super::left::Left;
 use super::settle::listed_left;
 use crate::built_in::built_in_step;
-use crate::canonical::full_list::Source;
 use crate::canonical::tables::CanonicalTables;
-use crate::canonical::words::{
-    PLAIN_WORD, class_of_word, is_list_word, is_one_word, is_pair_word, states_list,
-};
+use crate::canonical::words::{PLAIN_WORD, class_of_word, is_list_word, states_list};
 use icu_packed_vector::PackedVec;
-
-/// The number at a place of the characters of full lists.
-fn code_at(tables: &CanonicalTables<'_>, source: Source, place: usize) -> u32
-    requires { place < length (source_items tables.now source) }
-    ensures { result ≡ slice_index (source_items tables.now source) place }
-{
-    match source {
-        Source::Few(characters) => characters[place] as u32,
-        Source::In16 => tables.scalars16.at(place) as u32,
-        Source::In24 => tables.scalars24.at(place) as u32,
-    }
-}
-
-/// The first nine of so many numbers from a place on.
-fn part(tables: &CanonicalTables<'_>, source: Source, place: usize, count: usize) -> Left
-    requires inside { place + count ≤ length (source_items tables.now source) }
-    requires fits { place + count < 2 ^ 64 }
-    ensures { left_items result ≡ take 9 (items_at (source_items tables.now source) place count) }
-{
-    let mut left = Left::none();
-    for i in 0..count {
-        left = left.with(code_at(tables, source, place + i));
-    }
-    left
-}
 
 /// Whether the word names no place outside the lists.
 #[tactic(auto, unfolding(crate::specs::CanonicalWords::is_inside))]
@@ -61,41 +33,6 @@ fn is_inside(tables: &CanonicalTables<'_>, word: u32) -> bool
     } else {
         let place = offset - in_16;
         place + (count + 1) <= tables.scalars24.len()
-    }
-}
-
-/// The first nine characters of the list whose place the word names.
-fn listed(tables: &CanonicalTables<'_>, word: u32) -> Left
-    requires word { is_list_word word ≡ true }
-    requires inside { is_inside tables.now.scalars16 tables.now.scalars24 word ≡ true }
-    ensures { left_items result ≡ take 9 (list_at tables.now.scalars16 tables.now.scalars24 word) }
-{
-    let offset = (word / 0x1_0000) as usize - 1;
-    let count = (word % 16) as usize;
-    let in_16 = tables.scalars16.len();
-    if offset < in_16 {
-        part(tables, Source::In16, offset, count + 2)
-    } else {
-        part(tables, Source::In24, offset - in_16, count + 1)
-    }
-}
-
-/// The first nine characters of the full list of a character without a built-in mapping.
-#[tactic(auto, unfolding(crate::specs::CanonicalWords::full_of_word))]
-fn full_left(tables: &CanonicalTables<'_>, c: u32, word: u32) -> Left
-    requires free { IsFree c }
-    requires word { is_word c word ≡ true }
-    requires inside { is_inside tables.now.scalars16 tables.now.scalars24 word ≡ true }
-    ensures { left_items result ≡ take 9 (full_of_word tables.now.scalars16 tables.now.scalars24 c word) }
-{
-    if is_list_word(word) {
-        listed(tables, word)
-    } else if is_pair_word(word) {
-        Left::one(word % 0x8000).with(word / 0x8000)
-    } else if is_one_word(word) {
-        Left::one(word)
-    } else {
-        Left::one(c)
     }
 }
 
@@ -134,14 +71,13 @@ fn has_good_list(tables: &CanonicalTables<'_>, settled: &[Option<Left>], c: char
     requires starts { AreStarts tables.now.steps settled.now }
     requires done { IsDone tables.now.steps settled.now }
     requires free { IsFree c }
-    requires value { is_word c ((lists_of tables.now).word c) ≡ true }
     ensures { MatchBool result (HasBadList (lists_of tables.now) c → ⊥) (HasBadList (lists_of tables.now) c) }
 {
     let word = tables.word(c);
     if !is_inside(tables, word) {
         return false;
     }
-    let full = full_left(tables, c as u32, word);
+    let full = full_start(tables, c);
     if full.count > 8 {
         return false;
     }
@@ -153,7 +89,6 @@ fn has_good_list(tables: &CanonicalTables<'_>, settled: &[Option<Left>], c: char
 
 /// Whether nothing is wrong with the full list of a character, where mappings are triples.
 fn is_good(tables: &CanonicalTables<'_>, settled: &[Option<Left>], c: char) -> bool
-    requires values { NoneOffends (OffendsValue (lists_of tables.now)) }
     requires triples { AreTriples tables.now.steps }
     requires starts { AreStarts tables.now.steps settled.now }
     requires done { IsDone tables.now.steps settled.now }
@@ -168,7 +103,6 @@ fn is_good(tables: &CanonicalTables<'_>, settled: &[Option<Left>], c: char) -> b
 
 /// The least character with a bad full list, `None` where there is none.
 pub(super) fn first_bad_list(tables: &CanonicalTables<'_>, settled: &[Option<Left>]) -> Option<char>
-    requires values { NoneOffends (OffendsValue (lists_of tables.now)) }
     requires triples { AreTriples tables.now.steps }
     requires starts { AreStarts tables.now.steps settled.now }
     requires done { IsDone tables.now.steps settled.now }

@@ -16,16 +16,6 @@ use icu_packed_vector::PackedVec;
 use std::alloc::{AllocError, Global};
 
 impl Left {
-    /// No character.
-    pub(super) fn none() -> Left
-        ensures { left_items result ≡ [] }
-    {
-        Left {
-            characters: [0; 9],
-            count: 0,
-        }
-    }
-
     /// One character.
     pub(super) fn one(c: u32) -> Left
         ensures { left_items result ≡ c ∷ [] }
@@ -72,7 +62,7 @@ impl Left {
 
 /// The letters of a Hangul syllable (UAX 15).
 #[tactic(auto, unfolding(crate::specs::CanonicalWords::syllable_letters))]
-fn letters(c: u32) -> Left
+pub(super) fn letters(c: u32) -> Left
     requires { is_syllable c ≡ true }
     ensures { left_items result ≡ syllable_letters c }
 {
