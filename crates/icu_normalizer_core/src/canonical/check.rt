@@ -5,5 +5,8 @@ mod characters;
 mod forms;
 mod full_start;
 mod left;
+mod marks;
+mod own;
+mod pairs;
 mod settle;
 mod values;
