@@ -8,6 +8,8 @@ pub mod CanonicalMeaning
 pub mod CanonicalWords
 pub mod Decoding
 pub mod FullLists
+pub mod Marks
+pub mod PairTests
 pub mod Properties
 pub mod Sameness
 pub mod Settled

@@ -7,5 +7,8 @@ mod full_lists;
 mod full_start;
 mod left;
 mod loops;
+mod marks;
+mod own;
+mod pairs;
 mod settle;
 mod values;
