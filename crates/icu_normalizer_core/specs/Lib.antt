@@ -5,6 +5,7 @@ pub mod Canonical
 pub mod CanonicalFaults
 pub mod CanonicalLists
 pub mod CanonicalMeaning
+pub mod CanonicalRefusals
 pub mod CanonicalWords
 pub mod Decoding
 pub mod FullLists
