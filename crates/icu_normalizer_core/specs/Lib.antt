@@ -1,12 +1,16 @@
 pub mod BorrowedMeaning
 pub mod BuiltIn
+pub mod BuiltInTests
 pub mod Canonical
 pub mod CanonicalFaults
 pub mod CanonicalLists
 pub mod CanonicalMeaning
+pub mod CanonicalRefusals
 pub mod CanonicalWords
 pub mod Decoding
 pub mod FullLists
+pub mod Marks
+pub mod PairTests
 pub mod Properties
 pub mod Sameness
 pub mod Settled
