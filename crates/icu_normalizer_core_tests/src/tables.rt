@@ -42,6 +42,9 @@ pub fn pair(first: u64, second: u64, composed: u64) -> u64 {
     (first << 42) | (second << 21) | composed
 }
 
+/// The word 0 with its two uppermost bits, which say nothing: a trie builder takes no write of its default, so that is not 0.
+const PLAIN: u32 = 0xc000_0000;
+
 /// The tables of the worked rows, with other words for some characters, and these mappings and pairs.
 pub fn tables(
     alloc: Global,
@@ -49,7 +52,7 @@ pub fn tables(
     steps: &[u32],
     pairs: &[u64],
 ) -> Result<CanonicalTables<'static>, Fail> {
-    let mut map = CodePointTrieBuilder::new(alloc, 0u32, 0, TrieType::Fast)?;
+    let mut map = CodePointTrieBuilder::new(alloc, PLAIN, 0, TrieType::Fast)?;
     map.set_range_value(0xac00..=0xd7a3, 1)?;
     for (code_point, word) in WORDS.iter().chain(words) {
         map.set_value(*code_point, *word)?;
