@@ -1,16 +1,19 @@
 -- Full lists that are bad, and steps that end: what is found of the first nine characters, and what it says of all.
-use Rattle.std.proofs.Common.{◌≡◌, ℕ, zero, suc, ◌+◌, ◌-◌, ◌<◌, ◌≤◌, inl, inr, Bool, true, false, not, ◌==◌, ◌&&◌, ◌||◌, List, [], ◌∷◌, length, take, slice_index, Option, None, Some, refl, sym, ap, subst, ◌∙◌, arith}
+use Rattle.std.proofs.Common.{◌≡◌, ℕ, zero, suc, ◌<◌, ◌≤◌, inl, inr, Bool, true, false, not, ◌==◌, ◌&&◌, List, [], ◌∷◌, length, take, slice_index, Option, None, Some, refl, sym, ap, subst, ◌∙◌, arith}
 use Rattle.std.specs.Bool.{MatchBool}
 use Rattle.std.specs.Option.{MatchOption}
-use Rattle.std.proofs.lemmas.Bool.{false≢true, and_from, cond-true, cond-false, lt-ltb, le-ltb, leb-true}
+use Rattle.std.proofs.lemmas.Bool.{false≢true, and_from}
 use Rattle.icu_normalizer_core.specs.declared.canonical.check.left.Left.{Left}
-use Rattle.icu_normalizer_core.specs.Canonical.{Canonical, Leaves}
+use Rattle.icu_normalizer_core.specs.Canonical.{Canonical, Leaves, IsFree}
 use Rattle.icu_normalizer_core.specs.CanonicalFaults.{begins_with_mark, LeavesOf, HasBadList, HasOtherList}
 use Rattle.icu_normalizer_core.specs.CanonicalLists.{CanonicalLists, canonical_of, step_in}
-use Rattle.icu_normalizer_core.specs.CanonicalWords.{is_list_word, is_in_16, is_inside, list_offset, length_in_16, length_in_24, states_list, full_of_word}
+use Rattle.icu_normalizer_core.specs.CanonicalWords.{is_inside, states_list, full_of_word}
 use Rattle.icu_normalizer_core.specs.Settled.{left_items, IsLeftOf, LeavesOther}
 use Rattle.icu_normalizer_core.proofs.SettledLemmas.{cut_known, cut_short, cut_long}
-use Rattle.icu_normalizer_core.proofs.TableMeanings.{step_is, full_is}
+use Rattle.icu_normalizer_core.proofs.TableMeanings.{step_is, full_is, step_in_free}
+use Rattle.icu_normalizer_core.proofs.LeftLemmas.{left_alone, left_one}
+use Rattle.icu_normalizer_core.proofs.TripleLemmas.{listed_none}
+use Rattle.icu_normalizer_core.specs.Triples.{IsUnlisted}
 
 -- steps by the tables' mappings and built-in ones
 pub left_from : (lists : CanonicalLists) (c : ℕ) (list : List ℕ) → Leaves (step_in lists.steps) (c ∷ []) list → LeavesOf lists c list
@@ -76,6 +79,34 @@ module _ (lists : CanonicalLists) (c : ℕ) where
 
   pub other_bad : (left : Left) → left_items left ≡ take 9 full → LeavesOther lists.steps (c ∷ []) left → HasBadList lists c
   other_bad left is w = inr (inr (inr (w.0, left_from lists c w.0 w.1, λ same. w.2 (is ∙ ap (λ (xs : List ℕ). take 9 xs) same))))
+
+-- a word that says nothing of a character that is not mapped
+own_word : (s16 s24 : List ℕ) (c : ℕ) → full_of_word s16 s24 c 0 ≡ c ∷ []
+unfolding full_of_word
+own_word s16 s24 c = refl
+
+own_inside : (s16 s24 : List ℕ) → is_inside s16 s24 0 ≡ true
+unfolding is_inside
+own_inside s16 s24 = refl
+
+own_states : states_list 0 ≡ false
+own_states = refl
+
+module _ (lists : CanonicalLists) (c : ℕ) (says_none : lists.word c ≡ 0) (free : IsFree c) (unlisted : IsUnlisted lists.steps c) where
+  own_is : (canonical_of lists).full c ≡ c ∷ []
+  own_is = full_is lists c ∙ ap (λ (w : ℕ). full_of_word lists.scalars16 lists.scalars24 c w) says_none ∙ own_word lists.scalars16 lists.scalars24 c
+
+  own_left : Leaves (step_in lists.steps) (c ∷ []) (c ∷ [])
+  own_left = left_alone (step_in lists.steps) c (step_in_free lists.steps c free ∙ listed_none lists.steps c unlisted)
+
+  pub own_good : HasBadList lists c → ⊥
+  own_good (inl outside) =
+      false≢true (sym outside ∙ ap (λ (w : ℕ). is_inside lists.scalars16 lists.scalars24 w) says_none ∙ own_inside lists.scalars16 lists.scalars24)
+  own_good (inr (inl over)) = let e = ap (λ (xs : List ℕ). length xs) own_is in omega (arith, e, over)
+  own_good (inr (inr (inl mark))) =
+      false≢true
+      (sym (off_left (states_list (lists.word c)) (begins_with_mark (canonical_of lists) ((canonical_of lists).full c)) (ap (λ (w : ℕ). states_list w) says_none ∙ own_states)) ∙ mark)
+  own_good (inr (inr (inr w))) = w.2 (own_is ∙ left_one (step_in lists.steps) (c ∷ []) (c ∷ []) w.0 own_left (left_to lists c w.0 w.1))
 
 -- ---- What is found, said otherwise
 

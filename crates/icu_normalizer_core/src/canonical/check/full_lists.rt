@@ -7,6 +7,7 @@ ghost use Rattle.icu_normalizer_core.specs.CanonicalLists.{AreTriples};
 ghost use Rattle.icu_normalizer_core.specs.CanonicalMeaning.{lists_of, meaning};
 ghost use Rattle.icu_normalizer_core.specs.CanonicalWords.{is_inside};
 ghost use Rattle.icu_normalizer_core.specs.Settled.{left_items, AreStarts, IsDone, IsLeftOf, LeavesOther};
+ghost use Rattle.icu_normalizer_core.specs.Triples.{IsUnlisted};
 
 use super::characters::first_refused;
 use super::full_start::full_start;
@@ -87,6 +88,18 @@ fn has_good_list(tables: &CanonicalTables<'_>, settled: &[Option<Left>], c: char
     is_left(&tables.steps, settled, c as u32, &full)
 }
 
+/// Whether the character is neither below the first triple's nor above the last's.
+fn is_among_keys(steps: &PackedVec<'_, u32>, c: u32) -> bool
+    requires { AreTriples steps.now }
+    ensures { result ≡ false → IsUnlisted steps.now c }
+{
+    let count = steps.len() / 3;
+    if count == 0 || c < steps.at(0) || steps.at(3 * (count - 1)) < c {
+        return false;
+    }
+    true
+}
+
 /// Whether nothing is wrong with the full list of a character, where mappings are triples.
 fn is_good(tables: &CanonicalTables<'_>, settled: &[Option<Left>], c: char) -> bool
     requires triples { AreTriples tables.now.steps }
@@ -95,6 +108,10 @@ fn is_good(tables: &CanonicalTables<'_>, settled: &[Option<Left>], c: char) -> b
     ensures good { result ≡ true → OffendsList (lists_of tables.now) c → ⊥ }
     ensures bad { result ≡ false → OffendsList (lists_of tables.now) c }
 {
+    // Of most characters: the word says nothing, and no triple can be theirs.
+    if tables.word(c) == 0 && !is_among_keys(&tables.steps, c as u32) {
+        return true;
+    }
     match built_in_step(c as u32) {
         Some(_) => true,
         None => has_good_list(tables, settled, c),

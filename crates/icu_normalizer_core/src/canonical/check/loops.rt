@@ -1,6 +1,6 @@
 //! Characters from which mapping steps don't end.
 
-ghost use Rattle.std.specs.Prelude.{◌↔◌, IsTrue, MatchOption};
+ghost use Rattle.std.specs.Prelude.{◌≡◌, ◌↔◌, ℕ, true, slice_get, Some, None, IsTrue, MatchOption};
 ghost use Rattle.icu_normalizer_core.specs.CanonicalFaults.{IsLeastOffender, Ends, OffendsLoop, AllEnd};
 ghost use Rattle.icu_normalizer_core.specs.CanonicalLists.{AreTriples};
 ghost use Rattle.icu_normalizer_core.specs.CanonicalMeaning.{lists_of};
@@ -24,6 +24,18 @@ fn ends(tables: &CanonicalTables<'_>, settled: &[Option<Left>], c: char) -> bool
     }
 }
 
+/// Whether each triple is settled.
+fn are_settled(settled: &[Option<Left>]) -> bool
+    ensures { result ≡ true → (i : ℕ) → slice_get settled.now i ≡ Some None → ⊥ }
+{
+    for left in settled {
+        if left.is_none() {
+            return false;
+        }
+    }
+    true
+}
+
 /// The least character from which steps don't end, `None` where there is none.
 pub(super) fn first_loop(tables: &CanonicalTables<'_>, settled: &[Option<Left>]) -> Option<char>
     requires triples { AreTriples tables.now.steps }
@@ -31,5 +43,8 @@ pub(super) fn first_loop(tables: &CanonicalTables<'_>, settled: &[Option<Left>])
     requires done { IsDone tables.now.steps settled.now }
     ensures { MatchOption result (AllEnd (lists_of tables.now)) (IsLeastOffender (OffendsLoop (lists_of tables.now))) }
 {
+    if are_settled(settled) {
+        return None;
+    }
     first_refused(|c| ends(tables, settled, c))
 }
