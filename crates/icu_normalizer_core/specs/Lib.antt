@@ -5,9 +5,12 @@ pub mod CanonicalFaults
 pub mod CanonicalLists
 pub mod CanonicalMeaning
 pub mod CanonicalWords
+pub mod DataErrors
 pub mod Decoding
 pub mod FullLists
+pub mod Loading
 pub mod Properties
+pub mod PropertyMeanings
 pub mod Sameness
 pub mod Settled
 pub mod Triples
