@@ -2,14 +2,21 @@ pub mod AcceptedForms
 pub mod AcceptedPairs
 pub mod AcceptedTables
 pub mod BuiltInFacts
+pub mod BuiltInTestLemmas
+pub mod CompositionLemmas
 pub mod DecodedLemmas
 pub mod DecomposedLemmas
 pub mod DecodingComputing
 mod DecodingRows
 pub mod EndingLemmas
+pub mod FaultLemmas
 pub mod FullListLemmas
+pub mod FullStartLemmas
 pub mod LeftLemmas
+pub mod MarkLemmas
+pub mod OffenderLemmas
 pub mod PairLemmas
+pub mod PairTestLemmas
 pub mod SettledLemmas
 pub mod SettlingLemmas
 pub mod TableComputing

@@ -1,6 +1,6 @@
 -- Lists cut to nine, and what is settled.
 use Rattle.std.proofs.Common.{◌≡◌, ℕ, zero, suc, ◌+◌, ◌<◌, ◌≤◌, inl, inr, ⊎_elim, List, [], ◌∷◌, ◌++◌, length, take, slice_index, Option, None, Some, true, false, refl, sym, ap, subst, ◌∙◌, append_assoc, arith}
-use Rattle.std.proofs.lemmas.List.{append-nil, take_all, take_more}
+use Rattle.std.proofs.lemmas.List.{append-nil, length-take, length-take-le, take_all, take_more}
 use Rattle.icu_normalizer_core.specs.declared.canonical.check.left.Left.{Left}
 use Rattle.icu_normalizer_core.specs.BuiltIn.{is_syllable, singled_out, built_in_step}
 use Rattle.icu_normalizer_core.specs.Canonical.{Leaves, mapped}
@@ -32,7 +32,7 @@ take_nothing : (m : ℕ) → take {A = ℕ} m [] ≡ []
 take_nothing zero = refl
 take_nothing (suc m) = refl
 
-cut_front : (n k : ℕ) (xs ys : List ℕ) → n ≤ k → take n (take k xs ++ ys) ≡ take n (xs ++ ys)
+pub cut_front : (n k : ℕ) (xs ys : List ℕ) → n ≤ k → take n (take k xs ++ ys) ≡ take n (xs ++ ys)
 cut_front zero k xs ys h = refl
 cut_front (suc n) zero xs ys h = absurd (omega arith)
 cut_front (suc n) (suc k) [] ys h = refl
@@ -55,6 +55,25 @@ cut_more first second old new i h is more =
     ∙ cut_front 9 9 (first ++ take i second) (slice_index second i ∷ []) (omega arith)
     ∙ ap (take 9) (append_assoc first (take i second) (slice_index second i ∷ []))
     ∙ ap (λ (t : List ℕ). take 9 (first ++ t)) (sym (take_more second i 0 h))
+
+-- a list of at most eight is known by its first nine
+pub cut_known : (xs ys : List ℕ) → length xs ≤ 8 → take 9 xs ≡ take 9 ys → xs ≡ ys
+cut_known xs ys short e =
+    let first : take 9 xs ≡ xs = take_all 9 xs (omega arith) in
+    let same : take 9 ys ≡ xs = sym e ∙ first in
+    let most : length ys ≤ 8 = let n = length-take 9 ys in let m = ap (λ (zs : List ℕ). length zs) same in omega (arith, n, m) in
+    sym same ∙ take_all 9 ys (omega arith)
+
+-- and so is whether it has at most eight
+pub cut_short : (xs ys : List ℕ) → xs ≡ take 9 ys → length xs ≤ 8 → length ys ≤ 8
+cut_short xs ys e h = let n = length-take 9 ys in let m = ap (λ (zs : List ℕ). length zs) e in omega (arith, n, m)
+
+pub cut_long : (xs ys : List ℕ) → xs ≡ take 9 ys → 8 < length xs → 8 < length ys
+cut_long xs ys e h = let n = length-take 9 ys in let m = ap (λ (zs : List ℕ). length zs) e in omega (arith, n, m)
+
+-- how many characters a cut list has
+pub left_count : (left : Left) → length left.characters ≡ 9 → length (left_items left) ≡ left.count
+left_count left e = let h = left.fits in length-take-le left.count left.characters (omega arith)
 
 -- ---- What is settled is right
 

@@ -123,6 +123,9 @@ module _ (steps : List ℕ) (settled : List (Option Left)) (t : AreTriples steps
   never_left text list (mapped c x ds cs xs e h) (d, inr later, stuck) =
       never_left ((x ∷ ds) ++ cs) xs h (d, among_behind (x ∷ ds) cs d later, stuck)
 
+  pub stuck_endless : (c : ℕ) → IsStuck steps settled c → (list : List ℕ) → Leaves (step_in steps) (c ∷ []) list → ⊥
+  stuck_endless c stuck list left = never_left (c ∷ []) list left (c, inl refl, stuck)
+
   pub open_endless : (i : ℕ) → slice_get settled i ≡ Some None → 3 * i + 2 < length steps → IsFree (key_at steps i) → (list : List ℕ)
       → Leaves (step_in steps) (key_at steps i ∷ []) list → ⊥
   open_endless i e h free list left = never_left (key_at steps i ∷ []) list left (key_at steps i, inl refl, inl (free, (i, (h, refl), e)))

@@ -1,5 +1,5 @@
 -- What mapping steps leave, found triple by triple: a triple is settled where it is known, in its first nine characters.
-use Rattle.std.specs.Prelude.{◌≡◌, ℕ, suc, ◌+◌, ◌*◌, ◌/◌, ◌<◌, ◌⊎◌, List, [], ◌∷◌, length, take, slice_index, slice_get, Option, Some, None}
+use Rattle.std.specs.Prelude.{◌≡◌, ◌≢◌, ℕ, suc, ◌+◌, ◌*◌, ◌/◌, ◌<◌, ◌⊎◌, List, [], ◌∷◌, length, take, slice_index, slice_get, Option, Some, None}
 use Rattle.icu_normalizer_core.specs.declared.canonical.check.left.Left.{Left}
 use Rattle.icu_normalizer_core.specs.Canonical.{Leaves, IsFree}
 use Rattle.icu_normalizer_core.specs.CanonicalLists.{step_in, mapping}
@@ -11,6 +11,14 @@ left_items left = take left.count left.characters
 -- the characters are the first nine of what steps leave of the text
 abbrev pub IsStartOf : List ℕ → List ℕ → Left → Type 0
 IsStartOf steps text left = (list : List ℕ) × Leaves (step_in steps) text list × (left_items left ≡ take 9 list)
+
+-- the characters are the first nine of what steps leave of the text, where they end
+abbrev pub IsLeftOf : List ℕ → List ℕ → Left → Type 0
+IsLeftOf steps text left = (list : List ℕ) → Leaves (step_in steps) text list → left_items left ≡ take 9 list
+
+-- steps leave something else of the text
+abbrev pub LeavesOther : List ℕ → List ℕ → Left → Type 0
+LeavesOther steps text left = (list : List ℕ) × Leaves (step_in steps) text list × (left_items left ≢ take 9 list)
 
 -- the character of a triple, and its mapping
 abbrev pub key_at : List ℕ → ℕ → ℕ

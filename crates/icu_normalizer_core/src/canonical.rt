@@ -11,6 +11,6 @@ mod tables;
 mod words;
 
 pub use borrowed::CanonicalBorrowed;
-pub use data::CanonicalData;
+pub use data::{CanonicalData, CanonicalDataError};
 pub use full_list::FullList;
 pub use tables::{CanonicalFault, CanonicalTables};

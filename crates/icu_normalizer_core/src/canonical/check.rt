@@ -1,7 +1,57 @@
 //! The check of canonical tables: a function for each kind of fault, which names its least character.
 
+ghost use Rattle.std.specs.Prelude.{IfOk, MatchOption};
+ghost use Rattle.icu_normalizer_core.specs.CanonicalFaults.{IsAccepted, IsFirstFault};
+ghost use Rattle.icu_normalizer_core.specs.CanonicalMeaning.{lists_of};
+
+mod built_in;
 mod characters;
 mod forms;
+mod full_lists;
+mod full_start;
 mod left;
+mod loops;
+mod marks;
+mod own;
+mod pairs;
 mod settle;
 mod values;
+
+use super::tables::{CanonicalFault, CanonicalTables};
+use built_in::first_built_in_fault;
+use forms::are_triples;
+use full_lists::first_bad_list;
+use loops::first_loop;
+use pairs::first_bad_pair;
+use settle::settle;
+use std::alloc::{AllocError, Global};
+use values::first_bad_value;
+
+/// What the tables are to be refused for, `None` where they pass every check. The only error is want of memory.
+pub(super) fn first_fault(
+    alloc: Global,
+    tables: &CanonicalTables<'_>,
+) -> Result<Option<CanonicalFault>, AllocError>
+    ensures { IfOk result (λ fault. MatchOption fault (IsAccepted (lists_of tables.now)) (IsFirstFault (lists_of tables.now))) }
+{
+    if let Some(c) = first_bad_value(tables) {
+        return Ok(Some(CanonicalFault::BadValue(c)));
+    }
+    if !are_triples(&tables.steps) {
+        return Ok(Some(CanonicalFault::BadList('\0')));
+    }
+    let settled = settle(alloc, &tables.steps)?;
+    if let Some(c) = first_bad_list(tables, &settled) {
+        return Ok(Some(CanonicalFault::BadList(c)));
+    }
+    if let Some(c) = first_loop(tables, &settled) {
+        return Ok(Some(CanonicalFault::Loop(c)));
+    }
+    if let Some(c) = first_built_in_fault(tables) {
+        return Ok(Some(CanonicalFault::BuiltIn(c)));
+    }
+    if let Some(c) = first_bad_pair(tables) {
+        return Ok(Some(CanonicalFault::BadPair(c)));
+    }
+    Ok(None)
+}

@@ -1,14 +1,26 @@
 //! Canonical data: tables that were checked.
 
-ghost use Rattle.std.specs.Prelude.{◌≡◌};
+ghost use Rattle.std.specs.Prelude.{◌≡◌, MatchResult};
 ghost use Rattle.icu_normalizer_core.specs.BorrowedMeaning.{borrowed_tables, borrowed_meaning};
 ghost use Rattle.icu_normalizer_core.specs.Canonical.{IsCanonical};
 ghost use Rattle.icu_normalizer_core.specs.CanonicalFaults.{IsAccepted};
 ghost use Rattle.icu_normalizer_core.specs.CanonicalMeaning.{lists_of};
+ghost use Rattle.icu_normalizer_core.specs.CanonicalRefusals.{IsRefusal};
 
 use super::borrowed::CanonicalBorrowed;
-use super::tables::CanonicalTables;
+use super::check::first_fault;
+use super::tables::{CanonicalFault, CanonicalTables};
+use std::alloc::Global;
 use std::marker::Model;
+
+/// Why tables weren't taken as canonical data.
+#[derive(Clone, Copy, Debug, PartialEq, Eq)]
+pub enum CanonicalDataError {
+    /// They are none, for this.
+    Fault(CanonicalFault),
+    /// Memory was refused.
+    Memory,
+}
 
 /// Canonical data: tables that pass every check, seen as those tables.
 #[derive(Debug, Drop)]
@@ -29,6 +41,23 @@ impl<'a> Model for CanonicalData<'a> {
 }
 
 impl<'a> CanonicalData<'a> {
+    /// Canonical data from tables, if they pass every check; the first fault otherwise. Want of memory can come
+    /// with any tables.
+    pub fn try_new(
+        alloc: Global,
+        tables: CanonicalTables<'a>,
+    ) -> Result<CanonicalData<'a>, CanonicalDataError>
+        ensures { MatchResult result
+            (λ checked. (checked ≡ tables.entry) × IsAccepted (lists_of tables.entry))
+            (IsRefusal (lists_of tables.entry)) }
+    {
+        match first_fault(alloc, &tables) {
+            Ok(None) => Ok(CanonicalData { tables }),
+            Ok(Some(fault)) => Err(CanonicalDataError::Fault(fault)),
+            Err(_) => Err(CanonicalDataError::Memory),
+        }
+    }
+
     /// The data, borrowed.
     pub fn as_borrowed(&self) -> CanonicalBorrowed<'_>
         ensures same { borrowed_tables result ≡ self.now }

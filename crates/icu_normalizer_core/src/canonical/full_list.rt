@@ -162,7 +162,7 @@ fn listed<'d>(tables: &'d CanonicalTables<'d>, word: u32) -> FullList<'d>
 
 /// The list that a word states by itself.
 #[tactic(auto, unfolding(crate::specs::CanonicalWords::full_of_word))]
-fn stated<'d>(tables: &'d CanonicalTables<'d>, c: char, word: u32) -> FullList<'d>
+pub(super) fn stated<'d>(tables: &'d CanonicalTables<'d>, c: char, word: u32) -> FullList<'d>
     requires word { is_list_word word ≡ false }
     requires bound { word < 2 ^ 30 }
     ensures { result ≡ full_of_word tables.now.scalars16 tables.now.scalars24 c word }

@@ -1,6 +1,6 @@
 //! What mapping steps leave of each character, found triple by triple.
 
-ghost use Rattle.std.specs.Prelude.{◌≡◌, ◌+◌, ◌*◌, ◌^◌, ◌<◌, ◌≤◌, [], ◌∷◌, ◌++◌, true, false, length, take, slice_get, Some, None, MatchOption, IfOk};
+ghost use Rattle.std.specs.Prelude.{◌≡◌, ◌+◌, ◌*◌, ◌^◌, ◌<◌, ◌≤◌, ◌↔◌, [], ◌∷◌, ◌++◌, true, false, length, take, slice_get, Some, None, IsTrue, MatchOption, IfOk};
 ghost use Rattle.icu_normalizer_core.specs.BuiltIn.{is_syllable, built_in_step};
 ghost use Rattle.icu_normalizer_core.specs.Canonical.{IsFree};
 ghost use Rattle.icu_normalizer_core.specs.CanonicalLists.{AreTriples};
@@ -38,7 +38,7 @@ impl Left {
     }
 
     /// With one more character, if there is room.
-    fn with(self, c: u32) -> Left
+    pub(super) fn with(self, c: u32) -> Left
         ensures { left_items result ≡ take 9 (left_items self ++ c ∷ []) }
     {
         if self.count == 9 {
@@ -51,11 +51,18 @@ impl Left {
             count: self.count + 1,
         }
     }
+
+    /// Whether both are the same characters.
+    pub(super) fn is(&self, other: &Left) -> bool
+        ensures { IsTrue result ↔ (left_items self.now ≡ left_items other.now) }
+    {
+        self.characters[..self.count] == other.characters[..other.count]
+    }
 }
 
 /// The letters of a Hangul syllable (UAX 15).
 #[tactic(auto, unfolding(crate::specs::CanonicalWords::syllable_letters))]
-fn letters(c: u32) -> Left
+pub(super) fn letters(c: u32) -> Left
     requires { is_syllable c ≡ true }
     ensures { left_items result ≡ syllable_letters c }
 {
@@ -69,7 +76,11 @@ fn letters(c: u32) -> Left
 }
 
 /// What steps leave of a character without a built-in mapping; `None` where that isn't settled.
-fn listed_left(steps: &PackedVec<'_, u32>, settled: &[Option<Left>], c: u32) -> Option<Left>
+pub(super) fn listed_left(
+    steps: &PackedVec<'_, u32>,
+    settled: &[Option<Left>],
+    c: u32,
+) -> Option<Left>
     requires triples { AreTriples steps.now }
     requires starts { AreStarts steps.now settled.now }
     requires free { IsFree c }
@@ -117,7 +128,7 @@ fn built_in_left(
 }
 
 /// What steps leave of a character; `None` where that isn't settled.
-fn left_of(steps: &PackedVec<'_, u32>, settled: &[Option<Left>], c: u32) -> Option<Left>
+pub(super) fn left_of(steps: &PackedVec<'_, u32>, settled: &[Option<Left>], c: u32) -> Option<Left>
     requires triples { AreTriples steps.now }
     requires starts { AreStarts steps.now settled.now }
     ensures { MatchOption result (IsStuck steps.now settled.now c) (IsStartOf steps.now (c ∷ [])) }

@@ -1,0 +1,112 @@
+//! Full lists that stand outside the tables, are too long, begin with a mark or aren't what mapping steps leave.
+
+ghost use Rattle.std.specs.Prelude.{◌≡◌, [], ◌∷◌, true, false, MatchBool, MatchOption};
+ghost use Rattle.icu_normalizer_core.specs.Canonical.{IsFree};
+ghost use Rattle.icu_normalizer_core.specs.CanonicalFaults.{NoneOffends, IsLeastOffender, HasBadList, OffendsList, begins_with_mark};
+ghost use Rattle.icu_normalizer_core.specs.CanonicalLists.{AreTriples};
+ghost use Rattle.icu_normalizer_core.specs.CanonicalMeaning.{lists_of, meaning};
+ghost use Rattle.icu_normalizer_core.specs.CanonicalWords.{is_inside};
+ghost use Rattle.icu_normalizer_core.specs.Settled.{left_items, AreStarts, IsDone, IsLeftOf, LeavesOther};
+
+use super::characters::first_refused;
+use super::full_start::full_start;
+use super::left::Left;
+use super::settle::listed_left;
+use crate::built_in::built_in_step;
+use crate::canonical::tables::CanonicalTables;
+use crate::canonical::words::{PLAIN_WORD, class_of_word, is_list_word, states_list};
+use icu_packed_vector::PackedVec;
+
+/// Whether the word names no place outside the lists.
+#[tactic(auto, unfolding(crate::specs::CanonicalWords::is_inside))]
+fn is_inside(tables: &CanonicalTables<'_>, word: u32) -> bool
+    ensures { result ≡ is_inside tables.now.scalars16 tables.now.scalars24 word }
+{
+    if !is_list_word(word) {
+        return true;
+    }
+    let offset = (word / 0x1_0000) as usize - 1;
+    let count = (word % 16) as usize;
+    let in_16 = tables.scalars16.len();
+    if offset < in_16 {
+        offset + (count + 2) <= in_16
+    } else {
+        let place = offset - in_16;
+        place + (count + 1) <= tables.scalars24.len()
+    }
+}
+
+/// The class that the tables say of a number.
+#[tactic(auto, unfolding(crate::specs::CanonicalLists::canonical_of))]
+fn class_at(tables: &CanonicalTables<'_>, code: u32) -> u8
+    ensures { result ≡ (meaning tables.now).class code }
+{
+    class_of_word(code, tables.trie.get32(code) & PLAIN_WORD)
+}
+
+/// Whether the first of the characters is a mark.
+fn begins_with_mark(tables: &CanonicalTables<'_>, left: &Left) -> bool
+    ensures { result ≡ begins_with_mark (meaning tables.now) (left_items left.now) }
+{
+    left.count > 0 && class_at(tables, left.characters[0]) != 0
+}
+
+/// Whether the characters are the first nine of what steps leave, where they end.
+fn is_left(steps: &PackedVec<'_, u32>, settled: &[Option<Left>], c: u32, full: &Left) -> bool
+    requires triples { AreTriples steps.now }
+    requires starts { AreStarts steps.now settled.now }
+    requires done { IsDone steps.now settled.now }
+    requires free { IsFree c }
+    ensures { MatchBool result (IsLeftOf steps.now (c ∷ []) full.now) (LeavesOther steps.now (c ∷ []) full.now) }
+{
+    match listed_left(steps, settled, c) {
+        Some(left) => left.is(full),
+        None => true,
+    }
+}
+
+/// Whether nothing is wrong with the full list of a character without a built-in mapping.
+fn has_good_list(tables: &CanonicalTables<'_>, settled: &[Option<Left>], c: char) -> bool
+    requires triples { AreTriples tables.now.steps }
+    requires starts { AreStarts tables.now.steps settled.now }
+    requires done { IsDone tables.now.steps settled.now }
+    requires free { IsFree c }
+    ensures { MatchBool result (HasBadList (lists_of tables.now) c → ⊥) (HasBadList (lists_of tables.now) c) }
+{
+    let word = tables.word(c);
+    if !is_inside(tables, word) {
+        return false;
+    }
+    let full = full_start(tables, c);
+    if full.count > 8 {
+        return false;
+    }
+    if states_list(word) && begins_with_mark(tables, &full) {
+        return false;
+    }
+    is_left(&tables.steps, settled, c as u32, &full)
+}
+
+/// Whether nothing is wrong with the full list of a character, where mappings are triples.
+fn is_good(tables: &CanonicalTables<'_>, settled: &[Option<Left>], c: char) -> bool
+    requires triples { AreTriples tables.now.steps }
+    requires starts { AreStarts tables.now.steps settled.now }
+    requires done { IsDone tables.now.steps settled.now }
+    ensures good { result ≡ true → OffendsList (lists_of tables.now) c → ⊥ }
+    ensures bad { result ≡ false → OffendsList (lists_of tables.now) c }
+{
+    match built_in_step(c as u32) {
+        Some(_) => true,
+        None => has_good_list(tables, settled, c),
+    }
+}
+
+/// The least character with a bad full list, `None` where there is none.
+pub(super) fn first_bad_list(tables: &CanonicalTables<'_>, settled: &[Option<Left>]) -> Option<char>
+    requires triples { AreTriples tables.now.steps }
+    requires starts { AreStarts tables.now.steps settled.now }
+    requires done { IsDone tables.now.steps settled.now }
+    ensures { MatchOption result (NoneOffends (OffendsList (lists_of tables.now))) (IsLeastOffender (OffendsList (lists_of tables.now))) }
+{
+    first_refused(|c| is_good(tables, settled, c))
+}

@@ -1,0 +1,98 @@
+//! The first nine characters of full lists, read from tables that aren't checked yet.
+
+ghost use Rattle.std.specs.Prelude.{◌≡◌, ◌+◌, ◌^◌, ◌<◌, [], true, take, slice_get};
+ghost use Rattle.icu_normalizer_core.specs.CanonicalMeaning.{meaning};
+ghost use Rattle.icu_normalizer_core.specs.CanonicalWords.{items_at, is_list_word, list_at};
+ghost use Rattle.icu_normalizer_core.specs.FullLists.{source_items};
+ghost use Rattle.icu_normalizer_core.specs.Settled.{left_items};
+
+use super::left::Left;
+use crate::canonical::full_list::{FullList, Source, stated};
+use crate::canonical::tables::CanonicalTables;
+use crate::canonical::words::is_list_word;
+
+impl Left {
+    /// No character.
+    pub(super) fn none() -> Left
+        ensures { left_items result ≡ [] }
+    {
+        Left {
+            characters: [0; 9],
+            count: 0,
+        }
+    }
+}
+
+/// The number at a place, `None` past the end.
+fn number_at(tables: &CanonicalTables<'_>, source: Source, place: usize) -> Option<u32>
+    ensures { result ≡ slice_get (source_items tables.now source) place }
+{
+    match source {
+        Source::Few(characters) => match characters.get(place) {
+            Some(c) => Some(*c as u32),
+            None => None,
+        },
+        Source::In16 => match tables.scalars16.get(place) {
+            Some(number) => Some(number as u32),
+            None => None,
+        },
+        Source::In24 => match tables.scalars24.get(place) {
+            Some(c) => Some(c as u32),
+            None => None,
+        },
+    }
+}
+
+/// The first nine of so many numbers from a place on, as many as there are.
+fn part_start(tables: &CanonicalTables<'_>, source: Source, place: usize, count: usize) -> Left
+    requires { place + count < 2 ^ 32 }
+    ensures { left_items result ≡ take 9 (items_at (source_items tables.now source) place count) }
+{
+    let mut left = Left::none();
+    for i in 0..count {
+        if let Some(number) = number_at(tables, source, place + i) {
+            left = left.with(number);
+        }
+    }
+    left
+}
+
+/// The first nine numbers of the list that a word names a place of.
+#[tactic(auto, unfolding(crate::specs::CanonicalWords::list_at))]
+fn listed_start(tables: &CanonicalTables<'_>, word: u32) -> Left
+    requires word { is_list_word word ≡ true }
+    requires bound { word < 2 ^ 30 }
+    ensures { left_items result ≡ take 9 (list_at tables.now.scalars16 tables.now.scalars24 word) }
+{
+    let offset = (word / 0x1_0000) as usize - 1;
+    let count = (word % 16) as usize;
+    let in_16 = tables.scalars16.len();
+    if offset < in_16 {
+        part_start(tables, Source::In16, offset, count + 2)
+    } else {
+        part_start(tables, Source::In24, offset - in_16, count + 1)
+    }
+}
+
+/// The first nine characters of a list.
+fn start_of(list: FullList<'_>) -> Left
+    ensures { left_items result ≡ take 9 list.entry }
+{
+    let mut left = Left::none();
+    for c in list {
+        left = left.with(c as u32);
+    }
+    left
+}
+
+/// The first nine numbers of the full list of a character.
+pub(super) fn full_start(tables: &CanonicalTables<'_>, c: char) -> Left
+    ensures { left_items result ≡ take 9 ((meaning tables.now).full c) }
+{
+    let word = tables.word(c);
+    if is_list_word(word) {
+        listed_start(tables, word)
+    } else {
+        start_of(stated(tables, c, word))
+    }
+}

@@ -1,0 +1,35 @@
+//! Characters from which mapping steps don't end.
+
+ghost use Rattle.std.specs.Prelude.{◌↔◌, IsTrue, MatchOption};
+ghost use Rattle.icu_normalizer_core.specs.CanonicalFaults.{IsLeastOffender, Ends, OffendsLoop, AllEnd};
+ghost use Rattle.icu_normalizer_core.specs.CanonicalLists.{AreTriples};
+ghost use Rattle.icu_normalizer_core.specs.CanonicalMeaning.{lists_of};
+ghost use Rattle.icu_normalizer_core.specs.Settled.{AreStarts, IsDone};
+
+use super::characters::first_refused;
+use super::left::Left;
+use super::settle::left_of;
+use crate::canonical::tables::CanonicalTables;
+
+/// Whether the steps from the character end.
+fn ends(tables: &CanonicalTables<'_>, settled: &[Option<Left>], c: char) -> bool
+    requires triples { AreTriples tables.now.steps }
+    requires starts { AreStarts tables.now.steps settled.now }
+    requires done { IsDone tables.now.steps settled.now }
+    ensures { IsTrue result ↔ Ends (lists_of tables.now) c }
+{
+    match left_of(&tables.steps, settled, c as u32) {
+        Some(_) => true,
+        None => false,
+    }
+}
+
+/// The least character from which steps don't end, `None` where there is none.
+pub(super) fn first_loop(tables: &CanonicalTables<'_>, settled: &[Option<Left>]) -> Option<char>
+    requires triples { AreTriples tables.now.steps }
+    requires starts { AreStarts tables.now.steps settled.now }
+    requires done { IsDone tables.now.steps settled.now }
+    ensures { MatchOption result (AllEnd (lists_of tables.now)) (IsLeastOffender (OffendsLoop (lists_of tables.now))) }
+{
+    first_refused(|c| ends(tables, settled, c))
+}
