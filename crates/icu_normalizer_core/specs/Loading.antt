@@ -3,8 +3,10 @@ use Rattle.std.specs.Prelude.{◌≡◌, ℕ, ◌⊎◌, List, Result, Ok, Err}
 use Rattle.icu_codepointtrie.specs.Places.{TrieTables}
 use Rattle.icu_normalizer_core.specs.declared.canonical.tables.CanonicalTables.{CanonicalTables}
 use Rattle.icu_normalizer_core.specs.declared.provider.error.DataError.{DataError}
-use Rattle.icu_normalizer_core.specs.declared.provider.error.DataError.TheVariants.{Memory}
+use Rattle.icu_normalizer_core.specs.declared.provider.error.DataError.TheVariants.{Missing, Invalid, Canonical, Memory}
 use Rattle.icu_normalizer_core.specs.declared.provider.lists.NfdLists.{NfdLists}
+use Rattle.icu_normalizer_core.specs.CanonicalMeaning.{lists_of}
+use Rattle.icu_normalizer_core.specs.CanonicalFaults.{IsAccepted, IsFirstFault}
 
 -- this outcome, unless memory was refused
 abbrev pub MemoryAside : {A : Type 0} → Result A DataError → Result A DataError → Type 0
@@ -17,3 +19,20 @@ loaded (Ok trie) (Err refusal) pairs = Err refusal
 loaded (Ok trie) (Ok lists) (Err refusal) = Err refusal
 loaded (Ok trie) (Ok lists) (Ok pairs) =
     Ok (record { trie = trie; scalars16 = lists.scalars16; scalars24 = lists.scalars24; steps = lists.steps; pairs = pairs })
+
+-- loaded tables are refused for their first fault
+abbrev pub IsRefusedFor : CanonicalTables → DataError → Type 0
+IsRefusedFor tables (Missing name) = ⊥
+IsRefusedFor tables (Invalid name) = ⊥
+IsRefusedFor tables (Canonical fault) = IsFirstFault (lists_of tables) fault
+IsRefusedFor tables Memory = ⊥
+
+-- canonical data of what was loaded: the refusal of a load, else the first fault of the tables, else the tables
+abbrev pub IsChecked : Result CanonicalTables DataError → Result CanonicalTables DataError → Type 0
+IsChecked (Err refusal) result = result ≡ Err refusal
+IsChecked (Ok tables) (Err refusal) = IsRefusedFor tables refusal
+IsChecked (Ok tables) (Ok checked) = (checked ≡ tables) × IsAccepted (lists_of tables)
+
+-- the same, unless memory was refused
+abbrev pub IsCheckedAside : Result CanonicalTables DataError → Result CanonicalTables DataError → Type 0
+IsCheckedAside outcome result = (result ≡ Err Memory) ⊎ IsChecked outcome result

@@ -3,8 +3,11 @@
 ghost use Rattle.std.specs.Prelude.{◌≡◌};
 ghost use Rattle.std.specs.Char.{IsScalar};
 ghost use Rattle.icu_normalizer_core.specs.CanonicalMeaning.{meaning};
+ghost use Rattle.icu_normalizer_core.specs.Loading.{loaded, IsCheckedAside};
 
 use crate::canonical::{CanonicalBorrowed, CanonicalData};
+use crate::provider::{DataError, NormalizerProvider, load_canonical_data};
+use std::alloc::Global;
 use std::marker::Model;
 
 /// The canonical combining class of each character (UAX 15). It is seen as the canonical tables that it reads.
@@ -21,8 +24,20 @@ impl<'a> Model for CanonicalCombiningClassMap<'a> {
     ghost view = { λ inside. inside.canonical };
 }
 
-impl CanonicalCombiningClassMap<'_> {
+impl<'a> CanonicalCombiningClassMap<'a> {
     ghost use Rattle.icu_normalizer_core.specs.PropertyMeanings.{class_map_data};
+
+    /// The classes that a provider's tables say. The answer is the first refusal, if there is one: of `load_nfd`, of
+    /// `load_nfd_tables`, of `load_pairs`, then of `CanonicalData::try_new`.
+    pub fn try_new_unstable<P: NormalizerProvider>(
+        alloc: Global,
+        provider: &'a P,
+    ) -> Result<CanonicalCombiningClassMap<'a>, DataError>
+        ensures { IsCheckedAside (loaded (P.nfd provider.now) (P.nfd_tables provider.now) (P.pairs provider.now)) result }
+    {
+        let canonical = load_canonical_data(alloc, provider)?;
+        Ok(CanonicalCombiningClassMap { canonical })
+    }
 
     /// The same, borrowed: that has the calls.
     pub fn as_borrowed(&self) -> CanonicalCombiningClassMapBorrowed<'_>

@@ -2,8 +2,11 @@
 
 ghost use Rattle.std.specs.Prelude.{◌≡◌};
 ghost use Rattle.icu_normalizer_core.specs.CanonicalMeaning.{meaning};
+ghost use Rattle.icu_normalizer_core.specs.Loading.{loaded, IsCheckedAside};
 
 use crate::canonical::{CanonicalBorrowed, CanonicalData};
+use crate::provider::{DataError, NormalizerProvider, load_canonical_data};
+use std::alloc::Global;
 use std::marker::Model;
 
 /// What two characters compose to (UAX 15). It is seen as the canonical tables that it reads.
@@ -20,8 +23,20 @@ impl<'a> Model for CanonicalComposition<'a> {
     ghost view = { λ inside. inside.canonical };
 }
 
-impl CanonicalComposition<'_> {
+impl<'a> CanonicalComposition<'a> {
     ghost use Rattle.icu_normalizer_core.specs.PropertyMeanings.{composition_data};
+
+    /// The composed pairs that a provider's tables say. The answer is the first refusal, if there is one: of `load_nfd`, of
+    /// `load_nfd_tables`, of `load_pairs`, then of `CanonicalData::try_new`.
+    pub fn try_new_unstable<P: NormalizerProvider>(
+        alloc: Global,
+        provider: &'a P,
+    ) -> Result<CanonicalComposition<'a>, DataError>
+        ensures { IsCheckedAside (loaded (P.nfd provider.now) (P.nfd_tables provider.now) (P.pairs provider.now)) result }
+    {
+        let canonical = load_canonical_data(alloc, provider)?;
+        Ok(CanonicalComposition { canonical })
+    }
 
     /// The same, borrowed: that has the calls.
     pub fn as_borrowed(&self) -> CanonicalCompositionBorrowed<'_>

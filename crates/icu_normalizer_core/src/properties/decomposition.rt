@@ -2,10 +2,13 @@
 
 ghost use Rattle.std.specs.Prelude.{◌≡◌};
 ghost use Rattle.icu_normalizer_core.specs.CanonicalMeaning.{meaning};
+ghost use Rattle.icu_normalizer_core.specs.Loading.{loaded, IsCheckedAside};
 ghost use Rattle.icu_normalizer_core.specs.Properties.{mapped_to};
 
 use crate::canonical::{CanonicalBorrowed, CanonicalData};
 use crate::properties::Decomposed;
+use crate::provider::{DataError, NormalizerProvider, load_canonical_data};
+use std::alloc::Global;
 use std::marker::Model;
 
 /// The canonical mapping of each character (UAX 15), one step. It is seen as the canonical tables that it reads.
@@ -22,8 +25,20 @@ impl<'a> Model for CanonicalDecomposition<'a> {
     ghost view = { λ inside. inside.canonical };
 }
 
-impl CanonicalDecomposition<'_> {
+impl<'a> CanonicalDecomposition<'a> {
     ghost use Rattle.icu_normalizer_core.specs.PropertyMeanings.{decomposition_data};
+
+    /// The mappings that a provider's tables say. The answer is the first refusal, if there is one: of `load_nfd`, of
+    /// `load_nfd_tables`, of `load_pairs`, then of `CanonicalData::try_new`.
+    pub fn try_new_unstable<P: NormalizerProvider>(
+        alloc: Global,
+        provider: &'a P,
+    ) -> Result<CanonicalDecomposition<'a>, DataError>
+        ensures { IsCheckedAside (loaded (P.nfd provider.now) (P.nfd_tables provider.now) (P.pairs provider.now)) result }
+    {
+        let canonical = load_canonical_data(alloc, provider)?;
+        Ok(CanonicalDecomposition { canonical })
+    }
 
     /// The same, borrowed: that has the calls.
     pub fn as_borrowed(&self) -> CanonicalDecompositionBorrowed<'_>

@@ -1,9 +1,9 @@
 //! Canonical tables from a provider.
 
-ghost use Rattle.icu_normalizer_core.specs.Loading.{MemoryAside, loaded};
+ghost use Rattle.icu_normalizer_core.specs.Loading.{MemoryAside, loaded, IsCheckedAside};
 
 use super::{DataError, NfdLists, NormalizerProvider};
-use crate::canonical::CanonicalTables;
+use crate::canonical::{CanonicalData, CanonicalDataError, CanonicalTables};
 use std::alloc::Global;
 
 /// The canonical tables that a provider has, not yet checked. The first load that is refused is the answer.
@@ -27,4 +27,20 @@ fn load_canonical<P: NormalizerProvider>(
         steps,
         pairs,
     })
+}
+
+/// The canonical data that a provider has. The answer is the first refusal, if there is one: of `load_nfd`, of
+/// `load_nfd_tables`, of `load_pairs`, then of `CanonicalData::try_new`.
+pub fn load_canonical_data<P: NormalizerProvider>(
+    alloc: Global,
+    provider: &P,
+) -> Result<CanonicalData<'_>, DataError>
+    ensures { IsCheckedAside (loaded (P.nfd provider.now) (P.nfd_tables provider.now) (P.pairs provider.now)) result }
+{
+    let tables = load_canonical(alloc, provider)?;
+    match CanonicalData::try_new(alloc, tables) {
+        Ok(data) => Ok(data),
+        Err(CanonicalDataError::Fault(fault)) => Err(DataError::Canonical(fault)),
+        Err(CanonicalDataError::Memory) => Err(DataError::Memory),
+    }
 }
