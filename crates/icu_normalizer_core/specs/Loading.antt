@@ -29,10 +29,10 @@ IsRefusedFor tables Memory = ⊥
 
 -- canonical data of what was loaded: the refusal of a load, else the first fault of the tables, else the tables
 abbrev pub IsChecked : Result CanonicalTables DataError → Result CanonicalTables DataError → Type 0
-IsChecked (Err refusal) result = result ≡ Err refusal
-IsChecked (Ok tables) (Err refusal) = IsRefusedFor tables refusal
-IsChecked (Ok tables) (Ok checked) = (checked ≡ tables) × IsAccepted (lists_of tables)
+IsChecked result (Err refusal) = result ≡ Err refusal
+IsChecked (Err refusal) (Ok tables) = IsRefusedFor tables refusal
+IsChecked (Ok checked) (Ok tables) = (checked ≡ tables) × IsAccepted (lists_of tables)
 
 -- the same, unless memory was refused
-abbrev pub IsCheckedAside : Result CanonicalTables DataError → Result CanonicalTables DataError → Type 0
-IsCheckedAside outcome result = (result ≡ Err Memory) ⊎ IsChecked outcome result
+abbrev pub CheckedMemoryAside : Result CanonicalTables DataError → Result CanonicalTables DataError → Type 0
+CheckedMemoryAside result outcome = (result ≡ Err Memory) ⊎ IsChecked result outcome

@@ -3,7 +3,7 @@
 ghost use Rattle.std.specs.Prelude.{◌≡◌};
 ghost use Rattle.std.specs.Char.{IsScalar};
 ghost use Rattle.icu_normalizer_core.specs.CanonicalMeaning.{meaning};
-ghost use Rattle.icu_normalizer_core.specs.Loading.{loaded, IsCheckedAside};
+ghost use Rattle.icu_normalizer_core.specs.Loading.{CheckedMemoryAside, loaded};
 
 use crate::canonical::{CanonicalBorrowed, CanonicalData};
 use crate::provider::{DataError, NormalizerProvider, load_canonical_data};
@@ -33,7 +33,7 @@ impl<'a> CanonicalCombiningClassMap<'a> {
         alloc: Global,
         provider: &'a P,
     ) -> Result<CanonicalCombiningClassMap<'a>, DataError>
-        ensures { IsCheckedAside (loaded (P.nfd provider.now) (P.nfd_tables provider.now) (P.pairs provider.now)) result }
+        ensures { CheckedMemoryAside result (loaded (P.nfd provider.now) (P.nfd_tables provider.now) (P.pairs provider.now)) }
     {
         let canonical = load_canonical_data(alloc, provider)?;
         Ok(CanonicalCombiningClassMap { canonical })

@@ -2,7 +2,7 @@
 
 ghost use Rattle.std.specs.Prelude.{◌≡◌};
 ghost use Rattle.icu_normalizer_core.specs.CanonicalMeaning.{meaning};
-ghost use Rattle.icu_normalizer_core.specs.Loading.{loaded, IsCheckedAside};
+ghost use Rattle.icu_normalizer_core.specs.Loading.{CheckedMemoryAside, loaded};
 
 use crate::canonical::{CanonicalBorrowed, CanonicalData};
 use crate::provider::{DataError, NormalizerProvider, load_canonical_data};
@@ -26,13 +26,13 @@ impl<'a> Model for CanonicalComposition<'a> {
 impl<'a> CanonicalComposition<'a> {
     ghost use Rattle.icu_normalizer_core.specs.PropertyMeanings.{composition_data};
 
-    /// The composed pairs that a provider's tables say. The answer is the first refusal, if there is one: of `load_nfd`, of
-    /// `load_nfd_tables`, of `load_pairs`, then of `CanonicalData::try_new`.
+    /// The composed pairs that a provider's tables say. The answer is the first refusal, if there is one: of
+    /// `load_nfd`, of `load_nfd_tables`, of `load_pairs`, then of `CanonicalData::try_new`.
     pub fn try_new_unstable<P: NormalizerProvider>(
         alloc: Global,
         provider: &'a P,
     ) -> Result<CanonicalComposition<'a>, DataError>
-        ensures { IsCheckedAside (loaded (P.nfd provider.now) (P.nfd_tables provider.now) (P.pairs provider.now)) result }
+        ensures { CheckedMemoryAside result (loaded (P.nfd provider.now) (P.nfd_tables provider.now) (P.pairs provider.now)) }
     {
         let canonical = load_canonical_data(alloc, provider)?;
         Ok(CanonicalComposition { canonical })

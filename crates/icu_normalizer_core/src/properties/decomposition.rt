@@ -2,7 +2,7 @@
 
 ghost use Rattle.std.specs.Prelude.{◌≡◌};
 ghost use Rattle.icu_normalizer_core.specs.CanonicalMeaning.{meaning};
-ghost use Rattle.icu_normalizer_core.specs.Loading.{loaded, IsCheckedAside};
+ghost use Rattle.icu_normalizer_core.specs.Loading.{CheckedMemoryAside, loaded};
 ghost use Rattle.icu_normalizer_core.specs.Properties.{mapped_to};
 
 use crate::canonical::{CanonicalBorrowed, CanonicalData};
@@ -34,7 +34,7 @@ impl<'a> CanonicalDecomposition<'a> {
         alloc: Global,
         provider: &'a P,
     ) -> Result<CanonicalDecomposition<'a>, DataError>
-        ensures { IsCheckedAside (loaded (P.nfd provider.now) (P.nfd_tables provider.now) (P.pairs provider.now)) result }
+        ensures { CheckedMemoryAside result (loaded (P.nfd provider.now) (P.nfd_tables provider.now) (P.pairs provider.now)) }
     {
         let canonical = load_canonical_data(alloc, provider)?;
         Ok(CanonicalDecomposition { canonical })

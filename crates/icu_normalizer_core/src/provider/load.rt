@@ -1,6 +1,6 @@
 //! Canonical tables from a provider.
 
-ghost use Rattle.icu_normalizer_core.specs.Loading.{MemoryAside, loaded, IsCheckedAside};
+ghost use Rattle.icu_normalizer_core.specs.Loading.{MemoryAside, CheckedMemoryAside, loaded};
 
 use super::{DataError, NfdLists, NormalizerProvider};
 use crate::canonical::{CanonicalData, CanonicalDataError, CanonicalTables};
@@ -35,7 +35,7 @@ pub fn load_canonical_data<P: NormalizerProvider>(
     alloc: Global,
     provider: &P,
 ) -> Result<CanonicalData<'_>, DataError>
-    ensures { IsCheckedAside (loaded (P.nfd provider.now) (P.nfd_tables provider.now) (P.pairs provider.now)) result }
+    ensures { CheckedMemoryAside result (loaded (P.nfd provider.now) (P.nfd_tables provider.now) (P.pairs provider.now)) }
 {
     let tables = load_canonical(alloc, provider)?;
     match CanonicalData::try_new(alloc, tables) {
