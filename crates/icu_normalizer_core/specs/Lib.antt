@@ -7,11 +7,14 @@ pub mod CanonicalLists
 pub mod CanonicalMeaning
 pub mod CanonicalRefusals
 pub mod CanonicalWords
+pub mod DataErrors
 pub mod Decoding
 pub mod FullLists
+pub mod Loading
 pub mod Marks
 pub mod PairTests
 pub mod Properties
+pub mod PropertyMeanings
 pub mod Sameness
 pub mod Settled
 pub mod Triples

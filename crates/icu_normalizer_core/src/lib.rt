@@ -7,3 +7,4 @@ pub mod canonical;
 pub mod decoding;
 pub mod laws;
 pub mod properties;
+pub mod provider;

@@ -6,4 +6,6 @@
 mod canonical;
 #[cfg(test)]
 mod decoding;
+#[cfg(test)]
+mod provider;
 pub mod tables;

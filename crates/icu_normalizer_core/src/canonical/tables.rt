@@ -7,6 +7,8 @@ ghost use Rattle.icu_normalizer_core.specs.CanonicalMeaning.{meaning};
 use super::words::{PLAIN_WORD, class_of_word};
 use icu_codepointtrie::CodePointTrie;
 use icu_packed_vector::PackedVec;
+use std::error::Error;
+use std::fmt;
 
 /// Canonical data in packed tables, not yet checked (`CanonicalData::try_new` checks them).
 #[derive(Debug, Drop)]
@@ -42,6 +44,25 @@ pub enum CanonicalFault {
     /// of characters.
     BadPair(char),
 }
+
+impl fmt::Display for CanonicalFault {
+    ghost use Rattle.std.specs.Prelude.{Some};
+    ghost use Rattle.icu_normalizer_core.specs.DataErrors.{fault_text};
+
+    ghost output = { λ fault. Some (fault_text fault) };
+
+    fn fmt<W: fmt::Write>(&self, f: &mut fmt::Formatter<W>) -> fmt::Result {
+        match self {
+            CanonicalFault::BadValue(c) => write!(f, "bad value at {:X}", *c as u32),
+            CanonicalFault::BadList(c) => write!(f, "bad list at {:X}", *c as u32),
+            CanonicalFault::Loop(c) => write!(f, "loop at {:X}", *c as u32),
+            CanonicalFault::BuiltIn(c) => write!(f, "bad built-in at {:X}", *c as u32),
+            CanonicalFault::BadPair(c) => write!(f, "bad pair at {:X}", *c as u32),
+        }
+    }
+}
+
+impl Error for CanonicalFault {}
 
 impl CanonicalTables<'_> {
     /// The character's word, without its two uppermost bits.

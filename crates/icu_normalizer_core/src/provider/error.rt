@@ -1,0 +1,95 @@
+//! The names of tables, and why data can't be had.
+
+use crate::canonical::CanonicalFault;
+use std::alloc::AllocError;
+use std::error::Error;
+use std::fmt;
+
+/// The name of what one call of a provider loads. Collation's tables, once they are loaded too, get their names here.
+#[derive(Clone, Copy, Debug, PartialEq, Eq)]
+pub enum TableName {
+    /// What `load_nfd` gives: the canonical words.
+    Nfd,
+    /// What `load_nfd_tables` gives: the characters of canonical full lists, and the mappings.
+    NfdTables,
+    /// What `load_nfkd` gives: the compatibility words.
+    Nfkd,
+    /// What `load_nfkd_tables` gives: the characters of compatibility full lists.
+    NfkdTables,
+    /// What `load_pairs` gives: the composed pairs.
+    Pairs,
+    /// What `load_uts46` gives: what the mapper of domain names does.
+    Uts46,
+}
+
+impl TableName {
+    ghost use Rattle.std.specs.Prelude.{◌≡◌};
+    ghost use Rattle.icu_normalizer_core.specs.DataErrors.{table_text};
+
+    /// The name as it is printed.
+    fn as_str(self) -> &'static str
+        ensures { result.now ≡ table_text self }
+    {
+        match self {
+            TableName::Nfd => "nfd",
+            TableName::NfdTables => "nfd_tables",
+            TableName::Nfkd => "nfkd",
+            TableName::NfkdTables => "nfkd_tables",
+            TableName::Pairs => "pairs",
+            TableName::Uts46 => "uts46",
+        }
+    }
+}
+
+impl fmt::Display for TableName {
+    ghost use Rattle.std.specs.Prelude.{Some};
+    ghost use Rattle.icu_normalizer_core.specs.DataErrors.{table_text};
+
+    ghost output = { λ name. Some (table_text name) };
+
+    fn fmt<W: fmt::Write>(&self, f: &mut fmt::Formatter<W>) -> fmt::Result {
+        f.write_str(self.as_str())
+    }
+}
+
+/// Why data can't be had.
+#[derive(Clone, Copy, Debug, PartialEq, Eq)]
+pub enum DataError {
+    /// The provider doesn't have the table.
+    Missing(TableName),
+    /// The table is damaged.
+    Invalid(TableName),
+    /// The canonical tables are no canonical data.
+    Canonical(CanonicalFault),
+    /// Memory was refused.
+    Memory,
+}
+
+impl fmt::Display for DataError {
+    ghost use Rattle.std.specs.Prelude.{Some};
+    ghost use Rattle.icu_normalizer_core.specs.DataErrors.{data_error_text};
+
+    ghost output = { λ error. Some (data_error_text error) };
+
+    fn fmt<W: fmt::Write>(&self, f: &mut fmt::Formatter<W>) -> fmt::Result {
+        match self {
+            DataError::Missing(name) => write!(f, "no table {name}"),
+            DataError::Invalid(name) => write!(f, "damaged table {name}"),
+            DataError::Canonical(fault) => write!(f, "{fault}"),
+            DataError::Memory => f.write_str("out of memory"),
+        }
+    }
+}
+
+impl Error for DataError {}
+
+impl From<AllocError> for DataError {
+    ghost use Rattle.std.specs.Prelude.{◌≡◌};
+    ghost use Rattle.icu_normalizer_core.specs.declared.provider.error.DataError.TheVariants.{Memory};
+
+    ghost from_gives = { λ refused error. error ≡ Memory };
+
+    fn from(_refused: AllocError) -> DataError {
+        DataError::Memory
+    }
+}
