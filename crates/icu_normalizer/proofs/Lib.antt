@@ -1,3 +1,7 @@
+pub mod ComposerLemmas
+pub mod ComposingLemmas
+pub mod CompositionLemmas
+pub mod CutLemmas
 pub mod IterLemmas
 pub mod RunLemmas
 pub mod SinkLemmas

@@ -1,3 +1,6 @@
+pub mod Composer
+pub mod Composing
+pub mod Compositions
 pub mod Decompositions
 pub mod Iter
 pub mod Marks

@@ -84,7 +84,7 @@ impl<'d, I: Iterator<Item = char> + Drop> Decomposition<'d, I> {
     }
 
     /// Drops what is left.
-    fn stop(&mut self)
+    pub(crate) fn stop(&mut self)
         ensures text { DecomposesTo I.next_gives self.new [] }
         ensures ready { CanDecompose I.can_next I.remaining self.new }
         ensures size { decomposition_size I.remaining self.new ≡ 0 }
