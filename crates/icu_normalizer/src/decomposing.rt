@@ -3,7 +3,7 @@
 ghost use Rattle.std.specs.Prelude.{◌≡◌, ℕ, ◌+◌, ◌*◌, ◌<◌, ◌≤◌, List, [], length, true, false, option_to_list, IfOk, OnOk, OnErr};
 ghost use Rattle.std.specs.Iterator.{at_most, IsFinite, size};
 ghost use Rattle.icu_normalizer_core.specs.BorrowedMeaning.{borrowed_meaning};
-ghost use Rattle.icu_normalizer_core.specs.Canonical.{IsCanonical, decomposed};
+ghost use Rattle.icu_normalizer_core.specs.Canonical.{decomposed};
 ghost use Rattle.icu_normalizer.specs.Iter.{Spells};
 ghost use Rattle.icu_normalizer.specs.Readable.{IsReadable};
 ghost use Rattle.icu_normalizer.specs.Run.{pending};
@@ -32,11 +32,11 @@ impl<'d, I: Iterator<Item = char> + Drop> Decomposition<'d, I> {
     /// The decomposed list of the characters that `chars` gives, by canonical data.
     #[inline]
     pub fn new(alloc: Global, canonical: CanonicalBorrowed<'d>, chars: I) -> Decomposition<'d, I>
-        requires { IsCanonical (borrowed_meaning canonical) }
         ensures text { (cs : List ℕ) → Spells I.next_gives chars cs → DecomposesTo I.next_gives result (decomposed (borrowed_meaning canonical.entry) cs) }
         ensures ready { I.can_next chars → IsFinite (I.remaining chars) → CanDecompose I.can_next I.remaining result }
         ensures size { decomposition_size I.remaining result ≡ 8 * size (I.remaining chars) }
     {
+        canonical.keep_promise();
         Self::over(alloc, canonical, chars)
     }
 

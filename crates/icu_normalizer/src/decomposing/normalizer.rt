@@ -2,7 +2,7 @@
 
 ghost use Rattle.std.specs.Prelude.{◌≡◌, ◌++◌, OnOk, OnErr, chars, encode_utf8_all};
 ghost use Rattle.icu_normalizer_core.specs.BorrowedMeaning.{borrowed_meaning};
-ghost use Rattle.icu_normalizer_core.specs.Canonical.{IsCanonical, decomposed};
+ghost use Rattle.icu_normalizer_core.specs.Canonical.{decomposed};
 ghost use Rattle.icu_normalizer.specs.Readable.{IsReadable};
 ghost use Rattle.icu_normalizer.specs.Sinks.{AddsPrefix};
 
@@ -23,9 +23,9 @@ impl<'d> DecomposingNormalizerBorrowed<'d> {
 
     /// A normaliser over canonical data. It takes no memory.
     pub fn new_with_data(canonical: CanonicalBorrowed<'d>) -> DecomposingNormalizerBorrowed<'d>
-        requires { IsCanonical (borrowed_meaning canonical) }
         ensures { normalizer_data result ≡ borrowed_meaning canonical.entry }
     {
+        canonical.keep_promise();
         DecomposingNormalizerBorrowed { canonical }
     }
 

@@ -1,7 +1,7 @@
 //! Canonical data, borrowed: what they say of each character. No call here takes memory.
 
 ghost use Rattle.std.specs.Prelude.{◌≡◌, ◌↔◌, IsTrue};
-ghost use Rattle.icu_normalizer_core.specs.Canonical.{is_starter};
+ghost use Rattle.icu_normalizer_core.specs.Canonical.{is_starter, IsCanonical};
 ghost use Rattle.icu_normalizer_core.specs.BorrowedMeaning.{borrowed_meaning};
 ghost use Rattle.icu_normalizer_core.specs.Properties.{mapped_to};
 
@@ -19,6 +19,17 @@ pub struct CanonicalBorrowed<'d> {
 }
 
 impl<'d> CanonicalBorrowed<'d> {
+    /// Checked data keep what canonical data promise (UAX 15): classes, mappings, full lists and composed pairs fit
+    /// together, and nothing contradicts what is built in.
+    ///
+    /// It computes nothing: its contract is what every holder of canonical data knows.
+    #[inline]
+    pub fn keep_promise(&self)
+        ensures { IsCanonical (borrowed_meaning self.now) }
+    {
+        let _tables = self.checked.tables();
+    }
+
     /// The canonical combining class of a character; a starter has 0 (UAX 15).
     #[inline]
     pub fn class(&self, c: char) -> u8
