@@ -3,7 +3,7 @@
 ghost use Rattle.std.specs.Prelude.{◌≡◌, ℕ, ◌*◌, List};
 ghost use Rattle.std.specs.Iterator.{at_most, IsFinite, size};
 ghost use Rattle.icu_normalizer_core.specs.BorrowedMeaning.{borrowed_meaning};
-ghost use Rattle.icu_normalizer_core.specs.Canonical.{IsCanonical, composed};
+ghost use Rattle.icu_normalizer_core.specs.Canonical.{composed};
 ghost use Rattle.icu_normalizer.specs.Composing.{IsComposable};
 ghost use Rattle.icu_normalizer.specs.Iter.{Spells};
 ghost use Rattle.icu_normalizer.specs.Readable.{IsReadable};
@@ -32,11 +32,11 @@ impl<'d, I: Iterator<Item = char> + Drop> Composition<'d, I> {
     /// The composed list of the characters that `chars` gives, by canonical data.
     #[inline]
     pub fn new(alloc: Global, canonical: CanonicalBorrowed<'d>, chars: I) -> Composition<'d, I>
-        requires { IsCanonical (borrowed_meaning canonical) }
         ensures text { (cs : List ℕ) → Spells I.next_gives chars cs → ComposesTo I.next_gives result (composed (borrowed_meaning canonical.entry) cs) }
         ensures ready { I.can_next chars → IsFinite (I.remaining chars) → CanCompose I.can_next I.remaining result }
         ensures size { composition_size I.remaining result ≡ 8 * size (I.remaining chars) }
     {
+        canonical.keep_promise();
         Self::over(alloc, canonical, chars)
     }
 

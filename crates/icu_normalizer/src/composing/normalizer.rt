@@ -2,7 +2,7 @@
 
 ghost use Rattle.std.specs.Prelude.{◌≡◌, ◌++◌, OnOk, OnErr, chars, encode_utf8_all};
 ghost use Rattle.icu_normalizer_core.specs.BorrowedMeaning.{borrowed_meaning};
-ghost use Rattle.icu_normalizer_core.specs.Canonical.{IsCanonical, composed};
+ghost use Rattle.icu_normalizer_core.specs.Canonical.{composed};
 ghost use Rattle.icu_normalizer.specs.Composing.{IsComposable};
 ghost use Rattle.icu_normalizer.specs.Readable.{IsReadable};
 ghost use Rattle.icu_normalizer.specs.Sinks.{AddsPrefix};
@@ -25,9 +25,9 @@ impl<'d> ComposingNormalizerBorrowed<'d> {
 
     /// A normaliser over canonical data. It takes no memory.
     pub(crate) fn new_with_data(canonical: CanonicalBorrowed<'d>) -> ComposingNormalizerBorrowed<'d>
-        requires { IsCanonical (borrowed_meaning canonical) }
         ensures { composing_data result ≡ borrowed_meaning canonical.entry }
     {
+        canonical.keep_promise();
         ComposingNormalizerBorrowed { canonical }
     }
 
