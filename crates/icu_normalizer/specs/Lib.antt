@@ -5,3 +5,4 @@ pub mod Normalizers
 pub mod Readable
 pub mod Run
 pub mod Sinks
+pub mod Splits
