@@ -1,103 +1,152 @@
--- Where a composed list is cut: weights of characters that composing adds up.
-use Rattle.std.proofs.Common.{◌≡◌, ℕ, ◌+◌, ◌<◌, ◌≤◌, true, ltb, List, [], ◌∷◌, ◌++◌, Some, None, refl, sym, ap, ◌∙◌, arith, inl, inr}
-use Rattle.std.proofs.lemmas.Bool.{cases_lt, and_parts, ltb-true}
-use Rattle.std.specs.List.{list_all}
-use Rattle.icu_normalizer_core.specs.Canonical.{Canonical, composing, recomposed}
-use Rattle.icu_normalizer.specs.Composing.{composed_with}
-use Rattle.icu_normalizer.proofs.ComposingLemmas.{composing_end, composing_cases, recomposed_begun, recomposed_passed, seen_over}
+-- Texts in UTF-8 that were read to a place.
+use Rattle.std.proofs.Common.{◌≡◌, ℕ, ◌-◌, ◌↔◌, true, List, [], ◌∷◌, ◌++◌, length, length-append, drop, take, chars, encode_utf8_all, encode_utf8, IsUtf8, refl, sym, ap, ap₂, subst, ◌∙◌, arith, append_assoc, append-nil}
+use Rattle.std.proofs.lemmas.Bool.{and_parts, and_from}
+use Rattle.std.proofs.lemmas.List.{nil_from_length}
+use Rattle.std.proofs.Math.Seq.{take-append_seam, drop-append_seam}
+use Rattle.std.specs.Str.{IsCharBoundary}
+use Rattle.std.proofs.lemmas.Str.{IsCharBoundary-at_seam, chars-nil, chars_from_encodes, encodes-chars, encodes-append, scalars-chars}
+use lib.Utf8.{scalar, scalars}
+use Rattle.icu_normalizer_core.specs.Canonical.{Canonical, IsCanonical, decomposed}
+use Rattle.icu_normalizer_core.proofs.DecomposedLemmas.{AreScalar}
+use Rattle.icu_normalizer.specs.Readable.{IsReadable}
+use Rattle.icu_normalizer.specs.Splits.{IsDecomposed, IsInPlace, ReachesFar, IsCut}
+use Rattle.icu_normalizer.proofs.SplitLemmas.{IsWalked, in_place_is_decomposed, walked_changes, walked_far, walked_alone}
+use Rattle.icu_normalizer.proofs.StepLemmas.{full_low}
 
-abbrev pub total : (ℕ → ℕ) → List ℕ → ℕ
-total weight [] = 0
-total weight (c ∷ cs) = weight c + total weight cs
+-- canonical data can be read fast
+pub readable : (canonical : Canonical) → IsCanonical canonical → IsReadable canonical
+readable canonical ok = (ok.decomposing.bounded, λ c low. full_low canonical c ok low, λ c low. ok.composing.starters c (omega arith))
 
-pub total_append : (weight : ℕ → ℕ) (xs ys : List ℕ) → total weight (xs ++ ys) ≡ total weight xs + total weight ys
-total_append weight [] ys = omega arith
-total_append weight (x ∷ xs) ys = omega (arith, total_append weight xs ys)
+front_scalars : (xs ys : List ℕ) → scalars (xs ++ ys) ≡ true → scalars xs ≡ true
+front_scalars [] ys h = refl
+front_scalars (x ∷ xs) ys h =
+    let parts = and_parts (scalar x) (scalars (xs ++ ys)) h in and_from (scalar x) (scalars xs) parts.0 (front_scalars xs ys parts.1)
 
--- a front that is no heavier is the shorter one
-pub longer : (weight : ℕ → ℕ) → ((c : ℕ) → 0 < weight c) → (xs ys front rest : List ℕ) → xs ++ ys ≡ front ++ rest → total weight xs ≤ total weight front
-    → (more : List ℕ) × (front ≡ xs ++ more) × (ys ≡ more ++ rest)
-longer weight positive [] ys front rest e le = (front, refl, e)
-longer weight positive (x ∷ xs) ys [] rest e le = let h = positive x in absurd (omega (arith, h, le))
-longer weight positive (x ∷ xs) ys (f ∷ fs) rest e le =
-    let head : x ≡ f = cc in
-    let tail : xs ++ ys ≡ fs ++ rest = cc in
-    let same : weight x ≡ weight f = ap weight head in
-    let behind = longer weight positive xs ys fs rest tail (omega (arith, le, same)) in
-    (behind.0, (cc), behind.2)
+back_scalars : (xs ys : List ℕ) → scalars (xs ++ ys) ≡ true → scalars ys ≡ true
+back_scalars [] ys h = h
+back_scalars (x ∷ xs) ys h = back_scalars xs ys (and_parts (scalar x) (scalars (xs ++ ys)) h).1
 
--- fronts of one weight are one
-pub same_front : (weight : ℕ → ℕ) → ((c : ℕ) → 0 < weight c) → (xs ys front rest : List ℕ) → xs ++ ys ≡ front ++ rest → total weight front ≡ total weight xs → rest ≡ ys
-same_front weight positive [] ys [] rest e n = sym e
-same_front weight positive [] ys (f ∷ fs) rest e n = let h = positive f in absurd (omega (arith, h, n))
-same_front weight positive (x ∷ xs) ys [] rest e n = let h = positive x in absurd (omega (arith, h, n))
-same_front weight positive (x ∷ xs) ys (f ∷ fs) rest e n =
-    let head : x ≡ f = cc in
-    let tail : xs ++ ys ≡ fs ++ rest = cc in
-    let same : weight x ≡ weight f = ap weight head in
-    same_front weight positive xs ys fs rest tail (omega (arith, n, same))
+are_scalar : (cs : List ℕ) → scalars cs ≡ true → AreScalar cs
+are_scalar [] h = tt
+are_scalar (c ∷ cs) h = let parts = and_parts (scalar c) (scalars cs) h in (parts.0, are_scalar cs parts.1)
 
-module _ (canonical : Canonical) (weight : ℕ → ℕ) (positive : (c : ℕ) → 0 < weight c) (adds : (a b c : ℕ) → canonical.pair a b ≡ Some c → weight c ≡ weight a + weight b) where
-  -- the first character of what a starter becomes is no lighter
-  heavier : (s : ℕ) (ms cs : List ℕ) → (first : ℕ) × (others : List ℕ) × (composing canonical s ms cs ≡ first ∷ others) × (weight s ≤ weight first)
-  heavier s ms [] = (s, ms, composing_end canonical s ms, omega arith)
-  heavier s ms (c ∷ cs) =
-      composing_cases canonical s ms c cs (λ l. (first : ℕ) × (others : List ℕ) × (l ≡ first ∷ others) × (weight s ≤ weight first))
-      (λ z joins. let now = heavier z ms cs in let sum : weight z ≡ weight s + weight c = adds s c z (seen_over _ _ z joins).1 in (now.0, now.1, now.2, omega (arith, now.3, sum)))
-      (λ none starter. (s, ms ++ composing canonical c [] cs, refl, omega arith))
-      (λ none mark. heavier s (ms ++ c ∷ []) cs)
+-- what was read, and what is ahead
+pub record IsRead (text rest ahead front back : List ℕ) : Type 0 where
+  pub whole : text ≡ encode_utf8_all front ++ rest
+  pub part : rest ≡ encode_utf8_all back ++ ahead
 
-  -- nothing is seen over by a starter
-  seen_by_starter : (ms : List ℕ) (d : ℕ) → canonical.class d ≡ 0 → list_all (λ m. ltb (canonical.class m) (canonical.class d)) ms ≡ true → ms ≡ []
-  seen_by_starter [] d starter h = refl
-  seen_by_starter (m ∷ ms) d starter h =
-      let both = and_parts (ltb (canonical.class m) (canonical.class d)) (list_all (λ m. ltb (canonical.class m) (canonical.class d)) ms) h in
-      let lower = ltb-true (canonical.class m) (canonical.class d) both.0 in
-      absurd (omega (arith, lower, starter))
+module _ (text rest ahead front back : List ℕ) (is : IsRead text rest ahead front back) (u : IsUtf8 text) (v : IsUtf8 ahead) where
+  rest_bytes : encode_utf8_all (back ++ chars ahead) ≡ rest
+  rest_bytes = encodes-append back (chars ahead) ∙ ap (λ l. encode_utf8_all back ++ l) (encodes-chars ahead v) ∙ sym is.part
 
-  cut_joined : (s : ℕ) (ms : List ℕ) (d z : ℕ) (ys front rest : List ℕ) → canonical.class d ≡ 0 → composed_with canonical s ms d ≡ Some z → composing canonical z ms ys ≡ front ++ rest
-      → total weight front ≡ weight s + total weight ms + 0 → rest ≡ composing canonical d [] ys
-  cut_joined s ms d z ys [] rest starter joins e n = let h = positive s in absurd (omega (arith, h, n))
-  cut_joined s ms d z ys (f ∷ fs) rest starter joins e n =
-      let both = seen_over _ _ z joins in
-      let sum = adds s d z both.1 in
-      let none = seen_by_starter ms d starter both.0 in
-      let weighs : total weight ms ≡ 0 = ap (total weight) none in
-      let now = heavier z ms ys in
-      let first : f ≡ now.0 = cc in
-      let same : weight f ≡ weight now.0 = ap weight first in
-      let h = positive d in
-      absurd (omega (arith, h, n, sum, weighs, same, now.3))
+  pub text_chars : front ++ (back ++ chars ahead) ≡ chars text
+  text_chars =
+      chars_from_encodes (front ++ (back ++ chars ahead)) text u
+      (encodes-append front (back ++ chars ahead) ∙ ap (λ l. encode_utf8_all front ++ l) rest_bytes ∙ sym is.whole)
 
-  -- where the front of a composed list stands for all that stands before a starter, the rest is composed from that starter on
-  pub cut_at_starter : (s : ℕ) (ms xs : List ℕ) (d : ℕ) (ys front rest : List ℕ) → canonical.class d ≡ 0 → composing canonical s ms (xs ++ d ∷ ys) ≡ front ++ rest
-      → total weight front ≡ weight s + total weight ms + total weight xs → rest ≡ composing canonical d [] ys
-  cut_at_starter s ms [] d ys front rest starter e n =
-      composing_cases canonical s ms d ys (λ l. l ≡ front ++ rest → rest ≡ composing canonical d [] ys)
-      (λ z joins f. cut_joined s ms d z ys front rest starter joins f n)
-      (λ none _ f. same_front weight positive (s ∷ ms) (composing canonical d [] ys) front rest f (omega (arith, n)))
-      (λ none mark f. absurd (omega (arith, mark, starter)))
-      e
-  cut_at_starter s ms (c ∷ cs) d ys front rest starter e n =
-      composing_cases canonical s ms c (cs ++ d ∷ ys) (λ l. l ≡ front ++ rest → rest ≡ composing canonical d [] ys)
-      (λ z joins f. let sum = adds s c z (seen_over _ _ z joins).1 in cut_at_starter z ms cs d ys front rest starter f (omega (arith, n, sum)))
-      (λ none _ f.
-      let parts = longer weight positive (s ∷ ms) (composing canonical c [] (cs ++ d ∷ ys)) front rest f (omega (arith, n)) in
-      let whole : total weight front ≡ total weight (s ∷ ms) + total weight parts.0 = ap (total weight) parts.1 ∙ total_append weight (s ∷ ms) parts.0 in
-      cut_at_starter c [] cs d ys parts.0 rest starter parts.2 (omega (arith, n, whole)))
-      (λ none mark f. let more = total_append weight ms (c ∷ []) in cut_at_starter s (ms ++ c ∷ []) cs d ys front rest starter f (omega (arith, n, more)))
-      e
+  text_scalars : scalars (front ++ (back ++ chars ahead)) ≡ true
+  text_scalars = ap scalars text_chars ∙ scalars-chars text u
 
-  pub cut_recomposed : (xs : List ℕ) (d : ℕ) (ys front rest : List ℕ) → canonical.class d ≡ 0 → recomposed canonical (xs ++ d ∷ ys) ≡ front ++ rest
-      → total weight front ≡ total weight xs → rest ≡ recomposed canonical (d ∷ ys)
-  cut_recomposed [] d ys front rest starter e n = same_front weight positive [] (recomposed canonical (d ∷ ys)) front rest e n
-  cut_recomposed (c ∷ cs) d ys front rest starter e n =
-      elim (cases_lt 0 (canonical.class c)) [
-        | inl mark ↦
-            let parts = longer weight positive (c ∷ []) (recomposed canonical (cs ++ d ∷ ys)) front rest (sym (recomposed_passed canonical c (cs ++ d ∷ ys) mark) ∙ e) (omega (arith, n)) in
-            let whole : total weight front ≡ total weight (c ∷ []) + total weight parts.0 = ap (total weight) parts.1 ∙ total_append weight (c ∷ []) parts.0 in
-            cut_recomposed cs d ys parts.0 rest starter parts.2 (omega (arith, n, whole))
-        | inr first ↦
-            cut_at_starter c [] cs d ys front rest starter (sym (recomposed_begun canonical c (cs ++ d ∷ ys) first) ∙ e) (omega (arith, n))
-            ∙ sym (recomposed_begun canonical d ys (omega (arith, starter)))
-      ]
+  pub rest_utf8 : IsUtf8 rest
+  rest_utf8 = (back ++ chars ahead, (back_scalars front (back ++ chars ahead) text_scalars, rest_bytes))
+
+  front_utf8 : IsUtf8 (encode_utf8_all front)
+  front_utf8 = (front, (front_scalars front (back ++ chars ahead) text_scalars, refl))
+
+  rest_chars : back ++ chars ahead ≡ chars rest
+  rest_chars = chars_from_encodes (back ++ chars ahead) rest rest_utf8 rest_bytes
+
+  -- nothing is ahead
+  pub read_all : (canonical : Canonical) (before : ℕ) → IsWalked canonical front back before → length ahead ≡ 0 → IsDecomposed canonical (chars text)
+  read_all canonical before w none =
+      let empty : chars ahead ≡ [] = ap chars (nil_from_length ahead none) ∙ chars-nil in
+      let same : front ++ back ≡ chars text = ap (λ l. front ++ l) (sym (append-nil back) ∙ ap (λ l. back ++ l) (sym empty)) ∙ text_chars in
+      subst (IsDecomposed canonical) same (in_place_is_decomposed canonical 0 (front ++ back) w.in_place)
+
+  -- a character out of its place is ahead
+  pub read_cut : (canonical : Canonical) (before c : ℕ) (left : List ℕ) → IsCanonical canonical → IsWalked canonical front back before → chars ahead ≡ c ∷ left → (IsInPlace canonical before c → ⊥) → IsCut canonical text rest
+  read_cut canonical before c left ok w next out =
+      let same : (front ++ back) ++ c ∷ left ≡ chars text = append_assoc front back (c ∷ left) ∙ ap (λ l. front ++ (back ++ l)) (sym next) ∙ text_chars in
+      let scalar : AreScalar ((front ++ back) ++ c ∷ left) = subst AreScalar (sym same) (are_scalar (chars text) (scalars-chars text u)) in
+      record {
+        prefix = front;
+        bytes = is.whole;
+        readable = (front_utf8, rest_utf8);
+        whole = sym text_chars ∙ ap (λ l. front ++ l) rest_chars;
+        alone =
+            ap (decomposed canonical) (sym text_chars) ∙ walked_alone canonical front back (chars ahead) before w
+            ∙ ap (λ l. front ++ decomposed canonical l) rest_chars;
+        far = subst (λ l. ReachesFar canonical l front) same (walked_far canonical ok.decomposing front back before c left scalar w out (λ x low. full_low canonical x ok low) (λ x low. ok.composing.starters x (omega arith)));
+        changes = λ h. walked_changes canonical ok.decomposing front back before c left scalar w out (subst (IsDecomposed canonical) (sym same) h);
+      }
+
+one_char : (c : ℕ) → encode_utf8_all (c ∷ []) ≡ encode_utf8 c
+one_char c = append-nil (encode_utf8 c)
+
+-- a starter comes next, and a mark
+pub read_starter : (text rest ahead next front back : List ℕ) (c : ℕ) → IsRead text rest ahead front back → ahead ≡ encode_utf8 c ++ next → IsRead text ahead next (front ++ back) (c ∷ [])
+read_starter text rest ahead next front back c is e = record {
+  whole = is.whole ∙ ap (λ l. encode_utf8_all front ++ l) is.part ∙ sym (append_assoc (encode_utf8_all front) (encode_utf8_all back) ahead) ∙ ap (λ l. l ++ ahead) (sym (encodes-append front back));
+  part = e ∙ ap (λ l. l ++ next) (sym (one_char c));
+}
+
+pub read_mark : (text rest ahead next front back : List ℕ) (c : ℕ) → IsRead text rest ahead front back → ahead ≡ encode_utf8 c ++ next → IsRead text rest next front (back ++ c ∷ [])
+read_mark text rest ahead next front back c is e = record {
+  whole = is.whole;
+  part = is.part ∙ ap (λ l. encode_utf8_all back ++ l) (e ∙ ap (λ l. l ++ next) (sym (one_char c))) ∙ sym (append_assoc (encode_utf8_all back) (encode_utf8_all (c ∷ [])) next) ∙ ap (λ l. l ++ next) (sym (encodes-append back (c ∷ [])));
+}
+
+-- ---- the two parts of a text
+
+nothing_decomposed : (canonical : Canonical) → decomposed canonical (chars []) ≡ []
+nothing_decomposed canonical = ap (decomposed canonical) chars-nil ∙ in_place_is_decomposed canonical 0 [] tt
+
+-- a text that is its own decomposed list is its prefix
+pub all_normal : (canonical : Canonical) (text a b : List ℕ) → IsDecomposed canonical (chars text) → a ≡ text → b ≡ [] → chars a ++ decomposed canonical (chars b) ≡ decomposed canonical (chars text)
+all_normal canonical text a b h e f =
+    ap₂ (λ x y. chars x ++ decomposed canonical (chars y)) e f ∙ ap (λ l. chars text ++ l) (nothing_decomposed canonical) ∙ append-nil (chars text) ∙ sym h
+
+pub own_bytes : (canonical : Canonical) (text : List ℕ) → IsUtf8 text → IsDecomposed canonical (chars text) → text ≡ encode_utf8_all (decomposed canonical (chars text))
+own_bytes canonical text u h = sym (encodes-chars text u) ∙ ap encode_utf8_all (sym h)
+
+pub bytes_from : (canonical : Canonical) (text a b : List ℕ) → IsUtf8 a → chars a ++ decomposed canonical (chars b) ≡ decomposed canonical (chars text)
+    → a ++ encode_utf8_all (decomposed canonical (chars b)) ≡ encode_utf8_all (decomposed canonical (chars text))
+bytes_from canonical text a b u normal =
+    ap (λ l. l ++ encode_utf8_all (decomposed canonical (chars b))) (sym (encodes-chars a u))
+    ∙ sym (encodes-append (chars a) (decomposed canonical (chars b))) ∙ ap encode_utf8_all normal
+
+module _ (canonical : Canonical) (text rest : List ℕ) (cut : IsCut canonical text rest) where
+  cut_place : length (encode_utf8_all cut.prefix) ≡ length text - length rest
+  cut_place = omega (arith, ap length cut.bytes, length-append (encode_utf8_all cut.prefix) rest)
+
+  pub cut_boundary : IsCharBoundary text (length text - length rest)
+  cut_boundary = subst (IsCharBoundary text) cut_place (IsCharBoundary-at_seam text (encode_utf8_all cut.prefix) rest cut.bytes cut.readable.1)
+
+  front_is : (a : List ℕ) → a ≡ take (length text - length rest) text → a ≡ encode_utf8_all cut.prefix
+  front_is a e =
+      e ∙ ap (λ n. take n text) (sym cut_place) ∙ ap (take (length (encode_utf8_all cut.prefix))) cut.bytes ∙ take-append_seam (encode_utf8_all cut.prefix) rest
+
+  front_chars : (a : List ℕ) → a ≡ take (length text - length rest) text → chars a ≡ cut.prefix
+  front_chars a e = ap chars (front_is a e) ∙ sym (chars_from_encodes cut.prefix (encode_utf8_all cut.prefix) cut.readable.0 refl)
+
+  back_is : (b : List ℕ) → b ≡ drop (length text - length rest) text → b ≡ rest
+  back_is b e = e ∙ ap (λ n. drop n text) (sym cut_place) ∙ ap (drop (length (encode_utf8_all cut.prefix))) cut.bytes ∙ drop-append_seam (encode_utf8_all cut.prefix) rest
+
+  module _ (a b : List ℕ) (front : a ≡ take (length text - length rest) text) (back : b ≡ drop (length text - length rest) text) where
+    pub cut_normal : chars a ++ decomposed canonical (chars b) ≡ decomposed canonical (chars text)
+    cut_normal = ap₂ (λ x y. x ++ decomposed canonical (chars y)) (front_chars a front) (back_is b back) ∙ sym cut.alone
+
+    pub cut_bytes : a ++ encode_utf8_all (decomposed canonical (chars b)) ≡ encode_utf8_all (decomposed canonical (chars text))
+    cut_bytes = bytes_from canonical text a b (subst IsUtf8 (sym (front_is a front)) cut.readable.0) cut_normal
+
+    pub cut_empty : (b ≡ []) ↔ IsDecomposed canonical (chars text)
+    cut_empty = (
+      λ none.
+          let nothing = sym (back_is b back) ∙ none in
+          cut.alone ∙ ap (λ l. cut.prefix ++ decomposed canonical (chars l)) nothing ∙ ap (λ l. cut.prefix ++ l) (nothing_decomposed canonical ∙ sym chars-nil)
+          ∙ ap (λ l. cut.prefix ++ chars l) (sym nothing) ∙ sym cut.whole,
+      λ h. absurd (cut.changes h),
+    )
+
+    pub cut_far : ReachesFar canonical (chars text) (chars a)
+    cut_far = subst (ReachesFar canonical (chars text)) (sym (front_chars a front)) cut.far

@@ -8,3 +8,4 @@ pub mod Normalizers
 pub mod Readable
 pub mod Run
 pub mod Sinks
+pub mod Splits

@@ -8,7 +8,9 @@ ghost use Rattle.icu_normalizer.specs.Iter.{Spells};
 ghost use Rattle.icu_normalizer.specs.Readable.{IsReadable};
 ghost use Rattle.icu_normalizer.specs.Run.{pending};
 
+mod cuts;
 mod normalizer;
+mod places;
 
 use crate::run::Run;
 use icu_normalizer_core::canonical::CanonicalBorrowed;
