@@ -1,5 +1,5 @@
 -- The steps of a composer.
-use Rattle.std.proofs.Common.{◌≡◌, ℕ, true, false, List, [], ◌∷◌, ◌++◌, drop, Option, Some, None, option_to_list, IfNone, append-nil, refl, sym, ap, ap₂, ◌∙◌}
+use Rattle.std.proofs.Common.{◌≡◌, ℕ, true, false, List, [], ◌∷◌, ◌++◌, drop, Option, Some, None, option_to_list, IfNone, append-nil, sym, ap, ap₂, ◌∙◌}
 use Rattle.std.proofs.lemmas.Bool.{cond-true, cond-false}
 use Rattle.icu_normalizer_core.specs.Canonical.{composing, recomposed}
 use Rattle.icu_normalizer.specs.declared.composing.composer.Composer.{Composer}

@@ -17,7 +17,7 @@ use Rattle.icu_normalizer.proofs.StepLemmas.{full_low}
 pub readable : (canonical : Canonical) → IsCanonical canonical → IsReadable canonical
 readable canonical ok = (ok.decomposing.bounded, λ c low. full_low canonical c ok low, λ c low. ok.composing.starters c (omega arith))
 
-front_scalars : (xs ys : List ℕ) → scalars (xs ++ ys) ≡ true → scalars xs ≡ true
+pub front_scalars : (xs ys : List ℕ) → scalars (xs ++ ys) ≡ true → scalars xs ≡ true
 front_scalars [] ys h = refl
 front_scalars (x ∷ xs) ys h =
     let parts = and_parts (scalar x) (scalars (xs ++ ys)) h in and_from (scalar x) (scalars xs) parts.0 (front_scalars xs ys parts.1)
@@ -26,7 +26,7 @@ back_scalars : (xs ys : List ℕ) → scalars (xs ++ ys) ≡ true → scalars ys
 back_scalars [] ys h = h
 back_scalars (x ∷ xs) ys h = back_scalars xs ys (and_parts (scalar x) (scalars (xs ++ ys)) h).1
 
-are_scalar : (cs : List ℕ) → scalars cs ≡ true → AreScalar cs
+pub are_scalar : (cs : List ℕ) → scalars cs ≡ true → AreScalar cs
 are_scalar [] h = tt
 are_scalar (c ∷ cs) h = let parts = and_parts (scalar c) (scalars cs) h in (parts.0, are_scalar cs parts.1)
 
@@ -44,16 +44,16 @@ module _ (text rest ahead front back : List ℕ) (is : IsRead text rest ahead fr
       chars_from_encodes (front ++ (back ++ chars ahead)) text u
       (encodes-append front (back ++ chars ahead) ∙ ap (λ l. encode_utf8_all front ++ l) rest_bytes ∙ sym is.whole)
 
-  text_scalars : scalars (front ++ (back ++ chars ahead)) ≡ true
+  pub text_scalars : scalars (front ++ (back ++ chars ahead)) ≡ true
   text_scalars = ap scalars text_chars ∙ scalars-chars text u
 
   pub rest_utf8 : IsUtf8 rest
   rest_utf8 = (back ++ chars ahead, (back_scalars front (back ++ chars ahead) text_scalars, rest_bytes))
 
-  front_utf8 : IsUtf8 (encode_utf8_all front)
+  pub front_utf8 : IsUtf8 (encode_utf8_all front)
   front_utf8 = (front, (front_scalars front (back ++ chars ahead) text_scalars, refl))
 
-  rest_chars : back ++ chars ahead ≡ chars rest
+  pub rest_chars : back ++ chars ahead ≡ chars rest
   rest_chars = chars_from_encodes (back ++ chars ahead) rest rest_utf8 rest_bytes
 
   -- nothing is ahead

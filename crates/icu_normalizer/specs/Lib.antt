@@ -2,6 +2,7 @@ pub mod Composer
 pub mod Composing
 pub mod Compositions
 pub mod Decompositions
+pub mod FormCuts
 pub mod Iter
 pub mod Marks
 pub mod Normalizers

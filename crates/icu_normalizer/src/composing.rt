@@ -9,6 +9,7 @@ ghost use Rattle.icu_normalizer.specs.Iter.{Spells};
 ghost use Rattle.icu_normalizer.specs.Readable.{IsReadable};
 
 mod composer;
+mod cuts;
 mod normalizer;
 
 use crate::decomposing::Decomposition;

@@ -1,4 +1,4 @@
-use Rattle.std.proofs.Common.{[], ◌∷◌, refl, subst, ◌∙◌, arith}
+use Rattle.std.proofs.Common.{[], ◌∷◌, subst, ◌∙◌, arith}
 use Rattle.icu_normalizer.specs.Compositions.{ComposesTo}
 use Rattle.icu_normalizer.proofs.CompositionLemmas.{composes_stop, keeps_pushed, finished, keeps_then}
 use Rattle.icu_normalizer.proofs.composing.CompositionIterator.next.Goals as goal
