@@ -1,5 +1,14 @@
+pub mod ComposedCutLemmas
+pub mod ComposedWalkLemmas
+pub mod ComposerLemmas
+pub mod ComposingLemmas
+pub mod CompositionLemmas
+pub mod CutLemmas
+pub mod FormCutLemmas
 pub mod IterLemmas
 pub mod RunLemmas
 pub mod SinkLemmas
 pub mod SortLemmas
+pub mod SplitLemmas
 pub mod StepLemmas
+pub mod WeightLemmas

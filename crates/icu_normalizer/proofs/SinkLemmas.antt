@@ -29,3 +29,28 @@ sink_part old mid new all seen left c rest e f before h = (
       ∙ sym (append_assoc (encode_utf8_all seen) h.0 (h.1 ++ encode_utf8_all rest)),
   h.3 ∙ ap (λ l. l ++ h.0) before ∙ append_assoc old (encode_utf8_all seen) h.0,
 )
+
+-- ---- a text in two parts
+
+-- both were written
+pub joined_whole : (old mid new front back all : List ℕ) → front ++ back ≡ all → mid ≡ old ++ front → new ≡ mid ++ back → new ≡ old ++ all
+joined_whole old mid new front back all e first second =
+    second ∙ ap (λ l. l ++ back) first ∙ append_assoc old front back ∙ ap (λ l. old ++ l) e
+
+-- the first was not
+pub joined_front : (old new front back all : List ℕ) → front ++ back ≡ all → AddsPrefix old front new → AddsPrefix old all new
+joined_front old new front back all e h =
+    (h.0, h.1 ++ back, sym e ∙ ap (λ l. l ++ back) h.2 ∙ append_assoc h.0 h.1 back, h.3)
+
+-- the second was not
+pub joined_back : (old mid new front back all : List ℕ) → front ++ back ≡ all → mid ≡ old ++ front → AddsPrefix mid back new → AddsPrefix old all new
+joined_back old mid new front back all e first h = (
+  front ++ h.0,
+  h.1,
+  sym e ∙ ap (λ l. front ++ l) h.2 ∙ sym (append_assoc front h.0 h.1),
+  h.3 ∙ ap (λ l. l ++ h.0) first ∙ append_assoc old front h.0,
+)
+
+-- into an empty sink
+pub joined_new : (old mid new front back all : List ℕ) → front ++ back ≡ all → old ≡ [] → mid ≡ old ++ front → new ≡ mid ++ back → new ≡ all
+joined_new old mid new front back all e empty first second = joined_whole old mid new front back all e first second ∙ ap (λ l. l ++ all) empty

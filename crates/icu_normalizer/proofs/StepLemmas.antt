@@ -11,7 +11,7 @@ use Rattle.icu_normalizer.proofs.IterLemmas.{Spells-next, Spells-end}
 use Rattle.icu_normalizer.proofs.RunLemmas.{order_nothing, reordered_empty}
 
 -- what is left of nothing
-left_nothing : (step : ℕ → List ℕ) (xs ns : List ℕ) → xs ≡ [] → Leaves step xs ns → ns ≡ []
+pub left_nothing : (step : ℕ → List ℕ) (xs ns : List ℕ) → xs ≡ [] → Leaves step xs ns → ns ≡ []
 left_nothing step xs ns e Leaves.nothing = refl
 left_nothing step xs ns e (Leaves.unmapped c cs ms u h) = cc
 left_nothing step xs ns e (Leaves.mapped c d ds cs ms u h) = cc

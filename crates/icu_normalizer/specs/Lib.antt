@@ -1,7 +1,12 @@
+pub mod Composer
+pub mod Composing
+pub mod Compositions
 pub mod Decompositions
+pub mod FormCuts
 pub mod Iter
 pub mod Marks
 pub mod Normalizers
 pub mod Readable
 pub mod Run
 pub mod Sinks
+pub mod Splits

@@ -8,7 +8,9 @@ ghost use Rattle.icu_normalizer.specs.Iter.{Spells};
 ghost use Rattle.icu_normalizer.specs.Readable.{IsReadable};
 ghost use Rattle.icu_normalizer.specs.Run.{pending};
 
+mod cuts;
 mod normalizer;
+mod places;
 
 use crate::run::Run;
 use icu_normalizer_core::canonical::CanonicalBorrowed;
@@ -84,7 +86,7 @@ impl<'d, I: Iterator<Item = char> + Drop> Decomposition<'d, I> {
     }
 
     /// Drops what is left.
-    fn stop(&mut self)
+    pub(crate) fn stop(&mut self)
         ensures text { DecomposesTo I.next_gives self.new [] }
         ensures ready { CanDecompose I.can_next I.remaining self.new }
         ensures size { decomposition_size I.remaining self.new ≡ 0 }

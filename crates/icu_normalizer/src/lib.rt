@@ -2,6 +2,7 @@
 //! text in NFD.
 #![tactic(auto)]
 
+pub mod composing;
 pub mod decomposing;
 mod run;
 pub mod sinks;

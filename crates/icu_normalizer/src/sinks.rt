@@ -1,6 +1,7 @@
 //! What normal forms are written to.
 
 ghost use Rattle.std.specs.Prelude.{◌≡◌, ℕ, List, [], ◌∷◌, ◌++◌, OnOk, OnErr, encode_utf8_all, string_bytes};
+ghost use Rattle.std.specs.Char.Escape.{encode_utf16};
 ghost use Rattle.icu_normalizer.specs.Sinks.{AddsPrefix};
 
 use std::alloc::AllocError;
@@ -11,6 +12,11 @@ pub trait TextSink {
     type Error: Drop;
 
     ghost contents: { Self → List ℕ };
+
+    /// Takes a text. After an error the sink holds what it held, and a prefix of the text.
+    fn write_str(&mut self, text: &str) -> Result<(), Self::Error>
+        ensures ok { OnOk result (contents self.new ≡ contents self.old ++ text.now) }
+        ensures err { OnErr result (AddsPrefix (contents self.old) text.now (contents self.new)) };
 
     /// Takes a character. After an error the sink holds what it held, and a prefix of the character's bytes.
     fn write_char(&mut self, c: char) -> Result<(), Self::Error>
@@ -23,8 +29,49 @@ impl TextSink for String {
 
     ghost contents = { λ s. string_bytes s };
 
+    fn write_str(&mut self, text: &str) -> Result<(), AllocError> {
+        self.push_str(text)?;
+        Ok(())
+    }
+
     fn write_char(&mut self, c: char) -> Result<(), AllocError> {
         self.push(c)?;
+        Ok(())
+    }
+}
+
+/// A sink of text in UTF-16: it takes characters, and holds their units.
+pub trait UnitSink {
+    /// Why a character can't be taken.
+    type Error: Drop;
+
+    ghost contents: { Self → List ℕ };
+
+    /// Takes units. After an error the sink holds what it held, and a prefix of the units.
+    fn write_slice(&mut self, units: &[u16]) -> Result<(), Self::Error>
+        ensures ok { OnOk result (contents self.new ≡ contents self.old ++ units.now) }
+        ensures err { OnErr result (AddsPrefix (contents self.old) units.now (contents self.new)) };
+
+    /// Takes a character. After an error the sink holds what it held, and a prefix of the character's units.
+    fn write_char(&mut self, c: char) -> Result<(), Self::Error>
+        ensures ok { OnOk result (contents self.new ≡ contents self.old ++ encode_utf16 c) }
+        ensures err { OnErr result (AddsPrefix (contents self.old) (encode_utf16 c) (contents self.new)) };
+}
+
+impl UnitSink for Vec<u16> {
+    type Error = AllocError;
+
+    ghost contents = { λ v. v.items };
+
+    fn write_slice(&mut self, units: &[u16]) -> Result<(), AllocError> {
+        self.extend_from_slice(units)?;
+        Ok(())
+    }
+
+    fn write_char(&mut self, c: char) -> Result<(), AllocError> {
+        let mut units = [0; 2];
+        let units = c.encode_utf16(&mut units);
+        self.extend_from_slice(units)?;
         Ok(())
     }
 }

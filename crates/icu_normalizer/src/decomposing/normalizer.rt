@@ -6,6 +6,8 @@ ghost use Rattle.icu_normalizer_core.specs.Canonical.{decomposed};
 ghost use Rattle.icu_normalizer.specs.Readable.{IsReadable};
 ghost use Rattle.icu_normalizer.specs.Sinks.{AddsPrefix};
 
+mod splits;
+
 use super::Decomposition;
 use crate::sinks::{NormError, TextSink};
 use icu_normalizer_core::canonical::CanonicalBorrowed;
@@ -31,6 +33,23 @@ impl<'d> DecomposingNormalizerBorrowed<'d> {
 
     /// Writes a text in NFD to a sink. After an error the sink holds what it held, and a prefix of the text in NFD.
     pub fn normalize_to<S: TextSink>(
+        &self,
+        alloc: Global,
+        text: &str,
+        sink: &mut S,
+    ) -> Result<(), NormError<S::Error>>
+        ensures ok { OnOk result (S.contents sink.new ≡ S.contents sink.old ++ encode_utf8_all (decomposed (normalizer_data self.now) (chars text.now))) }
+        ensures err { OnErr result (AddsPrefix (S.contents sink.old) (encode_utf8_all (decomposed (normalizer_data self.now) (chars text.now))) (S.contents sink.new)) }
+    {
+        let (prefix, rest) = self.split_normalized(text);
+        if let Err(error) = sink.write_str(prefix) {
+            return Err(NormError::Sink(error));
+        }
+        self.write_decomposed(alloc, rest, sink)
+    }
+
+    /// The same, character by character.
+    fn write_decomposed<S: TextSink>(
         &self,
         alloc: Global,
         text: &str,

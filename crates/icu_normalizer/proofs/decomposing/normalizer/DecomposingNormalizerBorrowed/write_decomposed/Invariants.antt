@@ -3,7 +3,7 @@ use Rattle.std.specs.Str.Iter.{chars_steps}
 use Rattle.icu_normalizer_core.specs.Canonical.{decomposed}
 use Rattle.icu_normalizer.specs.Decompositions.{DecomposesTo}
 use Rattle.icu_normalizer.specs.Normalizers.{normalizer_data}
-use Rattle.icu_normalizer.proofs.decomposing.normalizer.DecomposingNormalizerBorrowed.normalize_to.Given as goal
+use Rattle.icu_normalizer.proofs.decomposing.normalizer.DecomposingNormalizerBorrowed.write_decomposed.Given as goal
 
 abbrev pub invariant-loop-item : goal.invariant-loop-item
 invariant-loop-item g l =

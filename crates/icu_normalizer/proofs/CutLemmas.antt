@@ -1,0 +1,152 @@
+-- Texts in UTF-8 that were read to a place.
+use Rattle.std.proofs.Common.{◌≡◌, ℕ, ◌-◌, ◌↔◌, true, List, [], ◌∷◌, ◌++◌, length, length-append, drop, take, chars, encode_utf8_all, encode_utf8, IsUtf8, refl, sym, ap, ap₂, subst, ◌∙◌, arith, append_assoc, append-nil}
+use Rattle.std.proofs.lemmas.Bool.{and_parts, and_from}
+use Rattle.std.proofs.lemmas.List.{nil_from_length}
+use Rattle.std.proofs.Math.Seq.{take-append_seam, drop-append_seam}
+use Rattle.std.specs.Str.{IsCharBoundary}
+use Rattle.std.proofs.lemmas.Str.{IsCharBoundary-at_seam, chars-nil, chars_from_encodes, encodes-chars, encodes-append, scalars-chars}
+use lib.Utf8.{scalar, scalars}
+use Rattle.icu_normalizer_core.specs.Canonical.{Canonical, IsCanonical, decomposed}
+use Rattle.icu_normalizer_core.proofs.DecomposedLemmas.{AreScalar}
+use Rattle.icu_normalizer.specs.Readable.{IsReadable}
+use Rattle.icu_normalizer.specs.Splits.{IsDecomposed, IsInPlace, ReachesFar, IsCut}
+use Rattle.icu_normalizer.proofs.SplitLemmas.{IsWalked, in_place_is_decomposed, walked_changes, walked_far, walked_alone}
+use Rattle.icu_normalizer.proofs.StepLemmas.{full_low}
+
+-- canonical data can be read fast
+pub readable : (canonical : Canonical) → IsCanonical canonical → IsReadable canonical
+readable canonical ok = (ok.decomposing.bounded, λ c low. full_low canonical c ok low, λ c low. ok.composing.starters c (omega arith))
+
+pub front_scalars : (xs ys : List ℕ) → scalars (xs ++ ys) ≡ true → scalars xs ≡ true
+front_scalars [] ys h = refl
+front_scalars (x ∷ xs) ys h =
+    let parts = and_parts (scalar x) (scalars (xs ++ ys)) h in and_from (scalar x) (scalars xs) parts.0 (front_scalars xs ys parts.1)
+
+back_scalars : (xs ys : List ℕ) → scalars (xs ++ ys) ≡ true → scalars ys ≡ true
+back_scalars [] ys h = h
+back_scalars (x ∷ xs) ys h = back_scalars xs ys (and_parts (scalar x) (scalars (xs ++ ys)) h).1
+
+pub are_scalar : (cs : List ℕ) → scalars cs ≡ true → AreScalar cs
+are_scalar [] h = tt
+are_scalar (c ∷ cs) h = let parts = and_parts (scalar c) (scalars cs) h in (parts.0, are_scalar cs parts.1)
+
+-- what was read, and what is ahead
+pub record IsRead (text rest ahead front back : List ℕ) : Type 0 where
+  pub whole : text ≡ encode_utf8_all front ++ rest
+  pub part : rest ≡ encode_utf8_all back ++ ahead
+
+module _ (text rest ahead front back : List ℕ) (is : IsRead text rest ahead front back) (u : IsUtf8 text) (v : IsUtf8 ahead) where
+  rest_bytes : encode_utf8_all (back ++ chars ahead) ≡ rest
+  rest_bytes = encodes-append back (chars ahead) ∙ ap (λ l. encode_utf8_all back ++ l) (encodes-chars ahead v) ∙ sym is.part
+
+  pub text_chars : front ++ (back ++ chars ahead) ≡ chars text
+  text_chars =
+      chars_from_encodes (front ++ (back ++ chars ahead)) text u
+      (encodes-append front (back ++ chars ahead) ∙ ap (λ l. encode_utf8_all front ++ l) rest_bytes ∙ sym is.whole)
+
+  pub text_scalars : scalars (front ++ (back ++ chars ahead)) ≡ true
+  text_scalars = ap scalars text_chars ∙ scalars-chars text u
+
+  pub rest_utf8 : IsUtf8 rest
+  rest_utf8 = (back ++ chars ahead, (back_scalars front (back ++ chars ahead) text_scalars, rest_bytes))
+
+  pub front_utf8 : IsUtf8 (encode_utf8_all front)
+  front_utf8 = (front, (front_scalars front (back ++ chars ahead) text_scalars, refl))
+
+  pub rest_chars : back ++ chars ahead ≡ chars rest
+  rest_chars = chars_from_encodes (back ++ chars ahead) rest rest_utf8 rest_bytes
+
+  -- nothing is ahead
+  pub read_all : (canonical : Canonical) (before : ℕ) → IsWalked canonical front back before → length ahead ≡ 0 → IsDecomposed canonical (chars text)
+  read_all canonical before w none =
+      let empty : chars ahead ≡ [] = ap chars (nil_from_length ahead none) ∙ chars-nil in
+      let same : front ++ back ≡ chars text = ap (λ l. front ++ l) (sym (append-nil back) ∙ ap (λ l. back ++ l) (sym empty)) ∙ text_chars in
+      subst (IsDecomposed canonical) same (in_place_is_decomposed canonical 0 (front ++ back) w.in_place)
+
+  -- a character out of its place is ahead
+  pub read_cut : (canonical : Canonical) (before c : ℕ) (left : List ℕ) → IsCanonical canonical → IsWalked canonical front back before → chars ahead ≡ c ∷ left → (IsInPlace canonical before c → ⊥) → IsCut canonical text rest
+  read_cut canonical before c left ok w next out =
+      let same : (front ++ back) ++ c ∷ left ≡ chars text = append_assoc front back (c ∷ left) ∙ ap (λ l. front ++ (back ++ l)) (sym next) ∙ text_chars in
+      let scalar : AreScalar ((front ++ back) ++ c ∷ left) = subst AreScalar (sym same) (are_scalar (chars text) (scalars-chars text u)) in
+      record {
+        prefix = front;
+        bytes = is.whole;
+        readable = (front_utf8, rest_utf8);
+        whole = sym text_chars ∙ ap (λ l. front ++ l) rest_chars;
+        alone =
+            ap (decomposed canonical) (sym text_chars) ∙ walked_alone canonical front back (chars ahead) before w
+            ∙ ap (λ l. front ++ decomposed canonical l) rest_chars;
+        far = subst (λ l. ReachesFar canonical l front) same (walked_far canonical ok.decomposing front back before c left scalar w out (λ x low. full_low canonical x ok low) (λ x low. ok.composing.starters x (omega arith)));
+        changes = λ h. walked_changes canonical ok.decomposing front back before c left scalar w out (subst (IsDecomposed canonical) (sym same) h);
+      }
+
+one_char : (c : ℕ) → encode_utf8_all (c ∷ []) ≡ encode_utf8 c
+one_char c = append-nil (encode_utf8 c)
+
+-- a starter comes next, and a mark
+pub read_starter : (text rest ahead next front back : List ℕ) (c : ℕ) → IsRead text rest ahead front back → ahead ≡ encode_utf8 c ++ next → IsRead text ahead next (front ++ back) (c ∷ [])
+read_starter text rest ahead next front back c is e = record {
+  whole = is.whole ∙ ap (λ l. encode_utf8_all front ++ l) is.part ∙ sym (append_assoc (encode_utf8_all front) (encode_utf8_all back) ahead) ∙ ap (λ l. l ++ ahead) (sym (encodes-append front back));
+  part = e ∙ ap (λ l. l ++ next) (sym (one_char c));
+}
+
+pub read_mark : (text rest ahead next front back : List ℕ) (c : ℕ) → IsRead text rest ahead front back → ahead ≡ encode_utf8 c ++ next → IsRead text rest next front (back ++ c ∷ [])
+read_mark text rest ahead next front back c is e = record {
+  whole = is.whole;
+  part = is.part ∙ ap (λ l. encode_utf8_all back ++ l) (e ∙ ap (λ l. l ++ next) (sym (one_char c))) ∙ sym (append_assoc (encode_utf8_all back) (encode_utf8_all (c ∷ [])) next) ∙ ap (λ l. l ++ next) (sym (encodes-append back (c ∷ [])));
+}
+
+-- ---- the two parts of a text
+
+nothing_decomposed : (canonical : Canonical) → decomposed canonical (chars []) ≡ []
+nothing_decomposed canonical = ap (decomposed canonical) chars-nil ∙ in_place_is_decomposed canonical 0 [] tt
+
+-- a text that is its own decomposed list is its prefix
+pub all_normal : (canonical : Canonical) (text a b : List ℕ) → IsDecomposed canonical (chars text) → a ≡ text → b ≡ [] → chars a ++ decomposed canonical (chars b) ≡ decomposed canonical (chars text)
+all_normal canonical text a b h e f =
+    ap₂ (λ x y. chars x ++ decomposed canonical (chars y)) e f ∙ ap (λ l. chars text ++ l) (nothing_decomposed canonical) ∙ append-nil (chars text) ∙ sym h
+
+pub own_bytes : (canonical : Canonical) (text : List ℕ) → IsUtf8 text → IsDecomposed canonical (chars text) → text ≡ encode_utf8_all (decomposed canonical (chars text))
+own_bytes canonical text u h = sym (encodes-chars text u) ∙ ap encode_utf8_all (sym h)
+
+pub bytes_from : (canonical : Canonical) (text a b : List ℕ) → IsUtf8 a → chars a ++ decomposed canonical (chars b) ≡ decomposed canonical (chars text)
+    → a ++ encode_utf8_all (decomposed canonical (chars b)) ≡ encode_utf8_all (decomposed canonical (chars text))
+bytes_from canonical text a b u normal =
+    ap (λ l. l ++ encode_utf8_all (decomposed canonical (chars b))) (sym (encodes-chars a u))
+    ∙ sym (encodes-append (chars a) (decomposed canonical (chars b))) ∙ ap encode_utf8_all normal
+
+module _ (canonical : Canonical) (text rest : List ℕ) (cut : IsCut canonical text rest) where
+  cut_place : length (encode_utf8_all cut.prefix) ≡ length text - length rest
+  cut_place = omega (arith, ap length cut.bytes, length-append (encode_utf8_all cut.prefix) rest)
+
+  pub cut_boundary : IsCharBoundary text (length text - length rest)
+  cut_boundary = subst (IsCharBoundary text) cut_place (IsCharBoundary-at_seam text (encode_utf8_all cut.prefix) rest cut.bytes cut.readable.1)
+
+  front_is : (a : List ℕ) → a ≡ take (length text - length rest) text → a ≡ encode_utf8_all cut.prefix
+  front_is a e =
+      e ∙ ap (λ n. take n text) (sym cut_place) ∙ ap (take (length (encode_utf8_all cut.prefix))) cut.bytes ∙ take-append_seam (encode_utf8_all cut.prefix) rest
+
+  front_chars : (a : List ℕ) → a ≡ take (length text - length rest) text → chars a ≡ cut.prefix
+  front_chars a e = ap chars (front_is a e) ∙ sym (chars_from_encodes cut.prefix (encode_utf8_all cut.prefix) cut.readable.0 refl)
+
+  back_is : (b : List ℕ) → b ≡ drop (length text - length rest) text → b ≡ rest
+  back_is b e = e ∙ ap (λ n. drop n text) (sym cut_place) ∙ ap (drop (length (encode_utf8_all cut.prefix))) cut.bytes ∙ drop-append_seam (encode_utf8_all cut.prefix) rest
+
+  module _ (a b : List ℕ) (front : a ≡ take (length text - length rest) text) (back : b ≡ drop (length text - length rest) text) where
+    pub cut_normal : chars a ++ decomposed canonical (chars b) ≡ decomposed canonical (chars text)
+    cut_normal = ap₂ (λ x y. x ++ decomposed canonical (chars y)) (front_chars a front) (back_is b back) ∙ sym cut.alone
+
+    pub cut_bytes : a ++ encode_utf8_all (decomposed canonical (chars b)) ≡ encode_utf8_all (decomposed canonical (chars text))
+    cut_bytes = bytes_from canonical text a b (subst IsUtf8 (sym (front_is a front)) cut.readable.0) cut_normal
+
+    pub cut_empty : (b ≡ []) ↔ IsDecomposed canonical (chars text)
+    cut_empty = (
+      λ none.
+          let nothing = sym (back_is b back) ∙ none in
+          cut.alone ∙ ap (λ l. cut.prefix ++ decomposed canonical (chars l)) nothing ∙ ap (λ l. cut.prefix ++ l) (nothing_decomposed canonical ∙ sym chars-nil)
+          ∙ ap (λ l. cut.prefix ++ chars l) (sym nothing) ∙ sym cut.whole,
+      λ h. absurd (cut.changes h),
+    )
+
+    pub cut_far : ReachesFar canonical (chars text) (chars a)
+    cut_far = subst (ReachesFar canonical (chars text)) (sym (front_chars a front)) cut.far

@@ -1,0 +1,57 @@
+//! Texts in NFC.
+
+ghost use Rattle.std.specs.Prelude.{◌≡◌, ◌++◌, OnOk, OnErr, chars, encode_utf8_all};
+ghost use Rattle.icu_normalizer_core.specs.BorrowedMeaning.{borrowed_meaning};
+ghost use Rattle.icu_normalizer_core.specs.Canonical.{composed};
+ghost use Rattle.icu_normalizer.specs.Composing.{IsComposable};
+ghost use Rattle.icu_normalizer.specs.Readable.{IsReadable};
+ghost use Rattle.icu_normalizer.specs.Sinks.{AddsPrefix};
+
+mod splits;
+
+use super::Composition;
+use crate::sinks::{NormError, TextSink};
+use icu_normalizer_core::canonical::CanonicalBorrowed;
+use std::alloc::Global;
+
+/// A normaliser to NFC (UAX 15), borrowed.
+#[derive(Clone, Copy, Debug)]
+pub struct ComposingNormalizerBorrowed<'d> {
+    canonical: CanonicalBorrowed<'d>,
+    ghost readable: { IsReadable (borrowed_meaning canonical) },
+    ghost composable: { IsComposable (borrowed_meaning canonical) },
+}
+
+impl<'d> ComposingNormalizerBorrowed<'d> {
+    ghost use Rattle.icu_normalizer.specs.Normalizers.{composing_data};
+
+    /// A normaliser over canonical data. It takes no memory.
+    pub(crate) fn new_with_data(canonical: CanonicalBorrowed<'d>) -> ComposingNormalizerBorrowed<'d>
+        ensures { composing_data result ≡ borrowed_meaning canonical.entry }
+    {
+        canonical.keep_promise();
+        ComposingNormalizerBorrowed { canonical }
+    }
+
+    /// Writes a text in NFC to a sink. After an error the sink holds what it held, and a prefix of the text in NFC.
+    pub fn normalize_to<S: TextSink>(
+        &self,
+        alloc: Global,
+        text: &str,
+        sink: &mut S,
+    ) -> Result<(), NormError<S::Error>>
+        ensures ok { OnOk result (S.contents sink.new ≡ S.contents sink.old ++ encode_utf8_all (composed (composing_data self.now) (chars text.now))) }
+        ensures err { OnErr result (AddsPrefix (S.contents sink.old) (encode_utf8_all (composed (composing_data self.now) (chars text.now))) (S.contents sink.new)) }
+    {
+        let mut composition = Composition::over(alloc, self.canonical, text.chars());
+        while let Some(item) = composition.next() {
+            let Ok(c) = item else {
+                return Err(NormError::Memory);
+            };
+            if let Err(error) = sink.write_char(c) {
+                return Err(NormError::Sink(error));
+            }
+        }
+        Ok(())
+    }
+}

@@ -1,0 +1,65 @@
+//! Texts that are in NFC, wholly or in part.
+
+ghost use Rattle.std.specs.Prelude.{◌≡◌, [], ◌++◌, ◌↔◌, IsTrue, IfOk, chars, encode_utf8_all};
+ghost use Rattle.std.specs.Cow.{cow_str_bytes, IsBorrowedStr};
+ghost use Rattle.icu_normalizer_core.specs.Canonical.{composed};
+ghost use Rattle.icu_normalizer.specs.FormCuts.{IsComposed, ReachesBelow};
+
+use super::super::cuts::rest_to_change;
+use super::ComposingNormalizerBorrowed;
+use std::alloc::{AllocError, Global};
+use std::borrow::CowStr;
+
+impl ComposingNormalizerBorrowed<'_> {
+    ghost use Rattle.icu_normalizer.specs.Normalizers.{composing_data};
+
+    /// Whether a text is its own NFC. Memory is taken for long runs of marks alone.
+    pub fn is_normalized(&self, alloc: Global, text: &str) -> Result<bool, AllocError>
+        ensures { IfOk result (λ is. IsTrue is ↔ IsComposed (composing_data self.now) (chars text.now)) }
+    {
+        let rest = rest_to_change(alloc, self.canonical, text)?;
+        Ok(rest.is_none())
+    }
+
+    /// A text in two parts: the prefix and the NFC of the rest are together the NFC of the text. The rest is empty
+    /// exactly where the text is its own NFC. The prefix holds at least all that stands before the last character below
+    /// U+0300 at or before the first difference between the text and its NFC. Memory is taken for long runs of marks
+    /// alone.
+    pub fn split_normalized<'t>(
+        &self,
+        alloc: Global,
+        text: &'t str,
+    ) -> Result<(&'t str, &'t str), AllocError>
+        ensures whole { IfOk result (λ parts. parts.0.now ++ parts.1.now ≡ text.now) }
+        ensures normal { IfOk result (λ parts. chars parts.0.now ++ composed (composing_data self.now) (chars parts.1.now) ≡ composed (composing_data self.now) (chars text.now)) }
+        ensures bytes { IfOk result (λ parts. parts.0.now ++ encode_utf8_all (composed (composing_data self.now) (chars parts.1.now)) ≡ encode_utf8_all (composed (composing_data self.now) (chars text.now))) }
+        ensures empty { IfOk result (λ parts. (parts.1.now ≡ []) ↔ IsComposed (composing_data self.now) (chars text.now)) }
+        ensures far { IfOk result (λ parts. ReachesBelow (composed (composing_data self.now)) 0x300 (chars text.now) (chars parts.0.now)) }
+    {
+        let rest = match rest_to_change(alloc, self.canonical, text) {
+            Ok(rest) => rest,
+            Err(error) => return Err(error),
+        };
+        match rest {
+            None => Ok(text.split_at(text.len())),
+            Some(rest) => Ok(text.split_at(text.len() - rest.len())),
+        }
+    }
+
+    /// The NFC of a text, borrowed exactly where the text is its own NFC.
+    pub fn normalize<'t>(&self, alloc: Global, text: &'t str) -> Result<CowStr<'t>, AllocError>
+        ensures normal { IfOk result (λ form. cow_str_bytes form ≡ encode_utf8_all (composed (composing_data self.now) (chars text.now))) }
+        ensures borrowed { IfOk result (λ form. IsBorrowedStr form ↔ IsComposed (composing_data self.now) (chars text.now)) }
+    {
+        let (prefix, rest) = self.split_normalized(alloc, text)?;
+        if rest.is_empty() {
+            return Ok(CowStr::Borrowed(text));
+        }
+        let mut normal = String::with_capacity(alloc, text.len())?;
+        normal.push_str(prefix)?;
+        match self.normalize_to(alloc, rest, &mut normal) {
+            Ok(()) => Ok(CowStr::Owned(normal)),
+            Err(_) => Err(AllocError),
+        }
+    }
+}

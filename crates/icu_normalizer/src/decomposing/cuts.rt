@@ -1,0 +1,33 @@
+//! Where a text has to be changed to be in NFD.
+
+ghost use Rattle.std.specs.Prelude.{◌≡◌, IfSome, IfNone, chars};
+ghost use Rattle.icu_normalizer_core.specs.BorrowedMeaning.{borrowed_meaning};
+ghost use Rattle.icu_normalizer.specs.Splits.{IsDecomposed, IsCut};
+
+use super::places::class_in_place;
+use icu_normalizer_core::canonical::CanonicalBorrowed;
+
+/// What has to be changed for a text to be in NFD, from the last starter before the first change on; `None` where
+/// nothing has to be changed. It takes no memory.
+pub(super) fn rest_to_change<'t>(canonical: CanonicalBorrowed<'_>, text: &'t str) -> Option<&'t str>
+    ensures none { IfNone result (IsDecomposed (borrowed_meaning canonical.entry) (chars text.now)) }
+    ensures some { IfSome result (λ rest. IsCut (borrowed_meaning canonical.entry) text.now rest.now) }
+{
+    canonical.keep_promise();
+    let mut rest = text;
+    let mut before = 0;
+    let mut chars = text.chars();
+    'chars: loop {
+        let here = chars.as_str();
+        let Some(c) = chars.next() else {
+            return None;
+        };
+        let Some(class) = class_in_place(canonical, before, c) else {
+            return Some(rest);
+        };
+        if class == 0 {
+            rest = here;
+        }
+        before = class;
+    }
+}
