@@ -4,4 +4,5 @@ pub(crate) mod lines;
 pub(crate) mod lists;
 pub(crate) mod loops;
 pub(crate) mod marks;
+pub(crate) mod pairs;
 pub(crate) mod parts;
