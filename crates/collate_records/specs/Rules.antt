@@ -3,11 +3,11 @@ use Rattle.std.specs.Prelude.{◌≡◌, ◌≢◌, ℕ, ◌+◌, ◌<◌, ◌�
 use Rattle.std.specs.Option.{unwrap_or, is_some}
 use Rattle.std.specs.List.{list_any}
 use Rattle.icu_normalizer_core.specs.BuiltIn.{built_in_class, built_in_step, built_in_compatibility_step, is_jamo, is_syllable, is_within}
-use Rattle.icu_normalizer_core.specs.Canonical.{Reaches}
+use Rattle.icu_normalizer_core.specs.Canonical.{Reaches, composed}
 use Rattle.collate_records.specs.declared.rule.Rule.{Rule}
 use Rattle.collate_records.specs.declared.rule.Rule.TheVariants.{Grammar, Limit, Set, C1, C2, C3, C4, C5, C6, C7, C8, C9, V1, V2, V3, V4, V5, V6, V7, V8, V9, V10, V11, V12, V13, V14, V15}
 use Rattle.collate_records.specs.Record.{Record, nothing, class, mapping, compatibility, weights, range, digit, setting, Setting, alternate, backward, case_first, max_variable, dot_above, numeric, groups, compress, reorder}
-use Rattle.collate_records.specs.Meaning.{is_built_in, first_found, mapping_in, compatibility_in, class_of, any_step, expanded, full_of, is_same_layer}
+use Rattle.collate_records.specs.Meaning.{is_built_in, first_found, mapping_in, compatibility_in, class_of, step_of, compatibility_of, canonical_of, any_step, expanded, full_of, is_same_layer}
 
 -- what line i says
 abbrev pub record_at : List Record → ℕ → Record
@@ -154,6 +154,18 @@ HasBadSecond None = ⊥
 abbrev pub IsBadlyComposed : Record → Type 0
 IsBadlyComposed given = HasBadSecond (pair_in given)
 
+-- a character below 0300 is a mark or not its own composed list, one below 00C0 has a canonical mapping, or one below 00A0 a
+-- compatibility mapping
+abbrev pub IsBadlyLow : List Record → ℕ → Type 0
+IsBadlyLow records c =
+    (c < 0x300)
+    × ((class_of records c ≢ 0) ⊎ ((composed (canonical_of records) (c ∷ []) ≢ c ∷ [])
+    ⊎ (((c < 0xc0) × (step_of records c ≢ [])) ⊎ ((c < 0xa0) × (compatibility_of records c ≢ [])))))
+
+-- C7: there is such a character
+abbrev pub HasBadLow : List Record → Type 0
+HasBadLow records = (c : ℕ) × IsBadlyLow records c
+
 -- whether a line says exactly what is built in; a syllable alone is composed
 abbrev pub is_built_in_record : Record → Bool
 is_built_in_record (mapping c (d ∷ []) is_excluded) =
@@ -193,6 +205,7 @@ Offends C3 records i = IsBadClass (record_at records i)
 Offends C4 records i = HasBadList (take (i + 1) records)
 Offends C5 records i = RepeatsPair records i
 Offends C6 records i = IsBadlyComposed (record_at records i)
+Offends C7 records i = HasBadLow (take (i + 1) records)
 Offends C8 records i = Contradicts (record_at records i)
 Offends C9 records i = MapsHangul (record_at records i)
 Offends _ records i = ⊥
