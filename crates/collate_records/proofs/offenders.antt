@@ -5,4 +5,5 @@ pub mod LimitLemmas
 pub mod LineRuleLemmas
 pub mod MappedMarkLemmas
 pub mod NamedCharacterLemmas
+pub mod PairLemmas
 pub mod PartRuleLemmas

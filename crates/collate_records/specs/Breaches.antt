@@ -2,9 +2,9 @@
 use Rattle.std.specs.Prelude.{ℕ, ◌+◌, ◌-◌, ◌<◌, ◌↔◌, List, [], map, length, take, Bool, IsTrue, Result, IfOk}
 use Rattle.collate_records.specs.declared.canonical_part.CanonicalPart.{CanonicalPart}
 use Rattle.collate_records.specs.declared.rule.Rule.{Rule}
-use Rattle.collate_records.specs.declared.rule.Rule.TheVariants.{C1, C2, C4}
+use Rattle.collate_records.specs.declared.rule.Rule.TheVariants.{C1, C2, C4, C7}
 use Rattle.collate_records.specs.Record.{Record}
-use Rattle.collate_records.specs.Rules.{MapsMark, HasLoop, HasBadList}
+use Rattle.collate_records.specs.Rules.{MapsMark, HasLoop, HasBadList, HasBadLow}
 use Rattle.collate_records.specs.CanonicalParts.{in_full, SaysSame}
 
 -- lines break a rule together
@@ -12,6 +12,7 @@ abbrev pub Breach : Rule → List Record → Type 0
 Breach C1 records = MapsMark records
 Breach C2 records = HasLoop records
 Breach C4 records = HasBadList records
+Breach C7 records = HasBadLow records
 Breach _ records = ⊥
 
 -- the parts before the last

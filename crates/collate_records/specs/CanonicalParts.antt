@@ -5,24 +5,25 @@ use Rattle.icu_normalizer_core.specs.Properties.{mapped_to}
 use Rattle.collate_records.specs.declared.canonical_part.CanonicalPart.{CanonicalPart}
 use Rattle.collate_records.specs.declared.canonical_part.CanonicalPart.TheVariants.{Class, Map}
 use Rattle.collate_records.specs.Record.{Record, class, mapping}
-use Rattle.collate_records.specs.Meaning.{class_in, mapping_in, compatibility_in, first_found, is_built_in, class_of, full_of}
+use Rattle.collate_records.specs.Meaning.{class_in, mapping_in, compatibility_in, composed_in, first_found, is_built_in, class_of, full_of}
 use Rattle.collate_records.specs.Rules.{IsBadList, compatibility_full_of}
 
 -- a part as the line that would say it
 abbrev pub in_full : CanonicalPart → Record
 in_full (Class c k) = class c k
-in_full (Map c step) = mapping c (mapped_to step) false
+in_full (Map c step is_excluded) = mapping c (mapped_to step) is_excluded
 
--- lines that say the same of canonical data and compatibility mappings
+-- lines that say the same of classes, mappings and composed pairs
 pub record SaysSame (lines others : List Record) : Type 0 where
   pub classes : (c : ℕ) → first_found (class_in c) lines ≡ first_found (class_in c) others
   pub mappings : (c : ℕ) → first_found (mapping_in c) lines ≡ first_found (mapping_in c) others
   pub compatibilities : (c : ℕ) → first_found (compatibility_in c) lines ≡ first_found (compatibility_in c) others
+  pub pairs : (a b : ℕ) → first_found (composed_in a b) lines ≡ first_found (composed_in a b) others
 
 -- the character of which a part says something
 abbrev pub subject_of : CanonicalPart → ℕ
 subject_of (Class c k) = c
-subject_of (Map c step) = c
+subject_of (Map c step is_excluded) = c
 
 -- A character that isn't built in has a canonical mapping and a class other than 0: among parts, a mapped mark.
 abbrev pub IsMarkOfParts : List Record → ℕ → Type 0

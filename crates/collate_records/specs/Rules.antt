@@ -1,13 +1,13 @@
 -- The rules on lines that are in the grammar: which line offends against a rule. Lines count from 0 here.
-use Rattle.std.specs.Prelude.{◌≡◌, ◌≢◌, ℕ, ◌+◌, ◌<◌, ◌⊎◌, Bool, true, false, cond, not, ◌==◌, ◌&&◌, ◌||◌, List, [], ◌∷◌, ◌++◌, count_by, flat_map, filter, length, take, Some, None, IsTrue, slice_get, bytes_eq, codes}
+use Rattle.std.specs.Prelude.{◌≡◌, ◌≢◌, ℕ, ◌+◌, ◌<◌, ◌⊎◌, Bool, true, false, cond, not, ◌==◌, ◌&&◌, ◌||◌, List, [], ◌∷◌, ◌++◌, Option, count_by, flat_map, filter, length, take, Some, None, IsTrue, slice_get, bytes_eq, codes}
 use Rattle.std.specs.Option.{unwrap_or, is_some}
 use Rattle.std.specs.List.{list_any}
-use Rattle.icu_normalizer_core.specs.BuiltIn.{built_in_class, built_in_step, built_in_compatibility_step, is_jamo, is_syllable}
-use Rattle.icu_normalizer_core.specs.Canonical.{Reaches}
+use Rattle.icu_normalizer_core.specs.BuiltIn.{built_in_class, built_in_step, built_in_compatibility_step, is_jamo, is_syllable, is_within}
+use Rattle.icu_normalizer_core.specs.Canonical.{Reaches, composed}
 use Rattle.collate_records.specs.declared.rule.Rule.{Rule}
 use Rattle.collate_records.specs.declared.rule.Rule.TheVariants.{Grammar, Limit, Set, C1, C2, C3, C4, C5, C6, C7, C8, C9, V1, V2, V3, V4, V5, V6, V7, V8, V9, V10, V11, V12, V13, V14, V15}
 use Rattle.collate_records.specs.Record.{Record, nothing, class, mapping, compatibility, weights, range, digit, setting, Setting, alternate, backward, case_first, max_variable, dot_above, numeric, groups, compress, reorder}
-use Rattle.collate_records.specs.Meaning.{is_built_in, first_found, mapping_in, compatibility_in, class_of, any_step, expanded, full_of, is_same_layer}
+use Rattle.collate_records.specs.Meaning.{is_built_in, first_found, mapping_in, compatibility_in, class_of, step_of, compatibility_of, canonical_of, any_step, expanded, full_of, is_same_layer}
 
 -- what line i says
 abbrev pub record_at : List Record → ℕ → Record
@@ -130,6 +130,42 @@ IsBadlyMapped records c =
 abbrev pub HasBadList : List Record → Type 0
 HasBadList records = (c : ℕ) × IsBadlyMapped records c
 
+-- the two characters that a line composes, unless what it says of them is built in
+abbrev pub pair_in : Record → Option (ℕ × ℕ)
+pair_in (mapping c (d ∷ e ∷ []) false) = cond (is_built_in c) None (Some (d, e))
+pair_in _ = None
+
+-- whether two lines compose the same two characters
+abbrev pub is_same_pair : Option (ℕ × ℕ) → Option (ℕ × ℕ) → Bool
+is_same_pair (Some p) (Some q) = (p.0 == q.0) && (p.1 == q.1)
+is_same_pair _ _ = false
+
+-- C5: an earlier line composes the same two characters
+abbrev pub RepeatsPair : List Record → ℕ → Type 0
+RepeatsPair records i =
+    IsTrue (list_any (λ s. is_same_pair (pair_in s) (pair_in (record_at records i))) (take i records))
+
+-- the second of two characters is below 0300, or a vowel or final consonant of Hangul
+abbrev pub HasBadSecond : Option (ℕ × ℕ) → Type 0
+HasBadSecond (Some p) = (p.1 < 0x300) ⊎ IsTrue (is_within 0x1161 0x11ff p.1)
+HasBadSecond None = ⊥
+
+-- C6: a line composes two characters of which the second is so
+abbrev pub IsBadlyComposed : Record → Type 0
+IsBadlyComposed given = HasBadSecond (pair_in given)
+
+-- a character below 0300 is a mark or not its own composed list, one below 00C0 has a canonical mapping, or one below 00A0 a
+-- compatibility mapping
+abbrev pub IsBadlyLow : List Record → ℕ → Type 0
+IsBadlyLow records c =
+    (c < 0x300)
+    × ((class_of records c ≢ 0) ⊎ ((composed (canonical_of records) (c ∷ []) ≢ c ∷ [])
+    ⊎ (((c < 0xc0) × (step_of records c ≢ [])) ⊎ ((c < 0xa0) × (compatibility_of records c ≢ [])))))
+
+-- C7: there is such a character
+abbrev pub HasBadLow : List Record → Type 0
+HasBadLow records = (c : ℕ) × IsBadlyLow records c
+
 -- whether a line says exactly what is built in; a syllable alone is composed
 abbrev pub is_built_in_record : Record → Bool
 is_built_in_record (mapping c (d ∷ []) is_excluded) =
@@ -167,6 +203,9 @@ Offends C1 records i = MapsMark (take (i + 1) records)
 Offends C2 records i = HasLoop (take (i + 1) records)
 Offends C3 records i = IsBadClass (record_at records i)
 Offends C4 records i = HasBadList (take (i + 1) records)
+Offends C5 records i = RepeatsPair records i
+Offends C6 records i = IsBadlyComposed (record_at records i)
+Offends C7 records i = HasBadLow (take (i + 1) records)
 Offends C8 records i = Contradicts (record_at records i)
 Offends C9 records i = MapsHangul (record_at records i)
 Offends _ records i = ⊥

@@ -3,21 +3,30 @@
 ghost use Rattle.std.specs.Prelude.{◌≡◌, ℕ, ◌↔◌, ◌∷◌, ◌++◌, List, [], Option, option_map, map, true, IsTrue, MatchOption, IfOk, OnOk, OnErr};
 ghost use Rattle.icu_normalizer_core.specs.Properties.{mapped_to};
 ghost use Rattle.collate_records.specs.Record.{Record as PlainRecord, said};
-ghost use Rattle.collate_records.specs.Meaning.{class_in, mapping_in, first_found, class_of, step_of, any_step};
+ghost use Rattle.collate_records.specs.Meaning.{class_in, mapping_in, composed_in, first_found, class_of, step_of, any_step, pair_of};
 ghost use Rattle.collate_records.specs.CanonicalParts.{in_full, SaysSame};
 
 use crate::record::Record;
 use crate::rules::lines::is_built_in;
-use icu_normalizer_core::built_in::{built_in_class, built_in_compatibility_step, built_in_step};
+use icu_normalizer_core::built_in::{
+    built_in_class, built_in_compatibility_step, built_in_step, syllable_of,
+};
 use icu_normalizer_core::properties::Decomposed;
 
 /// What a line says of a character's class or mapping.
 #[derive(Clone, Copy, Debug, PartialEq, Eq)]
 pub(crate) enum CanonicalPart {
     /// The character's canonical combining class.
-    Class { character: char, class: u16 },
-    /// The character's canonical mapping.
-    Map { character: char, step: Decomposed },
+    Class {
+        character: char,
+        class: u16,
+    },
+    /// The character's canonical mapping, and whether it is kept out of the composed pairs.
+    Map {
+        character: char,
+        step: Decomposed,
+        is_excluded: bool,
+    },
 }
 
 /// The class that a part gives to a character, if it does.
@@ -35,7 +44,11 @@ fn mapping_in(part: CanonicalPart, c: u32) -> Option<Decomposed>
     ensures { option_map mapped_to result ≡ mapping_in c (in_full part) }
 {
     match part {
-        CanonicalPart::Map { character, step } if c == character as u32 => Some(step),
+        CanonicalPart::Map {
+            character,
+            step,
+            ..
+        } if c == character as u32 => Some(step),
         _ => None,
     }
 }
@@ -96,6 +109,44 @@ pub(crate) fn any_step(parts: &[CanonicalPart], c: u32) -> Decomposed
     }
 }
 
+/// What two characters compose to: a syllable, or what a part says.
+pub(crate) fn pair_of(parts: &[CanonicalPart], first: u32, second: u32) -> Option<u32>
+    ensures { result ≡ pair_of (map in_full parts.now) first second }
+{
+    match syllable_of(first, second) {
+        Some(syllable) => Some(syllable as u32),
+        None => said_pair(parts, first, second),
+    }
+}
+
+/// The character that the first part on them makes of two.
+fn said_pair(parts: &[CanonicalPart], first: u32, second: u32) -> Option<u32>
+    ensures { result ≡ first_found (composed_in first second) (map in_full parts.now) }
+{
+    for part in parts {
+        if let Some(composed) = composed_in(*part, first, second) {
+            return Some(composed);
+        }
+    }
+    None
+}
+
+/// The character that a part makes of two, if it does.
+fn composed_in(part: CanonicalPart, first: u32, second: u32) -> Option<u32>
+    ensures { result ≡ composed_in first second (in_full part) }
+{
+    match part {
+        CanonicalPart::Map {
+            character,
+            step: Decomposed::Expansion(d, e),
+            is_excluded: false,
+        } if first == d as u32 && second == e as u32 && !is_built_in(character as u32) => Some(
+            character as u32,
+        ),
+        _ => None,
+    }
+}
+
 /// What a line says of a class or a mapping, if it does.
 pub(crate) fn canonical_part(given: &Record) -> Option<CanonicalPart>
     ensures { MatchOption result (SaysSame [] (said given.now ∷ [])) (λ part. SaysSame (in_full part ∷ []) (said given.now ∷ [])) }
@@ -109,7 +160,7 @@ pub(crate) fn canonical_part(given: &Record) -> Option<CanonicalPart>
             character,
             first,
             second,
-            ..
+            is_excluded,
         } => {
             let step = match second {
                 Some(second) => Decomposed::Expansion(*first, *second),
@@ -118,6 +169,7 @@ pub(crate) fn canonical_part(given: &Record) -> Option<CanonicalPart>
             Some(CanonicalPart::Map {
                 character: *character,
                 step,
+                is_excluded: *is_excluded,
             })
         }
         _ => None,

@@ -13,7 +13,9 @@ use crate::rule::{RecordFault, RecordsError, Rule};
 use crate::rules::lines::{first_bad_class, first_contradiction, first_mapped_hangul};
 use crate::rules::lists::first_bad_list;
 use crate::rules::loops::first_loop;
+use crate::rules::low::first_bad_low;
 use crate::rules::marks::first_mapped_mark;
+use crate::rules::pairs::{first_bad_second, first_repeated_pair};
 use crate::seen::Seen;
 use std::alloc::{AllocError, Global};
 
@@ -112,6 +114,9 @@ fn keep_rules(alloc: Global, records: &[Record]) -> Result<(), RecordsError>
     refuse(Rule::C2, first_loop(alloc, records)?)?;
     refuse(Rule::C3, first_bad_class(records))?;
     refuse(Rule::C4, first_bad_list(alloc, records)?)?;
+    refuse(Rule::C5, first_repeated_pair(records))?;
+    refuse(Rule::C6, first_bad_second(records))?;
+    refuse(Rule::C7, first_bad_low(alloc, records)?)?;
     refuse(Rule::C8, first_contradiction(records))?;
     refuse(Rule::C9, first_mapped_hangul(records))?;
     Ok(())

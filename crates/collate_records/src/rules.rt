@@ -3,5 +3,7 @@
 pub(crate) mod lines;
 pub(crate) mod lists;
 pub(crate) mod loops;
+pub(crate) mod low;
 pub(crate) mod marks;
+pub(crate) mod pairs;
 pub(crate) mod parts;

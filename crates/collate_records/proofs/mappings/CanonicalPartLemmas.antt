@@ -5,9 +5,9 @@ use Rattle.std.proofs.lemmas.List.{map-append}
 use Rattle.std.proofs.lemmas.Grind.{common_steps}
 use Rattle.collate_records.specs.declared.canonical_part.CanonicalPart.{CanonicalPart}
 use Rattle.collate_records.specs.declared.canonical_part.CanonicalPart.TheVariants.{Class, Map}
-use Rattle.icu_normalizer_core.specs.BuiltIn.{built_in_class, built_in_step, built_in_compatibility_step}
+use Rattle.icu_normalizer_core.specs.BuiltIn.{built_in_class, built_in_step, built_in_compatibility_step, syllable_of}
 use Rattle.collate_records.specs.Record.{Record}
-use Rattle.collate_records.specs.Meaning.{class_in, mapping_in, compatibility_in, first_found, class_of, step_of, compatibility_of, else_mapped, is_built_in, any_step}
+use Rattle.collate_records.specs.Meaning.{class_in, mapping_in, compatibility_in, composed_in, first_found, class_of, step_of, compatibility_of, pair_of, else_mapped, is_built_in, any_step}
 use Rattle.collate_records.specs.CanonicalParts.{in_full, SaysSame, subject_of}
 
 -- what is found first, else what is found later
@@ -31,6 +31,8 @@ SaysSame-append parts lines more others first then = record {
       let e = first_found-append (mapping_in c) parts more in let e' = first_found-append (mapping_in c) lines others in cc;
   compatibilities = λ c. let a = first.compatibilities c in let b = then.compatibilities c in
       let e = first_found-append (compatibility_in c) parts more in let e' = first_found-append (compatibility_in c) lines others in cc;
+  pairs = λ a b. let h = first.pairs a b in let k = then.pairs a b in
+      let e = first_found-append (composed_in a b) parts more in let e' = first_found-append (composed_in a b) lines others in cc;
 }
 
 pub class_of-same : (parts lines : List Record) (c : ℕ) → SaysSame parts lines → class_of parts c ≡ class_of lines c
@@ -46,19 +48,26 @@ any_step-same parts lines c same =
     in ap (λ (ds : List ℕ). unwrap_or (built_in_compatibility_step c) (else_mapped ds (compatibility_of parts c))) (step_of-same parts lines c same)
     ∙ ap (λ (es : List ℕ). unwrap_or (built_in_compatibility_step c) (else_mapped (step_of lines c) es)) compatibility
 
+pub compatibility_of-same : (parts lines : List Record) (c : ℕ) → SaysSame parts lines → compatibility_of parts c ≡ compatibility_of lines c
+compatibility_of-same parts lines c same = ap (λ (o : Option (List ℕ)). cond (is_built_in c) [] (unwrap_or o [])) (same.compatibilities c)
+
+pub pair_of-same : (parts lines : List Record) (a b : ℕ) → SaysSame parts lines → pair_of parts a b ≡ pair_of lines a b
+pair_of-same parts lines a b same =
+    ap (λ (o : Option ℕ). elim (syllable_of a b) as (λ _. Option ℕ) [ Some c ↦ Some c | None ↦ o ]) (same.pairs a b)
+
 -- a part says nothing of another character
 pub other_class : (part : CanonicalPart) (c : ℕ) → c ≢ subject_of part → class_in c (in_full part) ≡ None
 other_class (Class d k) c apart = grind (arith, common_steps)
-other_class (Map d step) c apart = refl
+other_class (Map d step x) c apart = refl
 
 pub other_mapping : (part : CanonicalPart) (c : ℕ) → c ≢ subject_of part → mapping_in c (in_full part) ≡ None
 other_mapping (Class d k) c apart = refl
-other_mapping (Map d step) c apart = grind (arith, common_steps)
+other_mapping (Map d step x) c apart = grind (arith, common_steps)
 
 -- a part says nothing of compatibility mappings
 pub no_compatibility : (part : CanonicalPart) (c : ℕ) → compatibility_in c (in_full part) ≡ None
 no_compatibility (Class d k) c = refl
-no_compatibility (Map d step) c = refl
+no_compatibility (Map d step x) c = refl
 
 pub parts_without_compatibility : (parts : List CanonicalPart) (c : ℕ) → first_found (compatibility_in c) (map in_full parts) ≡ None
 parts_without_compatibility [] c = refl
@@ -111,7 +120,7 @@ first_found-other_compatibility lines part c = first_found-push (compatibility_i
 
 pub SaysSame-sym : (parts lines : List Record) → SaysSame parts lines → SaysSame lines parts
 SaysSame-sym parts lines same =
-    record { classes = λ c. sym (same.classes c); mappings = λ c. sym (same.mappings c); compatibilities = λ c. sym (same.compatibilities c) }
+    record { classes = λ c. sym (same.classes c); mappings = λ c. sym (same.mappings c); compatibilities = λ c. sym (same.compatibilities c); pairs = λ a b. sym (same.pairs a b) }
 
 -- the parts after one more
 pub stated_push : (parts after : List CanonicalPart) (part : CanonicalPart) → after ≡ parts ++ part ∷ [] → map in_full after ≡ map in_full parts ++ in_full part ∷ []
@@ -122,7 +131,7 @@ pub stated_read_push : (parts read after : List CanonicalPart) (part : Canonical
 stated_read_push parts read after part r e = ap (λ (l : List CanonicalPart). map in_full l ++ in_full part ∷ []) r ∙ sym (stated_push parts after part e)
 
 pub SaysSame-itself : (lines : List Record) → SaysSame lines lines
-SaysSame-itself lines = record { classes = λ c. refl; mappings = λ c. refl; compatibilities = λ c. refl }
+SaysSame-itself lines = record { classes = λ c. refl; mappings = λ c. refl; compatibilities = λ c. refl; pairs = λ a b. refl }
 
 -- no parts, and no lines
 pub SaysSame-none : (parts : List CanonicalPart) → parts ≡ [] → SaysSame (map in_full parts) []

@@ -57,32 +57,32 @@ built_in-same : (c : ℕ) (said other later further : Option (List ℕ)) → is_
 unfolding step_by
 built_in-same c said other later further e = rw e refl
 
-pub built_in_closes_none : (parts : List Record) (c : ℕ) (step : Decomposed) → is_built_in c ≡ true → (HasLoop parts → ⊥)
-    → HasLoop (parts ++ in_full (Map c step) ∷ []) → ⊥
+pub built_in_closes_none : (parts : List Record) (c : ℕ) (step : Decomposed) (x : Bool) → is_built_in c ≡ true → (HasLoop parts → ⊥)
+    → HasLoop (parts ++ in_full (Map c step x) ∷ []) → ⊥
 unfolding step_by
-built_in_closes_none parts c step e before loop =
-    before (HasLoop-steps (parts ++ in_full (Map c step) ∷ []) parts
+built_in_closes_none parts c step x e before loop =
+    before (HasLoop-steps (parts ++ in_full (Map c step x) ∷ []) parts
     (λ d. ⊎_elim
-    (λ w. let P : ℕ → Type 0 = λ n. any_step (parts ++ in_full (Map c step) ∷ []) n ≡ any_step parts n in
-    subst P (sym w.1) (built_in-same c (first_found (mapping_in c) (parts ++ in_full (Map c step) ∷ [])) (first_found (compatibility_in c) (parts ++ in_full (Map c step) ∷ []))
+    (λ w. let P : ℕ → Type 0 = λ n. any_step (parts ++ in_full (Map c step x) ∷ []) n ≡ any_step parts n in
+    subst P (sym w.1) (built_in-same c (first_found (mapping_in c) (parts ++ in_full (Map c step x) ∷ [])) (first_found (compatibility_in c) (parts ++ in_full (Map c step x) ∷ []))
     (first_found (mapping_in c) parts) (first_found (compatibility_in c) parts) e))
-    (λ w. any_step-other parts (Map c step) d w.1)
+    (λ w. any_step-other parts (Map c step x) d w.1)
     (eqb_tells d c)) loop)
 
 first_kept : {B : Type 0} (o later : Option B) → is_some o ≡ true → else_found o later ≡ o
 first_kept (Some y) later e = refl
 first_kept None later e = absurd (false≢true e)
 
-pub mapped_closes_none : (parts : List Record) (c : ℕ) (step : Decomposed) → is_some (first_found (mapping_in c) parts) ≡ true → (HasLoop parts → ⊥)
-    → HasLoop (parts ++ in_full (Map c step) ∷ []) → ⊥
+pub mapped_closes_none : (parts : List Record) (c : ℕ) (step : Decomposed) (x : Bool) → is_some (first_found (mapping_in c) parts) ≡ true → (HasLoop parts → ⊥)
+    → HasLoop (parts ++ in_full (Map c step x) ∷ []) → ⊥
 unfolding step_by
-mapped_closes_none parts c step e before loop =
-    before (HasLoop-steps (parts ++ in_full (Map c step) ∷ []) parts
+mapped_closes_none parts c step x e before loop =
+    before (HasLoop-steps (parts ++ in_full (Map c step x) ∷ []) parts
     (λ d. ⊎_elim
-    (λ w. let P : ℕ → Type 0 = λ n. any_step (parts ++ in_full (Map c step) ∷ []) n ≡ any_step parts n in
-    subst P (sym w.1) (step_along c _ _ _ _ (first_found-append (mapping_in c) parts (in_full (Map c step) ∷ []) ∙ first_kept (first_found (mapping_in c) parts) _ e)
-    (first_found-other_compatibility parts (Map c step) c)))
-    (λ w. any_step-other parts (Map c step) d w.1)
+    (λ w. let P : ℕ → Type 0 = λ n. any_step (parts ++ in_full (Map c step x) ∷ []) n ≡ any_step parts n in
+    subst P (sym w.1) (step_along c _ _ _ _ (first_found-append (mapping_in c) parts (in_full (Map c step x) ∷ []) ∙ first_kept (first_found (mapping_in c) parts) _ e)
+    (first_found-other_compatibility parts (Map c step x) c)))
+    (λ w. any_step-other parts (Map c step x) d w.1)
     (eqb_tells d c)) loop)
 
 mapped_alone : (ds : List ℕ) → else_mapped ds [] ≡ ds
@@ -100,11 +100,11 @@ step_by-free : (c : ℕ) (said : Option (List ℕ)) → is_built_in c ≡ false 
 unfolding step_by
 step_by-free c said e = free_by (built_in_step c) (built_in_compatibility_step c) said e
 
-found_last : (parts : List Record) (c : ℕ) (step : Decomposed) → first_found (mapping_in c) parts ≡ None
-    → first_found (mapping_in c) (parts ++ in_full (Map c step) ∷ []) ≡ Some (mapped_to step)
-found_last parts c step e =
-    first_found-append (mapping_in c) parts (in_full (Map c step) ∷ [])
-    ∙ ap (λ (o : Option (List ℕ)). else_found o (first_found (mapping_in c) (in_full (Map c step) ∷ []))) e
+found_last : (parts : List Record) (c : ℕ) (step : Decomposed) (x : Bool) → first_found (mapping_in c) parts ≡ None
+    → first_found (mapping_in c) (parts ++ in_full (Map c step x) ∷ []) ≡ Some (mapped_to step)
+found_last parts c step x e =
+    first_found-append (mapping_in c) parts (in_full (Map c step x) ∷ [])
+    ∙ ap (λ (o : Option (List ℕ)). else_found o (first_found (mapping_in c) (in_full (Map c step x) ∷ []))) e
     ∙ ap (λ (b : Bool). elim (cond b (Some (mapped_to step)) None) as (λ _. Option (List ℕ)) [ Some y ↦ Some y | None ↦ None ]) ((Decides-eqb c c).1 refl)
 
 closed : (b : Bool) → ((IsTrue b → ⊥) → ⊥) → IsTrue b
@@ -112,16 +112,16 @@ closed true h = refl
 closed false h = absurd (h (λ e. false≢true e))
 
 -- a new mapping closes a loop exactly if it reaches its character
-pub closes_iff : (parts : List Record) (c : ℕ) (step : Decomposed) (b : Bool) → is_built_in c ≡ false → first_found (mapping_in c) parts ≡ None
+pub closes_iff : (parts : List Record) (c : ℕ) (step : Decomposed) (x b : Bool) → is_built_in c ≡ false → first_found (mapping_in c) parts ≡ None
     → first_found (compatibility_in c) parts ≡ None
     → (HasLoop parts → ⊥) → (IsTrue b ↔ Reaches (any_step parts) (mapped_to step) c)
-    → IsTrue b ↔ HasLoop (parts ++ in_full (Map c step) ∷ [])
+    → IsTrue b ↔ HasLoop (parts ++ in_full (Map c step x) ∷ [])
 unfolding step_by
-closes_iff parts c step b free unmapped incompatible before reached =
-    let later = any_step (parts ++ in_full (Map c step) ∷ []) in
-    let agree : (d : ℕ) → d ≢ c → later d ≡ any_step parts d = λ d apart. any_step-other parts (Map c step) d apart in
+closes_iff parts c step x b free unmapped incompatible before reached =
+    let later = any_step (parts ++ in_full (Map c step x) ∷ []) in
+    let agree : (d : ℕ) → d ≢ c → later d ≡ any_step parts d = λ d apart. any_step-other parts (Map c step x) d apart in
     let new : later c ≡ mapped_to step =
-    step_along c _ _ _ _ (found_last parts c step unmapped) (first_found-other_compatibility parts (Map c step) c ∙ incompatible)
+    step_along c _ _ _ _ (found_last parts c step x unmapped) (first_found-other_compatibility parts (Map c step x) c ∙ incompatible)
     ∙ step_by-free c (Some (mapped_to step)) free in
     let old : any_step parts c ≡ [] = step_along c _ _ _ _ unmapped incompatible ∙ step_by-free c None free in (
       λ h. (c, subst (λ (l : List ℕ). Reaches later l c) (sym new) (reaches_still (any_step parts) later c agree old (mapped_to step) c (reached.0 h))),

@@ -54,7 +54,11 @@ fn closes_loop(
     ensures { (HasLoop (map in_full parts.now) → ⊥) → IfOk result (λ b. IsTrue b ↔ HasLoop (map in_full parts.now ++ in_full part ∷ [])) }
 {
     match part {
-        CanonicalPart::Map { character, step } => {
+        CanonicalPart::Map {
+            character,
+            step,
+            ..
+        } => {
             if is_built_in(character as u32) || said_mapping(parts, character as u32).is_some() {
                 Ok(false)
             } else {

@@ -21,9 +21,9 @@ returns-then-is_some c = λ unbroken. (
       let P : CanonicalPart → Type 0 = λ f. HasLoop (map in_full c.args.parts.now ++ in_full f ∷ []) in
       let closed = subst P c.in-Map.is loop in
       absurd (elim c.if-is_built_in.branch [
-        | then-is_built_in w ↦ built_in_closes_none (map in_full c.args.parts.now) c.in-Map.character c.in-Map.step (sym w.if-is_built_in.ensures) unbroken closed
+        | then-is_built_in w ↦ built_in_closes_none (map in_full c.args.parts.now) c.in-Map.character c.in-Map.step _ (sym w.if-is_built_in.ensures) unbroken closed
         | else-is_built_in w ↦
-            mapped_closes_none (map in_full c.args.parts.now) c.in-Map.character c.in-Map.step (mapped_found _ _ w.said_mapping.ensures (sym w.is_some.ensures ∙ sym w.value-is ∙ c.if-is_some.true)) unbroken closed
+            mapped_closes_none (map in_full c.args.parts.now) c.in-Map.character c.in-Map.step _ (mapped_found _ _ w.said_mapping.ensures (sym w.is_some.ensures ∙ sym w.value-is ∙ c.if-is_some.true)) unbroken closed
       ]),
 )
 
@@ -35,7 +35,7 @@ returns-else-is_some c = λ unbroken.
       | else-is_built_in w ↦
           let unmapped = mapped_not_found _ _ w.said_mapping.ensures (sym w.is_some.ensures ∙ sym w.value-is ∙ c.if-is_some.false) in
           IfOk-weaker c.reaches.result (λ b. IsTrue b ↔ Reaches (any_step (map in_full c.args.parts.now)) (mapped_to c.in-Map.step) c.in-Map.character) _
-          (λ b reached. closes_iff (map in_full c.args.parts.now) c.in-Map.character c.in-Map.step b (sym w.if-is_built_in.ensures) unmapped (parts_without_compatibility c.args.parts.now c.in-Map.character) unbroken reached)
+          (λ b reached. closes_iff (map in_full c.args.parts.now) c.in-Map.character c.in-Map.step _ b (sym w.if-is_built_in.ensures) unmapped (parts_without_compatibility c.args.parts.now c.in-Map.character) unbroken reached)
           c.reaches.ensures
     ])
 
