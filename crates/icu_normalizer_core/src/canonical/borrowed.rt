@@ -1,9 +1,10 @@
 //! Canonical data, borrowed: what they say of each character. No call here takes memory.
 
-ghost use Rattle.std.specs.Prelude.{◌≡◌, ◌↔◌, IsTrue};
+ghost use Rattle.std.specs.Prelude.{◌≡◌, ◌≢◌, [], IfSome, IfNone};
 ghost use Rattle.icu_normalizer_core.specs.Canonical.{is_starter, IsCanonical};
 ghost use Rattle.icu_normalizer_core.specs.BorrowedMeaning.{borrowed_meaning};
 ghost use Rattle.icu_normalizer_core.specs.Properties.{mapped_to};
+ghost use Rattle.icu_normalizer_core.specs.declared.properties.Decomposed.TheVariants.{Default};
 
 use super::data::CanonicalData;
 use super::full_list::{FullList, full_list};
@@ -46,8 +47,20 @@ impl<'d> CanonicalBorrowed<'d> {
         self.class(c) == 0
     }
 
-    /// The canonical mapping of a character (UAX 15); built-in ones too.
-    pub fn step(&self, c: char) -> Decomposed
+    /// The canonical mapping of a character (UAX 15), `None` where it has none; built-in ones too.
+    pub fn step(&self, c: char) -> Option<Decomposed>
+        ensures mapped { IfSome result (λ step. mapped_to step ≡ (borrowed_meaning self.now).step c) }
+        ensures some { IfSome result (λ step. step ≢ Default) }
+        ensures none { IfNone result ((borrowed_meaning self.now).step c ≡ []) }
+    {
+        match self.mapping(c) {
+            Decomposed::Default => None,
+            step => Some(step),
+        }
+    }
+
+    /// The same, with a variant of its own where there is no mapping.
+    pub(crate) fn mapping(&self, c: char) -> Decomposed
         ensures { mapped_to result ≡ (borrowed_meaning self.now).step c }
     {
         match built_in_step(c as u32) {

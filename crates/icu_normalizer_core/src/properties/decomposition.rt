@@ -64,6 +64,6 @@ impl CanonicalDecompositionBorrowed<'_> {
     pub fn decompose(&self, c: char) -> Decomposed
         ensures { mapped_to result ≡ (decomposition_data self.now).step c }
     {
-        self.canonical.step(c)
+        self.canonical.mapping(c)
     }
 }

@@ -5,7 +5,7 @@ use Rattle.icu_normalizer_core.specs.BuiltIn.{built_in_step}
 use Rattle.icu_normalizer_core.specs.Properties.{mapped_to}
 use Rattle.icu_normalizer_core.proofs.AcceptedForms.{accepted_triples}
 use Rattle.icu_normalizer_core.proofs.TableMeanings.{step_built_in, step_free}
-use Rattle.icu_normalizer_core.proofs.canonical.borrowed.CanonicalBorrowed.step.Goals as goal
+use Rattle.icu_normalizer_core.proofs.canonical.borrowed.CanonicalBorrowed.mapping.Goals as goal
 
 pub listed_step-requires : goal.listed_step-requires
 listed_step-requires c = accepted_triples (lists_of c.tables.result.now) c.tables.ensures.accepted
