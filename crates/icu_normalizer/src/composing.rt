@@ -11,11 +11,13 @@ ghost use Rattle.icu_normalizer.specs.Readable.{IsReadable};
 mod composer;
 mod cuts;
 mod normalizer;
+mod owned;
 
 use crate::decomposing::Decomposition;
 use composer::Composer;
 use icu_normalizer_core::canonical::CanonicalBorrowed;
 pub use normalizer::ComposingNormalizerBorrowed;
+pub use owned::ComposingNormalizer;
 use std::alloc::{AllocError, Global};
 use std::iter::FusedIterator;
 

@@ -10,11 +10,13 @@ ghost use Rattle.icu_normalizer.specs.Run.{pending};
 
 mod cuts;
 mod normalizer;
+mod owned;
 mod places;
 
 use crate::run::Run;
 use icu_normalizer_core::canonical::CanonicalBorrowed;
 pub use normalizer::DecomposingNormalizerBorrowed;
+pub use owned::DecomposingNormalizer;
 use std::alloc::{AllocError, Global};
 use std::iter::FusedIterator;
 
