@@ -2,6 +2,7 @@
 pub mod BuiltInFallLemmas
 pub mod BuiltInLemmas
 pub mod CanonicalPartLemmas
+pub mod ComposedPairLemmas
 pub mod DecomposingLemmas
 pub mod EndingLemmas
 pub mod ExploringLemmas
