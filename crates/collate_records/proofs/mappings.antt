@@ -1,7 +1,7 @@
 -- mapping steps: what is built in, what lines say, what steps reach and where they end
 pub mod BuiltInFallLemmas
-pub mod BuiltInLemmas
 pub mod CanonicalPartLemmas
+pub mod ComposedPairLemmas
 pub mod DecomposingLemmas
 pub mod EndingLemmas
 pub mod ExploringLemmas

@@ -1,7 +1,7 @@
 //! Laws of record sets: what follows of lines that keep the rules.
 
 ghost use Rattle.std.specs.Prelude.{ℕ, List};
-ghost use Rattle.icu_normalizer_core.specs.Canonical.{IsDecomposing};
+ghost use Rattle.icu_normalizer_core.specs.Canonical.{IsComposing, IsDecomposing};
 ghost use Rattle.collate_records.specs.declared.rule.Rule.TheVariants.{C1, C2, C3, C4, C9};
 ghost use Rattle.collate_records.specs.Record.{Record};
 ghost use Rattle.collate_records.specs.Meaning.{canonical_of};
@@ -37,6 +37,15 @@ pub fn accepted_files_have_accepted_lines()
 #[tactic(auto, using(crate::proofs::reading::AcceptedLemmas::accepted_decompose))]
 pub fn accepted_records_decompose()
     ensures { (records : List Record) → AreAccepted records → IsDecomposing (canonical_of records) }
+{}
+
+/// Accepted lines, as those of all records are, give canonical data, as far as composing goes: a composed pair is the mapping
+/// of what it composes to, and a character below U+0300 is a starter and its own composed list (docs/RECORDS.md; UAX 15).
+///
+/// It computes nothing: its contract is the law.
+#[tactic(auto, using(crate::proofs::reading::AcceptedLemmas::accepted_compose))]
+pub fn accepted_records_compose()
+    ensures { (records : List Record) → AreAccepted records → IsComposing (canonical_of records) }
 {}
 
 /// Records are plain so far: they give elements to single characters alone, without prefixes, digits or ranges, and all

@@ -2,7 +2,7 @@
 
 ghost use Rattle.std.specs.Prelude.{◌≡◌, ◌==◌, ◌++◌, ◌∷◌, [], cond, OnOk, OnErr};
 ghost use Rattle.std.specs.Option.{option_copied};
-ghost use Rattle.icu_normalizer_core.specs.Canonical.{IsDecomposing};
+ghost use Rattle.icu_normalizer_core.specs.Canonical.{IsComposing, IsDecomposing};
 ghost use Rattle.icu_normalizer_core.specs.Properties.{mapped_to};
 ghost use Rattle.collate_records.specs.Accepted.{AreAccepted};
 ghost use Rattle.collate_records.specs.Meaning.{canonical_of, collation_of, class_of, step_of, first_found, full_of, expanded, lone_elements_in, recorded_in};
@@ -71,13 +71,14 @@ impl Records {
     }
 
     /// The lines of records are those of an accepted file: each is in the grammar, and none offends against a rule. So
-    /// they give canonical data, as far as decomposing goes (docs/RECORDS.md; UAX 15).
+    /// they give canonical data, for decomposing and for composing (docs/RECORDS.md; UAX 15).
     ///
     /// It computes nothing: its contract is what every holder of records knows.
-    #[tactic(auto, using(crate::proofs::reading::AcceptedLemmas::accepted_decompose))]
+    #[tactic(auto, using(crate::proofs::reading::AcceptedLemmas::accepted_decompose, crate::proofs::reading::AcceptedLemmas::accepted_compose))]
     pub fn keep_rules(&self)
         ensures accepted { AreAccepted self.now }
         ensures canonical { IsDecomposing (canonical_of self.now) }
+        ensures composing { IsComposing (canonical_of self.now) }
     {
         let _ = &self.records;
     }

@@ -43,8 +43,8 @@ fn accepts_lines(rt: HostRuntime) {
         b"class 1F600 9\nclass D7FF 9\nclass E000 9".as_slice(),
         b"class 0350 254".as_slice(),
         b"map 00C5 0041 030A".as_slice(),
-        b"map 00C5 0041 030A x".as_slice(),
-        b"map 00C5 0041\nmap 00C6 0041 x".as_slice(),
+        b"map 0400 0041 030A x".as_slice(),
+        b"map 0400 0041\nmap 0401 0041 x".as_slice(),
         b"w 0061 ; [00000000.8000.0.0500.0] [0.8000.2.0500.3]".as_slice(),
     ] {
         assert_eq!(rt; fault_of(alloc, file), None);

@@ -88,6 +88,105 @@ fn bad_classes(rt: HostRuntime) {
 }
 
 #[test]
+fn repeated_pairs(rt: HostRuntime) {
+    for (file, line) in [
+        (b"map 0400 0410 0300\nmap 0401 0410 0300".as_slice(), 2),
+        // the first of two lines that repeat a pair, and before a second below 0300 in line 1
+        (
+            b"map 0404 0410 0061
+map 0402 0410 0301
+
+map 0400 0410 0301
+map 0403 0410 0301"
+                .as_slice(),
+            4,
+        ),
+    ] {
+        assert_eq!(rt; fault_of(rt.alloc(), file), at(line, Rule::C5));
+    }
+    for file in [
+        b"map 0400 0410 0300\nmap 0401 0410 0300 x".as_slice(),
+        b"map 0400 0410\nmap 0401 0410".as_slice(),
+        b"map 0400 0410 0411\nmap 0401 0411 0410".as_slice(),
+    ] {
+        assert_eq!(rt; fault_of(rt.alloc(), file), None);
+    }
+}
+
+#[test]
+fn bad_seconds(rt: HostRuntime) {
+    for (file, line) in [
+        (b"map 00E1 0061 0061".as_slice(), 1),
+        (b"map 0402 0410 0300\nmap 0400 0410 02FF".as_slice(), 2),
+        (b"map 0400 0410 1161".as_slice(), 1),
+        (b"map 0400 0410 11FF".as_slice(), 1),
+    ] {
+        assert_eq!(rt; fault_of(rt.alloc(), file), at(line, Rule::C6));
+    }
+    for file in [
+        b"map 0400 0410 0300".as_slice(),
+        b"map 0400 0410 1200".as_slice(),
+        b"map 0400 0410 0061 x".as_slice(),
+        b"map AC00 1100 1161".as_slice(),
+    ] {
+        assert_eq!(rt; fault_of(rt.alloc(), file), None);
+    }
+}
+
+#[test]
+fn bad_low_characters(rt: HostRuntime) {
+    for (file, line) in [
+        // a mark
+        (b"class 0350 9\nclass 0061 230".as_slice(), 2),
+        (b"class 02FF 9".as_slice(), 1),
+        // a mapping below 00C0
+        (b"map 00BF 0061 0301".as_slice(), 1),
+        (b"map 00BF 0061".as_slice(), 1),
+        // not composed again
+        (b"map 00E1 0061 0301 x".as_slice(), 1),
+        (b"map 00E1 0061".as_slice(), 1),
+        // before a contradiction in line 2
+        (b"map 00E1 0061 0301 x\nclass 0301 220".as_slice(), 1),
+    ] {
+        assert_eq!(rt; fault_of(rt.alloc(), file), at(line, Rule::C7));
+    }
+    for file in [
+        b"map 00C0 0061 0301".as_slice(),
+        b"class 0300 230".as_slice(),
+        b"map 0400 0410 0301 x\nmap 0401 0410".as_slice(),
+    ] {
+        assert_eq!(rt; fault_of(rt.alloc(), file), None);
+    }
+}
+
+#[test]
+fn composed_low_characters(rt: HostRuntime) {
+    for (file, line) in [
+        // the marks of the full list are put in another order, by a class and by a mapping
+        (
+            b"map 0200 0201 0316\nmap 0201 0061 0301\nclass 0316 220".as_slice(),
+            3,
+        ),
+        (
+            b"class 0316 220\nmap 0201 0061 0301\nmap 0200 0201 0316".as_slice(),
+            3,
+        ),
+        // the first of the pair isn't composed again
+        (b"map 0200 0201 0301\nmap 0201 0061 0302 x".as_slice(), 2),
+        // its second is mapped
+        (b"map 0200 0061 0400\nmap 0400 0401 0301".as_slice(), 2),
+    ] {
+        assert_eq!(rt; fault_of(rt.alloc(), file), at(line, Rule::C7));
+    }
+    for file in [
+        b"map 01D5 00DC 0304\nmap 00DC 0055 0308\nclass 0304 230".as_slice(),
+        b"map 0200 0201 0301\nmap 0201 0061 0316\nclass 0316 220".as_slice(),
+    ] {
+        assert_eq!(rt; fault_of(rt.alloc(), file), None);
+    }
+}
+
+#[test]
 fn contradictions(rt: HostRuntime) {
     for (file, line) in [
         (b"class 0350 9\nclass 0301 220".as_slice(), 2),

@@ -10,7 +10,7 @@ use Rattle.icu_normalizer_core.specs.BuiltIn.{built_in_class, built_in_step, bui
 use Rattle.icu_normalizer_core.specs.Canonical.{composed}
 use Rattle.collate_records.specs.declared.canonical_part.CanonicalPart.{CanonicalPart}
 use Rattle.collate_records.specs.Record.{Record}
-use Rattle.collate_records.specs.Meaning.{first_found, class_in, mapping_in, compatibility_in, class_of, step_of, compatibility_of, pair_of, canonical_of, is_built_in}
+use Rattle.collate_records.specs.Meaning.{first_found, class_in, mapping_in, compatibility_in, class_of, step_of, compatibility_of, canonical_of, is_built_in}
 use Rattle.collate_records.specs.Rules.{HasBadLow, IsBadlyLow}
 use Rattle.collate_records.specs.CanonicalParts.{in_full, SaysSame, subject_of}
 use Rattle.collate_records.proofs.mappings.CanonicalPartLemmas.{class_of-same, step_of-same, compatibility_of-same, pair_of-same, other_class, other_mapping, parts_without_compatibility}

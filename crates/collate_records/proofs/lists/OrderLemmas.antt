@@ -1,11 +1,10 @@
 -- A character put before a list whose marks are in order: its place, and the list that is left.
-use Rattle.std.proofs.Common.{◌≡◌, ℕ, zero, suc, ◌+◌, ◌-◌, ◌<◌, ◌≤◌, ◌&&◌, ltb, Bool, true, false, List, [], ◌∷◌, ◌++◌, length, get_or, take, drop, refl, sym, ap, ◌∙◌, arith, append_assoc, add-one, drop-cons}
+use Rattle.std.proofs.Common.{◌≡◌, ℕ, suc, ◌+◌, ◌-◌, ◌<◌, ◌≤◌, ◌&&◌, ltb, Bool, true, false, List, [], ◌∷◌, ◌++◌, length, get_or, take, drop, refl, sym, ap, ◌∙◌, append_assoc, add-one, drop-cons}
 use Rattle.std.proofs.lemmas.Bool.{cond-true, cond-false}
 use Rattle.std.proofs.lemmas.List.{take_more}
 use Rattle.std.proofs.Math.ListN.{drop_of_length-le}
 use Rattle.icu_normalizer_core.specs.Canonical.{put_in_order, marks_in_order}
 use Rattle.collate_records.specs.Meaning.{expanded}
-use Rattle.collate_records.proofs.lists.BadListLemmas.{expanded_none, expanded_unmapped, expanded_one, expanded_two}
 
 module _ (class : ℕ → ℕ) where
   -- whether a mark of a class goes before a character

@@ -10,6 +10,7 @@ use Rattle.std.proofs.lemmas.List.{take_all}
 use Rattle.std.proofs.lemmas.Option.{none-some}
 use Rattle.std.proofs.lemmas.List.Elements.{All-contains, All-cons, All-nil}
 use Rattle.icu_normalizer_core.specs.BuiltIn.{is_syllable, is_jamo, syllable_step, singled_out, built_in_step, built_in_compatibility_step, built_in_class}
+use Rattle.icu_normalizer_core.proofs.BuiltInFacts.{built_in_cases, all_singled_out, syllable_cases, open_syllable_cases, jamo_unmapped, syllable_mapped}
 use Rattle.icu_normalizer_core.specs.Canonical.{Reaches, stands, steps, Leaves, IsFree, IsDecomposing}
 use Rattle.collate_records.specs.Record.{Record}
 use Rattle.collate_records.specs.Meaning.{first_found, class_in, mapping_in, compatibility_in, compatibility_of, else_mapped, step_of, class_of, full_of, canonical_of, any_step}
@@ -17,7 +18,6 @@ use Rattle.collate_records.specs.Rules.{begins_with_mark, is_mapped, MapsMark, H
 use Rattle.collate_records.specs.declared.rule.Rule.TheVariants.{C1, C2, C3, C4, C9}
 use Rattle.collate_records.specs.Offenders.{NoneOffends}
 use Rattle.collate_records.specs.Accepted.{AreScalars}
-use Rattle.collate_records.proofs.mappings.BuiltInLemmas.{built_in_cases, all_singled_out, syllable_cases, open_syllable_cases, jamo_unmapped, syllable_mapped}
 use Rattle.collate_records.proofs.mappings.EndingLemmas.{ends}
 use Rattle.collate_records.proofs.mappings.SoonEndedLemmas.{EndsSoon, unmapped-ends_soon, two-ends_soon, expanded-unmapped, ends_built_in, ends_unmapped, bounded_built_in}
 use Rattle.collate_records.proofs.mappings.StepLemmas.{IsMapped, step_cases, free_step_cases, step_scalars, mark_unmapped, mapped_starter, no_letters, small_class, step_of-built_in, step_of-compatibility, some_or_none}

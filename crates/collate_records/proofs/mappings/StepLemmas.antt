@@ -5,16 +5,17 @@ use Rattle.std.specs.Char.{IsScalar}
 use Rattle.std.specs.List.{Contains, list_any}
 use Rattle.std.proofs.lemmas.List.Folds.{list_any_at}
 use lib.Utf8.{low_scalar}
-use Rattle.std.proofs.lemmas.Bool.{or_left, or_right, or_parts, or_from, cases_Bool, cases_eq, cases_lt, both_ways, false_from_ne_true, cond-true, cond-false}
+use Rattle.std.proofs.lemmas.Bool.{or_left, or_right, or_parts, or_from, cases_Bool, cases_eq, cases_lt, both_ways, false≢true, false_from_ne_true, cond-true, cond-false}
+use Rattle.std.proofs.lemmas.Bool.Decides.{eqb_tells}
 use Rattle.std.proofs.lemmas.Option.{none-some, unwrap_or-slice_get}
 use Rattle.std.proofs.lemmas.List.Elements.{All-get_or, All-cons, All-nil}
-use Rattle.icu_normalizer_core.specs.BuiltIn.{is_syllable, is_jamo, built_in_step, built_in_compatibility_step, built_in_class}
+use Rattle.icu_normalizer_core.specs.BuiltIn.{is_syllable, is_jamo, singled_out, built_in_step, built_in_compatibility_step, built_in_class}
 use Rattle.icu_normalizer_core.specs.Canonical.{IsFree}
+use Rattle.icu_normalizer_core.proofs.BuiltInFacts.{built_in_cases, all_singled_out, syllable_cases}
 use Rattle.collate_records.specs.Record.{Record, nothing, class, mapping}
 use Rattle.collate_records.specs.Meaning.{is_built_in, first_found, mapping_in, class_in, step_of, class_of}
 use Rattle.collate_records.specs.Rules.{record_at, MapsMark, MapsHangul, IsBadClass, is_built_in_record}
 use Rattle.collate_records.specs.Accepted.{AreScalars, MapsToScalars}
-use Rattle.collate_records.proofs.mappings.BuiltInLemmas.{built_in_cases, compatibility_alone, all_singled_out, syllable_cases}
 use Rattle.collate_records.proofs.offenders.ClassLemmas.{built_in_class-small}
 use Rattle.collate_records.proofs.mappings.EndingLemmas.{Contains-tail}
 use Rattle.collate_records.proofs.lookups.FoundLemmas.{mapping_line, class_line}
@@ -26,6 +27,15 @@ some_or_none None = inr refl
 pub step_of-built_in : (records : List Record) (c : ℕ) (ds : List ℕ) → built_in_step c ≡ Some ds → step_of records c ≡ ds
 step_of-built_in records c ds e =
     cond-true (is_built_in c) _ _ (or_left _ (is_some (built_in_compatibility_step c)) (ap is_some e)) ∙ ap (λ o. unwrap_or o []) e
+
+-- a compatibility mapping is built in only where no canonical one is
+compatibility_alone : (c : ℕ) → is_some (built_in_compatibility_step c) ≡ true → built_in_step c ≡ None
+unfolding built_in_step built_in_compatibility_step singled_out
+compatibility_alone c e =
+    ⊎_elim (λ w. rw w.1 refl)
+    (λ w. ⊎_elim (λ v. rw v.1 refl)
+    (λ v. absurd (false≢true (sym (ap is_some (cond-false _ (Some (0x3099 ∷ [])) _ w.0 ∙ cond-false _ (Some (0x309a ∷ [])) None v.0)) ∙ e))) (eqb_tells c 0xff9f))
+    (eqb_tells c 0xff9e)
 
 pub step_of-compatibility : (records : List Record) (c : ℕ) → is_some (built_in_compatibility_step c) ≡ true → step_of records c ≡ []
 step_of-compatibility records c e =

@@ -1,20 +1,24 @@
 -- The lines of an accepted file are in the grammar and keep the rules, and what follows of such lines.
-use Rattle.std.proofs.Common.{◌≡◌, ℕ, List, Option, Some, None, refl, sym, ap, ◌∙◌, [], get_or, inl}
+use Rattle.std.proofs.Common.{◌≡◌, ℕ, ◌<◌, Bool, List, length, Option, Some, None, refl, sym, ap, ◌∙◌, subst, [], get_or, inl}
+use Rattle.std.specs.Char.{IsScalar}
+use Rattle.std.proofs.lemmas.Option.{unwrap_or-slice_get}
 use Rattle.std.proofs.lemmas.List.{length-map, get_or_default}
-use Rattle.std.proofs.lemmas.List.Elements.{All-map, All-weaker}
-use Rattle.icu_normalizer_core.specs.Canonical.{IsDecomposing}
+use Rattle.std.proofs.lemmas.List.Elements.{All-get_or, All-map, All-weaker}
+use Rattle.icu_normalizer_core.specs.Canonical.{IsDecomposing, IsComposing}
 use Rattle.collate_records.specs.declared.rule.Rule.{Rule}
-use Rattle.collate_records.specs.declared.rule.Rule.TheVariants.{Grammar, V14, C1, C2, C3, C4, C9}
+use Rattle.collate_records.specs.declared.rule.Rule.TheVariants.{Grammar, V14, C1, C2, C3, C4, C6, C7, C9}
 use Rattle.collate_records.specs.Known.{known_record_of}
 use Rattle.collate_records.specs.Accepted.{AreAccepted, AreScalars, IsSaid, MapsToScalars}
 use Rattle.collate_records.specs.Files.{IsAccepted, lines_of, read_line, records_of}
 use Rattle.collate_records.specs.Offenders.{NoneOffends}
-use Rattle.collate_records.specs.Record.{Record}
+use Rattle.collate_records.specs.Rules.{record_at}
+use Rattle.collate_records.specs.Record.{Record, nothing, mapping}
 use Rattle.collate_records.specs.Meaning.{canonical_of}
+use Rattle.collate_records.proofs.mappings.ComposedPairLemmas.{composing}
 use Rattle.collate_records.proofs.mappings.DecomposingLemmas.{decomposing}
 use Rattle.collate_records.proofs.lookups.KeyLemmas.{accepted_once}
 use Rattle.collate_records.proofs.reading.ReadLineLemmas.{known_read}
-use Rattle.collate_records.proofs.reading.ScalarLemmas.{line_scalars}
+use Rattle.collate_records.proofs.reading.ScalarLemmas.{line_scalars, mapped_scalar}
 
 -- a line that is in the grammar, as far as it is known, says what was read
 said_here : (line : List ℕ) (o : Option Record) → known_record_of line ≡ o → (o ≡ None → ⊥) → IsSaid (read_line line)
@@ -45,6 +49,19 @@ pub accepted_decompose : (records : List Record) → AreAccepted records → IsD
 accepted_decompose records accepted =
     let keep : (rule : Rule) → NoneOffends rule records = accepted.keep_rules
     in decomposing records (accepted_scalars records accepted) (keep C1) (keep C2) (keep C3) (keep C4) (keep C9)
+
+-- and as far as composing goes
+named_scalar : (records : List Record) → AreAccepted records → (c : ℕ) (ds : List ℕ) (x : Bool) (i : ℕ) → i < length records
+    → record_at records i ≡ mapping c ds x → IsScalar c
+named_scalar records accepted c ds x i within line =
+    let here : IsSaid (get_or records i nothing) = All-get_or IsSaid records i nothing within accepted.in_grammar in
+    let says : IsSaid (mapping c ds x) = subst IsSaid (sym (unwrap_or-slice_get records i nothing) ∙ line) here in
+    mapped_scalar (says.0) c ds x (says.1)
+
+pub accepted_compose : (records : List Record) → AreAccepted records → IsComposing (canonical_of records)
+accepted_compose records accepted =
+    let keep : (rule : Rule) → NoneOffends rule records = accepted.keep_rules
+    in composing records (named_scalar records accepted) (keep V14) (keep C6) (keep C7)
 
 -- an accepted file gives canonical data, as far as decomposing goes
 pub accepted_file : (file : List ℕ) → IsAccepted file → IsDecomposing (canonical_of (records_of file))

@@ -8,7 +8,7 @@ use Rattle.std.specs.Char.{IsScalar}
 use Rattle.std.specs.Prelude.{if◌then◌else◌, codes}
 use Rattle.collate_records.specs.Known.{known_record_of}
 use Rattle.collate_records.proofs.reading.ReadLineLemmas.{known_said}
-use Rattle.collate_records.specs.Record.{Record, nothing, Layer, root, tailoring}
+use Rattle.collate_records.specs.Record.{Record, nothing, class, mapping, compatibility, weights, range, digit, setting, Layer, root, tailoring}
 use Rattle.collate_records.specs.Accepted.{MapsToScalars}
 use Rattle.collate_records.specs.Grammar.{◌>>=◌, checked, class_by, class_number, code_point, compatibility_by, digit_by, digit_to, element, ending_by, hex_number, hex_of, is_scalar, is_short, key_by, listed, mapping_by, parted, range_by, record_by, record_of, set_by, setting_by, some_listed, step_number, weights_by}
 
@@ -59,8 +59,13 @@ ending_scalars (f ∷ []) ending e = elim (either _ _ _ _ e) [ inl p ↦ none_en
 ending_scalars (f ∷ x ∷ []) ending e = one_ends f true ending (either_none _ _ _ e)
 ending_scalars (f ∷ x ∷ y ∷ fs) ending e = absurd (cc)
 
--- a mapping that is read is to scalar values, at most two
-mapping_scalars : (fields : List (List ℕ)) (s : Record) → mapping_by fields ≡ Some s → MapsToScalars s
+-- a line maps a scalar value to scalar values, at most two
+abbrev HasScalars : Record → Type 0
+HasScalars (mapping c ds is_excluded) = IsScalar c × All IsScalar ds × (length ds ≤ 2)
+HasScalars _ = Unit {0}
+
+-- a mapping that is read is so
+mapping_scalars : (fields : List (List ℕ)) (s : Record) → mapping_by fields ≡ Some s → HasScalars s
 mapping_scalars [] s e = absurd (cc)
 mapping_scalars (c ∷ []) s e = absurd (cc)
 mapping_scalars (c ∷ d ∷ fields) s e =
@@ -69,9 +74,9 @@ mapping_scalars (c ∷ d ∷ fields) s e =
     in let g = bind_some (ending_by fields) _ s b.2
     in let h = ending_scalars fields g.0 g.1
     in rw (← same_Some _ _ g.2)
-    (All-cons IsScalar b.0 (g.0.0) (code_point_scalar d b.0 b.1) h.scalars, omega (arith, h.short))
+    (code_point_scalar c a.0 a.1, All-cons IsScalar b.0 (g.0.0) (code_point_scalar d b.0 b.1) h.scalars, omega (arith, h.short))
 
-class_scalars : (fields : List (List ℕ)) (s : Record) → class_by fields ≡ Some s → MapsToScalars s
+class_scalars : (fields : List (List ℕ)) (s : Record) → class_by fields ≡ Some s → HasScalars s
 class_scalars [] s e = absurd (cc)
 class_scalars (c ∷ []) s e = absurd (cc)
 class_scalars (c ∷ n ∷ []) s e =
@@ -80,21 +85,21 @@ class_scalars (c ∷ n ∷ []) s e =
     in rw (← same_Some _ _ b.2) tt
 class_scalars (c ∷ n ∷ x ∷ fs) s e = absurd (cc)
 
-compatibility_scalars : (fields : List (List ℕ)) (s : Record) → compatibility_by fields ≡ Some s → MapsToScalars s
+compatibility_scalars : (fields : List (List ℕ)) (s : Record) → compatibility_by fields ≡ Some s → HasScalars s
 compatibility_scalars [] s e = absurd (cc)
 compatibility_scalars (c ∷ fields) s e =
     let a = bind_some (code_point c) _ s e
     in let b = bind_some (some_listed code_point fields) _ s a.2
     in rw (← same_Some _ _ b.2) tt
 
-weights_scalars : (layer : Layer) (fields : List (List ℕ)) (s : Record) → weights_by layer fields ≡ Some s → MapsToScalars s
+weights_scalars : (layer : Layer) (fields : List (List ℕ)) (s : Record) → weights_by layer fields ≡ Some s → HasScalars s
 weights_scalars layer fields s e =
     let a = bind_some (parted (codes ";") fields) _ s e
     in let b = bind_some (key_by a.0.0) _ s a.2
     in let d = bind_some (listed element a.0.1) _ s b.2
     in rw (← same_Some _ _ d.2) tt
 
-range_scalars : (fields : List (List ℕ)) (s : Record) → range_by fields ≡ Some s → MapsToScalars s
+range_scalars : (fields : List (List ℕ)) (s : Record) → range_by fields ≡ Some s → HasScalars s
 range_scalars [] s e = absurd (cc)
 range_scalars (c ∷ []) s e = absurd (cc)
 range_scalars (c ∷ d ∷ []) s e = absurd (cc)
@@ -107,7 +112,7 @@ range_scalars (c ∷ d ∷ p ∷ n ∷ []) s e =
     in rw (← same_Some _ _ fourth.2) tt
 range_scalars (c ∷ d ∷ p ∷ n ∷ x ∷ fs) s e = absurd (cc)
 
-digit_scalars : (fields : List (List ℕ)) (s : Record) → digit_by fields ≡ Some s → MapsToScalars s
+digit_scalars : (fields : List (List ℕ)) (s : Record) → digit_by fields ≡ Some s → HasScalars s
 digit_scalars [] s e = absurd (cc)
 digit_scalars (c ∷ []) s e = absurd (cc)
 digit_scalars (c ∷ n ∷ []) s e =
@@ -116,7 +121,7 @@ digit_scalars (c ∷ n ∷ []) s e =
     in rw (← same_Some _ _ b.2) tt
 digit_scalars (c ∷ n ∷ x ∷ fs) s e = absurd (cc)
 
-set_scalars : (fields : List (List ℕ)) (s : Record) → set_by fields ≡ Some s → MapsToScalars s
+set_scalars : (fields : List (List ℕ)) (s : Record) → set_by fields ≡ Some s → HasScalars s
 set_scalars [] s e = absurd (cc)
 set_scalars (name ∷ values) s e = let a = bind_some (setting_by name values) _ s e in rw (← same_Some _ _ a.2) tt
 
@@ -124,12 +129,12 @@ no_none : (s : Record) → None ≡ Some s → ⊥
 no_none s e = cc
 
 -- one of two forms, by a word
-one_of : (b : Bool) (p q : Option Record) (s : Record) → (p ≡ Some s → MapsToScalars s) → (q ≡ Some s → MapsToScalars s)
-    → (if b then p else q) ≡ Some s → MapsToScalars s
+one_of : (b : Bool) (p q : Option Record) (s : Record) → (p ≡ Some s → HasScalars s) → (q ≡ Some s → HasScalars s)
+    → (if b then p else q) ≡ Some s → HasScalars s
 one_of true p q s h k e = h e
 one_of false p q s h k e = k e
 
-fields_scalars : (fields : List (List ℕ)) (s : Record) → record_by fields ≡ Some s → MapsToScalars s
+fields_scalars : (fields : List (List ℕ)) (s : Record) → record_by fields ≡ Some s → HasScalars s
 fields_scalars [] s e = absurd (no_none s e)
 fields_scalars (word ∷ fields) s e =
     one_of _ _ _ s (class_scalars fields s)
@@ -141,12 +146,30 @@ fields_scalars (word ∷ fields) s e =
     (one_of _ _ _ s (digit_scalars fields s)
     (one_of _ _ _ s (set_scalars fields s) (λ none. absurd (no_none s none))))))))) e
 
--- a line in the grammar maps to scalar values
-record_scalars : (line : List ℕ) (s : Record) → record_of line ≡ Some s → MapsToScalars s
+-- a line in the grammar is so
+record_scalars : (line : List ℕ) (s : Record) → record_of line ≡ Some s → HasScalars s
 record_scalars line s e =
     one_of _ _ _ s (λ none. absurd (no_none s none))
     (one_of _ _ _ s (λ is. rw (← same_Some nothing s is) tt) (fields_scalars (slice_split (λ b. b == 32) line) s)) e
 
--- so does one that is read
+-- so is one that is read
+read_scalars : (line : List ℕ) (s : Record) → known_record_of line ≡ Some s → HasScalars s
+read_scalars line s e = record_scalars line s (known_said (record_of line) s e)
+
+to_scalars : (s : Record) → HasScalars s → MapsToScalars s
+to_scalars nothing h = tt
+to_scalars (class c k) h = tt
+to_scalars (mapping c ds x) h = (h.1, h.2)
+to_scalars (compatibility c ds) h = tt
+to_scalars (weights l p t es) h = tt
+to_scalars (range r) h = tt
+to_scalars (digit c v) h = tt
+to_scalars (setting v) h = tt
+
+-- a line that is read maps to scalar values
 pub line_scalars : (line : List ℕ) (s : Record) → known_record_of line ≡ Some s → MapsToScalars s
-line_scalars line s e = record_scalars line s (known_said (record_of line) s e)
+line_scalars line s e = to_scalars s (read_scalars line s e)
+
+-- and maps one
+pub mapped_scalar : (line : List ℕ) (c : ℕ) (ds : List ℕ) (x : Bool) → known_record_of line ≡ Some (mapping c ds x) → IsScalar c
+mapped_scalar line c ds x e = (read_scalars line (mapping c ds x) e).0

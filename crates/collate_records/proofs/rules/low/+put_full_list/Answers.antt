@@ -1,4 +1,4 @@
-use Rattle.std.proofs.Common.{◌++◌, ◌-◌, map, sym, ap, ◌∙◌}
+use Rattle.std.proofs.Common.{◌++◌, ◌-◌, map, sym}
 use Rattle.std.proofs.lemmas.Result.{on_ok_weaker}
 use Rattle.collate_records.specs.CanonicalParts.{in_full}
 use Rattle.collate_records.specs.Meaning.{class_of, expanded, step_of}

@@ -1,4 +1,4 @@
-use Rattle.std.proofs.Common.{map, sym, ◌∙◌}
+use Rattle.std.proofs.Common.{map, sym}
 use Rattle.std.proofs.lemmas.Bool.{false≢true}
 use Rattle.collate_records.specs.CanonicalParts.{in_full}
 use Rattle.collate_records.specs.Meaning.{canonical_of}

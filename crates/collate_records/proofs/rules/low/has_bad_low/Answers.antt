@@ -1,4 +1,3 @@
-use Rattle.std.proofs.Common.{refl}
 use Rattle.std.proofs.lemmas.Bool.{false≢true}
 use Rattle.collate_records.proofs.lists.LowLemmas.{low_more, low_none}
 use Rattle.collate_records.proofs.rules.low.has_bad_low.Goals as goal

@@ -1,5 +1,5 @@
-use Rattle.std.proofs.Common.{◌≡◌, ◌∷◌, ◌++◌, [], ℕ, List, map, ap, sym, ◌∙◌, subst, ◌↔◌, IsTrue}
-use Rattle.icu_normalizer_core.specs.Canonical.{composed, recomposed, marks_in_order}
+use Rattle.std.proofs.Common.{◌≡◌, ◌∷◌, ◌++◌, [], ℕ, List, map, sym, ◌∙◌, subst, ◌↔◌, IsTrue}
+use Rattle.icu_normalizer_core.specs.Canonical.{marks_in_order}
 use Rattle.collate_records.specs.CanonicalParts.{in_full}
 use Rattle.collate_records.specs.Meaning.{canonical_of, class_of, full_of}
 use Rattle.collate_records.proofs.lists.ComposingLemmas.{composed_by_full}

@@ -1,4 +1,4 @@
-use Rattle.std.proofs.Common.{map, refl, sym, ◌∙◌, arith}
+use Rattle.std.proofs.Common.{refl, sym, ◌∙◌, arith}
 use Rattle.std.proofs.lemmas.List.{length-map}
 use Rattle.collate_records.specs.Record.{said}
 use Rattle.collate_records.proofs.offenders.PairLemmas.{repeats_at, none_more}
