@@ -88,8 +88,8 @@ fn has_good_list(tables: &CanonicalTables<'_>, settled: &[Option<Left>], c: char
     is_left(&tables.steps, settled, c as u32, &full)
 }
 
-/// Whether the character is neither below the first triple's nor above the last's.
-fn is_among_keys(steps: &PackedVec<'_, u32>, c: u32) -> bool
+/// Whether a triple can be the character's, which is neither below the first triple's nor above the last's.
+fn may_have_triple(steps: &PackedVec<'_, u32>, c: u32) -> bool
     requires { AreTriples steps.now }
     ensures { result ≡ false → IsUnlisted steps.now c }
 {
@@ -109,7 +109,7 @@ fn is_good(tables: &CanonicalTables<'_>, settled: &[Option<Left>], c: char) -> b
     ensures bad { result ≡ false → OffendsList (lists_of tables.now) c }
 {
     // Of most characters: the word says nothing, and no triple can be theirs.
-    if tables.word(c) == 0 && !is_among_keys(&tables.steps, c as u32) {
+    if tables.word(c) == 0 && !may_have_triple(&tables.steps, c as u32) {
         return true;
     }
     match built_in_step(c as u32) {

@@ -1,6 +1,6 @@
 //! Characters from which mapping steps don't end.
 
-ghost use Rattle.std.specs.Prelude.{◌≡◌, ◌↔◌, ℕ, true, slice_get, Some, None, IsTrue, MatchOption};
+ghost use Rattle.std.specs.Prelude.{◌≡◌, ◌↔◌, ℕ, slice_get, Some, None, IsTrue, MatchOption};
 ghost use Rattle.icu_normalizer_core.specs.CanonicalFaults.{IsLeastOffender, Ends, OffendsLoop, AllEnd};
 ghost use Rattle.icu_normalizer_core.specs.CanonicalLists.{AreTriples};
 ghost use Rattle.icu_normalizer_core.specs.CanonicalMeaning.{lists_of};
@@ -26,7 +26,7 @@ fn ends(tables: &CanonicalTables<'_>, settled: &[Option<Left>], c: char) -> bool
 
 /// Whether each triple is settled.
 fn are_settled(settled: &[Option<Left>]) -> bool
-    ensures { result ≡ true → (i : ℕ) → slice_get settled.now i ≡ Some None → ⊥ }
+    ensures { IsTrue result ↔ ((i : ℕ) → slice_get settled.now i ≡ Some None → ⊥) }
 {
     for left in settled {
         if left.is_none() {

@@ -4,10 +4,10 @@ use Rattle.icu_normalizer_core.specs.CanonicalMeaning.{lists_of}
 use Rattle.icu_normalizer_core.proofs.FaultLemmas.{bool_tells, own_good}
 use Rattle.icu_normalizer_core.proofs.canonical.check.full_lists.is_good.Goals as goal
 
-pub returns-then-not-is_among_keys-clause-good : goal.returns-then-not-is_among_keys-clause-good
-returns-then-not-is_among_keys-clause-good c = λ good w.
+pub returns-then-not-may_have_triple-clause-good : goal.returns-then-not-may_have_triple-clause-good
+returns-then-not-may_have_triple-clause-good c = λ good w.
     ⊎_elim (λ zero. zero.1 c.requires.triples)
-    (λ bad. own_good (lists_of c.args.tables.now) c.args.c (sym c.word.ensures.word ∙ c.if-word-eq0.true) bad.0 (c.is_among_keys.ensures c.if-not-is_among_keys.true) bad.1) w
+    (λ bad. own_good (lists_of c.args.tables.now) c.args.c (sym c.word.ensures.word ∙ c.if-word-eq0.true) bad.0 (c.may_have_triple.ensures c.if-not-may_have_triple.true) bad.1) w
 
 pub returns-in-None-clause-good : goal.returns-in-None-clause-good
 returns-in-None-clause-good c = λ good w.
