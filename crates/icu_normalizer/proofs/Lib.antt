@@ -8,6 +8,7 @@ pub mod FormCutLemmas
 pub mod IterLemmas
 pub mod RunLemmas
 pub mod SinkLemmas
+pub mod SkipLemmas
 pub mod SortLemmas
 pub mod SplitLemmas
 pub mod StepLemmas

@@ -93,7 +93,7 @@ module _ (canonical : Canonical) (ok : IsCanonical canonical) where
   free_low c low = grind (arith, nat_tests)
 
   -- the full list of a character below U+0300 begins with a starter
-  full_begins : (c : ℕ) → c < 0x300 → (ds : List ℕ) → canonical.step c ≡ ds → (d : ℕ) × (es : List ℕ) × (canonical.full c ≡ d ∷ es) × (canonical.class d ≡ 0)
+  pub full_begins : (c : ℕ) → c < 0x300 → (ds : List ℕ) → canonical.step c ≡ ds → (d : ℕ) × (es : List ℕ) × (canonical.full c ≡ d ∷ es) × (canonical.class d ≡ 0)
   full_begins c low [] e = (c, [], full_unmapped c (low_scalar c (omega arith)) e, ok.composing.starters c low)
   full_begins c low (d ∷ ds) e =
       let s = low_scalar c (omega arith) in

@@ -1,5 +1,5 @@
 -- Composing a starter with what stands behind it.
-use Rattle.std.specs.Prelude.{◌≡◌, ℕ, ◌<◌, ◌≤◌, ◌==◌, ◌||◌, ltb, cond, List, Option, Some, None}
+use Rattle.std.specs.Prelude.{◌≡◌, ℕ, ◌<◌, ◌≤◌, ◌==◌, ◌||◌, ltb, cond, List, ◌∷◌, Option, Some, None}
 use Rattle.std.specs.List.{list_all}
 use Rattle.icu_normalizer_core.specs.Canonical.{Canonical}
 
@@ -17,3 +17,7 @@ abbrev pub IsComposable : Canonical → Type 0
 IsComposable canonical =
     ((a b c : ℕ) → canonical.pair a b ≡ Some c → 0x300 ≤ b)
     × ((c : ℕ) → c < 0x300 → canonical.class c ≡ 0)
+
+-- the character and the first of its full list are below U+0300: neither composes with what stands before it
+abbrev pub IsApart : Canonical → ℕ → Type 0
+IsApart canonical c = (c < 0x300) × ((d : ℕ) (ds : List ℕ) → canonical.full c ≡ d ∷ ds → d < 0x300)

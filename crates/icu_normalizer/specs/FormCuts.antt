@@ -26,3 +26,11 @@ pub record IsFormCut (form : List ℕ → List ℕ) (bound : ℕ) (text rest : L
   pub alone : form (chars text) ≡ prefix ++ form (chars rest)
   pub far : ReachesBelow form bound (chars text) prefix
   pub changes : IsOwnForm form (chars text) → ⊥
+
+-- the form of the text is the prefix that was passed over, and the form of the rest
+pub record IsSkipped (form : List ℕ → List ℕ) (text rest : List ℕ) : Type 0 where
+  pub prefix : List ℕ
+  pub bytes : text ≡ encode_utf8_all prefix ++ rest
+  pub readable : IsUtf8 (encode_utf8_all prefix)
+  pub whole : chars text ≡ prefix ++ chars rest
+  pub alone : form (chars text) ≡ prefix ++ form (chars rest)

@@ -10,6 +10,7 @@ ghost use Rattle.icu_normalizer.specs.Readable.{IsReadable};
 
 mod composer;
 mod cuts;
+mod low;
 mod normalizer;
 mod owned;
 

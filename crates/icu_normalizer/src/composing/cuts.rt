@@ -6,12 +6,31 @@ ghost use Rattle.icu_normalizer_core.specs.Canonical.{composed};
 ghost use Rattle.icu_normalizer.specs.FormCuts.{IsComposed, IsFormCut};
 
 use super::Composition;
+use super::low::skip_low;
 use icu_normalizer_core::canonical::CanonicalBorrowed;
 use std::alloc::{AllocError, Global};
 
 /// What has to be changed for a text to be in NFC, from the last character below U+0300 at or before the first change
 /// on; `None` where nothing has to be changed.
 pub(super) fn rest_to_change<'t>(
+    alloc: Global,
+    canonical: CanonicalBorrowed<'_>,
+    text: &'t str,
+) -> Result<Option<&'t str>, AllocError>
+    ensures { IfOk result (λ out. MatchOption out (IsComposed (borrowed_meaning canonical.entry) (chars text.now)) (λ rest. IsFormCut (composed (borrowed_meaning canonical.entry)) 0x300 text.now rest.now)) }
+{
+    let Some(left) = skip_low(canonical, text) else {
+        return Ok(None);
+    };
+    match rest_to_compose(alloc, canonical, left) {
+        Ok(None) => Ok(None),
+        Ok(Some(rest)) => Ok(Some(rest)),
+        Err(error) => Err(error),
+    }
+}
+
+/// The same, character by character.
+fn rest_to_compose<'t>(
     alloc: Global,
     canonical: CanonicalBorrowed<'_>,
     text: &'t str,

@@ -43,6 +43,25 @@ impl<'d> ComposingNormalizerBorrowed<'d> {
         ensures ok { OnOk result (S.contents sink.new ≡ S.contents sink.old ++ encode_utf8_all (composed (composing_data self.now) (chars text.now))) }
         ensures err { OnErr result (AddsPrefix (S.contents sink.old) (encode_utf8_all (composed (composing_data self.now) (chars text.now))) (S.contents sink.new)) }
     {
+        let Ok((prefix, rest)) = self.split_normalized(alloc, text) else {
+            return Err(NormError::Memory);
+        };
+        if let Err(error) = sink.write_str(prefix) {
+            return Err(NormError::Sink(error));
+        }
+        self.write_composed(alloc, rest, sink)
+    }
+
+    /// The same, character by character.
+    fn write_composed<S: TextSink>(
+        &self,
+        alloc: Global,
+        text: &str,
+        sink: &mut S,
+    ) -> Result<(), NormError<S::Error>>
+        ensures ok { OnOk result (S.contents sink.new ≡ S.contents sink.old ++ encode_utf8_all (composed (composing_data self.now) (chars text.now))) }
+        ensures err { OnErr result (AddsPrefix (S.contents sink.old) (encode_utf8_all (composed (composing_data self.now) (chars text.now))) (S.contents sink.new)) }
+    {
         let mut composition = Composition::over(alloc, self.canonical, text.chars());
         while let Some(item) = composition.next() {
             let Ok(c) = item else {

@@ -57,7 +57,7 @@ impl ComposingNormalizerBorrowed<'_> {
         }
         let mut normal = String::with_capacity(alloc, text.len())?;
         normal.push_str(prefix)?;
-        match self.normalize_to(alloc, rest, &mut normal) {
+        match self.write_composed(alloc, rest, &mut normal) {
             Ok(()) => Ok(CowStr::Owned(normal)),
             Err(_) => Err(AllocError),
         }

@@ -4,7 +4,7 @@ use Rattle.icu_normalizer_core.specs.BorrowedMeaning.{borrowed_meaning}
 use Rattle.icu_normalizer_core.specs.Canonical.{composed}
 use Rattle.icu_normalizer.specs.Compositions.{ComposesTo}
 use Rattle.icu_normalizer.proofs.ComposedWalkLemmas.{IsLowRead}
-use Rattle.icu_normalizer.proofs.composing.cuts.rest_to_change.Given as goal
+use Rattle.icu_normalizer.proofs.composing.cuts.rest_to_compose.Given as goal
 
 abbrev pub invariant-chars : goal.invariant-chars
 invariant-chars l =

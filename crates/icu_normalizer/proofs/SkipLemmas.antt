@@ -1,0 +1,144 @@
+-- Passing over the front of a text that stays as it stands.
+use Rattle.std.proofs.Common.{◌≡◌, ℕ, ◌<◌, ◌≤◌, ◌⊎◌, inl, inr, ⊎_elim, List, [], ◌∷◌, ◌++◌, length, length-append, flat_map, chars, encode_utf8, encode_utf8_all, IsUtf8, Some, refl, sym, ap, subst, ◌∙◌, arith, append_assoc, append-nil}
+use Rattle.std.proofs.lemmas.Bool.{cases_lt}
+use Rattle.std.proofs.lemmas.List.{append_cancel_left}
+use Rattle.std.proofs.lemmas.Str.{chars_past_char, encodes-append, IsUtf8-append}
+use Rattle.icu_normalizer_core.specs.Canonical.{Canonical, IsCanonical, composing, recomposed, decomposed, composed, marks_in_order}
+use Rattle.icu_normalizer_core.proofs.DecomposedLemmas.{order_before, put_starter}
+use Rattle.icu_normalizer.specs.Composing.{IsApart}
+use Rattle.icu_normalizer.specs.FormCuts.{IsOwnForm, IsComposed, ReachesBelow, IsFormCut, IsSkipped}
+use Rattle.icu_normalizer.proofs.ComposedWalkLemmas.{composed_nothing}
+use Rattle.icu_normalizer.proofs.ComposingLemmas.{composing_end, composing_joined, composing_begun, composing_kept, composing_cases, composed_low, recomposed_nothing, recomposed_begun, recomposed_passed}
+use Rattle.icu_normalizer.proofs.CutLemmas.{IsRead, text_chars, front_utf8, rest_chars, read_starter}
+use Rattle.icu_normalizer.proofs.WeightLemmas.{full_begins}
+
+-- ---- a starter below U+0300 composes with nothing before it
+
+module _ (canonical : Canonical) (seconds : (a b c : ℕ) → canonical.pair a b ≡ Some c → 0x300 ≤ b) where
+  composing_apart : (s : ℕ) (ms xs : List ℕ) (d : ℕ) (ys : List ℕ) → canonical.class d ≤ 0 → d < 0x300 → composing canonical s ms (xs ++ d ∷ ys) ≡ composing canonical s ms xs ++ composing canonical d [] ys
+  composing_apart s ms [] d ys starter low =
+      composing_begun canonical s ms d ys (composed_low canonical s ms d seconds low) starter ∙ ap (λ l. l ++ composing canonical d [] ys) (sym (composing_end canonical s ms))
+  composing_apart s ms (c ∷ cs) d ys starter low =
+      composing_cases canonical s ms c cs (λ l. composing canonical s ms (c ∷ (cs ++ d ∷ ys)) ≡ l ++ composing canonical d [] ys)
+      (λ z joins. composing_joined canonical s ms c z (cs ++ d ∷ ys) joins ∙ composing_apart z ms cs d ys starter low)
+      (λ none first.
+      composing_begun canonical s ms c (cs ++ d ∷ ys) none first ∙ ap (λ l. (s ∷ ms) ++ l) (composing_apart c [] cs d ys starter low)
+      ∙ sym (append_assoc (s ∷ ms) (composing canonical c [] cs) (composing canonical d [] ys)))
+      (λ none mark. composing_kept canonical s ms c (cs ++ d ∷ ys) none mark ∙ composing_apart s (ms ++ c ∷ []) cs d ys starter low)
+
+  recomposed_apart : (xs : List ℕ) (d : ℕ) (ys : List ℕ) → canonical.class d ≤ 0 → d < 0x300 → recomposed canonical (xs ++ d ∷ ys) ≡ recomposed canonical xs ++ recomposed canonical (d ∷ ys)
+  recomposed_apart [] d ys starter low = ap (λ l. l ++ recomposed canonical (d ∷ ys)) (sym (recomposed_nothing canonical))
+  recomposed_apart (c ∷ cs) d ys starter low =
+      ⊎_elim
+      (λ mark.
+      recomposed_passed canonical c (cs ++ d ∷ ys) mark ∙ ap (λ l. c ∷ l) (recomposed_apart cs d ys starter low)
+      ∙ ap (λ l. l ++ recomposed canonical (d ∷ ys)) (sym (recomposed_passed canonical c cs mark)))
+      (λ first.
+      recomposed_begun canonical c (cs ++ d ∷ ys) first ∙ composing_apart c [] cs d ys starter low
+      ∙ ap (λ l. composing canonical c [] cs ++ l) (sym (recomposed_begun canonical d ys starter))
+      ∙ ap (λ l. l ++ recomposed canonical (d ∷ ys)) (sym (recomposed_begun canonical c cs first)))
+      (cases_lt 0 (canonical.class c))
+
+-- A text that was passed over to a place: `back` is the last character that was read.
+pub record IsSkipping (canonical : Canonical) (text rest ahead front back : List ℕ) : Type 0 where
+  pub read : IsRead text rest ahead front back
+  pub alone : composed canonical (chars text) ≡ front ++ composed canonical (back ++ chars ahead)
+  pub last : (back ≡ []) ⊎ ((b : ℕ) × (back ≡ b ∷ []) × (b < 0x300))
+
+module _ (canonical : Canonical) (ok : IsCanonical canonical) where
+  -- before a character that is apart, a character below U+0300 stays as it stands
+  composed_passed : (b c : ℕ) (ys : List ℕ) → b < 0x300 → IsApart canonical c → composed canonical (b ∷ c ∷ ys) ≡ b ∷ composed canonical (c ∷ ys)
+  unfolding composed decomposed marks_in_order
+  composed_passed b c ys low apart =
+      let first = full_begins canonical ok c apart.0 (canonical.step c) refl in
+      let behind = first.1 ++ flat_map canonical.full ys in
+      let front = canonical.full b ++ [] in
+      let list : flat_map canonical.full (c ∷ ys) ≡ first.0 ∷ behind = ap (λ l. l ++ flat_map canonical.full ys) first.2 in
+      let whole : decomposed canonical (b ∷ c ∷ ys) ≡ marks_in_order canonical.class front ++ first.0 ∷ marks_in_order canonical.class behind =
+      ap (marks_in_order canonical.class) (ap (λ l. l ++ flat_map canonical.full (c ∷ ys)) (sym (append-nil (canonical.full b))) ∙ ap (λ l. front ++ l) list)
+      ∙ order_before canonical.class first.0 front behind first.3 in
+      let alone : decomposed canonical (c ∷ ys) ≡ first.0 ∷ marks_in_order canonical.class behind =
+      ap (marks_in_order canonical.class) list ∙ put_starter canonical.class first.0 (marks_in_order canonical.class behind) first.3 in
+      let starter : canonical.class first.0 ≤ 0 = omega (arith, first.3) in
+      ap (recomposed canonical) whole
+      ∙ recomposed_apart canonical ok.composing.seconds (marks_in_order canonical.class front) first.0 (marks_in_order canonical.class behind) starter (apart.1 first.0 first.1 first.2)
+      ∙ ap (λ l. l ++ recomposed canonical (first.0 ∷ marks_in_order canonical.class behind)) (ok.composing.own b low)
+      ∙ ap (λ l. b ∷ recomposed canonical l) (sym alone)
+
+  -- ---- passing over
+
+  pub skipping_none : (text ahead : List ℕ) → ahead ≡ text → IsSkipping canonical text text ahead [] []
+  skipping_none text ahead e = record { read = record { whole = refl; part = sym e }; alone = ap (λ l. composed canonical (chars l)) (sym e); last = inl refl }
+
+  passed_last : (back ys : List ℕ) (c : ℕ) → (back ≡ []) ⊎ ((b : ℕ) × (back ≡ b ∷ []) × (b < 0x300)) → IsApart canonical c → composed canonical (back ++ c ∷ ys) ≡ back ++ composed canonical (c ∷ ys)
+  passed_last back ys c (inl none) apart = ap (λ l. composed canonical (l ++ c ∷ ys)) none ∙ ap (λ l. l ++ composed canonical (c ∷ ys)) (sym none)
+  passed_last back ys c (inr some) apart =
+      ap (λ l. composed canonical (l ++ c ∷ ys)) some.1 ∙ composed_passed some.0 c ys some.2 apart ∙ ap (λ l. l ++ composed canonical (c ∷ ys)) (sym some.1)
+
+  own_last : (back : List ℕ) → (back ≡ []) ⊎ ((b : ℕ) × (back ≡ b ∷ []) × (b < 0x300)) → composed canonical back ≡ back
+  own_last back (inl none) = ap (composed canonical) none ∙ composed_nothing canonical ∙ sym none
+  own_last back (inr some) = ap (composed canonical) some.1 ∙ ok.composing.own some.0 some.2 ∙ sym some.1
+
+  pub skipping_more : (text rest ahead next front back : List ℕ) (c : ℕ) → IsSkipping canonical text rest ahead front back → IsUtf8 ahead → ahead ≡ encode_utf8 c ++ next → IsApart canonical c → IsSkipping canonical text ahead next (front ++ back) (c ∷ [])
+  skipping_more text rest ahead next front back c is v e apart = record {
+    read = read_starter text rest ahead next front back c is.read e;
+    alone =
+        is.alone ∙ ap (λ l. front ++ composed canonical (back ++ l)) (chars_past_char ahead next c v e) ∙ ap (λ l. front ++ l) (passed_last back (chars next) c is.last apart)
+        ∙ sym (append_assoc front back (composed canonical (c ∷ chars next)));
+    last = inr (c, refl, apart.0);
+  }
+
+  pub skipped_all : (text rest ahead front back : List ℕ) → IsSkipping canonical text rest ahead front back → IsUtf8 text → IsUtf8 ahead → chars ahead ≡ [] → IsComposed canonical (chars text)
+  skipped_all text rest ahead front back is u v empty =
+      is.alone ∙ ap (λ l. front ++ composed canonical l) (ap (λ l. back ++ l) empty ∙ append-nil back) ∙ ap (λ l. front ++ l) (own_last back is.last ∙ sym (append-nil back) ∙ ap (λ l. back ++ l) (sym empty))
+      ∙ text_chars text rest ahead front back is.read u v
+
+  pub skipped_rest : (text rest ahead front back : List ℕ) → IsSkipping canonical text rest ahead front back → IsUtf8 text → IsUtf8 ahead → IsSkipped (composed canonical) text rest
+  skipped_rest text rest ahead front back is u v =
+      let same = rest_chars text rest ahead front back is.read u v in
+      record {
+        prefix = front;
+        bytes = is.read.whole;
+        readable = front_utf8 text rest ahead front back is.read u v;
+        whole = sym (text_chars text rest ahead front back is.read u v) ∙ ap (λ l. front ++ l) same;
+        alone = is.alone ∙ ap (λ l. front ++ composed canonical l) same;
+      }
+
+-- ---- what is found of the rest is found of the text
+
+split_front : (front xs agreed ys : List ℕ) → front ++ xs ≡ agreed ++ ys → length front ≤ length agreed → (more : List ℕ) × (agreed ≡ front ++ more)
+split_front [] xs agreed ys e le = (agreed, refl)
+split_front (f ∷ front) xs [] ys e le = absurd (omega (arith, le))
+split_front (f ∷ front) xs (a ∷ agreed) ys e le =
+    let behind = split_front front xs agreed ys (cc) (omega (arith, le)) in
+    let head : f ≡ a = cc in
+    (behind.0, cc (behind.1, head))
+
+module _ (form : List ℕ → List ℕ) (text rest : List ℕ) (is : IsSkipped form text rest) where
+  pub skipped_own : IsOwnForm form (chars rest) → IsOwnForm form (chars text)
+  skipped_own h = is.alone ∙ ap (λ l. is.prefix ++ l) h ∙ sym is.whole
+
+  far_behind : (bound : ℕ) (later : List ℕ) → ReachesBelow form bound (chars rest) later → ReachesBelow form bound (chars text) (is.prefix ++ later)
+  far_behind bound later far agreed left others c e f low =
+      ⊎_elim (λ within. omega (arith, within, length-append is.prefix later))
+      (λ past.
+      let parts = split_front is.prefix (chars rest) agreed (c ∷ left) (sym is.whole ∙ e) past in
+      let text_is = append_cancel_left is.prefix (chars rest) (parts.0 ++ c ∷ left) (sym is.whole ∙ e ∙ ap (λ l. l ++ c ∷ left) parts.1 ∙ append_assoc is.prefix parts.0 (c ∷ left)) in
+      let form_is = append_cancel_left is.prefix (form (chars rest)) (parts.0 ++ others) (sym is.alone ∙ f ∙ ap (λ l. l ++ others) parts.1 ∙ append_assoc is.prefix parts.0 others) in
+      let reached = far parts.0 left others c text_is form_is low in
+      omega (arith, reached, length-append is.prefix later, ap length parts.1, length-append is.prefix parts.0))
+      (cases_lt (length agreed) (length is.prefix))
+
+  pub skipped_cut : (bound : ℕ) (later : List ℕ) → IsFormCut form bound rest later → IsFormCut form bound text later
+  skipped_cut bound later cut =
+      let encoded = encodes-append is.prefix cut.prefix in
+      record {
+        prefix = is.prefix ++ cut.prefix;
+        bytes =
+            is.bytes ∙ ap (λ l. encode_utf8_all is.prefix ++ l) cut.bytes ∙ sym (append_assoc (encode_utf8_all is.prefix) (encode_utf8_all cut.prefix) later) ∙ ap (λ l. l ++ later) (sym encoded);
+        readable = (subst IsUtf8 (sym encoded) (IsUtf8-append (encode_utf8_all is.prefix) (encode_utf8_all cut.prefix) is.readable cut.readable.0), cut.readable.1);
+        whole = is.whole ∙ ap (λ l. is.prefix ++ l) cut.whole ∙ sym (append_assoc is.prefix cut.prefix (chars later));
+        alone = is.alone ∙ ap (λ l. is.prefix ++ l) cut.alone ∙ sym (append_assoc is.prefix cut.prefix (form (chars later)));
+        far = far_behind bound cut.prefix cut.far;
+        changes = λ h. cut.changes (append_cancel_left is.prefix (form (chars rest)) (chars rest) (sym is.alone ∙ h ∙ is.whole));
+      }

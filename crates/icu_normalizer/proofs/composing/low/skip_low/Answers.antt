@@ -1,0 +1,35 @@
+use Rattle.std.proofs.Common.{ℕ, List, [], ◌∷◌, ◌++◌, IsUtf8, subst, sym}
+use Rattle.std.specs.Str.Iter.{chars_rest}
+use Rattle.icu_normalizer_core.specs.BorrowedMeaning.{borrowed_meaning}
+use Rattle.icu_normalizer.proofs.CutLemmas.{rest_utf8}
+use Rattle.icu_normalizer.proofs.ComposedWalkLemmas.{nothing_ahead}
+use Rattle.icu_normalizer.proofs.SkipLemmas.{IsSkipping, skipping_none, skipping_more, skipped_all, skipped_rest}
+use Rattle.icu_normalizer.proofs.composing.low.skip_low.Goals as goal
+
+pub chars-init : goal.chars-init
+chars-init c = ([], [], skipping_none _ c.keep_promise.ensures _ _ c.chars-chars.ensures.rest)
+
+pub returns-in_default-clause-none : goal.returns-in_default-clause-none
+returns-in_default-clause-none c =
+    let now = c.chars.invariant in
+    skipped_all _ c.keep_promise.ensures _ _ _ now.0 now.1 now.2 c.utf8.text (subst IsUtf8 c.as_str-here.ensures c.as_str-here.utf8) (nothing_ahead _ c.in_default.ensures.steps.0.0)
+
+pub fact_in-rest : goal.fact_in-rest
+fact_in-rest c =
+    let now = c.chars.invariant in
+    rest_utf8 _ _ _ now.0 now.1 now.2.read c.utf8.text (subst IsUtf8 c.as_str-here.ensures c.as_str-here.utf8)
+
+pub returns-then-not-is_apart-clause-some : goal.returns-then-not-is_apart-clause-some
+returns-then-not-is_apart-clause-some c =
+    let now = c.chars.invariant in
+    skipped_rest _ c.keep_promise.ensures _ _ _ now.0 now.1 now.2 c.utf8.text (subst IsUtf8 c.as_str-here.ensures c.as_str-here.utf8)
+
+pub chars-preserved : goal.chars-preserved
+chars-preserved c =
+    let now = c.chars.invariant in
+    let ahead = subst IsUtf8 c.as_str-here.ensures c.as_str-here.utf8 in (
+      now.0 ++ now.1,
+      c.in-Some.c ∷ [],
+      subst (λ (r : List ℕ). IsSkipping (borrowed_meaning c.args.canonical) c.args.text.now r (chars_rest c.next.new.self) (now.0 ++ now.1) (c.in-Some.c ∷ [])) (sym c.as_str-here.ensures)
+          (skipping_more _ c.keep_promise.ensures _ _ _ _ now.0 now.1 c.in-Some.c now.2 ahead c.in-Some.ensures.steps.0 (c.is_apart.ensures c.if-not-is_apart.false)),
+    )
