@@ -2,6 +2,7 @@ pub mod AcceptedForms
 pub mod AcceptedPairs
 pub mod AcceptedTables
 pub mod BuiltInFacts
+pub mod builder
 pub mod DecodedLemmas
 pub mod DecomposedLemmas
 pub mod DecodingComputing

@@ -3,10 +3,14 @@ pub mod BuiltIn
 pub mod Canonical
 pub mod CanonicalFaults
 pub mod CanonicalLists
+pub mod CanonicalMaps
 pub mod CanonicalMeaning
 pub mod CanonicalWords
 pub mod Decoding
 pub mod FullLists
+pub mod GivenMaps
+pub mod InOrder
+pub mod MapNumbers
 pub mod Properties
 pub mod Sameness
 pub mod Settled
