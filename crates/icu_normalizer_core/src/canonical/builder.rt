@@ -6,6 +6,8 @@ ghost use Rattle.icu_normalizer_core.specs.CanonicalMaps.{CanonicalMaps};
 
 mod in_order;
 mod numbers;
+mod pairs;
+mod steps;
 
 use std::alloc::{AllocError, Global};
 use std::marker::Model;
