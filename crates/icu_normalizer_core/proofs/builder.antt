@@ -1,2 +1,3 @@
 pub mod InOrderLemmas
 pub mod MapNumberLemmas
+pub mod ListWordLemmas

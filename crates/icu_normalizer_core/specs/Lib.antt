@@ -10,6 +10,7 @@ pub mod Decoding
 pub mod FullLists
 pub mod GivenMaps
 pub mod InOrder
+pub mod ListWords
 pub mod MapNumbers
 pub mod Properties
 pub mod Sameness

@@ -5,6 +5,7 @@ ghost use Rattle.std.specs.Option.{is_some};
 ghost use Rattle.icu_normalizer_core.specs.CanonicalMaps.{CanonicalMaps};
 
 mod in_order;
+mod lists;
 mod numbers;
 mod pairs;
 mod steps;
