@@ -12,6 +12,10 @@ use Rattle.icu_normalizer_core.specs.CanonicalMaps.{CanonicalMaps, class_of, giv
 abbrev pub stated_full : CanonicalLists → ℕ → List ℕ
 stated_full lists c = full_of_word lists.scalars16 lists.scalars24 c (lists.word c)
 
+-- the triples list the mappings that are given and not built in
+abbrev pub ListMappings : CanonicalMaps → List ℕ → Type 0
+ListMappings maps steps = (c : ℕ) → listed_step steps c ≡ cond (is_some (built_in_step c)) [] (given_step maps.mappings c)
+
 -- Tables made of maps. It isn't asked here whether the maps keep the rules.
 pub record AreTablesOf (maps : CanonicalMaps) (lists : CanonicalLists) : Type 0 where
   -- each character has a word, of one of the forms, which names no place outside the lists
@@ -25,7 +29,7 @@ pub record AreTablesOf (maps : CanonicalMaps) (lists : CanonicalLists) : Type 0 
   pub free_lists : (c : ℕ) → IsScalar c → IsFree c → Leaves (step_in lists.steps) (c ∷ []) (stated_full lists c)
   -- the triples are the mappings that are given and not built in
   pub triples : AreTriples lists.steps
-  pub mappings : (c : ℕ) → listed_step lists.steps c ≡ cond (is_some (built_in_step c)) [] (given_step maps.mappings c)
+  pub mappings : ListMappings maps lists.steps
   -- the pairs are those that are given
   pub pairs : ArePairs lists.pairs
   pub composed : (a b : ℕ) → b < 2 ^ 21 → listed_pair lists.pairs a b ≡ given_pair maps.mappings a b

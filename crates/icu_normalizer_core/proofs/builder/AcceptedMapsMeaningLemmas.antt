@@ -4,14 +4,15 @@ use Rattle.std.specs.Option.{IfSome, is_some, unwrap_or}
 use Rattle.std.specs.Char.{IsScalar}
 use Rattle.std.proofs.lemmas.Bool.{cases_Bool}
 use Rattle.icu_normalizer_core.specs.BuiltIn.{built_in_step, built_in_class, syllable_of}
-use Rattle.icu_normalizer_core.specs.BuiltTables.{AreTablesOf, stated_full}
-use Rattle.icu_normalizer_core.specs.Canonical.{IsFree, Leaves, nothing, unmapped, mapped}
+use Rattle.icu_normalizer_core.specs.BuiltTables.{AreTablesOf, ListMappings, stated_full}
+use Rattle.icu_normalizer_core.specs.Canonical.{Canonical, IsFree, Leaves, nothing, unmapped, mapped}
 use Rattle.icu_normalizer_core.specs.CanonicalWords.{built_in_full, class_of_word, states_list}
 use Rattle.icu_normalizer_core.specs.CanonicalLists.{CanonicalLists, canonical_of, listed_step, listed_pair, step_in}
 use Rattle.icu_normalizer_core.specs.CanonicalMaps.{CanonicalMaps, AreMeaning, given_class, given_pair, given_step, step_of}
+use Rattle.icu_normalizer_core.specs.Sameness.{AreSameCanonical}
 use Rattle.icu_normalizer_core.proofs.AcceptedTables.{cases_step, free_letter, free_single, own_full, stating_class}
 use Rattle.icu_normalizer_core.proofs.BuiltInFacts.{built_in_left, class_scalar}
-use Rattle.icu_normalizer_core.proofs.LeftLemmas.{unmapped_itself}
+use Rattle.icu_normalizer_core.proofs.LeftLemmas.{left_one, unmapped_itself}
 use Rattle.icu_normalizer_core.proofs.builder.MapNumberLemmas.{scalar_below}
 
 -- steps that are the same leave the same
@@ -20,18 +21,23 @@ left_same s t xs ns same nothing = nothing
 left_same s t xs ns same (unmapped c cs ms e h) = unmapped c cs ms (sym (same c) ∙ e) (left_same s t cs ms same h)
 left_same s t xs ns same (mapped c d ds cs ms e h) = mapped c d ds cs ms (sym (same c) ∙ e) (left_same s t ((d ∷ ds) ++ cs) ms same h)
 
+-- triples that list the mappings of maps have their steps
+step_by : (maps : CanonicalMaps) (steps : List ℕ) → ListMappings maps steps → (c : ℕ) (o : Option (List ℕ)) → built_in_step c ≡ o
+    → unwrap_or o (listed_step steps c) ≡ unwrap_or o (given_step maps.mappings c)
+step_by maps steps listed c (Some ds) e = refl
+step_by maps steps listed c None e = listed c ∙ ap (λ (o : Option (List ℕ)). cond (is_some o) [] (given_step maps.mappings c)) e
+
+pub mappings_step : (maps : CanonicalMaps) (steps : List ℕ) → ListMappings maps steps → (c : ℕ) → step_in steps c ≡ step_of maps c
+unfolding step_in
+mappings_step maps steps listed c = step_by maps steps listed c (built_in_step c) refl
+
 -- a syllable's pair, else another
 abbrev syllable_else : Option ℕ → Option ℕ → Option ℕ
 syllable_else o other = elim o [ Some c ↦ Some c | None ↦ other ]
 
 module _ (maps : CanonicalMaps) (lists : CanonicalLists) (t : AreTablesOf maps lists) where
-  step_by : (c : ℕ) (o : Option (List ℕ)) → built_in_step c ≡ o → unwrap_or o (listed_step lists.steps c) ≡ unwrap_or o (given_step maps.mappings c)
-  step_by c (Some ds) e = refl
-  step_by c None e = t.mappings c ∙ ap (λ (o : Option (List ℕ)). cond (is_some o) [] (given_step maps.mappings c)) e
-
   step_same : (c : ℕ) → step_in lists.steps c ≡ step_of maps c
-  unfolding step_in
-  step_same c = step_by c (built_in_step c) refl
+  step_same = mappings_step maps lists.steps t.mappings
 
   step_fixed : (c : ℕ) (ds : List ℕ) → built_in_step c ≡ Some ds → step_of maps c ≡ ds
   step_fixed c ds e = ap (λ (o : Option (List ℕ)). unwrap_or o (given_step maps.mappings c)) e
@@ -82,3 +88,10 @@ module _ (maps : CanonicalMaps) (lists : CanonicalLists) (t : AreTablesOf maps l
     full = built_tables_left;
     pair = λ a b first second. pair_by a b (syllable_of a b) second;
   }
+
+-- what maps mean is one thing
+pub one_meaning : (maps : CanonicalMaps) (a b : Canonical) → AreMeaning maps a → AreMeaning maps b → AreSameCanonical a b
+one_meaning maps a b is other = record {
+  class = λ c scalar. is.class c scalar ∙ sym (other.class c scalar);
+  full = λ c scalar. left_one (step_of maps) (c ∷ []) (a.full c) (b.full c) (is.full c scalar) (other.full c scalar);
+}
