@@ -10,7 +10,7 @@ use Rattle.std.proofs.lemmas.List.Elements.{All-nil, All-cons}
 use Rattle.icu_normalizer_core.specs.BuiltIn.{is_syllable, is_jamo, singled_out, built_in_step, built_in_class}
 use Rattle.icu_normalizer_core.specs.Canonical.{Leaves, IsFree, IsDecomposing}
 use Rattle.icu_normalizer_core.specs.CanonicalWords.{is_word, states_list, is_mark_word, is_singled_word, class_of_word, full_of_word}
-use Rattle.icu_normalizer_core.specs.CanonicalLists.{CanonicalLists, listed_step, mapping, canonical_of}
+use Rattle.icu_normalizer_core.specs.CanonicalLists.{CanonicalLists, AreTriples, listed_step, mapping, canonical_of}
 use Rattle.icu_normalizer_core.specs.CanonicalFaults.{IsAccepted, begins_with_mark}
 use Rattle.icu_normalizer_core.proofs.AcceptedForms.{accepted_triples, eq_stands}
 use Rattle.icu_normalizer_core.proofs.TableMeanings.{class_is, full_is, step_built_in, step_free}
@@ -31,7 +31,7 @@ pub cases_step : (o : Option (List ℕ)) → (o ≡ None) ⊎ ((ds : List ℕ) �
 cases_step None = inl refl
 cases_step (Some ds) = inr (ds, refl)
 
-cases_list : (xs : List ℕ) → (xs ≡ []) ⊎ ((d : ℕ) × (ds : List ℕ) × (xs ≡ d ∷ ds))
+pub cases_list : (xs : List ℕ) → (xs ≡ []) ⊎ ((d : ℕ) × (ds : List ℕ) × (xs ≡ d ∷ ds))
 cases_list [] = inl refl
 cases_list (d ∷ ds) = inr (d, ds, refl)
 
@@ -83,22 +83,30 @@ listed_scalars (k ∷ a ∷ b ∷ rest) c t =
     (λ no. subst (All IsScalar) (sym (cond-false (k == c) (mapping a b) (listed_step rest c) no)) (listed_scalars rest c (targets_behind k a b rest t)))
     (cases_Bool (k == c))
 
+-- mappings by triples name scalar values
+pub triple_step_scalars : (lists : CanonicalLists) → AreTriples lists.steps → (c : ℕ) → All IsScalar ((canonical_of lists).step c)
+triple_step_scalars lists t c =
+    ⊎_elim
+    (λ free. subst (All IsScalar) (sym (step_free lists c free)) (listed_scalars lists.steps c (record { firsts = t.firsts; seconds = t.seconds })))
+    (λ b. subst (All IsScalar) (sym (step_built_in lists c b.0 b.1)) (built_in_short c b.0 b.1).0)
+    (cases_step (built_in_step c))
+
 -- ---- Words
 
-free_letter : (c : ℕ) → built_in_step c ≡ None → is_syllable c ≡ false
+pub free_letter : (c : ℕ) → built_in_step c ≡ None → is_syllable c ≡ false
 free_letter c free = ⊎_elim (λ t. absurd (none-some _ (sym free ∙ syllable_mapped c t))) (λ f. f) (cases_Bool (is_syllable c))
 
 pub free_single : (c : ℕ) → built_in_step c ≡ None → singled_out c ≡ None
 free_single c free = ⊎_elim (λ none. none) (λ some. absurd (none-some some.0 (sym free ∙ singled_mapped c some.0 some.1))) (cases_step (singled_out c))
 
 -- the word of a character without a built-in mapping states a list, or the character is its own full list
-own_full : (s16 s24 : List ℕ) (c w : ℕ) → is_word c w ≡ true → is_syllable c ≡ false → singled_out c ≡ None → states_list w ≡ false
+pub own_full : (s16 s24 : List ℕ) (c w : ℕ) → is_word c w ≡ true → is_syllable c ≡ false → singled_out c ≡ None → states_list w ≡ false
     → full_of_word s16 s24 c w ≡ c ∷ []
 unfolding is_word full_of_word
 own_full s16 s24 c w is letter single states = grind (arith, nat_tests, single, letter, states)
 
 -- a word that states a list says no class
-stating_class : (c w : ℕ) → states_list w ≡ true → class_of_word c w ≡ 0
+pub stating_class : (c w : ℕ) → states_list w ≡ true → class_of_word c w ≡ 0
 unfolding class_of_word
 stating_class c w states = grind (arith, nat_tests)
 
@@ -134,15 +142,8 @@ module _ (lists : CanonicalLists) (a : IsAccepted lists) where
   word_is c scalar =
       ⊎_elim (λ t. t) (λ f. absurd (a.values c scalar (and_right (lists.has_word c) (is_word c (lists.word c)) f))) (cases_Bool (is_word c (lists.word c)))
 
-  step_targets : AreTargets lists.steps
-  step_targets = let t = accepted_triples lists a in record { firsts = t.firsts; seconds = t.seconds }
-
   pub step_scalars : (c : ℕ) → All IsScalar (step c)
-  step_scalars c =
-      ⊎_elim
-      (λ free. subst (All IsScalar) (sym (step_free lists c free)) (listed_scalars lists.steps c step_targets))
-      (λ b. subst (All IsScalar) (sym (step_built_in lists c b.0 b.1)) (built_in_short c b.0 b.1).0)
-      (cases_step (built_in_step c))
+  step_scalars = triple_step_scalars lists (accepted_triples lists a)
 
   step_short : (c : ℕ) → length (step c) ≤ 2
   step_short c =

@@ -36,7 +36,7 @@ listed_or_not steps c whole =
     (λ found. inr (found.0, ((let h = found.1 in omega arith), found.2)))
     (search_below steps c (length steps / 3))
 
-got_cases : (xs : List (Option Left)) (i : ℕ) → i < length xs → (slice_get xs i ≡ Some None) ⊎ ((left : Left) × (slice_get xs i ≡ Some (Some left)))
+pub got_cases : (xs : List (Option Left)) (i : ℕ) → i < length xs → (slice_get xs i ≡ Some None) ⊎ ((left : Left) × (slice_get xs i ≡ Some (Some left)))
 got_cases [] i h = absurd (omega arith)
 got_cases (None ∷ xs) zero h = inl refl
 got_cases (Some left ∷ xs) zero h = inr (left, refl)

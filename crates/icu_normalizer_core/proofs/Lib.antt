@@ -1,13 +1,15 @@
+mod DecodingRows
+mod TableRows
 pub mod AcceptedForms
 pub mod AcceptedPairs
 pub mod AcceptedTables
+pub mod builder
 pub mod BuiltInFacts
 pub mod BuiltInTestLemmas
 pub mod CompositionLemmas
 pub mod DecodedLemmas
-pub mod DecomposedLemmas
 pub mod DecodingComputing
-mod DecodingRows
+pub mod DecomposedLemmas
 pub mod EndingLemmas
 pub mod FaultLemmas
 pub mod FullListLemmas
@@ -21,7 +23,6 @@ pub mod SettledLemmas
 pub mod SettlingLemmas
 pub mod TableComputing
 pub mod TableMeanings
-mod TableRows
 pub mod TextLemmas
 pub mod TripleLemmas
 pub mod Utf16Lemmas

@@ -1,6 +1,7 @@
 //! Canonical data in packed tables: classes, mappings, full lists and composed pairs of all characters.
 
 mod borrowed;
+mod builder;
 mod check;
 mod data;
 mod full_list;
@@ -11,6 +12,7 @@ mod tables;
 mod words;
 
 pub use borrowed::CanonicalBorrowed;
+pub use builder::{CanonicalDataBuilder, GivenClass, GivenMapping};
 pub use data::{CanonicalData, CanonicalDataError};
 pub use full_list::FullList;
 pub use tables::{CanonicalFault, CanonicalTables};

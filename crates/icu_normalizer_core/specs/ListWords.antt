@@ -1,0 +1,31 @@
+-- The words of full lists, whose characters may stand in the lists of tables.
+use Rattle.std.specs.Prelude.{◌≡◌, ℕ, ◌<◌, ◌≤◌, ◌^◌, true, List, ◌++◌, length, slice_index, slice_get, Option, Some, None}
+use Rattle.icu_normalizer_core.specs.declared.canonical.check.left.Left.{Left}
+use Rattle.icu_normalizer_core.specs.CanonicalWords.{states_list, is_inside, full_of_word}
+use Rattle.icu_normalizer_core.specs.Settled.{left_items}
+
+-- the word states the list, and names no place outside
+pub record StatesList (scalars16 scalars24 : List ℕ) (word : ℕ) (list : List ℕ) : Type 0 where
+  pub fits : word < 2 ^ 30
+  pub states : states_list word ≡ true
+  pub inside : is_inside scalars16 scalars24 word ≡ true
+  pub full : (c : ℕ) → full_of_word scalars16 scalars24 c word ≡ list
+
+-- the word states the list, and does so when scalars24 grows at its end
+abbrev pub KeepsStating : List ℕ → List ℕ → ℕ → List ℕ → Type 0
+KeepsStating scalars16 scalars24 word list = (more : List ℕ) → StatesList scalars16 (scalars24 ++ more) word list
+
+-- what is settled of a triple is a list of at most eight characters, which the word states
+abbrev pub StatesSettled : List ℕ → List ℕ → Option (Option Left) → ℕ → Type 0
+StatesSettled scalars16 scalars24 found word =
+    (left : Left) × (found ≡ Some (Some left)) × (length (left_items left) ≤ 8) × KeepsStating scalars16 scalars24 word (left_items left)
+
+-- each of so many words states what is settled of its triple
+pub record StateSettled (scalars16 scalars24 : List ℕ) (settled : List (Option Left)) (words : List ℕ) : Type 0 where
+  pub count : length words ≤ length settled
+  pub each : (i : ℕ) → i < length words → StatesSettled scalars16 scalars24 (slice_get settled i) (slice_index words i)
+
+-- a triple isn't settled, or its list has over eight characters
+abbrev pub HasUnsettled : List (Option Left) → Type 0
+HasUnsettled settled =
+    (i : ℕ) × (i < length settled) × ((left : Left) → slice_get settled i ≡ Some (Some left) → 8 < length (left_items left))

@@ -1,0 +1,98 @@
+//! Canonical tables made of classes and mappings that are given one by one.
+
+ghost use Rattle.std.specs.Prelude.{◌≡◌, ◌++◌, ◌∷◌, ◌&&◌, [], OnOk, OnErr};
+ghost use Rattle.std.specs.Option.{is_some};
+ghost use Rattle.icu_normalizer_core.specs.CanonicalMaps.{CanonicalMaps};
+
+mod in_order;
+mod lists;
+mod numbers;
+mod pairs;
+mod steps;
+
+use std::alloc::{AllocError, Global};
+use std::marker::Model;
+
+/// A class that is given for a character.
+#[derive(Clone, Copy, Debug)]
+pub struct GivenClass {
+    character: char,
+    class: u8,
+}
+
+/// A mapping that is given for a character, and whether the character is composed of the two.
+#[derive(Clone, Copy, Debug)]
+pub struct GivenMapping {
+    character: char,
+    first: char,
+    second: Option<char>,
+    is_composed: bool,
+}
+
+/// Canonical tables in the making, seen as the classes and mappings that were given.
+#[derive(Debug, Drop)]
+pub struct CanonicalDataBuilder {
+    classes: Vec<GivenClass>,
+    mappings: Vec<GivenMapping>,
+}
+
+impl Model for CanonicalDataBuilder {
+    ghost use Rattle.icu_normalizer_core.specs.CanonicalMaps.{CanonicalMaps};
+    ghost use Rattle.icu_normalizer_core.specs.GivenMaps.{AreOfScalars};
+
+    ghost Value = { CanonicalMaps };
+
+    ghost view = { λ inside. record { classes = inside.classes.items; mappings = inside.mappings.items } };
+
+    ghost invariant = { λ inside. AreOfScalars (record { classes = inside.classes.items; mappings = inside.mappings.items }) };
+}
+
+impl CanonicalDataBuilder {
+    /// Nothing is given yet.
+    pub fn new(alloc: Global) -> CanonicalDataBuilder
+        ensures classes { result.classes ≡ [] }
+        ensures mappings { result.mappings ≡ [] }
+    {
+        CanonicalDataBuilder {
+            classes: Vec::new(alloc),
+            mappings: Vec::new(alloc),
+        }
+    }
+
+    /// Gives a character its canonical combining class. Nothing is refused here but for want of memory, where
+    /// nothing changes: `build` asks whether the maps keep the rules.
+    pub fn class(&mut self, c: char, class: u8) -> Result<(), AllocError>
+        ensures classes { OnOk result (self.new.classes ≡ self.old.classes ++ record { character = c; class = class } ∷ []) }
+        ensures mappings { self.new.mappings ≡ self.old.mappings }
+        ensures refused { OnErr result (self.new ≡ self.old) }
+    {
+        self.classes.push(GivenClass {
+            character: c,
+            class,
+        })?;
+        Ok(())
+    }
+
+    /// Gives a character its canonical mapping, to one character or to two, and whether the two compose to it; one
+    /// alone never does. Nothing is refused here but for want of memory, where nothing changes: `build` asks
+    /// whether the maps keep the rules.
+    pub fn map(
+        &mut self,
+        c: char,
+        first: char,
+        second: Option<char>,
+        is_composed: bool,
+    ) -> Result<(), AllocError>
+        ensures mappings { OnOk result (self.new.mappings ≡ self.old.mappings ++ record { character = c; first = first; second = second; is_composed = is_composed && is_some second } ∷ []) }
+        ensures classes { self.new.classes ≡ self.old.classes }
+        ensures refused { OnErr result (self.new ≡ self.old) }
+    {
+        self.mappings.push(GivenMapping {
+            character: c,
+            first,
+            second,
+            is_composed: is_composed && second.is_some(),
+        })?;
+        Ok(())
+    }
+}

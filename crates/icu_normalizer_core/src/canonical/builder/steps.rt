@@ -1,0 +1,25 @@
+//! The mappings of tables, from those that were given.
+
+ghost use Rattle.std.specs.Prelude.{◌≡◌, ℕ, cond, [], IfOk, All};
+ghost use Rattle.std.specs.Option.{is_some};
+ghost use Rattle.icu_normalizer_core.specs.BuiltIn.{built_in_step};
+ghost use Rattle.icu_normalizer_core.specs.CanonicalLists.{AreTriples, listed_step};
+ghost use Rattle.icu_normalizer_core.specs.CanonicalMaps.{given_step};
+ghost use Rattle.icu_normalizer_core.specs.GivenMaps.{IsOfScalars};
+
+use super::GivenMapping;
+use super::in_order::in_order;
+use super::numbers::{mapping_numbers, triples};
+use std::alloc::{AllocError, Global};
+
+/// The mappings that aren't built in, three numbers each in rising order. The only error is want of memory.
+pub(super) fn steps(alloc: Global, mappings: &[GivenMapping]) -> Result<Vec<u32>, AllocError>
+    requires { All IsOfScalars mappings.now }
+    ensures triples { IfOk result (λ steps. AreTriples steps.items) }
+    ensures listed { IfOk result (λ steps. (c : ℕ) → listed_step steps.items c ≡ cond (is_some (built_in_step c)) [] (given_step mappings.now c)) }
+{
+    let numbers = mapping_numbers(alloc, mappings)?;
+    let sorted = in_order(alloc, numbers.as_slice(), 0x400_0000_0000)?;
+    let steps = triples(alloc, sorted.as_slice())?;
+    Ok(steps)
+}
