@@ -13,10 +13,10 @@ use super::tables::{CanonicalFault, CanonicalTables};
 use std::alloc::Global;
 use std::marker::Model;
 
-/// Why tables weren't taken as canonical data.
+/// Why tables weren't made canonical data (`CanonicalData::try_new`).
 #[derive(Clone, Copy, Debug, PartialEq, Eq)]
 pub enum CanonicalDataError {
-    /// They are none, for this.
+    /// The tables fail a check: their first fault.
     Fault(CanonicalFault),
     /// Memory was refused.
     Memory,
