@@ -1,13 +1,16 @@
 //! Data from a provider: a caller as a library above writes it, and in which order what is wrong is named.
-ghost use Rattle.std.specs.Prelude.{true, false, Ok, Err};
+ghost use Rattle.std.specs.Prelude.{◌+◌, ◌^◌, ◌<◌, true, false, Ok, Err};
 ghost use Rattle.icu_normalizer_core.specs.declared.provider.error.DataError.TheVariants.{Missing};
 ghost use Rattle.icu_normalizer_core.specs.declared.provider.error.TableName.TheVariants.{Nfd, NfdTables, Nfkd, NfkdTables, Pairs, Uts46};
 
-use icu_codepointtrie::{CodePointTrie, CodePointTrieHeader, TrieType};
+use icu_codepointtrie::{CodePointTrie, CodePointTrieBuilder, TrieType};
 use icu_normalizer_core::canonical::{CanonicalFault, CanonicalTables};
-use icu_normalizer_core::properties::CanonicalComposition;
+use icu_normalizer_core::properties::{
+    CanonicalCombiningClassMap, CanonicalComposition, CanonicalDecomposition, Decomposed,
+    combining_class, shape_compose, shape_decompose,
+};
 use icu_normalizer_core::provider::{
-    DataError, NfdLists, NfkdLists, NormalizerProvider, TableName, Uts46Tables,
+    DataError, NfdLists, NfkdLists, NormalizerProvider, TableName, Uts46Tables, load_canonical_data,
 };
 use icu_packed_vector::PackedVec;
 use std::alloc::{AllocError, Global};
@@ -81,74 +84,163 @@ impl NormalizerProvider for Held<'_> {
     }
 }
 
-/// A trie that gives one number for every code point.
-fn same_for_all(
+/// A provider of these words of characters, mappings and composed pairs, and of Hangul.
+fn provider_of(
     alloc: Global,
-    number: u32,
-) -> Result<Option<CodePointTrie<'static, u32>>, AllocError> {
-    let header = CodePointTrieHeader {
-        high_start: 0,
-        shifted12_high_start: 0,
-        index3_null_offset: 0,
-        data_null_offset: 0,
-        null_value: 0,
-        trie_type: TrieType::Small,
-    };
-    let index = PackedVec::from_slice(alloc, &[0u16; 64])?;
-    let cells = PackedVec::from_slice(alloc, &[number; 64])?;
-    Ok(CodePointTrie::try_new(header, index, cells).ok())
+    words: &[(u32, u32)],
+    steps: &[u32],
+    pairs: &[u64],
+) -> Option<Held<'static>> {
+    let mut builder = CodePointTrieBuilder::new(alloc, 0, 0, TrieType::Small).ok()?;
+    builder.set_range_value(0xAC00..=0xD7A3, 1).ok()?;
+    for (character, word) in words {
+        builder.set_value(*character, *word).ok()?;
+    }
+    let trie = builder.build(alloc).ok()?;
+    let scalars16 = PackedVec::from_slice(alloc, &[]).ok()?;
+    let scalars24 = PackedVec::from_slice(alloc, &[]).ok()?;
+    let steps = PackedVec::from_slice(alloc, steps).ok()?;
+    let pairs = PackedVec::from_slice(alloc, pairs).ok()?;
+    Some(Held {
+        tables: CanonicalTables {
+            trie,
+            scalars16,
+            scalars24,
+            steps,
+            pairs,
+        },
+        lacks_words: false,
+        lacks_lists: false,
+        lacks_pairs: false,
+    })
 }
 
-/// Tables that map nothing and in which every word is 0.
-fn plain_tables(alloc: Global) -> Result<Option<CanonicalTables<'static>>, AllocError> {
-    let Some(trie) = same_for_all(alloc, 0)? else {
-        return Ok(None);
-    };
-    let scalars16 = PackedVec::from_slice(alloc, &[])?;
-    let scalars24 = PackedVec::from_slice(alloc, &[])?;
-    let steps = PackedVec::from_slice(alloc, &[])?;
-    let pairs = PackedVec::from_slice(alloc, &[])?;
-    Ok(Some(CanonicalTables {
-        trie,
-        scalars16,
-        scalars24,
-        steps,
-        pairs,
-    }))
+/// The words of some marks, those that are built in among them, and of three letters with marks.
+const WORDS: [(u32, u32); 21] = [
+    (0xE1, 0x301 * 0x8000 + 0x61),
+    (0xE4, 0x308 * 0x8000 + 0x61),
+    (0x300, 0xD8E6),
+    (0x301, 0xD8E6),
+    (0x308, 0xD8E6),
+    (0x313, 0xD8E6),
+    (0x323, 0xD8DC),
+    (0x340, 0xD9E6),
+    (0x341, 0xD9E6),
+    (0x343, 0xD9E6),
+    (0x344, 0xD9E6),
+    (0xF71, 0xD881),
+    (0xF72, 0xD882),
+    (0xF73, 0xD900),
+    (0xF74, 0xD884),
+    (0xF75, 0xD900),
+    (0xF80, 0xD882),
+    (0xF81, 0xD900),
+    (0x1EA1, 0x323 * 0x8000 + 0x61),
+    (0x3099, 0xD808),
+    (0x309A, 0xD808),
+];
+
+/// The mappings of these letters.
+const STEPS: [u32; 9] = [0xE1, 0x61, 0x301, 0xE4, 0x61, 0x308, 0x1EA1, 0x61, 0x323];
+
+/// The composed pair of two characters.
+fn pair(first: u32, second: u32, composed: u32) -> u64
+    requires { first + second + composed < 2 ^ 21 }
+{
+    ((first as u64) << 42) + ((second as u64) << 21) + composed as u64
 }
 
-/// Why there are no composed pairs of plain tables, where a provider lacks some.
+/// A provider of those words and mappings, each mapping a composed pair.
+fn letters(alloc: Global) -> Option<Held<'static>> {
+    let pairs = [
+        pair(0x61, 0x301, 0xE1),
+        pair(0x61, 0x308, 0xE4),
+        pair(0x61, 0x323, 0x1EA1),
+    ];
+    provider_of(alloc, &WORDS, &STEPS, &pairs)
+}
+
+#[test]
+fn ok_canonical_combining_class_map(rt: HostRuntime) {
+    let alloc = rt.alloc();
+    let held = letters(alloc).expect(&rt, "a provider");
+    let map = CanonicalCombiningClassMap::try_new_unstable(alloc, &held).expect(&rt, "classes");
+    let classes = map.as_borrowed();
+    assert!(rt; classes.get('\u{301}') == 230 && classes.get_u8('\u{323}') == 220);
+    assert!(rt; classes.get('a') == 0 && classes.get('á') == 0 && classes.get('\u{F73}') == 0);
+    assert!(rt; classes.get32(0x344) == 230 && classes.get32_u8(0x323) == 220);
+    assert!(rt; classes.get32(0xD800) == 0 && classes.get32_u8(0x11_0000) == 0);
+    assert!(rt; combining_class(classes, '\u{309A}') == 8);
+}
+
+#[test]
+fn ok_canonical_composition(rt: HostRuntime) {
+    let alloc = rt.alloc();
+    let held = letters(alloc).expect(&rt, "a provider");
+    let pairs = CanonicalComposition::try_new_unstable(alloc, &held).expect(&rt, "pairs");
+    let composition = pairs.as_borrowed();
+    assert!(rt; composition.compose('a', '\u{308}') == Some('ä'));
+    assert!(rt; composition.compose('a', '\u{323}') == Some('ạ'));
+    assert!(rt; composition.compose('b', '\u{308}') == None);
+    assert!(rt; composition.compose('\u{308}', '\u{301}') == None);
+    assert!(rt; composition.compose('\u{1100}', '\u{1161}') == Some('\u{AC00}'));
+    assert!(rt; shape_compose(composition, '\u{AC00}', '\u{11A8}') == Some('\u{AC01}'));
+}
+
+#[test]
+fn ok_canonical_decomposition(rt: HostRuntime) {
+    let alloc = rt.alloc();
+    let held = letters(alloc).expect(&rt, "a provider");
+    let mappings = CanonicalDecomposition::try_new_unstable(alloc, &held).expect(&rt, "mappings");
+    let decomposition = mappings.as_borrowed();
+    assert!(rt; decomposition.decompose('a') == Decomposed::Default);
+    assert!(rt; decomposition.decompose('\u{340}') == Decomposed::Singleton('\u{300}'));
+    assert!(rt; decomposition.decompose('á') == Decomposed::Expansion('a', '\u{301}'));
+    assert!(rt; shape_decompose(decomposition, 'a') == None);
+    assert!(rt; shape_decompose(decomposition, '\u{340}') == Some(('\u{300}', '\0')));
+    assert!(rt; shape_decompose(decomposition, '\u{AC01}') == Some(('\u{AC00}', '\u{11A8}')));
+}
+
+#[test]
+fn ok_load_canonical_data(rt: HostRuntime) {
+    let alloc = rt.alloc();
+    let held = letters(alloc).expect(&rt, "a provider");
+    let checked = load_canonical_data(alloc, &held).expect(&rt, "canonical data");
+    let canonical = checked.as_borrowed();
+    assert!(rt; canonical.full_list('ạ').eq(['a', '\u{323}']));
+    assert!(rt; canonical.full_list('\u{344}').eq(['\u{308}', '\u{301}']));
+    assert!(rt; canonical.is_starter('a') && !canonical.is_starter('\u{323}'));
+}
+
+/// Why there are no composed pairs of a provider without words of marks, where it lacks some tables.
 fn refusal(
     alloc: Global,
     lacks_words: bool,
     lacks_lists: bool,
     lacks_pairs: bool,
-) -> Result<Option<DataError>, AllocError> {
-    let Some(tables) = plain_tables(alloc)? else {
-        return Ok(None);
-    };
+) -> Option<DataError> {
+    let Held { tables, .. } = provider_of(alloc, &[], &[], &[])?;
     let held = Held {
         tables,
         lacks_words,
         lacks_lists,
         lacks_pairs,
     };
-    Ok(CanonicalComposition::try_new_unstable(alloc, &held).err())
+    CanonicalComposition::try_new_unstable(alloc, &held).err()
 }
 
 // Loads come first, in their order, then the check: U+0300 has a built-in class, and its word doesn't say it.
 #[test]
-fn refusals_in_order(rt: HostRuntime) -> Result<(), AllocError> {
+fn refusals_in_order(rt: HostRuntime) {
     let alloc = rt.alloc();
     let words = DataError::Missing(TableName::Nfd);
     let lists = DataError::Missing(TableName::NfdTables);
     let pairs = DataError::Missing(TableName::Pairs);
     let check = DataError::Canonical(CanonicalFault::BuiltIn('\u{300}'));
-    assert!(rt; refusal(alloc, true, true, true)? == Some(words));
-    assert!(rt; refusal(alloc, false, true, true)? == Some(lists));
-    assert!(rt; refusal(alloc, false, false, true)? == Some(pairs));
-    assert!(rt; refusal(alloc, false, false, false)? == Some(check));
-    Ok(())
+    assert!(rt; refusal(alloc, true, true, true) == Some(words));
+    assert!(rt; refusal(alloc, false, true, true) == Some(lists));
+    assert!(rt; refusal(alloc, false, false, true) == Some(pairs));
+    assert!(rt; refusal(alloc, false, false, false) == Some(check));
 }
 
 #[test]
