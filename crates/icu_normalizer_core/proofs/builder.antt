@@ -1,8 +1,10 @@
 pub mod AcceptedMaps
 pub mod AcceptedMapsGivenLemmas
+pub mod AcceptedMapsKeptLemmas
 pub mod AcceptedMapsLimitLemmas
 pub mod AcceptedMapsMeaningLemmas
 pub mod AcceptedMapsRuleLemmas
+pub mod AcceptedMapsSameLemmas
 pub mod InOrderLemmas
 pub mod MapNumberLemmas
 pub mod ListWordLemmas
