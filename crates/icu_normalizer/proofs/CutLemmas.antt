@@ -1,16 +1,17 @@
 -- Texts in UTF-8 that were read to a place.
-use Rattle.std.proofs.Common.{◌≡◌, ℕ, ◌-◌, ◌↔◌, true, List, [], ◌∷◌, ◌++◌, length, length-append, drop, take, chars, encode_utf8_all, encode_utf8, IsUtf8, refl, sym, ap, ap₂, subst, ◌∙◌, arith, append_assoc, append-nil}
+use Rattle.std.proofs.Common.{◌≡◌, ℕ, zero, suc, ◌+◌, ◌-◌, ◌<◌, ◌≤◌, ◌↔◌, true, List, [], ◌∷◌, ◌++◌, length, length-append, drop, take, drop-cons, take-append-drop, get_or, chars, encode_utf8_all, encode_utf8, IsUtf8, refl, sym, ap, ap₂, subst, ◌∙◌, arith, append_assoc, append-nil}
 use Rattle.std.proofs.lemmas.Bool.{and_parts, and_from}
 use Rattle.std.proofs.lemmas.List.{nil_from_length}
 use Rattle.std.proofs.Math.Seq.{take-append_seam, drop-append_seam}
+use Rattle.std.specs.List.{AllByRecursion}
 use Rattle.std.specs.Str.{IsCharBoundary}
-use Rattle.std.proofs.lemmas.Str.{IsCharBoundary-at_seam, chars-nil, chars_from_encodes, encodes-chars, encodes-append, scalars-chars}
+use Rattle.std.proofs.lemmas.Str.{IsCharBoundary-at_seam, IsCharBoundary-start, IsCharBoundary-after_ascii, encode_ascii, chars-nil, chars_from_encodes, encodes-chars, encodes-append, scalars-chars}
 use lib.Utf8.{scalar, scalars}
 use Rattle.icu_normalizer_core.specs.Canonical.{Canonical, IsCanonical, decomposed}
 use Rattle.icu_normalizer_core.proofs.DecomposedLemmas.{AreScalar}
 use Rattle.icu_normalizer.specs.Readable.{IsReadable}
 use Rattle.icu_normalizer.specs.Splits.{IsDecomposed, IsInPlace, ReachesFar, IsCut}
-use Rattle.icu_normalizer.proofs.SplitLemmas.{IsWalked, in_place_is_decomposed, walked_changes, walked_far, walked_alone}
+use Rattle.icu_normalizer.proofs.SplitLemmas.{IsWalked, walked_none, walked_low, in_place_is_decomposed, walked_changes, walked_far, walked_alone}
 use Rattle.icu_normalizer.proofs.StepLemmas.{full_low}
 
 -- canonical data can be read fast
@@ -95,6 +96,53 @@ read_mark text rest ahead next front back c is e = record {
   whole = is.whole;
   part = is.part ∙ ap (λ l. encode_utf8_all back ++ l) (e ∙ ap (λ l. l ++ next) (sym (one_char c))) ∙ sym (append_assoc (encode_utf8_all back) (encode_utf8_all (c ∷ [])) next) ∙ ap (λ l. l ++ next) (sym (encodes-append back (c ∷ [])));
 }
+
+-- ---- ASCII at the start
+
+abbrev ArePlain : List ℕ → Type 0
+ArePlain cs = AllByRecursion (λ c. c < 0x80) cs
+
+are_plain : (text : List ℕ) (n : ℕ) → ((k : ℕ) → k < n → get_or text k 0 < 0x80) → ArePlain (take n text)
+are_plain [] zero h = tt
+are_plain [] (suc n) h = tt
+are_plain (x ∷ xs) zero h = tt
+are_plain (x ∷ xs) (suc n) h = (h zero (omega arith), are_plain xs n (λ k lt. h (suc k) (omega arith)))
+
+plain_low : (cs : List ℕ) → ArePlain cs → AllByRecursion (λ c. c < 0xc0) cs
+plain_low [] h = tt
+plain_low (c ∷ cs) h = ((let first = h.0 in omega arith), plain_low cs h.1)
+
+plain_bytes : (cs : List ℕ) → ArePlain cs → encode_utf8_all cs ≡ cs
+plain_bytes [] h = refl
+plain_bytes (c ∷ cs) h = ap₂ (λ x y. x ++ y) (encode_ascii c h.0) (plain_bytes cs h.1)
+
+-- what is known once they are read
+abbrev pub IsBegun : Canonical → List ℕ → List ℕ → List ℕ → Type 0
+IsBegun canonical text rest ahead = (front : List ℕ) × (back : List ℕ) × IsWalked canonical front back 0 × IsRead text rest ahead front back
+
+pub begun : (canonical : Canonical) (text rest ahead : List ℕ) (n : ℕ) → IsCanonical canonical → n ≤ length text → ((k : ℕ) → k < n → get_or text k 0 < 0x80)
+    → rest ≡ drop (n - 1) text → ahead ≡ drop n text → IsBegun canonical text rest ahead
+begun canonical text rest ahead zero ok within plain e f =
+    let start : rest ≡ text = e ∙ ap (λ k. drop k text) (let zero_is : 0 - 1 ≡ 0 = omega arith in zero_is) in
+    ([], [], walked_none canonical, record { whole = sym start; part = start ∙ sym f })
+begun canonical text rest ahead (suc m) ok within plain e f =
+    let start : rest ≡ drop m text = e ∙ ap (λ k. drop k text) (let one : suc m - 1 ≡ m = omega arith in one) in
+    let x = get_or text m 0 in
+    let last : x < 0x80 = plain m (omega arith) in
+    let front : ArePlain (take m text) = are_plain text m (λ k lt. plain k (omega arith)) in (
+      take m text,
+      x ∷ [],
+      walked_low canonical (take m text) x (λ y low. full_low canonical y ok low) (λ y low. ok.composing.starters y (omega arith)) (plain_low (take m text) front) (omega arith),
+      record {
+        whole = sym (take-append-drop m text) ∙ ap₂ (λ a b. a ++ b) (sym (plain_bytes (take m text) front)) (sym start);
+        part = start ∙ drop-cons text m 0 (omega arith) ∙ ap₂ (λ a b. a ++ b) (sym (one_char x ∙ encode_ascii x last)) (sym f);
+      },
+    )
+
+pub plain_boundary : (text : List ℕ) (n : ℕ) → IsUtf8 text → n ≤ length text → ((k : ℕ) → k < n → get_or text k 0 < 0x80) → IsCharBoundary text n
+plain_boundary text zero u within plain = IsCharBoundary-start text u
+plain_boundary text (suc m) u within plain =
+    subst (IsCharBoundary text) (let one : m + 1 ≡ suc m = omega arith in one) (IsCharBoundary-after_ascii text m u (omega arith) (plain m (omega arith)))
 
 -- ---- the two parts of a text
 

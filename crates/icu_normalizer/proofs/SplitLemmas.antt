@@ -6,7 +6,7 @@ use Rattle.std.proofs.lemmas.Grind.{flat_map-append}
 use Rattle.std.proofs.lemmas.List.Elements.{All-from_recursion}
 use Rattle.std.proofs.lemmas.List.Folds.{list_all-append}
 use Rattle.std.specs.Char.{IsScalar}
-use Rattle.std.specs.List.{list_all}
+use Rattle.std.specs.List.{AllByRecursion, list_all}
 use Rattle.icu_normalizer_core.specs.Canonical.{Canonical, IsDecomposing, put_in_order, marks_in_order, decomposed}
 use Rattle.icu_normalizer_core.proofs.DecomposedLemmas.{AreScalar, AreUnmapped, decomposed_unmapped, left_unmapped, order_before}
 use Rattle.icu_normalizer.specs.Marks.{is_mark}
@@ -126,6 +126,20 @@ module _ (canonical : Canonical) where
 
   pub walked_none : IsWalked [] [] 0
   walked_none = record { in_place = tt; last = refl; starts = inl refl; marks = refl }
+
+  -- characters below U+00C0 are in their place
+  low_in_place : (before : ℕ) (cs : List ℕ) → ((x : ℕ) → x < 0xc0 → canonical.full x ≡ x ∷ []) → ((x : ℕ) → x < 0xc0 → canonical.class x ≡ 0) → AllByRecursion (λ c. c < 0xc0) cs → AreInPlace before cs
+  low_in_place before [] itself starter low = tt
+  low_in_place before (c ∷ cs) itself starter low =
+      ((itself c low.0, inl (starter c low.0)), low_in_place (canonical.class c) cs itself starter low.1)
+
+  pub walked_low : (front : List ℕ) (c : ℕ) → ((x : ℕ) → x < 0xc0 → canonical.full x ≡ x ∷ []) → ((x : ℕ) → x < 0xc0 → canonical.class x ≡ 0) → AllByRecursion (λ c. c < 0xc0) front → c < 0xc0 → IsWalked front (c ∷ []) 0
+  walked_low front c itself starter low last = record {
+    in_place = in_place_more 0 front c (low_in_place 0 front itself starter low) (itself c last, inl (starter c last));
+    last = last_more 0 front c ∙ starter c last;
+    starts = inr (c, [], refl, starter c last);
+    marks = refl;
+  }
 
   walked_next : (front back : List ℕ) (before c class : ℕ) → IsWalked front back before → IsInPlace canonical before c → class ≡ canonical.class c
       → AreInPlace 0 ((front ++ back) ++ c ∷ []) × (last_class 0 ((front ++ back) ++ c ∷ []) ≡ class)

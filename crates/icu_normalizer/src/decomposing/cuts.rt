@@ -1,11 +1,25 @@
 //! Where a text has to be changed to be in NFD.
 
-ghost use Rattle.std.specs.Prelude.{◌≡◌, IfSome, IfNone, chars};
+ghost use Rattle.std.specs.Prelude.{◌≡◌, ℕ, ◌<◌, ◌≤◌, length, slice_index, IfSome, IfNone, chars};
 ghost use Rattle.icu_normalizer_core.specs.BorrowedMeaning.{borrowed_meaning};
 ghost use Rattle.icu_normalizer.specs.Splits.{IsDecomposed, IsCut};
 
 use super::places::class_in_place;
 use icu_normalizer_core::canonical::CanonicalBorrowed;
+
+/// How many ASCII characters a text begins with. NFD leaves them as they are.
+fn plain_len(text: &str) -> usize
+    ensures within { result ≤ length text.now }
+    ensures plain { (k : ℕ) → k < result → slice_index text.now k < 0x80 }
+{
+    let bytes = text.as_bytes();
+    for (place, byte) in bytes.iter().enumerate() {
+        if *byte >= 0x80 {
+            return place;
+        }
+    }
+    bytes.len()
+}
 
 /// What has to be changed for a text to be in NFD, from the last starter before the first change on; `None` where
 /// nothing has to be changed. It takes no memory.
@@ -14,9 +28,10 @@ pub(super) fn rest_to_change<'t>(canonical: CanonicalBorrowed<'_>, text: &'t str
     ensures some { IfSome result (λ rest. IsCut (borrowed_meaning canonical.entry) text.now rest.now) }
 {
     canonical.keep_promise();
-    let mut rest = text;
+    let plain = plain_len(text);
+    let mut rest = &text[plain.saturating_sub(1)..];
     let mut before = 0;
-    let mut chars = text.chars();
+    let mut chars = text[plain..].chars();
     'chars: loop {
         let here = chars.as_str();
         let Some(c) = chars.next() else {

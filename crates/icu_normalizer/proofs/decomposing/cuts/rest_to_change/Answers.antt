@@ -1,12 +1,17 @@
-use Rattle.std.proofs.Common.{ℕ, List, [], ◌∷◌, ◌++◌, IsUtf8, chars, refl, sym, subst, arith}
+use Rattle.std.proofs.Common.{ℕ, List, [], ◌∷◌, ◌++◌, IsUtf8, chars, sym, subst, arith, ap, drop, ◌∙◌}
 use Rattle.std.proofs.lemmas.Str.{chars_past_char}
 use Rattle.std.specs.Str.Iter.{chars_rest}
-use Rattle.icu_normalizer.proofs.CutLemmas.{IsRead, readable, read_all, read_cut, read_starter, read_mark, rest_utf8}
-use Rattle.icu_normalizer.proofs.SplitLemmas.{walked_none, walked_starter, walked_mark}
+use Rattle.icu_normalizer.proofs.CutLemmas.{IsRead, begun, plain_boundary, readable, read_all, read_cut, read_starter, read_mark, rest_utf8}
+use Rattle.icu_normalizer.proofs.SplitLemmas.{walked_starter, walked_mark}
 use Rattle.icu_normalizer.proofs.decomposing.cuts.rest_to_change.Goals as goal
 
+pub range_from-requires : goal.range_from-requires
+range_from-requires c = λ _. plain_boundary _ _ c.utf8.text c.plain_len-plain.ensures.within c.plain_len-plain.ensures.plain
+
 pub chars-init : goal.chars-init
-chars-init c = ([], [], walked_none _, record { whole = refl; part = sym c.chars-chars.ensures.rest })
+chars-init c =
+    begun _ _ _ _ c.plain_len-plain.result c.keep_promise.ensures c.plain_len-plain.ensures.within c.plain_len-plain.ensures.plain
+    (c.range_from-rest.ensures.value ∙ ap (λ k. drop k c.args.text.now) c.saturating_sub.ensures) (c.chars-chars.ensures.rest ∙ c.range_from.ensures.value)
 
 pub returns-in_default-clause-none : goal.returns-in_default-clause-none
 returns-in_default-clause-none c =
