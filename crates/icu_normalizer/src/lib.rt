@@ -1,5 +1,5 @@
 //! Normal forms of texts (UAX 15) over canonical data. Begin with `decomposing::Decomposition`, the characters of a
-//! text in NFD.
+//! text in NFD, and `composing::Composition`, those in NFC.
 #![tactic(auto)]
 
 pub mod composing;
