@@ -1,11 +1,12 @@
 //! Tests of characters and their canonical data, by public calls. They stand here so that the crate below is proved once.
-//! `tables` has canonical tables that the tests of crates above use too.
+//! `tables` has canonical tables that the tests of crates above use too, and `held` a provider of them.
 #![tactic(auto)]
 
 #[cfg(test)]
 mod canonical;
 #[cfg(test)]
 mod decoding;
+pub mod held;
 #[cfg(test)]
 mod provider;
 pub mod tables;

@@ -1,183 +1,42 @@
-//! Data from a provider: a caller as a library above writes it, and in which order what is wrong is named.
-ghost use Rattle.std.specs.Prelude.{◌+◌, ◌^◌, ◌<◌, true, false, Ok, Err};
-ghost use Rattle.icu_normalizer_core.specs.declared.provider.error.DataError.TheVariants.{Missing};
-ghost use Rattle.icu_normalizer_core.specs.declared.provider.error.TableName.TheVariants.{Nfd, NfdTables, Nfkd, NfkdTables, Pairs, Uts46};
+//! Data from a provider, and in which order what is wrong is named.
 
-use icu_codepointtrie::{CodePointTrie, CodePointTrieBuilder, TrieType};
-use icu_normalizer_core::canonical::{CanonicalFault, CanonicalTables};
+use crate::held::{Held, provider_of};
+use crate::tables::{PAIRS, STEPS, pair, tables};
+use icu_normalizer_core::canonical::CanonicalFault;
 use icu_normalizer_core::properties::{
     CanonicalCombiningClassMap, CanonicalComposition, CanonicalDecomposition, Decomposed,
     combining_class, shape_compose, shape_decompose,
 };
-use icu_normalizer_core::provider::{
-    DataError, NfdLists, NfkdLists, NormalizerProvider, TableName, Uts46Tables, load_canonical_data,
-};
-use icu_packed_vector::PackedVec;
+use icu_normalizer_core::provider::{DataError, TableName, load_canonical_data};
 use std::alloc::{AllocError, Global};
+use std::test::Fail;
 
-/// A provider of canonical tables, some of which it may lack.
-#[derive(Drop)]
-struct Held<'t> {
-    tables: CanonicalTables<'t>,
-    lacks_words: bool,
-    lacks_lists: bool,
-    lacks_pairs: bool,
-}
-
-impl NormalizerProvider for Held<'_> {
-    ghost nfd = { λ held. elim held.lacks_words [ true ↦ Err (Missing Nfd) | false ↦ Ok held.tables.trie ] };
-
-    ghost nfd_tables = { λ held. elim held.lacks_lists [
-      | true ↦ Err (Missing NfdTables)
-      | false ↦
-          Ok (record { scalars16 = held.tables.scalars16; scalars24 = held.tables.scalars24; steps = held.tables.steps })
-    ] };
-
-    ghost nfkd = { λ _. Err (Missing Nfkd) };
-
-    ghost nfkd_tables = { λ _. Err (Missing NfkdTables) };
-
-    ghost pairs = { λ held. elim held.lacks_pairs [ true ↦ Err (Missing Pairs) | false ↦ Ok held.tables.pairs ] };
-
-    ghost uts46 = { λ _. Err (Missing Uts46) };
-
-    fn load_nfd(&self, alloc: Global) -> Result<CodePointTrie<'_, u32>, DataError> {
-        if self.lacks_words {
-            return Err(DataError::Missing(TableName::Nfd));
-        }
-        let trie = self.tables.trie.clone(alloc)?;
-        Ok(trie)
-    }
-
-    fn load_nfd_tables(&self, alloc: Global) -> Result<NfdLists<'_>, DataError> {
-        if self.lacks_lists {
-            return Err(DataError::Missing(TableName::NfdTables));
-        }
-        let scalars16 = self.tables.scalars16.clone(alloc)?;
-        let scalars24 = self.tables.scalars24.clone(alloc)?;
-        let steps = self.tables.steps.clone(alloc)?;
-        Ok(NfdLists {
-            scalars16,
-            scalars24,
-            steps,
-        })
-    }
-
-    fn load_nfkd(&self, _alloc: Global) -> Result<CodePointTrie<'_, u32>, DataError> {
-        Err(DataError::Missing(TableName::Nfkd))
-    }
-
-    fn load_nfkd_tables(&self, _alloc: Global) -> Result<NfkdLists<'_>, DataError> {
-        Err(DataError::Missing(TableName::NfkdTables))
-    }
-
-    fn load_pairs(&self, alloc: Global) -> Result<PackedVec<'_, u64>, DataError> {
-        if self.lacks_pairs {
-            return Err(DataError::Missing(TableName::Pairs));
-        }
-        let pairs = self.tables.pairs.clone(alloc)?;
-        Ok(pairs)
-    }
-
-    fn load_uts46(&self, _alloc: Global) -> Result<Uts46Tables<'_>, DataError> {
-        Err(DataError::Missing(TableName::Uts46))
-    }
-}
-
-/// A provider of these words of characters, mappings and composed pairs, and of Hangul.
-fn provider_of(
-    alloc: Global,
-    words: &[(u32, u32)],
-    steps: &[u32],
-    pairs: &[u64],
-) -> Option<Held<'static>> {
-    let mut builder = CodePointTrieBuilder::new(alloc, 0, 0, TrieType::Small).ok()?;
-    builder.set_range_value(0xAC00..=0xD7A3, 1).ok()?;
-    for (character, word) in words {
-        builder.set_value(*character, *word).ok()?;
-    }
-    let trie = builder.build(alloc).ok()?;
-    let scalars16 = PackedVec::from_slice(alloc, &[]).ok()?;
-    let scalars24 = PackedVec::from_slice(alloc, &[]).ok()?;
-    let steps = PackedVec::from_slice(alloc, steps).ok()?;
-    let pairs = PackedVec::from_slice(alloc, pairs).ok()?;
-    Some(Held {
-        tables: CanonicalTables {
-            trie,
-            scalars16,
-            scalars24,
-            steps,
-            pairs,
-        },
-        lacks_words: false,
-        lacks_lists: false,
-        lacks_pairs: false,
-    })
-}
-
-/// The words of some marks, those that are built in among them, and of three letters with marks.
-const WORDS: [(u32, u32); 21] = [
-    (0xE1, 0x301 * 0x8000 + 0x61),
-    (0xE4, 0x308 * 0x8000 + 0x61),
-    (0x300, 0xD8E6),
-    (0x301, 0xD8E6),
-    (0x308, 0xD8E6),
-    (0x313, 0xD8E6),
-    (0x323, 0xD8DC),
-    (0x340, 0xD9E6),
-    (0x341, 0xD9E6),
-    (0x343, 0xD9E6),
-    (0x344, 0xD9E6),
-    (0xF71, 0xD881),
-    (0xF72, 0xD882),
-    (0xF73, 0xD900),
-    (0xF74, 0xD884),
-    (0xF75, 0xD900),
-    (0xF80, 0xD882),
-    (0xF81, 0xD900),
-    (0x1EA1, 0x323 * 0x8000 + 0x61),
-    (0x3099, 0xD808),
-    (0x309A, 0xD808),
-];
-
-/// The mappings of these letters.
-const STEPS: [u32; 9] = [0xE1, 0x61, 0x301, 0xE4, 0x61, 0x308, 0x1EA1, 0x61, 0x323];
-
-/// The composed pair of two characters.
-fn pair(first: u32, second: u32, composed: u32) -> u64
-    requires { first + second + composed < 2 ^ 21 }
-{
-    ((first as u64) << 42) + ((second as u64) << 21) + composed as u64
-}
-
-/// A provider of those words and mappings, each mapping a composed pair.
-fn letters(alloc: Global) -> Option<Held<'static>> {
-    let pairs = [
-        pair(0x61, 0x301, 0xE1),
-        pair(0x61, 0x308, 0xE4),
-        pair(0x61, 0x323, 0x1EA1),
-    ];
-    provider_of(alloc, &WORDS, &STEPS, &pairs)
+/// A provider of the tables of the worked rows, and of a letter with a diaeresis.
+fn letters(alloc: Global) -> Result<Held<'static>, Fail> {
+    let steps = [0xe1, 0x61, 0x301, 0xe4, 0x61, 0x308, 0x1ea1, 0x61, 0x323];
+    let pairs = [PAIRS[0], pair(0x61, 0x308, 0xe4), PAIRS[1]];
+    Ok(provider_of(tables(alloc, &[(0xe4, 0x184_0061)], &steps, &pairs)?))
 }
 
 #[test]
-fn ok_canonical_combining_class_map(rt: HostRuntime) {
+fn ok_canonical_combining_class_map(rt: HostRuntime) -> Result<(), Fail> {
     let alloc = rt.alloc();
-    let held = letters(alloc).expect(&rt, "a provider");
-    let map = CanonicalCombiningClassMap::try_new_unstable(alloc, &held).expect(&rt, "classes");
+    let held = letters(alloc)?;
+    let map = CanonicalCombiningClassMap::try_new_unstable(alloc, &held)?;
     let classes = map.as_borrowed();
     assert!(rt; classes.get('\u{301}') == 230 && classes.get_u8('\u{323}') == 220);
     assert!(rt; classes.get('a') == 0 && classes.get('á') == 0 && classes.get('\u{F73}') == 0);
     assert!(rt; classes.get32(0x344) == 230 && classes.get32_u8(0x323) == 220);
     assert!(rt; classes.get32(0xD800) == 0 && classes.get32_u8(0x11_0000) == 0);
     assert!(rt; combining_class(classes, '\u{309A}') == 8);
+    Ok(())
 }
 
 #[test]
-fn ok_canonical_composition(rt: HostRuntime) {
+fn ok_canonical_composition(rt: HostRuntime) -> Result<(), Fail> {
     let alloc = rt.alloc();
-    let held = letters(alloc).expect(&rt, "a provider");
-    let pairs = CanonicalComposition::try_new_unstable(alloc, &held).expect(&rt, "pairs");
+    let held = letters(alloc)?;
+    let pairs = CanonicalComposition::try_new_unstable(alloc, &held)?;
     let composition = pairs.as_borrowed();
     assert!(rt; composition.compose('a', '\u{308}') == Some('ä'));
     assert!(rt; composition.compose('a', '\u{323}') == Some('ạ'));
@@ -185,13 +44,14 @@ fn ok_canonical_composition(rt: HostRuntime) {
     assert!(rt; composition.compose('\u{308}', '\u{301}') == None);
     assert!(rt; composition.compose('\u{1100}', '\u{1161}') == Some('\u{AC00}'));
     assert!(rt; shape_compose(composition, '\u{AC00}', '\u{11A8}') == Some('\u{AC01}'));
+    Ok(())
 }
 
 #[test]
-fn ok_canonical_decomposition(rt: HostRuntime) {
+fn ok_canonical_decomposition(rt: HostRuntime) -> Result<(), Fail> {
     let alloc = rt.alloc();
-    let held = letters(alloc).expect(&rt, "a provider");
-    let mappings = CanonicalDecomposition::try_new_unstable(alloc, &held).expect(&rt, "mappings");
+    let held = letters(alloc)?;
+    let mappings = CanonicalDecomposition::try_new_unstable(alloc, &held)?;
     let decomposition = mappings.as_borrowed();
     assert!(rt; decomposition.decompose('a') == Decomposed::Default);
     assert!(rt; decomposition.decompose('\u{340}') == Decomposed::Singleton('\u{300}'));
@@ -199,48 +59,50 @@ fn ok_canonical_decomposition(rt: HostRuntime) {
     assert!(rt; shape_decompose(decomposition, 'a') == None);
     assert!(rt; shape_decompose(decomposition, '\u{340}') == Some(('\u{300}', '\0')));
     assert!(rt; shape_decompose(decomposition, '\u{AC01}') == Some(('\u{AC00}', '\u{11A8}')));
+    Ok(())
 }
 
 #[test]
-fn ok_load_canonical_data(rt: HostRuntime) {
+fn ok_load_canonical_data(rt: HostRuntime) -> Result<(), Fail> {
     let alloc = rt.alloc();
-    let held = letters(alloc).expect(&rt, "a provider");
-    let checked = load_canonical_data(alloc, &held).expect(&rt, "canonical data");
+    let held = letters(alloc)?;
+    let checked = load_canonical_data(alloc, &held)?;
     let canonical = checked.as_borrowed();
     assert!(rt; canonical.full_list('ạ').eq(['a', '\u{323}']));
     assert!(rt; canonical.full_list('\u{344}').eq(['\u{308}', '\u{301}']));
     assert!(rt; canonical.is_starter('a') && !canonical.is_starter('\u{323}'));
+    Ok(())
 }
 
-/// Why there are no composed pairs of a provider without words of marks, where it lacks some tables.
+/// Why there are no composed pairs of a provider whose word of U+0300 says nothing, where it lacks some tables.
 fn refusal(
     alloc: Global,
     lacks_words: bool,
     lacks_lists: bool,
     lacks_pairs: bool,
-) -> Option<DataError> {
-    let Held { tables, .. } = provider_of(alloc, &[], &[], &[])?;
+) -> Result<Option<DataError>, Fail> {
     let held = Held {
-        tables,
+        tables: tables(alloc, &[(0x300, 0)], &STEPS, &PAIRS)?,
         lacks_words,
         lacks_lists,
         lacks_pairs,
     };
-    CanonicalComposition::try_new_unstable(alloc, &held).err()
+    Ok(CanonicalComposition::try_new_unstable(alloc, &held).err())
 }
 
 // Loads come first, in their order, then the check: U+0300 has a built-in class, and its word doesn't say it.
 #[test]
-fn refusals_in_order(rt: HostRuntime) {
+fn refusals_in_order(rt: HostRuntime) -> Result<(), Fail> {
     let alloc = rt.alloc();
     let words = DataError::Missing(TableName::Nfd);
     let lists = DataError::Missing(TableName::NfdTables);
     let pairs = DataError::Missing(TableName::Pairs);
     let check = DataError::Canonical(CanonicalFault::BuiltIn('\u{300}'));
-    assert!(rt; refusal(alloc, true, true, true) == Some(words));
-    assert!(rt; refusal(alloc, false, true, true) == Some(lists));
-    assert!(rt; refusal(alloc, false, false, true) == Some(pairs));
-    assert!(rt; refusal(alloc, false, false, false) == Some(check));
+    assert!(rt; refusal(alloc, true, true, true)? == Some(words));
+    assert!(rt; refusal(alloc, false, true, true)? == Some(lists));
+    assert!(rt; refusal(alloc, false, false, true)? == Some(pairs));
+    assert!(rt; refusal(alloc, false, false, false)? == Some(check));
+    Ok(())
 }
 
 #[test]

@@ -1,8 +1,8 @@
 //! Normal forms over the canonical tables of the worked rows.
 
-use icu_normalizer::composing::ComposingNormalizerBorrowed;
-use icu_normalizer::decomposing::DecomposingNormalizerBorrowed;
-use icu_normalizer_core::canonical::{CanonicalBorrowed, CanonicalData};
+use icu_normalizer::composing::{ComposingNormalizer, ComposingNormalizerBorrowed};
+use icu_normalizer::decomposing::{DecomposingNormalizer, DecomposingNormalizerBorrowed};
+use icu_normalizer_core_tests::held::provider_of;
 use icu_normalizer_core_tests::tables::{PAIRS, STEPS, tables};
 use std::alloc::Global;
 use std::test::Fail;
@@ -31,37 +31,71 @@ const ROWS: [(&str, &str, &str); 20] = [
     ("a\u{301}\u{301}", "a\u{301}\u{301}", "\u{e1}\u{301}"),
 ];
 
-/// Whether a normaliser to NFD writes this behind what a sink holds.
-fn decomposes_to(
+/// Fails unless a text has this NFD, by each call.
+fn expect_decomposed(
     alloc: Global,
-    canonical: CanonicalBorrowed<'_>,
+    normalizer: DecomposingNormalizerBorrowed<'_>,
     text: &str,
     want: &str,
-) -> Result<bool, Fail> {
+) -> Result<(), Fail> {
     let mut sink = String::new(alloc);
-    DecomposingNormalizerBorrowed::new_with_data(canonical).normalize_to(alloc, text, &mut sink)?;
-    Ok(sink.as_str() == want)
+    normalizer.normalize_to(alloc, text, &mut sink)?;
+    let form = normalizer.normalize(alloc, text)?;
+    let (prefix, rest) = normalizer.split_normalized(text);
+    let found = sink.as_str() == want
+        && form.as_str() == want
+        && normalizer.is_normalized(text) == (text == want)
+        && rest.is_empty() == (text == want)
+        && text.starts_with(prefix)
+        && want.starts_with(prefix);
+    if found {
+        return Ok(());
+    }
+    Err(Fail::new(format_args!("{text:?}: {sink:?}, {prefix:?}, {rest:?}")))
 }
 
-/// Whether a normaliser to NFC does.
-fn composes_to(
+/// Fails unless a text has this NFC, by each call.
+fn expect_composed(
     alloc: Global,
-    canonical: CanonicalBorrowed<'_>,
+    normalizer: ComposingNormalizerBorrowed<'_>,
     text: &str,
     want: &str,
-) -> Result<bool, Fail> {
+) -> Result<(), Fail> {
     let mut sink = String::new(alloc);
-    ComposingNormalizerBorrowed::new_with_data(canonical).normalize_to(alloc, text, &mut sink)?;
-    Ok(sink.as_str() == want)
+    normalizer.normalize_to(alloc, text, &mut sink)?;
+    let form = normalizer.normalize(alloc, text)?;
+    let (prefix, rest) = normalizer.split_normalized(alloc, text)?;
+    let is_normalized = normalizer.is_normalized(alloc, text)?;
+    let found = sink.as_str() == want
+        && form.as_str() == want
+        && is_normalized == (text == want)
+        && rest.is_empty() == (text == want)
+        && text.starts_with(prefix)
+        && want.starts_with(prefix);
+    if found {
+        return Ok(());
+    }
+    Err(Fail::new(format_args!("{text:?}: {sink:?}, {prefix:?}, {rest:?}")))
 }
 
 #[test]
-fn ok_normalize_to(rt: HostRuntime) -> Result<(), Fail> {
+fn ok_decomposing(rt: HostRuntime) -> Result<(), Fail> {
     let alloc = rt.alloc();
-    let data = CanonicalData::try_new(alloc, tables(alloc, &[], &STEPS, &PAIRS)?)?;
-    for (text, decomposed, composed) in ROWS {
-        assert!(rt; decomposes_to(alloc, data.as_borrowed(), text, decomposed)?);
-        assert!(rt; composes_to(alloc, data.as_borrowed(), text, composed)?);
+    let provider = provider_of(tables(alloc, &[], &STEPS, &PAIRS)?);
+    let normalizer = DecomposingNormalizer::try_new_nfd_unstable(alloc, &provider)?;
+    for (text, decomposed, _) in ROWS {
+        expect_decomposed(alloc, normalizer.as_borrowed(), text, decomposed)?;
+    }
+    Ok(())
+}
+
+#[test]
+fn ok_composing(rt: HostRuntime) -> Result<(), Fail> {
+    let alloc = rt.alloc();
+    let provider = provider_of(tables(alloc, &[], &STEPS, &PAIRS)?);
+    let normalizer = ComposingNormalizer::try_new_nfc_unstable(alloc, &provider)?;
+    for (text, _, composed) in ROWS {
+        expect_composed(alloc, normalizer.as_borrowed(), text, composed)?;
     }
     Ok(())
 }
