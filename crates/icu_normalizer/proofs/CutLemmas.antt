@@ -81,7 +81,7 @@ module _ (text rest ahead front back : List ℕ) (is : IsRead text rest ahead fr
         changes = λ h. walked_changes canonical ok.decomposing front back before c left scalar w out (subst (IsDecomposed canonical) (sym same) h);
       }
 
-one_char : (c : ℕ) → encode_utf8_all (c ∷ []) ≡ encode_utf8 c
+pub one_char : (c : ℕ) → encode_utf8_all (c ∷ []) ≡ encode_utf8 c
 one_char c = append-nil (encode_utf8 c)
 
 -- a starter comes next, and a mark
@@ -99,10 +99,10 @@ read_mark text rest ahead next front back c is e = record {
 
 -- ---- ASCII at the start
 
-abbrev ArePlain : List ℕ → Type 0
+abbrev pub ArePlain : List ℕ → Type 0
 ArePlain cs = AllByRecursion (λ c. c < 0x80) cs
 
-are_plain : (text : List ℕ) (n : ℕ) → ((k : ℕ) → k < n → get_or text k 0 < 0x80) → ArePlain (take n text)
+pub are_plain : (text : List ℕ) (n : ℕ) → ((k : ℕ) → k < n → get_or text k 0 < 0x80) → ArePlain (take n text)
 are_plain [] zero h = tt
 are_plain [] (suc n) h = tt
 are_plain (x ∷ xs) zero h = tt
@@ -112,7 +112,7 @@ plain_low : (cs : List ℕ) → ArePlain cs → AllByRecursion (λ c. c < 0xc0) 
 plain_low [] h = tt
 plain_low (c ∷ cs) h = ((let first = h.0 in omega arith), plain_low cs h.1)
 
-plain_bytes : (cs : List ℕ) → ArePlain cs → encode_utf8_all cs ≡ cs
+pub plain_bytes : (cs : List ℕ) → ArePlain cs → encode_utf8_all cs ≡ cs
 plain_bytes [] h = refl
 plain_bytes (c ∷ cs) h = ap₂ (λ x y. x ++ y) (encode_ascii c h.0) (plain_bytes cs h.1)
 

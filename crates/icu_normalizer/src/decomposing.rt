@@ -13,6 +13,7 @@ mod normalizer;
 mod places;
 
 use crate::run::Run;
+pub(crate) use cuts::plain_len;
 use icu_normalizer_core::canonical::CanonicalBorrowed;
 pub use normalizer::DecomposingNormalizerBorrowed;
 use std::alloc::{AllocError, Global};
