@@ -1,11 +1,10 @@
 -- Texts in UTF-8 that were read to a place.
-use Rattle.std.proofs.Common.{◌≡◌, ℕ, zero, suc, ◌+◌, ◌-◌, ◌<◌, ◌≤◌, ◌↔◌, true, List, [], ◌∷◌, ◌++◌, length, length-append, drop, take, drop-cons, take-append-drop, get_or, chars, encode_utf8_all, encode_utf8, IsUtf8, refl, sym, ap, ap₂, subst, ◌∙◌, arith, append_assoc, append-nil}
+use Rattle.std.proofs.Common.{◌≡◌, ℕ, zero, suc, ◌+◌, ◌-◌, ◌<◌, ◌≤◌, true, List, [], ◌∷◌, ◌++◌, length, drop, take, drop-cons, take-append-drop, get_or, chars, encode_utf8_all, encode_utf8, IsUtf8, refl, sym, ap, ap₂, subst, ◌∙◌, arith, append_assoc, append-nil}
 use Rattle.std.proofs.lemmas.Bool.{and_parts, and_from}
 use Rattle.std.proofs.lemmas.List.{nil_from_length}
-use Rattle.std.proofs.Math.Seq.{take-append_seam, drop-append_seam}
 use Rattle.std.specs.List.{AllByRecursion}
 use Rattle.std.specs.Str.{IsCharBoundary}
-use Rattle.std.proofs.lemmas.Str.{IsCharBoundary-at_seam, IsCharBoundary-start, IsCharBoundary-after_ascii, encode_ascii, chars-nil, chars_from_encodes, encodes-chars, encodes-append, scalars-chars}
+use Rattle.std.proofs.lemmas.Str.{IsCharBoundary-start, IsCharBoundary-after_ascii, encode_ascii, chars-nil, chars_from_encodes, encodes-chars, encodes-append, scalars-chars}
 use lib.Utf8.{scalar, scalars}
 use Rattle.icu_normalizer_core.specs.Canonical.{Canonical, IsCanonical, decomposed}
 use Rattle.icu_normalizer_core.proofs.DecomposedLemmas.{AreScalar}
@@ -81,7 +80,7 @@ module _ (text rest ahead front back : List ℕ) (is : IsRead text rest ahead fr
         changes = λ h. walked_changes canonical ok.decomposing front back before c left scalar w out (subst (IsDecomposed canonical) (sym same) h);
       }
 
-one_char : (c : ℕ) → encode_utf8_all (c ∷ []) ≡ encode_utf8 c
+pub one_char : (c : ℕ) → encode_utf8_all (c ∷ []) ≡ encode_utf8 c
 one_char c = append-nil (encode_utf8 c)
 
 -- a starter comes next, and a mark
@@ -99,10 +98,10 @@ read_mark text rest ahead next front back c is e = record {
 
 -- ---- ASCII at the start
 
-abbrev ArePlain : List ℕ → Type 0
+abbrev pub ArePlain : List ℕ → Type 0
 ArePlain cs = AllByRecursion (λ c. c < 0x80) cs
 
-are_plain : (text : List ℕ) (n : ℕ) → ((k : ℕ) → k < n → get_or text k 0 < 0x80) → ArePlain (take n text)
+pub are_plain : (text : List ℕ) (n : ℕ) → ((k : ℕ) → k < n → get_or text k 0 < 0x80) → ArePlain (take n text)
 are_plain [] zero h = tt
 are_plain [] (suc n) h = tt
 are_plain (x ∷ xs) zero h = tt
@@ -112,7 +111,7 @@ plain_low : (cs : List ℕ) → ArePlain cs → AllByRecursion (λ c. c < 0xc0) 
 plain_low [] h = tt
 plain_low (c ∷ cs) h = ((let first = h.0 in omega arith), plain_low cs h.1)
 
-plain_bytes : (cs : List ℕ) → ArePlain cs → encode_utf8_all cs ≡ cs
+pub plain_bytes : (cs : List ℕ) → ArePlain cs → encode_utf8_all cs ≡ cs
 plain_bytes [] h = refl
 plain_bytes (c ∷ cs) h = ap₂ (λ x y. x ++ y) (encode_ascii c h.0) (plain_bytes cs h.1)
 
@@ -144,57 +143,6 @@ plain_boundary text zero u within plain = IsCharBoundary-start text u
 plain_boundary text (suc m) u within plain =
     subst (IsCharBoundary text) (let one : m + 1 ≡ suc m = omega arith in one) (IsCharBoundary-after_ascii text m u (omega arith) (plain m (omega arith)))
 
--- ---- the two parts of a text
-
-nothing_decomposed : (canonical : Canonical) → decomposed canonical (chars []) ≡ []
-nothing_decomposed canonical = ap (decomposed canonical) chars-nil ∙ in_place_is_decomposed canonical 0 [] tt
-
--- a text that is its own decomposed list is its prefix
-pub all_normal : (canonical : Canonical) (text a b : List ℕ) → IsDecomposed canonical (chars text) → a ≡ text → b ≡ [] → chars a ++ decomposed canonical (chars b) ≡ decomposed canonical (chars text)
-all_normal canonical text a b h e f =
-    ap₂ (λ x y. chars x ++ decomposed canonical (chars y)) e f ∙ ap (λ l. chars text ++ l) (nothing_decomposed canonical) ∙ append-nil (chars text) ∙ sym h
-
-pub own_bytes : (canonical : Canonical) (text : List ℕ) → IsUtf8 text → IsDecomposed canonical (chars text) → text ≡ encode_utf8_all (decomposed canonical (chars text))
-own_bytes canonical text u h = sym (encodes-chars text u) ∙ ap encode_utf8_all (sym h)
-
-pub bytes_from : (canonical : Canonical) (text a b : List ℕ) → IsUtf8 a → chars a ++ decomposed canonical (chars b) ≡ decomposed canonical (chars text)
-    → a ++ encode_utf8_all (decomposed canonical (chars b)) ≡ encode_utf8_all (decomposed canonical (chars text))
-bytes_from canonical text a b u normal =
-    ap (λ l. l ++ encode_utf8_all (decomposed canonical (chars b))) (sym (encodes-chars a u))
-    ∙ sym (encodes-append (chars a) (decomposed canonical (chars b))) ∙ ap encode_utf8_all normal
-
-module _ (canonical : Canonical) (text rest : List ℕ) (cut : IsCut canonical text rest) where
-  cut_place : length (encode_utf8_all cut.prefix) ≡ length text - length rest
-  cut_place = omega (arith, ap length cut.bytes, length-append (encode_utf8_all cut.prefix) rest)
-
-  pub cut_boundary : IsCharBoundary text (length text - length rest)
-  cut_boundary = subst (IsCharBoundary text) cut_place (IsCharBoundary-at_seam text (encode_utf8_all cut.prefix) rest cut.bytes cut.readable.1)
-
-  front_is : (a : List ℕ) → a ≡ take (length text - length rest) text → a ≡ encode_utf8_all cut.prefix
-  front_is a e =
-      e ∙ ap (λ n. take n text) (sym cut_place) ∙ ap (take (length (encode_utf8_all cut.prefix))) cut.bytes ∙ take-append_seam (encode_utf8_all cut.prefix) rest
-
-  front_chars : (a : List ℕ) → a ≡ take (length text - length rest) text → chars a ≡ cut.prefix
-  front_chars a e = ap chars (front_is a e) ∙ sym (chars_from_encodes cut.prefix (encode_utf8_all cut.prefix) cut.readable.0 refl)
-
-  back_is : (b : List ℕ) → b ≡ drop (length text - length rest) text → b ≡ rest
-  back_is b e = e ∙ ap (λ n. drop n text) (sym cut_place) ∙ ap (drop (length (encode_utf8_all cut.prefix))) cut.bytes ∙ drop-append_seam (encode_utf8_all cut.prefix) rest
-
-  module _ (a b : List ℕ) (front : a ≡ take (length text - length rest) text) (back : b ≡ drop (length text - length rest) text) where
-    pub cut_normal : chars a ++ decomposed canonical (chars b) ≡ decomposed canonical (chars text)
-    cut_normal = ap₂ (λ x y. x ++ decomposed canonical (chars y)) (front_chars a front) (back_is b back) ∙ sym cut.alone
-
-    pub cut_bytes : a ++ encode_utf8_all (decomposed canonical (chars b)) ≡ encode_utf8_all (decomposed canonical (chars text))
-    cut_bytes = bytes_from canonical text a b (subst IsUtf8 (sym (front_is a front)) cut.readable.0) cut_normal
-
-    pub cut_empty : (b ≡ []) ↔ IsDecomposed canonical (chars text)
-    cut_empty = (
-      λ none.
-          let nothing = sym (back_is b back) ∙ none in
-          cut.alone ∙ ap (λ l. cut.prefix ++ decomposed canonical (chars l)) nothing ∙ ap (λ l. cut.prefix ++ l) (nothing_decomposed canonical ∙ sym chars-nil)
-          ∙ ap (λ l. cut.prefix ++ chars l) (sym nothing) ∙ sym cut.whole,
-      λ h. absurd (cut.changes h),
-    )
-
-    pub cut_far : ReachesFar canonical (chars text) (chars a)
-    cut_far = subst (ReachesFar canonical (chars text)) (sym (front_chars a front)) cut.far
+-- nothing is its own decomposed list
+pub decomposed_nothing : (canonical : Canonical) → decomposed canonical [] ≡ []
+decomposed_nothing canonical = in_place_is_decomposed canonical 0 [] tt

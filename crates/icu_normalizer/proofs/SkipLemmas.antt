@@ -1,15 +1,16 @@
 -- Passing over the front of a text that stays as it stands.
-use Rattle.std.proofs.Common.{◌≡◌, ℕ, ◌<◌, ◌≤◌, ◌⊎◌, inl, inr, ⊎_elim, List, [], ◌∷◌, ◌++◌, length, length-append, flat_map, chars, encode_utf8, encode_utf8_all, IsUtf8, Some, refl, sym, ap, subst, ◌∙◌, arith, append_assoc, append-nil}
+use Rattle.std.proofs.Common.{◌≡◌, ℕ, zero, suc, ◌-◌, get_or, take, drop, drop-cons, take-append-drop, ap₂, ◌<◌, ◌≤◌, ◌⊎◌, inl, inr, ⊎_elim, List, [], ◌∷◌, ◌++◌, length, length-append, flat_map, chars, encode_utf8, encode_utf8_all, IsUtf8, Some, refl, sym, ap, subst, ◌∙◌, arith, append_assoc, append-nil}
 use Rattle.std.proofs.lemmas.Bool.{cases_lt}
 use Rattle.std.proofs.lemmas.List.{append_cancel_left}
-use Rattle.std.proofs.lemmas.Str.{chars_past_char, encodes-append, IsUtf8-append}
+use Rattle.std.proofs.lemmas.Str.{chars_past_char, encodes-append, encode_ascii, IsUtf8-append, IsUtf8-drop}
 use Rattle.icu_normalizer_core.specs.Canonical.{Canonical, IsCanonical, composing, recomposed, decomposed, composed, marks_in_order}
 use Rattle.icu_normalizer_core.proofs.DecomposedLemmas.{order_before, put_starter}
 use Rattle.icu_normalizer.specs.Composing.{IsApart}
 use Rattle.icu_normalizer.specs.FormCuts.{IsOwnForm, IsComposed, ReachesBelow, IsFormCut, IsSkipped}
 use Rattle.icu_normalizer.proofs.ComposedWalkLemmas.{composed_nothing}
 use Rattle.icu_normalizer.proofs.ComposingLemmas.{composing_end, composing_joined, composing_begun, composing_kept, composing_cases, composed_low, recomposed_nothing, recomposed_begun, recomposed_passed}
-use Rattle.icu_normalizer.proofs.CutLemmas.{IsRead, text_chars, front_utf8, rest_chars, read_starter}
+use Rattle.icu_normalizer.proofs.CutLemmas.{IsRead, ArePlain, are_plain, plain_bytes, plain_boundary, one_char, text_chars, front_utf8, rest_chars, read_starter}
+use Rattle.icu_normalizer.proofs.StepLemmas.{full_low}
 use Rattle.icu_normalizer.proofs.WeightLemmas.{full_begins}
 
 -- ---- a starter below U+0300 composes with nothing before it
@@ -103,6 +104,42 @@ module _ (canonical : Canonical) (ok : IsCanonical canonical) where
         whole = sym (text_chars text rest ahead front back is.read u v) ∙ ap (λ l. front ++ l) same;
         alone = is.alone ∙ ap (λ l. front ++ composed canonical l) same;
       }
+
+-- ---- ASCII at the start
+
+module _ (canonical : Canonical) (ok : IsCanonical canonical) where
+  apart_plain : (c : ℕ) → c < 0x80 → IsApart canonical c
+  apart_plain c plain = (omega arith, λ d ds e. let same : c ∷ [] ≡ d ∷ ds = sym (full_low canonical c ok (omega arith)) ∙ e in let head : c ≡ d = cc in omega (arith, head, plain))
+
+  plain_passed : (front : List ℕ) (x : ℕ) (ys : List ℕ) → ArePlain front → x < 0x80 → composed canonical (front ++ x ∷ ys) ≡ front ++ composed canonical (x ∷ ys)
+  plain_passed [] x ys plain last = refl
+  plain_passed (c ∷ []) x ys plain last = composed_passed canonical ok c x ys (let h = plain.0 in omega arith) (apart_plain x last)
+  plain_passed (c ∷ d ∷ cs) x ys plain last =
+      composed_passed canonical ok c d (cs ++ x ∷ ys) (let h = plain.0 in omega arith) (apart_plain d plain.1.0) ∙ ap (λ l. c ∷ l) (plain_passed (d ∷ cs) x ys plain.1 last)
+
+  pub skipping_begun : (text rest ahead : List ℕ) (n : ℕ) → IsUtf8 text → n ≤ length text → ((k : ℕ) → k < n → get_or text k 0 < 0x80) → rest ≡ drop (n - 1) text → ahead ≡ drop n text
+      → (front : List ℕ) × (back : List ℕ) × IsSkipping canonical text rest ahead front back
+  skipping_begun text rest ahead zero u within plain e f =
+      let start : rest ≡ text = e ∙ ap (λ k. drop k text) (let zero_is : 0 - 1 ≡ 0 = omega arith in zero_is) in
+      ([], [], subst (λ (r : List ℕ). IsSkipping canonical text r ahead [] []) (sym start) (skipping_none canonical ok text ahead f))
+  skipping_begun text rest ahead (suc m) u within plain e f =
+      let start : rest ≡ drop m text = e ∙ ap (λ k. drop k text) (let one : suc m - 1 ≡ m = omega arith in one) in
+      let x = get_or text m 0 in
+      let last : x < 0x80 = plain m (omega arith) in
+      let front : ArePlain (take m text) = are_plain text m (λ k lt. plain k (omega arith)) in
+      let v : IsUtf8 ahead = subst IsUtf8 (sym f) (IsUtf8-drop text (suc m) u (plain_boundary text (suc m) u within plain)) in
+      let read : IsRead text rest ahead (take m text) (x ∷ []) = record {
+        whole = sym (take-append-drop m text) ∙ ap₂ (λ a b. a ++ b) (sym (plain_bytes (take m text) front)) (sym start);
+        part = start ∙ drop-cons text m 0 (omega arith) ∙ ap₂ (λ a b. a ++ b) (sym (one_char x ∙ encode_ascii x last)) (sym f);
+      } in (
+        take m text,
+        x ∷ [],
+        record {
+          read = read;
+          alone = ap (composed canonical) (sym (text_chars text rest ahead (take m text) (x ∷ []) read u v)) ∙ plain_passed (take m text) x (chars ahead) front last;
+          last = inr (x, refl, (omega arith));
+        },
+      )
 
 -- ---- what is found of the rest is found of the text
 

@@ -1,20 +1,16 @@
 -- How many decomposed characters a character stands for, and where this cuts a composed list.
-use Rattle.std.proofs.Common.{◌≡◌, ℕ, ◌+◌, ◌<◌, ◌≤◌, max, true, ◌&&◌, ltb, List, [], ◌∷◌, ◌++◌, length, flat_map, Some, None, refl, sym, ap, subst, ◌∙◌, arith, length-append}
-use Rattle.std.proofs.lemmas.Bool.{and_parts, cond_both}
+use Rattle.std.proofs.Common.{◌≡◌, ℕ, ◌+◌, ◌<◌, ◌≤◌, max, ◌&&◌, ltb, List, [], ◌∷◌, ◌++◌, length, flat_map, Some, None, refl, sym, ap, subst, ◌∙◌, arith, length-append}
+use Rattle.std.proofs.lemmas.Bool.{cond_both}
 use Rattle.std.proofs.lemmas.Bool.Decides.{nat_tests}
 use Rattle.std.proofs.lemmas.Grind.{flat_map-append}
 use Rattle.std.proofs.lemmas.List.Elements.{All-head, All-tail, All-from_recursion}
 use Rattle.std.specs.Prelude.{All}
 use Rattle.std.specs.Char.{IsScalar}
-use lib.Utf8.{scalars, low_scalar}
+use lib.Utf8.{low_scalar}
 use Rattle.icu_normalizer_core.specs.BuiltIn.{built_in_step, singled_out}
 use Rattle.icu_normalizer_core.specs.Canonical.{Canonical, IsCanonical, Leaves, put_in_order, marks_in_order, decomposed, recomposed, composed}
 use Rattle.icu_normalizer_core.proofs.DecomposedLemmas.{AreScalar, AreUnmapped, left_one, left_mapped, left_full, order_before, put_starter, decomposed_unmapped, decomposed_scalars}
 use Rattle.icu_normalizer.proofs.ComposedCutLemmas.{total, cut_recomposed}
-
-pub scalars_all : (cs : List ℕ) → scalars cs ≡ true → AreScalar cs
-scalars_all [] h = tt
-scalars_all (c ∷ cs) h = let both = and_parts _ (scalars cs) h in (both.0, scalars_all cs both.1)
 
 -- what steps leave of something is something
 left_some : (step : ℕ → List ℕ) (xs ns : List ℕ) → Leaves step xs ns → 1 ≤ length xs → 1 ≤ length ns

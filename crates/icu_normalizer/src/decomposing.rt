@@ -14,6 +14,7 @@ mod owned;
 mod places;
 
 use crate::run::Run;
+pub(crate) use cuts::plain_len;
 use icu_normalizer_core::canonical::CanonicalBorrowed;
 pub use normalizer::DecomposingNormalizerBorrowed;
 pub use owned::DecomposingNormalizer;

@@ -84,7 +84,7 @@ impl<'d> Composer<'d> {
         ensures composing { IfOk result (λ out. IfNone out (self.new.leaving ≡ false)) }
         ensures fewer { IfOk result (λ out. waiting self.new + length (option_to_list out) ≤ waiting self.old + 1) }
     {
-        let class = self.canonical.class(c);
+        let class = class_of(self.canonical, c);
         let Some(starter) = self.starter else {
             if class != 0 {
                 return Ok(Some(c));
@@ -117,6 +117,15 @@ impl<'d> Composer<'d> {
         self.leaving = true;
         self.starter.take()
     }
+}
+
+/// The class of a character. One below U+0300 is a starter, so its class is not looked up.
+#[inline]
+fn class_of(canonical: CanonicalBorrowed<'_>, c: char) -> u8
+    requires { IsComposable (borrowed_meaning canonical) }
+    ensures { result ≡ (borrowed_meaning canonical.entry).class c }
+{
+    if c < '\u{300}' { 0 } else { canonical.class(c) }
 }
 
 /// What a starter and `c` compose to, where `highest` is the highest class between them, or 0.

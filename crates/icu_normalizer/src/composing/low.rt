@@ -6,6 +6,7 @@ ghost use Rattle.icu_normalizer_core.specs.Canonical.{composed};
 ghost use Rattle.icu_normalizer.specs.Composing.{IsApart};
 ghost use Rattle.icu_normalizer.specs.FormCuts.{IsComposed, IsSkipped};
 
+use crate::decomposing::plain_len;
 use icu_normalizer_core::canonical::CanonicalBorrowed;
 
 /// What is left of a text once characters below U+0300 that stay as they stand are passed over, from the last of them
@@ -15,8 +16,9 @@ pub(super) fn skip_low<'t>(canonical: CanonicalBorrowed<'_>, text: &'t str) -> O
     ensures some { IfSome result (λ rest. IsSkipped (composed (borrowed_meaning canonical.entry)) text.now rest.now) }
 {
     canonical.keep_promise();
-    let mut rest = text;
-    let mut chars = text.chars();
+    let plain = plain_len(text);
+    let mut rest = &text[plain.saturating_sub(1)..];
+    let mut chars = text[plain..].chars();
     'chars: loop {
         let here = chars.as_str();
         let Some(c) = chars.next() else {

@@ -7,8 +7,8 @@ ghost use Rattle.icu_normalizer.specs.Splits.{IsDecomposed, IsCut};
 use super::places::class_in_place;
 use icu_normalizer_core::canonical::CanonicalBorrowed;
 
-/// How many ASCII characters a text begins with. NFD leaves them as they are.
-fn plain_len(text: &str) -> usize
+/// How many ASCII characters a text begins with. Normal forms leave them as they are.
+pub(crate) fn plain_len(text: &str) -> usize
     ensures within { result ≤ length text.now }
     ensures plain { (k : ℕ) → k < result → slice_index text.now k < 0x80 }
 {

@@ -1,13 +1,18 @@
-use Rattle.std.proofs.Common.{ℕ, List, [], ◌∷◌, ◌++◌, IsUtf8, subst, sym}
+use Rattle.std.proofs.Common.{ℕ, List, [], ◌∷◌, ◌++◌, IsUtf8, subst, sym, ap, drop, ◌∙◌}
 use Rattle.std.specs.Str.Iter.{chars_rest}
 use Rattle.icu_normalizer_core.specs.BorrowedMeaning.{borrowed_meaning}
-use Rattle.icu_normalizer.proofs.CutLemmas.{rest_utf8}
+use Rattle.icu_normalizer.proofs.CutLemmas.{plain_boundary, rest_utf8}
 use Rattle.icu_normalizer.proofs.ComposedWalkLemmas.{nothing_ahead}
-use Rattle.icu_normalizer.proofs.SkipLemmas.{IsSkipping, skipping_none, skipping_more, skipped_all, skipped_rest}
+use Rattle.icu_normalizer.proofs.SkipLemmas.{IsSkipping, skipping_begun, skipping_more, skipped_all, skipped_rest}
 use Rattle.icu_normalizer.proofs.composing.low.skip_low.Goals as goal
 
 pub chars-init : goal.chars-init
-chars-init c = ([], [], skipping_none _ c.keep_promise.ensures _ _ c.chars-chars.ensures.rest)
+chars-init c =
+    skipping_begun _ c.keep_promise.ensures _ _ _ c.plain_len-plain.result c.utf8.text c.plain_len-plain.ensures.within c.plain_len-plain.ensures.plain
+    (c.range_from-rest.ensures.value ∙ ap (λ k. drop k c.args.text.now) c.saturating_sub.ensures) (c.chars-chars.ensures.rest ∙ c.range_from.ensures.value)
+
+pub range_from-requires : goal.range_from-requires
+range_from-requires c = λ _. plain_boundary _ _ c.utf8.text c.plain_len-plain.ensures.within c.plain_len-plain.ensures.plain
 
 pub returns-in_default-clause-none : goal.returns-in_default-clause-none
 returns-in_default-clause-none c =
