@@ -1,3 +1,5 @@
 pub mod InOrderLemmas
 pub mod MapNumberLemmas
 pub mod ListWordLemmas
+pub mod SettledWordLemmas
+pub mod CharacterWordLemmas

@@ -6,6 +6,7 @@ pub mod CanonicalLists
 pub mod CanonicalMaps
 pub mod CanonicalMeaning
 pub mod CanonicalWords
+pub mod CharacterWords
 pub mod Decoding
 pub mod FullLists
 pub mod GivenMaps
