@@ -3,3 +3,4 @@ pub mod MapNumberLemmas
 pub mod ListWordLemmas
 pub mod SettledWordLemmas
 pub mod CharacterWordLemmas
+pub mod WordMapLemmas

@@ -39,3 +39,19 @@ pub record IsWordOf (k : ℕ) (steps scalars24 : List ℕ) (c word : ℕ) : Type
   pub class : class_of_word c word ≡ k
   pub full : IsFree c → Leaves (step_in steps) (c ∷ []) (full_of_word [] scalars24 c word)
   pub built_in : IfSome (built_in_full c) (λ list. full_of_word [] scalars24 c word ≡ list)
+
+-- the characters with a built-in class other than 0, and those with a built-in mapping to other characters but syllables
+abbrev pub built_in_named : List ℕ
+built_in_named = 0x300 ∷ 0x301 ∷ 0x308 ∷ 0x313 ∷ 0x340 ∷ 0x341 ∷ 0x343 ∷ 0x344 ∷ 0xf71 ∷ 0xf72 ∷ 0xf73 ∷ 0xf74 ∷ 0xf75 ∷ 0xf80 ∷ 0xf81 ∷ 0x3099 ∷ 0x309a ∷ []
+
+-- the word of a character that isn't named: 1 of a syllable
+abbrev pub unnamed_word : ℕ → ℕ
+unnamed_word c = cond (is_syllable c) 1 0
+
+-- A map has the words of the characters of a list. Others have their words or are as none were set.
+pub record HasWords (classes : List GivenClass) (steps scalars24 named : List ℕ) (words : CodePointMap ℕ) : Type 0 where
+  pub default : words.default ≡ 0
+  pub among : (c : ℕ) → c ≤ 0x10_FFFF → IsAmong named c → IsWordOf (class_with classes c) steps scalars24 c (mapped words c)
+  pub others : (c : ℕ) → c ≤ 0x10_FFFF → IsWordOf (class_with classes c) steps scalars24 c (mapped words c) ⊎ (mapped words c ≡ unnamed_word c)
+  pub wide : different_blocks (λ n. n) 512 words.values ≤ 3 + length named
+  pub narrow : different_blocks (λ n. n) 16 words.values ≤ 3 + length named

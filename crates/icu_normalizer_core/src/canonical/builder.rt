@@ -10,6 +10,7 @@ mod lists;
 mod numbers;
 mod pairs;
 mod steps;
+mod trie;
 mod words;
 
 use std::alloc::{AllocError, Global};
