@@ -59,9 +59,9 @@ listed_short (k ∷ a ∷ b ∷ rest) c =
     (cases_Bool (k == c))
 
 -- the characters that triples map to
-record AreTargets (steps : List ℕ) : Type 0 where
-  firsts : (i : ℕ) → 3 * i < length steps → IsScalar (slice_index steps (3 * i + 1))
-  seconds : (i : ℕ) → 3 * i < length steps → slice_index steps (3 * i + 2) ≢ 0x110000 → IsScalar (slice_index steps (3 * i + 2))
+pub record AreTargets (steps : List ℕ) : Type 0 where
+  pub firsts : (i : ℕ) → 3 * i < length steps → IsScalar (slice_index steps (3 * i + 1))
+  pub seconds : (i : ℕ) → 3 * i < length steps → slice_index steps (3 * i + 2) ≢ 0x110000 → IsScalar (slice_index steps (3 * i + 2))
 
 further : (k a b : ℕ) (rest : List ℕ) (i d : ℕ) → slice_index (k ∷ a ∷ b ∷ rest) (3 * suc i + d) ≡ slice_index rest (3 * i + d)
 further k a b rest i d = let e : 3 * suc i + d ≡ suc (suc (suc (3 * i + d))) = omega arith in rw e refl
@@ -72,7 +72,7 @@ targets_behind k a b rest t = record {
   seconds = λ i h some. subst IsScalar (further k a b rest i 2) (t.seconds (suc i) (omega arith) (λ e. some (sym (further k a b rest i 2) ∙ e)));
 }
 
-listed_scalars : (steps : List ℕ) (c : ℕ) → AreTargets steps → All IsScalar (listed_step steps c)
+pub listed_scalars : (steps : List ℕ) (c : ℕ) → AreTargets steps → All IsScalar (listed_step steps c)
 unfolding listed_step
 listed_scalars [] c t = All-nil IsScalar
 listed_scalars (k ∷ []) c t = All-nil IsScalar

@@ -29,14 +29,14 @@ search_below steps c (suc n) =
     (search_below steps c n))
     (cases_eq (slice_index steps (3 * n)) c)
 
-listed_or_not : (steps : List ℕ) (c : ℕ) → length steps % 3 ≡ 0 → IsUnlisted steps c ⊎ ((i : ℕ) × IsTripleOf steps c i)
+pub listed_or_not : (steps : List ℕ) (c : ℕ) → length steps % 3 ≡ 0 → IsUnlisted steps c ⊎ ((i : ℕ) × IsTripleOf steps c i)
 listed_or_not steps c whole =
     ⊎_elim
     (λ none. inl (λ i h. none i (omega arith)))
     (λ found. inr (found.0, ((let h = found.1 in omega arith), found.2)))
     (search_below steps c (length steps / 3))
 
-got_cases : (xs : List (Option Left)) (i : ℕ) → i < length xs → (slice_get xs i ≡ Some None) ⊎ ((left : Left) × (slice_get xs i ≡ Some (Some left)))
+pub got_cases : (xs : List (Option Left)) (i : ℕ) → i < length xs → (slice_get xs i ≡ Some None) ⊎ ((left : Left) × (slice_get xs i ≡ Some (Some left)))
 got_cases [] i h = absurd (omega arith)
 got_cases (None ∷ xs) zero h = inl refl
 got_cases (Some left ∷ xs) zero h = inr (left, refl)

@@ -4,3 +4,7 @@ pub mod ListWordLemmas
 pub mod SettledWordLemmas
 pub mod CharacterWordLemmas
 pub mod WordMapLemmas
+pub mod FullListWordLemmas
+pub mod BuiltMapLemmas
+pub mod AcceptedMapLemmas
+pub mod AcceptedMappingLemmas

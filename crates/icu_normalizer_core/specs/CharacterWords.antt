@@ -27,6 +27,11 @@ pub record AreListWords (steps : List ℕ) (lists : ListWords) : Type 0 where
   pub free : (place : ℕ) → place < length steps / 3 → IsFree (key_at steps place)
   pub each : (place : ℕ) → place < length steps / 3 → IsListWord steps lists.scalars24.items (key_at steps place) (slice_index lists.words.items place)
 
+-- what mapping steps leave of a mapped character has over eight characters, where they end
+abbrev pub HasBadEnd : List ℕ → Type 0
+HasBadEnd steps =
+    (place : ℕ) × (place < length steps / 3) × ((list : List ℕ) → Leaves (step_in steps) (key_at steps place ∷ []) list → 8 < length list)
+
 -- each mapped character is a starter
 abbrev pub AreStarters : List GivenClass → List ℕ → Type 0
 AreStarters classes steps = (place : ℕ) → place < length steps / 3 → class_with classes (key_at steps place) ≡ 0

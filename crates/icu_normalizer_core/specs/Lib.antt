@@ -1,5 +1,6 @@
 pub mod BorrowedMeaning
 pub mod BuiltIn
+pub mod BuiltMaps
 pub mod Canonical
 pub mod CanonicalFaults
 pub mod CanonicalLists

@@ -4,9 +4,11 @@ ghost use Rattle.std.specs.Prelude.{◌≡◌, ◌++◌, ◌∷◌, ◌&&◌, []
 ghost use Rattle.std.specs.Option.{is_some};
 ghost use Rattle.icu_normalizer_core.specs.CanonicalMaps.{CanonicalMaps};
 
+mod full_lists;
 mod in_order;
 mod list_words;
 mod lists;
+mod meaning;
 mod numbers;
 mod pairs;
 mod steps;
