@@ -1,12 +1,13 @@
 pub mod BorrowedMeaning
 pub mod BuiltIn
-pub mod BuiltTables
+pub mod BuiltMaps
 pub mod Canonical
 pub mod CanonicalFaults
 pub mod CanonicalLists
 pub mod CanonicalMaps
 pub mod CanonicalMeaning
 pub mod CanonicalWords
+pub mod CharacterWords
 pub mod Decoding
 pub mod FullLists
 pub mod GivenMaps

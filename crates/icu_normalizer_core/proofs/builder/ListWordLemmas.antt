@@ -12,7 +12,7 @@ use Rattle.icu_normalizer_core.proofs.FullListLemmas.{listed_in_24, full_listed}
 
 -- ---- Words that state the list by themselves
 
-inside_apart : (s16 s24 : List ℕ) (word : ℕ) → is_list_word word ≡ false → is_inside s16 s24 word ≡ true
+pub inside_apart : (s16 s24 : List ℕ) (word : ℕ) → is_list_word word ≡ false → is_inside s16 s24 word ≡ true
 unfolding is_inside
 inside_apart s16 s24 word off = cond-false (is_list_word word) _ _ off
 

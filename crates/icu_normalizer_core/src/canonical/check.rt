@@ -2,6 +2,6 @@
 
 mod characters;
 mod forms;
-mod left;
-mod settle;
+pub(super) mod left;
+pub(super) mod settle;
 mod values;
