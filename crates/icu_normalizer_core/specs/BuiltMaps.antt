@@ -1,5 +1,5 @@
 -- Tables that are built of maps, as lists.
-use Rattle.std.specs.Prelude.{◌≡◌, ℕ, ◌<◌, ◌^◌, cond, true, List, []}
+use Rattle.std.specs.Prelude.{◌≡◌, ℕ, ◌<◌, ◌^◌, cond, true, []}
 use Rattle.std.specs.Option.{is_some}
 use Rattle.std.specs.Char.{IsScalar}
 use Rattle.icu_normalizer_core.specs.BuiltIn.{built_in_step}

@@ -1,5 +1,5 @@
 -- The words of characters in tables that are built: what each says of its character.
-use Rattle.std.specs.Prelude.{◌≡◌, ℕ, ◌+◌, ◌*◌, ◌/◌, ◌<◌, ◌≤◌, ◌⊎◌, ◌^◌, true, false, cond, List, [], ◌∷◌, ◌++◌, length, map, slice_index}
+use Rattle.std.specs.Prelude.{◌≡◌, ℕ, ◌+◌, ◌/◌, ◌<◌, ◌≤◌, ◌⊎◌, ◌^◌, true, cond, List, [], ◌∷◌, length, slice_index}
 use Rattle.std.specs.Option.{unwrap_or, IfSome}
 use Rattle.icu_codepointtrie.specs.Blocks.{different_blocks}
 use Rattle.icu_codepointtrie.specs.CodePointMaps.{CodePointMap, mapped}

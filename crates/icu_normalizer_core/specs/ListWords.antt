@@ -1,5 +1,5 @@
 -- The words of full lists, whose characters may stand in the lists of tables.
-use Rattle.std.specs.Prelude.{◌≡◌, ℕ, ◌*◌, ◌<◌, ◌≤◌, ◌^◌, true, List, [], ◌++◌, length, slice_index, slice_get, Option, Some, None}
+use Rattle.std.specs.Prelude.{◌≡◌, ℕ, ◌*◌, ◌<◌, ◌≤◌, ◌^◌, true, List, [], ◌++◌, length, slice_index, slice_get, Option, Some}
 use Rattle.std.specs.List.{All}
 use Rattle.std.specs.Char.{IsScalar}
 use Rattle.icu_normalizer_core.specs.declared.canonical.check.left.Left.{Left}

@@ -1,25 +1,20 @@
 -- Tables that are built of maps which keep the rules are accepted.
-use Rattle.std.proofs.Common.{◌≡◌, ◌≢◌, ℕ, suc, ◌+◌, ◌*◌, ◌/◌, ◌%◌, ◌^◌, ◌<◌, ◌≤◌, ◌⊎◌, inl, inr, ⊎_elim, Bool, true, false, cond, not, ◌==◌, ◌&&◌, ◌||◌, List, [], ◌∷◌, ◌++◌, length, slice_index, Option, Some, None, refl, sym, ap, subst, ◌∙◌, arith}
-use Rattle.std.specs.List.{All, Contains, find, list_any}
+use Rattle.std.proofs.Common.{◌≡◌, ◌≢◌, ℕ, ◌<◌, ◌⊎◌, inl, inr, ⊎_elim, true, not, ◌==◌, ◌&&◌, List, [], ◌∷◌, length, slice_index, Option, refl, sym, ap, subst, ◌∙◌, arith}
+use Rattle.std.specs.List.{All}
 use Rattle.std.specs.Char.{IsScalar}
-use Rattle.std.specs.Option.{is_some, unwrap_or, IfSome}
-use Rattle.std.specs.Str.{bytes_eq}
-use lib.Utf8.{low_scalar}
-use Rattle.std.proofs.lemmas.Bool.{cases_Bool, cases_eq, cond-true, cond-false, and_from, and_parts, false≢true}
+use Rattle.std.specs.Option.{unwrap_or}
+use Rattle.std.proofs.lemmas.Bool.{and_from, and_parts, false≢true}
 use Rattle.std.proofs.lemmas.List.Elements.{All-head, All-cons, All-nil}
-use Rattle.std.proofs.lemmas.Option.{none-some, same_Some}
-use Rattle.icu_normalizer_core.specs.BuiltIn.{built_in_step, built_in_class, is_jamo, is_syllable, is_within}
 use Rattle.icu_normalizer_core.specs.BuiltMaps.{AreBuiltOf}
-use Rattle.icu_normalizer_core.specs.Canonical.{Canonical, Leaves, IsFree, composed, is_starter}
-use Rattle.icu_normalizer_core.specs.CanonicalFaults.{NoneOffends, IsAccepted, OffendsValue, OffendsList, OffendsBuiltIn, OffendsPair, IsBadPair, begins_with_mark, AllEnd}
-use Rattle.icu_normalizer_core.specs.CanonicalLists.{CanonicalLists, canonical_of, listed_step, step_in, pair_first, pair_second, pair_composed}
-use Rattle.icu_normalizer_core.specs.CanonicalMaps.{CanonicalMaps, AreMeaning, KeepRules, IsMapped, class_of, step_of, given_step}
-use Rattle.icu_normalizer_core.specs.CanonicalWords.{is_word, is_inside, states_list, built_in_full, full_of_word, class_of_word}
-use Rattle.icu_normalizer_core.specs.CharacterWords.{IsWordOf}
+use Rattle.icu_normalizer_core.specs.Canonical.{Leaves, IsFree}
+use Rattle.icu_normalizer_core.specs.CanonicalFaults.{NoneOffends, OffendsValue, OffendsList, begins_with_mark, AllEnd}
+use Rattle.icu_normalizer_core.specs.CanonicalLists.{CanonicalLists, canonical_of, step_in}
+use Rattle.icu_normalizer_core.specs.CanonicalMaps.{CanonicalMaps, AreMeaning, KeepRules, step_of, given_step}
+use Rattle.icu_normalizer_core.specs.CanonicalWords.{is_word, is_inside, states_list}
 use Rattle.icu_normalizer_core.proofs.DecomposedLemmas.{left_one}
 use Rattle.icu_normalizer_core.proofs.LeftLemmas.{left_alone, left_scalars}
-use Rattle.icu_normalizer_core.proofs.TableMeanings.{class_is, full_is, step_is}
-use Rattle.icu_normalizer_core.proofs.builder.BuiltMapLemmas.{built_meaning, built_left, leaves_along, steps_same}
+use Rattle.icu_normalizer_core.proofs.TableMeanings.{class_is, step_is}
+use Rattle.icu_normalizer_core.proofs.builder.BuiltMapLemmas.{built_meaning, built_left, steps_same}
 use Rattle.icu_normalizer_core.proofs.builder.CharacterWordLemmas.{states_class}
 use Rattle.icu_normalizer_core.proofs.builder.FullListWordLemmas.{step_in_scalars}
 

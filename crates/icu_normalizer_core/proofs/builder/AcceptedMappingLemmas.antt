@@ -1,21 +1,21 @@
 -- Tables that are built of maps which keep the rules contradict nothing that is built in, and compose what they map.
-use Rattle.std.proofs.Common.{◌≡◌, ◌≢◌, ℕ, ◌+◌, ◌*◌, ◌/◌, ◌%◌, ◌^◌, ◌<◌, ◌≤◌, ◌⊎◌, inl, inr, ⊎_elim, Bool, true, false, cond, not, ◌==◌, ◌&&◌, ◌||◌, List, [], ◌∷◌, length, map, slice_index, Option, Some, None, nat_eq, refl, sym, ap, subst, ◌∙◌, arith}
+use Rattle.std.proofs.Common.{◌≡◌, ◌≢◌, ℕ, ◌+◌, ◌*◌, ◌/◌, ◌^◌, ◌<◌, ◌≤◌, inl, inr, ⊎_elim, Bool, true, false, cond, not, ◌==◌, ◌&&◌, ◌||◌, List, [], ◌∷◌, length, map, slice_index, Option, Some, None, nat_eq, refl, sym, ap, subst, ◌∙◌, arith}
 use Rattle.std.specs.List.{All, AllByRecursion, Contains, find, list_any, IsDistinct}
 use Rattle.std.specs.Char.{IsScalar}
 use Rattle.std.specs.Option.{is_some, unwrap_or}
 use Rattle.std.specs.Str.{bytes_eq}
-use Rattle.std.proofs.lemmas.Bool.{cases_Bool, cases_eq, cond-true, cond-false, eq-eqb, ne_eqb, eqb-true, and_parts, false≢true}
+use Rattle.std.proofs.lemmas.Bool.{cases_Bool, cond-true, cond-false, eq-eqb, ne_eqb, eqb-true, and_parts, false≢true}
 use Rattle.std.proofs.lemmas.Bool.Decides.{nat_tests}
 use Rattle.std.proofs.lemmas.List.Elements.{All-cons, All-nil, All-contains}
 use Rattle.std.proofs.lemmas.Option.{none-some, same_Some}
 use Rattle.std.proofs.lemmas.Slice.Eq.{bytes_eq-Decides}
 use Rattle.icu_normalizer_core.specs.declared.canonical.builder.GivenMapping.{GivenMapping}
-use Rattle.icu_normalizer_core.specs.BuiltIn.{built_in_step, built_in_class, is_jamo, is_syllable, is_within}
+use Rattle.icu_normalizer_core.specs.BuiltIn.{built_in_step, is_jamo, is_syllable, is_within}
 use Rattle.icu_normalizer_core.specs.BuiltMaps.{AreBuiltOf}
-use Rattle.icu_normalizer_core.specs.Canonical.{Canonical, IsFree, composed}
+use Rattle.icu_normalizer_core.specs.Canonical.{IsFree}
 use Rattle.icu_normalizer_core.specs.CanonicalFaults.{NoneOffends, IsAccepted, OffendsBuiltIn, OffendsPair, IsBadPair}
-use Rattle.icu_normalizer_core.specs.CanonicalLists.{CanonicalLists, canonical_of, listed_step, listed_pair, pair_first, pair_second, pair_composed}
-use Rattle.icu_normalizer_core.specs.CanonicalMaps.{CanonicalMaps, AreMeaning, KeepRules, class_of, step_of, given_class, given_step, given_pair, composes, mapping_given, is_built_in_mapping}
+use Rattle.icu_normalizer_core.specs.CanonicalLists.{CanonicalLists, canonical_of, pair_first, pair_second, pair_composed}
+use Rattle.icu_normalizer_core.specs.CanonicalMaps.{CanonicalMaps, AreMeaning, KeepRules, given_class, given_step, given_pair, composes, mapping_given, is_built_in_mapping}
 use Rattle.icu_normalizer_core.proofs.PairLemmas.{listed_pair_of}
 use Rattle.icu_normalizer_core.proofs.TableMeanings.{full_is}
 use Rattle.icu_normalizer_core.proofs.builder.AcceptedMapLemmas.{good_values, good_lists, all_end}

@@ -1,16 +1,15 @@
 -- Tables that are built of maps mean the maps.
-use Rattle.std.proofs.Common.{◌≡◌, ◌≢◌, ℕ, ◌+◌, ◌*◌, ◌/◌, ◌%◌, ◌^◌, ◌<◌, ◌≤◌, ⊎_elim, true, false, cond, List, [], ◌∷◌, ◌++◌, length, slice_index, Option, Some, None, refl, sym, ap, subst, ◌∙◌, arith}
+use Rattle.std.proofs.Common.{◌≡◌, ℕ, ◌/◌, ◌^◌, ◌<◌, ⊎_elim, cond, List, [], ◌∷◌, ◌++◌, length, Option, Some, None, refl, sym, ap, subst, ◌∙◌, arith}
 use Rattle.std.specs.Char.{IsScalar}
 use Rattle.std.specs.Option.{is_some, unwrap_or, IfSome}
 use Rattle.icu_normalizer_core.specs.BuiltIn.{built_in_step, built_in_class, syllable_of}
 use Rattle.icu_normalizer_core.specs.BuiltMaps.{AreBuiltOf}
-use Rattle.icu_normalizer_core.specs.Canonical.{Leaves, nothing, unmapped, mapped, IsFree}
+use Rattle.icu_normalizer_core.specs.Canonical.{Leaves, nothing, unmapped, mapped}
 use Rattle.icu_normalizer_core.specs.CanonicalLists.{CanonicalLists, canonical_of, listed_step, step_in}
-use Rattle.icu_normalizer_core.specs.CanonicalMaps.{CanonicalMaps, AreMeaning, class_of, step_of, pair_of, given_class, given_step, given_pair}
+use Rattle.icu_normalizer_core.specs.CanonicalMaps.{CanonicalMaps, AreMeaning, class_of, step_of, given_class, given_step, given_pair}
 use Rattle.icu_normalizer_core.specs.CanonicalWords.{built_in_full, full_of_word}
-use Rattle.icu_normalizer_core.specs.CharacterWords.{IsWordOf}
 use Rattle.icu_normalizer_core.specs.Settled.{key_at}
-use Rattle.icu_normalizer_core.proofs.BuiltInFacts.{IsBuiltInFull, built_in_left}
+use Rattle.icu_normalizer_core.proofs.BuiltInFacts.{built_in_left}
 use Rattle.icu_normalizer_core.proofs.EndingLemmas.{listed_or_not}
 use Rattle.icu_normalizer_core.proofs.TableMeanings.{class_is, full_is, step_is, pair_syllable, pair_listed, step_in_built_in, step_in_free}
 use Rattle.icu_normalizer_core.proofs.TripleLemmas.{listed_none}

@@ -1,18 +1,17 @@
 -- The word of each character says what it means.
-use Rattle.std.proofs.Common.{◌≡◌, ◌≢◌, ℕ, ◌+◌, ◌-◌, ◌*◌, ◌/◌, ◌%◌, ◌^◌, ◌<◌, ◌≤◌, ⊎_elim, Bool, true, false, cond, ◌==◌, ◌&&◌, ◌||◌, List, [], ◌∷◌, zero, suc, length, slice_index, slice_index_or, Option, Some, None, refl, sym, ap, subst, ◌∙◌, arith}
+use Rattle.std.proofs.Common.{◌≡◌, ℕ, ◌+◌, ◌<◌, ⊎_elim, Bool, true, false, ◌==◌, ◌&&◌, ◌||◌, List, [], ◌∷◌, zero, suc, length, slice_index, slice_index_or, Option, Some, None, refl, sym, ap, subst, ◌∙◌, arith}
 use Rattle.std.specs.List.{All, find}
 use Rattle.std.specs.Option.{is_some, unwrap_or, IfSome}
 use Rattle.std.proofs.lemmas.Bool.{cases_Bool, cond-true, cond-false}
 use Rattle.std.proofs.lemmas.Bool.Decides.{nat_tests}
 use Rattle.std.proofs.lemmas.Option.{none-some}
 use Rattle.icu_normalizer_core.specs.declared.canonical.builder.GivenClass.{GivenClass}
-use Rattle.icu_normalizer_core.specs.BuiltIn.{is_syllable, is_jamo, is_within, singled_out, syllable_step, built_in_step, built_in_class}
+use Rattle.icu_normalizer_core.specs.BuiltIn.{is_syllable, is_jamo, singled_out, syllable_step, built_in_step, built_in_class}
 use Rattle.icu_normalizer_core.specs.Canonical.{Leaves, IsFree}
 use Rattle.icu_normalizer_core.specs.CanonicalLists.{step_in}
-use Rattle.icu_normalizer_core.specs.CanonicalWords.{is_word, is_inside, class_of_word, full_of_word, built_in_full, is_list_word, is_pair_word, is_one_word, is_mark_word, is_singled_word, states_list, syllable_letters}
+use Rattle.icu_normalizer_core.specs.CanonicalWords.{is_word, class_of_word, full_of_word, built_in_full, is_list_word, is_pair_word, is_one_word, is_mark_word, is_singled_word, states_list, syllable_letters}
 use Rattle.icu_normalizer_core.specs.CanonicalMaps.{given_class}
 use Rattle.icu_normalizer_core.specs.CharacterWords.{IsWordOf, IsListWord, class_with}
-use Rattle.icu_normalizer_core.specs.ListWords.{StatesList}
 use Rattle.icu_normalizer_core.specs.Triples.{IsUnlisted}
 use Rattle.icu_normalizer_core.proofs.BuiltInFacts.{all_singled_out, syllable_mapped, singled_mapped, small_class}
 use Rattle.icu_normalizer_core.proofs.LeftLemmas.{left_alone}

@@ -1,19 +1,18 @@
 -- From what is settled to the words of full lists.
-use Rattle.std.proofs.Common.{◌≡◌, ℕ, zero, suc, ◌+◌, ◌*◌, ◌/◌, ◌%◌, ◌<◌, ◌≤◌, ⊎_elim, List, [], ◌∷◌, ◌++◌, length, take, slice_index, slice_get, Option, Some, None, refl, sym, ap, subst, ◌∙◌, arith}
+use Rattle.std.proofs.Common.{◌≡◌, ℕ, zero, suc, ◌/◌, ◌<◌, ◌≤◌, ⊎_elim, List, [], ◌∷◌, ◌++◌, length, take, slice_index, slice_get, Option, Some, None, refl, sym, ap, subst, ◌∙◌, arith}
 use Rattle.std.specs.List.{All}
 use Rattle.std.specs.Char.{IsScalar}
-use Rattle.std.specs.Option.{is_some, unwrap_or}
 use Rattle.std.proofs.lemmas.List.{append-nil}
 use Rattle.std.proofs.lemmas.List.Elements.{All-cons, All-nil, All-head, All-tail}
 use Rattle.icu_normalizer_core.specs.declared.canonical.check.left.Left.{Left}
 use Rattle.icu_normalizer_core.specs.declared.canonical.builder.list_words.ListWords.{ListWords}
 use Rattle.icu_normalizer_core.specs.BuiltIn.{built_in_step}
-use Rattle.icu_normalizer_core.specs.Canonical.{Leaves, nothing, unmapped, mapped, IsFree}
-use Rattle.icu_normalizer_core.specs.CanonicalLists.{AreTriples, step_in, listed_step}
-use Rattle.icu_normalizer_core.specs.CharacterWords.{IsListWord, AreListWords, HasBadEnd}
-use Rattle.icu_normalizer_core.specs.ListWords.{StatesList, StatesSettled, StateSettled, AreLists, HasUnsettled}
+use Rattle.icu_normalizer_core.specs.Canonical.{Leaves, unmapped, mapped, IsFree}
+use Rattle.icu_normalizer_core.specs.CanonicalLists.{AreTriples, step_in}
+use Rattle.icu_normalizer_core.specs.CharacterWords.{AreListWords, HasBadEnd}
+use Rattle.icu_normalizer_core.specs.ListWords.{StatesList, StateSettled, AreLists, HasUnsettled}
 use Rattle.icu_normalizer_core.specs.Settled.{left_items, key_at, AreStarts, IsStartOf, IsDone}
-use Rattle.icu_normalizer_core.proofs.AcceptedTables.{AreTargets, listed_scalars}
+use Rattle.icu_normalizer_core.proofs.AcceptedTables.{listed_scalars}
 use Rattle.icu_normalizer_core.proofs.BuiltInFacts.{built_in_short}
 use Rattle.icu_normalizer_core.proofs.DecomposedLemmas.{left_one}
 use Rattle.icu_normalizer_core.proofs.EndingLemmas.{got_cases}

@@ -1,6 +1,6 @@
 -- Numbers in the order of their keys: one number more.
 use Rattle.std.proofs.Common.{◌≡◌, ◌≢◌, ℕ, zero, suc, ◌+◌, ◌/◌, ◌<◌, ◌≤◌, ⊎_elim, Bool, true, false, List, [], ◌∷◌, ◌++◌, length, slice_index, Option, Some, None, ◌==◌, refl, sym, ap, subst, ◌∙◌, arith, length-append, cond, ltb}
-use Rattle.std.specs.List.{All, find, Contains}
+use Rattle.std.specs.List.{find}
 use Rattle.std.proofs.lemmas.Bool.{cases_lt, cases_eq, cases_Bool, eq-eqb, ne_eqb, lt-ltb, le-ltb}
 use Rattle.std.proofs.lemmas.List.Folds.{find-append}
 use Rattle.icu_normalizer_core.specs.InOrder.{first_of, count_below, IsLeastFrom, Rise, AreFirstsInOrder, AreFirstsBelow}

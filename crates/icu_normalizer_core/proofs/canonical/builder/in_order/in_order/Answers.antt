@@ -1,6 +1,6 @@
 use Rattle.std.proofs.Common.{ℕ, ◌/◌, ◌+◌, List, subst, sym}
 use Rattle.icu_normalizer_core.specs.InOrder.{AreFirstsBelow}
-use Rattle.icu_normalizer_core.proofs.builder.InOrderLemmas.{firsts_more, firsts_none, firsts_all}
+use Rattle.icu_normalizer_core.proofs.builder.InOrderLemmas.{firsts_more, firsts_all}
 use Rattle.icu_normalizer_core.proofs.canonical.builder.in_order.in_order.Goals as goal
 
 pub loop-n-preserved : goal.loop-n-preserved

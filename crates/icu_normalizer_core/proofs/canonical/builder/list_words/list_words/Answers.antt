@@ -1,4 +1,4 @@
-use Rattle.std.proofs.Common.{◌≡◌, ◌<◌, ◌≤◌, ℕ, Option, Some, [], refl, inr, length, slice_get, arith}
+use Rattle.std.proofs.Common.{◌<◌, ◌≤◌, [], refl, inr, length, slice_get, arith}
 use Rattle.icu_normalizer_core.specs.Settled.{left_items}
 use Rattle.icu_normalizer_core.proofs.builder.SettledWordLemmas.{got_here, over_eight, more_settled}
 use Rattle.icu_normalizer_core.proofs.canonical.builder.list_words.list_words.Goals as goal

@@ -1,4 +1,4 @@
-use Rattle.std.proofs.Common.{◌≤◌, ◌+◌, arith}
+use Rattle.std.proofs.Common.{◌≤◌, arith}
 use Rattle.std.specs.Range.{range_inclusive_start, range_inclusive_end}
 use Rattle.icu_normalizer_core.proofs.builder.WordMapLemmas.{words_none, range_written}
 use Rattle.icu_normalizer_core.proofs.canonical.builder.trie.unnamed_words.Goals as goal

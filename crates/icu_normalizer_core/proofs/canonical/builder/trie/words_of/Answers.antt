@@ -1,4 +1,4 @@
-use Rattle.std.proofs.Common.{ℕ, List, ◌<◌, take, sym, subst, arith}
+use Rattle.std.proofs.Common.{ℕ, List, take, sym, subst, arith}
 use Rattle.std.proofs.lemmas.List.{take_more}
 use Rattle.icu_normalizer_core.specs.CharacterWords.{HasWords}
 use Rattle.icu_normalizer_core.proofs.builder.WordMapLemmas.{words_more, words_past}

@@ -1,4 +1,4 @@
-use Rattle.std.proofs.Common.{◌≡◌, ℕ, ◌+◌, ◌*◌, ◌/◌, ◌<◌, false, true, refl, List, slice_index, length, sym, ap, subst, ◌∙◌, arith}
+use Rattle.std.proofs.Common.{◌≡◌, ℕ, ◌+◌, ◌/◌, ◌<◌, true, refl, slice_index, length, sym, subst, ◌∙◌, arith}
 use Rattle.icu_normalizer_core.specs.BuiltIn.{is_syllable}
 use Rattle.icu_normalizer_core.specs.CanonicalMaps.{given_class}
 use Rattle.icu_normalizer_core.specs.CharacterWords.{class_with, IsWordOf, IsListWord}
