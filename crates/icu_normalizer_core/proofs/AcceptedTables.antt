@@ -10,7 +10,7 @@ use Rattle.std.proofs.lemmas.List.Elements.{All-nil, All-cons}
 use Rattle.icu_normalizer_core.specs.BuiltIn.{is_syllable, is_jamo, singled_out, built_in_step, built_in_class}
 use Rattle.icu_normalizer_core.specs.Canonical.{Leaves, IsFree, IsDecomposing}
 use Rattle.icu_normalizer_core.specs.CanonicalWords.{is_word, states_list, is_mark_word, is_singled_word, class_of_word, full_of_word}
-use Rattle.icu_normalizer_core.specs.CanonicalLists.{CanonicalLists, AreTriples, listed_step, mapping, canonical_of}
+use Rattle.icu_normalizer_core.specs.CanonicalLists.{CanonicalLists, listed_step, mapping, canonical_of}
 use Rattle.icu_normalizer_core.specs.CanonicalFaults.{IsAccepted, begins_with_mark}
 use Rattle.icu_normalizer_core.proofs.AcceptedForms.{accepted_triples, eq_stands}
 use Rattle.icu_normalizer_core.proofs.TableMeanings.{class_is, full_is, step_built_in, step_free}
@@ -59,9 +59,9 @@ listed_short (k ∷ a ∷ b ∷ rest) c =
     (cases_Bool (k == c))
 
 -- the characters that triples map to
-record AreTargets (steps : List ℕ) : Type 0 where
-  firsts : (i : ℕ) → 3 * i < length steps → IsScalar (slice_index steps (3 * i + 1))
-  seconds : (i : ℕ) → 3 * i < length steps → slice_index steps (3 * i + 2) ≢ 0x110000 → IsScalar (slice_index steps (3 * i + 2))
+pub record AreTargets (steps : List ℕ) : Type 0 where
+  pub firsts : (i : ℕ) → 3 * i < length steps → IsScalar (slice_index steps (3 * i + 1))
+  pub seconds : (i : ℕ) → 3 * i < length steps → slice_index steps (3 * i + 2) ≢ 0x110000 → IsScalar (slice_index steps (3 * i + 2))
 
 further : (k a b : ℕ) (rest : List ℕ) (i d : ℕ) → slice_index (k ∷ a ∷ b ∷ rest) (3 * suc i + d) ≡ slice_index rest (3 * i + d)
 further k a b rest i d = let e : 3 * suc i + d ≡ suc (suc (suc (3 * i + d))) = omega arith in rw e refl
@@ -72,7 +72,7 @@ targets_behind k a b rest t = record {
   seconds = λ i h some. subst IsScalar (further k a b rest i 2) (t.seconds (suc i) (omega arith) (λ e. some (sym (further k a b rest i 2) ∙ e)));
 }
 
-listed_scalars : (steps : List ℕ) (c : ℕ) → AreTargets steps → All IsScalar (listed_step steps c)
+pub listed_scalars : (steps : List ℕ) (c : ℕ) → AreTargets steps → All IsScalar (listed_step steps c)
 unfolding listed_step
 listed_scalars [] c t = All-nil IsScalar
 listed_scalars (k ∷ []) c t = All-nil IsScalar
@@ -83,30 +83,22 @@ listed_scalars (k ∷ a ∷ b ∷ rest) c t =
     (λ no. subst (All IsScalar) (sym (cond-false (k == c) (mapping a b) (listed_step rest c) no)) (listed_scalars rest c (targets_behind k a b rest t)))
     (cases_Bool (k == c))
 
--- mappings by triples name scalar values
-pub triple_step_scalars : (lists : CanonicalLists) → AreTriples lists.steps → (c : ℕ) → All IsScalar ((canonical_of lists).step c)
-triple_step_scalars lists t c =
-    ⊎_elim
-    (λ free. subst (All IsScalar) (sym (step_free lists c free)) (listed_scalars lists.steps c (record { firsts = t.firsts; seconds = t.seconds })))
-    (λ b. subst (All IsScalar) (sym (step_built_in lists c b.0 b.1)) (built_in_short c b.0 b.1).0)
-    (cases_step (built_in_step c))
-
 -- ---- Words
 
-pub free_letter : (c : ℕ) → built_in_step c ≡ None → is_syllable c ≡ false
+free_letter : (c : ℕ) → built_in_step c ≡ None → is_syllable c ≡ false
 free_letter c free = ⊎_elim (λ t. absurd (none-some _ (sym free ∙ syllable_mapped c t))) (λ f. f) (cases_Bool (is_syllable c))
 
 pub free_single : (c : ℕ) → built_in_step c ≡ None → singled_out c ≡ None
 free_single c free = ⊎_elim (λ none. none) (λ some. absurd (none-some some.0 (sym free ∙ singled_mapped c some.0 some.1))) (cases_step (singled_out c))
 
 -- the word of a character without a built-in mapping states a list, or the character is its own full list
-pub own_full : (s16 s24 : List ℕ) (c w : ℕ) → is_word c w ≡ true → is_syllable c ≡ false → singled_out c ≡ None → states_list w ≡ false
+own_full : (s16 s24 : List ℕ) (c w : ℕ) → is_word c w ≡ true → is_syllable c ≡ false → singled_out c ≡ None → states_list w ≡ false
     → full_of_word s16 s24 c w ≡ c ∷ []
 unfolding is_word full_of_word
 own_full s16 s24 c w is letter single states = grind (arith, nat_tests, single, letter, states)
 
 -- a word that states a list says no class
-pub stating_class : (c w : ℕ) → states_list w ≡ true → class_of_word c w ≡ 0
+stating_class : (c w : ℕ) → states_list w ≡ true → class_of_word c w ≡ 0
 unfolding class_of_word
 stating_class c w states = grind (arith, nat_tests)
 
@@ -142,8 +134,15 @@ module _ (lists : CanonicalLists) (a : IsAccepted lists) where
   word_is c scalar =
       ⊎_elim (λ t. t) (λ f. absurd (a.values c scalar (and_right (lists.has_word c) (is_word c (lists.word c)) f))) (cases_Bool (is_word c (lists.word c)))
 
+  step_targets : AreTargets lists.steps
+  step_targets = let t = accepted_triples lists a in record { firsts = t.firsts; seconds = t.seconds }
+
   pub step_scalars : (c : ℕ) → All IsScalar (step c)
-  step_scalars = triple_step_scalars lists (accepted_triples lists a)
+  step_scalars c =
+      ⊎_elim
+      (λ free. subst (All IsScalar) (sym (step_free lists c free)) (listed_scalars lists.steps c step_targets))
+      (λ b. subst (All IsScalar) (sym (step_built_in lists c b.0 b.1)) (built_in_short c b.0 b.1).0)
+      (cases_step (built_in_step c))
 
   step_short : (c : ℕ) → length (step c) ≤ 2
   step_short c =

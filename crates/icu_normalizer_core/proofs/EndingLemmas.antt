@@ -29,7 +29,7 @@ search_below steps c (suc n) =
     (search_below steps c n))
     (cases_eq (slice_index steps (3 * n)) c)
 
-listed_or_not : (steps : List ℕ) (c : ℕ) → length steps % 3 ≡ 0 → IsUnlisted steps c ⊎ ((i : ℕ) × IsTripleOf steps c i)
+pub listed_or_not : (steps : List ℕ) (c : ℕ) → length steps % 3 ≡ 0 → IsUnlisted steps c ⊎ ((i : ℕ) × IsTripleOf steps c i)
 listed_or_not steps c whole =
     ⊎_elim
     (λ none. inl (λ i h. none i (omega arith)))

@@ -1,10 +1,14 @@
-pub mod AcceptedMaps
-pub mod AcceptedMapsGivenLemmas
 pub mod AcceptedMapsKeptLemmas
 pub mod AcceptedMapsLimitLemmas
-pub mod AcceptedMapsMeaningLemmas
 pub mod AcceptedMapsRuleLemmas
 pub mod AcceptedMapsSameLemmas
 pub mod InOrderLemmas
 pub mod MapNumberLemmas
 pub mod ListWordLemmas
+pub mod SettledWordLemmas
+pub mod CharacterWordLemmas
+pub mod WordMapLemmas
+pub mod FullListWordLemmas
+pub mod BuiltMapLemmas
+pub mod AcceptedMapLemmas
+pub mod AcceptedMappingLemmas

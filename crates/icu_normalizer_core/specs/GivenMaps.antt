@@ -1,5 +1,5 @@
 -- What is given to a builder of canonical tables is of characters.
-use Rattle.std.specs.Prelude.{ℕ, List, IfSome}
+use Rattle.std.specs.Prelude.{IfSome}
 use Rattle.std.specs.List.{All}
 use Rattle.std.specs.Char.{IsScalar}
 use Rattle.icu_normalizer_core.specs.declared.canonical.builder.GivenMapping.{GivenMapping}

@@ -1,5 +1,5 @@
 -- Numbers in the order of their keys, where a number's key is its quotient by a divisor.
-use Rattle.std.specs.Prelude.{◌≡◌, ℕ, suc, ◌/◌, ◌<◌, ◌≤◌, ◌==◌, List, length, slice_index, Option, Some, None}
+use Rattle.std.specs.Prelude.{◌≡◌, ℕ, suc, ◌/◌, ◌<◌, ◌≤◌, ◌==◌, cond, ltb, List, [], ◌∷◌, length, slice_index, Option, Some, None}
 use Rattle.std.specs.List.{find}
 
 -- the first number of a key
@@ -22,6 +22,14 @@ pub record AreFirstsInOrder (divisor : ℕ) (numbers sorted : List ℕ) : Type 0
   pub rise : Rise divisor sorted
   pub firsts : (key : ℕ) → first_of divisor sorted key ≡ first_of divisor numbers key
   pub kept : (i : ℕ) → i < length sorted → first_of divisor numbers (slice_index sorted i / divisor) ≡ Some (slice_index sorted i)
+  pub few : length sorted ≤ length numbers
+
+-- how many numbers have a key below a bound
+unfoldable pub count_below : ℕ → ℕ → List ℕ → ℕ
+count_below divisor bound [] = 0
+count_below divisor bound (n ∷ rest) =
+    let others = count_below divisor bound rest
+    in cond (ltb (n / divisor) bound) (suc others) others
 
 -- this, up to a bound
 pub record AreFirstsBelow (divisor : ℕ) (numbers : List ℕ) (bound : ℕ) (sorted : List ℕ) : Type 0 where
@@ -30,3 +38,4 @@ pub record AreFirstsBelow (divisor : ℕ) (numbers : List ℕ) (bound : ℕ) (so
   pub firsts : (key : ℕ) → key < bound → first_of divisor sorted key ≡ first_of divisor numbers key
   pub none : (key : ℕ) → bound ≤ key → first_of divisor sorted key ≡ None
   pub kept : (i : ℕ) → i < length sorted → first_of divisor numbers (slice_index sorted i / divisor) ≡ Some (slice_index sorted i)
+  pub few : length sorted ≤ count_below divisor bound numbers

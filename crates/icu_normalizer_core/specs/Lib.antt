@@ -1,7 +1,7 @@
 pub mod BorrowedMeaning
 pub mod BuiltIn
 pub mod BuiltInTests
-pub mod BuiltTables
+pub mod BuiltMaps
 pub mod Canonical
 pub mod CanonicalFaults
 pub mod CanonicalLists
@@ -9,6 +9,7 @@ pub mod CanonicalMaps
 pub mod CanonicalMeaning
 pub mod CanonicalRefusals
 pub mod CanonicalWords
+pub mod CharacterWords
 pub mod DataErrors
 pub mod Decoding
 pub mod FullLists

@@ -1,5 +1,7 @@
 -- The words of full lists, whose characters may stand in the lists of tables.
-use Rattle.std.specs.Prelude.{◌≡◌, ℕ, ◌<◌, ◌≤◌, ◌^◌, true, List, ◌++◌, length, slice_index, slice_get, Option, Some, None}
+use Rattle.std.specs.Prelude.{◌≡◌, ℕ, ◌*◌, ◌<◌, ◌≤◌, ◌^◌, true, List, [], ◌++◌, length, slice_index, slice_get, Option, Some}
+use Rattle.std.specs.List.{All}
+use Rattle.std.specs.Char.{IsScalar}
 use Rattle.icu_normalizer_core.specs.declared.canonical.check.left.Left.{Left}
 use Rattle.icu_normalizer_core.specs.CanonicalWords.{states_list, is_inside, full_of_word}
 use Rattle.icu_normalizer_core.specs.Settled.{left_items}
@@ -20,10 +22,15 @@ abbrev pub StatesSettled : List ℕ → List ℕ → Option (Option Left) → �
 StatesSettled scalars16 scalars24 found word =
     (left : Left) × (found ≡ Some (Some left)) × (length (left_items left) ≤ 8) × KeepsStating scalars16 scalars24 word (left_items left)
 
--- each of so many words states what is settled of its triple
-pub record StateSettled (scalars16 scalars24 : List ℕ) (settled : List (Option Left)) (words : List ℕ) : Type 0 where
-  pub count : length words ≤ length settled
-  pub each : (i : ℕ) → i < length words → StatesSettled scalars16 scalars24 (slice_get settled i) (slice_index words i)
+-- the first words, so many, state what is settled of their triples
+pub record StateSettled (scalars24 : List ℕ) (settled : List (Option Left)) (words : List ℕ) (places : ℕ) : Type 0 where
+  pub count : length words ≡ places
+  pub size : length scalars24 ≤ 8 * places
+  pub each : (i : ℕ) → i < places → StatesSettled [] scalars24 (slice_get settled i) (slice_index words i)
+
+-- what is settled is lists of characters, none of them empty
+abbrev pub AreLists : List (Option Left) → Type 0
+AreLists settled = (i : ℕ) (left : Left) → slice_get settled i ≡ Some (Some left) → All IsScalar (left_items left) × (0 < length (left_items left))
 
 -- a triple isn't settled, or its list has over eight characters
 abbrev pub HasUnsettled : List (Option Left) → Type 0

@@ -1,5 +1,5 @@
 -- Mappings as numbers: a character and what it is mapped to, or a composed pair, in one number each.
-use Rattle.std.specs.Prelude.{◌≡◌, ◌≢◌, ℕ, ◌+◌, ◌*◌, ◌/◌, ◌%◌, ◌^◌, ◌&&◌, not, cond, List, [], ◌∷◌, Option, Some, None}
+use Rattle.std.specs.Prelude.{◌≢◌, ℕ, ◌+◌, ◌*◌, ◌/◌, ◌%◌, ◌^◌, ◌&&◌, not, cond, List, [], ◌∷◌}
 use Rattle.std.specs.Char.{IsScalar}
 use Rattle.std.specs.Option.{is_some, unwrap_or}
 use Rattle.icu_normalizer_core.specs.declared.canonical.builder.GivenMapping.{GivenMapping}

@@ -12,7 +12,7 @@ mod tables;
 mod words;
 
 pub use borrowed::CanonicalBorrowed;
-pub use builder::{CanonicalDataBuilder, GivenClass, GivenMapping};
+pub use builder::{CanonicalDataBuildError, CanonicalDataBuilder, GivenClass, GivenMapping};
 pub use data::{CanonicalData, CanonicalDataError};
 pub use full_list::FullList;
 pub use tables::{CanonicalFault, CanonicalTables};

@@ -1,25 +1,16 @@
--- How many classes, mappings and triples there are, by how many characters maps name.
-use Rattle.std.proofs.Common.{◌≡◌, ◌≢◌, ℕ, ◌/◌, ◌<◌, ◌≤◌, ⊎_elim, Bool, true, false, cond, ◌==◌, ◌||◌, List, [], ◌∷◌, ◌++◌, length, map, flat_map, Option, Some, None, refl, sym, ap, subst, ◌∙◌, arith}
+-- How many classes and mappings there are, by how many characters maps name.
+use Rattle.std.proofs.Common.{◌≡◌, ℕ, ◌≤◌, Bool, true, false, cond, ◌||◌, List, [], ◌∷◌, ◌++◌, length, map, flat_map, refl, ap, ◌∙◌, arith}
 use Rattle.std.specs.Prelude.{nat_eq}
-use Rattle.std.specs.List.{IsDistinct, find, list_any, range_with_len}
+use Rattle.std.specs.List.{IsDistinct, list_any}
 use Rattle.std.specs.Set.{distinct_count, is_member, unique_keys}
-use Rattle.std.proofs.lemmas.Bool.{cases_eq, cond-false, eq-eqb, ne_eqb, or_left, or_right}
-use Rattle.std.proofs.lemmas.Bool.Decides.{Decides-eqb}
-use Rattle.std.proofs.Math.ListN.{get_or}
+use Rattle.std.proofs.lemmas.Bool.{or_left, or_right}
 use Rattle.std.proofs.lemmas.Cmp.{nat_eq_equiv}
 use Rattle.std.proofs.lemmas.List.{length-map}
 use Rattle.std.proofs.lemmas.List.Folds.{list_any-append}
-use Rattle.std.proofs.lemmas.List.FromFn.{length-map-range_with_len, get_or-map-range_with_len}
-use Rattle.std.proofs.lemmas.Map.Keys.{IsDistinct-from_apart}
-use Rattle.std.proofs.lemmas.Map.Made.{length-le_from_is_member, is_member-Decides}
+use Rattle.std.proofs.lemmas.Map.Made.{length-le_from_is_member}
 use Rattle.std.proofs.lemmas.Map.Steps.{list_any_congr}
 use Rattle.icu_normalizer_core.specs.declared.canonical.builder.GivenMapping.{GivenMapping}
-use Rattle.icu_normalizer_core.specs.BuiltTables.{ListMappings}
-use Rattle.icu_normalizer_core.specs.CanonicalLists.{AreTriples}
-use Rattle.icu_normalizer_core.specs.CanonicalMaps.{CanonicalMaps, KeepRules, given_step, mapping_given, named}
-use Rattle.icu_normalizer_core.specs.Settled.{key_at}
-use Rattle.icu_normalizer_core.proofs.TripleLemmas.{keys_rise}
-use Rattle.icu_normalizer_core.proofs.builder.AcceptedMapsRuleLemmas.{triple_mapped}
+use Rattle.icu_normalizer_core.specs.CanonicalMaps.{CanonicalMaps, KeepRules, mapping_given, named}
 
 -- ---- Distinct numbers among others
 
@@ -69,40 +60,3 @@ rules_limit_mappings maps rules =
     let among = distinct_among (map (λ g. g.character) maps.mappings) (named maps) rules.one_mapping
     (λ q e. behind_named (map (λ g. g.character) maps.classes) (flat_map (λ g. g.character ∷ mapping_given g) maps.mappings) q (mapped_named maps.mappings q e)) in
     omega (arith, among, rules.few, length-map maps.mappings (λ g. g.character))
-
--- ---- Triples
-
--- a character with a mapping is one of those that are mapped
-given_member : (ms : List GivenMapping) (q : ℕ) → given_step ms q ≢ [] → is_member nat_eq (map (λ g. g.character) ms) q ≡ true
-given_member [] q some = absurd (some refl)
-given_member (m ∷ ms) q some =
-    ⊎_elim
-    (λ (same : m.character ≡ q). or_left (nat_eq q m.character) (is_member nat_eq (map (λ g. g.character) ms) q) (eq-eqb q m.character (sym same)))
-    (λ (other : m.character ≢ q).
-    let past : given_step (m ∷ ms) q ≡ given_step ms q =
-    ap (λ (o : Option GivenMapping). elim o [ Some g ↦ mapping_given g | None ↦ [] ])
-    (cond-false (m.character == q) (Some m) (find (λ g. g.character == q) ms) (ne_eqb m.character q other)) in
-    or_right (nat_eq q m.character) (is_member nat_eq (map (λ g. g.character) ms) q) (given_member ms q (λ none. some (past ∙ none))))
-    (cases_eq m.character q)
-
--- there are at most as many triples as mappings
-pub limit_triples : (maps : CanonicalMaps) (steps : List ℕ) → AreTriples steps → ListMappings maps steps → length steps / 3 ≤ length maps.mappings
-limit_triples maps steps t listed =
-    let n : ℕ = length steps / 3 in
-    let keys : List ℕ = map (key_at steps) (range_with_len 0 n) in
-    let count : length keys ≡ n = length-map-range_with_len (key_at steps) 0 n in
-    let at : (i d : ℕ) → i < n → get_or keys i d ≡ key_at steps i = λ i d h. get_or-map-range_with_len (key_at steps) 0 n i i d h (omega arith) in
-    let distinct : IsDistinct nat_eq keys =
-    IsDistinct-from_apart nat_eq keys (λ i j d lt h.
-    let second : j < n = omega (arith, count, h) in
-    let first : i < n = omega arith in
-    let rises = keys_rise steps t i j lt (omega arith) in
-    ne_eqb (get_or keys i d) (get_or keys j d) (λ same. omega (arith, rises, sym (at i d first) ∙ same ∙ at j d second))) in
-    let among = length-le_from_is_member nat_eq_equiv keys (map (λ g. g.character) maps.mappings) distinct
-    (λ q m.
-    let found = (is_member-Decides Decides-eqb keys q).0 m in
-    let inside : found.0 < n = omega (arith, count, found.1) in
-    let is : key_at steps found.0 ≡ q = sym (at found.0 q inside) ∙ found.2 in
-    subst (λ (k : ℕ). is_member nat_eq (map (λ g. g.character) maps.mappings) k ≡ true) is
-    (given_member maps.mappings (key_at steps found.0) (triple_mapped maps steps t listed found.0 inside).1)) in
-    omega (arith, among, count, length-map maps.mappings (λ g. g.character))

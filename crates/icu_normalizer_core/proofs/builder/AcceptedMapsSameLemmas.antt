@@ -1,11 +1,12 @@
--- Canonical data that say the same of scalar values compose alike.
-use Rattle.std.proofs.Common.{◌≡◌, ℕ, Bool, true, false, cond, ltb, ◌==◌, List, [], ◌∷◌, ◌++◌, Option, Some, None, refl, ap, ◌∙◌}
+-- Canonical data that say the same of scalar values compose alike. Maps mean one thing.
+use Rattle.std.proofs.Common.{◌≡◌, ℕ, Bool, true, false, cond, ltb, ◌==◌, List, [], ◌∷◌, ◌++◌, Option, Some, None, refl, sym, ap, ◌∙◌}
 use Rattle.std.specs.List.{All, list_all}
 use Rattle.std.specs.Char.{IsScalar}
 use Rattle.std.proofs.lemmas.Option.{none-some}
 use Rattle.icu_normalizer_core.specs.Canonical.{Canonical, IsDecomposing, composed, composing, decomposed, recomposed}
+use Rattle.icu_normalizer_core.specs.CanonicalMaps.{CanonicalMaps, AreMeaning, step_of}
 use Rattle.icu_normalizer_core.specs.Sameness.{AreSameCanonical}
-use Rattle.icu_normalizer_core.proofs.DecomposedLemmas.{AreScalar, decomposed_same, decomposed_scalars}
+use Rattle.icu_normalizer_core.proofs.DecomposedLemmas.{AreScalar, decomposed_same, decomposed_scalars, left_one}
 use Rattle.std.proofs.lemmas.List.Elements.{recursion_from_All}
 
 -- the same of pairs too, which compose to scalar values
@@ -67,3 +68,10 @@ module _ (a b : Canonical) (alike : AreAlike a b) where
   unfolding composed
   composed_same text same d h =
       ap (recomposed a) (decomposed_same a b text same d h) ∙ recomposed_same (decomposed b text) (decomposed_scalars b text d (recursion_from_All IsScalar text h))
+
+-- what maps mean is one thing
+pub one_meaning : (maps : CanonicalMaps) (a b : Canonical) → AreMeaning maps a → AreMeaning maps b → AreSameCanonical a b
+one_meaning maps a b is other = record {
+  class = λ c scalar. is.class c scalar ∙ sym (other.class c scalar);
+  full = λ c scalar. left_one (step_of maps) (c ∷ []) (a.full c) (b.full c) (is.full c scalar) (other.full c scalar);
+}

@@ -1,9 +1,9 @@
 -- Numbers in the order of their keys: one number more.
-use Rattle.std.proofs.Common.{◌≡◌, ◌≢◌, ℕ, zero, suc, ◌+◌, ◌/◌, ◌<◌, ◌≤◌, ⊎_elim, Bool, true, false, List, [], ◌∷◌, ◌++◌, length, slice_index, Option, Some, None, ◌==◌, refl, sym, ap, subst, ◌∙◌, arith, length-append, cond}
-use Rattle.std.specs.List.{All, find, Contains}
-use Rattle.std.proofs.lemmas.Bool.{cases_lt, cases_eq, cases_Bool, eq-eqb, ne_eqb}
+use Rattle.std.proofs.Common.{◌≡◌, ◌≢◌, ℕ, zero, suc, ◌+◌, ◌/◌, ◌<◌, ◌≤◌, ⊎_elim, Bool, true, false, List, [], ◌∷◌, ◌++◌, length, slice_index, Option, Some, None, ◌==◌, refl, sym, ap, subst, ◌∙◌, arith, length-append, cond, ltb}
+use Rattle.std.specs.List.{find}
+use Rattle.std.proofs.lemmas.Bool.{cases_lt, cases_eq, cases_Bool, eq-eqb, ne_eqb, lt-ltb, le-ltb}
 use Rattle.std.proofs.lemmas.List.Folds.{find-append}
-use Rattle.icu_normalizer_core.specs.InOrder.{first_of, IsLeastFrom, Rise, AreFirstsInOrder, AreFirstsBelow}
+use Rattle.icu_normalizer_core.specs.InOrder.{first_of, count_below, IsLeastFrom, Rise, AreFirstsInOrder, AreFirstsBelow}
 
 -- ---- One element more
 
@@ -94,6 +94,42 @@ rise_more divisor sorted n rise below i h =
     rw (index_before sorted (n ∷ []) i within, last, index_last sorted n) (below i within))
     (cases_lt (suc i) (length sorted))
 
+-- ---- How many there are
+
+count_most : (divisor bound : ℕ) (xs : List ℕ) → count_below divisor bound xs ≤ length xs
+unfolding count_below
+count_most divisor bound [] = omega arith
+count_most divisor bound (x ∷ xs) = let h = count_most divisor bound xs in ⊎_elim (λ t. rw t (omega arith)) (λ f. rw f (omega arith)) (cases_Bool (ltb (x / divisor) bound))
+
+count_wider : (divisor low high : ℕ) (xs : List ℕ) → low ≤ high → count_below divisor low xs ≤ count_below divisor high xs
+unfolding count_below
+count_wider divisor low high [] h = omega arith
+count_wider divisor low high (x ∷ xs) h =
+    let later = count_wider divisor low high xs h in
+    ⊎_elim
+    (λ (below : x / divisor < low). rw (lt-ltb (x / divisor) low below, lt-ltb (x / divisor) high (omega arith)) (omega arith))
+    (λ (past : low ≤ x / divisor). rw (le-ltb (x / divisor) low past) (⊎_elim (λ t. rw t (omega arith)) (λ f. rw f (omega arith)) (cases_Bool (ltb (x / divisor) high))))
+    (cases_lt (x / divisor) low)
+
+-- one more has a key below the next bound
+count_more : (divisor low n : ℕ) (xs : List ℕ) → low ≤ n / divisor → first_of divisor xs (n / divisor) ≡ Some n
+    → count_below divisor low xs < count_below divisor (n / divisor + 1) xs
+unfolding count_below
+count_more divisor low n [] h e = absurd cc
+count_more divisor low n (x ∷ xs) h e =
+    ⊎_elim
+    (λ (same : x / divisor ≡ n / divisor).
+    let wider = count_wider divisor low (n / divisor + 1) xs (omega arith) in
+    rw (le-ltb (x / divisor) low (omega arith), lt-ltb (x / divisor) (n / divisor + 1) (omega arith)) (omega arith))
+    (λ (other : x / divisor ≢ n / divisor).
+    let rest : first_of divisor xs (n / divisor) ≡ Some n = sym (ap (λ (b : Bool). cond b (Some x) (first_of divisor xs (n / divisor))) (key_other x (n / divisor) divisor other)) ∙ e in
+    let later = count_more divisor low n xs h rest in
+    ⊎_elim
+    (λ (below : x / divisor < low). rw (lt-ltb (x / divisor) low below, lt-ltb (x / divisor) (n / divisor + 1) (omega arith)) (omega arith))
+    (λ (past : low ≤ x / divisor). rw (le-ltb (x / divisor) low past) (⊎_elim (λ t. rw t (omega arith)) (λ f. rw f (omega arith)) (cases_Bool (ltb (x / divisor) (n / divisor + 1)))))
+    (cases_lt (x / divisor) low))
+    (cases_eq (x / divisor) (n / divisor))
+
 pub firsts_more : (divisor : ℕ) (numbers sorted : List ℕ) (n from : ℕ) → AreFirstsBelow divisor numbers from sorted
     → IsLeastFrom divisor numbers from (Some n) → AreFirstsBelow divisor numbers (n / divisor + 1) (sorted ++ n ∷ [])
 firsts_more divisor numbers sorted n from so_far is =
@@ -120,6 +156,7 @@ firsts_more divisor numbers sorted n from so_far is =
           (cases_lt key (n / divisor));
       none = λ key h. first_same divisor sorted n key (λ e. omega arith) ∙ so_far.none key (omega (arith, is.0));
       kept = each (λ m. first_of divisor numbers (m / divisor) ≡ Some m) so_far.kept is.1;
+      few = omega (arith, so_far.few, count_more divisor from n numbers is.0 is.1, length-append sorted (n ∷ []));
     }
 
 pub firsts_none : (divisor : ℕ) (numbers : List ℕ) → AreFirstsBelow divisor numbers 0 []
@@ -129,6 +166,7 @@ firsts_none divisor numbers = record {
   firsts = λ key h. absurd (omega arith);
   none = λ key h. refl;
   kept = λ i h. absurd (omega arith);
+  few = omega arith;
 }
 
 pub firsts_all : (divisor : ℕ) (numbers sorted : List ℕ) (from : ℕ) → AreFirstsBelow divisor numbers from sorted
@@ -137,4 +175,5 @@ firsts_all divisor numbers sorted from so_far is = record {
   rise = so_far.rise;
   firsts = λ key. ⊎_elim (λ (low : key < from). so_far.firsts key low) (λ (high : from ≤ key). so_far.none key high ∙ sym (is key high)) (cases_lt key from);
   kept = so_far.kept;
+  few = omega (arith, so_far.few, count_most divisor from numbers);
 }

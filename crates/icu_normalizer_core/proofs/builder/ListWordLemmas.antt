@@ -1,18 +1,18 @@
 -- What the words of full lists state, also when scalars24 grows at its end.
-use Rattle.std.proofs.Common.{◌≡◌, ◌≢◌, ℕ, zero, suc, ◌+◌, ◌-◌, ◌*◌, ◌/◌, ◌%◌, ◌^◌, ◌<◌, ◌≤◌, ⊎_elim, Bool, true, false, cond, not, ◌==◌, ◌&&◌, ◌||◌, leb, slice_index, List, [], ◌∷◌, ◌++◌, length, take, drop, refl, sym, ap, subst, ◌∙◌, arith, append_assoc, length-append}
+use Rattle.std.proofs.Common.{◌≡◌, ℕ, ◌+◌, ◌-◌, ◌*◌, ◌/◌, ◌%◌, ◌^◌, ◌<◌, ◌≤◌, ⊎_elim, true, false, leb, slice_index, List, [], ◌∷◌, ◌++◌, length, take, drop, refl, sym, ap, subst, ◌∙◌, arith, append_assoc, length-append}
 use Rattle.std.specs.List.{All}
 use Rattle.std.specs.Char.{IsScalar}
 use lib.Utf8.{scalar_cases}
-use Rattle.std.proofs.lemmas.Bool.{cases_lt, cond-true, cond-false, le-ltb, lt-ltb}
+use Rattle.std.proofs.lemmas.Bool.{cond-true, cond-false, le-ltb}
 use Rattle.std.proofs.lemmas.Bool.Decides.{nat_tests}
-use Rattle.icu_normalizer_core.specs.CanonicalWords.{is_list_word, is_pair_word, is_one_word, states_list, is_inside, list_at, items_at, list_offset, length_in_24, full_of_word}
+use Rattle.icu_normalizer_core.specs.CanonicalWords.{is_list_word, is_pair_word, is_one_word, states_list, is_inside, items_at, list_offset, length_in_24, full_of_word}
 use Rattle.std.proofs.lemmas.List.Elements.{All-head}
 use Rattle.icu_normalizer_core.specs.ListWords.{StatesList, KeepsStating}
 use Rattle.icu_normalizer_core.proofs.FullListLemmas.{listed_in_24, full_listed}
 
 -- ---- Words that state the list by themselves
 
-inside_apart : (s16 s24 : List ℕ) (word : ℕ) → is_list_word word ≡ false → is_inside s16 s24 word ≡ true
+pub inside_apart : (s16 s24 : List ℕ) (word : ℕ) → is_list_word word ≡ false → is_inside s16 s24 word ≡ true
 unfolding is_inside
 inside_apart s16 s24 word off = cond-false (is_list_word word) _ _ off
 

@@ -1,15 +1,15 @@
 -- Mappings as numbers, and what is found among them.
-use Rattle.std.proofs.Common.{◌≡◌, ◌≢◌, ℕ, zero, suc, ◌+◌, ◌*◌, ◌/◌, ◌%◌, ◌^◌, ◌<◌, ◌≤◌, ⊎_elim, Bool, true, false, cond, not, ◌==◌, ◌&&◌, List, [], ◌∷◌, ◌++◌, length, slice_index, flat_map, Option, Some, None, refl, sym, ap, subst, ◌∙◌, arith}
+use Rattle.std.proofs.Common.{◌≡◌, ◌≢◌, ℕ, zero, suc, ◌+◌, ◌*◌, ◌/◌, ◌%◌, ◌^◌, ◌<◌, ⊎_elim, Bool, true, false, cond, not, ◌==◌, ◌&&◌, List, [], ◌∷◌, ◌++◌, length, slice_index, flat_map, Option, Some, None, refl, sym, ap, subst, ◌∙◌, arith}
 use Rattle.std.specs.List.{All, find}
 use Rattle.std.specs.Option.{is_some, unwrap_or, option_map, IfSome}
 use Rattle.std.specs.Char.{IsScalar}
 use Rattle.std.specs.Str.{bytes_eq}
 use lib.Utf8.{scalar_cases}
-use Rattle.std.proofs.lemmas.Bool.{cases_lt, cases_eq, cases_Bool, eq-eqb, ne_eqb, and_from, and_left, and_right, cond-true, cond-false}
+use Rattle.std.proofs.lemmas.Bool.{cases_eq, cases_Bool, eq-eqb, ne_eqb, and_from, and_left, and_right, cond-true, cond-false}
 use Rattle.std.proofs.lemmas.List.Elements.{All-head, All-tail, All-cons, All-nil, All-append}
 use Rattle.icu_normalizer_core.specs.declared.canonical.builder.GivenMapping.{GivenMapping}
 use Rattle.icu_normalizer_core.specs.BuiltIn.{built_in_step}
-use Rattle.icu_normalizer_core.specs.CanonicalLists.{AreTriples, ArePairs, listed_step, listed_pair, mapping, pair_first, pair_second, pair_composed}
+use Rattle.icu_normalizer_core.specs.CanonicalLists.{AreTriples, ArePairs, listed_step, listed_pair, mapping}
 use Rattle.icu_normalizer_core.specs.CanonicalMaps.{mapping_given, given_step, given_pair, composes}
 use Rattle.icu_normalizer_core.specs.GivenMaps.{IsOfScalars}
 use Rattle.icu_normalizer_core.specs.InOrder.{first_of, Rise, AreFirstsInOrder}

@@ -4,14 +4,40 @@ ghost use Rattle.std.specs.Prelude.{◌≡◌, ◌++◌, ◌∷◌, ◌&&◌, []
 ghost use Rattle.std.specs.Option.{is_some};
 ghost use Rattle.icu_normalizer_core.specs.CanonicalMaps.{CanonicalMaps};
 
+mod full_lists;
 mod in_order;
+mod list_words;
 mod lists;
+mod meaning;
 mod numbers;
 mod pairs;
 mod steps;
+mod trie;
+mod words;
 
 use std::alloc::{AllocError, Global};
 use std::marker::Model;
+
+/// Why no canonical tables are built.
+#[derive(Clone, Copy, Debug, PartialEq, Eq)]
+pub enum CanonicalDataBuildError {
+    /// The maps break a rule of canonical data (docs/RECORDS.md, C1 to C9), say two things of one character, or name
+    /// more than 150 characters.
+    Rules,
+    /// Memory was refused.
+    Memory,
+}
+
+impl From<AllocError> for CanonicalDataBuildError {
+    ghost use Rattle.std.specs.Prelude.{◌≡◌};
+    ghost use Rattle.icu_normalizer_core.specs.declared.canonical.builder.CanonicalDataBuildError.TheVariants.{Memory};
+
+    ghost from_gives = { λ _ error. error ≡ Memory };
+
+    fn from(_: AllocError) -> CanonicalDataBuildError {
+        CanonicalDataBuildError::Memory
+    }
+}
 
 /// A class that is given for a character.
 #[derive(Clone, Copy, Debug)]

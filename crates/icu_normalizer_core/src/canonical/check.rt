@@ -9,12 +9,12 @@ mod characters;
 mod forms;
 mod full_lists;
 mod full_start;
-mod left;
+pub(super) mod left;
 mod loops;
 mod marks;
 mod own;
 mod pairs;
-mod settle;
+pub(super) mod settle;
 mod values;
 
 use super::tables::{CanonicalFault, CanonicalTables};

@@ -200,7 +200,7 @@ fn settle_once(steps: &PackedVec<'_, u32>, settled: &mut [Option<Left>]) -> bool
 }
 
 /// What steps leave of the triples' characters, where they end. The only error is want of memory.
-pub(super) fn settle(
+pub(crate) fn settle(
     alloc: Global,
     steps: &PackedVec<'_, u32>,
 ) -> Result<Vec<Option<Left>>, AllocError>

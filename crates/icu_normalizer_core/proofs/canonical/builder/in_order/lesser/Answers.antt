@@ -1,4 +1,4 @@
-use Rattle.std.proofs.Common.{List, ℕ, Option, subst, sym, arith}
+use Rattle.std.proofs.Common.{ℕ, Option, subst, arith}
 use Rattle.icu_normalizer_core.specs.InOrder.{IsLeastFrom}
 use Rattle.icu_normalizer_core.proofs.builder.InOrderLemmas.{least_past, least_first, least_below, least_stays}
 use Rattle.icu_normalizer_core.proofs.canonical.builder.in_order.lesser.Goals as goal

@@ -1,4 +1,4 @@
-use Rattle.std.proofs.Common.{◌≡◌, ◌+◌, ◌-◌, ◌*◌, ◌<◌, ◌^◌, ℕ, List, length, ap, arith}
+use Rattle.std.proofs.Common.{◌≡◌, ◌+◌, ◌-◌, ◌*◌, ℕ, List, length, ap, arith}
 use Rattle.icu_normalizer_core.proofs.builder.ListWordLemmas.{list_stated}
 use Rattle.icu_normalizer_core.proofs.canonical.builder.lists.listed_word.Goals as goal
 

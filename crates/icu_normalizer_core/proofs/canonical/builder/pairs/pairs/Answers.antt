@@ -1,4 +1,4 @@
-use Rattle.std.proofs.Common.{◌≡◌, ℕ, ◌<◌, ◌^◌, List, All, flat_map, length, slice_index, sym, subst, ◌∙◌}
+use Rattle.std.proofs.Common.{ℕ, ◌^◌, List, flat_map, subst, ◌∙◌}
 use Rattle.icu_normalizer_core.specs.InOrder.{AreFirstsInOrder}
 use Rattle.icu_normalizer_core.specs.MapNumbers.{pair_numbers, IsPairNumber}
 use Rattle.icu_normalizer_core.proofs.builder.MapNumberLemmas.{all_pair_numbers, sorted_each, sorted_pairs, sorted_listed_pair}

@@ -1,7 +1,6 @@
-use Rattle.std.proofs.Common.{◌≡◌, ℕ, ◌<◌, ◌^◌, List, All, flat_map, length, slice_index, sym, subst, ◌∙◌, arith}
-use Rattle.icu_normalizer_core.specs.CanonicalLists.{AreTriples, listed_step}
+use Rattle.std.proofs.Common.{ℕ, ◌<◌, ◌^◌, List, All, flat_map, length, slice_index, sym, subst, ◌∙◌}
 use Rattle.icu_normalizer_core.specs.InOrder.{AreFirstsInOrder}
-use Rattle.icu_normalizer_core.specs.MapNumbers.{mapping_numbers, triple, IsMappingNumber}
+use Rattle.icu_normalizer_core.specs.MapNumbers.{mapping_numbers, IsMappingNumber}
 use Rattle.icu_normalizer_core.proofs.builder.MapNumberLemmas.{all_mapping_numbers, all_from, sorted_each, sorted_triples, sorted_listed}
 use Rattle.icu_normalizer_core.proofs.canonical.builder.steps.steps.Goals as goal
 

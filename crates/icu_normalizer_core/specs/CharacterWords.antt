@@ -1,0 +1,62 @@
+-- The words of characters in tables that are built: what each says of its character.
+use Rattle.std.specs.Prelude.{◌≡◌, ℕ, ◌+◌, ◌/◌, ◌<◌, ◌≤◌, ◌⊎◌, ◌^◌, true, cond, List, [], ◌∷◌, length, slice_index}
+use Rattle.std.specs.Option.{unwrap_or, IfSome}
+use Rattle.icu_codepointtrie.specs.Blocks.{different_blocks}
+use Rattle.icu_codepointtrie.specs.CodePointMaps.{CodePointMap, mapped}
+use Rattle.icu_normalizer_core.specs.declared.canonical.builder.GivenClass.{GivenClass}
+use Rattle.icu_normalizer_core.specs.declared.canonical.builder.list_words.ListWords.{ListWords}
+use Rattle.icu_normalizer_core.specs.BuiltIn.{built_in_class, is_syllable}
+use Rattle.icu_normalizer_core.specs.Canonical.{Leaves, IsFree}
+use Rattle.icu_normalizer_core.specs.CanonicalLists.{step_in}
+use Rattle.icu_normalizer_core.specs.CanonicalMaps.{given_class}
+use Rattle.icu_normalizer_core.specs.CanonicalWords.{is_word, is_inside, class_of_word, full_of_word, built_in_full}
+use Rattle.icu_normalizer_core.specs.ListWords.{StatesList}
+use Rattle.icu_normalizer_core.specs.Settled.{key_at, IsAmong}
+
+-- the class of a character: what is built in, else what is given
+abbrev pub class_with : List GivenClass → ℕ → ℕ
+class_with classes c = unwrap_or (built_in_class c) (given_class classes c)
+
+-- what a triple's word states is what mapping steps leave of its character
+abbrev pub IsListWord : List ℕ → List ℕ → ℕ → ℕ → Type 0
+IsListWord steps scalars24 c word = (list : List ℕ) × Leaves (step_in steps) (c ∷ []) list × StatesList [] scalars24 word list
+
+-- there is a word for each triple, and none is of a character with a built-in mapping
+pub record AreListWords (steps : List ℕ) (lists : ListWords) : Type 0 where
+  pub count : length lists.words.items ≡ length steps / 3
+  pub free : (place : ℕ) → place < length steps / 3 → IsFree (key_at steps place)
+  pub each : (place : ℕ) → place < length steps / 3 → IsListWord steps lists.scalars24.items (key_at steps place) (slice_index lists.words.items place)
+
+-- what mapping steps leave of a mapped character has over eight characters, where they end
+abbrev pub HasBadEnd : List ℕ → Type 0
+HasBadEnd steps =
+    (place : ℕ) × (place < length steps / 3) × ((list : List ℕ) → Leaves (step_in steps) (key_at steps place ∷ []) list → 8 < length list)
+
+-- each mapped character is a starter
+abbrev pub AreStarters : List GivenClass → List ℕ → Type 0
+AreStarters classes steps = (place : ℕ) → place < length steps / 3 → class_with classes (key_at steps place) ≡ 0
+
+-- the word says of the character its class, and what mapping steps leave of it
+pub record IsWordOf (k : ℕ) (steps scalars24 : List ℕ) (c word : ℕ) : Type 0 where
+  pub fits : word < 2 ^ 30
+  pub form : is_word c word ≡ true
+  pub inside : is_inside [] scalars24 word ≡ true
+  pub class : class_of_word c word ≡ k
+  pub full : IsFree c → Leaves (step_in steps) (c ∷ []) (full_of_word [] scalars24 c word)
+  pub built_in : IfSome (built_in_full c) (λ list. full_of_word [] scalars24 c word ≡ list)
+
+-- the characters with a built-in class other than 0, and those with a built-in mapping to other characters but syllables
+abbrev pub built_in_named : List ℕ
+built_in_named = 0x300 ∷ 0x301 ∷ 0x308 ∷ 0x313 ∷ 0x340 ∷ 0x341 ∷ 0x343 ∷ 0x344 ∷ 0xf71 ∷ 0xf72 ∷ 0xf73 ∷ 0xf74 ∷ 0xf75 ∷ 0xf80 ∷ 0xf81 ∷ 0x3099 ∷ 0x309a ∷ []
+
+-- the word of a character that isn't named: 1 of a syllable
+abbrev pub unnamed_word : ℕ → ℕ
+unnamed_word c = cond (is_syllable c) 1 0
+
+-- A map has the words of the characters of a list. Others have their words or are as none were set.
+pub record HasWords (classes : List GivenClass) (steps scalars24 named : List ℕ) (words : CodePointMap ℕ) : Type 0 where
+  pub default : words.default ≡ 0
+  pub among : (c : ℕ) → c ≤ 0x10_FFFF → IsAmong named c → IsWordOf (class_with classes c) steps scalars24 c (mapped words c)
+  pub others : (c : ℕ) → c ≤ 0x10_FFFF → IsWordOf (class_with classes c) steps scalars24 c (mapped words c) ⊎ (mapped words c ≡ unnamed_word c)
+  pub wide : different_blocks (λ n. n) 512 words.values ≤ 3 + length named
+  pub narrow : different_blocks (λ n. n) 16 words.values ≤ 3 + length named

@@ -1,0 +1,45 @@
+//! The words of the full lists of mapped characters.
+
+ghost use Rattle.std.specs.Prelude.{◌≡◌, ◌≤◌, ◌⊎◌, length, IfOk, IfErr};
+ghost use Rattle.icu_normalizer_core.specs.declared.canonical.builder.CanonicalDataBuildError.TheVariants.{Rules, Memory};
+ghost use Rattle.icu_normalizer_core.specs.ListWords.{StateSettled, AreLists, HasUnsettled};
+
+use super::CanonicalDataBuildError;
+use super::lists::list_word;
+use crate::canonical::check::left::Left;
+use std::alloc::Global;
+
+/// Words of full lists, one for each triple, and the characters of those that stand apart.
+#[derive(Drop)]
+pub(super) struct ListWords {
+    pub(super) scalars24: Vec<char>,
+    pub(super) words: Vec<u32>,
+}
+
+/// The words of the lists that are settled. `Rules` where one isn't settled or has over eight characters.
+pub(super) fn list_words(
+    alloc: Global,
+    settled: &[Option<Left>],
+) -> Result<ListWords, CanonicalDataBuildError>
+    requires lists { AreLists settled.now }
+    requires few { length settled.now ≤ 150 }
+    ensures states { IfOk result (λ lists. StateSettled lists.scalars24.items settled.now lists.words.items (length settled.now)) }
+    ensures refused { IfErr result (λ e. (e ≡ Memory) ⊎ ((e ≡ Rules) × HasUnsettled settled.now)) }
+{
+    let mut scalars24 = Vec::new(alloc);
+    let mut words = Vec::new(alloc);
+    for place in 0..settled.len() {
+        let Some(left) = settled[place] else {
+            return Err(CanonicalDataBuildError::Rules);
+        };
+        let list = &left.characters[..left.count];
+        if list.len() > 8 {
+            return Err(CanonicalDataBuildError::Rules);
+        }
+        let word = list_word(&mut scalars24, 0, list)?;
+        let Ok(()) = words.push(word) else {
+            return Err(CanonicalDataBuildError::Memory);
+        };
+    }
+    Ok(ListWords { scalars24, words })
+}

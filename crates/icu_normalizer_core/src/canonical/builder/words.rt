@@ -1,0 +1,87 @@
+//! The word of each character.
+
+ghost use Rattle.std.specs.Prelude.{◌≡◌, ◌↔◌, ◌*◌, ◌+◌, ◌/◌, ◌<◌, ◌^◌, false, IsTrue, length, All};
+ghost use Rattle.icu_normalizer_core.specs.BuiltIn.{is_syllable};
+ghost use Rattle.icu_normalizer_core.specs.CanonicalLists.{AreTriples};
+ghost use Rattle.icu_normalizer_core.specs.CanonicalMaps.{given_class};
+ghost use Rattle.icu_normalizer_core.specs.CharacterWords.{class_with, AreListWords, AreStarters, IsWordOf};
+
+use super::GivenClass;
+use super::list_words::ListWords;
+use crate::built_in::{built_in_class, is_singled_out, is_syllable};
+use crate::canonical::steps::triple_of;
+use icu_packed_vector::PackedVec;
+
+/// The class that is given for a character, 0 without one.
+fn given_class(classes: &[GivenClass], c: u32) -> u8
+    ensures { result ≡ given_class classes.now c }
+{
+    for given in classes {
+        if given.character as u32 == c {
+            return given.class;
+        }
+    }
+    0
+}
+
+/// The class of a character.
+fn class_with(classes: &[GivenClass], c: u32) -> u8
+    ensures { result ≡ class_with classes.now c }
+{
+    match built_in_class(c) {
+        Some(class) => class,
+        None => given_class(classes, c),
+    }
+}
+
+/// Whether the classes that are given are below 255.
+pub(super) fn are_classes(classes: &[GivenClass]) -> bool
+    ensures { IsTrue result ↔ All (λ g. g.class < 255) classes.now }
+{
+    for given in classes {
+        if given.class >= 255 {
+            return false;
+        }
+    }
+    true
+}
+
+/// Whether each mapped character is a starter.
+pub(super) fn are_starters(classes: &[GivenClass], steps: &PackedVec<'_, u32>) -> bool
+    ensures { IsTrue result ↔ AreStarters classes.now steps.now }
+{
+    for place in 0..steps.len() / 3 {
+        if class_with(classes, steps.at(3 * place)) != 0 {
+            return false;
+        }
+    }
+    true
+}
+
+/// The word of a character.
+pub(super) fn word_of(
+    classes: &[GivenClass],
+    steps: &PackedVec<'_, u32>,
+    lists: &ListWords,
+    c: u32,
+) -> u32
+    requires classes { All (λ g. g.class < 255) classes.now }
+    requires triples { AreTriples steps.now }
+    requires starters { AreStarters classes.now steps.now }
+    requires lists { AreListWords steps.now lists.now }
+    ensures says { IsWordOf (class_with classes.now c) steps.now lists.now.scalars24.items c result }
+    ensures syllable { result ≡ 0 → is_syllable c ≡ false }
+{
+    let class = class_with(classes, c) as u32;
+    if is_syllable(c) {
+        1
+    } else if is_singled_out(c) {
+        0xd900 + class
+    } else if let Some(place) = triple_of(steps, c) {
+        lists.words[place]
+    } else if class == 0 {
+        0
+    } else {
+        0xd800 + class
+    }
+}
