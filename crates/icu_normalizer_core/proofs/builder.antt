@@ -8,3 +8,4 @@ pub mod FullListWordLemmas
 pub mod BuiltMapLemmas
 pub mod AcceptedMapLemmas
 pub mod AcceptedMappingLemmas
+pub mod CoveredLemmas

@@ -1,5 +1,5 @@
 -- Mappings as numbers, and what is found among them.
-use Rattle.std.proofs.Common.{◌≡◌, ◌≢◌, ℕ, zero, suc, ◌+◌, ◌*◌, ◌/◌, ◌%◌, ◌^◌, ◌<◌, ⊎_elim, Bool, true, false, cond, not, ◌==◌, ◌&&◌, List, [], ◌∷◌, ◌++◌, length, slice_index, flat_map, Option, Some, None, refl, sym, ap, subst, ◌∙◌, arith}
+use Rattle.std.proofs.Common.{◌≡◌, ◌≢◌, ℕ, zero, suc, ◌+◌, ◌*◌, ◌/◌, ◌%◌, ◌^◌, ◌<◌, ◌≤◌, ⊎_elim, Bool, true, false, cond, not, ◌==◌, ◌&&◌, List, [], ◌∷◌, ◌++◌, length, slice_index, flat_map, Option, Some, None, refl, sym, ap, subst, ◌∙◌, arith}
 use Rattle.std.specs.List.{All, find}
 use Rattle.std.specs.Option.{is_some, unwrap_or, option_map, IfSome}
 use Rattle.std.specs.Char.{IsScalar}
@@ -98,6 +98,14 @@ all_mapping_numbers (g ∷ gs) all =
     one true = All-nil IsMappingNumber
     one false = All-cons IsMappingNumber (mapping_number g) [] (is_mapping_number g (All-head IsOfScalars g gs all)) (All-nil IsMappingNumber)
 
+pub numbers_few : (ms : List GivenMapping) → length (flat_map mapping_numbers ms) ≤ length ms
+numbers_few [] = omega arith
+numbers_few (g ∷ gs) = let h = numbers_few gs in at_most_one (is_some (built_in_step g.character)) h
+  where
+    at_most_one : (f : Bool) → length (flat_map mapping_numbers gs) ≤ length gs → length (cond f [] (mapping_number g ∷ []) ++ flat_map mapping_numbers gs) ≤ suc (length gs)
+    at_most_one true h = omega arith
+    at_most_one false h = omega arith
+
 -- ---- The first number of a key, behind the numbers of one mapping
 
 front_one : (divisor key n : ℕ) (f : Bool) (rest : List ℕ)
@@ -177,7 +185,7 @@ sorted_listed ms sorted c all order = listed_first sorted c ∙ ap mapping_at (o
     by None e = ap mapping_at (numbers_first ms c all e) ∙ read_found ms c (find (λ g. g.character == c) ms) all refl
     by (Some ds) e = ap mapping_at (numbers_fixed ms c all (ap (λ (o : Option (List ℕ)). is_some o) e))
 
-triples_length : (ns : List ℕ) → length (flat_map triple ns) ≡ 3 * length ns
+pub triples_length : (ns : List ℕ) → length (flat_map triple ns) ≡ 3 * length ns
 triples_length [] = refl
 triples_length (n ∷ ns) = let e = triples_length ns in omega arith
 
