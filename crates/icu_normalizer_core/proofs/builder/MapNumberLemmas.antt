@@ -13,6 +13,8 @@ use Rattle.icu_normalizer_core.specs.CanonicalLists.{AreTriples, ArePairs, liste
 use Rattle.icu_normalizer_core.specs.CanonicalMaps.{mapping_given, given_step, given_pair, composes}
 use Rattle.icu_normalizer_core.specs.GivenMaps.{IsOfScalars}
 use Rattle.icu_normalizer_core.specs.InOrder.{first_of, Rise, AreFirstsInOrder}
+use Rattle.icu_normalizer_core.specs.Settled.{key_at}
+use Rattle.icu_normalizer_core.proofs.TripleLemmas.{listed_of}
 use Rattle.icu_normalizer_core.specs.MapNumbers.{second_code, mapping_number, mapping_numbers, pair_number, pair_numbers, triple, IsMappingNumber, IsPairNumber}
 
 pub scalar_below : (c : ℕ) → IsScalar c → c < 0x110000
@@ -221,6 +223,25 @@ sorted_triples ns rise each =
           let at = (triple_here ns i within).second in
           subst IsScalar (sym at) ((each i within).second (λ e. ne (at ∙ e)));
     }
+
+mapping_some : (a b : ℕ) → mapping a b ≢ []
+mapping_some a b e = ⊎_elim
+    (λ t. let off : a ∷ [] ≡ [] = sym (cond-true (b == 0x110000) (a ∷ []) (a ∷ b ∷ []) t) ∙ e in absurd cc)
+    (λ f. let off : a ∷ b ∷ [] ≡ [] = sym (cond-false (b == 0x110000) (a ∷ []) (a ∷ b ∷ []) f) ∙ e in absurd cc)
+    (cases_Bool (b == 0x110000))
+
+-- no triple is of a character with a built-in mapping
+pub keys_free : (ms : List GivenMapping) (steps : List ℕ) → AreTriples steps → ((c : ℕ) → listed_step steps c ≡ cond (is_some (built_in_step c)) [] (given_step ms c))
+    → (place : ℕ) → place < length steps / 3 → built_in_step (key_at steps place) ≡ None
+keys_free ms steps t listed place h = by (built_in_step (key_at steps place)) refl
+  where
+    by : (o : Option (List ℕ)) → built_in_step (key_at steps place) ≡ o → built_in_step (key_at steps place) ≡ None
+    by None e = e
+    by (Some ds) e =
+        let inside : 3 * place + 2 < length steps = let r = t.whole in omega arith in
+        let is = listed_of steps (key_at steps place) place t (inside, refl) in
+        let none = listed (key_at steps place) ∙ ap (λ (o : Option (List ℕ)). cond (is_some o) [] (given_step ms (key_at steps place))) e in
+        absurd (mapping_some _ _ (sym is ∙ none))
 
 -- ---- Composed pairs
 
