@@ -9,3 +9,4 @@ pub mod BuiltMapLemmas
 pub mod AcceptedMapLemmas
 pub mod AcceptedMappingLemmas
 pub mod CoveredLemmas
+pub mod KeptRuleLemmas

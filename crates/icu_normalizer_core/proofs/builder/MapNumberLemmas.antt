@@ -224,7 +224,7 @@ sorted_triples ns rise each =
           subst IsScalar (sym at) ((each i within).second (λ e. ne (at ∙ e)));
     }
 
-mapping_some : (a b : ℕ) → mapping a b ≢ []
+pub mapping_some : (a b : ℕ) → mapping a b ≢ []
 mapping_some a b e = ⊎_elim
     (λ t. let off : a ∷ [] ≡ [] = sym (cond-true (b == 0x110000) (a ∷ []) (a ∷ b ∷ []) t) ∙ e in absurd cc)
     (λ f. let off : a ∷ b ∷ [] ≡ [] = sym (cond-false (b == 0x110000) (a ∷ []) (a ∷ b ∷ []) f) ∙ e in absurd cc)
