@@ -12,3 +12,5 @@ pub mod FullListWordLemmas
 pub mod BuiltMapLemmas
 pub mod AcceptedMapLemmas
 pub mod AcceptedMappingLemmas
+pub mod CoveredLemmas
+pub mod KeptRuleLemmas

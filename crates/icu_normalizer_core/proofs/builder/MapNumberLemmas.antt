@@ -1,5 +1,5 @@
 -- Mappings as numbers, and what is found among them.
-use Rattle.std.proofs.Common.{◌≡◌, ◌≢◌, ℕ, zero, suc, ◌+◌, ◌*◌, ◌/◌, ◌%◌, ◌^◌, ◌<◌, ⊎_elim, Bool, true, false, cond, not, ◌==◌, ◌&&◌, List, [], ◌∷◌, ◌++◌, length, slice_index, flat_map, Option, Some, None, refl, sym, ap, subst, ◌∙◌, arith}
+use Rattle.std.proofs.Common.{◌≡◌, ◌≢◌, ℕ, zero, suc, ◌+◌, ◌*◌, ◌/◌, ◌%◌, ◌^◌, ◌<◌, ◌≤◌, ⊎_elim, Bool, true, false, cond, not, ◌==◌, ◌&&◌, List, [], ◌∷◌, ◌++◌, length, slice_index, flat_map, Option, Some, None, refl, sym, ap, subst, ◌∙◌, arith}
 use Rattle.std.specs.List.{All, find}
 use Rattle.std.specs.Option.{is_some, unwrap_or, option_map, IfSome}
 use Rattle.std.specs.Char.{IsScalar}
@@ -13,6 +13,8 @@ use Rattle.icu_normalizer_core.specs.CanonicalLists.{AreTriples, ArePairs, liste
 use Rattle.icu_normalizer_core.specs.CanonicalMaps.{mapping_given, given_step, given_pair, composes}
 use Rattle.icu_normalizer_core.specs.GivenMaps.{IsOfScalars}
 use Rattle.icu_normalizer_core.specs.InOrder.{first_of, Rise, AreFirstsInOrder}
+use Rattle.icu_normalizer_core.specs.Settled.{key_at}
+use Rattle.icu_normalizer_core.proofs.TripleLemmas.{listed_of}
 use Rattle.icu_normalizer_core.specs.MapNumbers.{second_code, mapping_number, mapping_numbers, pair_number, pair_numbers, triple, IsMappingNumber, IsPairNumber}
 
 pub scalar_below : (c : ℕ) → IsScalar c → c < 0x110000
@@ -98,6 +100,14 @@ all_mapping_numbers (g ∷ gs) all =
     one true = All-nil IsMappingNumber
     one false = All-cons IsMappingNumber (mapping_number g) [] (is_mapping_number g (All-head IsOfScalars g gs all)) (All-nil IsMappingNumber)
 
+pub numbers_few : (ms : List GivenMapping) → length (flat_map mapping_numbers ms) ≤ length ms
+numbers_few [] = omega arith
+numbers_few (g ∷ gs) = let h = numbers_few gs in at_most_one (is_some (built_in_step g.character)) h
+  where
+    at_most_one : (f : Bool) → length (flat_map mapping_numbers gs) ≤ length gs → length (cond f [] (mapping_number g ∷ []) ++ flat_map mapping_numbers gs) ≤ suc (length gs)
+    at_most_one true h = omega arith
+    at_most_one false h = omega arith
+
 -- ---- The first number of a key, behind the numbers of one mapping
 
 front_one : (divisor key n : ℕ) (f : Bool) (rest : List ℕ)
@@ -177,7 +187,7 @@ sorted_listed ms sorted c all order = listed_first sorted c ∙ ap mapping_at (o
     by None e = ap mapping_at (numbers_first ms c all e) ∙ read_found ms c (find (λ g. g.character == c) ms) all refl
     by (Some ds) e = ap mapping_at (numbers_fixed ms c all (ap (λ (o : Option (List ℕ)). is_some o) e))
 
-triples_length : (ns : List ℕ) → length (flat_map triple ns) ≡ 3 * length ns
+pub triples_length : (ns : List ℕ) → length (flat_map triple ns) ≡ 3 * length ns
 triples_length [] = refl
 triples_length (n ∷ ns) = let e = triples_length ns in omega arith
 
@@ -213,6 +223,25 @@ sorted_triples ns rise each =
           let at = (triple_here ns i within).second in
           subst IsScalar (sym at) ((each i within).second (λ e. ne (at ∙ e)));
     }
+
+pub mapping_some : (a b : ℕ) → mapping a b ≢ []
+mapping_some a b e = ⊎_elim
+    (λ t. let off : a ∷ [] ≡ [] = sym (cond-true (b == 0x110000) (a ∷ []) (a ∷ b ∷ []) t) ∙ e in absurd cc)
+    (λ f. let off : a ∷ b ∷ [] ≡ [] = sym (cond-false (b == 0x110000) (a ∷ []) (a ∷ b ∷ []) f) ∙ e in absurd cc)
+    (cases_Bool (b == 0x110000))
+
+-- no triple is of a character with a built-in mapping
+pub keys_free : (ms : List GivenMapping) (steps : List ℕ) → AreTriples steps → ((c : ℕ) → listed_step steps c ≡ cond (is_some (built_in_step c)) [] (given_step ms c))
+    → (place : ℕ) → place < length steps / 3 → built_in_step (key_at steps place) ≡ None
+keys_free ms steps t listed place h = by (built_in_step (key_at steps place)) refl
+  where
+    by : (o : Option (List ℕ)) → built_in_step (key_at steps place) ≡ o → built_in_step (key_at steps place) ≡ None
+    by None e = e
+    by (Some ds) e =
+        let inside : 3 * place + 2 < length steps = let r = t.whole in omega arith in
+        let is = listed_of steps (key_at steps place) place t (inside, refl) in
+        let none = listed (key_at steps place) ∙ ap (λ (o : Option (List ℕ)). cond (is_some o) [] (given_step ms (key_at steps place))) e in
+        absurd (mapping_some _ _ (sym is ∙ none))
 
 -- ---- Composed pairs
 

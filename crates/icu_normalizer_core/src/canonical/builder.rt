@@ -1,4 +1,4 @@
-//! Canonical tables made of classes and mappings that are given one by one.
+//! Canonical tables made of classes and mappings that are given one by one: what is given, and the parts of the tables.
 
 ghost use Rattle.std.specs.Prelude.{◌≡◌, ◌++◌, ◌∷◌, ◌&&◌, [], OnOk, OnErr};
 ghost use Rattle.std.specs.Option.{is_some};
@@ -86,7 +86,7 @@ impl CanonicalDataBuilder {
     }
 
     /// Gives a character its canonical combining class. Nothing is refused here but for want of memory, where
-    /// nothing changes: `build` asks whether the maps keep the rules.
+    /// nothing changes.
     pub fn class(&mut self, c: char, class: u8) -> Result<(), AllocError>
         ensures classes { OnOk result (self.new.classes ≡ self.old.classes ++ record { character = c; class = class } ∷ []) }
         ensures mappings { self.new.mappings ≡ self.old.mappings }
@@ -100,8 +100,7 @@ impl CanonicalDataBuilder {
     }
 
     /// Gives a character its canonical mapping, to one character or to two, and whether the two compose to it; one
-    /// alone never does. Nothing is refused here but for want of memory, where nothing changes: `build` asks
-    /// whether the maps keep the rules.
+    /// alone never does. Nothing is refused here but for want of memory, where nothing changes.
     pub fn map(
         &mut self,
         c: char,

@@ -1,11 +1,13 @@
 //! The mappings of tables, from those that were given.
 
-ghost use Rattle.std.specs.Prelude.{◌≡◌, ℕ, cond, [], IfOk, All};
+ghost use Rattle.std.specs.Prelude.{◌≡◌, ◌*◌, ◌/◌, ◌<◌, ◌≤◌, ℕ, cond, [], length, IfOk, All};
 ghost use Rattle.std.specs.Option.{is_some};
 ghost use Rattle.icu_normalizer_core.specs.BuiltIn.{built_in_step};
+ghost use Rattle.icu_normalizer_core.specs.Canonical.{IsFree};
 ghost use Rattle.icu_normalizer_core.specs.CanonicalLists.{AreTriples, listed_step};
 ghost use Rattle.icu_normalizer_core.specs.CanonicalMaps.{given_step};
 ghost use Rattle.icu_normalizer_core.specs.GivenMaps.{IsOfScalars};
+ghost use Rattle.icu_normalizer_core.specs.Settled.{key_at};
 
 use super::GivenMapping;
 use super::in_order::in_order;
@@ -17,6 +19,8 @@ pub(super) fn steps(alloc: Global, mappings: &[GivenMapping]) -> Result<Vec<u32>
     requires { All IsOfScalars mappings.now }
     ensures triples { IfOk result (λ steps. AreTriples steps.items) }
     ensures listed { IfOk result (λ steps. (c : ℕ) → listed_step steps.items c ≡ cond (is_some (built_in_step c)) [] (given_step mappings.now c)) }
+    ensures few { IfOk result (λ steps. length steps.items ≤ 3 * length mappings.now) }
+    ensures free { IfOk result (λ steps. (place : ℕ) → place < length steps.items / 3 → IsFree (key_at steps.items place)) }
 {
     let numbers = mapping_numbers(alloc, mappings)?;
     let sorted = in_order(alloc, numbers.as_slice(), 0x400_0000_0000)?;
