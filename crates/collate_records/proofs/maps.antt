@@ -1,0 +1,3 @@
+-- what lines say, as maps of canonical data
+pub mod MapLineLemmas
+pub mod MapMeaningLemmas
