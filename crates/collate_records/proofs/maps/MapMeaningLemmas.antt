@@ -95,3 +95,35 @@ composes_same a b c d e consistent = by (built_in_step c) refl
         let free : (is_some (built_in_step c) || is_some (built_in_compatibility_step c)) ≡ false = line_free c (d ∷ e ∷ []) false consistent h in
         let none : is_some (built_in_compatibility_step c) ≡ false = sym (ap (λ (o : Option (List ℕ)). is_some o || is_some (built_in_compatibility_step c)) h) ∙ free in
         ap (λ (p : Bool). p && true) same_pair ∙ sym (ap (λ (p : Bool). ((a == d) && (b == e)) && not p) none)
+
+given_pair-maps : (a b : ℕ) (records : List Record) → All MapsToFew records → All IsConsistent records
+    → given_pair (flat_map mappings_in records) a b ≡ first_found (composed_in a b) records
+given_pair-maps a b [] few consistent = refl
+given_pair-maps a b (nothing ∷ rs) few consistent = given_pair-maps a b rs (All-tail MapsToFew _ rs few) (All-tail IsConsistent _ rs consistent)
+given_pair-maps a b (class d k ∷ rs) few consistent = given_pair-maps a b rs (All-tail MapsToFew _ rs few) (All-tail IsConsistent _ rs consistent)
+given_pair-maps a b (mapping d [] x ∷ rs) few consistent = absurd (let h = All-head MapsToFew (mapping d [] x) rs few in omega (arith, h.1))
+given_pair-maps a b (mapping d (e ∷ []) x ∷ rs) few consistent = given_pair-maps a b rs (All-tail MapsToFew _ rs few) (All-tail IsConsistent _ rs consistent)
+given_pair-maps a b (mapping d (e ∷ f ∷ []) true ∷ rs) few consistent = given_pair-maps a b rs (All-tail MapsToFew _ rs few) (All-tail IsConsistent _ rs consistent)
+given_pair-maps a b (mapping d (e ∷ f ∷ []) false ∷ rs) few consistent =
+    pair_by _ _ (record { character = d; first = e; second = Some f; is_composed = true })
+    (find (composes a b) (flat_map mappings_in rs)) (first_found (composed_in a b) rs) (composes_same a b d e f (All-head IsConsistent _ rs consistent))
+    (given_pair-maps a b rs (All-tail MapsToFew _ rs few) (All-tail IsConsistent _ rs consistent))
+given_pair-maps a b (mapping d (e ∷ f ∷ g ∷ ds) x ∷ rs) few consistent = absurd (let h = All-head MapsToFew (mapping d (e ∷ f ∷ g ∷ ds) x) rs few in omega (arith, h.0))
+given_pair-maps a b (compatibility d ds ∷ rs) few consistent = given_pair-maps a b rs (All-tail MapsToFew _ rs few) (All-tail IsConsistent _ rs consistent)
+given_pair-maps a b (weights l p t es ∷ rs) few consistent = given_pair-maps a b rs (All-tail MapsToFew _ rs few) (All-tail IsConsistent _ rs consistent)
+given_pair-maps a b (range r ∷ rs) few consistent = given_pair-maps a b rs (All-tail MapsToFew _ rs few) (All-tail IsConsistent _ rs consistent)
+given_pair-maps a b (digit d v ∷ rs) few consistent = given_pair-maps a b rs (All-tail MapsToFew _ rs few) (All-tail IsConsistent _ rs consistent)
+given_pair-maps a b (setting s ∷ rs) few consistent = given_pair-maps a b rs (All-tail MapsToFew _ rs few) (All-tail IsConsistent _ rs consistent)
+
+pub pair_of-maps : (records : List Record) → All MapsToFew records → All IsConsistent records → (a b : ℕ) → pair_of_maps (maps_of records) a b ≡ pair_of records a b
+pair_of-maps records few consistent a b =
+    ap (λ (o : Option ℕ). elim (syllable_of a b) as (λ _. Option ℕ) [ Some c ↦ Some c | None ↦ o ]) (given_pair-maps a b records few consistent)
+
+-- the maps of lines mean what the lines mean
+pub maps_mean : (records : List Record) → All MapsToFew records → All IsConsistent records → IsDecomposing (canonical_of records) → AreMeaning (maps_of records) (canonical_of records)
+maps_mean records few consistent decomposing = record {
+  class = λ c scalar. sym (class_of-maps records c);
+  step = λ c scalar. sym (step_of-maps records few consistent c);
+  full = λ c scalar. left_same (step_of records) (step_of_maps (maps_of records)) (c ∷ []) _ (λ d. sym (step_of-maps records few consistent d)) (decomposing.ends c scalar);
+  pair = λ a b first second. sym (pair_of-maps records few consistent a b);
+}
