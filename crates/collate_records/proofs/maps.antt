@@ -2,3 +2,6 @@
 pub mod AcceptedMapLemmas
 pub mod MapLineLemmas
 pub mod MapMeaningLemmas
+pub mod MapNameLemmas
+pub mod MapPairLemmas
+pub mod MapRuleLemmas

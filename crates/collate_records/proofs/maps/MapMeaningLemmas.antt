@@ -77,7 +77,7 @@ pair_by true false g later after e h = absurd (cc)
 pair_by false true g later after e h = absurd (cc)
 
 -- a line that is composed is so in the maps
-composes_same : (a b c d e : ℕ) → IsConsistent (mapping c (d ∷ e ∷ []) false)
+pub composes_same : (a b c d e : ℕ) → IsConsistent (mapping c (d ∷ e ∷ []) false)
     → (bytes_eq (d ∷ e ∷ []) (a ∷ b ∷ []) && not (is_some (built_in_step c))) ≡ ((a == d) && (b == e) && not (is_built_in c))
 composes_same a b c d e consistent = by (built_in_step c) refl
   where
