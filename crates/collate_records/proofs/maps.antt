@@ -1,5 +1,6 @@
 -- what lines say, as maps of canonical data
 pub mod AcceptedMapLemmas
+pub mod ComposedAlikeLemmas
 pub mod MapLineLemmas
 pub mod MapMeaningLemmas
 pub mod MapNameLemmas

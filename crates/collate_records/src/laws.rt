@@ -2,7 +2,7 @@
 
 ghost use Rattle.std.specs.Prelude.{ℕ, List};
 ghost use Rattle.icu_normalizer_core.specs.Canonical.{IsComposing, IsDecomposing};
-ghost use Rattle.icu_normalizer_core.specs.CanonicalMaps.{AreMeaning};
+ghost use Rattle.icu_normalizer_core.specs.CanonicalMaps.{AreMeaning, KeepRules};
 ghost use Rattle.collate_records.specs.declared.rule.Rule.TheVariants.{C1, C2, C3, C4, C9};
 ghost use Rattle.collate_records.specs.Record.{Record};
 ghost use Rattle.collate_records.specs.Maps.{maps_of};
@@ -74,4 +74,12 @@ pub fn accepted_files_decompose()
 #[tactic(auto, using(crate::proofs::maps::AcceptedMapLemmas::accepted_maps_mean))]
 pub fn accepted_records_mean_their_maps()
     ensures { (records : List Record) → AreAccepted records → AreMeaning (maps_of records) (canonical_of records) }
+{}
+
+/// The classes and the mappings that accepted lines give keep, as maps, the rules of canonical data, so that tables of
+/// them can be built (docs/RECORDS.md, `C1` to `C9`).
+///
+/// It computes nothing: its contract is the law.
+pub fn accepted_records_keep_the_rules_of_maps()
+    ensures { (records : List Record) → AreAccepted records → KeepRules (maps_of records) }
 {}

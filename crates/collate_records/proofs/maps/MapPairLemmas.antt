@@ -45,7 +45,6 @@ two_pair a b c d e false consistent h =
 
 -- ---- The second of a pair
 
-
 good_second : (a b : ℕ) (o : Option (ℕ × ℕ)) → o ≡ Some (a, b) → (HasBadSecond o → ⊥) → (0x300 ≤ b) × (is_within 0x1161 0x11ff b ≡ false)
 good_second a b o e good =
     let none : HasBadSecond (Some (a, b)) → ⊥ = subst (λ (p : Option (ℕ × ℕ)). HasBadSecond p → ⊥) e good in

@@ -35,8 +35,10 @@ good_class : (c k : ℕ) → (IsBadClass (class c k) → ⊥) → IsGoodClass (r
 good_class c k good =
     ⊎_elim
     (λ same. inr same)
-    (λ apart. inl (⊎_elim (λ above. above) (λ none. absurd (good (inl (omega arith), apart))) (cases_lt 0 k),
-      ⊎_elim (λ past. absurd (good (inr past, apart))) (λ within. within) (cases_lt 254 k)))
+    (λ apart. inl (
+      ⊎_elim (λ above. above) (λ none. absurd (good (inl (omega arith), apart))) (cases_lt 0 k),
+      ⊎_elim (λ past. absurd (good (inr past, apart))) (λ within. within) (cases_lt 254 k),
+    ))
     (either_class (built_in_class c) k)
 
 line_classes : (r : Record) → (IsBadClass r → ⊥) → All IsGoodClass (classes_in r)
