@@ -1,5 +1,5 @@
 -- The classes and the mappings that lines give, as maps of which canonical data are made.
-use Rattle.std.specs.Prelude.{Bool, not, false, List, [], ◌∷◌, flat_map, Some, None}
+use Rattle.std.specs.Prelude.{not, false, List, [], ◌∷◌, flat_map, Some, None}
 use Rattle.icu_normalizer_core.specs.declared.canonical.builder.GivenClass.{GivenClass}
 use Rattle.icu_normalizer_core.specs.declared.canonical.builder.GivenMapping.{GivenMapping}
 use Rattle.icu_normalizer_core.specs.CanonicalMaps.{CanonicalMaps}

@@ -1,5 +1,5 @@
 -- The maps of accepted lines.
-use Rattle.std.proofs.Common.{◌≡◌, ◌≢◌, ℕ, ◌<◌, ◌≤◌, List, [], ◌∷◌, All, Option, Some, length, flat_map, refl, sym, ap, ◌∙◌, arith}
+use Rattle.std.proofs.Common.{◌≡◌, ◌≢◌, ℕ, ◌<◌, ◌≤◌, List, [], ◌∷◌, All, Option, length, flat_map, refl, sym, ap, ◌∙◌, arith}
 use Rattle.std.specs.Char.{IsScalar}
 use Rattle.std.specs.Option.{unwrap_or}
 use lib.Utf8.{low_scalar}
@@ -12,9 +12,8 @@ use Rattle.icu_normalizer_core.proofs.builder.AcceptedMapsMeaningLemmas.{one_mea
 use Rattle.collate_records.specs.declared.rule.Rule.{Rule}
 use Rattle.collate_records.specs.declared.rule.Rule.TheVariants.{Limit, C3, C5, C6, C8, C9, V14}
 use Rattle.collate_records.specs.Record.{Record, nothing, class, mapping, compatibility, weights, range, digit, setting}
-use Rattle.collate_records.specs.Known.{known_record_of}
 use Rattle.collate_records.specs.Accepted.{AreAccepted, IsSaid}
-use Rattle.collate_records.specs.Meaning.{canonical_of, class_of, step_of, full_of}
+use Rattle.collate_records.specs.Meaning.{canonical_of, step_of, full_of}
 use Rattle.collate_records.specs.Maps.{mappings_in, maps_of}
 use Rattle.collate_records.specs.Offenders.{NoneOffends}
 use Rattle.collate_records.specs.Rules.{IsBadClass, IsBadlyComposed, MapsHangul}

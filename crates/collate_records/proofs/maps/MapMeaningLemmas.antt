@@ -1,8 +1,7 @@
 -- What the maps of lines mean is what the lines mean.
-use Rattle.std.proofs.Common.{◌≡◌, ◌≢◌, ℕ, ◌<◌, ⊎_elim, Bool, true, false, not, cond, ◌||◌, ◌&&◌, ◌==◌, eqb, List, [], ◌∷◌, length, All, Option, Some, None, refl, sym, ap, ◌∙◌, arith, subst, get_or}
+use Rattle.std.proofs.Common.{◌≡◌, ℕ, ◌<◌, ⊎_elim, Bool, true, false, not, cond, ◌||◌, ◌&&◌, ◌==◌, List, [], ◌∷◌, length, All, Option, Some, None, refl, sym, ap, ◌∙◌, arith, subst, get_or}
 use Rattle.std.specs.Prelude.{flat_map}
 use Rattle.std.specs.List.{find}
-use Rattle.std.specs.Bool.{IsTrue}
 use Rattle.std.specs.Option.{is_some, unwrap_or}
 use Rattle.std.specs.Str.{bytes_eq}
 use Rattle.std.proofs.lemmas.Bool.{cases_Bool}
@@ -10,12 +9,12 @@ use Rattle.std.proofs.lemmas.Bool.Decides.{nat_tests}
 use Rattle.std.proofs.lemmas.Option.{unwrap_or-slice_get}
 use Rattle.std.proofs.lemmas.List.Elements.{All-head, All-tail, All-get_or}
 use Rattle.icu_normalizer_core.specs.declared.canonical.builder.GivenMapping.{GivenMapping}
-use Rattle.icu_normalizer_core.specs.BuiltIn.{built_in_class, built_in_step, built_in_compatibility_step, is_syllable, syllable_of}
+use Rattle.icu_normalizer_core.specs.BuiltIn.{built_in_class, built_in_step, built_in_compatibility_step, syllable_of}
 use Rattle.icu_normalizer_core.specs.Canonical.{IsDecomposing}
-use Rattle.icu_normalizer_core.specs.CanonicalMaps.{AreMeaning, given_class, given_step, given_pair, composes, class_of as class_of_maps, step_of as step_of_maps, pair_of as pair_of_maps}
+use Rattle.icu_normalizer_core.specs.CanonicalMaps.{AreMeaning, given_step, given_pair, composes, class_of as class_of_maps, step_of as step_of_maps, pair_of as pair_of_maps}
 use Rattle.icu_normalizer_core.proofs.builder.AcceptedMapsMeaningLemmas.{left_same}
 use Rattle.collate_records.specs.Record.{Record, nothing, class, mapping, compatibility, weights, range, digit, setting}
-use Rattle.collate_records.specs.Meaning.{first_found, class_in, mapping_in, composed_in, is_built_in, class_of, step_of, pair_of, canonical_of}
+use Rattle.collate_records.specs.Meaning.{first_found, mapping_in, composed_in, is_built_in, class_of, step_of, pair_of, canonical_of}
 use Rattle.collate_records.specs.Maps.{mappings_in, maps_of}
 use Rattle.collate_records.specs.Rules.{record_at, Contradicts, is_built_in_record}
 use Rattle.collate_records.proofs.maps.MapLineLemmas.{MapsToFew, given_class-maps, given_step-maps}

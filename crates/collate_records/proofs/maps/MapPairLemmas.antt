@@ -1,25 +1,21 @@
 -- Composed pairs of maps: the line that gives one.
-use Rattle.std.proofs.Common.{◌≡◌, ◌≢◌, ℕ, ◌<◌, ◌≤◌, ◌+◌, ◌⊎◌, inl, inr, ⊎_elim, Bool, true, false, not, cond, ◌||◌, ◌&&◌, ◌==◌, eqb, List, [], ◌∷◌, length, All, Option, Some, None, refl, sym, ap, ◌∙◌, arith, subst, get_or, take}
+use Rattle.std.proofs.Common.{◌≡◌, ◌≢◌, ℕ, ◌<◌, ◌≤◌, inl, inr, ⊎_elim, Bool, true, false, not, cond, ◌&&◌, ◌==◌, List, [], ◌∷◌, length, All, Option, Some, None, refl, sym, ap, ◌∙◌, arith, subst, get_or, take}
 use Rattle.std.specs.Prelude.{flat_map}
-use Rattle.std.specs.List.{list_any, Contains}
-use Rattle.std.specs.Bool.{IsTrue}
-use Rattle.std.specs.Option.{is_some}
-use Rattle.std.specs.Str.{bytes_eq}
+use Rattle.std.specs.List.{Contains}
 use Rattle.std.proofs.lemmas.Bool.{cases_eq, cases_lt, eqb-true, eq-eqb, and_parts, false_from_ne_true, false≢true}
-use Rattle.std.proofs.lemmas.Bool.Decides.{nat_tests}
 use Rattle.std.proofs.lemmas.Option.{unwrap_or-slice_get}
 use Rattle.std.proofs.lemmas.List.{get_or-take, length-take}
 use Rattle.std.proofs.lemmas.List.Folds.{list_any_at}
-use Rattle.std.proofs.lemmas.List.Elements.{All-contains, All-nil, All-cons, All-weaker}
+use Rattle.std.proofs.lemmas.List.Elements.{All-contains}
 use Rattle.icu_normalizer_core.specs.declared.canonical.builder.GivenMapping.{GivenMapping}
-use Rattle.icu_normalizer_core.specs.BuiltIn.{built_in_step, is_within}
+use Rattle.icu_normalizer_core.specs.BuiltIn.{is_within}
 use Rattle.icu_normalizer_core.specs.CanonicalMaps.{composes, ComposeAlike}
-use Rattle.collate_records.specs.Record.{Record, nothing, class, mapping, compatibility, weights, range, digit, setting}
+use Rattle.collate_records.specs.Record.{Record, nothing, mapping}
 use Rattle.collate_records.specs.Meaning.{is_built_in}
 use Rattle.collate_records.specs.Maps.{mappings_in}
 use Rattle.collate_records.specs.Rules.{record_at, IsBadlyComposed, HasBadSecond, RepeatsPair, is_same_pair, pair_in}
 use Rattle.collate_records.specs.Tables.{mapping_key}
-use Rattle.collate_records.proofs.maps.MapLineLemmas.{All-flat_map, each_line}
+use Rattle.collate_records.proofs.maps.MapLineLemmas.{each_line}
 use Rattle.collate_records.proofs.maps.MapMeaningLemmas.{IsConsistent, composes_same}
 use Rattle.collate_records.proofs.maps.MapRuleLemmas.{all_mappings}
 

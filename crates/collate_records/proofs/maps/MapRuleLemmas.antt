@@ -1,25 +1,24 @@
 -- Maps of lines that keep the rules of single lines keep the same rules of maps.
-use Rattle.std.proofs.Common.{◌≡◌, ◌≢◌, ℕ, ◌<◌, ◌≤◌, ◌+◌, ◌⊎◌, inl, inr, ⊎_elim, Bool, true, false, not, cond, ◌||◌, ◌&&◌, ◌==◌, List, [], ◌∷◌, length, All, Option, Some, None, IfSome, refl, sym, ap, ◌∙◌, arith, subst, get_or, take}
+use Rattle.std.proofs.Common.{◌≡◌, ◌≢◌, ℕ, ◌<◌, ◌≤◌, ◌⊎◌, inl, inr, ⊎_elim, Bool, true, false, not, cond, ◌||◌, ◌&&◌, ◌==◌, List, [], ◌∷◌, length, All, Option, Some, None, IfSome, refl, sym, ap, ◌∙◌, arith}
 use Rattle.std.specs.Prelude.{flat_map}
-use Rattle.std.specs.List.{list_any, Contains}
+use Rattle.std.specs.List.{list_any}
 use Rattle.std.specs.Bool.{IsTrue}
-use Rattle.std.specs.Option.{is_some, unwrap_or}
+use Rattle.std.specs.Option.{is_some}
 use Rattle.std.specs.Str.{bytes_eq}
-use Rattle.std.proofs.lemmas.Bool.{cases_Bool, cases_eq, cases_lt, eqb-true, eq-eqb, ne_eqb, and_parts, false_from_ne_true, false≢true}
+use Rattle.std.proofs.lemmas.Bool.{cases_Bool, cases_eq, cases_lt, ne_eqb, false_from_ne_true, false≢true}
 use Rattle.std.proofs.lemmas.Bool.Decides.{nat_tests}
 use Rattle.std.proofs.lemmas.Option.{none-some, same_Some}
 use Rattle.std.proofs.lemmas.List.Elements.{All-nil, All-cons, All-weaker}
 use Rattle.icu_normalizer_core.specs.declared.canonical.builder.GivenClass.{GivenClass}
 use Rattle.icu_normalizer_core.specs.declared.canonical.builder.GivenMapping.{GivenMapping}
-use Rattle.icu_normalizer_core.specs.BuiltIn.{built_in_class, built_in_step, is_syllable, is_jamo, is_within}
-use Rattle.icu_normalizer_core.specs.CanonicalMaps.{mapping_given, composes, is_built_in_mapping, is_built_in as is_built_in_map}
+use Rattle.icu_normalizer_core.specs.BuiltIn.{built_in_class, built_in_step, is_syllable, is_jamo}
+use Rattle.icu_normalizer_core.specs.CanonicalMaps.{mapping_given, is_built_in_mapping, is_built_in as is_built_in_map}
 use Rattle.icu_normalizer_core.proofs.BuiltInFacts.{syllable_cases, syllable_mapped}
 use Rattle.collate_records.specs.Record.{Record, nothing, class, mapping, compatibility, weights, range, digit, setting}
-use Rattle.collate_records.specs.Meaning.{is_built_in}
 use Rattle.collate_records.specs.Maps.{classes_in, mappings_in}
-use Rattle.collate_records.specs.Rules.{record_at, Contradicts, is_built_in_record, IsBadClass, IsBadlyComposed, HasBadSecond, pair_in, MapsHangul, has_hangul}
-use Rattle.collate_records.proofs.maps.MapLineLemmas.{MapsToFew, All-flat_map}
-use Rattle.collate_records.proofs.maps.MapMeaningLemmas.{IsConsistent, composes_same}
+use Rattle.collate_records.specs.Rules.{is_built_in_record, IsBadClass, MapsHangul}
+use Rattle.collate_records.proofs.maps.MapLineLemmas.{All-flat_map}
+use Rattle.collate_records.proofs.maps.MapMeaningLemmas.{IsConsistent}
 
 -- ---- Classes
 
