@@ -9,6 +9,7 @@ pub mod Kept
 pub mod Known
 pub mod Limits
 pub mod Lists
+pub mod Maps
 pub mod Meaning
 pub mod Offenders
 pub mod Phases

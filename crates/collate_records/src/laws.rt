@@ -2,8 +2,10 @@
 
 ghost use Rattle.std.specs.Prelude.{ℕ, List};
 ghost use Rattle.icu_normalizer_core.specs.Canonical.{IsComposing, IsDecomposing};
+ghost use Rattle.icu_normalizer_core.specs.CanonicalMaps.{AreMeaning, KeepRules};
 ghost use Rattle.collate_records.specs.declared.rule.Rule.TheVariants.{C1, C2, C3, C4, C9};
 ghost use Rattle.collate_records.specs.Record.{Record};
+ghost use Rattle.collate_records.specs.Maps.{maps_of};
 ghost use Rattle.collate_records.specs.Meaning.{canonical_of};
 ghost use Rattle.collate_records.specs.Offenders.{NoneOffends};
 ghost use Rattle.collate_records.specs.Accepted.{AreAccepted, AreScalars};
@@ -63,4 +65,21 @@ pub fn accepted_records_are_plain()
 #[tactic(auto, using(crate::proofs::reading::AcceptedLemmas::accepted_file))]
 pub fn accepted_files_decompose()
     ensures { (file : List ℕ) → IsAccepted file → IsDecomposing (canonical_of (records_of file)) }
+{}
+
+/// The classes and the mappings that accepted lines give mean, as maps, what the lines mean
+/// (docs/RECORDS.md; UAX 15).
+///
+/// It computes nothing: its contract is the law.
+#[tactic(auto, using(crate::proofs::maps::AcceptedMapLemmas::accepted_maps_mean))]
+pub fn accepted_records_mean_their_maps()
+    ensures { (records : List Record) → AreAccepted records → AreMeaning (maps_of records) (canonical_of records) }
+{}
+
+/// The classes and the mappings that accepted lines give keep, as maps, the rules of canonical data, so that tables of
+/// them can be built (docs/RECORDS.md, `C1` to `C9`).
+///
+/// It computes nothing: its contract is the law.
+pub fn accepted_records_keep_the_rules_of_maps()
+    ensures { (records : List Record) → AreAccepted records → KeepRules (maps_of records) }
 {}

@@ -180,13 +180,13 @@ picked : (b : Bool) (n c : ℕ) (cs : List ℕ) → n ≡ length cs → cond b n
 picked true n c cs e = e
 picked false n c cs e = omega arith
 
-different-unique : (xs : List ℕ) → different xs ≡ length (unique_keys eqb xs)
+pub different-unique : (xs : List ℕ) → different xs ≡ length (unique_keys eqb xs)
 unfolding different
 different-unique [] = refl
 different-unique (x ∷ xs) = picked (list_any (λ d. eqb x d) xs) (different xs) x (unique_keys eqb xs) (different-unique xs)
 
 -- each of them is kept
-is_member-unique : (q : ℕ) (xs : List ℕ) → is_member eqb (unique_keys eqb xs) q ≡ is_member eqb xs q
+pub is_member-unique : (q : ℕ) (xs : List ℕ) → is_member eqb (unique_keys eqb xs) q ≡ is_member eqb xs q
 is_member-unique q [] = refl
 is_member-unique q (x ∷ xs) = by (is_member eqb xs x) refl (is_member-unique q xs)
   where
@@ -225,7 +225,7 @@ module _ (key : Record → List ℕ) (kind : IsKind key) where
       (IsDistinct-push nat_eq_equiv before w.0 distinct (any_key (record_at records i) w.0 w.1 (take i records) ∙ not_true _ fresh)))
       (kind.each (record_at records i)))
 
-  distinct_to : (records : List Record) → NoneOffends V14 records → (i : ℕ) → i ≤ length records → IsDistinct eqb (flat_map key (take i records))
+  pub distinct_to : (records : List Record) → NoneOffends V14 records → (i : ℕ) → i ≤ length records → IsDistinct eqb (flat_map key (take i records))
   unfolding IsDistinct
   distinct_to records once zero h = tt
   distinct_to records once (suc i) h =
@@ -235,7 +235,7 @@ module _ (key : Record → List ℕ) (kind : IsKind key) where
       subst (λ (n : ℕ). IsDistinct eqb (flat_map key (take n records))) same more
 
   -- a character that a line of the kind is for is named
-  key_named : (q : ℕ) (xs : List Record) → list_any (λ d. eqb q d) (flat_map key xs) ≡ true → list_any (λ d. eqb q d) (flat_map named xs) ≡ true
+  pub key_named : (q : ℕ) (xs : List Record) → list_any (λ d. eqb q d) (flat_map key xs) ≡ true → list_any (λ d. eqb q d) (flat_map named xs) ≡ true
   key_named q [] h = h
   key_named q (x ∷ xs) h =
       list_any-append (λ d. eqb q d) (named x) (flat_map named xs)

@@ -59,9 +59,9 @@ ending_scalars (f ∷ []) ending e = elim (either _ _ _ _ e) [ inl p ↦ none_en
 ending_scalars (f ∷ x ∷ []) ending e = one_ends f true ending (either_none _ _ _ e)
 ending_scalars (f ∷ x ∷ y ∷ fs) ending e = absurd (cc)
 
--- a line maps a scalar value to scalar values, at most two
+-- a line maps a scalar value to scalar values, one or two
 abbrev HasScalars : Record → Type 0
-HasScalars (mapping c ds is_excluded) = IsScalar c × All IsScalar ds × (length ds ≤ 2)
+HasScalars (mapping c ds is_excluded) = IsScalar c × All IsScalar ds × (length ds ≤ 2) × (1 ≤ length ds)
 HasScalars _ = Unit {0}
 
 -- a mapping that is read is so
@@ -74,7 +74,7 @@ mapping_scalars (c ∷ d ∷ fields) s e =
     in let g = bind_some (ending_by fields) _ s b.2
     in let h = ending_scalars fields g.0 g.1
     in rw (← same_Some _ _ g.2)
-    (code_point_scalar c a.0 a.1, All-cons IsScalar b.0 (g.0.0) (code_point_scalar d b.0 b.1) h.scalars, omega (arith, h.short))
+    (code_point_scalar c a.0 a.1, All-cons IsScalar b.0 (g.0.0) (code_point_scalar d b.0 b.1) h.scalars, omega (arith, h.short), omega arith)
 
 class_scalars : (fields : List (List ℕ)) (s : Record) → class_by fields ≡ Some s → HasScalars s
 class_scalars [] s e = absurd (cc)
@@ -173,3 +173,7 @@ line_scalars line s e = to_scalars s (read_scalars line s e)
 -- and maps one
 pub mapped_scalar : (line : List ℕ) (c : ℕ) (ds : List ℕ) (x : Bool) → known_record_of line ≡ Some (mapping c ds x) → IsScalar c
 mapped_scalar line c ds x e = (read_scalars line (mapping c ds x) e).0
+
+-- to one character or two
+pub mapped_some : (line : List ℕ) (c : ℕ) (ds : List ℕ) (x : Bool) → known_record_of line ≡ Some (mapping c ds x) → (length ds ≤ 2) × (1 ≤ length ds)
+mapped_some line c ds x e = let h = read_scalars line (mapping c ds x) e in (h.2, h.3)

@@ -1,0 +1,8 @@
+-- what lines say, as maps of canonical data
+pub mod AcceptedMapLemmas
+pub mod ComposedAlikeLemmas
+pub mod MapLineLemmas
+pub mod MapMeaningLemmas
+pub mod MapNameLemmas
+pub mod MapPairLemmas
+pub mod MapRuleLemmas

@@ -1,0 +1,122 @@
+-- What a line gives to the maps of its file.
+use Rattle.std.proofs.Common.{◌≡◌, ℕ, ◌<◌, ◌≤◌, Bool, true, false, not, cond, ◌==◌, eqb, List, [], ◌∷◌, ◌++◌, length, map, All, Option, Some, None, refl, ap, arith, subst}
+use Rattle.std.specs.Prelude.{flat_map}
+use Rattle.std.specs.List.{find}
+use Rattle.std.specs.Option.{unwrap_or}
+use Rattle.std.proofs.lemmas.Bool.Decides.{nat_tests}
+use Rattle.std.proofs.lemmas.Option.{unwrap_or-slice_get}
+use Rattle.std.proofs.lemmas.List.Elements.{All-nil, All-cons, All-head, All-tail, All-from_get_or}
+use Rattle.icu_normalizer_core.specs.declared.canonical.builder.GivenClass.{GivenClass}
+use Rattle.icu_normalizer_core.specs.declared.canonical.builder.GivenMapping.{GivenMapping}
+use Rattle.icu_normalizer_core.specs.CanonicalMaps.{given_class, given_step, mapping_given}
+use Rattle.collate_records.specs.Record.{Record, nothing, class, mapping, compatibility, weights, range, digit, setting}
+use Rattle.collate_records.specs.Meaning.{first_found, class_in, mapping_in}
+use Rattle.collate_records.specs.Maps.{classes_in, mappings_in}
+use Rattle.collate_records.specs.Rules.{record_at}
+use Rattle.collate_records.specs.Tables.{class_key, mapping_key}
+
+-- a line maps to one character or to two
+abbrev pub MapsToFew : Record → Type 0
+MapsToFew (mapping c ds x) = (length ds ≤ 2) × (1 ≤ length ds)
+MapsToFew _ = Unit {0}
+
+-- what holds of every line by its place holds of all
+pub each_line : (P : Record → Type 0) (records : List Record) → ((i : ℕ) → i < length records → P (record_at records i)) → All P records
+each_line P records each =
+    All-from_get_or P records nothing (λ i lt. subst P (unwrap_or-slice_get records i nothing) (each i lt))
+
+-- what holds of each item that a line gives holds of all items
+pub All-append : {B : Type 0} (P : B → Type 0) (xs ys : List B) → All P xs → All P ys → All P (xs ++ ys)
+All-append P [] ys h k = k
+All-append P (x ∷ xs) ys h k = All-cons P x (xs ++ ys) (All-head P x xs h) (All-append P xs ys (All-tail P x xs h) k)
+
+pub All-flat_map : {A B : Type 0} (P : B → Type 0) (f : A → List B) (xs : List A) → All (λ x. All P (f x)) xs → All P (flat_map f xs)
+All-flat_map P f [] h = All-nil P
+All-flat_map P f (x ∷ xs) h =
+    All-append P (f x) (flat_map f xs) (All-head (λ y. All P (f y)) x xs h) (All-flat_map P f xs (All-tail (λ y. All P (f y)) x xs h))
+
+turned : (c d : ℕ) → eqb c d ≡ eqb d c
+turned c d = grind (arith, nat_tests)
+
+-- ---- What is found
+
+abbrev class_among : Option GivenClass → ℕ
+class_among o = elim o [ Some g ↦ g.class | None ↦ 0 ]
+
+class_by : (s t : Bool) (g : GivenClass) (later : Option GivenClass) (after : Option ℕ) → s ≡ t → class_among later ≡ unwrap_or after 0
+    → class_among (cond s (Some g) later) ≡ unwrap_or (elim (cond t (Some g.class) None) as (λ _. Option ℕ) [ Some y ↦ Some y | None ↦ after ]) 0
+class_by true true g later after e h = refl
+class_by false false g later after e h = h
+class_by true false g later after e h = absurd (cc)
+class_by false true g later after e h = absurd (cc)
+
+-- the class that maps give is the one that a line gives first
+pub given_class-maps : (c : ℕ) (records : List Record) → given_class (flat_map classes_in records) c ≡ unwrap_or (first_found (class_in c) records) 0
+given_class-maps c [] = refl
+given_class-maps c (nothing ∷ rs) = given_class-maps c rs
+given_class-maps c (class d k ∷ rs) =
+    class_by (eqb d c) (eqb c d) (record { character = d; class = k }) (find (λ g. g.character == c) (flat_map classes_in rs)) (first_found (class_in c) rs) (turned d c) (given_class-maps c rs)
+given_class-maps c (mapping d ds x ∷ rs) = given_class-maps c rs
+given_class-maps c (compatibility d ds ∷ rs) = given_class-maps c rs
+given_class-maps c (weights l p t es ∷ rs) = given_class-maps c rs
+given_class-maps c (range r ∷ rs) = given_class-maps c rs
+given_class-maps c (digit d v ∷ rs) = given_class-maps c rs
+given_class-maps c (setting s ∷ rs) = given_class-maps c rs
+
+abbrev step_among : Option GivenMapping → List ℕ
+step_among o = elim o [ Some g ↦ mapping_given g | None ↦ [] ]
+
+step_by : (s t : Bool) (g : GivenMapping) (later : Option GivenMapping) (after : Option (List ℕ)) → s ≡ t → step_among later ≡ unwrap_or after []
+    → step_among (cond s (Some g) later) ≡ unwrap_or (elim (cond t (Some (mapping_given g)) None) as (λ _. Option (List ℕ)) [ Some y ↦ Some y | None ↦ after ]) []
+step_by true true g later after e h = refl
+step_by false false g later after e h = h
+step_by true false g later after e h = absurd (cc)
+step_by false true g later after e h = absurd (cc)
+
+-- the mapping that maps give is the one that a line gives first
+pub given_step-maps : (c : ℕ) (records : List Record) → All MapsToFew records → given_step (flat_map mappings_in records) c ≡ unwrap_or (first_found (mapping_in c) records) []
+given_step-maps c [] few = refl
+given_step-maps c (nothing ∷ rs) few = given_step-maps c rs (All-tail MapsToFew _ rs few)
+given_step-maps c (class d k ∷ rs) few = given_step-maps c rs (All-tail MapsToFew _ rs few)
+given_step-maps c (mapping d [] x ∷ rs) few = absurd (let h = All-head MapsToFew (mapping d [] x) rs few in omega (arith, h.1))
+given_step-maps c (mapping d (e ∷ []) x ∷ rs) few =
+    step_by (eqb d c) (eqb c d) (record { character = d; first = e; second = None; is_composed = false })
+    (find (λ g. g.character == c) (flat_map mappings_in rs)) (first_found (mapping_in c) rs) (turned d c) (given_step-maps c rs (All-tail MapsToFew _ rs few))
+given_step-maps c (mapping d (e ∷ f ∷ []) x ∷ rs) few =
+    step_by (eqb d c) (eqb c d) (record { character = d; first = e; second = Some f; is_composed = not x })
+    (find (λ g. g.character == c) (flat_map mappings_in rs)) (first_found (mapping_in c) rs) (turned d c) (given_step-maps c rs (All-tail MapsToFew _ rs few))
+given_step-maps c (mapping d (e ∷ f ∷ g ∷ ds) x ∷ rs) few = absurd (let h = All-head MapsToFew (mapping d (e ∷ f ∷ g ∷ ds) x) rs few in omega (arith, h.0))
+given_step-maps c (compatibility d ds ∷ rs) few = given_step-maps c rs (All-tail MapsToFew _ rs few)
+given_step-maps c (weights l p t es ∷ rs) few = given_step-maps c rs (All-tail MapsToFew _ rs few)
+given_step-maps c (range r ∷ rs) few = given_step-maps c rs (All-tail MapsToFew _ rs few)
+given_step-maps c (digit d v ∷ rs) few = given_step-maps c rs (All-tail MapsToFew _ rs few)
+given_step-maps c (setting s ∷ rs) few = given_step-maps c rs (All-tail MapsToFew _ rs few)
+
+-- ---- Whose they are
+
+-- the characters of the classes are those of the lines that give a class
+pub class_keys : (records : List Record) → map (λ g. g.character) (flat_map classes_in records) ≡ flat_map class_key records
+class_keys [] = refl
+class_keys (nothing ∷ rs) = class_keys rs
+class_keys (class d k ∷ rs) = ap (λ (cs : List ℕ). d ∷ cs) (class_keys rs)
+class_keys (mapping d ds x ∷ rs) = class_keys rs
+class_keys (compatibility d ds ∷ rs) = class_keys rs
+class_keys (weights l p t es ∷ rs) = class_keys rs
+class_keys (range r ∷ rs) = class_keys rs
+class_keys (digit d v ∷ rs) = class_keys rs
+class_keys (setting s ∷ rs) = class_keys rs
+
+-- the characters of the mappings are those of the lines that give a mapping
+pub mapping_keys : (records : List Record) → All MapsToFew records → map (λ g. g.character) (flat_map mappings_in records) ≡ flat_map mapping_key records
+mapping_keys [] few = refl
+mapping_keys (nothing ∷ rs) few = mapping_keys rs (All-tail MapsToFew _ rs few)
+mapping_keys (class d k ∷ rs) few = mapping_keys rs (All-tail MapsToFew _ rs few)
+mapping_keys (mapping d [] x ∷ rs) few = absurd (let h = All-head MapsToFew (mapping d [] x) rs few in omega (arith, h.1))
+mapping_keys (mapping d (e ∷ []) x ∷ rs) few = ap (λ (cs : List ℕ). d ∷ cs) (mapping_keys rs (All-tail MapsToFew _ rs few))
+mapping_keys (mapping d (e ∷ f ∷ []) x ∷ rs) few = ap (λ (cs : List ℕ). d ∷ cs) (mapping_keys rs (All-tail MapsToFew _ rs few))
+mapping_keys (mapping d (e ∷ f ∷ g ∷ ds) x ∷ rs) few = absurd (let h = All-head MapsToFew (mapping d (e ∷ f ∷ g ∷ ds) x) rs few in omega (arith, h.0))
+mapping_keys (compatibility d ds ∷ rs) few = mapping_keys rs (All-tail MapsToFew _ rs few)
+mapping_keys (weights l p t es ∷ rs) few = mapping_keys rs (All-tail MapsToFew _ rs few)
+mapping_keys (range r ∷ rs) few = mapping_keys rs (All-tail MapsToFew _ rs few)
+mapping_keys (digit d v ∷ rs) few = mapping_keys rs (All-tail MapsToFew _ rs few)
+mapping_keys (setting s ∷ rs) few = mapping_keys rs (All-tail MapsToFew _ rs few)

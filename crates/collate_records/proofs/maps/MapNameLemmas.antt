@@ -1,0 +1,109 @@
+-- The characters that maps of lines name: each class and each mapping has its own, and few are named.
+use Rattle.std.proofs.Common.{◌≡◌, ℕ, ◌+◌, ◌≤◌, ⊎_elim, inl, Bool, true, false, cond, ◌||◌, eqb, List, [], ◌∷◌, ◌++◌, length, map, take, refl, sym, ap, ◌∙◌, arith, subst, All}
+use Rattle.std.specs.Prelude.{flat_map}
+use Rattle.std.specs.Cmp.{nat_eq_equiv}
+use Rattle.std.specs.List.{list_any, AllByRecursion, IsDistinct}
+use Rattle.std.specs.Set.{distinct_count, is_member, unique_keys}
+use Rattle.std.proofs.lemmas.Bool.{cases_lt, or_right, false≢true}
+use Rattle.std.proofs.lemmas.List.{take_all}
+use Rattle.std.proofs.lemmas.List.Folds.{list_any-append}
+use Rattle.std.proofs.lemmas.Map.Made.{length-le_from_is_member}
+use Rattle.icu_normalizer_core.specs.CanonicalMaps.{mapping_given, named as named_by}
+use Rattle.collate_records.specs.declared.rule.Rule.TheVariants.{Limit, V14}
+use Rattle.collate_records.specs.Record.{Record, nothing, class, mapping, compatibility, weights, range, digit, setting}
+use Rattle.collate_records.specs.Maps.{classes_in, mappings_in, maps_of}
+use Rattle.collate_records.specs.Rules.{named, names_in, different}
+use Rattle.collate_records.specs.Offenders.{NoneOffends}
+use Rattle.collate_records.specs.Tables.{class_key, mapping_key}
+use Rattle.collate_records.proofs.lookups.KeyLemmas.{class_kind, mapping_kind, distinct_to, key_named, different-unique, is_member-unique}
+use Rattle.collate_records.proofs.maps.MapLineLemmas.{MapsToFew, class_keys, mapping_keys}
+
+-- ---- One class and one mapping for a character
+
+pub maps_one_class : (records : List Record) → NoneOffends V14 records → IsDistinct eqb (map (λ g. g.character) (flat_map classes_in records))
+maps_one_class records once =
+    let distinct = distinct_to class_key class_kind records once (length records) (omega arith) in
+    subst (IsDistinct eqb) (ap (flat_map class_key) (take_all (length records) records (omega arith)) ∙ sym (class_keys records)) distinct
+
+pub maps_one_mapping : (records : List Record) → All MapsToFew records → NoneOffends V14 records → IsDistinct eqb (map (λ g. g.character) (flat_map mappings_in records))
+maps_one_mapping records few once =
+    let distinct = distinct_to mapping_key mapping_kind records once (length records) (omega arith) in
+    subst (IsDistinct eqb) (ap (flat_map mapping_key) (take_all (length records) records (omega arith)) ∙ sym (mapping_keys records few)) distinct
+
+-- ---- Few names
+
+none_among : (x : ℕ) (ys : List ℕ) → list_any (λ y. eqb x y) ys ≡ false → AllByRecursion (λ y. eqb x y ≡ false) ys
+none_among x [] h = tt
+none_among x (y ∷ ys) h = (first (eqb x y) _ h, none_among x ys (second (eqb x y) _ h))
+  where
+    first : (a b : Bool) → (a || b) ≡ false → a ≡ false
+    first true b e = e
+    first false b e = refl
+
+    second : (a b : Bool) → (a || b) ≡ false → b ≡ false
+    second true b e = absurd (false≢true (sym e))
+    second false b e = e
+
+unique_distinct : (xs : List ℕ) → IsDistinct eqb (unique_keys eqb xs)
+unfolding IsDistinct
+unique_distinct [] = tt
+unique_distinct (x ∷ xs) = by (is_member eqb xs x) refl (unique_distinct xs)
+  where
+    by : (b : Bool) → is_member eqb xs x ≡ b → IsDistinct eqb (unique_keys eqb xs) → IsDistinct eqb (cond b (unique_keys eqb xs) (x ∷ unique_keys eqb xs))
+    by true e d = d
+    by false e d = (none_among x (unique_keys eqb xs) (is_member-unique x xs ∙ e), d)
+
+-- what later lines name is named
+behind : (q : ℕ) (s : Record) (rs : List Record) → list_any (λ d. eqb q d) (flat_map named rs) ≡ true → list_any (λ d. eqb q d) (named s ++ flat_map named rs) ≡ true
+behind q s rs h = list_any-append (λ d. eqb q d) (named s) (flat_map named rs) ∙ or_right (list_any (λ d. eqb q d) (named s)) _ h
+
+either_here : (a r s : Bool) → (r ≡ true → s ≡ true) → (a || r) ≡ true → (a || s) ≡ true
+either_here true r s later h = refl
+either_here false r s later h = later h
+
+abbrev mapping_names : List Record → List ℕ
+mapping_names records = flat_map (λ g. g.character ∷ mapping_given g) (flat_map mappings_in records)
+
+mapping_named : (q : ℕ) (records : List Record) → list_any (λ d. eqb q d) (mapping_names records) ≡ true → list_any (λ d. eqb q d) (flat_map named records) ≡ true
+mapping_named q [] h = h
+mapping_named q (nothing ∷ rs) h = mapping_named q rs h
+mapping_named q (class c k ∷ rs) h = behind q (class c k) rs (mapping_named q rs h)
+mapping_named q (mapping c [] x ∷ rs) h = behind q (mapping c [] x) rs (mapping_named q rs h)
+mapping_named q (mapping c (d ∷ []) x ∷ rs) h = either_here (eqb q c) _ _ (either_here (eqb q d) _ _ (mapping_named q rs)) h
+mapping_named q (mapping c (d ∷ e ∷ []) x ∷ rs) h = either_here (eqb q c) _ _ (either_here (eqb q d) _ _ (either_here (eqb q e) _ _ (mapping_named q rs))) h
+mapping_named q (mapping c (d ∷ e ∷ f ∷ ds) x ∷ rs) h = behind q (mapping c (d ∷ e ∷ f ∷ ds) x) rs (mapping_named q rs h)
+mapping_named q (compatibility c ds ∷ rs) h = behind q (compatibility c ds) rs (mapping_named q rs h)
+mapping_named q (weights l p t es ∷ rs) h = behind q (weights l p t es) rs (mapping_named q rs h)
+mapping_named q (range r ∷ rs) h = mapping_named q rs h
+mapping_named q (digit c v ∷ rs) h = behind q (digit c v) rs (mapping_named q rs h)
+mapping_named q (setting s ∷ rs) h = mapping_named q rs h
+
+-- what maps name, lines name
+all_named : (q : ℕ) (records : List Record) → list_any (λ d. eqb q d) (named_by (maps_of records)) ≡ true → list_any (λ d. eqb q d) (flat_map named records) ≡ true
+all_named q records h =
+    by (list_any (λ d. eqb q d) (map (λ g. g.character) (flat_map classes_in records))) (list_any (λ d. eqb q d) (mapping_names records)) refl refl
+    (sym (list_any-append (λ d. eqb q d) (map (λ g. g.character) (flat_map classes_in records)) (mapping_names records)) ∙ h)
+  where
+    by : (a b : Bool) → list_any (λ d. eqb q d) (map (λ g. g.character) (flat_map classes_in records)) ≡ a → list_any (λ d. eqb q d) (mapping_names records) ≡ b
+        → (a || b) ≡ true → list_any (λ d. eqb q d) (flat_map named records) ≡ true
+    by true b e f t = key_named class_key class_kind q records (ap (list_any (λ d. eqb q d)) (sym (class_keys records)) ∙ e)
+    by false true e f t = mapping_named q records f
+    by false false e f t = absurd (false≢true t)
+
+names_limit : (records : List Record) → NoneOffends Limit records → different (flat_map named records) ≤ 150
+unfolding different
+names_limit [] few = omega arith
+names_limit (s ∷ ss) few =
+    let whole = take_all (length ss + 1) (s ∷ ss) (omega arith) in
+    let bounded : names_in (take (length ss + 1) (s ∷ ss)) ≤ 150 =
+    ⊎_elim (λ past. absurd (few (length ss) (omega arith) (inl past))) (λ within. within) (cases_lt 150 (names_in (take (length ss + 1) (s ∷ ss)))) in
+    let all : names_in (s ∷ ss) ≤ 150 = subst (λ (rs : List Record). names_in rs ≤ 150) whole bounded in
+    omega arith
+
+pub maps_few : (records : List Record) → NoneOffends Limit records → distinct_count eqb (named_by (maps_of records)) ≤ 150
+maps_few records few =
+    let names = named_by (maps_of records) in
+    let lines = flat_map named records in
+    let below = length-le_from_is_member nat_eq_equiv (unique_keys eqb names) (unique_keys eqb lines) (unique_distinct names)
+    (λ q is. is_member-unique q lines ∙ all_named q records (sym (is_member-unique q names) ∙ is)) in
+    omega (arith, below, different-unique lines, names_limit records few)
