@@ -24,5 +24,6 @@ pub mod SettlingLemmas
 pub mod TableComputing
 pub mod TableMeanings
 pub mod TextLemmas
+pub mod ToldLemmas
 pub mod TripleLemmas
 pub mod Utf16Lemmas

@@ -20,6 +20,7 @@ pub mod Loading
 pub mod MapNumbers
 pub mod Marks
 pub mod PairTests
+pub mod Plain
 pub mod Properties
 pub mod PropertyMeanings
 pub mod Sameness

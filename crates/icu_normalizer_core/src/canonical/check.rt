@@ -15,6 +15,7 @@ mod marks;
 mod own;
 mod pairs;
 pub(super) mod settle;
+mod told;
 mod values;
 
 use super::tables::{CanonicalFault, CanonicalTables};
@@ -25,6 +26,7 @@ use loops::first_loop;
 use pairs::first_bad_pair;
 use settle::settle;
 use std::alloc::{AllocError, Global};
+use told::told;
 use values::first_bad_value;
 
 /// What the tables are to be refused for, `None` where they pass every check. The only error is want of memory.
@@ -34,20 +36,21 @@ pub(super) fn first_fault(
 ) -> Result<Option<CanonicalFault>, AllocError>
     ensures { IfOk result (λ fault. MatchOption fault (IsAccepted (lists_of tables.now)) (IsFirstFault (lists_of tables.now))) }
 {
-    if let Some(c) = first_bad_value(tables) {
+    let told = told(alloc, tables)?;
+    if let Some(c) = first_bad_value(tables, &told) {
         return Ok(Some(CanonicalFault::BadValue(c)));
     }
     if !are_triples(&tables.steps) {
         return Ok(Some(CanonicalFault::BadList('\0')));
     }
     let settled = settle(alloc, &tables.steps)?;
-    if let Some(c) = first_bad_list(tables, &settled) {
+    if let Some(c) = first_bad_list(tables, &settled, &told) {
         return Ok(Some(CanonicalFault::BadList(c)));
     }
     if let Some(c) = first_loop(tables, &settled) {
         return Ok(Some(CanonicalFault::Loop(c)));
     }
-    if let Some(c) = first_built_in_fault(tables) {
+    if let Some(c) = first_built_in_fault(tables, &told) {
         return Ok(Some(CanonicalFault::BuiltIn(c)));
     }
     if let Some(c) = first_bad_pair(tables) {

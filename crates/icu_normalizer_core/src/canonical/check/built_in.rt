@@ -7,13 +7,14 @@ ghost use Rattle.icu_normalizer_core.specs.CanonicalFaults.{NoneOffends, IsLeast
 ghost use Rattle.icu_normalizer_core.specs.CanonicalLists.{AreTriples};
 ghost use Rattle.icu_normalizer_core.specs.CanonicalMeaning.{lists_of, meaning};
 ghost use Rattle.icu_normalizer_core.specs.CanonicalWords.{built_in_full};
+ghost use Rattle.icu_normalizer_core.specs.Plain.{Tells};
 ghost use Rattle.icu_normalizer_core.specs.Properties.{mapped_to};
 ghost use Rattle.icu_normalizer_core.specs.Settled.{left_items};
 
-use super::characters::first_failing;
 use super::full_start::full_start;
 use super::left::Left;
 use super::settle::letters;
+use super::told::first_refused_of;
 use crate::built_in::{built_in_class, built_in_step, is_jamo, is_syllable, singled_out};
 use crate::canonical::steps::listed_step;
 use crate::canonical::tables::CanonicalTables;
@@ -155,9 +156,10 @@ fn agrees(tables: &CanonicalTables<'_>, c: char) -> bool
 }
 
 /// The least character of which the tables contradict what is built in, `None` where there is none.
-pub(super) fn first_built_in_fault(tables: &CanonicalTables<'_>) -> Option<char>
+pub(super) fn first_built_in_fault(tables: &CanonicalTables<'_>, told: &[u32]) -> Option<char>
     requires triples { AreTriples tables.now.steps }
+    requires tells { Tells (lists_of tables.now) told.now }
     ensures { MatchOption result (NoneOffends (OffendsBuiltIn (lists_of tables.now))) (IsLeastOffender (OffendsBuiltIn (lists_of tables.now))) }
 {
-    first_failing(|c| agrees(tables, c))
+    first_refused_of(told, |c| agrees(tables, c))
 }

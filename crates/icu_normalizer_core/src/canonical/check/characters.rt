@@ -1,17 +1,7 @@
-//! The least character that fails a test.
+//! The least character that a test refuses.
 
-ghost use Rattle.std.specs.Prelude.{◌≡◌, ◌<◌, ℕ, Bool, true, false, MatchOption};
+ghost use Rattle.std.specs.Prelude.{◌<◌, ℕ, true, false, MatchOption};
 ghost use Rattle.std.specs.Char.{IsScalar};
-ghost use Rattle.icu_normalizer_core.specs.CanonicalFaults.{NoneOffends, IsLeastOffender};
-
-/// The least character that fails the test, `None` where each passes it.
-pub(super) fn first_failing<F: Fn(char) -> bool>(passes: F) -> Option<char>
-    requires { F.IsAlwaysCallable passes }
-    ensures { (p : ℕ → Bool) → ((c : ℕ) (b : Bool) → IsScalar c → F.post passes c b → b ≡ p c)
-        → MatchOption result (NoneOffends (λ c. p c ≡ false)) (IsLeastOffender (λ c. p c ≡ false)) }
-{
-    first_refused(passes)
-}
 
 /// The least character of which the test says no, `None` where it says yes of each.
 pub(super) fn first_refused<F: Fn(char) -> bool>(accepts: F) -> Option<char>

@@ -6,13 +6,14 @@ ghost use Rattle.icu_normalizer_core.specs.CanonicalFaults.{NoneOffends, IsLeast
 ghost use Rattle.icu_normalizer_core.specs.CanonicalLists.{AreTriples};
 ghost use Rattle.icu_normalizer_core.specs.CanonicalMeaning.{lists_of, meaning};
 ghost use Rattle.icu_normalizer_core.specs.CanonicalWords.{is_inside};
+ghost use Rattle.icu_normalizer_core.specs.Plain.{Tells};
 ghost use Rattle.icu_normalizer_core.specs.Settled.{left_items, AreStarts, IsDone, IsLeftOf, LeavesOther};
 ghost use Rattle.icu_normalizer_core.specs.Triples.{IsUnlisted};
 
-use super::characters::first_refused;
 use super::full_start::full_start;
 use super::left::Left;
 use super::settle::listed_left;
+use super::told::first_refused_of;
 use crate::built_in::built_in_step;
 use crate::canonical::tables::CanonicalTables;
 use crate::canonical::words::{PLAIN_WORD, class_of_word, is_list_word, states_list};
@@ -119,11 +120,16 @@ fn is_good(tables: &CanonicalTables<'_>, settled: &[Option<Left>], c: char) -> b
 }
 
 /// The least character with a bad full list, `None` where there is none.
-pub(super) fn first_bad_list(tables: &CanonicalTables<'_>, settled: &[Option<Left>]) -> Option<char>
+pub(super) fn first_bad_list(
+    tables: &CanonicalTables<'_>,
+    settled: &[Option<Left>],
+    told: &[u32],
+) -> Option<char>
     requires triples { AreTriples tables.now.steps }
+    requires tells { Tells (lists_of tables.now) told.now }
     requires starts { AreStarts tables.now.steps settled.now }
     requires done { IsDone tables.now.steps settled.now }
     ensures { MatchOption result (NoneOffends (OffendsList (lists_of tables.now))) (IsLeastOffender (OffendsList (lists_of tables.now))) }
 {
-    first_refused(|c| is_good(tables, settled, c))
+    first_refused_of(told, |c| is_good(tables, settled, c))
 }

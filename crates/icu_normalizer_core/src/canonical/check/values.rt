@@ -4,8 +4,9 @@ ghost use Rattle.std.specs.Prelude.{◌≡◌, ◌&&◌, MatchOption};
 ghost use Rattle.icu_normalizer_core.specs.CanonicalFaults.{NoneOffends, IsLeastOffender, OffendsValue};
 ghost use Rattle.icu_normalizer_core.specs.CanonicalMeaning.{lists_of};
 ghost use Rattle.icu_normalizer_core.specs.CanonicalWords.{is_word};
+ghost use Rattle.icu_normalizer_core.specs.Plain.{Tells};
 
-use super::characters::first_failing;
+use super::told::first_refused_of;
 use crate::canonical::tables::CanonicalTables;
 use crate::canonical::words::is_word;
 
@@ -17,8 +18,9 @@ fn has_good_word(tables: &CanonicalTables<'_>, c: char) -> bool
 }
 
 /// The least character with a bad word, `None` where there is none.
-pub(super) fn first_bad_value(tables: &CanonicalTables<'_>) -> Option<char>
+pub(super) fn first_bad_value(tables: &CanonicalTables<'_>, told: &[u32]) -> Option<char>
+    requires { Tells (lists_of tables.now) told.now }
     ensures { MatchOption result (NoneOffends (OffendsValue (lists_of tables.now))) (IsLeastOffender (OffendsValue (lists_of tables.now))) }
 {
-    first_failing(|c| has_good_word(tables, c))
+    first_refused_of(told, |c| has_good_word(tables, c))
 }

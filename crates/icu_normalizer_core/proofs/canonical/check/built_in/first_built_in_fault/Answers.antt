@@ -1,13 +1,30 @@
-use Rattle.std.proofs.Common.{rules, ◌≡◌, ℕ, false}
+use Rattle.std.proofs.Common.{rules, ◌≡◌, true, false}
+use Rattle.std.proofs.lemmas.Bool.{both_ways}
 use Rattle.icu_normalizer_core.specs.BuiltInTests.{agrees}
 use Rattle.icu_normalizer_core.specs.CanonicalFaults.{OffendsBuiltIn}
 use Rattle.icu_normalizer_core.specs.CanonicalMeaning.{lists_of}
 use Rattle.icu_normalizer_core.proofs.BuiltInTestLemmas.{offends_fails, fails_offends}
-use Rattle.icu_normalizer_core.proofs.OffenderLemmas.{least_same}
+use Rattle.icu_normalizer_core.proofs.FaultLemmas.{option_through}
+use Rattle.icu_normalizer_core.proofs.ToldLemmas.{least_told, kept_built_ins}
 use Rattle.icu_normalizer_core.proofs.canonical.check.built_in.first_built_in_fault.Goals as goal
 
 pub returns : goal.returns
 returns c =
-    least_same (λ (d : ℕ). agrees (lists_of c.args.tables.now) d ≡ false) (OffendsBuiltIn (lists_of c.args.tables.now))
-    (λ d scalar f. fails_offends (lists_of c.args.tables.now) d f) (λ d scalar w. offends_fails (lists_of c.args.tables.now) d w)
-    c.first_failing.result (c.first_failing.ensures (agrees (lists_of c.args.tables.now)) (λ d b scalar h. search rules))
+    least_told (OffendsBuiltIn (lists_of c.args.tables.now)) c.args.told.now (kept_built_ins (lists_of c.args.tables.now) c.args.told.now c.requires.tells c.requires.triples)
+    c.first_refused_of.result
+    (option_through c.first_refused_of.result
+    (λ all d scalar is_in offends.
+    let good = all d scalar is_in in
+    let yes : agrees (lists_of c.args.tables.now) d ≡ true = search rules in
+    both_ways (agrees (lists_of c.args.tables.now) d) (offends_fails (lists_of c.args.tables.now) d offends) yes)
+    (λ d w. (
+      w.0,
+      let bad = w.2 in
+          let no : agrees (lists_of c.args.tables.now) d ≡ false = search rules in
+          fails_offends (lists_of c.args.tables.now) d no,
+      λ e scalar is_in lt offends.
+          let good = w.3 e scalar is_in lt in
+          let yes : agrees (lists_of c.args.tables.now) e ≡ true = search rules in
+          both_ways (agrees (lists_of c.args.tables.now) e) (offends_fails (lists_of c.args.tables.now) e offends) yes,
+    ))
+    c.first_refused_of.ensures)

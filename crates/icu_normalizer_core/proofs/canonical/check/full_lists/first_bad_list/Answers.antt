@@ -1,10 +1,14 @@
 use Rattle.std.proofs.Common.{rules}
+use Rattle.icu_normalizer_core.specs.CanonicalFaults.{OffendsList}
+use Rattle.icu_normalizer_core.specs.CanonicalMeaning.{lists_of}
 use Rattle.icu_normalizer_core.proofs.FaultLemmas.{option_through}
+use Rattle.icu_normalizer_core.proofs.ToldLemmas.{least_told, kept_lists}
 use Rattle.icu_normalizer_core.proofs.canonical.check.full_lists.first_bad_list.Goals as goal
 
 pub returns : goal.returns
 returns c =
-    option_through c.first_refused.result
-    (λ all d scalar. let good = all d scalar in search rules)
-    (λ d w. (w.0, let bad = w.1 in search rules, λ e scalar lt. let good = w.2 e scalar lt in search rules))
-    c.first_refused.ensures
+    least_told (OffendsList (lists_of c.args.tables.now)) c.args.told.now (kept_lists (lists_of c.args.tables.now) c.args.told.now c.requires.tells c.requires.triples) c.first_refused_of.result
+    (option_through c.first_refused_of.result
+    (λ all d scalar is_in. let good = all d scalar is_in in search rules)
+    (λ d w. (w.0, let bad = w.2 in search rules, λ e scalar is_in lt. let good = w.3 e scalar is_in lt in search rules))
+    c.first_refused_of.ensures)
