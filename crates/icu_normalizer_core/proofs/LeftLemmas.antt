@@ -1,5 +1,5 @@
 -- What mapping steps leave of a text: one list, of characters that aren't mapped.
-use Rattle.std.proofs.Common.{◌≡◌, ℕ, List, [], ◌∷◌, ◌++◌, refl, sym, ap, subst, append_assoc}
+use Rattle.std.proofs.Common.{◌≡◌, ℕ, List, [], ◌∷◌, ◌++◌, refl, sym, ap, subst, ◌∙◌, append_assoc}
 use Rattle.std.specs.List.{All}
 use Rattle.std.specs.Char.{IsScalar}
 use Rattle.std.proofs.lemmas.List.Elements.{All-cons, All-head, All-tail, All-append}
@@ -40,3 +40,9 @@ left_scalars step xs ns steps all (unmapped c cs ms e h) =
     All-cons IsScalar c ms (All-head IsScalar c cs all) (left_scalars step cs ms steps (All-tail IsScalar c cs all) h)
 left_scalars step xs ns steps all (mapped c d ds cs ms e h) =
     left_scalars step ((d ∷ ds) ++ cs) ms steps (All-append IsScalar (d ∷ ds) cs (subst (All IsScalar) e (steps c)) (All-tail IsScalar c cs all)) h
+
+-- steps that are the same leave the same
+pub left_same : (s t : ℕ → List ℕ) (xs ns : List ℕ) → ((c : ℕ) → s c ≡ t c) → Leaves s xs ns → Leaves t xs ns
+left_same s t xs ns same nothing = nothing
+left_same s t xs ns same (unmapped c cs ms e h) = unmapped c cs ms (sym (same c) ∙ e) (left_same s t cs ms same h)
+left_same s t xs ns same (mapped c d ds cs ms e h) = mapped c d ds cs ms (sym (same c) ∙ e) (left_same s t ((d ∷ ds) ++ cs) ms same h)

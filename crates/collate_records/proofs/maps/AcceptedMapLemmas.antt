@@ -8,7 +8,7 @@ use Rattle.icu_normalizer_core.specs.Canonical.{Canonical, Leaves, composed, dec
 use Rattle.icu_normalizer_core.specs.CanonicalMaps.{AreMeaning, KeepRules, IsMapped, BeginsWithStarter, given_step, step_of as step_of_maps}
 use Rattle.icu_normalizer_core.proofs.LeftLemmas.{left_one}
 use Rattle.icu_normalizer_core.proofs.DecomposedLemmas.{decomposed_same, decomposed_scalars}
-use Rattle.icu_normalizer_core.proofs.builder.AcceptedMapsMeaningLemmas.{one_meaning}
+use Rattle.icu_normalizer_core.proofs.builder.AcceptedMapsSameLemmas.{one_meaning}
 use Rattle.collate_records.specs.declared.rule.Rule.{Rule}
 use Rattle.collate_records.specs.declared.rule.Rule.TheVariants.{Limit, C3, C5, C6, C8, C9, V14}
 use Rattle.collate_records.specs.Record.{Record, nothing, class, mapping, compatibility, weights, range, digit, setting}
