@@ -14,3 +14,4 @@ pub mod AcceptedMapLemmas
 pub mod AcceptedMappingLemmas
 pub mod CoveredLemmas
 pub mod KeptRuleLemmas
+pub mod BuiltTableLemmas

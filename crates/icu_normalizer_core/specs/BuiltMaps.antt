@@ -1,11 +1,34 @@
 -- Tables that are built of maps, as lists.
-use Rattle.std.specs.Prelude.{◌≡◌, ℕ, ◌<◌, ◌^◌, cond, true, []}
-use Rattle.std.specs.Option.{is_some}
+use Rattle.std.specs.Prelude.{◌≡◌, ℕ, ◌<◌, ◌≤◌, ◌/◌, ◌^◌, cond, true, List, [], length}
+use Rattle.std.specs.Option.{is_some, unwrap_or}
 use Rattle.std.specs.Char.{IsScalar}
+use Rattle.icu_codepointtrie.specs.Places.{TrieTables, value_at, has_cell}
+use Rattle.icu_normalizer_core.specs.declared.canonical.builder.GivenClass.{GivenClass}
+use Rattle.icu_normalizer_core.specs.declared.canonical.builder.GivenMapping.{GivenMapping}
 use Rattle.icu_normalizer_core.specs.BuiltIn.{built_in_step}
+use Rattle.icu_normalizer_core.specs.Canonical.{IsFree}
 use Rattle.icu_normalizer_core.specs.CanonicalLists.{CanonicalLists, AreTriples, ArePairs, listed_step, listed_pair}
 use Rattle.icu_normalizer_core.specs.CanonicalMaps.{CanonicalMaps, class_of, given_step, given_pair}
-use Rattle.icu_normalizer_core.specs.CharacterWords.{AreStarters, IsWordOf}
+use Rattle.icu_normalizer_core.specs.CanonicalWords.{plain_word}
+use Rattle.icu_normalizer_core.specs.CharacterWords.{class_with, AreStarters, IsWordOf}
+use Rattle.icu_normalizer_core.specs.Settled.{key_at}
+
+-- at most 150 triples list what mappings say and isn't built in
+pub record AreStepsOf (mappings : List GivenMapping) (steps : List ℕ) : Type 0 where
+  pub triples : AreTriples steps
+  pub listed : (c : ℕ) → listed_step steps c ≡ cond (is_some (built_in_step c)) [] (given_step mappings c)
+  pub few : length steps ≤ 450
+  pub free : (place : ℕ) → place < length steps / 3 → IsFree (key_at steps place)
+
+-- pairs list what mappings compose
+pub record ArePairsOf (mappings : List GivenMapping) (pairs : List ℕ) : Type 0 where
+  pub form : ArePairs pairs
+  pub listed : (a b : ℕ) → b < 2 ^ 21 → listed_pair pairs a b ≡ given_pair mappings a b
+
+-- a trie has each character's word
+pub record IsWordTrieOf (classes : List GivenClass) (steps scalars24 : List ℕ) (trie : TrieTables ℕ) : Type 0 where
+  pub cells : (c : ℕ) → IsScalar c → has_cell trie c ≡ true
+  pub words : (c : ℕ) → IsScalar c → IsWordOf (class_with classes c) steps scalars24 c (plain_word (unwrap_or (value_at trie c) 0))
 
 -- each character has its word, and triples and pairs list what maps say
 pub record AreBuiltOf (maps : CanonicalMaps) (lists : CanonicalLists) : Type 0 where

@@ -1,8 +1,11 @@
 //! Canonical tables made of classes and mappings that are given one by one: what is given, and the parts of the tables.
 
-ghost use Rattle.std.specs.Prelude.{◌≡◌, ◌++◌, ◌∷◌, ◌&&◌, [], OnOk, OnErr};
+ghost use Rattle.std.specs.Prelude.{◌≡◌, ◌++◌, ◌∷◌, ◌&&◌, ◌⊎◌, [], OnOk, OnErr, IfOk, IfErr};
 ghost use Rattle.std.specs.Option.{is_some};
-ghost use Rattle.icu_normalizer_core.specs.CanonicalMaps.{CanonicalMaps};
+ghost use Rattle.icu_normalizer_core.specs.declared.canonical.builder.CanonicalDataBuildError.TheVariants.{Rules, Memory};
+ghost use Rattle.icu_normalizer_core.specs.CanonicalFaults.{IsAccepted};
+ghost use Rattle.icu_normalizer_core.specs.CanonicalMaps.{CanonicalMaps, AreMeaning, KeepRules};
+ghost use Rattle.icu_normalizer_core.specs.CanonicalMeaning.{lists_of, meaning};
 
 mod full_lists;
 mod in_order;
@@ -12,11 +15,15 @@ mod meaning;
 mod numbers;
 mod pairs;
 mod steps;
+mod tables;
 mod trie;
 mod words;
 
+use super::check::first_fault;
+use super::tables::CanonicalTables;
 use std::alloc::{AllocError, Global};
 use std::marker::Model;
+use tables::tables;
 
 /// Why no canonical tables are built.
 #[derive(Clone, Copy, Debug, PartialEq, Eq)]
@@ -119,5 +126,24 @@ impl CanonicalDataBuilder {
             is_composed: is_composed && second.is_some(),
         })?;
         Ok(())
+    }
+
+    /// The tables of what was given, with what is built in; the builder stays as it is. `Rules` comes only where
+    /// what was given breaks a rule (docs/RECORDS.md, C1 to C9), says two things of one character, or names more
+    /// than 150 characters. Want of memory can come with anything that was given.
+    #[tactic(auto, using(crate::proofs::builder::BuiltMapLemmas::built_meaning, crate::proofs::builder::BuiltTableLemmas::fault_breaks))]
+    pub fn build(&self, alloc: Global) -> Result<CanonicalTables<'static>, CanonicalDataBuildError>
+        ensures means { IfOk result (λ tables. AreMeaning self.now (meaning tables)) }
+        ensures accepted { IfOk result (λ tables. IsAccepted (lists_of tables)) }
+        ensures refused { IfErr result (λ e. (e ≡ Memory) ⊎ ((e ≡ Rules) × (KeepRules self.now → ⊥))) }
+    {
+        let tables = match tables(alloc, self.classes.as_slice(), self.mappings.as_slice()) {
+            Ok(tables) => tables,
+            Err(error) => return Err(error),
+        };
+        match first_fault(alloc, &tables)? {
+            None => Ok(tables),
+            Some(_) => Err(CanonicalDataBuildError::Rules),
+        }
     }
 }
