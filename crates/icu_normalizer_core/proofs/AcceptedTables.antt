@@ -192,7 +192,7 @@ module _ (lists : CanonicalLists) (a : IsAccepted lists) where
   built_list : (c : ℕ) (ds : List ℕ) → IsScalar c → built_in_step c ≡ Some ds → IsBuiltInList c
   built_list c ds scalar e =
       let b = built_in_left step (step_built_in lists) marks_unmapped c ds e in
-      let same : full c ≡ b.list = list_stands (full c) b.list (λ ne. a.built_ins c scalar (inr (inr (inl (b.list, b.is, ne))))) in
+      let same : full c ≡ b.list = list_stands (full c) b.list (λ ne. a.built_ins c scalar (inr (inr (inl (b.list, b.is, inr ne))))) in
       record {
         left = subst (λ (xs : List ℕ). Leaves step (c ∷ []) xs) (sym same) b.left;
         short = subst (λ (xs : List ℕ). length xs ≤ 3) (sym same) b.short;

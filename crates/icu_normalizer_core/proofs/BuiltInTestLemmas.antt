@@ -10,7 +10,7 @@ use Rattle.icu_normalizer_core.specs.BuiltIn.{is_syllable, is_jamo, singled_out,
 use Rattle.icu_normalizer_core.specs.BuiltInTests.{is_nothing, is_letter, is_class, is_listed_step, is_full_list, is_starter_if_low, is_unmapped_if_low, names_no_letter, agrees}
 use Rattle.icu_normalizer_core.specs.CanonicalFaults.{ContradictsClass, ContradictsStep, ContradictsFull, IsLowMark, IsLowMapped, MapsToLetter, OffendsBuiltIn}
 use Rattle.icu_normalizer_core.specs.CanonicalLists.{CanonicalLists, canonical_of, listed_step}
-use Rattle.icu_normalizer_core.specs.CanonicalWords.{built_in_full, syllable_letters}
+use Rattle.icu_normalizer_core.specs.CanonicalWords.{is_inside, built_in_full, syllable_letters}
 use Rattle.icu_normalizer_core.proofs.BuiltInFacts.{all_singled_out, letters_short}
 use Rattle.icu_normalizer_core.proofs.TableMeanings.{step_free}
 
@@ -96,6 +96,9 @@ module _ (lists : CanonicalLists) (c : ℕ) where
   abbrev full : List ℕ
   full = (canonical_of lists).full c
 
+  abbrev inside : Bool
+  inside = is_inside lists.scalars16 lists.scalars24 (lists.word c)
+
   class_fails : ContradictsClass lists c → is_class (built_in_class c) class ≡ false
   class_fails w = ap (λ (o : Option ℕ). is_class o class) w.1 ∙ ne_eqb class w.0 w.2
 
@@ -114,17 +117,23 @@ module _ (lists : CanonicalLists) (c : ℕ) where
       let both = or_failed (is_nothing listed) (pointwise nat_eq listed ds) f in
       (ds, e, something_told listed both.0, other_text listed ds (sym both.1))
 
-  full_fails : ContradictsFull lists c → is_full_list (built_in_full c) (take 9 full) ≡ false
-  full_fails w =
-      let short = full_short c w.0 w.1 in
-      ap (λ (o : Option (List ℕ)). is_full_list o (take 9 full)) w.1
-      ∙ other_fails (take 9 full) w.0 (λ e. w.2 (short_start 9 full w.0 (omega arith) e))
+  full_fails : ContradictsFull lists c → is_full_list (built_in_full c) inside (take 9 full) ≡ false
+  full_fails (list, e, outside) =
+      let short = full_short c list e in
+      ap (λ (o : Option (List ℕ)). is_full_list o inside (take 9 full)) e
+      ∙ ⊎_elim
+      (λ out. and_left inside (pointwise nat_eq (take 9 full) list) out)
+      (λ other. and_right inside (pointwise nat_eq (take 9 full) list) (other_fails (take 9 full) list (λ s. other (short_start 9 full list (omega arith) s))))
+      outside
 
-  full_told : (o : Option (List ℕ)) → built_in_full c ≡ o → is_full_list o (take 9 full) ≡ false → ContradictsFull lists c
+  full_told : (o : Option (List ℕ)) → built_in_full c ≡ o → is_full_list o inside (take 9 full) ≡ false → ContradictsFull lists c
   full_told None e f = absurd (false≢true (sym f))
   full_told (Some list) e f =
       let short = full_short c list e in
-      (list, e, λ same. other_text (take 9 full) list (sym f) (ap (take 9) same ∙ take_all 9 list (omega arith)))
+      (list, e, ⊎_elim
+      (λ out. inl out)
+      (λ other. inr (λ same. other_text (take 9 full) list (sym other) (ap (take 9) same ∙ take_all 9 list (omega arith))))
+      (and_cases inside (pointwise nat_eq (take 9 full) list) f))
 
   low_fails : IsLowMark lists c → is_starter_if_low c class ≡ false
   low_fails w = let low = w.0 in let ne = w.1 in grind (arith, nat_tests)
@@ -176,7 +185,7 @@ module _ (lists : CanonicalLists) (c : ℕ) where
   letter_test = names_no_letter (built_in_step c) listed
 
   abbrev full_test : Bool
-  full_test = is_full_list (built_in_full c) (take 9 full)
+  full_test = is_full_list (built_in_full c) inside (take 9 full)
 
   -- the later tests, from one on
   abbrev from_full : Bool

@@ -3,7 +3,7 @@ use Rattle.std.specs.Prelude.{ℕ, Bool, true, false, not, ◌==◌, ◌&&◌, �
 use Rattle.std.specs.List.{list_any}
 use Rattle.std.specs.Cmp.Lexicographic.{pointwise}
 use Rattle.icu_normalizer_core.specs.BuiltIn.{is_syllable, is_jamo, built_in_step, built_in_class}
-use Rattle.icu_normalizer_core.specs.CanonicalWords.{built_in_full}
+use Rattle.icu_normalizer_core.specs.CanonicalWords.{is_inside, built_in_full}
 use Rattle.icu_normalizer_core.specs.CanonicalLists.{CanonicalLists, canonical_of, listed_step}
 
 abbrev pub is_nothing : List ℕ → Bool
@@ -23,10 +23,10 @@ abbrev pub is_listed_step : Option (List ℕ) → List ℕ → Bool
 is_listed_step None listed = true
 is_listed_step (Some ds) listed = is_nothing listed || pointwise nat_eq listed ds
 
--- the first nine characters of the full list are the built-in list, where one is built in; those have at most three
-abbrev pub is_full_list : Option (List ℕ) → List ℕ → Bool
-is_full_list None first_nine = true
-is_full_list (Some list) first_nine = pointwise nat_eq first_nine list
+-- where a full list is built in, that of the tables is inside the lists, and its first nine characters are the built-in list; those have at most three
+abbrev pub is_full_list : Option (List ℕ) → Bool → List ℕ → Bool
+is_full_list None inside first_nine = true
+is_full_list (Some list) inside first_nine = inside && pointwise nat_eq first_nine list
 
 -- a character below U+0300 is a starter
 abbrev pub is_starter_if_low : ℕ → ℕ → Bool
@@ -46,10 +46,11 @@ unfoldable pub agrees : CanonicalLists → ℕ → Bool
 agrees lists c =
     let class = (canonical_of lists).class c
     in let listed = listed_step lists.steps c
+    in let inside = is_inside lists.scalars16 lists.scalars24 (lists.word c)
     in let first_nine = take 9 ((canonical_of lists).full c)
     in is_class (built_in_class c) class
     && (is_starter_if_low c class
     && (is_unmapped_if_low c listed
     && (is_listed_step (built_in_step c) listed
     && (names_no_letter (built_in_step c) listed
-    && is_full_list (built_in_full c) first_nine))))
+    && is_full_list (built_in_full c) inside first_nine))))

@@ -68,9 +68,11 @@ ContradictsClass lists c = (k : ℕ) × (built_in_class c ≡ Some k) × ((canon
 abbrev pub ContradictsStep : CanonicalLists → ℕ → Type 0
 ContradictsStep lists c = (ds : List ℕ) × (built_in_step c ≡ Some ds) × (listed_step lists.steps c ≢ []) × (listed_step lists.steps c ≢ ds)
 
--- another full list than that of the built-in mapping
+-- beside a built-in mapping a full list outside the lists, or another one than the mapping's
 abbrev pub ContradictsFull : CanonicalLists → ℕ → Type 0
-ContradictsFull lists c = (list : List ℕ) × (built_in_full c ≡ Some list) × ((canonical_of lists).full c ≢ list)
+ContradictsFull lists c =
+    (list : List ℕ) × (built_in_full c ≡ Some list)
+    × ((is_inside lists.scalars16 lists.scalars24 (lists.word c) ≡ false) ⊎ ((canonical_of lists).full c ≢ list))
 
 -- a character below U+0300 is a starter, one below U+00C0 has no mapping
 abbrev pub IsLowMark : CanonicalLists → ℕ → Type 0

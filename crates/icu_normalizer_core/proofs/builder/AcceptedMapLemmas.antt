@@ -10,11 +10,11 @@ use Rattle.icu_normalizer_core.specs.Canonical.{Leaves, IsFree}
 use Rattle.icu_normalizer_core.specs.CanonicalFaults.{NoneOffends, OffendsValue, OffendsList, begins_with_mark, AllEnd}
 use Rattle.icu_normalizer_core.specs.CanonicalLists.{CanonicalLists, canonical_of, step_in}
 use Rattle.icu_normalizer_core.specs.CanonicalMaps.{CanonicalMaps, AreMeaning, KeepRules, step_of, given_step}
-use Rattle.icu_normalizer_core.specs.CanonicalWords.{is_word, is_inside, states_list}
+use Rattle.icu_normalizer_core.specs.CanonicalWords.{is_word, states_list}
 use Rattle.icu_normalizer_core.proofs.DecomposedLemmas.{left_one}
 use Rattle.icu_normalizer_core.proofs.LeftLemmas.{left_alone, left_scalars}
 use Rattle.icu_normalizer_core.proofs.TableMeanings.{class_is, step_is}
-use Rattle.icu_normalizer_core.proofs.builder.BuiltMapLemmas.{built_meaning, built_left, steps_same}
+use Rattle.icu_normalizer_core.proofs.builder.BuiltMapLemmas.{built_meaning, built_left, steps_same, word_inside}
 use Rattle.icu_normalizer_core.proofs.builder.CharacterWordLemmas.{states_class}
 use Rattle.icu_normalizer_core.proofs.builder.FullListWordLemmas.{step_in_scalars}
 
@@ -87,10 +87,7 @@ module _ (maps : CanonicalMaps) (lists : CanonicalLists) (built : AreBuiltOf map
 
   pub good_lists : NoneOffends (OffendsList lists)
   good_lists c s (inl w) = w.1 built.triples
-  good_lists c s (inr (free, inl outside)) =
-      let inside : is_inside lists.scalars16 lists.scalars24 (lists.word c) ≡ true =
-      ap (λ (s16 : List ℕ). is_inside s16 lists.scalars24 (lists.word c)) built.scalars16 ∙ (built.words c s).inside in
-      false≢true (sym outside ∙ inside)
+  good_lists c s (inr (free, inl outside)) = false≢true (sym outside ∙ word_inside maps lists built c s)
   good_lists c s (inr (free, inr (inl long))) = short c s free long
   good_lists c s (inr (free, inr (inr (inl marked)))) = unmarked c s free marked
   good_lists c s (inr (free, inr (inr (inr (list, leaves, ne))))) = ne (full_same c list s leaves)

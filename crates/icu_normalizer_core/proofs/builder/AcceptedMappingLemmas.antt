@@ -19,7 +19,7 @@ use Rattle.icu_normalizer_core.specs.CanonicalMaps.{CanonicalMaps, AreMeaning, K
 use Rattle.icu_normalizer_core.proofs.PairLemmas.{listed_pair_of}
 use Rattle.icu_normalizer_core.proofs.TableMeanings.{full_is}
 use Rattle.icu_normalizer_core.proofs.builder.AcceptedMapLemmas.{good_values, good_lists, all_end}
-use Rattle.icu_normalizer_core.proofs.builder.BuiltMapLemmas.{built_meaning, word_full, built_in_is}
+use Rattle.icu_normalizer_core.proofs.builder.BuiltMapLemmas.{built_meaning, word_full, word_inside, built_in_is}
 use Rattle.icu_normalizer_core.proofs.builder.MapNumberLemmas.{found_all}
 
 -- ---- What is found
@@ -110,7 +110,8 @@ module _ (maps : CanonicalMaps) (lists : CanonicalLists) (built : AreBuiltOf map
   pub good_built_ins : NoneOffends (OffendsBuiltIn lists)
   good_built_ins c s (inl (k, e, ne)) = ne (means.class c s ∙ ap (λ (o : Option ℕ). unwrap_or o (given_class maps.classes c)) e)
   good_built_ins c s (inr (inl (ds, e, some, other))) = some (built.steps c ∙ ap (λ (o : Option (List ℕ)). cond (is_some o) [] (given_step maps.mappings c)) e)
-  good_built_ins c s (inr (inr (inl (list, e, ne)))) = ne (full_is lists c ∙ word_full maps lists built c s ∙ built_in_is maps lists built c list s e)
+  good_built_ins c s (inr (inr (inl (list, e, inl out)))) = false≢true (sym out ∙ word_inside maps lists built c s)
+  good_built_ins c s (inr (inr (inl (list, e, inr ne)))) = ne (full_is lists c ∙ word_full maps lists built c s ∙ built_in_is maps lists built c list s e)
   good_built_ins c s (inr (inr (inr (inl (low, ne))))) = ne (means.class c s ∙ rules.low c low)
   good_built_ins c s (inr (inr (inr (inr (inl (low, ne)))))) = ne (means.step c s ∙ rules.unmapped c low)
   good_built_ins c s (inr (inr (inr (inr (inr (free, (d, has, letter))))))) =

@@ -1,5 +1,5 @@
 -- Tables that are built of maps mean the maps.
-use Rattle.std.proofs.Common.{◌≡◌, ℕ, ◌/◌, ◌^◌, ◌<◌, ⊎_elim, cond, List, [], ◌∷◌, ◌++◌, length, Option, Some, None, refl, sym, ap, subst, ◌∙◌, arith}
+use Rattle.std.proofs.Common.{◌≡◌, ℕ, ◌/◌, ◌^◌, ◌<◌, ⊎_elim, cond, true, List, [], ◌∷◌, ◌++◌, length, Option, Some, None, refl, sym, ap, subst, ◌∙◌, arith}
 use Rattle.std.specs.Char.{IsScalar}
 use Rattle.std.specs.Option.{is_some, unwrap_or, IfSome}
 use Rattle.icu_normalizer_core.specs.BuiltIn.{built_in_step, built_in_class, syllable_of}
@@ -7,7 +7,7 @@ use Rattle.icu_normalizer_core.specs.BuiltMaps.{AreBuiltOf}
 use Rattle.icu_normalizer_core.specs.Canonical.{Leaves, nothing, unmapped, mapped}
 use Rattle.icu_normalizer_core.specs.CanonicalLists.{CanonicalLists, canonical_of, listed_step, step_in}
 use Rattle.icu_normalizer_core.specs.CanonicalMaps.{CanonicalMaps, AreMeaning, class_of, step_of, given_class, given_step, given_pair}
-use Rattle.icu_normalizer_core.specs.CanonicalWords.{built_in_full, full_of_word}
+use Rattle.icu_normalizer_core.specs.CanonicalWords.{is_inside, built_in_full, full_of_word}
 use Rattle.icu_normalizer_core.specs.Settled.{key_at}
 use Rattle.icu_normalizer_core.proofs.BuiltInFacts.{built_in_left}
 use Rattle.icu_normalizer_core.proofs.EndingLemmas.{listed_or_not}
@@ -48,6 +48,9 @@ module _ (maps : CanonicalMaps) (lists : CanonicalLists) (built : AreBuiltOf map
 
   pub word_full : (c : ℕ) → IsScalar c → full_of_word lists.scalars16 lists.scalars24 c (lists.word c) ≡ full_of_word [] lists.scalars24 c (lists.word c)
   word_full c s = ap (λ (s16 : List ℕ). full_of_word s16 lists.scalars24 c (lists.word c)) built.scalars16
+
+  pub word_inside : (c : ℕ) → IsScalar c → is_inside lists.scalars16 lists.scalars24 (lists.word c) ≡ true
+  word_inside c s = ap (λ (s16 : List ℕ). is_inside s16 lists.scalars24 (lists.word c)) built.scalars16 ∙ (built.words c s).inside
 
   pub built_in_is : (c : ℕ) (list : List ℕ) → IsScalar c → built_in_full c ≡ Some list → full_of_word [] lists.scalars24 c (lists.word c) ≡ list
   built_in_is c list s e = subst (λ (o : Option (List ℕ)). IfSome o (λ l. full_of_word [] lists.scalars24 c (lists.word c) ≡ l)) e (built.words c s).built_in

@@ -1,16 +1,17 @@
 //! Characters of which tables contradict what is built in.
 
-ghost use Rattle.std.specs.Prelude.{◌≡◌, ◌||◌, MatchOption, nat_eq, take, Option, option_map};
+ghost use Rattle.std.specs.Prelude.{◌≡◌, ◌&&◌, ◌||◌, MatchOption, nat_eq, take, Option, option_map};
 ghost use Rattle.std.specs.Cmp.Lexicographic.{pointwise};
 ghost use Rattle.icu_normalizer_core.specs.BuiltInTests.{agrees, is_letter, is_class, is_listed_step, is_full_list, is_starter_if_low, is_unmapped_if_low, names_no_letter};
 ghost use Rattle.icu_normalizer_core.specs.CanonicalFaults.{NoneOffends, IsLeastOffender, OffendsBuiltIn};
 ghost use Rattle.icu_normalizer_core.specs.CanonicalLists.{AreTriples};
 ghost use Rattle.icu_normalizer_core.specs.CanonicalMeaning.{lists_of, meaning};
-ghost use Rattle.icu_normalizer_core.specs.CanonicalWords.{built_in_full};
+ghost use Rattle.icu_normalizer_core.specs.CanonicalWords.{is_inside, built_in_full};
 ghost use Rattle.icu_normalizer_core.specs.Plain.{Tells};
 ghost use Rattle.icu_normalizer_core.specs.Properties.{mapped_to};
 ghost use Rattle.icu_normalizer_core.specs.Settled.{left_items};
 
+use super::full_lists::is_inside;
 use super::full_start::full_start;
 use super::left::Left;
 use super::settle::letters;
@@ -127,13 +128,15 @@ fn is_same_list(a: Left, b: Left) -> bool
     a.characters[..a.count] == b.characters[..b.count]
 }
 
-/// Whether the full list of a character is the built-in one, where one is built in.
+/// Whether the full list of a character is inside the tables and is the built-in one, where one is built in.
 fn is_full_list(tables: &CanonicalTables<'_>, c: char) -> bool
-    ensures { result ≡ is_full_list (built_in_full c) (take 9 ((meaning tables.now).full c)) }
+    ensures { result ≡ is_full_list (built_in_full c) (is_inside tables.now.scalars16 tables.now.scalars24 ((lists_of tables.now).word c)) (take 9 ((meaning tables.now).full c)) }
 {
     match built_in_full(c as u32) {
         None => true,
-        Some(list) => is_same_list(full_start(tables, c), list),
+        Some(list) => {
+            is_inside(tables, tables.word(c)) && is_same_list(full_start(tables, c), list)
+        }
     }
 }
 

@@ -21,7 +21,7 @@ use icu_packed_vector::PackedVec;
 
 /// Whether the word names no place outside the lists.
 #[tactic(auto, unfolding(crate::specs::CanonicalWords::is_inside))]
-fn is_inside(tables: &CanonicalTables<'_>, word: u32) -> bool
+pub(super) fn is_inside(tables: &CanonicalTables<'_>, word: u32) -> bool
     ensures { result ≡ is_inside tables.now.scalars16 tables.now.scalars24 word }
 {
     if !is_list_word(word) {
