@@ -31,7 +31,8 @@ pub(super) fn skip_low<'t>(canonical: CanonicalBorrowed<'_>, text: &'t str) -> O
     }
 }
 
-/// Whether a character and the first of its full list are below U+0300, so that nothing before it composes with it.
+/// Whether a character and the first of its full list are below U+0300. Then nothing before it composes with it, since
+/// the second of a composed pair never is.
 #[inline]
 fn is_apart(canonical: CanonicalBorrowed<'_>, c: char) -> bool
     ensures { IsTrue result → IsApart (borrowed_meaning canonical.entry) c }

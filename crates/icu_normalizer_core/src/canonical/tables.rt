@@ -13,11 +13,13 @@ use std::fmt;
 /// Canonical data in packed tables, not yet checked (`CanonicalData::try_new` checks them).
 #[derive(Debug, Drop)]
 pub struct CanonicalTables<'a> {
-    /// The canonical word of each code point: its class, or its full list.
+    /// The canonical word of each code point: its class, or its full list. A list that fits into no word stands in
+    /// `scalars16` or `scalars24`, and the word says its place and its length; places are counted through
+    /// `scalars16` and on through `scalars24`.
     pub trie: CodePointTrie<'a, u32>,
-    /// The characters of full lists of characters below 10000 (hex).
+    /// Full lists, one after another, of characters below 10000 (hex) alone. A builder leaves this empty.
     pub scalars16: PackedVec<'a, u16>,
-    /// The characters of other full lists.
+    /// Full lists, one after another, of any characters. A builder writes all of them here.
     pub scalars24: PackedVec<'a, char>,
     /// The mappings, three numbers each in rising order: the character, what it is mapped to first, and
     /// second, 110000 (hex) where there is no second. Built-in mappings are left out.
@@ -27,21 +29,27 @@ pub struct CanonicalTables<'a> {
     pub pairs: PackedVec<'a, u64>,
 }
 
-/// Why tables are no canonical data: the first cause, of the least character.
+/// Why tables are no canonical data. The causes are looked for in this order, and of each the least character is
+/// named.
 #[derive(Clone, Copy, Debug, PartialEq, Eq)]
 pub enum CanonicalFault {
-    /// The character has no word, or one that has none of the forms.
+    /// The trie has no word for the character, or one that says neither a class from 1 to 254 nor a full list, nor that
+    /// the character is its own full list and a starter.
     BadValue(char),
-    /// The character's full list is outside the lists, has over eight characters, begins with a mark, or is
-    /// not what mapping steps leave. Of U+0000: the mappings are no rising triples of characters.
+    /// The character has no built-in mapping, and its full list ends past `scalars24` (or, where it begins in
+    /// `scalars16`, past that), has over eight characters, is stated and begins with a mark, or isn't what is left of
+    /// the character when no mapping step is possible any more. Of U+0000 also: `steps` aren't threes of characters,
+    /// in rising order.
     BadList(char),
     /// The mapping steps from the character don't end.
     Loop(char),
-    /// What is built in of the character is contradicted.
+    /// The class, the mapping or the full list contradicts what is built in of the character (docs/RECORDS.md, "What
+    /// is built in"), as does a full list that ends past the lists; or the character is below U+0300 and a mark, is
+    /// below U+00C0 and mapped, or is mapped to a jamo or a Hangul syllable.
     BuiltIn(char),
-    /// A pair that composes to the character isn't its mapping, or has a second that no pair has; or the
-    /// character is below U+0300 and not its own composed list. Of U+0000: the pairs don't rise or are none
-    /// of characters.
+    /// A pair that composes to the character isn't its mapping in `steps`, or has a second character below U+0300 or
+    /// from U+1161 to U+11FF; or the character is below U+0300 and not its own composed list (NFC). Of U+0000 also:
+    /// `pairs` aren't characters by threes, in rising order, no two of the same two.
     BadPair(char),
 }
 

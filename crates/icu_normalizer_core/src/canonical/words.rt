@@ -1,14 +1,15 @@
-//! What the words of canonical tables say.
+//! What the words of canonical tables say, one word for each code point: a class, or a full list. A full list is what
+//! mapping steps leave of the character; a word of 0 says that this is the character itself, a starter.
 
 ghost use Rattle.std.specs.Prelude.{◌≡◌, ◌<◌, ◌^◌};
 ghost use Rattle.icu_normalizer_core.specs.CanonicalWords.{is_mark_word, is_singled_word, is_one_word, is_pair_word, is_list_word, states_list, class_of_word, is_word};
 
 use crate::built_in::{built_in_class, is_singled_out, is_syllable};
 
-/// A word without its two uppermost bits.
+/// All bits of a word but the two uppermost, which say nothing here.
 pub(super) const PLAIN_WORD: u32 = 0x3fff_ffff;
 
-/// Whether the word is that of a mark, which states its class.
+/// Whether the word is that of a mark: D800 (hex) and its class, from 1 to 254.
 #[inline]
 pub(super) fn is_mark_word(word: u32) -> bool
     ensures { result ≡ is_mark_word word }
@@ -16,7 +17,8 @@ pub(super) fn is_mark_word(word: u32) -> bool
     (0xd801..=0xd8fe).contains(&word)
 }
 
-/// Whether the word is that of the seven characters with a built-in mapping but without a composed pair.
+/// Whether the word is that of one of the seven characters with a built-in mapping but without a composed pair
+/// (docs/RECORDS.md, "What is built in"). Its low byte says nothing.
 #[inline]
 pub(super) fn is_singled_word(word: u32) -> bool
     ensures { result ≡ is_singled_word word }
@@ -24,7 +26,7 @@ pub(super) fn is_singled_word(word: u32) -> bool
     (0xd900..=0xd9ff).contains(&word)
 }
 
-/// Whether the word states a list of one character, itself.
+/// Whether the word is the code point of the one character of the full list.
 #[inline]
 pub(super) fn is_one_word(word: u32) -> bool
     ensures { result ≡ is_one_word word }
@@ -32,7 +34,7 @@ pub(super) fn is_one_word(word: u32) -> bool
     (2..=0xd7ff).contains(&word) || (0xe000..=0xffff).contains(&word)
 }
 
-/// Whether the word states a list of two characters, one in its lower 15 bits.
+/// Whether the word is the two characters of the full list: the first in its lower 15 bits, the second above.
 #[inline]
 pub(super) fn is_pair_word(word: u32) -> bool
     ensures { result ≡ is_pair_word word }
@@ -40,7 +42,8 @@ pub(super) fn is_pair_word(word: u32) -> bool
     word >= 0x1_0000 && word & 0x7fff >= 0x20
 }
 
-/// Whether the word states where a list stands.
+/// Whether the word says where the full list stands: from bit 16 on its place and one more, in the lower four bits its
+/// length, less two in `scalars16` and less one in `scalars24`.
 #[inline]
 pub(super) fn is_list_word(word: u32) -> bool
     ensures { result ≡ is_list_word word }
@@ -48,14 +51,15 @@ pub(super) fn is_list_word(word: u32) -> bool
     word >= 0x1_0000 && word & 0xffff < 0x20
 }
 
-/// Whether the word states a full list.
+/// Whether the word states a full list, in one of these three ways.
 pub(super) fn states_list(word: u32) -> bool
     ensures { result ≡ states_list word }
 {
     is_one_word(word) || is_pair_word(word) || is_list_word(word)
 }
 
-/// Whether the word has one of the forms for the character.
+/// Whether the word says something of the character: that it is its own full list and a starter, that its full list is
+/// a syllable's letters, a class, or a full list.
 #[tactic(auto, unfolding(crate::specs::CanonicalWords::is_word))]
 pub(super) fn is_word(c: u32, word: u32) -> bool
     ensures { result ≡ is_word c word }

@@ -57,9 +57,10 @@ impl fmt::Display for TableName {
 pub enum DataError {
     /// The provider doesn't have the table.
     Missing(TableName),
-    /// The table is damaged.
+    /// The provider has the table, but can't read it: its bytes end too early, say, or hold a value that is none of
+    /// its type. Only the provider says so.
     Invalid(TableName),
-    /// The canonical tables are no canonical data.
+    /// The canonical tables were loaded, and `CanonicalData::try_new` refuses them for this fault.
     Canonical(CanonicalFault),
     /// Memory was refused.
     Memory,

@@ -3,23 +3,24 @@
 use icu_codepointtrie::CodePointTrie;
 use icu_packed_vector::PackedVec;
 
-/// The characters of canonical full lists, and the mappings, in the forms that `CanonicalTables` tells.
+/// The characters of canonical full lists, and the mappings: what `CanonicalTables` has under these names.
 #[derive(Debug, Drop)]
 pub struct NfdLists<'a> {
-    /// The characters of full lists of characters below 10000 (hex).
+    /// Full lists, one after another, of characters below 10000 (hex) alone; it may be empty.
     pub scalars16: PackedVec<'a, u16>,
-    /// The characters of other full lists.
+    /// Full lists, one after another, of any characters; their places are counted on from the end of `scalars16`.
     pub scalars24: PackedVec<'a, char>,
-    /// The mappings, three numbers each.
+    /// The mappings, three numbers each in rising order: the character, what it is mapped to first, and second,
+    /// 110000 (hex) where there is no second.
     pub steps: PackedVec<'a, u32>,
 }
 
 /// The characters of compatibility full lists.
 #[derive(Debug, Drop)]
 pub struct NfkdLists<'a> {
-    /// The characters of full lists of characters below 10000 (hex).
+    /// Full lists, one after another, of characters below 10000 (hex) alone; it may be empty.
     pub scalars16: PackedVec<'a, u16>,
-    /// The characters of other full lists.
+    /// Full lists, one after another, of any characters; their places are counted on from the end of `scalars16`.
     pub scalars24: PackedVec<'a, char>,
 }
 
