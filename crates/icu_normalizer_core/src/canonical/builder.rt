@@ -11,7 +11,6 @@ mod full_lists;
 mod in_order;
 mod list_words;
 mod lists;
-mod meaning;
 mod numbers;
 mod pairs;
 mod steps;
