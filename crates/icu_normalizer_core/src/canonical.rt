@@ -5,6 +5,7 @@ mod builder;
 mod check;
 mod data;
 mod full_list;
+mod packing;
 mod pairs;
 mod search;
 mod steps;

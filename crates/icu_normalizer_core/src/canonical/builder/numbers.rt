@@ -8,6 +8,7 @@ ghost use Rattle.icu_normalizer_core.specs.MapNumbers.{second_code, mapping_numb
 
 use super::GivenMapping;
 use crate::built_in::built_in_step;
+use crate::canonical::packing::CODE_LIMIT;
 use crate::canonical::steps::NO_SECOND;
 use std::alloc::{AllocError, Global};
 
@@ -90,8 +91,8 @@ pub(super) fn triples(alloc: Global, numbers: &[u64]) -> Result<Vec<u32>, AllocE
     let mut parts = Vec::new(alloc);
     for n in numbers {
         parts.push((*n >> 42) as u32)?;
-        parts.push(((*n >> 21) % 0x20_0000) as u32)?;
-        parts.push((*n % 0x20_0000) as u32)?;
+        parts.push(((*n >> 21) % CODE_LIMIT) as u32)?;
+        parts.push((*n % CODE_LIMIT) as u32)?;
     }
     Ok(parts)
 }

@@ -8,6 +8,7 @@ ghost use Rattle.icu_normalizer_core.specs.GivenMaps.{IsOfScalars};
 use super::GivenMapping;
 use super::in_order::in_order;
 use super::numbers::pair_numbers;
+use crate::canonical::packing::CODE_LIMIT;
 use std::alloc::{AllocError, Global};
 
 /// The composed pairs that aren't built in, one number each in rising order. The only error is want of memory.
@@ -17,6 +18,6 @@ pub(super) fn pairs(alloc: Global, mappings: &[GivenMapping]) -> Result<Vec<u64>
     ensures listed { IfOk result (λ pairs. (a b : ℕ) → b < 2 ^ 21 → listed_pair pairs.items a b ≡ given_pair mappings.now a b) }
 {
     let numbers = pair_numbers(alloc, mappings)?;
-    let sorted = in_order(alloc, numbers.as_slice(), 0x20_0000)?;
+    let sorted = in_order(alloc, numbers.as_slice(), CODE_LIMIT)?;
     Ok(sorted)
 }

@@ -12,6 +12,7 @@ ghost use Rattle.icu_normalizer_core.specs.Settled.{key_at};
 use super::GivenMapping;
 use super::in_order::in_order;
 use super::numbers::{mapping_numbers, triples};
+use crate::canonical::packing::TWO_CODES_LIMIT;
 use std::alloc::{AllocError, Global};
 
 /// The mappings that aren't built in, three numbers each in rising order. The only error is want of memory.
@@ -23,7 +24,7 @@ pub(super) fn steps(alloc: Global, mappings: &[GivenMapping]) -> Result<Vec<u32>
     ensures free { IfOk result (λ steps. (place : ℕ) → place < length steps.items / 3 → IsFree (key_at steps.items place)) }
 {
     let numbers = mapping_numbers(alloc, mappings)?;
-    let sorted = in_order(alloc, numbers.as_slice(), 0x400_0000_0000)?;
+    let sorted = in_order(alloc, numbers.as_slice(), TWO_CODES_LIMIT)?;
     let steps = triples(alloc, sorted.as_slice())?;
     Ok(steps)
 }

@@ -5,6 +5,7 @@ ghost use Rattle.std.specs.Char.{IsScalar};
 ghost use Rattle.icu_normalizer_core.specs.CanonicalLists.{AreTriples, ArePairs};
 ghost use Rattle.icu_normalizer_core.specs.Triples.{IsTripleAt, IsPairAt};
 
+use crate::canonical::packing::CODE_LIMIT;
 use crate::canonical::steps::NO_SECOND;
 use icu_packed_vector::PackedVec;
 
@@ -52,8 +53,8 @@ fn is_pair(pairs: &PackedVec<'_, u64>, place: usize) -> bool
 {
     let pair = pairs.at(place);
     let first = pair >> 42;
-    let second = (pair >> 21) % 0x20_0000;
-    let composed = pair % 0x20_0000;
+    let second = (pair >> 21) % CODE_LIMIT;
+    let composed = pair % CODE_LIMIT;
     is_character(first as u32)
         && is_character(second as u32)
         && is_character(composed as u32)

@@ -10,6 +10,7 @@ ghost use Rattle.icu_normalizer_core.specs.PairTests.{IsNotOwn};
 use super::full_start::full_start;
 use super::marks::{class_of, put_marks_in_order};
 use crate::built_in::syllable_of;
+use crate::canonical::packing::CODE_LIMIT;
 use crate::canonical::pairs::listed_pair;
 use crate::canonical::tables::CanonicalTables;
 
@@ -21,7 +22,7 @@ fn composed_pair(tables: &CanonicalTables<'_>, first: u32, second: u32) -> Optio
     match syllable_of(first, second) {
         Some(syllable) => Some(syllable),
         None => {
-            if first >= 0x20_0000 || second >= 0x20_0000 {
+            if first as u64 >= CODE_LIMIT || second as u64 >= CODE_LIMIT {
                 return None;
             }
             listed_pair(&tables.pairs, first, second)

@@ -12,6 +12,7 @@ ghost use Rattle.icu_normalizer_core.specs.Properties.{mapped_to};
 use super::forms::are_pairs;
 use super::own::first_not_own;
 use crate::built_in::built_in_step;
+use crate::canonical::packing::CODE_LIMIT;
 use crate::canonical::steps::listed_step;
 use crate::canonical::tables::CanonicalTables;
 use crate::properties::Decomposed;
@@ -47,8 +48,8 @@ fn is_bad_pair(tables: &CanonicalTables<'_>, pair: u64) -> bool
     ensures { result ≡ is_bad_pair (lists_of tables.now) pair }
 {
     let first = (pair >> 42) as u32;
-    let second = ((pair >> 21) % 0x20_0000) as u32;
-    let composed = (pair % 0x20_0000) as u32;
+    let second = ((pair >> 21) % CODE_LIMIT) as u32;
+    let composed = (pair % CODE_LIMIT) as u32;
     built_in_step(composed).is_some()
         || !is_step_to(listed_step(&tables.steps, composed), first, second)
         || second < 0x300
@@ -60,7 +61,7 @@ fn composed_of(pair: u64) -> char
     requires { IsScalar (pair_composed pair) }
     ensures { result ≡ pair_composed pair }
 {
-    char::from_u32((pair % 0x20_0000) as u32).unwrap()
+    char::from_u32((pair % CODE_LIMIT) as u32).unwrap()
 }
 
 /// The least character that a bad entry composes to, `None` where there is none.
