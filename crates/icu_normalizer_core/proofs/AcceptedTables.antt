@@ -15,6 +15,7 @@ use Rattle.icu_normalizer_core.specs.CanonicalFaults.{IsAccepted, begins_with_ma
 use Rattle.icu_normalizer_core.proofs.AcceptedForms.{accepted_triples, eq_stands}
 use Rattle.icu_normalizer_core.proofs.TableMeanings.{class_is, full_is, step_built_in, step_free}
 use Rattle.icu_normalizer_core.proofs.LeftLemmas.{unmapped_itself, left_scalars}
+use Rattle.icu_normalizer_core.proofs.TripleLemmas.{further}
 use Rattle.icu_normalizer_core.proofs.BuiltInFacts.{small_class, class_scalar, built_in_short, built_in_left, syllable_mapped, singled_mapped}
 
 -- lists are equal where they can't differ
@@ -62,9 +63,6 @@ listed_short (k ∷ a ∷ b ∷ rest) c =
 pub record AreTargets (steps : List ℕ) : Type 0 where
   pub firsts : (i : ℕ) → 3 * i < length steps → IsScalar (slice_index steps (3 * i + 1))
   pub seconds : (i : ℕ) → 3 * i < length steps → slice_index steps (3 * i + 2) ≢ 0x110000 → IsScalar (slice_index steps (3 * i + 2))
-
-further : (k a b : ℕ) (rest : List ℕ) (i d : ℕ) → slice_index (k ∷ a ∷ b ∷ rest) (3 * suc i + d) ≡ slice_index rest (3 * i + d)
-further k a b rest i d = let e : 3 * suc i + d ≡ suc (suc (suc (3 * i + d))) = omega arith in rw e refl
 
 targets_behind : (k a b : ℕ) (rest : List ℕ) → AreTargets (k ∷ a ∷ b ∷ rest) → AreTargets rest
 targets_behind k a b rest t = record {

@@ -143,9 +143,27 @@ no_class_high : (c : ℕ) → 0xd7a4 ≤ c → c < 0xe000 → built_in_class c �
 unfolding built_in_class
 no_class_high c h k = grind (arith, nat_tests)
 
-no_class_past : (c : ℕ) → 0x10000 ≤ c → built_in_class c ≡ None
+pub no_class_past : (c : ℕ) → 0x10000 ≤ c → built_in_class c ≡ None
 unfolding built_in_class
 no_class_past c h = grind (arith, nat_tests)
+
+pub free_past : (c : ℕ) → 0x10000 ≤ c → built_in_step c ≡ None
+unfolding built_in_step singled_out
+free_past c h = grind (arith, nat_tests)
+
+-- no mapping is built in below U+0300, and no full list where no mapping is
+pub low_free : (c : ℕ) → c < 0x300 → built_in_step c ≡ None
+unfolding built_in_step singled_out
+low_free c h = grind (arith, nat_tests)
+
+chain_none : (a b : Bool) (x y u v : List ℕ) (r : Option (List ℕ)) → cond a (Some x) (cond b (Some y) r) ≡ None → cond a (Some u) (cond b (Some v) r) ≡ None
+chain_none true b x y u v r e = absurd (none-some x (sym e))
+chain_none false true x y u v r e = absurd (none-some y (sym e))
+chain_none false false x y u v r e = e
+
+pub free_full : (c : ℕ) → built_in_step c ≡ None → built_in_full c ≡ None
+unfolding built_in_step built_in_full
+free_full c e = chain_none (is_syllable c) (is_jamo c || (c == 0xfffd)) (syllable_step c) [] _ _ (singled_out c) e
 
 -- numbers from U+E000 to U+10FFFF are scalar values
 high_scalar : (c : ℕ) → 0xe000 ≤ c → c < 0x110000 → IsScalar c

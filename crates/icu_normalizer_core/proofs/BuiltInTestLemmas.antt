@@ -3,7 +3,7 @@ use Rattle.std.proofs.Common.{◌≡◌, ◌≢◌, ℕ, zero, suc, ◌<◌, ◌
 use Rattle.std.specs.List.{list_any, Contains}
 use Rattle.std.specs.Cmp.Lexicographic.{pointwise, same_text, other_text}
 use Rattle.std.proofs.lemmas.List.{take_all, length-take}
-use Rattle.std.proofs.lemmas.Bool.{and_cases, and_left, and_right, cases_Bool, cond-true, cond-false, ne_eqb, eqb-false, false≢true, or_left, or_right}
+use Rattle.std.proofs.lemmas.Bool.{and_cases, and_left, and_right, cases_Bool, cond-true, cond-false, ne_eqb, eqb-false, false≢true, or_from, or_left, or_parts, or_right}
 use Rattle.std.proofs.lemmas.Bool.Decides.{nat_tests}
 use Rattle.std.proofs.lemmas.Option.{same_Some}
 use Rattle.icu_normalizer_core.specs.BuiltIn.{is_syllable, is_jamo, singled_out, built_in_step, built_in_class}
@@ -11,7 +11,7 @@ use Rattle.icu_normalizer_core.specs.BuiltInTests.{is_nothing, is_letter, is_cla
 use Rattle.icu_normalizer_core.specs.CanonicalFaults.{ContradictsClass, ContradictsStep, ContradictsFull, IsLowMark, IsLowMapped, MapsToLetter, OffendsBuiltIn}
 use Rattle.icu_normalizer_core.specs.CanonicalLists.{CanonicalLists, canonical_of, listed_step}
 use Rattle.icu_normalizer_core.specs.CanonicalWords.{is_inside, built_in_full, syllable_letters}
-use Rattle.icu_normalizer_core.proofs.BuiltInFacts.{all_singled_out, letters_short}
+use Rattle.icu_normalizer_core.proofs.BuiltInFacts.{all_singled_out, letters_short, low_free}
 use Rattle.icu_normalizer_core.proofs.TableMeanings.{step_free}
 
 -- ---- Lists
@@ -37,13 +37,6 @@ short_start n xs ys short e =
     let size : length (take n xs) ≡ length ys = ap length e in
     let cut = length-take n xs in
     sym (take_all n xs (omega arith)) ∙ e
-
-or_fails : (a b : Bool) → a ≡ false → b ≡ false → (a || b) ≡ false
-or_fails a b e f = ap (λ (t : Bool). t || b) e ∙ f
-
-or_failed : (a b : Bool) → (a || b) ≡ false → (a ≡ false) × (b ≡ false)
-or_failed false b e = (refl, e)
-or_failed true b e = absurd (false≢true (sym e))
 
 -- ---- Letters among a list
 
@@ -79,11 +72,6 @@ full_short c list e =
     (cases_Bool (is_jamo c || (c == 0xfffd))))
     (cases_Bool (is_syllable c))
 
--- nothing is built in of the mappings of characters below U+00C0
-low_free : (c : ℕ) → c < 0xc0 → built_in_step c ≡ None
-unfolding built_in_step singled_out
-low_free c h = grind (arith, nat_tests)
-
 -- ---- Each cause and its test
 
 module _ (lists : CanonicalLists) (c : ℕ) where
@@ -109,12 +97,12 @@ module _ (lists : CanonicalLists) (c : ℕ) where
   step_fails : ContradictsStep lists c → is_listed_step (built_in_step c) listed ≡ false
   step_fails w =
       ap (λ (o : Option (List ℕ)). is_listed_step o listed) w.1
-      ∙ or_fails (is_nothing listed) (pointwise nat_eq listed w.0) (something_fails listed w.2) (other_fails listed w.0 w.3)
+      ∙ or_from (is_nothing listed) (pointwise nat_eq listed w.0) (something_fails listed w.2) (other_fails listed w.0 w.3)
 
   step_told : (o : Option (List ℕ)) → built_in_step c ≡ o → is_listed_step o listed ≡ false → ContradictsStep lists c
   step_told None e f = absurd (false≢true (sym f))
   step_told (Some ds) e f =
-      let both = or_failed (is_nothing listed) (pointwise nat_eq listed ds) f in
+      let both = or_parts (is_nothing listed) (pointwise nat_eq listed ds) f in
       (ds, e, something_told listed both.0, other_text listed ds (sym both.1))
 
   full_fails : ContradictsFull lists c → is_full_list (built_in_full c) inside (take 9 full) ≡ false
@@ -129,31 +117,34 @@ module _ (lists : CanonicalLists) (c : ℕ) where
   full_told : (o : Option (List ℕ)) → built_in_full c ≡ o → is_full_list o inside (take 9 full) ≡ false → ContradictsFull lists c
   full_told None e f = absurd (false≢true (sym f))
   full_told (Some list) e f =
-      let short = full_short c list e in
-      (list, e, ⊎_elim
-      (λ out. inl out)
-      (λ other. inr (λ same. other_text (take 9 full) list (sym other) (ap (take 9) same ∙ take_all 9 list (omega arith))))
-      (and_cases inside (pointwise nat_eq (take 9 full) list) f))
+      let short = full_short c list e in (
+        list,
+        e,
+        ⊎_elim
+            (λ out. inl out)
+            (λ other. inr (λ same. other_text (take 9 full) list (sym other) (ap (take 9) same ∙ take_all 9 list (omega arith))))
+            (and_cases inside (pointwise nat_eq (take 9 full) list) f),
+      )
 
   low_fails : IsLowMark lists c → is_starter_if_low c class ≡ false
   low_fails w = let low = w.0 in let ne = w.1 in grind (arith, nat_tests)
 
   low_told : is_starter_if_low c class ≡ false → IsLowMark lists c
   low_told f =
-      let both = or_failed (leb 0x300 c) (class == 0) f in
+      let both = or_parts (leb 0x300 c) (class == 0) f in
       (grind (arith, nat_tests, both), eqb-false class 0 both.1)
 
   unmapped_fails : IsLowMapped lists c → is_unmapped_if_low c listed ≡ false
   unmapped_fails w =
       let low = w.0 in
       let first : leb 0xc0 c ≡ false = grind (arith, nat_tests) in
-      or_fails (leb 0xc0 c) (is_nothing listed) first (something_fails listed (λ none. w.1 (step_free lists c (low_free c low) ∙ none)))
+      or_from (leb 0xc0 c) (is_nothing listed) first (something_fails listed (λ none. w.1 (step_free lists c (low_free c (omega arith)) ∙ none)))
 
   unmapped_told : is_unmapped_if_low c listed ≡ false → IsLowMapped lists c
   unmapped_told f =
-      let both = or_failed (leb 0xc0 c) (is_nothing listed) f in
+      let both = or_parts (leb 0xc0 c) (is_nothing listed) f in
       let low : c < 0xc0 = grind (arith, nat_tests, both) in
-      (low, λ none. something_told listed both.1 (sym (step_free lists c (low_free c low)) ∙ none))
+      (low, λ none. something_told listed both.1 (sym (step_free lists c (low_free c (omega arith))) ∙ none))
 
   letter_fails : MapsToLetter lists c → names_no_letter (built_in_step c) listed ≡ false
   letter_fails w =

@@ -2,7 +2,7 @@
 use Rattle.std.proofs.Common.{◌≡◌, ℕ, zero, suc, ◌<◌, ◌≤◌, inl, inr, Bool, true, false, not, ◌==◌, ◌&&◌, List, [], ◌∷◌, length, take, slice_index, Option, None, Some, refl, sym, ap, subst, ◌∙◌, arith}
 use Rattle.std.specs.Bool.{MatchBool}
 use Rattle.std.specs.Option.{MatchOption}
-use Rattle.std.proofs.lemmas.Bool.{false≢true, and_from}
+use Rattle.std.proofs.lemmas.Bool.{false≢true, and_from, and_left, and_right}
 use Rattle.icu_normalizer_core.specs.declared.canonical.check.left.Left.{Left}
 use Rattle.icu_normalizer_core.specs.Canonical.{Canonical, Leaves, IsFree}
 use Rattle.icu_normalizer_core.specs.CanonicalFaults.{begins_with_mark, LeavesOf, HasBadList, HasOtherList}
@@ -39,13 +39,6 @@ begins_some canonical (suc n) (x ∷ xs) h some = refl
 
 -- ---- Full lists
 
-pub off_left : (a b : Bool) → a ≡ false → (a && b) ≡ false
-off_left a b e = rw e refl
-
-pub off_right : (a b : Bool) → b ≡ false → (a && b) ≡ false
-off_right false b e = refl
-off_right true b e = e
-
 module _ (lists : CanonicalLists) (c : ℕ) where
   abbrev full : List ℕ
   full = (canonical_of lists).full c
@@ -64,7 +57,7 @@ module _ (lists : CanonicalLists) (c : ℕ) where
   pub none_begins : (left : Left) → left_items left ≡ take 9 full → begins_with_mark canonical (left_items left) ≡ false
       → (states_list (lists.word c) && begins_with_mark canonical full) ≡ false
   none_begins left is begins =
-      off_right (states_list (lists.word c)) (begins_with_mark canonical full) (sym (begins_cut canonical 8 full) ∙ ap (begins_with_mark canonical) (sym is) ∙ begins)
+      and_right (states_list (lists.word c)) (begins_with_mark canonical full) (sym (begins_cut canonical 8 full) ∙ ap (begins_with_mark canonical) (sym is) ∙ begins)
 
   other_none : (left : Left) → length full ≤ 8 → left_items left ≡ take 9 full → IsLeftOf lists.steps (c ∷ []) left → HasOtherList lists c → ⊥
   other_none left short is all w = w.2 (cut_known full w.0 short (sym is ∙ all w.0 (left_to lists c w.0 w.1)))
@@ -105,7 +98,7 @@ module _ (lists : CanonicalLists) (c : ℕ) (says_none : lists.word c ≡ 0) (fr
   own_good (inr (inl over)) = let e = ap (λ (xs : List ℕ). length xs) own_is in omega (arith, e, over)
   own_good (inr (inr (inl mark))) =
       false≢true
-      (sym (off_left (states_list (lists.word c)) (begins_with_mark (canonical_of lists) ((canonical_of lists).full c)) (ap (λ (w : ℕ). states_list w) says_none ∙ own_states)) ∙ mark)
+      (sym (and_left (states_list (lists.word c)) (begins_with_mark (canonical_of lists) ((canonical_of lists).full c)) (ap (λ (w : ℕ). states_list w) says_none ∙ own_states)) ∙ mark)
   own_good (inr (inr (inr w))) = w.2 (own_is ∙ left_one (step_in lists.steps) (c ∷ []) (c ∷ []) w.0 own_left (left_to lists c w.0 w.1))
 
 -- ---- What is found, said otherwise

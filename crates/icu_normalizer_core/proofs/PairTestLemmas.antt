@@ -3,16 +3,18 @@ use Rattle.std.proofs.Common.{◌≡◌, ◌≢◌, ℕ, suc, ◌+◌, ◌^◌, 
 use Rattle.std.specs.Option.{is_some}
 use Rattle.std.specs.Cmp.Lexicographic.{pointwise, same_text, other_text}
 use Rattle.std.specs.Char.{IsScalar}
-use lib.Utf8.{low_scalar, scalar_cases}
+use lib.Utf8.{low_scalar}
 use Rattle.std.proofs.lemmas.Bool.{cases_Bool, cases_lt, cases_eq, cond-false, ne_eqb, and_left, and_right, false≢true, or_left, or_right}
 use Rattle.std.proofs.lemmas.Bool.Decides.{nat_tests}
 use Rattle.std.proofs.lemmas.Option.{none-some}
-use Rattle.icu_normalizer_core.specs.BuiltIn.{is_within, singled_out, built_in_step}
+use Rattle.icu_normalizer_core.specs.BuiltIn.{is_within, built_in_step}
 use Rattle.icu_normalizer_core.specs.Canonical.{IsFree}
 use Rattle.icu_normalizer_core.specs.CanonicalFaults.{NoneOffends, OffendsList, OffendsPair, IsBadPair}
 use Rattle.icu_normalizer_core.specs.CanonicalLists.{CanonicalLists, canonical_of, listed_step, listed_pair, ArePairs, pair_first, pair_second, pair_composed}
 use Rattle.icu_normalizer_core.specs.PairTests.{IsBadlyComposed, IsNotOwn, is_bad_pair, least}
+use Rattle.icu_normalizer_core.proofs.BuiltInFacts.{low_free}
 use Rattle.icu_normalizer_core.proofs.OffenderLemmas.{IsLeastIn, least_same, least_single, least_either}
+use Rattle.icu_normalizer_core.proofs.ScalarLemmas.{scalar_below}
 use Rattle.icu_normalizer_core.proofs.TableMeanings.{step_free}
 
 -- ---- Numbers past 2 ^ 21 compose to nothing
@@ -29,11 +31,8 @@ unlisted_by (pair ∷ rest) a b none =
     (cases_eq (pair_first pair) a) in
     cond-false _ _ _ other ∙ unlisted_by rest a b (λ i h e f. none (suc i) (omega arith) e f)
 
-scalar_small : (c : ℕ) → IsScalar c → c < 0x110000
-scalar_small c s = ⊎_elim (λ low. omega arith) (λ high. high.1) (scalar_cases c s)
-
 pub pair_outside : (pairs : List ℕ) (a b : ℕ) → ArePairs pairs → (2 ^ 21 ≤ a) ⊎ (2 ^ 21 ≤ b) → listed_pair pairs a b ≡ None
-pair_outside pairs a b p (inl high) = unlisted_by pairs a b (λ i h first second. let small = scalar_small (pair_first (slice_index pairs i)) (p.firsts i h) in absurd (omega arith))
+pair_outside pairs a b p (inl high) = unlisted_by pairs a b (λ i h first second. let small = scalar_below (pair_first (slice_index pairs i)) (p.firsts i h) in absurd (omega arith))
 pair_outside pairs a b p (inr high) = unlisted_by pairs a b (λ i h first second. absurd (omega arith))
 
 -- ---- Bad entries
@@ -132,10 +131,6 @@ bad_none lists place found good before =
     found before
 
 -- ---- Characters below U+0300
-
-low_free : (c : ℕ) → c < 0x300 → built_in_step c ≡ None
-unfolding built_in_step singled_out
-low_free c h = grind (arith, nat_tests)
 
 pub low_short : (lists : CanonicalLists) (c : ℕ) → c < 0x300 → NoneOffends (OffendsList lists) → length ((canonical_of lists).full c) ≤ 8
 low_short lists c h none =

@@ -1,13 +1,18 @@
 -- What tables mean, part by part.
-use Rattle.std.proofs.Common.{◌≡◌, ℕ, List, Option, None, Some, refl, ap}
+use Rattle.std.proofs.Common.{◌≡◌, ℕ, List, Option, None, Some, true, refl, ap}
 use Rattle.std.specs.Option.{unwrap_or}
 use Rattle.icu_normalizer_core.specs.BuiltIn.{built_in_step, syllable_of}
-use Rattle.icu_normalizer_core.specs.CanonicalWords.{class_of_word, full_of_word}
+use Rattle.icu_normalizer_core.specs.CanonicalWords.{class_of_word, full_of_word, is_word}
 use Rattle.icu_normalizer_core.specs.CanonicalLists.{CanonicalLists, canonical_of, step_in, listed_step, listed_pair}
 
 pub class_is : (lists : CanonicalLists) (c : ℕ) → (canonical_of lists).class c ≡ class_of_word c (lists.word c)
 unfolding canonical_of
 class_is lists c = refl
+
+-- the word 0 has one of the forms
+pub zero_form : (c : ℕ) → is_word c 0 ≡ true
+unfolding is_word
+zero_form c = refl
 
 pub full_is : (lists : CanonicalLists) (c : ℕ) → (canonical_of lists).full c ≡ full_of_word lists.scalars16 lists.scalars24 c (lists.word c)
 unfolding canonical_of

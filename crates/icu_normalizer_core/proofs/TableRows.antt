@@ -1,7 +1,7 @@
 -- Rows of canonical tables: each form of a word, a small table, and what it means.
-use Rattle.std.proofs.Common.{◌≡◌, ℕ, ◌+◌, ◌*◌, ◌^◌, ◌==◌, cond, Bool, true, false, List, [], ◌∷◌, Option, Some, None, refl}
-use Rattle.icu_normalizer_core.specs.Canonical.{Canonical, decomposed, composed}
-use Rattle.icu_normalizer_core.specs.CanonicalWords.{is_word, is_inside, class_of_word, full_of_word, built_in_full}
+use Rattle.std.proofs.Common.{◌≡◌, ℕ, ◌+◌, ◌*◌, ◌^◌, ◌==◌, cond, true, false, [], ◌∷◌, Some, refl}
+use Rattle.icu_normalizer_core.specs.Canonical.{decomposed, composed}
+use Rattle.icu_normalizer_core.specs.CanonicalWords.{is_word, is_inside, class_of_word, full_of_word}
 use Rattle.icu_normalizer_core.specs.CanonicalLists.{CanonicalLists, canonical_of}
 use Rattle.icu_normalizer_core.proofs.TableComputing.{computing}
 

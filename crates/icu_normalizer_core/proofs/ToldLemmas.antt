@@ -1,23 +1,21 @@
 -- Lists of the code points that are not plain, collected one by one; a plain character is at fault for nothing.
-use Rattle.std.proofs.Common.{◌≡◌, ◌≢◌, ℕ, ◌+◌, ◌*◌, ◌-◌, ◌<◌, ◌≤◌, ◌⊎◌, inl, inr, ⊎_elim, Bool, true, false, cond, ◌==◌, ◌||◌, List, [], ◌∷◌, ◌++◌, length, slice_index, Option, Some, None, refl, sym, ap, subst, ◌∙◌, arith, length-append}
+use Rattle.std.proofs.Common.{◌≡◌, ◌≢◌, ℕ, ◌+◌, ◌*◌, ◌-◌, ◌<◌, ◌≤◌, ◌⊎◌, inl, inr, ⊎_elim, List, [], ◌∷◌, ◌++◌, length, slice_index, Option, Some, None, sym, ap, subst, ◌∙◌, arith, length-append}
 use Rattle.std.specs.Option.{MatchOption}
 use Rattle.std.specs.List.{Contains}
 use Rattle.std.specs.Char.{IsScalar}
-use lib.Utf8.{scalar_cases}
 use Rattle.std.proofs.lemmas.Bool.{and_from, cases_lt, both_ways}
-use Rattle.std.proofs.lemmas.Bool.Decides.{nat_tests}
 use Rattle.std.proofs.lemmas.Option.{none-some}
-use Rattle.icu_normalizer_core.specs.BuiltIn.{is_syllable, is_jamo, singled_out, syllable_step, built_in_step, built_in_class}
-use Rattle.icu_normalizer_core.specs.Canonical.{IsFree}
 use Rattle.icu_normalizer_core.specs.CanonicalFaults.{OffendsValue, OffendsList, OffendsBuiltIn}
 use Rattle.icu_normalizer_core.specs.CanonicalLists.{CanonicalLists, AreTriples, canonical_of}
-use Rattle.icu_normalizer_core.specs.CanonicalWords.{built_in_full, is_word}
+use Rattle.icu_normalizer_core.specs.CanonicalWords.{is_word}
 use Rattle.icu_normalizer_core.specs.Plain.{IsPlain, IsIn, Rises, Tells}
 use Rattle.icu_normalizer_core.specs.Triples.{IsUnlisted}
+use Rattle.icu_normalizer_core.proofs.BuiltInFacts.{free_full}
 use Rattle.icu_normalizer_core.proofs.builder.InOrderLemmas.{index_before, index_last}
 use Rattle.icu_normalizer_core.proofs.FaultLemmas.{own_good}
 use Rattle.icu_normalizer_core.proofs.OffenderLemmas.{IsLeastIn}
-use Rattle.icu_normalizer_core.proofs.TableMeanings.{step_free}
+use Rattle.icu_normalizer_core.proofs.ScalarLemmas.{scalar_below}
+use Rattle.icu_normalizer_core.proofs.TableMeanings.{step_free, zero_form}
 use Rattle.icu_normalizer_core.proofs.TripleLemmas.{keys_rise, unlisted_between, listed_none}
 
 -- ---- A list with one more
@@ -149,33 +147,7 @@ tells_all lists told code place so_far end = record {
   triples = λ t c h. so_far.triples t c (omega (arith, h, end));
 }
 
--- ---- Nothing is built in past U+FFFF
-
-pub no_class_past : (c : ℕ) → 0x10000 ≤ c → built_in_class c ≡ None
-unfolding built_in_class
-no_class_past c h = grind (arith, nat_tests)
-
-pub free_past : (c : ℕ) → 0x10000 ≤ c → IsFree c
-unfolding built_in_step singled_out
-free_past c h = grind (arith, nat_tests)
-
 -- ---- A plain character is at fault for nothing
-
-scalar_below : (c : ℕ) → IsScalar c → c < 0x110000
-scalar_below c s = ⊎_elim (λ low. omega arith) (λ high. high.1) (scalar_cases c s)
-
-word_none : (c : ℕ) → is_word c 0 ≡ true
-unfolding is_word
-word_none c = refl
-
-chain_none : (a b : Bool) (x y u v : List ℕ) (r : Option (List ℕ)) → cond a (Some x) (cond b (Some y) r) ≡ None → cond a (Some u) (cond b (Some v) r) ≡ None
-chain_none true b x y u v r e = absurd (none-some x (sym e))
-chain_none false true x y u v r e = absurd (none-some y (sym e))
-chain_none false false x y u v r e = e
-
-full_free : (c : ℕ) → IsFree c → built_in_full c ≡ None
-unfolding built_in_step built_in_full
-full_free c e = chain_none (is_syllable c) (is_jamo c || (c == 0xfffd)) (syllable_step c) [] _ _ (singled_out c) e
 
 none_in : (xs : List ℕ) (d : ℕ) → xs ≡ [] → Contains xs d → ⊥
 none_in [] d e (k, lt, f) = omega arith
@@ -183,7 +155,7 @@ none_in (x ∷ xs) d e w = let size = ap length e in omega (arith, size)
 
 module _ (lists : CanonicalLists) (c : ℕ) (plain : IsPlain lists c) where
   plain_value : OffendsValue lists c → ⊥
-  plain_value bad = both_ways _ bad (and_from (lists.has_word c) (is_word c (lists.word c)) plain.0 (ap (is_word c) plain.1 ∙ word_none c))
+  plain_value bad = both_ways _ bad (and_from (lists.has_word c) (is_word c (lists.word c)) plain.0 (ap (is_word c) plain.1 ∙ zero_form c))
 
   plain_list : AreTriples lists.steps → IsUnlisted lists.steps c → OffendsList lists c → ⊥
   plain_list t unlisted (inl zero) = zero.1 t
@@ -192,7 +164,7 @@ module _ (lists : CanonicalLists) (c : ℕ) (plain : IsPlain lists c) where
   plain_built_in : IsUnlisted lists.steps c → OffendsBuiltIn lists c → ⊥
   plain_built_in unlisted (inl w) = none-some w.0 (sym plain.3 ∙ w.1)
   plain_built_in unlisted (inr (inl w)) = none-some w.0 (sym plain.4 ∙ w.1)
-  plain_built_in unlisted (inr (inr (inl w))) = none-some w.0 (sym (full_free c plain.4) ∙ w.1)
+  plain_built_in unlisted (inr (inr (inl w))) = none-some w.0 (sym (free_full c plain.4) ∙ w.1)
   plain_built_in unlisted (inr (inr (inr (inl low)))) = let h = plain.2 in let k = low.0 in omega (arith, h, k)
   plain_built_in unlisted (inr (inr (inr (inr (inl low))))) = let h = plain.2 in let k = low.0 in omega (arith, h, k)
   plain_built_in unlisted (inr (inr (inr (inr (inr w))))) =

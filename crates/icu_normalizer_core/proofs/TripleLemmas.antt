@@ -47,7 +47,7 @@ unlisted_between steps c place t below above within i h same =
 
 -- ---- A character's mapping, by the place of its triple
 
-further : (k a b : ℕ) (rest : List ℕ) (i d : ℕ) → slice_index (k ∷ a ∷ b ∷ rest) (3 * suc i + d) ≡ slice_index rest (3 * i + d)
+pub further : (k a b : ℕ) (rest : List ℕ) (i d : ℕ) → slice_index (k ∷ a ∷ b ∷ rest) (3 * suc i + d) ≡ slice_index rest (3 * i + d)
 further k a b rest i d = let e : 3 * suc i + d ≡ suc (suc (suc (3 * i + d))) = omega arith in rw e refl
 
 further_key : (k a b : ℕ) (rest : List ℕ) (i : ℕ) → slice_index (k ∷ a ∷ b ∷ rest) (3 * suc i) ≡ slice_index rest (3 * i)

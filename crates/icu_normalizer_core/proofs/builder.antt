@@ -1,6 +1,4 @@
-pub mod AcceptedMapsKeptLemmas
 pub mod AcceptedMapsLimitLemmas
-pub mod AcceptedMapsRuleLemmas
 pub mod AcceptedMapsSameLemmas
 pub mod InOrderLemmas
 pub mod MapNumberLemmas

@@ -4,7 +4,7 @@ use Rattle.std.specs.List.{All, AllByRecursion, Contains, find, list_any, IsDist
 use Rattle.std.specs.Char.{IsScalar}
 use Rattle.std.specs.Option.{is_some, unwrap_or}
 use Rattle.std.specs.Str.{bytes_eq}
-use Rattle.std.proofs.lemmas.Bool.{cases_Bool, cond-true, cond-false, eq-eqb, ne_eqb, eqb-true, and_parts, false≢true}
+use Rattle.std.proofs.lemmas.Bool.{cases_Bool, cond-true, cond-false, eq-eqb, ne_eqb, eqb-true, and_parts, or_parts, false≢true}
 use Rattle.std.proofs.lemmas.Bool.Decides.{nat_tests}
 use Rattle.std.proofs.lemmas.List.Elements.{All-cons, All-nil, All-contains}
 use Rattle.std.proofs.lemmas.Option.{none-some, same_Some}
@@ -34,10 +34,6 @@ find_true {X} p (y ∷ ys) x e =
     subst (λ (z : X). p z ≡ true) is t)
     (λ f. find_true p ys x (sym (ap (λ (b : Bool). cond b (Some y) (find p ys)) f) ∙ e))
     (cases_Bool (p y))
-
-or_parts : (a b : Bool) → (a || b) ≡ false → (a ≡ false) × (b ≡ false)
-or_parts true b e = let off : true ≡ false = e in absurd cc
-or_parts false b e = (refl, e)
 
 any_none : (p : ℕ → Bool) (xs : List ℕ) → list_any p xs ≡ false → All (λ x. p x ≡ false) xs
 any_none p [] e = All-nil (λ x. p x ≡ false)

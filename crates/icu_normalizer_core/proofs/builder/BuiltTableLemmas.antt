@@ -1,5 +1,5 @@
 -- Tables that are packed are built of the maps.
-use Rattle.std.proofs.Common.{◌≡◌, ℕ, ◌≤◌, ◌<◌, ◌%◌, ◌^◌, ◌++◌, List, [], length, map, Option, Some, refl, sym, ap, subst, ◌∙◌, arith}
+use Rattle.std.proofs.Common.{◌≡◌, ℕ, ◌≤◌, ◌%◌, ◌^◌, ◌++◌, List, [], length, map, Option, sym, ap, subst, ◌∙◌, arith}
 use Rattle.std.proofs.lemmas.List.{length-append, length-map}
 use Rattle.std.specs.Char.{IsScalar}
 use Rattle.std.specs.Option.{unwrap_or}
@@ -20,7 +20,7 @@ use Rattle.icu_normalizer_core.specs.CharacterWords.{class_with, IsWordOf, HasWo
 use Rattle.icu_normalizer_core.specs.CanonicalMaps.{CanonicalMaps, KeepRules}
 use Rattle.icu_normalizer_core.proofs.builder.AcceptedMappingLemmas.{built_accepted}
 use Rattle.icu_normalizer_core.proofs.builder.CoveredLemmas.{covered}
-use Rattle.icu_normalizer_core.proofs.builder.MapNumberLemmas.{scalar_below}
+use Rattle.icu_normalizer_core.proofs.ScalarLemmas.{scalar_below}
 
 -- the characters with a word that may differ from what stands without one
 abbrev pub all_named : List GivenClass → List GivenMapping → List ℕ

@@ -6,16 +6,16 @@ use Rattle.std.proofs.lemmas.Bool.{cases_Bool, cond-true, cond-false}
 use Rattle.std.proofs.lemmas.Bool.Decides.{nat_tests}
 use Rattle.std.proofs.lemmas.Option.{none-some}
 use Rattle.icu_normalizer_core.specs.declared.canonical.builder.GivenClass.{GivenClass}
-use Rattle.icu_normalizer_core.specs.BuiltIn.{is_syllable, is_jamo, singled_out, syllable_step, built_in_step, built_in_class}
+use Rattle.icu_normalizer_core.specs.BuiltIn.{is_syllable, is_jamo, singled_out, syllable_step, built_in_class}
 use Rattle.icu_normalizer_core.specs.Canonical.{Leaves, IsFree}
 use Rattle.icu_normalizer_core.specs.CanonicalLists.{step_in}
 use Rattle.icu_normalizer_core.specs.CanonicalWords.{is_word, class_of_word, full_of_word, built_in_full, is_list_word, is_pair_word, is_one_word, is_mark_word, is_singled_word, states_list, syllable_letters}
 use Rattle.icu_normalizer_core.specs.CanonicalMaps.{given_class}
 use Rattle.icu_normalizer_core.specs.CharacterWords.{IsWordOf, IsListWord, class_with}
 use Rattle.icu_normalizer_core.specs.Triples.{IsUnlisted}
-use Rattle.icu_normalizer_core.proofs.BuiltInFacts.{all_singled_out, syllable_mapped, singled_mapped, small_class}
+use Rattle.icu_normalizer_core.proofs.BuiltInFacts.{all_singled_out, free_full, syllable_mapped, singled_mapped, small_class}
 use Rattle.icu_normalizer_core.proofs.LeftLemmas.{left_alone}
-use Rattle.icu_normalizer_core.proofs.TableMeanings.{step_in_free}
+use Rattle.icu_normalizer_core.proofs.TableMeanings.{step_in_free, zero_form}
 use Rattle.icu_normalizer_core.proofs.TripleLemmas.{listed_none}
 use Rattle.icu_normalizer_core.proofs.builder.ListWordLemmas.{inside_apart}
 use Rattle.icu_normalizer_core.proofs.builder.MapNumberLemmas.{found_all}
@@ -140,18 +140,6 @@ singled_word class given steps s24 c e is = by (singled_out c) refl
 
 -- ---- Mapped characters
 
-free_full : (c : ℕ) → built_in_step c ≡ None → built_in_full c ≡ None
-unfolding built_in_step built_in_full
-free_full c e =
-    ⊎_elim
-    (λ t. absurd (none-some (syllable_step c) (sym e ∙ cond-true (is_syllable c) _ _ t)))
-    (λ f. ⊎_elim
-    (λ t. absurd (none-some [] (sym e ∙ cond-false (is_syllable c) _ _ f ∙ cond-true (is_jamo c || (c == 0xfffd)) _ _ t)))
-    (λ g. cond-false (is_syllable c) _ _ f ∙ cond-false (is_jamo c || (c == 0xfffd)) _ _ g
-    ∙ sym (cond-false (is_syllable c) (Some (syllable_step c)) _ f ∙ cond-false (is_jamo c || (c == 0xfffd)) (Some []) (singled_out c) g) ∙ e)
-    (cases_Bool (is_jamo c || (c == 0xfffd))))
-    (cases_Bool (is_syllable c))
-
 form_states : (c word : ℕ) → states_list word ≡ true → is_word c word ≡ true
 unfolding is_word
 form_states c word e = rw e (or_last ((((word == 0) || ((word == 1) && is_syllable c)) || is_mark_word word) || (is_singled_word word && is_some (singled_out c))))
@@ -192,10 +180,6 @@ full_alone s24 c word f none e =
     (λ g. let off : built_in_full c ≡ None = cond-false (is_syllable c) _ _ f ∙ cond-false (is_jamo c || (c == 0xfffd)) _ _ g ∙ none in rw off tt)
     (cases_Bool (is_jamo c || (c == 0xfffd)))
 
-form_zero : (c : ℕ) → is_word c 0 ≡ true
-unfolding is_word
-form_zero c = refl
-
 class_zero : (c : ℕ) → class_of_word c 0 ≡ 0
 unfolding class_of_word
 class_zero c = refl
@@ -211,7 +195,7 @@ pub zero_word : (class : ℕ) (steps s24 : List ℕ) (c : ℕ) → class ≡ 0 �
     → IsWordOf class steps s24 c 0
 zero_word class steps s24 c none f single unmapped = record {
   fits = omega arith;
-  form = form_zero c;
+  form = zero_form c;
   inside = inside_apart [] s24 0 refl;
   class = class_zero c ∙ sym none;
   full = λ free. left_unlisted steps c (full_of_word [] s24 c 0) (unmapped free) (full_zero s24 c);

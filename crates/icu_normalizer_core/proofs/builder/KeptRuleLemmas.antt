@@ -1,15 +1,22 @@
 -- What the builder refuses breaks the rules.
-use Rattle.std.proofs.Common.{◌≡◌, ℕ, ◌+◌, ◌*◌, ◌/◌, ◌<◌, cond, List, [], ◌∷◌, length, Option, refl, sym, ap, ◌∙◌, arith}
+use Rattle.std.proofs.Common.{◌≡◌, ℕ, ◌+◌, ◌*◌, ◌/◌, ◌<◌, ⊎_elim, cond, List, [], ◌∷◌, length, Option, refl, sym, ap, ◌∙◌, arith}
 use Rattle.std.specs.Char.{IsScalar}
+use Rattle.std.specs.List.{All}
 use Rattle.std.specs.Option.{is_some}
 use Rattle.icu_normalizer_core.specs.BuiltIn.{built_in_step}
 use Rattle.icu_normalizer_core.specs.CanonicalLists.{AreTriples, listed_step, step_in}
 use Rattle.icu_normalizer_core.specs.CanonicalMaps.{CanonicalMaps, KeepRules, IsMapped, step_of, given_step}
 use Rattle.icu_normalizer_core.specs.CharacterWords.{AreStarters, HasBadEnd}
 use Rattle.icu_normalizer_core.specs.Settled.{key_at}
+use Rattle.icu_normalizer_core.proofs.BuiltInFacts.{small_class}
 use Rattle.icu_normalizer_core.proofs.TripleLemmas.{listed_of}
 use Rattle.icu_normalizer_core.proofs.builder.BuiltMapLemmas.{leaves_along, steps_same}
 use Rattle.icu_normalizer_core.proofs.builder.MapNumberLemmas.{mapping_some, keys_free}
+
+-- classes that are given are below 255
+pub kept_classes : (maps : CanonicalMaps) → KeepRules maps → All (λ g. g.class < 255) maps.classes
+kept_classes maps rules k d h =
+    ⊎_elim (λ within. let top = within.1 in omega arith) (λ fixed. small_class _ _ fixed) (rules.classes k d h)
 
 module _ (maps : CanonicalMaps) (steps : List ℕ) (t : AreTriples steps)
     (listed : (c : ℕ) → listed_step steps c ≡ cond (is_some (built_in_step c)) [] (given_step maps.mappings c)) (rules : KeepRules maps) where

@@ -4,7 +4,6 @@ use Rattle.std.specs.List.{All, find}
 use Rattle.std.specs.Option.{is_some, unwrap_or, option_map, IfSome}
 use Rattle.std.specs.Char.{IsScalar}
 use Rattle.std.specs.Str.{bytes_eq}
-use lib.Utf8.{scalar_cases}
 use Rattle.std.proofs.lemmas.Bool.{cases_eq, cases_Bool, eq-eqb, ne_eqb, and_from, and_left, and_right, cond-true, cond-false}
 use Rattle.std.proofs.lemmas.List.Elements.{All-head, All-tail, All-cons, All-nil, All-append}
 use Rattle.icu_normalizer_core.specs.declared.canonical.builder.GivenMapping.{GivenMapping}
@@ -14,11 +13,9 @@ use Rattle.icu_normalizer_core.specs.CanonicalMaps.{mapping_given, given_step, g
 use Rattle.icu_normalizer_core.specs.GivenMaps.{IsOfScalars}
 use Rattle.icu_normalizer_core.specs.InOrder.{first_of, Rise, AreFirstsInOrder}
 use Rattle.icu_normalizer_core.specs.Settled.{key_at}
+use Rattle.icu_normalizer_core.proofs.ScalarLemmas.{scalar_below}
 use Rattle.icu_normalizer_core.proofs.TripleLemmas.{listed_of}
 use Rattle.icu_normalizer_core.specs.MapNumbers.{second_code, mapping_number, mapping_numbers, pair_number, pair_numbers, triple, IsMappingNumber, IsPairNumber}
-
-pub scalar_below : (c : ℕ) → IsScalar c → c < 0x110000
-scalar_below c s = ⊎_elim (λ low. omega arith) (λ high. high.1) (scalar_cases c s)
 
 -- ---- What is found holds what all hold
 

@@ -121,22 +121,13 @@ fn built_in_full(c: u32) -> Option<Left>
     }
 }
 
-/// Whether two lists of at most nine characters are the same.
-fn is_same_list(a: Left, b: Left) -> bool
-    ensures { result ≡ pointwise nat_eq (left_items a) (left_items b) }
-{
-    a.characters[..a.count] == b.characters[..b.count]
-}
-
 /// Whether the full list of a character is inside the tables and is the built-in one, where one is built in.
 fn is_full_list(tables: &CanonicalTables<'_>, c: char) -> bool
     ensures { result ≡ is_full_list (built_in_full c) (is_inside tables.now.scalars16 tables.now.scalars24 ((lists_of tables.now).word c)) (take 9 ((meaning tables.now).full c)) }
 {
     match built_in_full(c as u32) {
         None => true,
-        Some(list) => {
-            is_inside(tables, tables.word(c)) && is_same_list(full_start(tables, c), list)
-        }
+        Some(list) => { is_inside(tables, tables.word(c)) && full_start(tables, c).is(&list) }
     }
 }
 

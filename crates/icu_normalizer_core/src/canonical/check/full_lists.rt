@@ -12,11 +12,12 @@ ghost use Rattle.icu_normalizer_core.specs.Triples.{IsUnlisted};
 
 use super::full_start::full_start;
 use super::left::Left;
+use super::marks::class_of;
 use super::settle::listed_left;
 use super::told::first_refused_of;
 use crate::built_in::built_in_step;
 use crate::canonical::tables::CanonicalTables;
-use crate::canonical::words::{PLAIN_WORD, class_of_word, is_list_word, states_list};
+use crate::canonical::words::{is_list_word, states_list};
 use icu_packed_vector::PackedVec;
 
 /// Whether the word names no place outside the lists.
@@ -38,19 +39,11 @@ pub(super) fn is_inside(tables: &CanonicalTables<'_>, word: u32) -> bool
     }
 }
 
-/// The class that the tables say of a number.
-#[tactic(auto, unfolding(crate::specs::CanonicalLists::canonical_of))]
-fn class_at(tables: &CanonicalTables<'_>, code: u32) -> u8
-    ensures { result ≡ (meaning tables.now).class code }
-{
-    class_of_word(code, tables.trie.get32(code) & PLAIN_WORD)
-}
-
 /// Whether the first of the characters is a mark.
 fn begins_with_mark(tables: &CanonicalTables<'_>, left: &Left) -> bool
     ensures { result ≡ begins_with_mark (meaning tables.now) (left_items left.now) }
 {
-    left.count > 0 && class_at(tables, left.characters[0]) != 0
+    left.count > 0 && class_of(tables, left.characters[0]) != 0
 }
 
 /// Whether the characters are the first nine of what steps leave, where they end.

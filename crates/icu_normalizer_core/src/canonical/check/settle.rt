@@ -1,6 +1,7 @@
 //! What mapping steps leave of each character, found triple by triple.
 
-ghost use Rattle.std.specs.Prelude.{◌≡◌, ◌+◌, ◌*◌, ◌^◌, ◌<◌, ◌≤◌, ◌↔◌, [], ◌∷◌, ◌++◌, true, false, length, take, slice_get, Some, None, IsTrue, MatchOption, IfOk};
+ghost use Rattle.std.specs.Prelude.{◌≡◌, ◌+◌, ◌*◌, ◌^◌, ◌<◌, ◌≤◌, ◌↔◌, [], ◌∷◌, ◌++◌, true, false, length, take, slice_get, Some, None, IsTrue, MatchOption, IfOk, nat_eq};
+ghost use Rattle.std.specs.Cmp.Lexicographic.{pointwise};
 ghost use Rattle.icu_normalizer_core.specs.BuiltIn.{is_syllable, built_in_step};
 ghost use Rattle.icu_normalizer_core.specs.Canonical.{IsFree};
 ghost use Rattle.icu_normalizer_core.specs.CanonicalLists.{AreTriples};
@@ -54,7 +55,8 @@ impl Left {
 
     /// Whether both are the same characters.
     pub(super) fn is(&self, other: &Left) -> bool
-        ensures { IsTrue result ↔ (left_items self.now ≡ left_items other.now) }
+        ensures same { IsTrue result ↔ (left_items self.now ≡ left_items other.now) }
+        ensures test { result ≡ pointwise nat_eq (left_items self.now) (left_items other.now) }
     {
         self.characters[..self.count] == other.characters[..other.count]
     }

@@ -1,4 +1,4 @@
-use Rattle.std.proofs.Common.{◌≡◌, true, false, ⊎_elim, inl, inr, refl, sym, ◌∙◌}
+use Rattle.std.proofs.Common.{◌≡◌, true, false, ⊎_elim, inl, inr, refl}
 use Rattle.std.proofs.lemmas.Bool.{false≢true}
 use Rattle.icu_normalizer_core.proofs.builder.KeptRuleLemmas.{kept_starters, kept_ends}
 use Rattle.icu_normalizer_core.proofs.canonical.builder.tables.tables.Goals as goal

@@ -1,4 +1,4 @@
-use Rattle.std.proofs.Common.{ℕ, List, sym, subst, ◌∙◌}
+use Rattle.std.proofs.Common.{ℕ, List, subst, ◌∙◌}
 use Rattle.icu_normalizer_core.specs.CharacterWords.{HasWords}
 use Rattle.icu_normalizer_core.proofs.builder.BuiltTableLemmas.{word_read}
 use Rattle.icu_normalizer_core.proofs.canonical.builder.tables.word_trie.Goals as goal

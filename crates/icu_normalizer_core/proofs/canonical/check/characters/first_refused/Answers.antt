@@ -1,7 +1,7 @@
 use Rattle.std.proofs.Common.{◌≡◌, ◌<◌, ℕ, Bool, true, ⊎_elim, sym, subst, ◌∙◌, arith}
 use Rattle.std.specs.Char.{IsScalar}
-use lib.Utf8.{scalar_cases}
 use Rattle.std.proofs.lemmas.Bool.{cases_lt}
+use Rattle.icu_normalizer_core.proofs.ScalarLemmas.{scalar_below}
 use Rattle.icu_normalizer_core.proofs.canonical.check.characters.first_refused.Goals as goal
 use Rattle.icu_normalizer_core.proofs.canonical.check.characters.first_refused.Goals.{in-Some+else-not-accepts, in_default}
 
@@ -31,5 +31,5 @@ loop-code-preserved g c = λ d scalar lt.
 
 pub returns : goal.returns
 returns g c = λ d scalar.
-    let bound : d < 0x110000 = ⊎_elim (λ low. omega arith) (λ high. high.1) (scalar_cases d scalar) in
+    let bound : d < 0x110000 = scalar_below d scalar in
     c.loop-code.invariant d scalar (let end = c.loop-code-test.false in omega arith)

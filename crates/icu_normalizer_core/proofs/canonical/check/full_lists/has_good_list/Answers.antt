@@ -1,10 +1,11 @@
 use Rattle.std.proofs.Common.{rules, ◌≡◌, ℕ, ◌<◌, ◌≤◌, true, false, ◌&&◌, length, sym, ap, ◌∙◌, arith}
+use Rattle.std.proofs.lemmas.Bool.{and_left}
 use Rattle.icu_normalizer_core.specs.CanonicalFaults.{begins_with_mark}
 use Rattle.icu_normalizer_core.specs.CanonicalLists.{canonical_of}
 use Rattle.icu_normalizer_core.specs.CanonicalMeaning.{lists_of}
 use Rattle.icu_normalizer_core.specs.CanonicalWords.{is_inside, states_list}
 use Rattle.icu_normalizer_core.specs.Settled.{left_items}
-use Rattle.icu_normalizer_core.proofs.FaultLemmas.{bool_through, off_left, long_bad, mark_bad, none_begins, none_bad, other_bad}
+use Rattle.icu_normalizer_core.proofs.FaultLemmas.{bool_through, long_bad, mark_bad, none_begins, none_bad, other_bad}
 use Rattle.icu_normalizer_core.proofs.SettledLemmas.{left_count}
 use Rattle.icu_normalizer_core.proofs.canonical.check.full_lists.has_good_list.Goals as goal
 use Rattle.icu_normalizer_core.proofs.canonical.check.full_lists.has_good_list.Goals.{else-states_list-via-then-states_list+else-begins_with_mark, else-states_list-via-else-states_list}
@@ -37,7 +38,7 @@ returns c =
       | else-states_list-via-then-states_list+else-begins_with_mark w ↦
           none_begins (lists_of c.args.tables.now) c.args.c c.full_start-full.result is (sym w.begins_with_mark.ensures ∙ w.if-begins_with_mark.false)
       | else-states_list-via-else-states_list w ↦
-          off_left (states_list ((lists_of c.args.tables.now).word c.args.c)) (begins_with_mark canonical (canonical.full c.args.c))
+          and_left (states_list ((lists_of c.args.tables.now).word c.args.c)) (begins_with_mark canonical (canonical.full c.args.c))
           (ap (λ (v : ℕ). states_list v) (sym c.word-word.ensures.word) ∙ sym c.states_list.ensures ∙ w.if-states_list.false)
     ] in
     bool_through c.is_left.result (λ all. none_bad (lists_of c.args.tables.now) c.args.c c.full_start-full.result inside short begins is all)

@@ -9,8 +9,8 @@ pub returns-in-Some : goal.returns-in-Some
 returns-in-Some c =
     let s = c.in-Some.ensures in
     bool_from c.is.result
-    (λ yes list h. sym (c.is.ensures.0 yes) ∙ s.2 ∙ ap (λ (xs : List ℕ). take 9 xs) (left_one (step_in c.args.steps.now) (c.args.c ∷ []) s.0 list s.1 h))
-    (λ no. (s.0, s.1, λ same. no (c.is.ensures.1 (s.2 ∙ sym same))))
+    (λ yes list h. sym (c.is.ensures.same.0 yes) ∙ s.2 ∙ ap (λ (xs : List ℕ). take 9 xs) (left_one (step_in c.args.steps.now) (c.args.c ∷ []) s.0 list s.1 h))
+    (λ no. (s.0, s.1, λ same. no (c.is.ensures.same.1 (s.2 ∙ sym same))))
 
 pub returns-in-None : goal.returns-in-None
 returns-in-None c = λ list h.
