@@ -5,6 +5,8 @@ ghost use Rattle.std.specs.Char.Escape.{encode_utf16};
 ghost use Rattle.icu_normalizer.specs.Sinks.{AddsPrefix};
 
 use std::alloc::AllocError;
+use std::fmt::Display;
+use thiserror::Error;
 
 /// A sink of text: it takes characters, and holds them in UTF-8.
 pub trait TextSink {
@@ -77,10 +79,13 @@ impl UnitSink for Vec<u16> {
 }
 
 /// Why a text can't be written in a normal form.
-#[derive(Debug, Drop)]
+#[derive(Debug, Drop, Error)]
+#[error_bound(E: Display)]
 pub enum NormError<E> {
     /// The sink took no more.
+    #[error("{0}")]
     Sink(E),
     /// Memory was refused.
+    #[error("out of memory")]
     Memory,
 }

@@ -23,14 +23,17 @@ use super::tables::CanonicalTables;
 use std::alloc::{AllocError, Global};
 use std::marker::Model;
 use tables::tables;
+use thiserror::Error;
 
 /// Why no canonical tables are built.
-#[derive(Clone, Copy, Debug, PartialEq, Eq)]
+#[derive(Clone, Copy, Debug, PartialEq, Eq, Error)]
 pub enum CanonicalDataBuildError {
     /// The maps break a rule of canonical data (docs/RECORDS.md, C1 to C9), say two things of one character, or name
     /// more than 150 characters.
+    #[error("a rule of canonical data is broken")]
     Rules,
     /// Memory was refused.
+    #[error("out of memory")]
     Memory,
 }
 

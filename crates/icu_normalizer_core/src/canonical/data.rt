@@ -12,13 +12,16 @@ use super::check::first_fault;
 use super::tables::{CanonicalFault, CanonicalTables};
 use std::alloc::Global;
 use std::marker::Model;
+use thiserror::Error;
 
 /// Why tables weren't made canonical data (`CanonicalData::try_new`).
-#[derive(Clone, Copy, Debug, PartialEq, Eq)]
+#[derive(Clone, Copy, Debug, PartialEq, Eq, Error)]
 pub enum CanonicalDataError {
     /// The tables fail a check: their first fault.
+    #[error("{0}")]
     Fault(CanonicalFault),
     /// Memory was refused.
+    #[error("out of memory")]
     Memory,
 }
 
