@@ -1,4 +1,2 @@
-pub mod ComposedLemmas
-pub mod EquivalenceLemmas
 pub mod IdenticalLemmas
-pub mod NormalFormLemmas
+pub mod NormalisingLemmas

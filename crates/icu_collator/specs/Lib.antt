@@ -2,7 +2,6 @@ pub mod Shifted
 pub mod Levels
 pub mod Order
 pub mod Strengths
-pub mod Equivalence
 pub mod KeyBytes
 pub mod Settings
 pub mod SoundCollation

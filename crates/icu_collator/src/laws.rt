@@ -1,21 +1,25 @@
-//! Laws of the collation order and of canonical equivalence, for all data and all texts: each
-//! function's contract is the law, and its body is empty.
+//! Laws of the collation order, for all data and all texts: each function's contract is the law, and
+//! its body is empty. Those of canonical equivalence and of normal forms are passed on.
 
 ghost use Rattle.std.specs.Char.{IsScalar};
 ghost use Rattle.std.specs.Cmp.{IsTotalOrder};
 ghost use Rattle.std.specs.Prelude.{◌≡◌, ℕ, ◌≢◌, ◌↔◌, All, List, IsTrue};
 ghost use Rattle.std.specs.declared.cmp.Ordering.TheVariants.{Equal};
-ghost use Rattle.icu_normalizer_core.specs.Canonical.{Canonical, IsCanonical, IsDecomposing, composed, decomposed};
+ghost use Rattle.icu_normalizer_core.specs.Canonical.{IsCanonical, IsDecomposing, composed, decomposed};
+ghost use Rattle.icu_normalizer.specs.Equivalence.{IsEquivalent};
 ghost use Rattle.icu_collator_types.specs.declared.options.CaseLevel.TheVariants.{Off};
 ghost use Rattle.icu_collator_types.specs.declared.options.ResolvedCollatorOptions.{ResolvedCollatorOptions};
 ghost use Rattle.icu_collator_types.specs.declared.options.Strength.{Strength};
 ghost use Rattle.icu_collator_types.specs.declared.options.Strength.TheVariants.{Identical};
 ghost use Rattle.icu_collator_types.specs.Options.{is_at_least};
 ghost use Rattle.icu_collator_core.specs.Collation.{Collation};
-ghost use Rattle.icu_collator.specs.Equivalence.{IsEquivalent};
 ghost use Rattle.icu_collator.specs.Levels.{levels_of_text};
 ghost use Rattle.icu_collator.specs.Order.{collation_order};
 ghost use Rattle.icu_collator.specs.Strengths.{at_strength};
+
+pub use icu_normalizer::laws::{
+    equal_composed_lists_are_equivalent, equal_lists_are_equivalent, normal_forms_stay,
+};
 
 /// Whatever collation data and options say, the collation order is a total preorder: swapping two
 /// texts reverses the answer, "below" and "equal" are transitive, and texts that compare equal
@@ -33,40 +37,6 @@ pub fn raised_strength_keeps_order()
         → options.case_level ≡ Off → IsTrue (is_at_least higher lower)
         → collation_order collation (at_strength options lower) a b ≢ Equal
         → collation_order collation (at_strength options higher) a b ≡ collation_order collation (at_strength options lower) a b }
-{}
-
-/// Two texts of scalar values are canonically equivalent exactly where they have the same
-/// decomposed list (UAX 15). Equivalent means here that mapping characters where they stand and
-/// exchanging neighbouring marks of different classes, forward and back, lead from one text to the
-/// other.
-#[tactic(auto, using(crate::proofs::equivalence::EquivalenceLemmas::one_decomposed))]
-pub fn equal_lists_are_equivalent()
-    ensures { (canonical : Canonical) (xs ys : List ℕ)
-        → IsDecomposing canonical → All IsScalar xs → All IsScalar ys
-        → IsEquivalent canonical xs ys ↔ (decomposed canonical xs ≡ decomposed canonical ys) }
-{}
-
-/// Two texts of scalar values are canonically equivalent exactly where they have the same composed
-/// list.
-#[tactic(auto, using(crate::proofs::equivalence::NormalFormLemmas::composed_one))]
-pub fn equal_composed_lists_are_equivalent()
-    ensures { (canonical : Canonical) (xs ys : List ℕ)
-        → IsCanonical canonical → All IsScalar xs → All IsScalar ys
-        → IsEquivalent canonical xs ys ↔ (composed canonical xs ≡ composed canonical ys) }
-{}
-
-/// Each normal form of a normal form is that of the text: the decomposed and the composed list of a
-/// decomposed list, and those of a composed list.
-#[tactic(auto, using(crate::proofs::equivalence::NormalFormLemmas::decomposed_twice, crate::proofs::equivalence::NormalFormLemmas::decomposed_composed, crate::proofs::equivalence::NormalFormLemmas::composed_decomposed, crate::proofs::equivalence::NormalFormLemmas::composed_twice))]
-pub fn normal_forms_stay()
-    ensures decomposed_twice { (canonical : Canonical) (xs : List ℕ) → IsDecomposing canonical → All IsScalar xs
-        → decomposed canonical (decomposed canonical xs) ≡ decomposed canonical xs }
-    ensures decomposed_then_composed { (canonical : Canonical) (xs : List ℕ) → IsDecomposing canonical → All IsScalar xs
-        → composed canonical (decomposed canonical xs) ≡ composed canonical xs }
-    ensures composed_then_decomposed { (canonical : Canonical) (xs : List ℕ) → IsCanonical canonical → All IsScalar xs
-        → decomposed canonical (composed canonical xs) ≡ decomposed canonical xs }
-    ensures composed_twice { (canonical : Canonical) (xs : List ℕ) → IsCanonical canonical → All IsScalar xs
-        → composed canonical (composed canonical xs) ≡ composed canonical xs }
 {}
 
 /// Canonically equivalent texts compare equal, at every strength and with every option.
@@ -89,7 +59,7 @@ pub fn equal_at_identical_is_equivalence()
 
 /// A text has the levels of its decomposed list and of its composed list, at every strength and with
 /// every option; so whatever depends on the levels alone, such as order and keys, is the same for them.
-#[tactic(auto, using(crate::proofs::equivalence::NormalFormLemmas::decomposed_levels, crate::proofs::equivalence::NormalFormLemmas::composed_levels))]
+#[tactic(auto, using(crate::proofs::equivalence::NormalisingLemmas::decomposed_levels, crate::proofs::equivalence::NormalisingLemmas::composed_levels))]
 pub fn normalising_keeps_levels()
     ensures decomposed { (collation : Collation) (options : ResolvedCollatorOptions) (text : List ℕ)
         → IsDecomposing collation.canonical → All IsScalar text
@@ -100,7 +70,7 @@ pub fn normalising_keeps_levels()
 {}
 
 /// Putting a text in a normal form before it is compared changes no answer, on either side.
-#[tactic(auto, using(crate::proofs::equivalence::NormalFormLemmas::decomposed_first, crate::proofs::equivalence::NormalFormLemmas::decomposed_second, crate::proofs::equivalence::NormalFormLemmas::composed_first, crate::proofs::equivalence::NormalFormLemmas::composed_second))]
+#[tactic(auto, using(crate::proofs::equivalence::NormalisingLemmas::decomposed_first, crate::proofs::equivalence::NormalisingLemmas::decomposed_second, crate::proofs::equivalence::NormalisingLemmas::composed_first, crate::proofs::equivalence::NormalisingLemmas::composed_second))]
 pub fn normalising_first_keeps_order()
     ensures decomposed_left { (collation : Collation) (options : ResolvedCollatorOptions) (a b : List ℕ)
         → IsDecomposing collation.canonical → All IsScalar a

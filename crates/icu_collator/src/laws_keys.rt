@@ -10,7 +10,7 @@ ghost use Rattle.icu_normalizer_core.specs.Canonical.{IsDecomposing};
 ghost use Rattle.icu_collator_types.specs.declared.options.ResolvedCollatorOptions.{ResolvedCollatorOptions};
 ghost use Rattle.icu_collator_types.specs.declared.options.Strength.TheVariants.{Identical};
 ghost use Rattle.icu_collator_core.specs.Collation.{Collation};
-ghost use Rattle.icu_collator.specs.Equivalence.{IsEquivalent};
+ghost use Rattle.icu_normalizer.specs.Equivalence.{IsEquivalent};
 ghost use Rattle.icu_collator.specs.KeyBytes.{key_of_text};
 ghost use Rattle.icu_collator.specs.LevelOrders.{keys_order};
 ghost use Rattle.icu_collator.specs.Levels.{Levels, levels_of_text};

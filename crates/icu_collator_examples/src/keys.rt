@@ -12,7 +12,7 @@ ghost use Rattle.icu_collator_core.specs.Defaults.{primary_element};
 ghost use Rattle.icu_collator_core.specs.Elements.{elements_of_list};
 ghost use Rattle.icu_collator_core.specs.SoundElements.{IsSoundSequence};
 ghost use Rattle.icu_collator_core.specs.WeightRules.{AreSoundWeights};
-ghost use Rattle.icu_collator.specs.Equivalence.{IsEquivalent};
+ghost use Rattle.icu_normalizer.specs.Equivalence.{IsEquivalent};
 ghost use Rattle.icu_collator.specs.KeyBytes.{key_bytes, key_of_text};
 ghost use Rattle.icu_collator_examples.specs.Letters.{letters, digits_collation, ideographs_collation, plain_options, numeric_options, acute_composed, dot_composed, cote_with_acute, cote_with_circumflex};
 ghost use Rattle.icu_collator.specs.Levels.{levels_of, levels_of_text};

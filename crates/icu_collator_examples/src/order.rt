@@ -7,7 +7,7 @@ ghost use Rattle.icu_collator_types.specs.declared.options.Strength.{Strength};
 ghost use Rattle.icu_collator_types.specs.declared.options.Strength.TheVariants.{Tertiary, Identical};
 ghost use Rattle.icu_collator_types.specs.Options.{is_at_least};
 ghost use Rattle.icu_normalizer_core.specs.Canonical.{IsCanonical, composed, decomposed};
-ghost use Rattle.icu_collator.specs.Equivalence.{IsEquivalent};
+ghost use Rattle.icu_normalizer.specs.Equivalence.{IsEquivalent};
 ghost use Rattle.icu_collator_examples.specs.Letters.{letters, letters_collation, digits_collation, plain_options, numeric_options, acute_composed, dot_composed, acute_before_dot, dot_before_acute, cote_with_acute, cote_with_circumflex};
 ghost use Rattle.icu_collator.specs.Levels.{levels_of_text};
 ghost use Rattle.icu_collator.specs.Order.{collation_order};

@@ -4,6 +4,7 @@ pub mod ComposerLemmas
 pub mod ComposingLemmas
 pub mod CompositionLemmas
 pub mod CutLemmas
+pub mod equivalence
 pub mod FormCutLemmas
 pub mod IterLemmas
 pub mod RunLemmas

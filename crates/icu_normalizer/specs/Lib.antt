@@ -2,6 +2,7 @@ pub mod Composer
 pub mod Composing
 pub mod Compositions
 pub mod Decompositions
+pub mod Equivalence
 pub mod FormCuts
 pub mod Iter
 pub mod Marks
@@ -10,3 +11,4 @@ pub mod Readable
 pub mod Run
 pub mod Sinks
 pub mod Splits
+pub mod TextForms

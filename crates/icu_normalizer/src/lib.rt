@@ -4,5 +4,6 @@
 
 pub mod composing;
 pub mod decomposing;
+pub mod laws;
 mod run;
 pub mod sinks;

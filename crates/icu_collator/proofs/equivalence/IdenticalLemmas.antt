@@ -15,8 +15,8 @@ use Rattle.icu_normalizer_core.specs.Canonical.{IsDecomposing, decomposed}
 use Rattle.icu_collator_core.specs.Collation.{Collation}
 use Rattle.icu_collator.specs.Levels.{Levels, levels_of, levels_of_text}
 use Rattle.icu_collator.specs.Order.{levels_order, list_order, where_in_force, collation_order, secondary_rank, quaternary_rank, character_rank}
-use Rattle.icu_collator.specs.Equivalence.{IsEquivalent}
-use Rattle.icu_collator.proofs.equivalence.EquivalenceLemmas.{decomposed_one, equivalent_one}
+use Rattle.icu_normalizer.specs.Equivalence.{IsEquivalent}
+use Rattle.icu_normalizer.proofs.equivalence.EquivalenceLemmas.{decomposed_one, equivalent_one}
 use Rattle.icu_collator.proofs.orders.TotalOrderLemmas.{levels_total}
 
 -- two answers in turn are Equal where both are

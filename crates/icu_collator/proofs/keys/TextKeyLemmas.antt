@@ -14,7 +14,7 @@ use Rattle.icu_collator_types.specs.Options.{is_numeric}
 use Rattle.icu_collator_core.specs.Collation.{Collation}
 use Rattle.icu_normalizer_core.proofs.DecomposedLemmas.{decomposed_all_scalars}
 use Rattle.icu_collator_core.proofs.readings.SoundElementsLemmas.{text_elements_sound}
-use Rattle.icu_collator.specs.Equivalence.{IsEquivalent}
+use Rattle.icu_normalizer.specs.Equivalence.{IsEquivalent}
 use Rattle.icu_collator.specs.KeyBytes.{key_of_text}
 use Rattle.icu_collator.specs.LevelOrders.{keys_order}
 use Rattle.icu_collator.specs.Levels.{Levels, levels_of_text, elements_of_text}

@@ -2,7 +2,7 @@
 
 ghost use Rattle.std.specs.Prelude.{◌≡◌, ◌++◌, OnOk, OnErr, chars, encode_utf8_all};
 ghost use Rattle.icu_normalizer_core.specs.BorrowedMeaning.{borrowed_meaning};
-ghost use Rattle.icu_normalizer_core.specs.Canonical.{composed};
+ghost use Rattle.icu_normalizer_core.specs.Canonical.{IsCanonical, composed};
 ghost use Rattle.icu_normalizer.specs.Composing.{IsComposable};
 ghost use Rattle.icu_normalizer.specs.Readable.{IsReadable};
 ghost use Rattle.icu_normalizer.specs.Sinks.{AddsPrefix};
@@ -31,6 +31,13 @@ impl<'d> ComposingNormalizerBorrowed<'d> {
     {
         canonical.keep_promise();
         ComposingNormalizerBorrowed { canonical }
+    }
+
+    /// Its data keep what canonical data promise, which the laws ask for. It computes nothing.
+    pub fn keep_promise(&self)
+        ensures { IsCanonical (composing_data self.now) }
+    {
+        self.canonical.keep_promise();
     }
 
     /// Writes a text in NFC to a sink. After an error the sink holds what it held, and a prefix of the text in NFC.

@@ -2,7 +2,7 @@
 
 ghost use Rattle.std.specs.Prelude.{◌≡◌, ◌++◌, OnOk, OnErr, chars, encode_utf8_all};
 ghost use Rattle.icu_normalizer_core.specs.BorrowedMeaning.{borrowed_meaning};
-ghost use Rattle.icu_normalizer_core.specs.Canonical.{decomposed};
+ghost use Rattle.icu_normalizer_core.specs.Canonical.{IsCanonical, decomposed};
 ghost use Rattle.icu_normalizer.specs.Readable.{IsReadable};
 ghost use Rattle.icu_normalizer.specs.Sinks.{AddsPrefix};
 
@@ -29,6 +29,13 @@ impl<'d> DecomposingNormalizerBorrowed<'d> {
     {
         canonical.keep_promise();
         DecomposingNormalizerBorrowed { canonical }
+    }
+
+    /// Its data keep what canonical data promise, which the laws ask for. It computes nothing.
+    pub fn keep_promise(&self)
+        ensures { IsCanonical (normalizer_data self.now) }
+    {
+        self.canonical.keep_promise();
     }
 
     /// Writes a text in NFD to a sink. After an error the sink holds what it held, and a prefix of the text in NFD.

@@ -1,4 +1,4 @@
--- Normal forms: they are lists of scalar values and their own normal forms, and comparing them is comparing the texts.
+-- Normal forms: they are lists of scalar values and their own normal forms, and equivalent texts are those with one of them.
 use Rattle.std.proofs.Common.{◌≡◌, ℕ, cond, ltb, List, [], ◌∷◌, ◌++◌, sym, ap, ◌∙◌, None}
 use Rattle.std.specs.Prelude.{◌↔◌, All}
 use Rattle.std.specs.List.{list_all}
@@ -6,15 +6,10 @@ use Rattle.std.specs.Char.{IsScalar}
 use Rattle.std.proofs.lemmas.Bool.{cond_both}
 use Rattle.std.proofs.lemmas.List.Elements.{recursion_from_All, All-from_recursion}
 use Rattle.icu_normalizer_core.specs.Canonical.{Canonical, IsCanonical, IsDecomposing, IsComposing, is_starter, decomposed, composing, recomposed, composed}
-use Rattle.icu_collator_types.specs.declared.options.ResolvedCollatorOptions.{ResolvedCollatorOptions}
-use Rattle.icu_collator_core.specs.Collation.{Collation}
-use Rattle.icu_collator.specs.Levels.{Levels, levels_of_text}
-use Rattle.icu_collator.specs.Order.{collation_order, levels_order}
-use Rattle.icu_collator.specs.Equivalence.{IsEquivalent}
+use Rattle.icu_normalizer.specs.Equivalence.{IsEquivalent}
 use Rattle.icu_normalizer_core.proofs.DecomposedLemmas.{AreScalar, all_append, decomposed_all_scalars, decomposed_scalars}
-use Rattle.icu_collator.proofs.equivalence.EquivalenceLemmas.{decomposed_equivalent, decomposed_one, equivalent_one}
-use Rattle.icu_collator.proofs.equivalence.ComposedLemmas.{either_way, where_seen, composed_equivalent}
-use Rattle.icu_collator.proofs.equivalence.IdenticalLemmas.{same_levels}
+use Rattle.icu_normalizer.proofs.equivalence.EquivalenceLemmas.{decomposed_equivalent, decomposed_one, equivalent_one}
+use Rattle.icu_normalizer.proofs.equivalence.ComposedLemmas.{either_way, where_seen, composed_equivalent}
 
 -- composing scalar values makes scalar values
 composing_scalars : (canonical : Canonical) (s : ℕ) (ms cs : List ℕ) → IsComposing canonical → IsScalar s → AreScalar ms → AreScalar cs
@@ -75,15 +70,6 @@ one_composed canonical xs ys d sx sy = (
   by_decomposed canonical xs ys,
 )
 
--- a text in the place of another with its decomposed list changes no answer
-pub first_replaced : (collation : Collation) (options : ResolvedCollatorOptions) (a n b : List ℕ) → decomposed collation.canonical n ≡ decomposed collation.canonical a
-    → collation_order collation options n b ≡ collation_order collation options a b
-first_replaced collation options a n b e = ap (λ (l : Levels). levels_order options l (levels_of_text collation options b)) (same_levels collation options n a e)
-
-pub second_replaced : (collation : Collation) (options : ResolvedCollatorOptions) (a b n : List ℕ) → decomposed collation.canonical n ≡ decomposed collation.canonical b
-    → collation_order collation options a n ≡ collation_order collation options a b
-second_replaced collation options a b n e = ap (λ (l : Levels). levels_order options (levels_of_text collation options a) l) (same_levels collation options n b e)
-
 -- equivalent texts are those with one composed list
 pub composed_one : (canonical : Canonical) (xs ys : List ℕ) → IsCanonical canonical → All IsScalar xs → All IsScalar ys
     → IsEquivalent canonical xs ys ↔ (composed canonical xs ≡ composed canonical ys)
@@ -91,29 +77,3 @@ composed_one canonical xs ys d sx sy = (
   λ h. by_decomposed canonical xs ys (decomposed_one canonical xs ys d.decomposing sx sy h),
   λ e. equivalent_one canonical xs ys d.decomposing sx sy ((one_composed canonical xs ys d sx sy).0 e),
 )
-
--- a normal form has the levels of the text
-pub decomposed_levels : (collation : Collation) (options : ResolvedCollatorOptions) (a : List ℕ) → IsDecomposing collation.canonical → All IsScalar a
-    → levels_of_text collation options (decomposed collation.canonical a) ≡ levels_of_text collation options a
-decomposed_levels collation options a d s = same_levels collation options _ a (decomposed_twice collation.canonical a d s)
-
-pub composed_levels : (collation : Collation) (options : ResolvedCollatorOptions) (a : List ℕ) → IsCanonical collation.canonical → All IsScalar a
-    → levels_of_text collation options (composed collation.canonical a) ≡ levels_of_text collation options a
-composed_levels collation options a d s = same_levels collation options _ a (composed_decomposed collation.canonical a d s)
-
--- a normal form of the first text or of the second changes no answer
-pub decomposed_first : (collation : Collation) (options : ResolvedCollatorOptions) (a b : List ℕ) → IsDecomposing collation.canonical → All IsScalar a
-    → collation_order collation options (decomposed collation.canonical a) b ≡ collation_order collation options a b
-decomposed_first collation options a b d s = first_replaced collation options a _ b (decomposed_twice collation.canonical a d s)
-
-pub decomposed_second : (collation : Collation) (options : ResolvedCollatorOptions) (a b : List ℕ) → IsDecomposing collation.canonical → All IsScalar b
-    → collation_order collation options a (decomposed collation.canonical b) ≡ collation_order collation options a b
-decomposed_second collation options a b d s = second_replaced collation options a b _ (decomposed_twice collation.canonical b d s)
-
-pub composed_first : (collation : Collation) (options : ResolvedCollatorOptions) (a b : List ℕ) → IsCanonical collation.canonical → All IsScalar a
-    → collation_order collation options (composed collation.canonical a) b ≡ collation_order collation options a b
-composed_first collation options a b d s = first_replaced collation options a _ b (composed_decomposed collation.canonical a d s)
-
-pub composed_second : (collation : Collation) (options : ResolvedCollatorOptions) (a b : List ℕ) → IsCanonical collation.canonical → All IsScalar b
-    → collation_order collation options a (composed collation.canonical b) ≡ collation_order collation options a b
-composed_second collation options a b d s = second_replaced collation options a b _ (composed_decomposed collation.canonical b d s)

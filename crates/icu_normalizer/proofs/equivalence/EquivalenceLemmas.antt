@@ -4,7 +4,7 @@ use Rattle.std.proofs.lemmas.Bool.{cond_both, ltb-true, and_parts}
 use Rattle.std.specs.Prelude.{◌≢◌, ◌↔◌, All, flat_map}
 use Rattle.std.specs.Char.{IsScalar}
 use Rattle.icu_normalizer_core.specs.Canonical.{Canonical, IsDecomposing, Leaves, nothing, unmapped, mapped, put_in_order, marks_in_order, decomposed}
-use Rattle.icu_collator.specs.Equivalence.{IsEquivalent, same, turned, joined, stepped, swapped}
+use Rattle.icu_normalizer.specs.Equivalence.{IsEquivalent, same, turned, joined, stepped, swapped}
 use Rattle.icu_normalizer_core.proofs.DecomposedLemmas.{AreUnmapped, left_append, left_full, left_mapped, left_one, left_split, left_unmapped, order_swapped, order_unmapped, unmapped_left}
 
 -- a character in front keeps equivalence

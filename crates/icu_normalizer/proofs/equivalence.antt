@@ -1,0 +1,4 @@
+pub mod ComposedLemmas
+pub mod EquivalenceLemmas
+pub mod NormalFormLemmas
+pub mod TextFormLemmas

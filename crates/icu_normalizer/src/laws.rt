@@ -1,0 +1,80 @@
+//! Laws of normal forms and of canonical equivalence (UAX 15): each function's contract is the law, and its body is
+//! empty. The first three are over lists of characters, the others over texts in UTF-8, as the calls of the normalisers
+//! speak of them. That its canonical data are `IsCanonical` a normaliser's `keep_promise` says.
+
+ghost use Rattle.std.specs.Char.{IsScalar};
+ghost use Rattle.std.specs.Prelude.{◌≡◌, ℕ, ◌↔◌, All, List, chars};
+ghost use Rattle.std.specs.Str.{IsUtf8};
+ghost use Rattle.icu_normalizer_core.specs.Canonical.{Canonical, IsCanonical, IsDecomposing, composed, decomposed};
+ghost use Rattle.icu_normalizer.specs.Equivalence.{IsEquivalent};
+ghost use Rattle.icu_normalizer.specs.FormCuts.{IsComposed};
+ghost use Rattle.icu_normalizer.specs.Splits.{IsDecomposed};
+ghost use Rattle.icu_normalizer.specs.TextForms.{composed_text, decomposed_text};
+
+/// Two texts of scalar values are canonically equivalent exactly where they have the same
+/// decomposed list (UAX 15). Equivalent means here that mapping characters where they stand and
+/// exchanging neighbouring marks of different classes, forward and back, lead from one text to the
+/// other.
+#[tactic(auto, using(crate::proofs::equivalence::EquivalenceLemmas::one_decomposed))]
+pub fn equal_lists_are_equivalent()
+    ensures { (canonical : Canonical) (xs ys : List ℕ)
+        → IsDecomposing canonical → All IsScalar xs → All IsScalar ys
+        → IsEquivalent canonical xs ys ↔ (decomposed canonical xs ≡ decomposed canonical ys) }
+{}
+
+/// Two texts of scalar values are canonically equivalent exactly where they have the same composed
+/// list.
+#[tactic(auto, using(crate::proofs::equivalence::NormalFormLemmas::composed_one))]
+pub fn equal_composed_lists_are_equivalent()
+    ensures { (canonical : Canonical) (xs ys : List ℕ)
+        → IsCanonical canonical → All IsScalar xs → All IsScalar ys
+        → IsEquivalent canonical xs ys ↔ (composed canonical xs ≡ composed canonical ys) }
+{}
+
+/// Each normal form of a normal form is that of the text: the decomposed and the composed list of a
+/// decomposed list, and those of a composed list.
+#[tactic(auto, using(crate::proofs::equivalence::NormalFormLemmas::decomposed_twice, crate::proofs::equivalence::NormalFormLemmas::decomposed_composed, crate::proofs::equivalence::NormalFormLemmas::composed_decomposed, crate::proofs::equivalence::NormalFormLemmas::composed_twice))]
+pub fn normal_forms_stay()
+    ensures decomposed_twice { (canonical : Canonical) (xs : List ℕ) → IsDecomposing canonical → All IsScalar xs
+        → decomposed canonical (decomposed canonical xs) ≡ decomposed canonical xs }
+    ensures decomposed_then_composed { (canonical : Canonical) (xs : List ℕ) → IsDecomposing canonical → All IsScalar xs
+        → composed canonical (decomposed canonical xs) ≡ composed canonical xs }
+    ensures composed_then_decomposed { (canonical : Canonical) (xs : List ℕ) → IsCanonical canonical → All IsScalar xs
+        → decomposed canonical (composed canonical xs) ≡ decomposed canonical xs }
+    ensures composed_twice { (canonical : Canonical) (xs : List ℕ) → IsCanonical canonical → All IsScalar xs
+        → composed canonical (composed canonical xs) ≡ composed canonical xs }
+{}
+
+/// Two texts are canonically equivalent exactly where they have the same NFD, and exactly where they
+/// have the same NFC.
+#[tactic(auto, using(crate::proofs::equivalence::TextFormLemmas::texts_decomposed_one, crate::proofs::equivalence::TextFormLemmas::texts_composed_one))]
+pub fn equal_forms_are_equivalent()
+    ensures decomposed { (canonical : Canonical) (a b : List ℕ) → IsDecomposing canonical → IsUtf8 a → IsUtf8 b
+        → IsEquivalent canonical (chars a) (chars b) ↔ (decomposed_text canonical a ≡ decomposed_text canonical b) }
+    ensures composed { (canonical : Canonical) (a b : List ℕ) → IsCanonical canonical → IsUtf8 a → IsUtf8 b
+        → IsEquivalent canonical (chars a) (chars b) ↔ (composed_text canonical a ≡ composed_text canonical b) }
+{}
+
+/// Each normal form of a text in a normal form is that of the text: a text that is normalised again
+/// stays, the NFC of an NFD is the text's NFC, and the NFD of an NFC its NFD.
+#[tactic(auto, using(crate::proofs::equivalence::TextFormLemmas::text_decomposed_twice, crate::proofs::equivalence::TextFormLemmas::text_decomposed_composed, crate::proofs::equivalence::TextFormLemmas::text_composed_decomposed, crate::proofs::equivalence::TextFormLemmas::text_composed_twice))]
+pub fn forms_of_texts_stay()
+    ensures decomposed_twice { (canonical : Canonical) (text : List ℕ) → IsDecomposing canonical → IsUtf8 text
+        → decomposed_text canonical (decomposed_text canonical text) ≡ decomposed_text canonical text }
+    ensures decomposed_then_composed { (canonical : Canonical) (text : List ℕ) → IsDecomposing canonical → IsUtf8 text
+        → composed_text canonical (decomposed_text canonical text) ≡ composed_text canonical text }
+    ensures composed_then_decomposed { (canonical : Canonical) (text : List ℕ) → IsCanonical canonical → IsUtf8 text
+        → decomposed_text canonical (composed_text canonical text) ≡ decomposed_text canonical text }
+    ensures composed_twice { (canonical : Canonical) (text : List ℕ) → IsCanonical canonical → IsUtf8 text
+        → composed_text canonical (composed_text canonical text) ≡ composed_text canonical text }
+{}
+
+/// The NFD of a text is its own NFD, and the NFC its own NFC, so `is_normalized` is true of them and
+/// `normalize` borrows them.
+#[tactic(auto, using(crate::proofs::equivalence::TextFormLemmas::text_is_decomposed, crate::proofs::equivalence::TextFormLemmas::text_is_composed))]
+pub fn forms_of_texts_are_normalized()
+    ensures decomposed { (canonical : Canonical) (text : List ℕ) → IsDecomposing canonical → IsUtf8 text
+        → IsDecomposed canonical (chars (decomposed_text canonical text)) }
+    ensures composed { (canonical : Canonical) (text : List ℕ) → IsCanonical canonical → IsUtf8 text
+        → IsComposed canonical (chars (composed_text canonical text)) }
+{}
