@@ -2,6 +2,7 @@
 //! `records::Records::read`; `class` and `mapping` then ask what the file says.
 #![tactic(auto)]
 
+mod canonical_data;
 mod canonical_part;
 mod character_table;
 mod fields;

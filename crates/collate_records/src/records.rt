@@ -1,14 +1,18 @@
 //! What an accepted records file says of characters.
 
-ghost use Rattle.std.specs.Prelude.{◌≡◌, ◌==◌, ◌++◌, ◌∷◌, [], cond, OnOk, OnErr};
+ghost use Rattle.std.specs.Prelude.{◌≡◌, ◌==◌, ◌++◌, ◌∷◌, ℕ, [], cond, OnOk, OnErr};
+ghost use Rattle.std.specs.Char.{IsScalar};
 ghost use Rattle.std.specs.Option.{option_copied};
-ghost use Rattle.icu_normalizer_core.specs.Canonical.{IsComposing, IsDecomposing};
+ghost use Rattle.icu_normalizer_core.specs.BorrowedMeaning.{borrowed_meaning};
+ghost use Rattle.icu_normalizer_core.specs.Canonical.{IsCanonical, IsComposing, IsDecomposing};
 ghost use Rattle.icu_normalizer_core.specs.Properties.{mapped_to};
+ghost use Rattle.icu_normalizer_core.specs.Sameness.{AreSameCanonical};
 ghost use Rattle.collate_records.specs.Accepted.{AreAccepted};
-ghost use Rattle.collate_records.specs.Meaning.{canonical_of, collation_of, class_of, step_of, first_found, full_of, expanded, lone_elements_in, recorded_in};
+ghost use Rattle.collate_records.specs.Meaning.{canonical_of, collation_of, class_of, step_of, pair_of, first_found, full_of, expanded, lone_elements_in, recorded_in};
 ghost use Rattle.collate_records.specs.Tables.{AddsFront};
 ghost use Rattle.collate_records.specs.Files.{IsReadFrom};
 
+use crate::canonical_data::canonical_data;
 use crate::reader::read_records;
 use crate::record::Record;
 use crate::rule::RecordsError;
@@ -17,6 +21,7 @@ use icu_collator_types::elements::Element;
 use icu_collator_types::options::FileSettings;
 use icu_collections::codepointtrie::TrieType;
 use icu_normalizer_core::built_in::{built_in_class, built_in_compatibility_step, built_in_step};
+use icu_normalizer_core::canonical::{CanonicalBorrowed, CanonicalData};
 use icu_normalizer_core::properties::Decomposed;
 use std::alloc::{AllocError, Global};
 use std::marker::Model;
@@ -27,6 +32,7 @@ use std::marker::Model;
 pub struct Records {
     records: Vec<Record>,
     tables: Tables,
+    canonical: CanonicalData<'static>,
 }
 
 impl Model for Records {
@@ -67,7 +73,12 @@ impl Records {
     {
         let records = read_records(alloc, bytes)?;
         let tables = Tables::new(alloc, &records, trie_type)?;
-        Ok(Records { records, tables })
+        let canonical = canonical_data(alloc, &records)?;
+        Ok(Records {
+            records,
+            tables,
+            canonical,
+        })
     }
 
     /// The lines of records are those of an accepted file: each is in the grammar, and none offends against a rule. So
@@ -90,6 +101,17 @@ impl Records {
     {
         self.keep_rules();
         Default::default()
+    }
+
+    /// What the file says of classes and mappings, with what is built in, as canonical data: classes, mappings, full lists
+    /// and composed pairs of characters (UAX 15). Borrowing takes no memory, nor does any look-up in them.
+    pub fn canonical(&self) -> CanonicalBorrowed<'_>
+        ensures same { AreSameCanonical (borrowed_meaning result) (canonical_of self.now) }
+        ensures steps { (c : ℕ) → IsScalar c → (borrowed_meaning result).step c ≡ step_of self.now c }
+        ensures pairs { (a b : ℕ) → IsScalar a → IsScalar b → (borrowed_meaning result).pair a b ≡ pair_of self.now a b }
+        ensures canonical { IsCanonical (borrowed_meaning result) }
+    {
+        self.canonical.as_borrowed()
     }
 
     /// The canonical combining class of a character: what is built in, else what a line says, else

@@ -6,6 +6,7 @@ use lib.Utf8.{low_scalar}
 use Rattle.std.proofs.lemmas.List.Elements.{All-weaker, All-cons, All-nil}
 use Rattle.icu_normalizer_core.specs.Canonical.{Canonical, Leaves, composed, decomposed, recomposed}
 use Rattle.icu_normalizer_core.specs.CanonicalMaps.{AreMeaning, KeepRules, IsMapped, BeginsWithStarter, given_step, step_of as step_of_maps}
+use Rattle.icu_normalizer_core.specs.Sameness.{AreSameCanonical}
 use Rattle.icu_normalizer_core.proofs.LeftLemmas.{left_one}
 use Rattle.icu_normalizer_core.proofs.DecomposedLemmas.{decomposed_same, decomposed_scalars}
 use Rattle.icu_normalizer_core.proofs.builder.AcceptedMapsSameLemmas.{one_meaning}
@@ -13,7 +14,7 @@ use Rattle.collate_records.specs.declared.rule.Rule.{Rule}
 use Rattle.collate_records.specs.declared.rule.Rule.TheVariants.{Limit, C3, C5, C6, C8, C9, V14}
 use Rattle.collate_records.specs.Record.{Record, nothing, class, mapping, compatibility, weights, range, digit, setting}
 use Rattle.collate_records.specs.Accepted.{AreAccepted, IsSaid}
-use Rattle.collate_records.specs.Meaning.{canonical_of, step_of, full_of}
+use Rattle.collate_records.specs.Meaning.{canonical_of, step_of, pair_of, full_of}
 use Rattle.collate_records.specs.Maps.{mappings_in, maps_of}
 use Rattle.collate_records.specs.Offenders.{NoneOffends}
 use Rattle.collate_records.specs.Rules.{IsBadClass, IsBadlyComposed, MapsHangul}
@@ -127,3 +128,16 @@ composed_own records accepted canonical other c low =
 -- the maps of accepted lines keep the rules of maps
 pub accepted_maps : (records : List Record) → AreAccepted records → KeepRules (maps_of records)
 accepted_maps records accepted = accepted_maps_by records accepted (composed_own records accepted)
+
+-- ---- What means the maps of accepted lines says of scalar values what the lines say
+
+pub accepted_same : (records : List Record) (canonical : Canonical) → AreAccepted records → AreMeaning (maps_of records) canonical → AreSameCanonical canonical (canonical_of records)
+accepted_same records canonical accepted mean = one_meaning (maps_of records) canonical (canonical_of records) mean (accepted_maps_mean records accepted)
+
+pub accepted_steps : (records : List Record) (canonical : Canonical) → AreAccepted records → AreMeaning (maps_of records) canonical
+    → (c : ℕ) → IsScalar c → canonical.step c ≡ step_of records c
+accepted_steps records canonical accepted mean c scalar = mean.step c scalar ∙ sym ((accepted_maps_mean records accepted).step c scalar)
+
+pub accepted_pairs : (records : List Record) (canonical : Canonical) → AreAccepted records → AreMeaning (maps_of records) canonical
+    → (a b : ℕ) → IsScalar a → IsScalar b → canonical.pair a b ≡ pair_of records a b
+accepted_pairs records canonical accepted mean a b s t = mean.pair a b s t ∙ sym ((accepted_maps_mean records accepted).pair a b s t)

@@ -31,6 +31,14 @@ lines_to lines i x h e =
     take_more (map said lines) i nothing (omega (arith, length-map lines said))
     ∙ ap (λ (s : Record). take i (map said lines) ++ s ∷ []) (said_of lines i x h e)
 
+-- what is taken from each line, one line further
+pub given_to : {A : Type 0} (give : Record → List A) (lines : List Line) (i : ℕ) (x : Line) → i < length lines → x ≡ get_or lines i x
+    → flat_map give (take (i + 1) (map said lines)) ≡ flat_map give (take i (map said lines)) ++ give (said x)
+given_to {A} give lines i x h e =
+    ap (λ (ss : List Record). flat_map give ss) (lines_to lines i x h e)
+    ∙ flat_map-append give (take i (map said lines)) (said x ∷ [])
+    ∙ ap (λ (cs : List A). flat_map give (take i (map said lines)) ++ cs) (append-nil (give (said x)))
+
 -- no line yet
 pub within_none : (records : List Record) (names : BTreeSet ℕ) → names.keys ≡ [] → AreWithin records 0 names 0
 unfolding different
@@ -46,10 +54,7 @@ within_none records names empty = record {
 
 -- what the lines up to line i name
 pub names_to : (lines : List Line) (i : ℕ) (x : Line) → i < length lines → x ≡ get_or lines i x → flat_map named (take (i + 1) (map said lines)) ≡ flat_map named (take i (map said lines)) ++ named (said x)
-names_to lines i x h e =
-    ap (λ (ss : List Record). flat_map named ss) (lines_to lines i x h e)
-    ∙ flat_map-append named (take i (map said lines)) (said x ∷ [])
-    ∙ ap (λ (cs : List ℕ). flat_map named (take i (map said lines)) ++ cs) (append-nil (named (said x)))
+names_to = given_to named
 
 one_kept : (s : Record) (b : Bool) → says_something s ≡ b → length (filter says_something (s ∷ [])) ≡ cond b 1 0
 one_kept s b e = ap (λ (t : Bool). length (cond t (s ∷ []) [])) e ∙ kept b

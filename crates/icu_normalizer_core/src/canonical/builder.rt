@@ -19,6 +19,7 @@ mod trie;
 mod words;
 
 use super::check::first_fault;
+use super::data::CanonicalData;
 use super::tables::CanonicalTables;
 use std::alloc::{AllocError, Global};
 use std::marker::Model;
@@ -146,6 +147,21 @@ impl CanonicalDataBuilder {
         match first_fault(alloc, &tables)? {
             None => Ok(tables),
             Some(_) => Err(CanonicalDataBuildError::Rules),
+        }
+    }
+
+    /// Canonical data of the tables that `build` gives, which it has checked. The errors are those of `build`.
+    pub fn build_data(
+        &self,
+        alloc: Global,
+    ) -> Result<CanonicalData<'static>, CanonicalDataBuildError>
+        ensures means { IfOk result (λ made. AreMeaning self.now (meaning made)) }
+        ensures accepted { IfOk result (λ made. IsAccepted (lists_of made)) }
+        ensures refused { IfErr result (λ e. (e ≡ Memory) ⊎ ((e ≡ Rules) × (KeepRules self.now → ⊥))) }
+    {
+        match self.build(alloc) {
+            Ok(tables) => Ok(CanonicalData::of_accepted(tables)),
+            Err(error) => Err(error),
         }
     }
 }

@@ -61,6 +61,14 @@ impl<'a> CanonicalData<'a> {
         }
     }
 
+    /// Canonical data of tables that are known to pass every check.
+    pub(super) fn of_accepted(tables: CanonicalTables<'a>) -> CanonicalData<'a>
+        requires { IsAccepted (lists_of tables) }
+        ensures { result ≡ tables.entry }
+    {
+        CanonicalData { tables }
+    }
+
     /// The data, borrowed.
     pub fn as_borrowed(&self) -> CanonicalBorrowed<'_>
         ensures same { borrowed_tables result ≡ self.now }

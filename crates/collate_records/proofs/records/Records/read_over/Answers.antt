@@ -2,9 +2,14 @@ use Rattle.std.proofs.Common.{map, List, subst, sym, ap, ◌∙◌}
 use Rattle.collate_records.specs.declared.rule.Rule.TheVariants.{Limit}
 use Rattle.collate_records.specs.declared.record.Record.{Record as Line}
 use Rattle.collate_records.specs.Offenders.{NoneOffends}
-use Rattle.collate_records.specs.Record.{said}
+use Rattle.collate_records.specs.Maps.{maps_of}
+use Rattle.collate_records.specs.Record.{Record, said}
+use Rattle.collate_records.specs.Files.{records_of}
 use Rattle.collate_records.specs.Accepted.{AreAccepted}
 use Rattle.collate_records.specs.Tables.{AreTablesOf}
+use Rattle.icu_normalizer_core.specs.CanonicalMaps.{AreMeaning, KeepRules}
+use Rattle.icu_normalizer_core.specs.CanonicalMeaning.{meaning}
+use Rattle.collate_records.proofs.maps.AcceptedMapLemmas.{accepted_maps}
 use Rattle.collate_records.proofs.reading.AcceptedLemmas.{accepted_lines}
 use Rattle.collate_records.proofs.lookups.KeyLemmas.{accepted_few}
 use Rattle.collate_records.proofs.records.Records.read_over.Goals as goal
@@ -15,10 +20,17 @@ new-requires-clause-few c =
     let same = ap (λ (lines : List Line). map said lines) c.deref.ensures.value ∙ read.1 in
     subst (NoneOffends Limit) (sym same) (accepted_few c.args.bytes.now read.0)
 
+pub canonical_data-requires-clause-rules : goal.canonical_data-requires-clause-rules
+canonical_data-requires-clause-rules c =
+    let read = c.in_ok-records.ensures in
+    let same = ap (λ (lines : List Line). map said lines) c.deref-2.ensures.value ∙ read.1 in
+    subst (λ (lines : List Record). KeepRules (maps_of lines)) (sym same) (accepted_maps (records_of c.args.bytes.now) (accepted_lines c.args.bytes.now read.0))
+
 pub invariant_of-result : goal.invariant_of-result
 invariant_of-result c =
     let read = c.in_ok-records.ensures in
     record {
       tables = subst (λ (lines : List Line). AreTablesOf c.in_ok-tables.tables (map said lines)) c.deref.ensures.value c.in_ok-tables.ensures;
       accepted = subst AreAccepted (sym read.1) (accepted_lines c.args.bytes.now read.0);
+      canonical = subst (λ (lines : List Line). AreMeaning (maps_of (map said lines)) (meaning c.in_ok-canonical.canonical)) c.deref-2.ensures.value c.in_ok-canonical.ensures;
     }

@@ -1,0 +1,10 @@
+use Rattle.std.proofs.Common.{◌≡◌, take, map}
+use Rattle.std.specs.Prelude.{flat_map}
+use Rattle.collate_records.specs.Maps.{classes_in, mappings_in}
+use Rattle.collate_records.specs.Record.{said}
+use Rattle.collate_records.proofs.canonical_data.canonical_data.Given as goal
+
+abbrev pub invariant-loop-given : goal.invariant-loop-given
+invariant-loop-given l =
+    (l.builder.classes ≡ flat_map classes_in (take l.given-index (map said l.records)))
+    × (l.builder.mappings ≡ flat_map mappings_in (take l.given-index (map said l.records)))
