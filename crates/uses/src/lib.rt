@@ -5,6 +5,7 @@
 pub mod code_point_tries;
 pub mod decoded;
 pub mod names;
+pub mod normal_forms;
 pub mod options;
 pub mod packed;
 pub mod records;
