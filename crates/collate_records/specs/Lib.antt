@@ -6,6 +6,7 @@ pub mod Files
 pub mod Forms
 pub mod Grammar
 pub mod Kept
+pub mod Keys
 pub mod Known
 pub mod Limits
 pub mod Lists
@@ -18,4 +19,4 @@ pub mod Record
 pub mod Rule
 pub mod Rules
 pub mod Seen
-pub mod Tables
+pub mod WeightsTables

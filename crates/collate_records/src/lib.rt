@@ -15,4 +15,4 @@ pub mod records;
 pub mod rule;
 mod rules;
 mod seen;
-mod tables;
+mod weights_table;

@@ -1,6 +1,6 @@
 //! What an accepted records file says of characters.
 
-ghost use Rattle.std.specs.Prelude.{◌≡◌, ◌==◌, ◌++◌, ◌∷◌, ℕ, [], cond, OnOk, OnErr};
+ghost use Rattle.std.specs.Prelude.{◌≡◌, ◌∷◌, ℕ, []};
 ghost use Rattle.std.specs.Char.{IsScalar};
 ghost use Rattle.std.specs.Option.{option_copied};
 ghost use Rattle.icu_normalizer_core.specs.BorrowedMeaning.{borrowed_meaning};
@@ -8,31 +8,31 @@ ghost use Rattle.icu_normalizer_core.specs.Canonical.{IsCanonical, IsComposing, 
 ghost use Rattle.icu_normalizer_core.specs.Properties.{mapped_to};
 ghost use Rattle.icu_normalizer_core.specs.Sameness.{AreSameCanonical};
 ghost use Rattle.collate_records.specs.Accepted.{AreAccepted};
-ghost use Rattle.collate_records.specs.Meaning.{canonical_of, collation_of, class_of, step_of, pair_of, first_found, full_of, expanded, lone_elements_in, recorded_in};
-ghost use Rattle.collate_records.specs.Tables.{AddsFront};
+ghost use Rattle.collate_records.specs.Meaning.{canonical_of, collation_of, class_of, step_of, pair_of, first_found, lone_elements_in, recorded_in};
 ghost use Rattle.collate_records.specs.Files.{IsReadFrom};
 
 use crate::canonical_data::canonical_data;
+use crate::character_table::CharacterTable;
 use crate::reader::read_records;
 use crate::record::Record;
 use crate::rule::RecordsError;
-use crate::tables::Tables;
+use crate::weights_table::weights_table;
 use icu_collator_types::elements::Element;
 use icu_collator_types::options::FileSettings;
 use icu_collections::codepointtrie::TrieType;
-use icu_normalizer_core::built_in::{built_in_class, built_in_compatibility_step, built_in_step};
 use icu_normalizer_core::canonical::{CanonicalBorrowed, CanonicalData};
 use icu_normalizer_core::properties::Decomposed;
-use std::alloc::{AllocError, Global};
+use std::alloc::Global;
 use std::marker::Model;
 
-/// What an accepted records file says of characters: a list of lines, as its contracts see it, and
-/// look-up tables of them (docs/RECORDS.md). The lines of records are always accepted: `keep_rules` says so.
+/// What an accepted records file says of characters: a list of lines, as its contracts see it, with
+/// canonical data and a look-up table of weights made of them (docs/RECORDS.md). The lines of records are always accepted:
+/// `keep_rules` says so.
 #[derive(Drop)]
 pub struct Records {
     records: Vec<Record>,
-    tables: Tables,
     canonical: CanonicalData<'static>,
+    weights: CharacterTable<Vec<Element>>,
 }
 
 impl Model for Records {
@@ -61,8 +61,8 @@ impl Records {
         Records::read_over(alloc, bytes, TrieType::Fast)
     }
 
-    /// Reads a records file, as `read` does, into tables over tries of this type: small ones take less memory, fast ones
-    /// less time a look-up.
+    /// Reads a records file, as `read` does, with the table of weights over a trie of this type: a small one takes less
+    /// memory, a fast one less time a look-up.
     #[tactic(auto, using(crate::proofs::offenders::ClassLemmas::accepted_classes, crate::proofs::lookups::KeyLemmas::accepted_once))]
     pub fn read_over(
         alloc: Global,
@@ -72,12 +72,12 @@ impl Records {
         ensures { IsReadFrom bytes.now result }
     {
         let records = read_records(alloc, bytes)?;
-        let tables = Tables::new(alloc, &records, trie_type)?;
         let canonical = canonical_data(alloc, &records)?;
+        let weights = weights_table(alloc, &records, trie_type)?;
         Ok(Records {
             records,
-            tables,
             canonical,
+            weights,
         })
     }
 
@@ -119,17 +119,7 @@ impl Records {
     pub fn class(&self, c: char) -> u8
         ensures { result ≡ class_of self.now c }
     {
-        self.class32(u32::from(c))
-    }
-
-    /// The class of a code point, as `class` gives it.
-    pub fn class32(&self, c: u32) -> u8
-        ensures { result ≡ class_of self.now c }
-    {
-        if let Some(class) = built_in_class(c) {
-            return class;
-        }
-        self.tables.classes.get(c).copied().unwrap_or(0)
+        self.canonical().class(c)
     }
 
     /// The canonical mapping of a character, one step: what is built in, else what a line says,
@@ -137,24 +127,7 @@ impl Records {
     pub fn mapping(&self, c: char) -> Decomposed
         ensures { mapped_to result ≡ step_of self.now c }
     {
-        self.mapping32(u32::from(c))
-    }
-
-    /// The mapping of a code point, as `mapping` gives it.
-    pub fn mapping32(&self, c: u32) -> Decomposed
-        ensures { mapped_to result ≡ step_of self.now c }
-    {
-        if let Some(mapping) = built_in_step(c) {
-            return mapping;
-        }
-        if built_in_compatibility_step(c).is_some() {
-            return Decomposed::Default;
-        }
-        self.tables
-            .mappings
-            .get(c)
-            .copied()
-            .unwrap_or(Decomposed::Default)
+        self.canonical().step(c).unwrap_or(Decomposed::Default)
     }
 
     /// The recorded elements of a code point by itself; `None` where no line gives it any.
@@ -169,48 +142,6 @@ impl Records {
     fn lone_elements(&self, c: u32) -> Option<&[Element]>
         ensures { option_copied result ≡ first_found (lone_elements_in c) self.now }
     {
-        self.tables
-            .weights
-            .get(c)
-            .map(|elements| elements.as_slice())
-    }
-
-    /// Appends the full list of a code point: what mapping steps leave of it (UAX 15). A code
-    /// point with no mapping is its own full list.
-    ///
-    /// `AllocError` where memory is refused: then the list has what it had and some of the front
-    /// of the full list.
-    pub fn append_full_list(&self, c: u32, list: &mut Vec<u32>) -> Result<(), AllocError>
-        ensures full { OnOk result (list.new.items ≡ list.old.items ++ full_of self.now c) }
-        ensures part { OnErr result (AddsFront list.old.items list.new.items (full_of self.now c)) }
-    {
-        self.append_steps(c, 0x11_0000, list)
-    }
-
-    /// Appends what is left of a code point after at most `steps` steps, one after another.
-    fn append_steps(&self, c: u32, steps: u32, list: &mut Vec<u32>) -> Result<(), AllocError>
-        ensures full { OnOk result (list.new.items ≡ list.old.items ++ expanded (step_of self.now) steps c) }
-        ensures part { OnErr result (AddsFront list.old.items list.new.items (expanded (step_of self.now) steps c)) }
-    {
-        match self.mapping_within(c, steps) {
-            Decomposed::Default => list.push(c)?,
-            Decomposed::Singleton(d) => self.append_steps(u32::from(d), steps - 1, list)?,
-            Decomposed::Expansion(d, e) => {
-                self.append_steps(u32::from(d), steps - 1, list)?;
-                self.append_steps(u32::from(e), steps - 1, list)?;
-            }
-        }
-        Ok(())
-    }
-
-    /// The mapping of a code point where a step is left to make, else none.
-    fn mapping_within(&self, c: u32, steps: u32) -> Decomposed
-        ensures { mapped_to result ≡ cond (steps == 0) [] (step_of self.now c) }
-    {
-        if steps == 0 {
-            Decomposed::Default
-        } else {
-            self.mapping32(c)
-        }
+        self.weights.get(c).map(|elements| elements.as_slice())
     }
 }

@@ -16,13 +16,13 @@ use Rattle.std.proofs.lemmas.Option.{unwrap_or-slice_get}
 use Rattle.icu_collator_types.specs.declared.elements.Element.{Element}
 use Rattle.collate_records.specs.declared.rule.Rule.TheVariants.{Grammar, Limit, V14}
 use Rattle.collate_records.specs.Record.{Record, said, nothing, class, mapping, compatibility, weights, range, digit, setting, root, tailoring, lone_weights}
-use Rattle.collate_records.specs.Meaning.{first_found, class_in, mapping_in, lone_elements_in}
+use Rattle.collate_records.specs.Meaning.{first_found, mapping_in, lone_elements_in}
 use Rattle.collate_records.specs.Rules.{record_at, named, names_in, different, is_second, Repeats}
 use Rattle.collate_records.specs.Offenders.{NoneOffends}
 use Rattle.collate_records.specs.Files.{IsAccepted, lines_of, read_line, records_of}
 use Rattle.collate_records.specs.declared.record.Record.{Record as Line}
 use Rattle.collate_records.proofs.offenders.LimitLemmas.{said_of}
-use Rattle.collate_records.specs.Tables.{class_key, mapping_key, weights_key}
+use Rattle.collate_records.specs.Keys.{class_key, mapping_key, weights_key}
 
 -- a line is for one character, as others of its kind are for theirs
 pub record IsKeyOf (key : Record → List ℕ) (s : Record) (c : ℕ) : Type 0 where
@@ -288,18 +288,7 @@ passed : {B : Type 0} (b : Bool) (here later : Option B) → b ≡ false → lat
 passed true here later e h = absurd (false≢true (sym e))
 passed false here later e h = h
 
--- where no line is for the same thing, none gives the character a class, a mapping or weights
-pub class-absent : (c k : ℕ) (xs : List Record) → list_any (λ t. is_second t (class c k)) xs ≡ false → first_found (class_in c) xs ≡ None
-class-absent c k [] h = refl
-class-absent c k (nothing ∷ xs) h = class-absent c k xs h
-class-absent c k (class d l ∷ xs) h = let w = or_neither (eqb d c) _ h in passed (eqb c d) (Some l) _ (turned_false d c w.0) (class-absent c k xs w.1)
-class-absent c k (mapping d ds x ∷ xs) h = class-absent c k xs h
-class-absent c k (compatibility d ds ∷ xs) h = class-absent c k xs h
-class-absent c k (weights l p t es ∷ xs) h = class-absent c k xs h
-class-absent c k (range r ∷ xs) h = class-absent c k xs h
-class-absent c k (digit d v ∷ xs) h = class-absent c k xs h
-class-absent c k (setting s ∷ xs) h = class-absent c k xs h
-
+-- where no line is for the same thing, none gives the character a mapping
 pub mapping-absent : (c : ℕ) (cs : List ℕ) (x : Bool) (xs : List Record) → list_any (λ t. is_second t (mapping c cs x)) xs ≡ false → first_found (mapping_in c) xs ≡ None
 mapping-absent c cs x [] h = refl
 mapping-absent c cs x (nothing ∷ xs) h = mapping-absent c cs x xs h
@@ -315,6 +304,7 @@ mapping-absent c cs x (setting s ∷ xs) h = mapping-absent c cs x xs h
 pub lone_is : (q c : ℕ) (es : List Element) → lone_elements_in q (lone_weights c es) ≡ cond (eqb q c) (Some es) None
 lone_is q c es = ap (λ (b : Bool). cond b (Some es) None) (and_true (eqb q c))
 
+-- nor elements
 pub weights-absent : (c : ℕ) (es : List Element) (xs : List Record) → list_any (λ t. is_second t (lone_weights c es)) xs ≡ false → first_found (lone_elements_in c) xs ≡ None
 weights-absent c es [] h = refl
 weights-absent c es (nothing ∷ xs) h = weights-absent c es xs h

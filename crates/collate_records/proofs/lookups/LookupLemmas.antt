@@ -39,20 +39,6 @@ finds_more {A} {V} {B} f find old new xs x k v has absent puts says q = by (eqb 
         ∙ sym (ap (λ (o : Option B). option_or (first_found (find q) xs) o) (says q ∙ ap (λ (b : Bool). cond {A = Option B} b (Some (f v)) None) e)
         ∙ option_or-none (first_found (find q) xs))
 
-option_map-same : {A : Type 0} (o : Option A) → option_map (λ x. x) o ≡ o
-option_map-same None = refl
-option_map-same (Some x) = refl
-
--- the same for values as they are
-pub finds_more_same : {A V : Type 0} (find : ℕ → A → Option V) (old new : ℕ → Option V) (xs : List A) (x : A) (k : ℕ) (v : V)
-    → ((q : ℕ) → old q ≡ first_found (find q) xs) → first_found (find k) xs ≡ None
-    → ((q : ℕ) → new q ≡ cond (eqb q k) (Some v) (old q))
-    → ((q : ℕ) → find q x ≡ cond (eqb q k) (Some v) None)
-    → (q : ℕ) → new q ≡ first_found (find q) (xs ++ x ∷ [])
-finds_more_same find old new xs x k v has absent puts says q =
-    sym (option_map-same (new q))
-    ∙ finds_more (λ y. y) find old new xs x k v (λ p. option_map-same (old p) ∙ has p) absent puts says q
-
 -- what follows where there is a value
 pub OnOk-both : {T E : Type 0} (r : Result T E) {P Q R : Type 0} → OnOk r P → OnOk r Q → (P → Q → R) → OnOk r R
 OnOk-both (Ok x) h i f = f h i

@@ -13,7 +13,7 @@ use Rattle.collate_records.specs.Record.{Record, nothing, class, mapping, compat
 use Rattle.collate_records.specs.Meaning.{first_found, class_in, mapping_in}
 use Rattle.collate_records.specs.Maps.{classes_in, mappings_in}
 use Rattle.collate_records.specs.Rules.{record_at}
-use Rattle.collate_records.specs.Tables.{class_key, mapping_key}
+use Rattle.collate_records.specs.Keys.{class_key, mapping_key}
 
 -- a line maps to one character or to two
 abbrev pub MapsToFew : Record → Type 0

@@ -14,7 +14,7 @@ use Rattle.collate_records.specs.Record.{Record, nothing, class, mapping, compat
 use Rattle.collate_records.specs.Maps.{classes_in, mappings_in, maps_of}
 use Rattle.collate_records.specs.Rules.{named, names_in, different}
 use Rattle.collate_records.specs.Offenders.{NoneOffends}
-use Rattle.collate_records.specs.Tables.{class_key, mapping_key}
+use Rattle.collate_records.specs.Keys.{class_key, mapping_key}
 use Rattle.collate_records.proofs.lookups.KeyLemmas.{class_kind, mapping_kind, distinct_to, key_named, different-unique, is_member-unique}
 use Rattle.collate_records.proofs.maps.MapLineLemmas.{MapsToFew, class_keys, mapping_keys}
 

@@ -14,7 +14,7 @@ use Rattle.collate_records.specs.Record.{Record, nothing, mapping}
 use Rattle.collate_records.specs.Meaning.{is_built_in}
 use Rattle.collate_records.specs.Maps.{mappings_in}
 use Rattle.collate_records.specs.Rules.{record_at, IsBadlyComposed, HasBadSecond, RepeatsPair, is_same_pair, pair_in}
-use Rattle.collate_records.specs.Tables.{mapping_key}
+use Rattle.collate_records.specs.Keys.{mapping_key}
 use Rattle.collate_records.proofs.maps.MapLineLemmas.{each_line}
 use Rattle.collate_records.proofs.maps.MapMeaningLemmas.{IsConsistent, composes_same}
 use Rattle.collate_records.proofs.maps.MapRuleLemmas.{all_mappings}

@@ -6,7 +6,7 @@ use Rattle.collate_records.specs.Maps.{maps_of}
 use Rattle.collate_records.specs.Record.{Record, said}
 use Rattle.collate_records.specs.Files.{records_of}
 use Rattle.collate_records.specs.Accepted.{AreAccepted}
-use Rattle.collate_records.specs.Tables.{AreTablesOf}
+use Rattle.collate_records.specs.WeightsTables.{HasWeights}
 use Rattle.icu_normalizer_core.specs.CanonicalMaps.{AreMeaning, KeepRules}
 use Rattle.icu_normalizer_core.specs.CanonicalMeaning.{meaning}
 use Rattle.collate_records.proofs.maps.AcceptedMapLemmas.{accepted_maps}
@@ -14,23 +14,23 @@ use Rattle.collate_records.proofs.reading.AcceptedLemmas.{accepted_lines}
 use Rattle.collate_records.proofs.lookups.KeyLemmas.{accepted_few}
 use Rattle.collate_records.proofs.records.Records.read_over.Goals as goal
 
-pub new-requires-clause-few : goal.new-requires-clause-few
-new-requires-clause-few c =
+pub weights_table-requires-clause-few : goal.weights_table-requires-clause-few
+weights_table-requires-clause-few c =
     let read = c.in_ok-records.ensures in
-    let same = ap (λ (lines : List Line). map said lines) c.deref.ensures.value ∙ read.1 in
+    let same = ap (λ (lines : List Line). map said lines) c.deref-2.ensures.value ∙ read.1 in
     subst (NoneOffends Limit) (sym same) (accepted_few c.args.bytes.now read.0)
 
 pub canonical_data-requires-clause-rules : goal.canonical_data-requires-clause-rules
 canonical_data-requires-clause-rules c =
     let read = c.in_ok-records.ensures in
-    let same = ap (λ (lines : List Line). map said lines) c.deref-2.ensures.value ∙ read.1 in
+    let same = ap (λ (lines : List Line). map said lines) c.deref.ensures.value ∙ read.1 in
     subst (λ (lines : List Record). KeepRules (maps_of lines)) (sym same) (accepted_maps (records_of c.args.bytes.now) (accepted_lines c.args.bytes.now read.0))
 
 pub invariant_of-result : goal.invariant_of-result
 invariant_of-result c =
     let read = c.in_ok-records.ensures in
     record {
-      tables = subst (λ (lines : List Line). AreTablesOf c.in_ok-tables.tables (map said lines)) c.deref.ensures.value c.in_ok-tables.ensures;
+      weights = subst (λ (lines : List Line). HasWeights c.in_ok-weights.weights (map said lines)) c.deref-2.ensures.value c.in_ok-weights.ensures;
       accepted = subst AreAccepted (sym read.1) (accepted_lines c.args.bytes.now read.0);
-      canonical = subst (λ (lines : List Line). AreMeaning (maps_of (map said lines)) (meaning c.in_ok-canonical.canonical)) c.deref-2.ensures.value c.in_ok-canonical.ensures;
+      canonical = subst (λ (lines : List Line). AreMeaning (maps_of (map said lines)) (meaning c.in_ok-canonical.canonical)) c.deref.ensures.value c.in_ok-canonical.ensures;
     }
