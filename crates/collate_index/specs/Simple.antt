@@ -1,6 +1,6 @@
 -- What the definitions come to over records of single characters, without prefixes, digits and ranges, and under the
 -- options that leave out cases, numbers and shifting.
-use Rattle.std.specs.Prelude.{◌≡◌, ℕ, Bool, false, ltb, ◌&&◌, List, [], ◌∷◌, filter_map, Some, None}
+use Rattle.std.specs.Prelude.{◌≡◌, ℕ, false, List, [], ◌∷◌, filter_map, Some, None}
 use Rattle.std.specs.Option.{unwrap_or}
 use Rattle.icu_collator_types.specs.declared.elements.Element.{Element}
 use Rattle.icu_collator_types.specs.declared.options.AlternateHandling.TheVariants.{NonIgnorable}
@@ -37,7 +37,3 @@ pub record AreSimple (options : ResolvedCollatorOptions) : Type 0 where
   pub case_level : options.case_level ≡ Off
   pub numeric : options.numeric ≡ NotNumeric
   pub strength : is_at_least options.strength Quaternary ≡ false
-
--- whether a class is that of a mark, and below the other one
-abbrev pub is_mark_below : ℕ → ℕ → Bool
-is_mark_below class other = ltb 0 class && ltb class other
