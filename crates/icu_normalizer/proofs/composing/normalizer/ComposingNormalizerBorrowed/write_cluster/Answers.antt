@@ -1,7 +1,7 @@
 use Rattle.std.proofs.Common.{[], ◌∷◌, ◌++◌, refl, sym, append-nil, rules}
 use Rattle.icu_normalizer.proofs.IterLemmas.{Spells-chars}
 use Rattle.icu_normalizer.proofs.SinkLemmas.{seen_more, sink_more, sink_all, sink_cut, sink_part}
-use Rattle.icu_normalizer.proofs.composing.normalizer.ComposingNormalizerBorrowed.write_composed.Goals as goal
+use Rattle.icu_normalizer.proofs.composing.normalizer.ComposingNormalizerBorrowed.write_cluster.Goals as goal
 
 pub loop-item-init : goal.loop-item-init
 loop-item-init g c =

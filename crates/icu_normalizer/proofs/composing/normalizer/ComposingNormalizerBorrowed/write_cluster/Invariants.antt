@@ -3,7 +3,7 @@ use Rattle.std.specs.Str.Iter.{chars_steps}
 use Rattle.icu_normalizer_core.specs.Canonical.{composed}
 use Rattle.icu_normalizer.specs.Compositions.{ComposesTo}
 use Rattle.icu_normalizer.specs.Normalizers.{composing_data}
-use Rattle.icu_normalizer.proofs.composing.normalizer.ComposingNormalizerBorrowed.write_composed.Given as goal
+use Rattle.icu_normalizer.proofs.composing.normalizer.ComposingNormalizerBorrowed.write_cluster.Given as goal
 
 abbrev pub invariant-loop-item : goal.invariant-loop-item
 invariant-loop-item g l =
