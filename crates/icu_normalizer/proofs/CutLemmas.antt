@@ -22,7 +22,7 @@ front_scalars [] ys h = refl
 front_scalars (x ∷ xs) ys h =
     let parts = and_parts (scalar x) (scalars (xs ++ ys)) h in and_from (scalar x) (scalars xs) parts.0 (front_scalars xs ys parts.1)
 
-back_scalars : (xs ys : List ℕ) → scalars (xs ++ ys) ≡ true → scalars ys ≡ true
+pub back_scalars : (xs ys : List ℕ) → scalars (xs ++ ys) ≡ true → scalars ys ≡ true
 back_scalars [] ys h = h
 back_scalars (x ∷ xs) ys h = back_scalars xs ys (and_parts (scalar x) (scalars (xs ++ ys)) h).1
 

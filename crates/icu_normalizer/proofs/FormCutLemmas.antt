@@ -5,6 +5,23 @@ use Rattle.std.specs.Str.{IsCharBoundary}
 use Rattle.std.proofs.lemmas.Str.{IsCharBoundary-at_seam, chars-nil, chars_from_encodes, encodes-chars, encodes-append}
 use Rattle.icu_normalizer.specs.FormCuts.{IsOwnForm, ReachesBelow, IsFormCut}
 
+-- where a text was cut
+module _ (text rest prefix : List ℕ) (bytes : text ≡ encode_utf8_all prefix ++ rest) where
+  cut_place : length (encode_utf8_all prefix) ≡ length text - length rest
+  cut_place = omega (arith, ap length bytes, length-append (encode_utf8_all prefix) rest)
+
+  pub cut_boundary : IsUtf8 rest → IsCharBoundary text (length text - length rest)
+  cut_boundary u = subst (IsCharBoundary text) cut_place (IsCharBoundary-at_seam text (encode_utf8_all prefix) rest bytes u)
+
+  pub cut_front : (a : List ℕ) → a ≡ take (length text - length rest) text → a ≡ encode_utf8_all prefix
+  cut_front a e = e ∙ ap (λ n. take n text) (sym cut_place) ∙ ap (take (length (encode_utf8_all prefix))) bytes ∙ take-append_seam (encode_utf8_all prefix) rest
+
+  pub cut_chars : (a : List ℕ) → a ≡ take (length text - length rest) text → IsUtf8 (encode_utf8_all prefix) → chars a ≡ prefix
+  cut_chars a e u = ap chars (cut_front a e) ∙ sym (chars_from_encodes prefix (encode_utf8_all prefix) u refl)
+
+  pub cut_back : (b : List ℕ) → b ≡ drop (length text - length rest) text → b ≡ rest
+  cut_back b e = e ∙ ap (λ n. drop n text) (sym cut_place) ∙ ap (drop (length (encode_utf8_all prefix))) bytes ∙ drop-append_seam (encode_utf8_all prefix) rest
+
 module _ (form : List ℕ → List ℕ) where
   pub form_bytes : (text : List ℕ) → IsUtf8 text → IsOwnForm form (chars text) → text ≡ encode_utf8_all (form (chars text))
   form_bytes text u h = sym (encodes-chars text u) ∙ ap encode_utf8_all (sym h)
@@ -22,21 +39,17 @@ module _ (form : List ℕ → List ℕ) where
         ap₂ (λ x y. chars x ++ form (chars y)) e f ∙ ap (λ l. chars text ++ l) (ap form chars-nil ∙ nothing) ∙ append-nil (chars text) ∙ sym h
 
     module _ (bound : ℕ) (text rest : List ℕ) (cut : IsFormCut form bound text rest) where
-      cut_place : length (encode_utf8_all cut.prefix) ≡ length text - length rest
-      cut_place = omega (arith, ap length cut.bytes, length-append (encode_utf8_all cut.prefix) rest)
-
       pub form_boundary : IsCharBoundary text (length text - length rest)
-      form_boundary = subst (IsCharBoundary text) cut_place (IsCharBoundary-at_seam text (encode_utf8_all cut.prefix) rest cut.bytes cut.readable.1)
+      form_boundary = cut_boundary text rest cut.prefix cut.bytes cut.readable.1
 
       front_is : (a : List ℕ) → a ≡ take (length text - length rest) text → a ≡ encode_utf8_all cut.prefix
-      front_is a e =
-          e ∙ ap (λ n. take n text) (sym cut_place) ∙ ap (take (length (encode_utf8_all cut.prefix))) cut.bytes ∙ take-append_seam (encode_utf8_all cut.prefix) rest
+      front_is = cut_front text rest cut.prefix cut.bytes
 
       front_chars : (a : List ℕ) → a ≡ take (length text - length rest) text → chars a ≡ cut.prefix
-      front_chars a e = ap chars (front_is a e) ∙ sym (chars_from_encodes cut.prefix (encode_utf8_all cut.prefix) cut.readable.0 refl)
+      front_chars a e = cut_chars text rest cut.prefix cut.bytes a e cut.readable.0
 
       back_is : (b : List ℕ) → b ≡ drop (length text - length rest) text → b ≡ rest
-      back_is b e = e ∙ ap (λ n. drop n text) (sym cut_place) ∙ ap (drop (length (encode_utf8_all cut.prefix))) cut.bytes ∙ drop-append_seam (encode_utf8_all cut.prefix) rest
+      back_is = cut_back text rest cut.prefix cut.bytes
 
       module _ (a b : List ℕ) (front : a ≡ take (length text - length rest) text) (back : b ≡ drop (length text - length rest) text) where
         pub form_normal : chars a ++ form (chars b) ≡ form (chars text)

@@ -1,3 +1,4 @@
+pub mod ClusterLemmas
 pub mod ComposedCutLemmas
 pub mod ComposedWalkLemmas
 pub mod ComposerLemmas
@@ -7,6 +8,7 @@ pub mod CutLemmas
 pub mod equivalence
 pub mod FormCutLemmas
 pub mod IterLemmas
+pub mod OwnLemmas
 pub mod RunLemmas
 pub mod SinkLemmas
 pub mod SkipLemmas

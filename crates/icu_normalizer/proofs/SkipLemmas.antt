@@ -1,17 +1,17 @@
 -- Passing over the front of a text that stays as it stands.
 use Rattle.std.proofs.Common.{◌≡◌, ℕ, zero, suc, ◌-◌, get_or, take, drop, drop-cons, take-append-drop, ap₂, ◌<◌, ◌≤◌, ◌⊎◌, inl, inr, ⊎_elim, List, [], ◌∷◌, ◌++◌, length, length-append, flat_map, chars, encode_utf8, encode_utf8_all, IsUtf8, Some, refl, sym, ap, subst, ◌∙◌, arith, append_assoc, append-nil}
 use Rattle.std.proofs.lemmas.Bool.{cases_lt}
+use Rattle.std.proofs.lemmas.Grind.{flat_map-append}
 use Rattle.std.proofs.lemmas.List.{append_cancel_left}
 use Rattle.std.proofs.lemmas.Str.{chars_past_char, encodes-append, encode_ascii, IsUtf8-append, IsUtf8-drop}
 use Rattle.icu_normalizer_core.specs.Canonical.{Canonical, IsCanonical, composing, recomposed, decomposed, composed, marks_in_order}
 use Rattle.icu_normalizer_core.proofs.DecomposedLemmas.{order_before, put_starter}
-use Rattle.icu_normalizer.specs.Composing.{IsApart}
+use Rattle.icu_normalizer.specs.Composing.{BeginsApart, IsApart}
 use Rattle.icu_normalizer.specs.FormCuts.{IsOwnForm, IsComposed, ReachesBelow, IsFormCut, IsSkipped}
 use Rattle.icu_normalizer.proofs.ComposedWalkLemmas.{composed_nothing}
 use Rattle.icu_normalizer.proofs.ComposingLemmas.{composing_end, composing_joined, composing_begun, composing_kept, composing_cases, composed_low, recomposed_nothing, recomposed_begun, recomposed_passed}
 use Rattle.icu_normalizer.proofs.CutLemmas.{IsRead, ArePlain, are_plain, plain_bytes, plain_boundary, one_char, text_chars, front_utf8, rest_chars, read_starter}
 use Rattle.icu_normalizer.proofs.StepLemmas.{full_low}
-use Rattle.icu_normalizer.proofs.WeightLemmas.{full_begins}
 
 -- ---- a starter below U+0300 composes with nothing before it
 
@@ -44,49 +44,52 @@ module _ (canonical : Canonical) (seconds : (a b c : ℕ) → canonical.pair a b
 pub record IsSkipping (canonical : Canonical) (text rest ahead front back : List ℕ) : Type 0 where
   pub read : IsRead text rest ahead front back
   pub alone : composed canonical (chars text) ≡ front ++ composed canonical (back ++ chars ahead)
-  pub last : (back ≡ []) ⊎ ((b : ℕ) × (back ≡ b ∷ []) × (b < 0x300))
+  pub last : (back ≡ []) ⊎ ((b : ℕ) × (back ≡ b ∷ []) × (composed canonical (b ∷ []) ≡ b ∷ []))
 
 module _ (canonical : Canonical) (ok : IsCanonical canonical) where
-  -- before a character that is apart, a character below U+0300 stays as it stands
-  composed_passed : (b c : ℕ) (ys : List ℕ) → b < 0x300 → IsApart canonical c → composed canonical (b ∷ c ∷ ys) ≡ b ∷ composed canonical (c ∷ ys)
+  -- a text is composed in two parts before a character that begins apart
+  pub composed_parts : (xs : List ℕ) (c : ℕ) (ys : List ℕ) → BeginsApart canonical c → composed canonical (xs ++ c ∷ ys) ≡ composed canonical xs ++ composed canonical (c ∷ ys)
   unfolding composed decomposed marks_in_order
-  composed_passed b c ys low apart =
-      let first = full_begins canonical ok c apart.0 (canonical.step c) refl in
-      let behind = first.1 ++ flat_map canonical.full ys in
-      let front = canonical.full b ++ [] in
-      let list : flat_map canonical.full (c ∷ ys) ≡ first.0 ∷ behind = ap (λ l. l ++ flat_map canonical.full ys) first.2 in
-      let whole : decomposed canonical (b ∷ c ∷ ys) ≡ marks_in_order canonical.class front ++ first.0 ∷ marks_in_order canonical.class behind =
-      ap (marks_in_order canonical.class) (ap (λ l. l ++ flat_map canonical.full (c ∷ ys)) (sym (append-nil (canonical.full b))) ∙ ap (λ l. front ++ l) list)
-      ∙ order_before canonical.class first.0 front behind first.3 in
-      let alone : decomposed canonical (c ∷ ys) ≡ first.0 ∷ marks_in_order canonical.class behind =
-      ap (marks_in_order canonical.class) list ∙ put_starter canonical.class first.0 (marks_in_order canonical.class behind) first.3 in
-      let starter : canonical.class first.0 ≤ 0 = omega (arith, first.3) in
+  composed_parts xs c ys apart =
+      let d = apart.0 in
+      let starter : canonical.class d ≡ 0 = ok.composing.starters d apart.3 in
+      let behind = apart.1 ++ flat_map canonical.full ys in
+      let front = flat_map canonical.full xs in
+      let list : flat_map canonical.full (c ∷ ys) ≡ d ∷ behind = ap (λ l. l ++ flat_map canonical.full ys) apart.2 in
+      let whole : decomposed canonical (xs ++ c ∷ ys) ≡ marks_in_order canonical.class front ++ d ∷ marks_in_order canonical.class behind =
+      ap (marks_in_order canonical.class) (flat_map-append canonical.full xs (c ∷ ys) ∙ ap (λ l. front ++ l) list)
+      ∙ order_before canonical.class d front behind starter in
+      let alone : decomposed canonical (c ∷ ys) ≡ d ∷ marks_in_order canonical.class behind =
+      ap (marks_in_order canonical.class) list ∙ put_starter canonical.class d (marks_in_order canonical.class behind) starter in
       ap (recomposed canonical) whole
-      ∙ recomposed_apart canonical ok.composing.seconds (marks_in_order canonical.class front) first.0 (marks_in_order canonical.class behind) starter (apart.1 first.0 first.1 first.2)
-      ∙ ap (λ l. l ++ recomposed canonical (first.0 ∷ marks_in_order canonical.class behind)) (ok.composing.own b low)
-      ∙ ap (λ l. b ∷ recomposed canonical l) (sym alone)
+      ∙ recomposed_apart canonical ok.composing.seconds (marks_in_order canonical.class front) d (marks_in_order canonical.class behind) (omega (arith, starter)) apart.3
+      ∙ ap (λ l. recomposed canonical (marks_in_order canonical.class front) ++ recomposed canonical l) (sym alone)
+
+  -- before such a character one that is its own composed list stays as it stands
+  composed_passed : (b c : ℕ) (ys : List ℕ) → composed canonical (b ∷ []) ≡ b ∷ [] → BeginsApart canonical c → composed canonical (b ∷ c ∷ ys) ≡ b ∷ composed canonical (c ∷ ys)
+  composed_passed b c ys own apart = composed_parts (b ∷ []) c ys apart ∙ ap (λ l. l ++ composed canonical (c ∷ ys)) own
 
   -- ---- passing over
 
   pub skipping_none : (text ahead : List ℕ) → ahead ≡ text → IsSkipping canonical text text ahead [] []
   skipping_none text ahead e = record { read = record { whole = refl; part = sym e }; alone = ap (λ l. composed canonical (chars l)) (sym e); last = inl refl }
 
-  passed_last : (back ys : List ℕ) (c : ℕ) → (back ≡ []) ⊎ ((b : ℕ) × (back ≡ b ∷ []) × (b < 0x300)) → IsApart canonical c → composed canonical (back ++ c ∷ ys) ≡ back ++ composed canonical (c ∷ ys)
+  passed_last : (back ys : List ℕ) (c : ℕ) → (back ≡ []) ⊎ ((b : ℕ) × (back ≡ b ∷ []) × (composed canonical (b ∷ []) ≡ b ∷ [])) → BeginsApart canonical c → composed canonical (back ++ c ∷ ys) ≡ back ++ composed canonical (c ∷ ys)
   passed_last back ys c (inl none) apart = ap (λ l. composed canonical (l ++ c ∷ ys)) none ∙ ap (λ l. l ++ composed canonical (c ∷ ys)) (sym none)
   passed_last back ys c (inr some) apart =
       ap (λ l. composed canonical (l ++ c ∷ ys)) some.1 ∙ composed_passed some.0 c ys some.2 apart ∙ ap (λ l. l ++ composed canonical (c ∷ ys)) (sym some.1)
 
-  own_last : (back : List ℕ) → (back ≡ []) ⊎ ((b : ℕ) × (back ≡ b ∷ []) × (b < 0x300)) → composed canonical back ≡ back
+  own_last : (back : List ℕ) → (back ≡ []) ⊎ ((b : ℕ) × (back ≡ b ∷ []) × (composed canonical (b ∷ []) ≡ b ∷ [])) → composed canonical back ≡ back
   own_last back (inl none) = ap (composed canonical) none ∙ composed_nothing canonical ∙ sym none
-  own_last back (inr some) = ap (composed canonical) some.1 ∙ ok.composing.own some.0 some.2 ∙ sym some.1
+  own_last back (inr some) = ap (composed canonical) some.1 ∙ some.2 ∙ sym some.1
 
   pub skipping_more : (text rest ahead next front back : List ℕ) (c : ℕ) → IsSkipping canonical text rest ahead front back → IsUtf8 ahead → ahead ≡ encode_utf8 c ++ next → IsApart canonical c → IsSkipping canonical text ahead next (front ++ back) (c ∷ [])
   skipping_more text rest ahead next front back c is v e apart = record {
     read = read_starter text rest ahead next front back c is.read e;
     alone =
-        is.alone ∙ ap (λ l. front ++ composed canonical (back ++ l)) (chars_past_char ahead next c v e) ∙ ap (λ l. front ++ l) (passed_last back (chars next) c is.last apart)
+        is.alone ∙ ap (λ l. front ++ composed canonical (back ++ l)) (chars_past_char ahead next c v e) ∙ ap (λ l. front ++ l) (passed_last back (chars next) c is.last apart.0)
         ∙ sym (append_assoc front back (composed canonical (c ∷ chars next)));
-    last = inr (c, refl, apart.0);
+    last = inr (c, refl, apart.1);
   }
 
   pub skipped_all : (text rest ahead front back : List ℕ) → IsSkipping canonical text rest ahead front back → IsUtf8 text → IsUtf8 ahead → chars ahead ≡ [] → IsComposed canonical (chars text)
@@ -108,14 +111,17 @@ module _ (canonical : Canonical) (ok : IsCanonical canonical) where
 -- ---- ASCII at the start
 
 module _ (canonical : Canonical) (ok : IsCanonical canonical) where
-  apart_plain : (c : ℕ) → c < 0x80 → IsApart canonical c
-  apart_plain c plain = (omega arith, λ d ds e. let same : c ∷ [] ≡ d ∷ ds = sym (full_low canonical c ok (omega arith)) ∙ e in let head : c ≡ d = cc in omega (arith, head, plain))
+  apart_plain : (c : ℕ) → c < 0x80 → BeginsApart canonical c
+  apart_plain c plain = (c, [], full_low canonical c ok (omega arith), omega arith)
+
+  own_plain : (c : ℕ) → c < 0x80 → composed canonical (c ∷ []) ≡ c ∷ []
+  own_plain c plain = ok.composing.own c (omega arith)
 
   plain_passed : (front : List ℕ) (x : ℕ) (ys : List ℕ) → ArePlain front → x < 0x80 → composed canonical (front ++ x ∷ ys) ≡ front ++ composed canonical (x ∷ ys)
   plain_passed [] x ys plain last = refl
-  plain_passed (c ∷ []) x ys plain last = composed_passed canonical ok c x ys (let h = plain.0 in omega arith) (apart_plain x last)
+  plain_passed (c ∷ []) x ys plain last = composed_passed canonical ok c x ys (own_plain c plain.0) (apart_plain x last)
   plain_passed (c ∷ d ∷ cs) x ys plain last =
-      composed_passed canonical ok c d (cs ++ x ∷ ys) (let h = plain.0 in omega arith) (apart_plain d plain.1.0) ∙ ap (λ l. c ∷ l) (plain_passed (d ∷ cs) x ys plain.1 last)
+      composed_passed canonical ok c d (cs ++ x ∷ ys) (own_plain c plain.0) (apart_plain d plain.1.0) ∙ ap (λ l. c ∷ l) (plain_passed (d ∷ cs) x ys plain.1 last)
 
   pub skipping_begun : (text rest ahead : List ℕ) (n : ℕ) → IsUtf8 text → n ≤ length text → ((k : ℕ) → k < n → get_or text k 0 < 0x80) → rest ≡ drop (n - 1) text → ahead ≡ drop n text
       → (front : List ℕ) × (back : List ℕ) × IsSkipping canonical text rest ahead front back
@@ -137,7 +143,7 @@ module _ (canonical : Canonical) (ok : IsCanonical canonical) where
         record {
           read = read;
           alone = ap (composed canonical) (sym (text_chars text rest ahead (take m text) (x ∷ []) read u v)) ∙ plain_passed (take m text) x (chars ahead) front last;
-          last = inr (x, refl, (omega arith));
+          last = inr (x, refl, own_plain x last);
         },
       )
 

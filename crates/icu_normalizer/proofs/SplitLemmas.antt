@@ -29,7 +29,7 @@ put_behind class c d ds zs h =
     (λ mark. ⊎_elim (λ lower. absurd (let same : class d ≡ class c = grind (arith, nat_tests) in omega arith)) inr (cases_lt (class d) (class c)))
     (cases_eq (class d) 0)
 
-put_stays : (class : ℕ → ℕ) (c d : ℕ) (ds : List ℕ) → (class d ≡ 0) ⊎ (class c ≤ class d) → put_in_order class c (d ∷ ds) ≡ c ∷ d ∷ ds
+pub put_stays : (class : ℕ → ℕ) (c d : ℕ) (ds : List ℕ) → (class d ≡ 0) ⊎ (class c ≤ class d) → put_in_order class c (d ∷ ds) ≡ c ∷ d ∷ ds
 unfolding put_in_order
 put_stays class c d ds (inl zero) = grind (arith, nat_tests)
 put_stays class c d ds (inr above) = grind (arith, nat_tests)

@@ -1,7 +1,7 @@
 -- Composing a starter with what stands behind it.
-use Rattle.std.specs.Prelude.{◌≡◌, ℕ, ◌<◌, ◌≤◌, ◌==◌, ◌||◌, ltb, cond, List, ◌∷◌, Option, Some, None}
+use Rattle.std.specs.Prelude.{◌≡◌, ℕ, ◌<◌, ◌≤◌, ◌==◌, ◌||◌, ltb, cond, List, [], ◌∷◌, Option, Some, None}
 use Rattle.std.specs.List.{list_all}
-use Rattle.icu_normalizer_core.specs.Canonical.{Canonical}
+use Rattle.icu_normalizer_core.specs.Canonical.{Canonical, composed}
 
 -- what a starter and c compose to: nothing may stand between them but marks of classes below c's
 abbrev pub composed_with : Canonical → ℕ → List ℕ → ℕ → Option ℕ
@@ -18,6 +18,10 @@ IsComposable canonical =
     ((a b c : ℕ) → canonical.pair a b ≡ Some c → 0x300 ≤ b)
     × ((c : ℕ) → c < 0x300 → canonical.class c ≡ 0)
 
--- the character and the first of its full list are below U+0300: neither composes with what stands before it
+-- the first of the character's full list is below U+0300: it composes with nothing before it
+abbrev pub BeginsApart : Canonical → ℕ → Type 0
+BeginsApart canonical c = (d : ℕ) × (ds : List ℕ) × (canonical.full c ≡ d ∷ ds) × (d < 0x300)
+
+-- such a character that is its own composed list
 abbrev pub IsApart : Canonical → ℕ → Type 0
-IsApart canonical c = (c < 0x300) × ((d : ℕ) (ds : List ℕ) → canonical.full c ≡ d ∷ ds → d < 0x300)
+IsApart canonical c = BeginsApart canonical c × (composed canonical (c ∷ []) ≡ c ∷ [])

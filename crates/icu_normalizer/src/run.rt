@@ -8,9 +8,12 @@ ghost use Rattle.icu_normalizer_core.specs.BorrowedMeaning.{borrowed_meaning};
 ghost use Rattle.icu_normalizer_core.specs.Canonical.{marks_in_order};
 ghost use Rattle.icu_normalizer.specs.Marks.{is_mark};
 
-use icu_normalizer_core::canonical::CanonicalBorrowed;
+use icu_normalizer_core::canonical::{CanonicalBorrowed, Reading};
 use smallvec::SmallVec;
 use std::alloc::{AllocError, Global};
+
+/// How many characters that were taken may stay before what is left is moved to the front.
+const KEPT: usize = 4;
 
 /// Decomposed characters on their way out, in three parts: those that were taken, those that are in order and ready,
 /// and the marks behind the last starter, whose order is still open.
@@ -79,7 +82,7 @@ impl<'d> Run<'d> {
             self.next += 1;
             return Some(c);
         }
-        if self.ready > 0 {
+        if self.ready > KEPT {
             self.drop_taken();
         }
         None
@@ -108,6 +111,25 @@ impl<'d> Run<'d> {
         ensures held { held self.new ≤ held self.old + 8 }
         ensures same { data_of self.new ≡ data_of self.old }
     {
+        if c < '\u{c0}' {
+            return self.add(c, 0);
+        }
+        match self.canonical.reading(c) {
+            Reading::Itself(class) => self.add(c, class),
+            Reading::Two(first, second) => {
+                self.push(first)?;
+                self.push(second)
+            }
+            Reading::Other => self.push_list(c),
+        }
+    }
+
+    /// The same, character by character.
+    fn push_list(&mut self, c: char) -> Result<(), AllocError>
+        ensures ok { OnOk result (KeepsOutput self.old ((data_of self.old).full c) [] self.new) }
+        ensures held { held self.new ≤ held self.old + 8 }
+        ensures same { data_of self.new ≡ data_of self.old }
+    {
         for d in self.canonical.full_list(c) {
             self.push(d)?;
         }
@@ -121,7 +143,22 @@ impl<'d> Run<'d> {
         ensures held { held self.new ≤ held self.old + 1 }
         ensures same { data_of self.new ≡ data_of self.old }
     {
-        if self.canonical.class(c) == 0 {
+        if c < '\u{c0}' {
+            return self.add(c, 0);
+        }
+        let class = self.canonical.class(c);
+        self.add(c, class)
+    }
+
+    /// Adds a character of this class.
+    #[inline]
+    fn add(&mut self, c: char, class: u8) -> Result<(), AllocError>
+        requires { class ≡ (data_of self.old).class c }
+        ensures ok { OnOk result (KeepsOutput self.old (c ∷ []) [] self.new) }
+        ensures held { held self.new ≤ held self.old + 1 }
+        ensures same { data_of self.new ≡ data_of self.old }
+    {
+        if class == 0 {
             self.finish()?;
             self.chars.push(c)?;
             self.ready = self.chars.len();

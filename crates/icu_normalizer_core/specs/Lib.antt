@@ -23,6 +23,7 @@ pub mod PairTests
 pub mod Plain
 pub mod Properties
 pub mod PropertyMeanings
+pub mod Readings
 pub mod Sameness
 pub mod Settled
 pub mod Triples

@@ -10,6 +10,7 @@ ghost use Rattle.icu_normalizer.specs.Sinks.{AddsPrefix};
 mod splits;
 
 use super::Composition;
+use super::clusters::{first_cluster, split_apart};
 use crate::sinks::{NormError, TextSink};
 use icu_normalizer_core::canonical::CanonicalBorrowed;
 use std::alloc::Global;
@@ -59,8 +60,33 @@ impl<'d> ComposingNormalizerBorrowed<'d> {
         self.write_composed(alloc, rest, sink)
     }
 
-    /// The same, character by character.
+    /// The same, part by part: what stays as it stands is written as it stands.
     fn write_composed<S: TextSink>(
+        &self,
+        alloc: Global,
+        text: &str,
+        sink: &mut S,
+    ) -> Result<(), NormError<S::Error>>
+        ensures ok { OnOk result (S.contents sink.new ≡ S.contents sink.old ++ encode_utf8_all (composed (composing_data self.now) (chars text.now))) }
+        ensures err { OnErr result (AddsPrefix (S.contents sink.old) (encode_utf8_all (composed (composing_data self.now) (chars text.now))) (S.contents sink.new)) }
+    {
+        let mut left = text;
+        while !left.is_empty() {
+            let (cluster, rest) = first_cluster(self.canonical, left);
+            if let Err(error) = self.write_cluster(alloc, cluster, sink) {
+                return Err(error);
+            }
+            let (plain, rest) = split_apart(self.canonical, rest);
+            if let Err(error) = sink.write_str(plain) {
+                return Err(NormError::Sink(error));
+            }
+            left = rest;
+        }
+        Ok(())
+    }
+
+    /// The same, character by character.
+    fn write_cluster<S: TextSink>(
         &self,
         alloc: Global,
         text: &str,

@@ -4,11 +4,13 @@ ghost use Rattle.std.specs.Prelude.{◌≡◌, ◌≢◌, [], IfSome, IfNone};
 ghost use Rattle.icu_normalizer_core.specs.Canonical.{is_starter, IsCanonical};
 ghost use Rattle.icu_normalizer_core.specs.BorrowedMeaning.{borrowed_meaning};
 ghost use Rattle.icu_normalizer_core.specs.Properties.{mapped_to};
+ghost use Rattle.icu_normalizer_core.specs.Readings.{IsTold};
 ghost use Rattle.icu_normalizer_core.specs.declared.properties.Decomposed.TheVariants.{Default};
 
 use super::data::CanonicalData;
 use super::full_list::{FullList, full_list};
 use super::pairs::listed_pair;
+use super::reading::{Reading, read_character};
 use super::steps::listed_step;
 use crate::built_in::{built_in_step, syllable_of};
 use crate::properties::Decomposed;
@@ -47,6 +49,15 @@ impl<'d> CanonicalBorrowed<'d> {
         self.class(c) == 0
     }
 
+    /// What one read tells of a character: whether it is its own full list, and of which class, or the two
+    /// characters of its full list; of other characters nothing.
+    #[inline]
+    pub fn reading(&self, c: char) -> Reading
+        ensures { IsTold (borrowed_meaning self.now) c result }
+    {
+        read_character(self.checked.tables(), c)
+    }
+
     /// The canonical mapping of a character (UAX 15), `None` where it has none; built-in ones too.
     pub fn step(&self, c: char) -> Option<Decomposed>
         ensures mapped { IfSome result (λ step. mapped_to step ≡ (borrowed_meaning self.now).step c) }
@@ -70,6 +81,7 @@ impl<'d> CanonicalBorrowed<'d> {
     }
 
     /// The character that two compose to, `None` where they don't compose (UAX 15); Hangul too.
+    #[inline]
     pub fn compose(&self, first: char, second: char) -> Option<char>
         ensures { result ≡ (borrowed_meaning self.now).pair first second }
     {

@@ -161,6 +161,7 @@ fn listed<'d>(tables: &'d CanonicalTables<'d>, word: u32) -> FullList<'d>
 }
 
 /// The list that a word states by itself.
+#[inline]
 #[tactic(auto, unfolding(crate::specs::CanonicalWords::full_of_word))]
 pub(super) fn stated<'d>(tables: &'d CanonicalTables<'d>, c: char, word: u32) -> FullList<'d>
     requires word { is_list_word word ≡ false }
@@ -181,7 +182,8 @@ pub(super) fn stated<'d>(tables: &'d CanonicalTables<'d>, c: char, word: u32) ->
 }
 
 /// A scalar value as a character.
-fn character(code: u32) -> char
+#[inline]
+pub(super) fn character(code: u32) -> char
     requires { IsScalar code }
     ensures { result ≡ code }
 {

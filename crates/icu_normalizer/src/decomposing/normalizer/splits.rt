@@ -45,7 +45,7 @@ impl DecomposingNormalizerBorrowed<'_> {
         if rest.is_empty() {
             return Ok(CowStr::Borrowed(text));
         }
-        let mut normal = String::with_capacity(alloc, text.len())?;
+        let mut normal = String::with_capacity(alloc, text.len().saturating_mul(2))?;
         normal.push_str(prefix)?;
         match self.write_decomposed(alloc, rest, &mut normal) {
             Ok(()) => Ok(CowStr::Owned(normal)),

@@ -9,9 +9,9 @@ returns-then-self-clause-some c =
     let b = c.args.self.now in
     record { at = λ rest. out_pop (data_of b).class b.chars.items b.next b.ready _ rest c.if-self.true b.within (c.index-deref-self.is ∙ ap (λ l. get_or l b.next c.index-deref-self.result) c.deref.ensures) }
 
-pub returns-then-self-gt0-clause-none : goal.returns-then-self-gt0-clause-none
+pub returns-then-self-gt-KEPT-clause-none : goal.returns-then-self-gt-KEPT-clause-none
 unfolding reordered
-returns-then-self-gt0-clause-none c =
+returns-then-self-gt-KEPT-clause-none c =
     let b = c.args.self.now in
     let left = c.drop_taken.ensures in (
       record { at = λ rest. out_shift (data_of b).class b.chars.items b.next b.ready rest c.if-self.false b.within ∙ sym (rw (left.chars, left.next, left.ready, left.same)) },

@@ -1,38 +1,31 @@
-use Rattle.std.proofs.Common.{[], ◌∷◌, ◌++◌, refl, sym, append-nil, rules}
-use Rattle.icu_normalizer.proofs.IterLemmas.{Spells-chars}
-use Rattle.icu_normalizer.proofs.SinkLemmas.{seen_more, sink_more, sink_all, sink_cut, sink_part}
+use Rattle.std.proofs.Common.{rules, arith, ap, ◌∙◌}
+use Rattle.std.proofs.lemmas.Bool.Decides.{nat_tests}
+use Rattle.std.proofs.lemmas.List.{nil_from_length}
+use Rattle.icu_normalizer.specs.Normalizers.{composing_data}
+use Rattle.icu_normalizer.proofs.ClusterLemmas.{form_of, form_nothing, partly_begun, partly_more, partly_cut, partly_all}
 use Rattle.icu_normalizer.proofs.composing.normalizer.ComposingNormalizerBorrowed.write_composed.Goals as goal
 
-pub loop-item-init : goal.loop-item-init
-loop-item-init g c =
-    (search rules, ([], _, c.over-composition.ensures.text _ (Spells-chars _ _ c.utf8.text c.chars.ensures.rest), refl, sym (append-nil _)))
+pub loop-left-init : goal.loop-left-init
+loop-left-init g c = (partly_begun _ _, c.utf8.text)
 
-pub returns-in_default-item-clause-err : goal.returns-in_default-item-clause-err
-returns-in_default-item-clause-err g c = let now = c.loop-item.invariant.1 in sink_cut _ _ _ now.0 now.1 now.3 now.4
+pub is_empty-requires-text-self : goal.is_empty-requires-text-self
+is_empty-requires-text-self g c = λ _. c.loop-left.invariant.1
+
+pub first_cluster-requires : goal.first_cluster-requires
+first_cluster-requires g c = grind (arith, nat_tests)
 
 pub returns-in-Err-clause-err : goal.returns-in-Err-clause-err
-returns-in-Err-clause-err g c =
-    let now = c.loop-item.invariant.1 in
-    let step = rw c.in-Ok.is at c.in-Some.ensures.steps in
-    let next = step.first.at now.1 now.2 in
-    sink_part _ _ _ _ now.0 now.1 _ next.0 now.3 next.1 now.4 c.in-Err.ensures.err
+returns-in-Err-clause-err g c = partly_cut _ _ _ _ _ _ _ c.loop-left.invariant.0 c.first_cluster.ensures.alone c.in-Err.ensures.err
 
-pub loop-item-preserved : goal.loop-item-preserved
-loop-item-preserved g c =
-    let now = c.loop-item.invariant.1 in
-    let step = rw c.in-Ok.is at c.in-Some.ensures.steps in
-    let next = step.first.at now.1 now.2 in (
-      step.again,
-      (
-        now.0 ++ c.in-Ok.c ∷ [],
-        next.0,
-        next.2,
-        seen_more _ now.0 now.1 _ next.0 now.3 next.1,
-        sink_more _ _ _ now.0 _ now.4 c.in_default-write_char.ensures.ok,
-      ),
-    )
+pub returns-in-Err-write_str-clause-err : goal.returns-in-Err-write_str-clause-err
+returns-in-Err-write_str-clause-err g c =
+    partly_cut _ _ _ _ _ _ _ (partly_more _ _ _ _ _ _ _ c.loop-left.invariant.0 c.first_cluster.ensures.alone c.in_default.ensures.ok) c.split_apart.ensures.stays c.in-Err-write_str.ensures.err
+
+pub loop-left-preserved : goal.loop-left-preserved
+loop-left-preserved g c = (
+  partly_more _ _ _ _ _ _ _ (partly_more _ _ _ _ _ _ _ c.loop-left.invariant.0 c.first_cluster.ensures.alone c.in_default.ensures.ok) c.split_apart.ensures.stays c.in_default-write_str.ensures.ok,
+  search rules,
+)
 
 pub returns-clause-ok : goal.returns-clause-ok
-returns-clause-ok g c =
-    let now = c.loop-item.invariant.1 in
-    sink_all _ _ _ now.0 now.1 now.3 (c.in_default.ensures.steps.first.at now.1 now.2).0 now.4
+returns-clause-ok g c = partly_all _ _ _ _ c.loop-left.invariant.0 (ap (form_of (composing_data c.args.self.now)) (nil_from_length _ (grind (arith, nat_tests))) ∙ form_nothing (composing_data c.args.self.now))

@@ -1,13 +1,12 @@
-use Rattle.std.proofs.Common.{◌≡◌, ℕ, List, ◌++◌, chars, encode_utf8_all}
-use Rattle.std.specs.Str.Iter.{chars_steps}
-use Rattle.icu_normalizer_core.specs.Canonical.{composed}
-use Rattle.icu_normalizer.specs.Compositions.{ComposesTo}
+use Rattle.std.proofs.Common.{length, IsUtf8}
 use Rattle.icu_normalizer.specs.Normalizers.{composing_data}
+use Rattle.icu_normalizer.proofs.ClusterLemmas.{IsPartly, form_of}
 use Rattle.icu_normalizer.proofs.composing.normalizer.ComposingNormalizerBorrowed.write_composed.Given as goal
 
-abbrev pub invariant-loop-item : goal.invariant-loop-item
-invariant-loop-item g l =
-    (goal.iterator-loop-item g).can_next l.composition
-    × ((seen : List ℕ) × (left : List ℕ) × ComposesTo chars_steps l.composition left
-    × (composed (composing_data l.fn.self) (chars l.fn.text) ≡ seen ++ left)
-    × (g.S.TextSink.contents l.sink ≡ g.S.TextSink.contents l.fn.sink ++ encode_utf8_all seen))
+abbrev pub invariant-loop-left : goal.invariant-loop-left
+invariant-loop-left g l =
+    IsPartly (g.S.TextSink.contents l.fn.sink) (form_of (composing_data l.fn.self) l.fn.text) (form_of (composing_data l.fn.self) l.left) (g.S.TextSink.contents l.sink)
+    × IsUtf8 l.left
+
+abbrev pub decreases-loop-left : goal.decreases-loop-left
+decreases-loop-left g l = length l.left

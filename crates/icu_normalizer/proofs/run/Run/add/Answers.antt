@@ -2,7 +2,7 @@ use Rattle.std.proofs.Common.{[], ◌∷◌, ◌++◌, sym, ap, ◌∙◌, arith
 use Rattle.icu_normalizer_core.specs.Canonical.{Canonical, marks_in_order}
 use Rattle.icu_normalizer.specs.Run.{reordered, data_of}
 use Rattle.icu_normalizer.proofs.RunLemmas.{out, out_mark, out_before_starter, out_starter}
-use Rattle.icu_normalizer.proofs.run.Run.push.Goals as goal
+use Rattle.icu_normalizer.proofs.run.Run.add.Goals as goal
 
 pub returns-in_ok-push-clause-ok : goal.returns-in_ok-push-clause-ok
 unfolding reordered

@@ -1,6 +1,6 @@
 use Rattle.std.proofs.Common.{◌≡◌, ◌+◌, ◌≤◌, [], ◌++◌, length}
 use Rattle.icu_normalizer.specs.Run.{held, data_of, KeepsOutput}
-use Rattle.icu_normalizer.proofs.run.Run.push_decomposed.Given as goal
+use Rattle.icu_normalizer.proofs.run.Run.push_list.Given as goal
 
 abbrev pub invariant-loop-d : goal.invariant-loop-d
 invariant-loop-d l =

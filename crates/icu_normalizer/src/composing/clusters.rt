@@ -1,0 +1,45 @@
+//! Parts of a text that are composed alone.
+
+ghost use Rattle.std.specs.Prelude.{◌≡◌, ◌<◌, ◌≤◌, ◌++◌, length, chars, encode_utf8_all};
+ghost use Rattle.icu_normalizer_core.specs.BorrowedMeaning.{borrowed_meaning};
+ghost use Rattle.icu_normalizer_core.specs.Canonical.{composed};
+
+use super::low::{begins_apart, skip_low};
+use icu_normalizer_core::canonical::CanonicalBorrowed;
+
+/// A text in two parts that are composed alone. The second is shorter than the text. It takes no memory.
+pub(super) fn first_cluster<'t>(
+    canonical: CanonicalBorrowed<'_>,
+    text: &'t str,
+) -> (&'t str, &'t str)
+    requires { 0 < length text.now }
+    ensures alone { encode_utf8_all (composed (borrowed_meaning canonical.entry) (chars text.now)) ≡ encode_utf8_all (composed (borrowed_meaning canonical.entry) (chars result.0.now)) ++ encode_utf8_all (composed (borrowed_meaning canonical.entry) (chars result.1.now)) }
+    ensures shorter { length result.1.now < length text.now }
+{
+    canonical.keep_promise();
+    let mut chars = text.chars();
+    let Some(_first) = chars.next() else {
+        return text.split_at(text.len());
+    };
+    'chars: loop {
+        let rest = chars.as_str();
+        let Some(c) = chars.next() else {
+            return text.split_at(text.len());
+        };
+        if begins_apart(canonical, c) {
+            return text.split_at(text.len() - rest.len());
+        }
+    }
+}
+
+/// A text in two parts, the first of which stays as it stands. It takes no memory.
+pub(super) fn split_apart<'t>(canonical: CanonicalBorrowed<'_>, text: &'t str) -> (&'t str, &'t str)
+    ensures stays { encode_utf8_all (composed (borrowed_meaning canonical.entry) (chars text.now)) ≡ result.0.now ++ encode_utf8_all (composed (borrowed_meaning canonical.entry) (chars result.1.now)) }
+    ensures shorter { length result.1.now ≤ length text.now }
+{
+    canonical.keep_promise();
+    match skip_low(canonical, text) {
+        None => text.split_at(text.len()),
+        Some(rest) => text.split_at(text.len() - rest.len()),
+    }
+}

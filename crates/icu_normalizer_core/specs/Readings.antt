@@ -1,0 +1,11 @@
+-- What one read of canonical data tells.
+use Rattle.std.specs.Prelude.{◌≡◌, ℕ, [], ◌∷◌}
+use Rattle.icu_normalizer_core.specs.Canonical.{Canonical}
+use Rattle.icu_normalizer_core.specs.declared.canonical.reading.Reading.{Reading}
+use Rattle.icu_normalizer_core.specs.declared.canonical.reading.Reading.TheVariants.{Itself, Two, Other}
+
+-- what it tells of the character is so
+abbrev pub IsTold : Canonical → ℕ → Reading → Type 0
+IsTold canonical c (Itself class) = (canonical.full c ≡ c ∷ []) × (canonical.class c ≡ class)
+IsTold canonical c (Two a b) = canonical.full c ≡ a ∷ b ∷ []
+IsTold canonical c Other = Unit {0}
