@@ -1,9 +1,21 @@
 //! What the check of canonical tables refuses.
 
 use crate::tables::{PAIRS, STEPS, pair, tables};
-use icu_normalizer_core::canonical::{CanonicalData, CanonicalDataError, CanonicalFault};
+use icu_normalizer_core::canonical::{
+    CanonicalData, CanonicalDataError, CanonicalFault, CanonicalTables,
+};
+use icu_packed_vector::PackedVec;
 use std::alloc::Global;
 use std::test::Fail;
+
+/// What tables are refused for, `None` where they are accepted.
+fn fault_of(alloc: Global, tables: CanonicalTables<'_>) -> Result<Option<CanonicalFault>, Fail> {
+    match CanonicalData::try_new(alloc, tables) {
+        Ok(_) => Ok(None),
+        Err(CanonicalDataError::Fault(fault)) => Ok(Some(fault)),
+        Err(CanonicalDataError::Memory) => Err(Fail::new("memory")),
+    }
+}
 
 /// What such tables are refused for, `None` where they are accepted.
 fn fault(
@@ -12,11 +24,7 @@ fn fault(
     steps: &[u32],
     pairs: &[u64],
 ) -> Result<Option<CanonicalFault>, Fail> {
-    match CanonicalData::try_new(alloc, tables(alloc, words, steps, pairs)?) {
-        Ok(_) => Ok(None),
-        Err(CanonicalDataError::Fault(fault)) => Ok(Some(fault)),
-        Err(CanonicalDataError::Memory) => Err(Fail::new("memory")),
-    }
+    fault_of(alloc, tables(alloc, words, steps, pairs)?)
 }
 
 /// Fails unless such tables are refused for this, or accepted where it is `None`.
@@ -53,6 +61,16 @@ fn ok_try_new(rt: HostRuntime) -> Result<(), Fail> {
     for (word, expected) in rows {
         expect(rt.alloc(), &[word], &STEPS, &PAIRS, expected)?;
     }
+    Ok(())
+}
+
+// The word of U+FFFD says that its list has two characters, where one is left: that which is built in.
+#[test]
+fn built_in_list_that_ends_outside(rt: HostRuntime) -> Result<(), Fail> {
+    let mut cut = tables(rt.alloc(), &[(0xfffd, 0x1_0001)], &STEPS, &PAIRS)?;
+    cut.scalars24 = PackedVec::from_slice(rt.alloc(), &['\u{fffd}'])?;
+    let expected = CanonicalFault::BuiltIn('\u{fffd}');
+    assert!(rt; fault_of(rt.alloc(), cut)? == Some(expected));
     Ok(())
 }
 

@@ -2,7 +2,9 @@
 
 use crate::held::{Held, provider_of};
 use crate::tables::{PAIRS, STEPS, pair, tables};
-use icu_normalizer_core::canonical::{CanonicalBorrowed, CanonicalFault};
+use icu_normalizer_core::canonical::{
+    CanonicalBorrowed, CanonicalDataBuildError, CanonicalDataError, CanonicalFault,
+};
 use icu_normalizer_core::properties::{
     CanonicalCombiningClassMap, CanonicalCombiningClassMapBorrowed, CanonicalComposition,
     CanonicalCompositionBorrowed, CanonicalDecomposition, CanonicalDecompositionBorrowed,
@@ -127,5 +129,11 @@ fn refusals_print(rt: HostRuntime) -> Result<(), AllocError> {
     let missing = DataError::Missing(TableName::NfkdTables);
     assert!(rt; format!(in alloc; "{check}")?.as_str() == "bad built-in at 300");
     assert!(rt; format!(in alloc; "{missing}")?.as_str() == "no table nfkd_tables");
+    let fault = CanonicalDataError::Fault(CanonicalFault::BadValue('\u{e1}'));
+    let rules = CanonicalDataBuildError::Rules;
+    assert!(rt;
+        format!(in alloc; "{fault}, {rules}")?.as_str()
+            == "bad value at E1, a rule of canonical data is broken"
+    );
     Ok(())
 }
