@@ -4,6 +4,7 @@ use crate::reader::{at, fault_of};
 use collate_records::records::Records;
 use collate_records::rule::Rule;
 use icu_collections::codepointtrie::TrieType;
+use icu_normalizer_core::canonical::CanonicalBorrowed;
 use icu_normalizer_core::properties::Decomposed;
 use std::alloc::Global;
 use std::process::Abort;
@@ -81,7 +82,7 @@ fn letters_are_looked_up(alloc: Global, rt: &impl Abort, trie_type: TrieType) ->
     classes_are_said_or_built_in(rt, &records);
     mappings_are_one_step(rt, &records);
     elements_are_those_of_the_line(rt, &records);
-    full_lists_are_appended(alloc, rt, &records)
+    Ok(())
 }
 
 fn classes_are_said_or_built_in(rt: &impl Abort, records: &Records) {
@@ -116,21 +117,29 @@ fn elements_are_those_of_the_line(rt: &impl Abort, records: &Records) {
     assert_eq!(rt; elements[0].secondary, 0x8800);
 }
 
-fn full_lists_are_appended(alloc: Global, rt: &impl Abort, records: &Records) -> Result<(), Fail> {
-    let mut list = Vec::new(alloc);
-    for c in [0xe1, 0x1ea1, 0xac00, 0xac01, 0x344, 0x7a] {
-        records.append_full_list(c, &mut list)?;
-    }
-    let expected = [
-        0x61, 0x301, 0x61, 0x323, 0x1100, 0x1161, 0x1100, 0x1161, 0x11a8, 0x308, 0x301, 0x7a,
-    ];
-    assert_eq!(rt; list.as_slice(), expected.as_slice());
+#[test]
+fn ok_canonical(rt: HostRuntime) -> Result<(), Fail> {
+    let records = Records::read(rt.alloc(), LETTERS)?;
+    assert!(rt; has_full_lists(records.canonical()));
+    assert!(rt; composes_letters(records.canonical()));
     Ok(())
 }
 
-#[test]
-fn ok_append_full_list(rt: HostRuntime) -> Result<(), Fail> {
-    full_lists_are_appended(rt.alloc(), &rt, &Records::read(rt.alloc(), LETTERS)?)
+fn has_full_lists(canonical: CanonicalBorrowed<'_>) -> bool {
+    canonical.full_list('\u{e1}').eq(['a', '\u{301}'])
+        && canonical.full_list('\u{1ea1}').eq(['a', '\u{323}'])
+        && canonical.full_list('\u{ac00}').eq(['\u{1100}', '\u{1161}'])
+        && canonical
+            .full_list('\u{ac01}')
+            .eq(['\u{1100}', '\u{1161}', '\u{11a8}'])
+        && canonical.full_list('\u{344}').eq(['\u{308}', '\u{301}'])
+        && canonical.full_list('z').eq(['z'])
+}
+
+fn composes_letters(canonical: CanonicalBorrowed<'_>) -> bool {
+    canonical.compose('a', '\u{301}') == Some('\u{e1}')
+        && canonical.compose('a', '\u{302}').is_none()
+        && canonical.class('\u{323}') == 220
 }
 
 #[test]
@@ -148,35 +157,32 @@ fn numbers_are_looked_up(alloc: Global, rt: &impl Abort, trie_type: TrieType) ->
     classes_are_those_of_numbers(rt, &records);
     mappings_are_those_of_numbers(rt, &records);
     elements_are_those_of_numbers(rt, &records);
+    // an x keeps the mapping out of the composed pairs
+    assert!(rt; records.canonical().compose('d', 'e').is_none());
     Ok(())
 }
 
 fn classes_are_those_of_numbers(rt: &impl Abort, records: &Records) {
-    let classes: [(u32, u8); 7] = [
-        (0xfff, 1),
-        (0x1000, 2),
-        (0xffff, 3),
-        (0x1_0000, 4),
-        (0x10_ffff, 5),
-        (0x11_0000, 0),
-        (0xffff_ffff, 0),
-    ];
-    for (code, class) in classes {
-        assert_eq!(rt; records.class32(code), class);
+    for (character, class) in [
+        ('\u{fff}', 1),
+        ('\u{1000}', 2),
+        ('\u{ffff}', 3),
+        ('\u{10000}', 4),
+        ('\u{10ffff}', 5),
+    ] {
+        assert_eq!(rt; records.class(character), class);
     }
 }
 
 fn mappings_are_those_of_numbers(rt: &impl Abort, records: &Records) {
-    let mappings: [(u32, Decomposed); 6] = [
-        (0xffe, Decomposed::Singleton('a')),
-        (0x1001, Decomposed::Singleton('b')),
-        (0xfffe, Decomposed::Singleton('c')),
-        (0x1_0001, Decomposed::Expansion('d', 'e')),
-        (0x10_fffe, Decomposed::Singleton('f')),
-        (0x11_0000, Decomposed::Default),
-    ];
-    for (code, mapping) in mappings {
-        assert_eq!(rt; records.mapping32(code), mapping);
+    for (character, mapping) in [
+        ('\u{ffe}', Decomposed::Singleton('a')),
+        ('\u{1001}', Decomposed::Singleton('b')),
+        ('\u{fffe}', Decomposed::Singleton('c')),
+        ('\u{10001}', Decomposed::Expansion('d', 'e')),
+        ('\u{10fffe}', Decomposed::Singleton('f')),
+    ] {
+        assert_eq!(rt; records.mapping(character), mapping);
     }
 }
 

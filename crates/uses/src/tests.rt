@@ -1,9 +1,14 @@
 //! Each public function is called once here, one test a subject.
 
-use crate::{code_point_tries, decoded, names, options, packed, records, sets, unit_tries};
+use crate::{
+    code_point_tries, decoded, names, normal_forms, options, packed, records, sets, unit_tries,
+};
 use collate_records::records::Records;
 use icu_collator_types::options::{FileSettings, Strength};
 use icu_collections_sets::packed_vector::PackedVec;
+use icu_normalizer::decomposing::DecomposingNormalizerBorrowed;
+use icu_normalizer_core::canonical::CanonicalBorrowed;
+use std::alloc::{AllocError, Global};
 use std::test::Fail;
 
 /// A records file: two letters, and an accent with its class.
@@ -66,6 +71,24 @@ fn ok_class_by_file(rt: HostRuntime) -> Result<(), Fail> {
     let file = Records::read(rt.alloc(), FILE)?;
     assert_eq!(rt; records::class_by_file(rt.alloc(), FILE, '\u{301}')?, 230);
     assert!(rt; records::stands_alone(&file, 'a'));
+    Ok(())
+}
+
+/// Whether two spellings are found equivalent, and the first is decomposed to the second, once and twice.
+fn spellings_are_alike(
+    alloc: Global,
+    canonical: CanonicalBorrowed<'_>,
+) -> Result<bool, AllocError> {
+    let normalizer = DecomposingNormalizerBorrowed::new_with_data(canonical);
+    let twice = normal_forms::decompose_twice(alloc, normalizer, "á")?;
+    let are = normal_forms::are_equivalent(alloc, normalizer, "á", "a\u{301}")?;
+    Ok(are && twice.as_str() == "a\u{301}")
+}
+
+#[test]
+fn ok_are_equivalent(rt: HostRuntime) -> Result<(), Fail> {
+    let file = Records::read(rt.alloc(), FILE)?;
+    assert!(rt; spellings_are_alike(rt.alloc(), file.canonical())?);
     Ok(())
 }
 
