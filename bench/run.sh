@@ -10,6 +10,7 @@ trap 'rm -rf "$work"' EXIT
 
 python3 bench/names.py adds "$adds" >"$work/adds"
 python3 bench/names.py bad "$bad" >"$work/bad"
+python3 bench/names.py marks 32000 >"$work/marks"
 ./collate "$records" </dev/null # builds it where it has to, outside the times
 
 # Runs the program on the input $1 and prints its time under the heading $2; the replies must be $3 lines.
@@ -25,3 +26,4 @@ measure() {
 
 measure adds "$adds adds of names of 20 characters" "$adds"
 measure bad "$bad lines that are no command" "$bad"
+measure marks "one add of a name of 32,000 marks" 1
