@@ -229,6 +229,7 @@ impl<'a, T: TrieValue> CodePointTrie<'a, T> {
     }
 
     /// The place that header and index name.
+    #[inline]
     fn named_place(&self, code_point: u32) -> Option<usize>
         ensures { result ≡ named_place self.now.header self.now.index (length self.now.cells) code_point }
     {
@@ -284,6 +285,7 @@ impl<'a, T: TrieValue> CodePointTrie<'a, T> {
 
     /// Whether the trie has a cell for the number: true past 10FFFF (hex). Where it is false,
     /// `get32` answers from the last cell.
+    #[inline]
     pub fn has_cell(&self, code_point: u32) -> bool
         ensures { result ≡ has_cell self.now code_point }
     {

@@ -4,6 +4,7 @@ ghost use Rattle.std.specs.Prelude.{◌≡◌, ◌/◌, ◌<◌, ◌^◌, ◌↔
 ghost use Rattle.std.specs.Char.{IsScalar};
 ghost use Rattle.icu_normalizer_core.specs.CanonicalLists.{ArePairs, listed_pair};
 
+use super::packing::CODE_LIMIT;
 use super::search::first_past;
 use icu_packed_vector::PackedVec;
 
@@ -28,7 +29,7 @@ pub(super) fn listed_pair(pairs: &PackedVec<'_, u64>, first: u32, second: u32) -
     }
     let pair = pairs.at(place);
     if pair >> 21 == key {
-        Some(char::from_u32((pair % 0x20_0000) as u32).unwrap())
+        Some(char::from_u32((pair % CODE_LIMIT) as u32).unwrap())
     } else {
         None
     }
