@@ -1,7 +1,10 @@
 -- What a sink holds while a text is written to it.
 use Rattle.std.proofs.Common.{◌≡◌, ℕ, List, [], ◌∷◌, ◌++◌, encode_utf8_all, sym, ap, ◌∙◌, append_assoc, append-nil}
+use Rattle.std.specs.Prelude.{Result, Ok, Err}
 use Rattle.std.proofs.lemmas.Str.{encodes-append}
-use Rattle.icu_normalizer.specs.Sinks.{AddsPrefix}
+use Rattle.icu_normalizer.specs.declared.sinks.NormError.{NormError}
+use Rattle.icu_normalizer.specs.declared.sinks.NormError.TheVariants.{Sink, Memory}
+use Rattle.icu_normalizer.specs.Sinks.{AddsPrefix, HasTaken, nothing, more, EndsByFailure}
 
 pub seen_more : (all seen left : List ℕ) (c : ℕ) (rest : List ℕ) → all ≡ seen ++ left → left ≡ c ∷ rest → all ≡ (seen ++ c ∷ []) ++ rest
 seen_more all seen left c rest e f = e ∙ ap (λ l. seen ++ l) f ∙ sym (append_assoc seen (c ∷ []) rest)
@@ -54,3 +57,15 @@ joined_back old mid new front back all e first h = (
 -- into an empty sink
 pub joined_new : (old mid new front back all : List ℕ) → front ++ back ≡ all → old ≡ [] → mid ≡ old ++ front → new ≡ mid ++ back → new ≡ all
 joined_new old mid new front back all e empty first second = joined_whole old mid new front back all e first second ∙ ap (λ l. l ++ all) empty
+
+-- ---- writes after others
+
+pub taken_both : {S : Type 0} {takes : S → S → Type 0} (old middle new : S) → HasTaken takes old middle → HasTaken takes middle new → HasTaken takes old new
+taken_both old middle new before (nothing _) = before
+taken_both old middle new before (more _ later _ after last) = more old later new (taken_both old middle later before after) last
+
+pub ends_after : {S E A : Type 0} (takes : S → S → Type 0) (fails : S → E → S → Type 0) (old middle : S) (result : Result A (NormError E)) (new : S)
+    → HasTaken takes old middle → EndsByFailure takes fails middle result new → EndsByFailure takes fails old result new
+ends_after takes fails old middle (Ok _) new before h = taken_both old middle new before h
+ends_after takes fails old middle (Err Memory) new before h = taken_both old middle new before h
+ends_after takes fails old middle (Err (Sink error)) new before h = (h.0, taken_both old middle h.0 before h.1, h.2)

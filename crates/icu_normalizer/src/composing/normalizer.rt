@@ -5,7 +5,7 @@ ghost use Rattle.icu_normalizer_core.specs.BorrowedMeaning.{borrowed_meaning};
 ghost use Rattle.icu_normalizer_core.specs.Canonical.{IsCanonical, composed};
 ghost use Rattle.icu_normalizer.specs.Composing.{IsComposable};
 ghost use Rattle.icu_normalizer.specs.Readable.{IsReadable};
-ghost use Rattle.icu_normalizer.specs.Sinks.{AddsPrefix};
+ghost use Rattle.icu_normalizer.specs.Sinks.{AddsPrefix, EndsByFailure};
 
 mod splits;
 
@@ -42,6 +42,7 @@ impl<'d> ComposingNormalizerBorrowed<'d> {
     }
 
     /// Writes a text in NFC to a sink. After an error the sink holds what it held, and a prefix of the text in NFC.
+    /// `NormError::Sink` is the error of the last write, and `NormError::Memory` comes where the sink took each write.
     pub fn normalize_to<S: TextSink>(
         &self,
         alloc: Global,
@@ -50,6 +51,7 @@ impl<'d> ComposingNormalizerBorrowed<'d> {
     ) -> Result<(), NormError<S::Error>>
         ensures ok { OnOk result (S.contents sink.new ≡ S.contents sink.old ++ encode_utf8_all (composed (composing_data self.now) (chars text.now))) }
         ensures err { OnErr result (AddsPrefix (S.contents sink.old) (encode_utf8_all (composed (composing_data self.now) (chars text.now))) (S.contents sink.new)) }
+        ensures failure { EndsByFailure S.takes S.fails sink.old result sink.new }
     {
         let Ok((prefix, rest)) = self.split_normalized(alloc, text) else {
             return Err(NormError::Memory);
@@ -69,6 +71,7 @@ impl<'d> ComposingNormalizerBorrowed<'d> {
     ) -> Result<(), NormError<S::Error>>
         ensures ok { OnOk result (S.contents sink.new ≡ S.contents sink.old ++ encode_utf8_all (composed (composing_data self.now) (chars text.now))) }
         ensures err { OnErr result (AddsPrefix (S.contents sink.old) (encode_utf8_all (composed (composing_data self.now) (chars text.now))) (S.contents sink.new)) }
+        ensures failure { EndsByFailure S.takes S.fails sink.old result sink.new }
     {
         let mut left = text;
         while !left.is_empty() {
@@ -94,6 +97,7 @@ impl<'d> ComposingNormalizerBorrowed<'d> {
     ) -> Result<(), NormError<S::Error>>
         ensures ok { OnOk result (S.contents sink.new ≡ S.contents sink.old ++ encode_utf8_all (composed (composing_data self.now) (chars text.now))) }
         ensures err { OnErr result (AddsPrefix (S.contents sink.old) (encode_utf8_all (composed (composing_data self.now) (chars text.now))) (S.contents sink.new)) }
+        ensures failure { EndsByFailure S.takes S.fails sink.old result sink.new }
     {
         let mut composition = Composition::over(alloc, self.canonical, text.chars());
         while let Some(item) = composition.next() {

@@ -4,7 +4,7 @@ ghost use Rattle.std.specs.Prelude.{◌≡◌, ◌++◌, OnOk, OnErr, chars, enc
 ghost use Rattle.icu_normalizer_core.specs.BorrowedMeaning.{borrowed_meaning};
 ghost use Rattle.icu_normalizer_core.specs.Canonical.{IsCanonical, decomposed};
 ghost use Rattle.icu_normalizer.specs.Readable.{IsReadable};
-ghost use Rattle.icu_normalizer.specs.Sinks.{AddsPrefix};
+ghost use Rattle.icu_normalizer.specs.Sinks.{AddsPrefix, EndsByFailure};
 
 mod splits;
 
@@ -39,6 +39,7 @@ impl<'d> DecomposingNormalizerBorrowed<'d> {
     }
 
     /// Writes a text in NFD to a sink. After an error the sink holds what it held, and a prefix of the text in NFD.
+    /// `NormError::Sink` is the error of the last write, and `NormError::Memory` comes where the sink took each write.
     pub fn normalize_to<S: TextSink>(
         &self,
         alloc: Global,
@@ -47,6 +48,7 @@ impl<'d> DecomposingNormalizerBorrowed<'d> {
     ) -> Result<(), NormError<S::Error>>
         ensures ok { OnOk result (S.contents sink.new ≡ S.contents sink.old ++ encode_utf8_all (decomposed (normalizer_data self.now) (chars text.now))) }
         ensures err { OnErr result (AddsPrefix (S.contents sink.old) (encode_utf8_all (decomposed (normalizer_data self.now) (chars text.now))) (S.contents sink.new)) }
+        ensures failure { EndsByFailure S.takes S.fails sink.old result sink.new }
     {
         let (prefix, rest) = self.split_normalized(text);
         if let Err(error) = sink.write_str(prefix) {
@@ -64,6 +66,7 @@ impl<'d> DecomposingNormalizerBorrowed<'d> {
     ) -> Result<(), NormError<S::Error>>
         ensures ok { OnOk result (S.contents sink.new ≡ S.contents sink.old ++ encode_utf8_all (decomposed (normalizer_data self.now) (chars text.now))) }
         ensures err { OnErr result (AddsPrefix (S.contents sink.old) (encode_utf8_all (decomposed (normalizer_data self.now) (chars text.now))) (S.contents sink.new)) }
+        ensures failure { EndsByFailure S.takes S.fails sink.old result sink.new }
     {
         let mut decomposition = Decomposition::over(alloc, self.canonical, text.chars());
         while let Some(item) = decomposition.next() {

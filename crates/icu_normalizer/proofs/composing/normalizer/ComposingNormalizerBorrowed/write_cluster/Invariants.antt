@@ -3,6 +3,7 @@ use Rattle.std.specs.Str.Iter.{chars_steps}
 use Rattle.icu_normalizer_core.specs.Canonical.{composed}
 use Rattle.icu_normalizer.specs.Compositions.{ComposesTo}
 use Rattle.icu_normalizer.specs.Normalizers.{composing_data}
+use Rattle.icu_normalizer.specs.Sinks.{HasTaken}
 use Rattle.icu_normalizer.proofs.composing.normalizer.ComposingNormalizerBorrowed.write_cluster.Given as goal
 
 abbrev pub invariant-loop-item : goal.invariant-loop-item
@@ -10,4 +11,5 @@ invariant-loop-item g l =
     (goal.iterator-loop-item g).can_next l.composition
     × ((seen : List ℕ) × (left : List ℕ) × ComposesTo chars_steps l.composition left
     × (composed (composing_data l.fn.self) (chars l.fn.text) ≡ seen ++ left)
-    × (g.S.TextSink.contents l.sink ≡ g.S.TextSink.contents l.fn.sink ++ encode_utf8_all seen))
+    × (g.S.TextSink.contents l.sink ≡ g.S.TextSink.contents l.fn.sink ++ encode_utf8_all seen)
+    × HasTaken g.S.TextSink.takes l.fn.sink l.sink)

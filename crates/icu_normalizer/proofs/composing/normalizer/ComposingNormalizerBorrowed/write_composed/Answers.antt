@@ -1,12 +1,15 @@
 use Rattle.std.proofs.Common.{rules, arith, ap, ◌∙◌}
 use Rattle.std.proofs.lemmas.Bool.Decides.{nat_tests}
 use Rattle.std.proofs.lemmas.List.{nil_from_length}
+use Rattle.std.specs.Prelude.{Err, ⊤}
 use Rattle.icu_normalizer.specs.Normalizers.{composing_data}
+use Rattle.icu_normalizer.specs.Sinks.{nothing, more}
 use Rattle.icu_normalizer.proofs.ClusterLemmas.{form_of, form_nothing, partly_begun, partly_more, partly_cut, partly_all}
+use Rattle.icu_normalizer.proofs.SinkLemmas.{taken_both, ends_after}
 use Rattle.icu_normalizer.proofs.composing.normalizer.ComposingNormalizerBorrowed.write_composed.Goals as goal
 
 pub loop-left-init : goal.loop-left-init
-loop-left-init g c = (partly_begun _ _, c.utf8.text)
+loop-left-init g c = (partly_begun _ _, c.utf8.text, nothing _)
 
 pub is_empty-requires-text-self : goal.is_empty-requires-text-self
 is_empty-requires-text-self g c = λ _. c.loop-left.invariant.1
@@ -21,11 +24,23 @@ pub returns-in-Err-write_str-clause-err : goal.returns-in-Err-write_str-clause-e
 returns-in-Err-write_str-clause-err g c =
     partly_cut _ _ _ _ _ _ _ (partly_more _ _ _ _ _ _ _ c.loop-left.invariant.0 c.first_cluster.ensures.alone c.in_default.ensures.ok) c.split_apart.ensures.stays c.in-Err-write_str.ensures.err
 
+pub returns-in-Err-clause-failure : goal.returns-in-Err-clause-failure
+returns-in-Err-clause-failure g c =
+    ends_after {A = ⊤} g.S.TextSink.takes g.S.TextSink.fails _ _ (Err c.in-Err.error) _ c.loop-left.invariant.2 c.in-Err.ensures.failure
+
+pub returns-in-Err-write_str-clause-failure : goal.returns-in-Err-write_str-clause-failure
+returns-in-Err-write_str-clause-failure g c =
+    (_, taken_both _ _ _ c.loop-left.invariant.2 c.in_default.ensures.failure, c.in-Err-write_str.ensures.failed)
+
 pub loop-left-preserved : goal.loop-left-preserved
 loop-left-preserved g c = (
   partly_more _ _ _ _ _ _ _ (partly_more _ _ _ _ _ _ _ c.loop-left.invariant.0 c.first_cluster.ensures.alone c.in_default.ensures.ok) c.split_apart.ensures.stays c.in_default-write_str.ensures.ok,
   search rules,
+  more _ _ _ (taken_both _ _ _ c.loop-left.invariant.2 c.in_default.ensures.failure) c.in_default-write_str.ensures.taken,
 )
 
 pub returns-clause-ok : goal.returns-clause-ok
 returns-clause-ok g c = partly_all _ _ _ _ c.loop-left.invariant.0 (ap (form_of (composing_data c.args.self.now)) (nil_from_length _ (grind (arith, nat_tests))) ∙ form_nothing (composing_data c.args.self.now))
+
+pub returns-clause-failure : goal.returns-clause-failure
+returns-clause-failure g c = c.loop-left.invariant.2
