@@ -1,6 +1,6 @@
 -- Aligned blocks of a trie that are found through one cell of the index have the same values.
 use Rattle.std.specs.Prelude.{◌≡◌, ℕ, ◌+◌, ◌-◌, ◌/◌, ◌%◌, ◌^◌, ◌<◌, ◌≤◌, ◌≢◌, nat_lt, List, length, Option, Some, slice_get, if◌then◌else◌}
-use Rattle.icu_codepointtrie.specs.Places.{TrieTables, found, data_offset, place_or_last, value_at}
+use Rattle.icu_codepointtrie.specs.Places.{TrieTables, found, data_offset, place_or_last, has_cell, value_at}
 use Rattle.icu_codepointtrie.specs.Ranges.{IsConstant}
 
 -- a block's key is its index cell where it is one of 64 below the fast limit, and 10000 (hex) more
@@ -30,6 +30,10 @@ IsUniform t value key = (r : ℕ) → r < key_width key → key_value t key r �
 -- from the limit on all code points have one value
 abbrev pub IsTail : {T : Type 0} → TrieTables T → ℕ → Type 0
 IsTail t limit = (c d : ℕ) → limit ≤ c → c ≤ 0x10_FFFF → limit ≤ d → d ≤ 0x10_FFFF → value_at t c ≡ value_at t d
+
+-- from the limit on the trie has a cell for every code point, or for none
+abbrev pub IsCellTail : {T : Type 0} → TrieTables T → ℕ → Type 0
+IsCellTail t limit = (c d : ℕ) → limit ≤ c → c ≤ 0x10_FFFF → limit ≤ d → d ≤ 0x10_FFFF → has_cell t c ≡ has_cell t d
 
 -- the first code point of those from start to before the end that has not the value, or the end
 pub record IsFirstWithout {T : Type 0} (t : TrieTables T) (start end : ℕ) (value : T) (first : ℕ) : Type 0 where

@@ -2,7 +2,7 @@
 //! that a walk reads one of them.
 ghost use Rattle.std.specs.Prelude.{◌≡◌, ◌≤◌, ◌<◌, IfSome};
 ghost use Rattle.icu_codepointtrie.specs.Places.{fast_limit};
-ghost use Rattle.icu_codepointtrie.specs.SharedBlocks.{key_width, IsKey, IsTail, IsFirstWithout};
+ghost use Rattle.icu_codepointtrie.specs.SharedBlocks.{key_width, IsKey, IsTail, IsCellTail, IsFirstWithout};
 
 use super::trie::CodePointTrie;
 use super::value::TrieValue;
@@ -57,9 +57,11 @@ impl<'a, T: TrieValue> CodePointTrie<'a, T> {
         Some(0x1_0000 + block as u32)
     }
 
-    /// From here on all code points have one value.
-    pub(super) fn tail_start(&self) -> u32
+    /// From here on all code points up to 10FFFF (hex) have one value, and the trie has a cell for each
+    /// of them or for none: at most 110000 (hex).
+    pub fn tail_start(&self) -> u32
         ensures tail { IsTail self.now result }
+        ensures cells { IsCellTail self.now result }
         ensures bound { result ≤ 0x110000 }
     {
         self.header()

@@ -5,12 +5,16 @@ use Rattle.std.specs.List.{Contains}
 use Rattle.std.specs.Char.{IsScalar}
 use Rattle.std.proofs.lemmas.Bool.{and_from, cases_lt, both_ways}
 use Rattle.std.proofs.lemmas.Option.{none-some}
+use Rattle.std.specs.Option.{unwrap_or}
+use Rattle.icu_codepointtrie.specs.SharedBlocks.{IsTail, IsCellTail}
+use Rattle.icu_normalizer_core.specs.declared.canonical.tables.CanonicalTables.{CanonicalTables}
 use Rattle.icu_normalizer_core.specs.CanonicalFaults.{OffendsValue, OffendsList, OffendsBuiltIn}
 use Rattle.icu_normalizer_core.specs.CanonicalLists.{CanonicalLists, AreTriples, canonical_of}
-use Rattle.icu_normalizer_core.specs.CanonicalWords.{is_word}
-use Rattle.icu_normalizer_core.specs.Plain.{IsPlain, IsIn, Rises, Tells}
+use Rattle.icu_normalizer_core.specs.CanonicalMeaning.{lists_of}
+use Rattle.icu_normalizer_core.specs.CanonicalWords.{is_word, plain_word}
+use Rattle.icu_normalizer_core.specs.Plain.{IsPlain, IsIn, Rises, Tells, ArePlainFrom, IsCursor, TellsBelow}
 use Rattle.icu_normalizer_core.specs.Triples.{IsUnlisted}
-use Rattle.icu_normalizer_core.proofs.BuiltInFacts.{free_full}
+use Rattle.icu_normalizer_core.proofs.BuiltInFacts.{free_full, no_class_past, free_past}
 use Rattle.icu_normalizer_core.proofs.builder.InOrderLemmas.{index_before, index_last}
 use Rattle.icu_normalizer_core.proofs.FaultLemmas.{own_good}
 use Rattle.icu_normalizer_core.proofs.OffenderLemmas.{IsLeastIn}
@@ -48,12 +52,7 @@ rises_more told n rises below i j lt h =
     rw (at, index_last told n) (omega (arith, first, up)))
     (cases_lt j (length told))
 
--- ---- The cursor among triples: those before the place are below the code point, the others are not
-
-pub record IsCursor (steps : List ℕ) (code place : ℕ) : Type 0 where
-  pub within : 3 * place ≤ length steps
-  pub below : 0 < place → slice_index steps (3 * (place - 1)) < code
-  pub above : 3 * place < length steps → code ≤ slice_index steps (3 * place)
+-- ---- The cursor among triples
 
 cursor_past : (steps : List ℕ) (code place : ℕ) → AreTriples steps → IsCursor steps code place
     → (3 * place + 2 < length steps → slice_index steps (3 * place) ≢ code) → IsCursor steps (code + 1) place
@@ -81,13 +80,6 @@ cursor_unlisted steps code place t at other =
     at.within
 
 -- ---- What is collected of the code points below one
-
-pub record TellsBelow (lists : CanonicalLists) (told : List ℕ) (code place : ℕ) : Type 0 where
-  pub rises : Rises told
-  pub below : (i : ℕ) → i < length told → slice_index told i < code
-  pub words : (c : ℕ) → c < code → IsIn told c ⊎ IsPlain lists c
-  pub cursor : AreTriples lists.steps → IsCursor lists.steps code place
-  pub triples : AreTriples lists.steps → (c : ℕ) → c < code → IsIn told c ⊎ IsUnlisted lists.steps c
 
 pub tells_none : (lists : CanonicalLists) → TellsBelow lists [] 0 0
 tells_none lists = record {
@@ -140,12 +132,66 @@ module _ (lists : CanonicalLists) (told : List ℕ) (code place : ℕ) (so_far :
     triples = λ t. each_past told code (IsUnlisted lists.steps) (so_far.triples t) (cursor_unlisted lists.steps code place t (so_far.cursor t) other);
   }
 
-pub tells_all : (lists : CanonicalLists) (told : List ℕ) (code place : ℕ) → TellsBelow lists told code place → 0x110000 ≤ code → Tells lists told
-tells_all lists told code place so_far end = record {
-  rises = so_far.rises;
-  words = λ c h. so_far.words c (omega (arith, h, end));
-  triples = λ t c h. so_far.triples t c (omega (arith, h, end));
-}
+-- no triple has its key from the code point to before one further up, and each of these is plain
+module _ (lists : CanonicalLists) (told : List ℕ) (code place further : ℕ) (so_far : TellsBelow lists told code place) where
+  pub tells_further : code ≤ further → ((c : ℕ) → code ≤ c → c < further → IsPlain lists c)
+      → (AreTriples lists.steps → 3 * place < length lists.steps → further ≤ slice_index lists.steps (3 * place))
+      → TellsBelow lists told further place
+  tells_further up plain above = record {
+    rises = so_far.rises;
+    below = λ i h. let lt = so_far.below i h in omega (arith, lt, up);
+    words = λ c h. ⊎_elim (λ lt. so_far.words c lt) (λ ge. inr (plain c ge h)) (cases_lt c code);
+    cursor = λ t. record {
+      within = (so_far.cursor t).within;
+      below = λ some. let key = (so_far.cursor t).below some in omega (arith, key, up);
+      above = above t;
+    };
+    triples = λ t c h.
+        ⊎_elim (λ lt. so_far.triples t c lt)
+        (λ ge. inr (unlisted_between lists.steps c place t
+        (λ some. let key = (so_far.cursor t).below some in omega (arith, key, ge))
+        (λ inside. let key = above t inside in omega (arith, key, h))
+        (so_far.cursor t).within))
+        (cases_lt c code);
+  }
+
+-- a triple's key from the code point on, where all are plain
+pub tells_triple : (lists : CanonicalLists) (told : List ℕ) (code place start key : ℕ) → TellsBelow lists told code place
+    → ArePlainFrom lists start → start ≤ code → code ≤ key → key < 0x110000
+    → 3 * place + 2 < length lists.steps → slice_index lists.steps (3 * place) ≡ key → TellsBelow lists (told ++ key ∷ []) (key + 1) (place + 1)
+tells_triple lists told code place start key so_far plain from up to inside same =
+    tells_listed lists told key place
+    (tells_further lists told code place key so_far up (λ c ge lt. plain c (omega (arith, from, ge)) (omega (arith, lt, to))) (λ t h. omega (arith, same)))
+    inside same
+
+-- no triple is left that has its key below 110000, and from the code point on all are plain
+pub tells_all : (lists : CanonicalLists) (told : List ℕ) (code place start : ℕ) → TellsBelow lists told code place
+    → ArePlainFrom lists start → start ≤ code → code ≤ 0x110000
+    → (AreTriples lists.steps → 3 * place < length lists.steps → 0x110000 ≤ slice_index lists.steps (3 * place))
+    → Tells lists told
+tells_all lists told code place start so_far plain from to none_left =
+    let all = tells_further lists told code place 0x110000 so_far to (λ c ge lt. plain c (omega (arith, from, ge)) lt) none_left in
+    record {
+      rises = all.rises;
+      words = all.words;
+      triples = all.triples;
+    }
+
+-- ---- Where a trie has one word from a limit on, and that of U+10FFFF is plain
+
+pub plain_tail : (tables : CanonicalTables) (limit start : ℕ) → IsTail tables.trie limit → IsCellTail tables.trie limit
+    → IsPlain (lists_of tables) 0x10FFFF → limit ≤ start → 0x10000 ≤ start → ArePlainFrom (lists_of tables) start
+plain_tail tables limit start tail cells last from high c ge lt =
+    let past : 0x10000 ≤ c = omega (arith, high, ge) in
+    let reached : limit ≤ c = omega (arith, from, ge) in
+    let within : c ≤ 0x10FFFF = omega (arith, lt) in
+    let limited : limit ≤ 0x10FFFF = omega (arith, reached, within) in (
+      cells c 0x10FFFF reached within limited (omega arith) ∙ last.0,
+      ap (λ v. plain_word (unwrap_or v 0)) (tail c 0x10FFFF reached within limited (omega arith)) ∙ last.1,
+      omega (arith, past),
+      no_class_past c past,
+      free_past c past,
+    )
 
 -- ---- A plain character is at fault for nothing
 

@@ -1,11 +1,11 @@
 //! The code points of which tables say something or something is built in: no other can be at fault.
 
-ghost use Rattle.std.specs.Prelude.{◌≡◌, ◌≢◌, ◌+◌, ◌*◌, ◌^◌, ◌<◌, ℕ, true, false, length, slice_index, None, MatchOption, IfOk};
+ghost use Rattle.std.specs.Prelude.{◌≡◌, ◌≢◌, ◌+◌, ◌*◌, ◌^◌, ◌<◌, ◌≤◌, ℕ, true, false, length, slice_index, None, MatchOption, IfOk};
 ghost use Rattle.icu_normalizer_core.specs.BuiltIn.{built_in_class};
 ghost use Rattle.icu_normalizer_core.specs.Canonical.{IsFree};
 ghost use Rattle.std.specs.Char.{IsScalar};
 ghost use Rattle.icu_normalizer_core.specs.CanonicalMeaning.{lists_of};
-ghost use Rattle.icu_normalizer_core.specs.Plain.{IsPlain, IsIn, Rises, Tells};
+ghost use Rattle.icu_normalizer_core.specs.Plain.{IsPlain, IsIn, Rises, Tells, ArePlainFrom, TellsBelow};
 
 use crate::built_in::{built_in_class, built_in_step};
 use crate::canonical::tables::CanonicalTables;
@@ -42,13 +42,51 @@ fn is_listed(steps: &PackedVec<'_, u32>, place: usize, code: u32) -> bool
     place < steps.len() / 3 && steps.at(3 * place) == code
 }
 
+/// From here on all code points are plain: the trie has one word for them, or there are none (110000, hex).
+fn plain_from(tables: &CanonicalTables<'_>) -> u32
+    ensures bound { result ≤ 0x110000 }
+    ensures plain { ArePlainFrom (lists_of tables.now) result }
+{
+    if !is_plain(tables, 0x10_ffff) {
+        return 0x11_0000;
+    }
+    tables.trie.tail_start().max(0x1_0000)
+}
+
+/// The list of the code points below `start`, and the triples' from there on as long as these rise. The only error is
+/// want of memory.
+fn with_triples(
+    tables: &CanonicalTables<'_>,
+    place: usize,
+    start: u32,
+    told: Vec<u32>,
+) -> Result<Vec<u32>, AllocError>
+    requires bound { start ≤ 0x110000 }
+    requires plain { ArePlainFrom (lists_of tables.now) start }
+    requires below { TellsBelow (lists_of tables.now) told.items start place }
+    ensures { IfOk result (λ told. Tells (lists_of tables.now) told.items) }
+{
+    let mut told = told;
+    let mut code = start;
+    for triple in place..tables.steps.len() / 3 {
+        let key = tables.steps.at(3 * triple);
+        if key < code || key >= 0x11_0000 {
+            return Ok(told);
+        }
+        told.push(key)?;
+        code = key + 1;
+    }
+    Ok(told)
+}
+
 /// The code points that aren't plain, and those of the triples where these rise. The only error is want of memory.
 pub(super) fn told(alloc: Global, tables: &CanonicalTables<'_>) -> Result<Vec<u32>, AllocError>
     ensures { IfOk result (λ told. Tells (lists_of tables.now) told.items) }
 {
+    let start = plain_from(tables);
     let mut place = 0;
     let mut told = Vec::new(alloc);
-    for code in 0..0x11_0000u32 {
+    for code in 0..start {
         if is_listed(&tables.steps, place, code) {
             place += 1;
             told.push(code)?;
@@ -56,7 +94,7 @@ pub(super) fn told(alloc: Global, tables: &CanonicalTables<'_>) -> Result<Vec<u3
             told.push(code)?;
         }
     }
-    Ok(told)
+    with_triples(tables, place, start, told)
 }
 
 /// The least character of a rising list of which the test says no, `None` where it says yes of each.
