@@ -14,6 +14,7 @@ mod cuts;
 mod low;
 mod normalizer;
 mod owned;
+mod short;
 
 use crate::decomposing::Decomposition;
 use composer::Composer;
