@@ -98,6 +98,7 @@ impl<'d> ComposingNormalizerBorrowed<'d> {
     ) -> Result<(), NormError<S::Error>>
         ensures ok { OnOk result (S.contents sink.new ≡ S.contents sink.old ++ encode_utf8_all (composed (composing_data self.now) (chars text.now))) }
         ensures err { OnErr result (AddsPrefix (S.contents sink.old) (encode_utf8_all (composed (composing_data self.now) (chars text.now))) (S.contents sink.new)) }
+        ensures failure { EndsByFailure S.takes S.fails sink.old result sink.new }
     {
         match short_form(self.canonical, text) {
             Short::Same => match sink.write_str(text) {
