@@ -33,185 +33,176 @@ fn six_edges(alloc: Global) -> Result<CodePointInversionList<'static>, AllocErro
     builder.build(alloc)
 }
 
+/// What a builder is edited by: the set of six ends, a character, a code point, or a range of them.
+#[derive(Clone, Copy)]
+enum Part {
+    Set,
+    Char(char),
+    CodePoint(u32),
+    Range(char, char),
+    Range32(u32, u32),
+}
+
+/// What is done with the part.
+#[derive(Clone, Copy)]
+enum Edit {
+    Add,
+    Remove,
+    Retain,
+    Complement,
+}
+
+fn add(
+    alloc: Global,
+    builder: &mut CodePointInversionListBuilder,
+    part: Part,
+) -> Result<(), AllocError> {
+    match part {
+        Part::Set => builder.add_set(&six_edges(alloc)?),
+        Part::Char(character) => builder.add_char(character),
+        Part::CodePoint(code_point) => builder.add32(code_point),
+        Part::Range(first, last) => builder.add_range(first..=last),
+        Part::Range32(first, last) => builder.add_range32(first..=last),
+    }
+}
+
+fn remove(
+    alloc: Global,
+    builder: &mut CodePointInversionListBuilder,
+    part: Part,
+) -> Result<(), AllocError> {
+    match part {
+        Part::Set => builder.remove_set(&six_edges(alloc)?),
+        Part::Char(character) => builder.remove_char(character),
+        Part::CodePoint(code_point) => builder.remove32(code_point),
+        Part::Range(first, last) => builder.remove_range(first..=last),
+        Part::Range32(first, last) => builder.remove_range32(first..=last),
+    }
+}
+
+fn retain(
+    alloc: Global,
+    builder: &mut CodePointInversionListBuilder,
+    part: Part,
+) -> Result<(), AllocError> {
+    match part {
+        Part::Set => builder.retain_set(&six_edges(alloc)?),
+        Part::Char(character) => builder.retain_char(character),
+        Part::CodePoint(code_point) => builder.retain32(code_point),
+        Part::Range(first, last) => builder.retain_range(first..=last),
+        Part::Range32(first, last) => builder.retain_range32(first..=last),
+    }
+}
+
+fn complement(
+    alloc: Global,
+    builder: &mut CodePointInversionListBuilder,
+    part: Part,
+) -> Result<(), AllocError> {
+    match part {
+        Part::Set => builder.complement_set(&six_edges(alloc)?),
+        Part::Char(character) => builder.complement_char(character),
+        Part::CodePoint(code_point) => builder.complement32(code_point),
+        Part::Range(first, last) => builder.complement_range(first..=last),
+        Part::Range32(first, last) => builder.complement_range32(first..=last),
+    }
+}
+
+/// Whether the builder of two ranges has these ends after an edit.
+fn comes_to(alloc: Global, edit: Edit, part: Part, edges: &[u32]) -> Result<bool, AllocError> {
+    let mut builder = two_ranges(alloc)?;
+    match edit {
+        Edit::Add => add(alloc, &mut builder, part)?,
+        Edit::Remove => remove(alloc, &mut builder, part)?,
+        Edit::Retain => retain(alloc, &mut builder, part)?,
+        Edit::Complement => complement(alloc, &mut builder, part)?,
+    }
+    has_edges(alloc, &builder, edges)
+}
+
+/// Edits of the builder of two ranges, and the ends then.
+const EDITS: &[(Edit, Part, &[u32])] = &[
+    (Edit::Add, Part::Set, &[0x05, 0x14, 0x16, 0x21, 0x28, 0x33]),
+    (Edit::Add, Part::Char('\u{14}'), &[0x0A, 0x15, 0x28, 0x32]),
+    (Edit::Add, Part::CodePoint(0x27), &[0x0A, 0x14, 0x27, 0x32]),
+    (Edit::Add, Part::Range('\u{10}', '\u{27}'), &[0x0A, 0x32]),
+    (
+        Edit::Add,
+        Part::Range32(0x40, 0xFFFF_FFFF),
+        &[0x0A, 0x14, 0x28, 0x32, 0x40, 0x11_0000],
+    ),
+    (Edit::Remove, Part::Set, &[0x0A, 0x14, 0x28, 0x2C]),
+    (
+        Edit::Remove,
+        Part::Char('\u{0A}'),
+        &[0x0B, 0x14, 0x28, 0x32],
+    ),
+    (
+        Edit::Remove,
+        Part::CodePoint(0x31),
+        &[0x0A, 0x14, 0x28, 0x31],
+    ),
+    (
+        Edit::Remove,
+        Part::Range('\u{10}', '\u{11}'),
+        &[0x0A, 0x10, 0x12, 0x14, 0x28, 0x32],
+    ),
+    (
+        Edit::Remove,
+        Part::Range32(0x13, 0x28),
+        &[0x0A, 0x13, 0x29, 0x32],
+    ),
+    (Edit::Retain, Part::Set, &[0x2C, 0x32]),
+    (Edit::Retain, Part::Char('\u{0A}'), &[0x0A, 0x0B]),
+    (Edit::Retain, Part::CodePoint(0x31), &[0x31, 0x32]),
+    (
+        Edit::Retain,
+        Part::Range('\u{10}', '\u{29}'),
+        &[0x10, 0x14, 0x28, 0x2A],
+    ),
+    (Edit::Retain, Part::Range32(0x2F, 0x2E), &[]),
+    (
+        Edit::Complement,
+        Part::Set,
+        &[0x05, 0x14, 0x16, 0x21, 0x28, 0x2C, 0x32, 0x33],
+    ),
+    (
+        Edit::Complement,
+        Part::Char('\u{0A}'),
+        &[0x0B, 0x14, 0x28, 0x32],
+    ),
+    (
+        Edit::Complement,
+        Part::CodePoint(0x14),
+        &[0x0A, 0x15, 0x28, 0x32],
+    ),
+    (
+        Edit::Complement,
+        Part::Range('\u{10}', '\u{2F}'),
+        &[0x0A, 0x10, 0x14, 0x28, 0x30, 0x32],
+    ),
+    (Edit::Complement, Part::Range32(0x14, 0x27), &[0x0A, 0x32]),
+];
+
+#[test]
+fn edits_of_builders(rt: HostRuntime) -> Result<(), Fail> {
+    for (edit, part, edges) in EDITS {
+        assert!(rt; comes_to(rt.alloc(), *edit, *part, edges)?, "{edges:?}");
+    }
+    Ok(())
+}
+
+/// Whether a new builder is empty, and its set has no end.
+fn starts_empty(alloc: Global) -> Result<bool, AllocError> {
+    let empty = CodePointInversionListBuilder::new(alloc);
+    Ok(empty.is_empty() && has_edges(alloc, &empty, &[])?)
+}
+
 #[test]
 fn ok_build(rt: HostRuntime) -> Result<(), Fail> {
-    let empty = CodePointInversionListBuilder::new(rt.alloc());
-    assert!(rt; empty.is_empty());
-    assert!(rt; list_of(rt.alloc(), &empty)?.is_empty());
+    assert!(rt; starts_empty(rt.alloc())?);
     let builder = two_ranges(rt.alloc())?;
     assert!(rt; has_edges(rt.alloc(), &builder, &[0x0A, 0x14, 0x28, 0x32])?);
-    Ok(())
-}
-
-#[test]
-fn ok_add_set(rt: HostRuntime) -> Result<(), Fail> {
-    let mut builder = two_ranges(rt.alloc())?;
-    builder.add_set(&six_edges(rt.alloc())?)?;
-    assert!(rt; has_edges(rt.alloc(), &builder, &[0x05, 0x14, 0x16, 0x21, 0x28, 0x33])?);
-    Ok(())
-}
-
-#[test]
-fn ok_add_char(rt: HostRuntime) -> Result<(), Fail> {
-    let mut builder = two_ranges(rt.alloc())?;
-    builder.add_char('\u{14}')?;
-    assert!(rt; has_edges(rt.alloc(), &builder, &[0x0A, 0x15, 0x28, 0x32])?);
-    Ok(())
-}
-
-#[test]
-fn ok_add32(rt: HostRuntime) -> Result<(), Fail> {
-    let mut builder = two_ranges(rt.alloc())?;
-    builder.add32(0x27)?;
-    assert!(rt; has_edges(rt.alloc(), &builder, &[0x0A, 0x14, 0x27, 0x32])?);
-    Ok(())
-}
-
-#[test]
-fn ok_add_range(rt: HostRuntime) -> Result<(), Fail> {
-    let mut builder = two_ranges(rt.alloc())?;
-    builder.add_range('\u{10}'..='\u{27}')?;
-    assert!(rt; has_edges(rt.alloc(), &builder, &[0x0A, 0x32])?);
-    Ok(())
-}
-
-#[test]
-fn ok_add_range32(rt: HostRuntime) -> Result<(), Fail> {
-    let mut builder = two_ranges(rt.alloc())?;
-    builder.add_range32(0x40..=0xFFFF_FFFF)?;
-    assert!(rt;
-        has_edges(
-            rt.alloc(),
-            &builder,
-            &[0x0A, 0x14, 0x28, 0x32, 0x40, 0x11_0000]
-        )?
-    );
-    Ok(())
-}
-
-#[test]
-fn ok_remove_set(rt: HostRuntime) -> Result<(), Fail> {
-    let mut builder = two_ranges(rt.alloc())?;
-    builder.remove_set(&six_edges(rt.alloc())?)?;
-    assert!(rt; has_edges(rt.alloc(), &builder, &[0x0A, 0x14, 0x28, 0x2C])?);
-    Ok(())
-}
-
-#[test]
-fn ok_remove_char(rt: HostRuntime) -> Result<(), Fail> {
-    let mut builder = two_ranges(rt.alloc())?;
-    builder.remove_char('\u{0A}')?;
-    assert!(rt; has_edges(rt.alloc(), &builder, &[0x0B, 0x14, 0x28, 0x32])?);
-    Ok(())
-}
-
-#[test]
-fn ok_remove32(rt: HostRuntime) -> Result<(), Fail> {
-    let mut builder = two_ranges(rt.alloc())?;
-    builder.remove32(0x31)?;
-    assert!(rt; has_edges(rt.alloc(), &builder, &[0x0A, 0x14, 0x28, 0x31])?);
-    Ok(())
-}
-
-#[test]
-fn ok_remove_range(rt: HostRuntime) -> Result<(), Fail> {
-    let mut builder = two_ranges(rt.alloc())?;
-    builder.remove_range('\u{10}'..='\u{11}')?;
-    assert!(rt; has_edges(rt.alloc(), &builder, &[0x0A, 0x10, 0x12, 0x14, 0x28, 0x32])?);
-    Ok(())
-}
-
-#[test]
-fn ok_remove_range32(rt: HostRuntime) -> Result<(), Fail> {
-    let mut builder = two_ranges(rt.alloc())?;
-    builder.remove_range32(0x13..=0x28)?;
-    assert!(rt; has_edges(rt.alloc(), &builder, &[0x0A, 0x13, 0x29, 0x32])?);
-    Ok(())
-}
-
-#[test]
-fn ok_retain_set(rt: HostRuntime) -> Result<(), Fail> {
-    let mut builder = two_ranges(rt.alloc())?;
-    builder.retain_set(&six_edges(rt.alloc())?)?;
-    assert!(rt; has_edges(rt.alloc(), &builder, &[0x2C, 0x32])?);
-    Ok(())
-}
-
-#[test]
-fn ok_retain_char(rt: HostRuntime) -> Result<(), Fail> {
-    let mut builder = two_ranges(rt.alloc())?;
-    builder.retain_char('\u{0A}')?;
-    assert!(rt; has_edges(rt.alloc(), &builder, &[0x0A, 0x0B])?);
-    Ok(())
-}
-
-#[test]
-fn ok_retain32(rt: HostRuntime) -> Result<(), Fail> {
-    let mut builder = two_ranges(rt.alloc())?;
-    builder.retain32(0x31)?;
-    assert!(rt; has_edges(rt.alloc(), &builder, &[0x31, 0x32])?);
-    Ok(())
-}
-
-#[test]
-fn ok_retain_range(rt: HostRuntime) -> Result<(), Fail> {
-    let mut builder = two_ranges(rt.alloc())?;
-    builder.retain_range('\u{10}'..='\u{29}')?;
-    assert!(rt; has_edges(rt.alloc(), &builder, &[0x10, 0x14, 0x28, 0x2A])?);
-    Ok(())
-}
-
-#[test]
-fn ok_retain_range32(rt: HostRuntime) -> Result<(), Fail> {
-    let mut builder = two_ranges(rt.alloc())?;
-    builder.retain_range32(0x2F..=0x2E)?;
-    assert!(rt; list_of(rt.alloc(), &builder)?.is_empty());
-    Ok(())
-}
-
-#[test]
-fn ok_complement_set(rt: HostRuntime) -> Result<(), Fail> {
-    let mut builder = two_ranges(rt.alloc())?;
-    builder.complement_set(&six_edges(rt.alloc())?)?;
-    assert!(rt;
-        has_edges(
-            rt.alloc(),
-            &builder,
-            &[0x05, 0x14, 0x16, 0x21, 0x28, 0x2C, 0x32, 0x33]
-        )?
-    );
-    Ok(())
-}
-
-#[test]
-fn ok_complement_char(rt: HostRuntime) -> Result<(), Fail> {
-    let mut builder = two_ranges(rt.alloc())?;
-    builder.complement_char('\u{0A}')?;
-    assert!(rt; has_edges(rt.alloc(), &builder, &[0x0B, 0x14, 0x28, 0x32])?);
-    Ok(())
-}
-
-#[test]
-fn ok_complement32(rt: HostRuntime) -> Result<(), Fail> {
-    let mut builder = two_ranges(rt.alloc())?;
-    builder.complement32(0x14)?;
-    assert!(rt; has_edges(rt.alloc(), &builder, &[0x0A, 0x15, 0x28, 0x32])?);
-    Ok(())
-}
-
-#[test]
-fn ok_complement_range(rt: HostRuntime) -> Result<(), Fail> {
-    let mut builder = two_ranges(rt.alloc())?;
-    builder.complement_range('\u{10}'..='\u{2F}')?;
-    assert!(rt; has_edges(rt.alloc(), &builder, &[0x0A, 0x10, 0x14, 0x28, 0x30, 0x32])?);
-    Ok(())
-}
-
-#[test]
-fn ok_complement_range32(rt: HostRuntime) -> Result<(), Fail> {
-    let mut builder = two_ranges(rt.alloc())?;
-    builder.complement_range32(0x14..=0x27)?;
-    assert!(rt; has_edges(rt.alloc(), &builder, &[0x0A, 0x32])?);
     Ok(())
 }
 

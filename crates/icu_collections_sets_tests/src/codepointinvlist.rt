@@ -20,14 +20,18 @@ fn make_sets(alloc: Global, lists: &[&[u32]], expected: bool) -> bool {
     true
 }
 
+/// Whether a packed list is no set, and comes back.
+fn comes_back(alloc: Global, list: &[u32]) -> Result<bool, AllocError> {
+    let packed = PackedVec::from_slice(alloc, list)?;
+    match CodePointInversionList::try_from_inversion_list(packed) {
+        Ok(_) => Ok(false),
+        Err(error) => Ok(error.0 == PackedVec::from_slice(alloc, list)?),
+    }
+}
+
 #[test]
 fn lists_that_are_none(rt: HostRuntime) -> Result<(), Fail> {
-    let list = PackedVec::from_slice(rt.alloc(), &[0x42u32, 0x41])?;
-    let same = PackedVec::from_slice(rt.alloc(), &[0x42u32, 0x41])?;
-    match CodePointInversionList::try_from_inversion_list(list) {
-        Ok(_) => assert!(rt; false),
-        Err(error) => assert!(rt; error.0 == same),
-    }
+    assert!(rt; comes_back(rt.alloc(), &[0x42, 0x41])?);
     assert!(rt;
         make_sets(
             rt.alloc(),
@@ -75,17 +79,32 @@ fn has_positions(set: &CodePointInversionList<'_>, table: &[(u32, Option<usize>)
     true
 }
 
+/// Whether the set has so many ranges and so many code points.
+fn has_sizes(set: &CodePointInversionList<'_>, ranges: usize, code_points: usize) -> bool {
+    set.get_range_count() == ranges && set.size() == code_points
+}
+
+/// Whether the set holds the first character, and not the second.
+fn tells_apart(set: &CodePointInversionList<'_>, held: char, other: char) -> bool {
+    set.contains(held) && !set.contains(other)
+}
+
+/// Whether the set is that of A to E and K to T.
+fn is_of_two_ranges(set: &CodePointInversionList<'_>) -> bool {
+    holds_each(set, &[0x41, 0x45, 0x4B], true)
+        && holds_each(set, &[0x40, 0x46, 0x11_0000], false)
+        && tells_apart(set, 'E', 'F')
+        && has_sizes(set, 2, 15)
+        && has_range(set, 1, 0x4B, 0x54)
+        && set.get_nth_range(2).is_none()
+        && has_positions(set, &[(0x4C, Some(6)), (0x46, None)])
+        && holds_ranges(set, &[('K', 'T')], true)
+        && holds_ranges(set, &[('A', 'K'), ('B', 'A')], false)
+}
+
 #[test]
 fn ok_try_from_u32_inversion_list_slice(rt: HostRuntime) -> Result<(), Fail> {
-    let set = set_of(rt.alloc(), &[0x41, 0x46, 0x4B, 0x55])?;
-    assert!(rt; holds_each(&set, &[0x41, 0x45, 0x4B], true));
-    assert!(rt; holds_each(&set, &[0x40, 0x46, 0x11_0000], false));
-    assert!(rt; set.contains('E') && !set.contains('F'));
-    assert!(rt; set.get_range_count() == 2 && set.size() == 15);
-    assert!(rt; has_range(&set, 1, 0x4B, 0x54) && set.get_nth_range(2).is_none());
-    assert!(rt; has_positions(&set, &[(0x4C, Some(6)), (0x46, None)]));
-    assert!(rt; holds_ranges(&set, &[('K', 'T')], true));
-    assert!(rt; holds_ranges(&set, &[('A', 'K'), ('B', 'A')], false));
+    assert!(rt; is_of_two_ranges(&set_of(rt.alloc(), &[0x41, 0x46, 0x4B, 0x55])?));
     Ok(())
 }
 
@@ -107,14 +126,29 @@ fn all_code_points(rt: HostRuntime) {
     assert_eq!(rt; CodePointInversionList::all().size(), 0x11_0000);
 }
 
+/// Why no set is made of the characters from the first to before the last.
+fn range_fault(alloc: Global, first: char, last: char) -> Option<FromRangeError> {
+    CodePointInversionList::try_from_range(alloc, first..last).err()
+}
+
+/// Whether two sets are equal.
+fn are_equal(first: &CodePointInversionList<'_>, second: &CodePointInversionList<'_>) -> bool {
+    *first == *second
+}
+
 #[test]
 fn ok_try_from_range(rt: HostRuntime) -> Result<(), Fail> {
-    let refused = CodePointInversionList::try_from_range(rt.alloc(), 'A'..'A').err();
-    assert_eq!(rt; refused, Some(FromRangeError::Range(RangeError(65, 65))));
+    let refused = FromRangeError::Range(RangeError(65, 65));
+    assert!(rt; range_fault(rt.alloc(), 'A', 'A') == Some(refused));
     let set = CodePointInversionList::try_from_range(rt.alloc(), 'A'..='E')?;
-    assert!(rt; set.contains('E') && !set.contains('F'));
+    assert!(rt; tells_apart(&set, 'E', 'F'));
+    Ok(())
+}
+
+#[test]
+fn the_range_of_all(rt: HostRuntime) -> Result<(), Fail> {
     let set = CodePointInversionList::try_from_range(rt.alloc(), ..)?;
-    assert!(rt; set == CodePointInversionList::all());
+    assert!(rt; are_equal(&set, &CodePointInversionList::all()));
     Ok(())
 }
 
@@ -160,48 +194,77 @@ fn ends_left_out(alloc: Global, set: &CodePointInversionList<'_>) -> Result<Vec<
     Ok(ends)
 }
 
+/// Whether the ranges of a set, and those that it leaves out, have these ends.
+fn has_ends(
+    alloc: Global,
+    set: &CodePointInversionList<'_>,
+    held: &[u32],
+    left_out: &[u32],
+) -> Result<bool, AllocError> {
+    Ok(
+        ends_held(alloc, set)?.as_slice() == held
+            && ends_left_out(alloc, set)?.as_slice() == left_out,
+    )
+}
+
+/// How many ranges a set leaves out.
+fn count_left_out(set: &CodePointInversionList<'_>) -> usize {
+    set.iter_ranges_complemented().len()
+}
+
 #[test]
 fn ranges_of_a_set(rt: HostRuntime) -> Result<(), Fail> {
     let set = CodePointInversionList::try_from_range(rt.alloc(), 'A'..='E')?;
-    assert!(rt; ends_held(rt.alloc(), &set)?.as_slice() == [0x41, 0x45].as_slice());
+    assert!(rt; has_ends(rt.alloc(), &set, &[0x41, 0x45], &[0, 0x40, 0x46, 0x10_FFFF])?);
+    assert!(rt; count_left_out(&set) == 2);
     Ok(())
 }
 
 #[test]
-fn ranges_left_out(rt: HostRuntime) -> Result<(), Fail> {
-    let set = CodePointInversionList::try_from_range(rt.alloc(), 'A'..='E')?;
-    let ends = ends_left_out(rt.alloc(), &set)?;
-    assert!(rt; ends.as_slice() == [0, 0x40, 0x46, 0x10_FFFF].as_slice());
-    assert!(rt; ends_left_out(rt.alloc(), &CodePointInversionList::all())?.is_empty());
-    assert_eq!(rt; set.iter_ranges_complemented().len(), 2);
-    assert_eq!(rt;
-        CodePointInversionList::all()
-            .iter_ranges_complemented()
-            .len(),
-        0
-    );
+fn ranges_of_all(rt: HostRuntime) -> Result<(), Fail> {
+    let set = CodePointInversionList::all();
+    assert!(rt; has_ends(rt.alloc(), &set, &[0, 0x10_FFFF], &[])?);
+    assert!(rt; count_left_out(&set) == 0);
     Ok(())
 }
 
-#[test]
-fn characters_of_a_set(rt: HostRuntime) -> Result<(), Fail> {
-    let set = set_of(
-        rt.alloc(),
+/// The characters of a set.
+fn characters_held(
+    alloc: Global,
+    set: &CodePointInversionList<'_>,
+) -> Result<Vec<char>, AllocError> {
+    set.iter_chars().collect(alloc)
+}
+
+/// Whether the set of these ends has these characters.
+fn has_characters(alloc: Global, edges: &[u32], expected: &[char]) -> Result<bool, SetError> {
+    let set = set_of(alloc, edges)?;
+    Ok(characters_held(alloc, &set)?.as_slice() == expected)
+}
+
+/// How many characters a set has.
+fn count_characters(set: &CodePointInversionList<'_>) -> usize {
+    set.iter_chars().count()
+}
+
+/// Ends of sets, and their characters.
+const CHARACTERS: &[(&[u32], &[char])] = &[
+    (
         &[
             0x41, 0x43, 0xD7FF, 0xD801, 0xDFFF, 0xE001, 0x10_FFFF, 0x11_0000,
         ],
-    )?;
-    let characters: Vec<char> = set.iter_chars().collect(rt.alloc())?;
-    assert_eq!(rt;
-        characters.as_slice(),
-        ['A', 'B', '\u{D7FF}', '\u{E000}', '\u{10FFFF}'].as_slice()
-    );
-    let surrogates = set_of(rt.alloc(), &[0xD800, 0xE000])?;
-    assert!(rt; surrogates.iter_chars().next().is_none());
-    assert_eq!(rt;
-        CodePointInversionList::all().iter_chars().count(),
-        0x10_F800
-    );
+        &['A', 'B', '\u{D7FF}', '\u{E000}', '\u{10FFFF}'],
+    ),
+    // surrogates alone
+    (&[0xD800, 0xE000], &[]),
+];
+
+#[test]
+fn characters_of_a_set(rt: HostRuntime) -> Result<(), Fail> {
+    for (edges, expected) in CHARACTERS {
+        assert!(rt; has_characters(rt.alloc(), edges, expected)?);
+    }
+    assert!(rt; count_characters(&CodePointInversionList::all()) == 0x10_F800);
     Ok(())
 }
 
@@ -224,15 +287,30 @@ const SPANS_BACK: &[(&str, bool, usize)] = &[
     ("ABC", true, 0),
 ];
 
+/// Whether the longest stretch from the front of each text ends where it should.
+fn has_spans(set: &CodePointInversionList<'_>) -> bool {
+    for (text, held, end) in SPANS {
+        if set.span(text, *held) != *end {
+            return false;
+        }
+    }
+    true
+}
+
+/// The same back from the end.
+fn has_spans_back(set: &CodePointInversionList<'_>) -> bool {
+    for (text, held, start) in SPANS_BACK {
+        if set.span_back(text, *held) != *start {
+            return false;
+        }
+    }
+    true
+}
+
 #[test]
 fn stretches_of_texts(rt: HostRuntime) -> Result<(), Fail> {
     let set = CodePointInversionList::try_from_range(rt.alloc(), 'A'..'D')?;
-    for (text, held, end) in SPANS {
-        assert!(rt; set.span(text, *held) == *end, "{text}");
-    }
-    for (text, held, start) in SPANS_BACK {
-        assert!(rt; set.span_back(text, *held) == *start, "back in {text}");
-    }
+    assert!(rt; has_spans(&set) && has_spans_back(&set));
     Ok(())
 }
 
@@ -260,11 +338,15 @@ fn a_refused_range_printed(rt: HostRuntime) -> Result<(), Fail> {
     Ok(())
 }
 
+/// How many ranges are still to come, whether there is a first, and how many are to come then.
+fn first_of(set: &CodePointInversionList<'_>) -> (usize, bool, usize) {
+    let mut ranges = set.iter_ranges();
+    let before = ranges.len();
+    let first = ranges.next().is_some();
+    (before, first, ranges.len())
+}
+
 #[test]
 fn how_many_ranges_are_left(rt: HostRuntime) {
-    let set = CodePointInversionList::bmp();
-    let mut ranges = set.iter_ranges();
-    assert_eq!(rt; ranges.len(), 1);
-    assert!(rt; ranges.next().is_some());
-    assert_eq!(rt; ranges.len(), 0);
+    assert!(rt; first_of(&CodePointInversionList::bmp()) == (1, true, 0));
 }

@@ -62,59 +62,105 @@ fn tells_apart(set: &CodePointInversionListAndStringList<'_>, held: u32, other: 
     set.contains32(held) && !set.contains32(other) && set.code_points().contains32(held)
 }
 
+/// The set of the code points below 10000 (hex) and these strings, if it is one.
+fn with_strings(
+    alloc: Global,
+    texts: &[&str],
+) -> Result<Option<CodePointInversionListAndStringList<'static>>, AllocError> {
+    let strings = strings_of(alloc, texts)?;
+    let list = CodePointInversionList::bmp();
+    Ok(CodePointInversionListAndStringList::try_from(list, strings).ok())
+}
+
+/// Whether the set has so many members and so many strings.
+fn has_sizes(set: &CodePointInversionListAndStringList<'_>, size: usize, strings: usize) -> bool {
+    set.size() == size && set.has_strings() && set.strings().len() == strings
+}
+
+/// Whether the set is that with four strings.
+fn is_of_four(set: &CodePointInversionListAndStringList<'_>) -> bool {
+    has_sizes(set, 0x1_0004, 4)
+        && holds_texts(set, &["", "ab", "éa", "a", "é"], true)
+        && holds_texts(set, &["\u{10000}", "abc", "aa"], false)
+        && set.contains('a')
+        && tells_apart(set, 0xD800, 0x1_0000)
+}
+
 #[test]
 fn sets_with_strings(rt: HostRuntime) -> Result<(), Fail> {
-    let strings = strings_of(rt.alloc(), &["", "ab", "b2", "éa"])?;
-    let list = CodePointInversionList::bmp();
-    let Ok(set) = CodePointInversionListAndStringList::try_from(list, strings) else {
-        return Err("these strings are good".into());
-    };
-    assert!(rt; set.size() == 0x1_0004 && set.has_strings() && set.strings().len() == 4);
-    assert!(rt; holds_texts(&set, &["", "ab", "éa", "a", "é"], true));
-    assert!(rt; holds_texts(&set, &["\u{10000}", "abc", "aa"], false));
-    assert!(rt; set.contains('a') && tells_apart(&set, 0xD800, 0x1_0000));
+    let set = with_strings(rt.alloc(), &["", "ab", "b2", "éa"])?.ok_or("no set")?;
+    assert!(rt; is_of_four(&set));
     Ok(())
+}
+
+/// Whether a set is equal to its copy.
+fn is_copied(
+    alloc: Global,
+    set: &CodePointInversionListAndStringList<'_>,
+) -> Result<bool, AllocError> {
+    Ok(set.clone(alloc)? == *set)
+}
+
+/// Whether two sets are equal.
+fn are_equal(
+    first: &CodePointInversionListAndStringList<'_>,
+    second: &CodePointInversionListAndStringList<'_>,
+) -> bool {
+    *first == *second
 }
 
 #[test]
 fn copies_of_sets_with_strings(rt: HostRuntime) -> Result<(), Fail> {
-    let alloc = rt.alloc();
-    let strings = strings_of(alloc, &["ab", "éa"])?;
-    let made = CodePointInversionListAndStringList::try_from(
-        CodePointInversionList::bmp(),
-        strings,
-    );
-    let Ok(set) = made else {
-        return Err("strings of a set".into());
-    };
-    let copy = set.clone(alloc)?;
-    assert!(rt; copy == set);
-    let others = CodePointInversionListAndStringList::try_from(
-        CodePointInversionList::bmp(),
-        Vec::new(alloc),
-    );
-    assert!(rt; !others.is_ok_and(|other| other == set));
-    let fault = refusal(alloc, &["x"])?;
-    let text = String::from_str(alloc, "x")?;
-    assert!(rt; fault == Some(InvalidStringList::InvalidStringLength(text)));
+    let set = with_strings(rt.alloc(), &["ab", "éa"])?.ok_or("no set")?;
+    assert!(rt; is_copied(rt.alloc(), &set)?);
     Ok(())
+}
+
+/// Whether a set is not equal to the one with these strings.
+fn differs(
+    alloc: Global,
+    set: &CodePointInversionListAndStringList<'_>,
+    texts: &[&str],
+) -> Result<bool, AllocError> {
+    match with_strings(alloc, texts)? {
+        None => Ok(false),
+        Some(other) => Ok(!are_equal(&other, set)),
+    }
+}
+
+#[test]
+fn sets_with_other_strings(rt: HostRuntime) -> Result<(), Fail> {
+    let set = with_strings(rt.alloc(), &["ab", "éa"])?.ok_or("no set")?;
+    assert!(rt; differs(rt.alloc(), &set, &[])?);
+    Ok(())
+}
+
+/// Whether a string alone is refused by its length.
+fn is_of_bad_length(alloc: Global, text: &str) -> Result<bool, AllocError> {
+    let string = String::from_str(alloc, text)?;
+    Ok(refusal(alloc, &[text])? == Some(InvalidStringList::InvalidStringLength(string)))
+}
+
+#[test]
+fn a_string_of_one_character(rt: HostRuntime) -> Result<(), Fail> {
+    assert!(rt; is_of_bad_length(rt.alloc(), "x")?);
+    Ok(())
+}
+
+/// Whether a set prints as this text.
+fn prints(
+    alloc: Global,
+    set: &CodePointInversionListAndStringList<'_>,
+    text: &str,
+) -> Result<bool, AllocError> {
+    Ok(format!(in alloc; "{set:?}")?.as_str() == text)
 }
 
 #[test]
 fn what_sets_with_strings_print(rt: HostRuntime) -> Result<(), Fail> {
-    let alloc = rt.alloc();
-    let strings = strings_of(alloc, &["ab"])?;
-    let made = CodePointInversionListAndStringList::try_from(
-        CodePointInversionList::bmp(),
-        strings,
-    );
-    let Ok(set) = made else {
-        return Err("strings of a set".into());
-    };
-    let printed = format!(in alloc; "{set:?}")?;
-    assert_eq!(rt;
-        printed.as_str(),
-        "CodePointInversionListAndStringList { code_points: CodePointInversionList { edges: [0, 65536] }, strings: [\"ab\"] }"
-    );
+    let text =
+        "CodePointInversionListAndStringList { code_points: CodePointInversionList { edges: [0, 65536] }, strings: [\"ab\"] }";
+    let set = with_strings(rt.alloc(), &["ab"])?.ok_or("no set")?;
+    assert!(rt; prints(rt.alloc(), &set, text)?);
     Ok(())
 }

@@ -1,17 +1,13 @@
-//! Measures code point tries: builds one of 12,000 different small blocks, or one of a single written
-//! range; reads all code points of one of either type 100 times, by a typed trie too, or as often code
-//! points at random, up to FFFF (hex) or any; or goes over the ranges of a map of one range.
-//! `bench/libraries.sh` takes the times; the program prints a number.
-#![tactic(auto)]
-
+//! Code point tries: one of 12,000 different small blocks is built, or one of a single written range;
+//! all code points of one of either type are read 100 times, by a typed trie too, or as often code
+//! points at random, up to FFFF (hex) or any; or the ranges of a map of one range are gone over.
 ghost use Rattle.std.specs.Prelude.{◌≤◌, ◌<◌};
 
 use icu_collections::codepointtrie::{
     CodePointTrie, CodePointTrieBuildError, CodePointTrieBuilder, FastCodePointTrie,
     SmallCodePointTrie, TrieType, TypedCodePointTrie,
 };
-use std::alloc::Global;
-use std::{env, io};
+use std::alloc::{AllocError, Global};
 
 /// How many small blocks have a value of their own at most: with that of all others 12,000 are
 /// different.
@@ -172,17 +168,11 @@ fn number_of(alloc: Global, task: &str, count: u32) -> Result<u32, CodePointTrie
     })
 }
 
-fn main(rt: HostRuntime) -> io::Result<()> {
-    let alloc = rt.alloc();
-    let mut words = env::args(&rt)?.skip(1);
-    let task = words.next();
-    let task = task.as_ref().map_or("build", |task| task.as_str());
-    let count = words
-        .next()
-        .and_then(|count| count.as_str().parse::<u32>().ok())
-        .unwrap_or(BLOCKS);
+/// The line of a task with code point tries.
+pub fn line_of(alloc: Global, task: &str, numbers: &[u32]) -> Result<String, AllocError> {
+    let count = numbers.first().copied().unwrap_or(BLOCKS);
     match number_of(alloc, task, count) {
-        Ok(number) => println!(rt; "{number}"),
-        Err(error) => println!(rt; "{error:?}"),
+        Ok(number) => format!(in alloc; "{number}"),
+        Err(error) => format!(in alloc; "{error:?}"),
     }
 }

@@ -1,15 +1,10 @@
-//! `unit_speed KEYS ROUNDS [FOLLOWS]`: makes random keys of 1 to 12 units, the same each time, and in
-//! each round writes them as a unit trie and follows them all, `FOLLOWS` times if it is given. It
-//! prints the counts, and is to be timed.
-#![tactic(auto)]
-
+//! Unit tries: random keys of 1 to 12 units, the same each time, are written as a unit trie and all
+//! followed, in each round.
 ghost use Rattle.std.specs.Prelude.{◌<◌};
 
-use anyhow::{Context, Result};
-use icu_collections::char16trie::{Char16Trie, TrieResult, write_units};
+use icu_collections::char16trie::{Char16Trie, TrieResult, WriteUnitsError, write_units};
 use icu_collections_sets::packed_vector::PackedVec;
-use std::alloc::Global;
-use std::env;
+use std::alloc::{AllocError, Global};
 
 /// Random numbers, the same each time.
 #[derive(Drop)]
@@ -32,7 +27,7 @@ impl Random {
 }
 
 /// Random keys up to the count, sorted, each once.
-fn random_keys(alloc: Global, count: u32) -> Result<Vec<Vec<u16>>> {
+fn random_keys(alloc: Global, count: u32) -> Result<Vec<Vec<u16>>, AllocError> {
     let mut random = Random { state: 1 };
     let mut keys = Vec::new(alloc);
     for _ in 0..count {
@@ -49,7 +44,7 @@ fn random_keys(alloc: Global, count: u32) -> Result<Vec<Vec<u16>>> {
 }
 
 /// The keys, each with its place as its value.
-fn with_values(alloc: Global, keys: &[Vec<u16>]) -> Result<Vec<(&[u16], i32)>> {
+fn with_values(alloc: Global, keys: &[Vec<u16>]) -> Result<Vec<(&[u16], i32)>, AllocError> {
     let mut pairs = Vec::new(alloc);
     for (value, key) in (0i32..i32::MAX).zip(keys) {
         pairs.push((key.as_slice(), value))?;
@@ -83,7 +78,7 @@ fn write_and_follow(
     alloc: Global,
     pairs: &[(&[u16], i32)],
     follows: u32,
-) -> Result<(usize, usize)> {
+) -> Result<(usize, usize), WriteUnitsError> {
     let units = write_units(alloc, pairs)?;
     let written = units.len();
     let trie = Char16Trie::new(PackedVec::from_slice(alloc, &units)?);
@@ -94,27 +89,46 @@ fn write_and_follow(
     Ok((written, least))
 }
 
-/// The numbers of the command line, the third 1 if it is not there.
-fn numbers(rt: &HostRuntime) -> Option<(u32, u32, u32)> {
-    let mut words = env::args(rt).ok()?.skip(1);
-    let keys = words.next()?.as_str().parse::<u32>().ok()?;
-    let rounds = words.next()?.as_str().parse::<u32>().ok()?;
-    let follows = match words.next() {
-        Some(word) => word.as_str().parse::<u32>().ok()?,
-        None => 1,
-    };
-    Some((keys, rounds, follows))
+/// What the last of the rounds comes to.
+fn rounds_of(
+    alloc: Global,
+    pairs: &[(&[u16], i32)],
+    rounds: u32,
+    follows: u32,
+) -> Result<(usize, usize), WriteUnitsError> {
+    let mut counts = (0, 0);
+    for _ in 0..rounds {
+        counts = write_and_follow(alloc, pairs, follows)?;
+    }
+    Ok(counts)
 }
 
-fn main(rt: HostRuntime) -> Result<()> {
-    let (count, rounds, follows) = numbers(&rt).context("usage: unit_speed KEYS ROUNDS [FOLLOWS]")?;
-    let keys = random_keys(rt.alloc(), count)?;
-    let pairs = with_values(rt.alloc(), &keys)?;
-    for round in 0..rounds {
-        let (written, found) = write_and_follow(rt.alloc(), &pairs, follows)?;
-        if round == 0 {
-            println!(rt; "{} keys in {written} units, {found} found", keys.len())?;
+/// The line for so many keys and rounds, where all are followed so often in each.
+fn line_of_rounds(
+    alloc: Global,
+    count: u32,
+    rounds: u32,
+    follows: u32,
+) -> Result<String, AllocError> {
+    let keys = random_keys(alloc, count)?;
+    let pairs = with_values(alloc, &keys)?;
+    match rounds_of(alloc, &pairs, rounds, follows) {
+        Ok((written, found)) => {
+            format!(in alloc; "{} keys in {written} units, {found} found", keys.len())
         }
+        Err(error) => format!(in alloc; "{error}"),
     }
-    Ok(())
+}
+
+/// The line of a task with unit tries: how many keys, rounds, and times all are followed in each, once
+/// if it is not given. None without the first two.
+pub fn line_of(alloc: Global, numbers: &[u32]) -> Result<Option<String>, AllocError> {
+    let Some(count) = numbers.first().copied() else {
+        return Ok(None);
+    };
+    let Some(rounds) = numbers.get(1).copied() else {
+        return Ok(None);
+    };
+    let follows = numbers.get(2).copied().unwrap_or(1);
+    Ok(Some(line_of_rounds(alloc, count, rounds, follows)?))
 }

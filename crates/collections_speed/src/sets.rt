@@ -1,14 +1,11 @@
-//! Measures sets of code points: adds 10,000 ranges in rising or in random order, or asks a set of
-//! them 10 million times. `bench/libraries.sh` takes the times; the program prints what it counted.
-#![tactic(auto)]
-
+//! Sets of code points: 10,000 ranges added in rising or in random order, or a set of them asked 10
+//! million times.
 ghost use Rattle.std.specs.Prelude.{◌<◌};
 
 use icu_collections_sets::codepointinvlist::{
     CodePointInversionList, CodePointInversionListBuilder,
 };
 use std::alloc::{AllocError, Global};
-use std::{env, io};
 
 /// How many ranges are added.
 const RANGES: u32 = 10_000;
@@ -57,20 +54,21 @@ fn count_held(set: &CodePointInversionList<'_>) -> u32 {
     held
 }
 
-fn main(rt: HostRuntime) -> io::Result<()> {
-    let alloc = rt.alloc();
-    let task = env::args(&rt)?.nth(1);
-    let word = task.as_ref().map_or("rising", |task| task.as_str());
-    let order = if word == "random" {
-        Order::Random
-    } else {
-        Order::Rising
+/// How many ranges the set has whose ranges were added in this order.
+fn ranges(alloc: Global, order: Order) -> Result<usize, AllocError> {
+    Ok(build(alloc, order)?.get_range_count())
+}
+
+/// The line of a task with sets, if it is one.
+pub fn line_of(alloc: Global, task: &str) -> Result<Option<String>, AllocError> {
+    let line = match task {
+        "add_rising" => format!(in alloc; "{} ranges", ranges(alloc, Order::Rising)?)?,
+        "add_random" => format!(in alloc; "{} ranges", ranges(alloc, Order::Random)?)?,
+        "contains" => {
+            let held = count_held(&build(alloc, Order::Rising)?);
+            format!(in alloc; "{held} of {QUESTIONS} held")?
+        }
+        _ => return Ok(None),
     };
-    let set = build(alloc, order)?;
-    if word == "questions" {
-        println!(rt; "{} of {QUESTIONS} held", count_held(&set))?;
-    } else {
-        println!(rt; "{} ranges", set.get_range_count())?;
-    }
-    Ok(())
+    Ok(Some(line))
 }
