@@ -1,7 +1,9 @@
 //! Canonical tables that are built of classes and mappings.
 
+use crate::tables::{PAIRS, STEPS, tables};
 use icu_normalizer_core::canonical::{
     CanonicalBorrowed, CanonicalData, CanonicalDataBuildError, CanonicalDataBuilder,
+    CanonicalTables,
 };
 use std::alloc::{AllocError, Global};
 use std::test::Fail;
@@ -26,11 +28,68 @@ fn say_what_was_given(canonical: CanonicalBorrowed<'_>) -> bool {
         && canonical.full_list('\u{344}').eq(['\u{308}', '\u{301}'])
 }
 
+/// Whether tables are accepted as data that say so.
+fn are_of_what_was_given(alloc: Global, tables: CanonicalTables<'_>) -> bool {
+    match CanonicalData::try_new(alloc, tables) {
+        Ok(checked) => say_what_was_given(checked.as_borrowed()),
+        Err(_) => false,
+    }
+}
+
+#[test]
+fn ok_try_new(rt: HostRuntime) -> Result<(), Fail> {
+    let tables = tables(rt.alloc(), &[], &STEPS, &PAIRS)?;
+    assert!(rt; are_of_what_was_given(rt.alloc(), tables));
+    Ok(())
+}
+
 #[test]
 fn ok_build(rt: HostRuntime) -> Result<(), Fail> {
     let tables = given(rt.alloc())?.build(rt.alloc())?;
-    let checked = CanonicalData::try_new(rt.alloc(), tables)?;
-    assert!(rt; say_what_was_given(checked.as_borrowed()));
+    assert!(rt; are_of_what_was_given(rt.alloc(), tables));
+    Ok(())
+}
+
+/// Whether data that are built of what was given say so.
+fn is_built_data(alloc: Global, builder: &CanonicalDataBuilder) -> bool {
+    match builder.build_data(alloc) {
+        Ok(checked) => say_what_was_given(checked.as_borrowed()),
+        Err(_) => false,
+    }
+}
+
+#[test]
+fn ok_build_data(rt: HostRuntime) -> Result<(), AllocError> {
+    let builder = given(rt.alloc())?;
+    assert!(rt; is_built_data(rt.alloc(), &builder));
+    Ok(())
+}
+
+/// The class of U+0323 in what is built.
+fn built_class(alloc: Global, builder: &CanonicalDataBuilder) -> Option<u8> {
+    let checked = builder.build_data(alloc).ok()?;
+    Some(checked.as_borrowed().class('\u{323}'))
+}
+
+/// The character that U+0061 and U+0323 compose to in what is built.
+fn built_pair(alloc: Global, builder: &CanonicalDataBuilder) -> Option<char> {
+    let checked = builder.build_data(alloc).ok()?;
+    checked.as_borrowed().compose('a', '\u{323}')
+}
+
+#[test]
+fn ok_class(rt: HostRuntime) -> Result<(), AllocError> {
+    let mut builder = CanonicalDataBuilder::new(rt.alloc());
+    builder.class('\u{323}', 220)?;
+    assert!(rt; built_class(rt.alloc(), &builder) == Some(220));
+    Ok(())
+}
+
+#[test]
+fn ok_map(rt: HostRuntime) -> Result<(), AllocError> {
+    let mut builder = CanonicalDataBuilder::new(rt.alloc());
+    builder.map('ạ', 'a', Some('\u{323}'), true)?;
+    assert!(rt; built_pair(rt.alloc(), &builder) == Some('ạ'));
     Ok(())
 }
 

@@ -43,7 +43,7 @@ fn expect(
 }
 
 #[test]
-fn ok_try_new(rt: HostRuntime) -> Result<(), Fail> {
+fn words_that_are_refused(rt: HostRuntime) -> Result<(), Fail> {
     let rows = [
         ((0xe1, 0x180_8061), None),
         ((0xe1, 0xd8ff), Some(CanonicalFault::BadValue('\u{e1}'))),

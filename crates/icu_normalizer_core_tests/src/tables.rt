@@ -1,6 +1,6 @@
 //! The canonical tables of the worked rows, written out word by word.
 
-use icu_codepointtrie::{CodePointTrieBuilder, TrieType};
+use icu_codepointtrie::{CodePointTrie, CodePointTrieBuilder, CodePointTrieBuilderError, TrieType};
 use icu_normalizer_core::canonical::CanonicalTables;
 use icu_packed_vector::PackedVec;
 use std::alloc::Global;
@@ -45,6 +45,27 @@ pub fn pair(first: u64, second: u64, composed: u64) -> u64 {
 /// The word 0 with its two uppermost bits, which say nothing: a trie builder takes no write of its default, so that is not 0.
 const PLAIN: u32 = 0xc000_0000;
 
+/// Writes words to a map.
+fn set_words(
+    map: &mut CodePointTrieBuilder<u32>,
+    words: &[(u32, u32)],
+) -> Result<(), CodePointTrieBuilderError> {
+    for (code_point, word) in words {
+        map.set_value(*code_point, *word)?;
+    }
+    Ok(())
+}
+
+/// The words of the worked rows, with others for some characters.
+fn trie(alloc: Global, words: &[(u32, u32)]) -> Result<CodePointTrie<'static, u32>, Fail> {
+    let mut map = CodePointTrieBuilder::new(alloc, PLAIN, 0, TrieType::Fast)?;
+    map.set_range_value(0xac00..=0xd7a3, 1)?;
+    set_words(&mut map, &WORDS)?;
+    set_words(&mut map, words)?;
+    let trie = map.build(alloc)?;
+    Ok(trie)
+}
+
 /// The tables of the worked rows, with other words for some characters, and these mappings and pairs.
 pub fn tables(
     alloc: Global,
@@ -52,16 +73,16 @@ pub fn tables(
     steps: &[u32],
     pairs: &[u64],
 ) -> Result<CanonicalTables<'static>, Fail> {
-    let mut map = CodePointTrieBuilder::new(alloc, PLAIN, 0, TrieType::Fast)?;
-    map.set_range_value(0xac00..=0xd7a3, 1)?;
-    for (code_point, word) in WORDS.iter().chain(words) {
-        map.set_value(*code_point, *word)?;
-    }
+    let scalars16 = PackedVec::from_slice(alloc, &[])?;
+    let scalars24 = PackedVec::from_slice(alloc, &[])?;
+    let steps = PackedVec::from_slice(alloc, steps)?;
+    let pairs = PackedVec::from_slice(alloc, pairs)?;
+    let trie = trie(alloc, words)?;
     Ok(CanonicalTables {
-        trie: map.build(alloc)?,
-        scalars16: PackedVec::from_slice(alloc, &[])?,
-        scalars24: PackedVec::from_slice(alloc, &[])?,
-        steps: PackedVec::from_slice(alloc, steps)?,
-        pairs: PackedVec::from_slice(alloc, pairs)?,
+        trie,
+        scalars16,
+        scalars24,
+        steps,
+        pairs,
     })
 }
