@@ -8,6 +8,5 @@ pub mod Marks
 pub mod Normalizers
 pub mod Readable
 pub mod Run
-pub mod Shorts
 pub mod Sinks
 pub mod Splits
