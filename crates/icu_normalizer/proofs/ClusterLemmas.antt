@@ -26,13 +26,10 @@ module _ (canonical : Canonical) where
   alone_whole text a b e f =
       sym (ap₂ (λ x y. form_of x ++ form_of y) e f ∙ ap (λ l. form_of text ++ l) form_nothing ∙ append-nil (form_of text))
 
-  -- a text that stays as it stands, in bytes
-  pub form_same : (text : List ℕ) → IsUtf8 text → IsComposed canonical (chars text) → form_of text ≡ text
-  form_same text u own = ap encode_utf8_all own ∙ encodes-chars text u
-
   pub stays_whole : (text a b : List ℕ) → IsUtf8 text → IsComposed canonical (chars text) → a ≡ text → b ≡ [] → form_of text ≡ a ++ form_of b
   stays_whole text a b u own e f =
-      form_same text u own ∙ sym (ap₂ (λ x y. x ++ form_of y) e f ∙ ap (λ l. text ++ l) form_nothing ∙ append-nil text)
+      ap encode_utf8_all own ∙ encodes-chars text u
+      ∙ sym (ap₂ (λ x y. x ++ form_of y) e f ∙ ap (λ l. text ++ l) form_nothing ∙ append-nil text)
 
   pub skipped_utf8 : (text rest : List ℕ) → IsSkipped (composed canonical) text rest → IsUtf8 text → IsUtf8 rest
   skipped_utf8 text rest is u = (

@@ -9,7 +9,6 @@ pub mod Marks
 pub mod Normalizers
 pub mod Readable
 pub mod Run
-pub mod Shorts
 pub mod Sinks
 pub mod Splits
 pub mod TextForms

@@ -14,7 +14,6 @@ mod cuts;
 mod low;
 mod normalizer;
 mod owned;
-mod short;
 
 use crate::decomposing::Decomposition;
 use composer::Composer;

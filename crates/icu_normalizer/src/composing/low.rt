@@ -33,7 +33,7 @@ pub(super) fn skip_low<'t>(canonical: CanonicalBorrowed<'_>, text: &'t str) -> O
 
 /// Whether a character is known to be its own composed list, and nothing before it composes with it.
 #[inline]
-pub(super) fn is_apart(canonical: CanonicalBorrowed<'_>, c: char) -> bool
+fn is_apart(canonical: CanonicalBorrowed<'_>, c: char) -> bool
     ensures { IsTrue result → IsApart (borrowed_meaning canonical.entry) c }
 {
     canonical.keep_promise();

@@ -11,7 +11,6 @@ mod splits;
 
 use super::Composition;
 use super::clusters::{first_cluster, split_apart};
-use super::short::{Short, short_form};
 use crate::sinks::{NormError, TextSink};
 use icu_normalizer_core::canonical::CanonicalBorrowed;
 use std::alloc::Global;
@@ -77,7 +76,7 @@ impl<'d> ComposingNormalizerBorrowed<'d> {
         let mut left = text;
         while !left.is_empty() {
             let (cluster, rest) = first_cluster(self.canonical, left);
-            if let Err(error) = self.write_part(alloc, cluster, sink) {
+            if let Err(error) = self.write_cluster(alloc, cluster, sink) {
                 return Err(error);
             }
             let (plain, rest) = split_apart(self.canonical, rest);
@@ -87,30 +86,6 @@ impl<'d> ComposingNormalizerBorrowed<'d> {
             left = rest;
         }
         Ok(())
-    }
-
-    /// The same, two characters without a list.
-    fn write_part<S: TextSink>(
-        &self,
-        alloc: Global,
-        text: &str,
-        sink: &mut S,
-    ) -> Result<(), NormError<S::Error>>
-        ensures ok { OnOk result (S.contents sink.new ≡ S.contents sink.old ++ encode_utf8_all (composed (composing_data self.now) (chars text.now))) }
-        ensures err { OnErr result (AddsPrefix (S.contents sink.old) (encode_utf8_all (composed (composing_data self.now) (chars text.now))) (S.contents sink.new)) }
-        ensures failure { EndsByFailure S.takes S.fails sink.old result sink.new }
-    {
-        match short_form(self.canonical, text) {
-            Short::Same => match sink.write_str(text) {
-                Ok(()) => Ok(()),
-                Err(error) => Err(NormError::Sink(error)),
-            },
-            Short::One(c) => match sink.write_char(c) {
-                Ok(()) => Ok(()),
-                Err(error) => Err(NormError::Sink(error)),
-            },
-            Short::Other => self.write_cluster(alloc, text, sink),
-        }
     }
 
     /// The same, character by character.
