@@ -1,10 +1,14 @@
 //! Normal forms over the canonical tables of the worked rows.
 
-use icu_normalizer::composing::{ComposingNormalizer, ComposingNormalizerBorrowed};
-use icu_normalizer::decomposing::{DecomposingNormalizer, DecomposingNormalizerBorrowed};
-use icu_normalizer_core_tests::held::provider_of;
+use icu_normalizer::composing::{ComposingNormalizer, ComposingNormalizerBorrowed, Composition};
+use icu_normalizer::decomposing::{
+    DecomposingNormalizer, DecomposingNormalizerBorrowed, Decomposition,
+};
+use icu_normalizer_core::canonical::{CanonicalBorrowed, CanonicalData, CanonicalTables};
+use icu_normalizer_core_tests::held::{Held, provider_of};
 use icu_normalizer_core_tests::tables::{PAIRS, STEPS, tables};
-use std::alloc::Global;
+use std::alloc::{AllocError, Global};
+use std::borrow::CowStr;
 use std::test::Fail;
 
 /// A text, its NFD and its NFC, as an independent reading of the definitions gives them.
@@ -47,131 +51,190 @@ const ROWS: [(&str, &str, &str); 20] = [
     ("a\u{301}\u{301}", "a\u{301}\u{301}", "\u{e1}\u{301}"),
 ];
 
-/// Whether a normaliser to NFD writes this of a text to a sink.
-fn writes_decomposed(
-    alloc: Global,
-    normalizer: DecomposingNormalizerBorrowed<'_>,
-    text: &str,
-    want: &str,
-) -> bool {
-    let mut sink = String::new(alloc);
-    normalizer.normalize_to(alloc, text, &mut sink).is_ok() && sink.as_str() == want
+/// A call by which a form comes or is known.
+#[derive(Clone, Copy)]
+enum Call {
+    Normalize,
+    WriteNfd,
+    WriteNfc,
+    IsNormalized,
+    SplitNormalized,
 }
 
-/// Whether it gives this.
-fn gives_decomposed(
-    alloc: Global,
-    normalizer: DecomposingNormalizerBorrowed<'_>,
-    text: &str,
-    want: &str,
-) -> bool {
-    match normalizer.normalize(alloc, text) {
+/// A normaliser to each form, over the same data.
+#[derive(Clone, Copy)]
+struct Normalizers<'d> {
+    nfd: DecomposingNormalizerBorrowed<'d>,
+    nfc: ComposingNormalizerBorrowed<'d>,
+}
+
+/// Whether a form is this.
+fn is_form(form: Result<CowStr<'_>, AllocError>, want: &str) -> bool {
+    match form {
         Ok(form) => form.as_str() == want,
         Err(_) => false,
     }
 }
 
-/// Whether it knows that a text is its own NFD or isn't, and splits it before what changes.
-fn splits_decomposed(
-    normalizer: DecomposingNormalizerBorrowed<'_>,
-    text: &str,
-    want: &str,
-) -> bool {
-    let (prefix, rest) = normalizer.split_normalized(text);
-    normalizer.is_normalized(text) == (text == want)
-        && rest.is_empty() == (text == want)
-        && want.starts_with(prefix)
-}
-
-/// Whether a normaliser to NFC writes this of a text to a sink.
-fn writes_composed(
-    alloc: Global,
-    normalizer: ComposingNormalizerBorrowed<'_>,
-    text: &str,
-    want: &str,
-) -> bool {
-    let mut sink = String::new(alloc);
-    normalizer.normalize_to(alloc, text, &mut sink).is_ok() && sink.as_str() == want
-}
-
-/// Whether it gives this.
-fn gives_composed(
-    alloc: Global,
-    normalizer: ComposingNormalizerBorrowed<'_>,
-    text: &str,
-    want: &str,
-) -> bool {
-    match normalizer.normalize(alloc, text) {
-        Ok(form) => form.as_str() == want,
-        Err(_) => false,
-    }
-}
-
-/// Whether it knows that a text is its own NFC or isn't.
-fn knows_composed(
-    alloc: Global,
-    normalizer: ComposingNormalizerBorrowed<'_>,
-    text: &str,
-    want: &str,
-) -> bool {
-    match normalizer.is_normalized(alloc, text) {
-        Ok(is) => is == (text == want),
-        Err(_) => false,
-    }
-}
-
-/// Whether it splits a text before what changes.
-fn splits_composed(
-    alloc: Global,
-    normalizer: ComposingNormalizerBorrowed<'_>,
-    text: &str,
-    want: &str,
-) -> bool {
-    match normalizer.split_normalized(alloc, text) {
+/// Whether a text is split before what changes.
+fn is_split(parts: Result<(&str, &str), AllocError>, text: &str, want: &str) -> bool {
+    match parts {
         Ok((prefix, rest)) => rest.is_empty() == (text == want) && want.starts_with(prefix),
         Err(_) => false,
     }
 }
 
-/// Whether each row's NFD comes by each call.
-fn has_decomposed_rows(alloc: Global, normalizer: DecomposingNormalizerBorrowed<'_>) -> bool {
-    for (text, want, _) in ROWS {
-        let is_good = writes_decomposed(alloc, normalizer, text, want)
-            && gives_decomposed(alloc, normalizer, text, want)
-            && splits_decomposed(normalizer, text, want);
-        if !is_good {
+/// Whether a normaliser to NFD writes this to a sink.
+fn writes_nfd(
+    alloc: Global,
+    nfd: DecomposingNormalizerBorrowed<'_>,
+    text: &str,
+    want: &str,
+) -> bool {
+    let mut sink = String::new(alloc);
+    nfd.normalize_to(alloc, text, &mut sink).is_ok() && sink.as_str() == want
+}
+
+/// Whether a normaliser to NFC does.
+fn writes_nfc(alloc: Global, nfc: ComposingNormalizerBorrowed<'_>, text: &str, want: &str) -> bool {
+    let mut sink = String::new(alloc);
+    nfc.normalize_to(alloc, text, &mut sink).is_ok() && sink.as_str() == want
+}
+
+/// Whether a call gives these forms of a text, or knows whether it is in them.
+fn gives(
+    alloc: Global,
+    normalizers: Normalizers<'_>,
+    call: Call,
+    (text, decomposed, composed): (&str, &str, &str),
+) -> bool {
+    let Normalizers { nfd, nfc } = normalizers;
+    match call {
+        Call::Normalize => {
+            is_form(nfd.normalize(alloc, text), decomposed)
+                && is_form(nfc.normalize(alloc, text), composed)
+        }
+        Call::WriteNfd => writes_nfd(alloc, nfd, text, decomposed),
+        Call::WriteNfc => writes_nfc(alloc, nfc, text, composed),
+        Call::IsNormalized => {
+            nfd.is_normalized(text) == (text == decomposed)
+                && nfc.is_normalized(alloc, text).ok() == Some(text == composed)
+        }
+        Call::SplitNormalized => {
+            is_split(Ok(nfd.split_normalized(text)), text, decomposed)
+                && is_split(nfc.split_normalized(alloc, text), text, composed)
+        }
+    }
+}
+
+/// Whether it does so of each row.
+fn gives_rows(alloc: Global, normalizers: Normalizers<'_>, call: Call) -> bool {
+    for row in ROWS {
+        if !gives(alloc, normalizers, call, row) {
             return false;
         }
     }
     true
 }
 
-/// Whether each row's NFC does.
-fn has_composed_rows(alloc: Global, normalizer: ComposingNormalizerBorrowed<'_>) -> bool {
-    for (text, _, want) in ROWS {
-        let is_good = writes_composed(alloc, normalizer, text, want)
-            && gives_composed(alloc, normalizer, text, want)
-            && knows_composed(alloc, normalizer, text, want)
-            && splits_composed(alloc, normalizer, text, want);
-        if !is_good {
-            return false;
+/// The same by this normaliser to NFD, and one to NFC that the provider gives.
+fn gives_composed(
+    alloc: Global,
+    held: &Held<'_>,
+    nfd: DecomposingNormalizerBorrowed<'_>,
+    call: Call,
+) -> bool {
+    match ComposingNormalizer::try_new_nfc_unstable(alloc, held) {
+        Ok(nfc) => {
+            let nfc = nfc.as_borrowed();
+            gives_rows(alloc, Normalizers { nfd, nfc }, call)
         }
+        Err(_) => false,
     }
-    true
+}
+
+/// The same by normalisers that the provider gives.
+fn gives_both(alloc: Global, held: &Held<'_>, call: Call) -> bool {
+    match DecomposingNormalizer::try_new_nfd_unstable(alloc, held) {
+        Ok(nfd) => gives_composed(alloc, held, nfd.as_borrowed(), call),
+        Err(_) => false,
+    }
+}
+
+/// The same over the tables of the worked rows.
+fn has_rows(alloc: Global, call: Call) -> Result<bool, Fail> {
+    let held = provider_of(tables(alloc, &[], &STEPS, &PAIRS)?);
+    Ok(gives_both(alloc, &held, call))
 }
 
 #[test]
-fn ok_normalize_nfd(rt: HostRuntime) -> Result<(), Fail> {
-    let provider = provider_of(tables(rt.alloc(), &[], &STEPS, &PAIRS)?);
-    let owned = DecomposingNormalizer::try_new_nfd_unstable(rt.alloc(), &provider)?;
-    assert!(rt; has_decomposed_rows(rt.alloc(), owned.as_borrowed()));
+fn ok_try_new_nfd_unstable(rt: HostRuntime) -> Result<(), Fail> {
+    assert!(rt; has_rows(rt.alloc(), Call::WriteNfd)?);
     Ok(())
 }
 
 #[test]
-fn ok_normalize_nfc(rt: HostRuntime) -> Result<(), Fail> {
-    let provider = provider_of(tables(rt.alloc(), &[], &STEPS, &PAIRS)?);
-    let owned = ComposingNormalizer::try_new_nfc_unstable(rt.alloc(), &provider)?;
-    assert!(rt; has_composed_rows(rt.alloc(), owned.as_borrowed()));
+fn ok_try_new_nfc_unstable(rt: HostRuntime) -> Result<(), Fail> {
+    assert!(rt; has_rows(rt.alloc(), Call::WriteNfc)?);
+    Ok(())
+}
+
+#[test]
+fn ok_normalize(rt: HostRuntime) -> Result<(), Fail> {
+    assert!(rt; has_rows(rt.alloc(), Call::Normalize)?);
+    Ok(())
+}
+
+#[test]
+fn ok_normalize_to(rt: HostRuntime) -> Result<(), Fail> {
+    assert!(rt; has_rows(rt.alloc(), Call::WriteNfd)?);
+    assert!(rt; has_rows(rt.alloc(), Call::WriteNfc)?);
+    Ok(())
+}
+
+#[test]
+fn ok_is_normalized(rt: HostRuntime) -> Result<(), Fail> {
+    assert!(rt; has_rows(rt.alloc(), Call::IsNormalized)?);
+    Ok(())
+}
+
+#[test]
+fn ok_split_normalized(rt: HostRuntime) -> Result<(), Fail> {
+    assert!(rt; has_rows(rt.alloc(), Call::SplitNormalized)?);
+    Ok(())
+}
+
+/// The first character of a text's NFD.
+fn first_decomposed(alloc: Global, canonical: CanonicalBorrowed<'_>, text: &str) -> Option<char> {
+    Decomposition::new(alloc, canonical, text.chars())
+        .next()?
+        .ok()
+}
+
+/// The first character of a text's NFC.
+fn first_composed(alloc: Global, canonical: CanonicalBorrowed<'_>, text: &str) -> Option<char> {
+    Composition::new(alloc, canonical, text.chars())
+        .next()?
+        .ok()
+}
+
+/// Whether both iterators begin as the forms do.
+fn begin_right(alloc: Global, canonical: CanonicalBorrowed<'_>) -> bool {
+    first_decomposed(alloc, canonical, "\u{344}") == Some('\u{308}')
+        && first_composed(alloc, canonical, "a\u{301}\u{323}") == Some('\u{1ea1}')
+}
+
+/// The same over data of tables.
+fn both_begin_right(alloc: Global, tables: CanonicalTables<'_>) -> bool {
+    match CanonicalData::try_new(alloc, tables) {
+        Ok(data) => begin_right(alloc, data.as_borrowed()),
+        Err(_) => false,
+    }
+}
+
+#[test]
+fn ok_next(rt: HostRuntime) -> Result<(), Fail> {
+    let tables = tables(rt.alloc(), &[], &STEPS, &PAIRS)?;
+    assert!(rt; both_begin_right(rt.alloc(), tables));
     Ok(())
 }
