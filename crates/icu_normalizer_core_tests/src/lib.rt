@@ -11,4 +11,6 @@ mod decoding;
 pub mod held;
 #[cfg(test)]
 mod provider;
+#[cfg(test)]
+mod steady;
 pub mod tables;
