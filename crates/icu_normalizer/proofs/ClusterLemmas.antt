@@ -4,7 +4,7 @@ use Rattle.std.proofs.lemmas.List.{append_cancel_left}
 use Rattle.std.proofs.lemmas.Str.{chars-nil, encodes-append, encodes-chars, scalars-chars, length-encode, len_utf8_bounds}
 use lib.Utf8.{scalars}
 use Rattle.icu_normalizer_core.specs.Canonical.{Canonical, IsCanonical, composed}
-use Rattle.icu_normalizer.specs.Composing.{BeginsApart}
+use Rattle.icu_normalizer.specs.Composing.{HasBoundaryBefore}
 use Rattle.icu_normalizer.specs.FormCuts.{IsComposed, IsSkipped}
 use Rattle.icu_normalizer.specs.Sinks.{AddsPrefix}
 use Rattle.icu_normalizer.proofs.ComposedWalkLemmas.{composed_nothing}
@@ -48,9 +48,9 @@ module _ (canonical : Canonical) where
       ap encode_utf8_all is.alone ∙ encodes-append is.prefix (composed canonical (chars rest))
       ∙ sym (ap₂ (λ x y. x ++ form_of y) (cut_front text rest is.prefix is.bytes a front) (cut_back text rest is.prefix is.bytes b back))
 
-  -- a character that begins apart is ahead
+  -- a character that has a boundary before it is ahead
   pub alone_parts : IsCanonical canonical → (text ahead read : List ℕ) (c : ℕ) (left : List ℕ) → (is : IsRead text text ahead [] read) → IsUtf8 text → IsUtf8 ahead → chars ahead ≡ c ∷ left
-      → BeginsApart canonical c → (a b : List ℕ) → a ≡ take (length text - length ahead) text → b ≡ drop (length text - length ahead) text → form_of text ≡ form_of a ++ form_of b
+      → HasBoundaryBefore canonical c → (a b : List ℕ) → a ≡ take (length text - length ahead) text → b ≡ drop (length text - length ahead) text → form_of text ≡ form_of a ++ form_of b
   alone_parts ok text ahead read c left is u v next apart a b front back =
       let turned : IsRead text ahead ahead read [] = record { whole = is.part; part = refl } in
       let readable = front_utf8 text ahead ahead read [] turned u v in

@@ -18,10 +18,14 @@ IsComposable canonical =
     ((a b c : ℕ) → canonical.pair a b ≡ Some c → 0x300 ≤ b)
     × ((c : ℕ) → c < 0x300 → canonical.class c ≡ 0)
 
+-- Nothing before the character composes with it: its full list begins with a starter that is no pair's second.
+abbrev pub HasBoundaryBefore : Canonical → ℕ → Type 0
+HasBoundaryBefore canonical c = (d : ℕ) × (ds : List ℕ) × (canonical.full c ≡ d ∷ ds) × (canonical.class d ≡ 0) × ((a : ℕ) → canonical.pair a d ≡ None)
+
+-- such a character that is its own composed list
+abbrev pub IsSteady : Canonical → ℕ → Type 0
+IsSteady canonical c = HasBoundaryBefore canonical c × (composed canonical (c ∷ []) ≡ c ∷ [])
+
 -- the first of the character's full list is below U+0300: it composes with nothing before it
 abbrev pub BeginsApart : Canonical → ℕ → Type 0
 BeginsApart canonical c = (d : ℕ) × (ds : List ℕ) × (canonical.full c ≡ d ∷ ds) × (d < 0x300)
-
--- such a character that is its own composed list
-abbrev pub IsApart : Canonical → ℕ → Type 0
-IsApart canonical c = BeginsApart canonical c × (composed canonical (c ∷ []) ≡ c ∷ [])

@@ -4,7 +4,7 @@ ghost use Rattle.std.specs.Prelude.{◌≡◌, ◌<◌, ◌≤◌, ◌++◌, len
 ghost use Rattle.icu_normalizer_core.specs.BorrowedMeaning.{borrowed_meaning};
 ghost use Rattle.icu_normalizer_core.specs.Canonical.{composed};
 
-use super::low::{begins_apart, skip_low};
+use super::low::{is_steady, skip_low};
 use icu_normalizer_core::canonical::CanonicalBorrowed;
 
 /// A text in two parts that are composed alone. The second is shorter than the text. It takes no memory.
@@ -26,7 +26,7 @@ pub(super) fn first_cluster<'t>(
         let Some(c) = chars.next() else {
             return text.split_at(text.len());
         };
-        if begins_apart(canonical, c) {
+        if is_steady(canonical, c) {
             return text.split_at(text.len() - rest.len());
         }
     }

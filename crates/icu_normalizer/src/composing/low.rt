@@ -3,7 +3,7 @@
 ghost use Rattle.std.specs.Prelude.{◌≡◌, ◌≤◌, ◌⊎◌, [], ◌∷◌, IsTrue, Some, IfSome, IfNone, chars};
 ghost use Rattle.icu_normalizer_core.specs.BorrowedMeaning.{borrowed_meaning};
 ghost use Rattle.icu_normalizer_core.specs.Canonical.{composed};
-ghost use Rattle.icu_normalizer.specs.Composing.{BeginsApart, IsApart};
+ghost use Rattle.icu_normalizer.specs.Composing.{BeginsApart, IsSteady};
 ghost use Rattle.icu_normalizer.specs.FormCuts.{IsComposed, IsSkipped};
 
 use crate::decomposing::plain_len;
@@ -24,7 +24,7 @@ pub(super) fn skip_low<'t>(canonical: CanonicalBorrowed<'_>, text: &'t str) -> O
         let Some(c) = chars.next() else {
             return None;
         };
-        if !is_apart(canonical, c) {
+        if !is_steady(canonical, c) {
             return Some(rest);
         }
         rest = here;
@@ -33,8 +33,8 @@ pub(super) fn skip_low<'t>(canonical: CanonicalBorrowed<'_>, text: &'t str) -> O
 
 /// Whether a character is known to be its own composed list, and nothing before it composes with it.
 #[inline]
-fn is_apart(canonical: CanonicalBorrowed<'_>, c: char) -> bool
-    ensures { IsTrue result → IsApart (borrowed_meaning canonical.entry) c }
+pub(super) fn is_steady(canonical: CanonicalBorrowed<'_>, c: char) -> bool
+    ensures { IsTrue result → IsSteady (borrowed_meaning canonical.entry) c }
 {
     canonical.keep_promise();
     begins_apart(canonical, c) && (c < '\u{300}' || is_own(canonical, c))
@@ -42,7 +42,7 @@ fn is_apart(canonical: CanonicalBorrowed<'_>, c: char) -> bool
 
 /// Whether the first of a character's full list is below U+0300, so that nothing before it composes with it.
 #[inline]
-pub(super) fn begins_apart(canonical: CanonicalBorrowed<'_>, c: char) -> bool
+fn begins_apart(canonical: CanonicalBorrowed<'_>, c: char) -> bool
     ensures { IsTrue result → BeginsApart (borrowed_meaning canonical.entry) c }
 {
     canonical.keep_promise();

@@ -21,18 +21,18 @@ returns-in_default-clause-alone c = alone_whole (borrowed_meaning c.args.canonic
 pub returns-in_default-next-clause-alone : goal.returns-in_default-next-clause-alone
 returns-in_default-next-clause-alone c = alone_whole (borrowed_meaning c.args.canonical) c.args.text.now _ _ (c.split_at-in_default-next.ensures.front ∙ take-length c.args.text.now) (c.split_at-in_default-next.ensures.back ∙ drop-length c.args.text.now)
 
-pub split_at-requires-then-begins_apart : goal.split_at-requires-then-begins_apart
-split_at-requires-then-begins_apart c =
+pub split_at-requires-then-is_steady : goal.split_at-requires-then-is_steady
+split_at-requires-then-is_steady c =
     let now = c.chars.invariant in
     cut_boundary c.args.text.now c.as_str-rest.result.now now.0 (now.1.part ∙ ap (λ l. encode_utf8_all now.0 ++ l) (sym c.as_str-rest.ensures)) c.as_str-rest.utf8
 
-pub returns-then-begins_apart-clause-alone : goal.returns-then-begins_apart-clause-alone
-returns-then-begins_apart-clause-alone c =
+pub returns-then-is_steady-clause-alone : goal.returns-then-is_steady-clause-alone
+returns-then-is_steady-clause-alone c =
     let now = c.chars.invariant in
     alone_parts (borrowed_meaning c.args.canonical) c.keep_promise.ensures c.args.text.now c.as_str-rest.result.now now.0 c.in-Some-next.c (chars (chars_rest c.next-in-chars.new.self))
     (record { whole = refl; part = now.1.part ∙ ap (λ l. encode_utf8_all now.0 ++ l) (sym c.as_str-rest.ensures) }) c.utf8.text c.as_str-rest.utf8
-    (chars_past_char _ _ c.in-Some-next.c c.as_str-rest.utf8 (c.as_str-rest.ensures ∙ c.in-Some-next.ensures.steps.0)) (c.begins_apart.ensures c.if-begins_apart.true) _ _
-    c.split_at-then-begins_apart.ensures.front c.split_at-then-begins_apart.ensures.back
+    (chars_past_char _ _ c.in-Some-next.c c.as_str-rest.utf8 (c.as_str-rest.ensures ∙ c.in-Some-next.ensures.steps.0)) (c.is_steady.ensures c.if-is_steady.true).0 _ _
+    c.split_at-then-is_steady.ensures.front c.split_at-then-is_steady.ensures.back
 
 pub chars-preserved : goal.chars-preserved
 chars-preserved c =
