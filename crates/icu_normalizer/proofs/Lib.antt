@@ -1,3 +1,4 @@
+pub mod ClusterCutLemmas
 pub mod ClusterLemmas
 pub mod ComposedCutLemmas
 pub mod ComposedWalkLemmas

@@ -153,7 +153,7 @@ module _ (canonical : Canonical) (ok : IsCanonical canonical) where
 
 -- ---- what is found of the rest is found of the text
 
-split_front : (front xs agreed ys : List ℕ) → front ++ xs ≡ agreed ++ ys → length front ≤ length agreed → (more : List ℕ) × (agreed ≡ front ++ more)
+pub split_front : (front xs agreed ys : List ℕ) → front ++ xs ≡ agreed ++ ys → length front ≤ length agreed → (more : List ℕ) × (agreed ≡ front ++ more)
 split_front [] xs agreed ys e le = (agreed, refl)
 split_front (f ∷ front) xs [] ys e le = absurd (omega (arith, le))
 split_front (f ∷ front) xs (a ∷ agreed) ys e le =

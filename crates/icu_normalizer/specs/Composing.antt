@@ -1,5 +1,5 @@
 -- Composing a starter with what stands behind it.
-use Rattle.std.specs.Prelude.{◌≡◌, ℕ, ◌<◌, ◌≤◌, ◌==◌, ◌||◌, ltb, cond, List, [], ◌∷◌, Option, Some, None}
+use Rattle.std.specs.Prelude.{◌≡◌, ℕ, ◌<◌, ◌≤◌, ◌==◌, ◌||◌, ltb, cond, List, [], ◌∷◌, ◌++◌, Option, Some, None}
 use Rattle.std.specs.List.{list_all}
 use Rattle.icu_normalizer_core.specs.Canonical.{Canonical, composed}
 
@@ -25,6 +25,10 @@ HasBoundaryBefore canonical c = (d : ℕ) × (ds : List ℕ) × (canonical.full 
 -- such a character that is its own composed list
 abbrev pub IsSteady : Canonical → ℕ → Type 0
 IsSteady canonical c = HasBoundaryBefore canonical c × (composed canonical (c ∷ []) ≡ c ∷ [])
+
+-- a text before these characters is composed apart from them
+abbrev pub IsComposedApart : Canonical → List ℕ → Type 0
+IsComposedApart canonical ys = (xs : List ℕ) → composed canonical (xs ++ ys) ≡ composed canonical xs ++ composed canonical ys
 
 -- the first of the character's full list is below U+0300: it composes with nothing before it
 abbrev pub BeginsApart : Canonical → ℕ → Type 0

@@ -1,6 +1,6 @@
 //! Characters that NFC mostly leaves as they stand.
 
-ghost use Rattle.std.specs.Prelude.{◌≡◌, ◌≤◌, ◌⊎◌, [], ◌∷◌, IsTrue, Some, IfSome, IfNone, chars};
+ghost use Rattle.std.specs.Prelude.{◌≡◌, ◌<◌, ◌≤◌, ◌⊎◌, [], ◌∷◌, IsTrue, Some, IfSome, IfNone, chars, length};
 ghost use Rattle.icu_normalizer_core.specs.BorrowedMeaning.{borrowed_meaning};
 ghost use Rattle.icu_normalizer_core.specs.Canonical.{composed};
 ghost use Rattle.icu_normalizer.specs.Composing.{BeginsApart, IsSteady};
@@ -14,6 +14,7 @@ use icu_normalizer_core::canonical::{CanonicalBorrowed, Reading};
 pub(super) fn skip_low<'t>(canonical: CanonicalBorrowed<'_>, text: &'t str) -> Option<&'t str>
     ensures none { IfNone result (IsComposed (borrowed_meaning canonical.entry) (chars text.now)) }
     ensures some { IfSome result (λ rest. IsSkipped (composed (borrowed_meaning canonical.entry)) text.now rest.now) }
+    ensures left { IfSome result (λ rest. 0 < length rest.now) }
 {
     canonical.keep_promise();
     let plain = plain_len(text);
