@@ -15,14 +15,14 @@ use Rattle.icu_normalizer_core.proofs.TableMeanings.{step_built_in, pair_syllabl
 use Rattle.icu_normalizer_core.proofs.BuiltInFacts.{syllable_pair, syllable_scalar, syllable_unsingled}
 
 -- where the entry stands that gives what two characters compose to
-record IsEntry (pairs : List ℕ) (a b c : ℕ) : Type 0 where
-  place : ℕ
-  inside : place < length pairs
-  first : pair_first (slice_index pairs place) ≡ a
-  second : pair_second (slice_index pairs place) ≡ b
-  composes : pair_composed (slice_index pairs place) ≡ c
+pub record IsEntry (pairs : List ℕ) (a b c : ℕ) : Type 0 where
+  pub place : ℕ
+  pub inside : place < length pairs
+  pub first : pair_first (slice_index pairs place) ≡ a
+  pub second : pair_second (slice_index pairs place) ≡ b
+  pub composes : pair_composed (slice_index pairs place) ≡ c
 
-listed_entry : (pairs : List ℕ) (a b c : ℕ) → listed_pair pairs a b ≡ Some c → IsEntry pairs a b c
+pub listed_entry : (pairs : List ℕ) (a b c : ℕ) → listed_pair pairs a b ≡ Some c → IsEntry pairs a b c
 unfolding listed_pair
 listed_entry [] a b c e = absurd (none-some c e)
 listed_entry (pair ∷ rest) a b c e =
@@ -48,7 +48,7 @@ listed_entry (pair ∷ rest) a b c e =
     (cases_Bool ((pair_first pair == a) && (pair_second pair == b)))
 
 -- two optional characters
-cases_option : (o : Option ℕ) → (o ≡ None) ⊎ ((c : ℕ) × (o ≡ Some c))
+pub cases_option : (o : Option ℕ) → (o ≡ None) ⊎ ((c : ℕ) × (o ≡ Some c))
 cases_option None = inl refl
 cases_option (Some c) = inr (c, refl)
 

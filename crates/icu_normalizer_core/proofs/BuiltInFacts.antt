@@ -253,6 +253,9 @@ pub record IsSyllablePair (a b c : ℕ) : Type 0 where
   pub syllable : is_syllable c ≡ true
   pub step : built_in_step c ≡ Some (a ∷ b ∷ [])
   pub second : 0x300 ≤ b
+  -- a vowel or a trailing consonant
+  pub from : 0x1161 ≤ b
+  pub to : b < 0x1200
 
 jamo_pair : (a b c : ℕ) → 0x1100 ≤ a → a ≤ 0x1112 → 0x1161 ≤ b → b ≤ 0x1175 → c ≡ 0xac00 + ((a - 0x1100) * 21 + (b - 0x1161)) * 28 → IsSyllablePair a b c
 jamo_pair a b c al ah bl bh e =
@@ -264,6 +267,8 @@ jamo_pair a b c al ah bl bh e =
       syllable = inside;
       step = step_open c inside (eq-eqb ((c - 0xac00) % 28) 0 even) ∙ ap (λ (l : ℕ). Some (l ∷ vowel (c - 0xac00) ∷ [])) first ∙ ap (λ (v : ℕ). Some (a ∷ v ∷ [])) second;
       second = omega arith;
+      from = omega arith;
+      to = omega arith;
     }
 
 long_pair : (a b c : ℕ) → 0xac00 ≤ a → a ≤ 0xd7a3 → (a - 0xac00) % 28 ≡ 0 → 0x11a8 ≤ b → b ≤ 0x11c2 → c ≡ a + (b - 0x11a7) → IsSyllablePair a b c
@@ -276,6 +281,8 @@ long_pair a b c al ah even bl bh e =
       syllable = inside;
       step = step_closed c inside (ne_eqb ((c - 0xac00) % 28) 0 odd) ∙ ap (λ (l : ℕ). Some (l ∷ (0x11a7 + (c - 0xac00) % 28) ∷ [])) first ∙ ap (λ (v : ℕ). Some (a ∷ v ∷ [])) second;
       second = omega arith;
+      from = omega arith;
+      to = omega arith;
     }
 
 pub syllable_pair : (a b c : ℕ) → syllable_of a b ≡ Some c → IsSyllablePair a b c

@@ -22,6 +22,7 @@ pub mod PairTestLemmas
 pub mod ScalarLemmas
 pub mod SettledLemmas
 pub mod SettlingLemmas
+pub mod SteadyLemmas
 pub mod TableComputing
 pub mod TableMeanings
 pub mod TextLemmas

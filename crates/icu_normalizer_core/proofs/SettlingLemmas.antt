@@ -210,7 +210,7 @@ pub open_starts : (steps : List ℕ) (settled : List (Option Left)) (count : ℕ
 open_starts steps settled count o e = record { count = o.length ∙ e; each = λ i left is free. absurd (o.none i left is) }
 
 -- a vector's items after a write through its slice
-pub vector_written : (n : ℕ) (new old : List (Option Left)) → length new ≡ length old → n ≡ length old → take n (new ++ drop (length new) old) ≡ new
+pub vector_written : {X : Type 0} (n : ℕ) (new old : List X) → length new ≡ length old → n ≡ length old → take n (new ++ drop (length new) old) ≡ new
 vector_written n new old e f =
     let g : n ≡ length new = omega arith in
     rw (g) (take-append_seam new (drop (length new) old))

@@ -1,4 +1,5 @@
 pub mod BorrowedMeaning
+pub mod Boundaries
 pub mod BuiltIn
 pub mod BuiltInTests
 pub mod BuiltMaps
@@ -26,4 +27,5 @@ pub mod PropertyMeanings
 pub mod Readings
 pub mod Sameness
 pub mod Settled
+pub mod SteadyAnswers
 pub mod Triples

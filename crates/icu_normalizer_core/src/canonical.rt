@@ -9,6 +9,7 @@ mod packing;
 mod pairs;
 mod reading;
 mod search;
+mod steady;
 mod steps;
 mod tables;
 mod words;

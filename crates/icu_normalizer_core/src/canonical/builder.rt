@@ -19,6 +19,7 @@ mod trie;
 mod words;
 
 use super::check::first_fault;
+use super::check::told::told;
 use super::data::CanonicalData;
 use super::tables::CanonicalTables;
 use std::alloc::{AllocError, Global};
@@ -144,7 +145,8 @@ impl CanonicalDataBuilder {
             Ok(tables) => tables,
             Err(error) => return Err(error),
         };
-        match first_fault(alloc, &tables)? {
+        let told = told(alloc, &tables)?;
+        match first_fault(alloc, &tables, &told)? {
             None => Ok(tables),
             Some(_) => Err(CanonicalDataBuildError::Rules),
         }
@@ -160,7 +162,10 @@ impl CanonicalDataBuilder {
         ensures refused { IfErr result (λ e. (e ≡ Memory) ⊎ ((e ≡ Rules) × (KeepRules self.now → ⊥))) }
     {
         match self.build(alloc) {
-            Ok(tables) => Ok(CanonicalData::of_accepted(tables)),
+            Ok(tables) => {
+                let data = CanonicalData::of_accepted(alloc, tables)?;
+                Ok(data)
+            }
             Err(error) => Err(error),
         }
     }

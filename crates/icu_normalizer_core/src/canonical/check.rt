@@ -3,6 +3,7 @@
 ghost use Rattle.std.specs.Prelude.{IfOk, MatchOption};
 ghost use Rattle.icu_normalizer_core.specs.CanonicalFaults.{IsAccepted, IsFirstFault};
 ghost use Rattle.icu_normalizer_core.specs.CanonicalMeaning.{lists_of};
+ghost use Rattle.icu_normalizer_core.specs.Plain.{Tells};
 
 mod built_in;
 mod characters;
@@ -15,7 +16,8 @@ mod marks;
 mod own;
 mod pairs;
 pub(super) mod settle;
-mod told;
+pub(super) mod steady;
+pub(super) mod told;
 mod values;
 
 use super::tables::{CanonicalFault, CanonicalTables};
@@ -26,31 +28,32 @@ use loops::first_loop;
 use pairs::first_bad_pair;
 use settle::settle;
 use std::alloc::{AllocError, Global};
-use told::told;
 use values::first_bad_value;
 
-/// What the tables are to be refused for, `None` where they pass every check. The only error is want of memory.
+/// What the tables are to be refused for, `None` where they pass every check; `told` is a list of the code points of
+/// which they say something (`told::told`). The only error is want of memory.
 pub(super) fn first_fault(
     alloc: Global,
     tables: &CanonicalTables<'_>,
+    told: &[u32],
 ) -> Result<Option<CanonicalFault>, AllocError>
+    requires { Tells (lists_of tables.now) told.now }
     ensures { IfOk result (λ fault. MatchOption fault (IsAccepted (lists_of tables.now)) (IsFirstFault (lists_of tables.now))) }
 {
-    let told = told(alloc, tables)?;
-    if let Some(c) = first_bad_value(tables, &told) {
+    if let Some(c) = first_bad_value(tables, told) {
         return Ok(Some(CanonicalFault::BadValue(c)));
     }
     if !are_triples(&tables.steps) {
         return Ok(Some(CanonicalFault::BadList('\0')));
     }
     let settled = settle(alloc, &tables.steps)?;
-    if let Some(c) = first_bad_list(tables, &settled, &told) {
+    if let Some(c) = first_bad_list(tables, &settled, told) {
         return Ok(Some(CanonicalFault::BadList(c)));
     }
     if let Some(c) = first_loop(tables, &settled) {
         return Ok(Some(CanonicalFault::Loop(c)));
     }
-    if let Some(c) = first_built_in_fault(tables, &told) {
+    if let Some(c) = first_built_in_fault(tables, told) {
         return Ok(Some(CanonicalFault::BuiltIn(c)));
     }
     if let Some(c) = first_bad_pair(tables) {

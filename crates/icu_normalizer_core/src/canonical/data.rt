@@ -1,16 +1,20 @@
 //! Canonical data: tables that were checked.
 
-ghost use Rattle.std.specs.Prelude.{◌≡◌, MatchResult};
+ghost use Rattle.std.specs.Prelude.{◌≡◌, MatchResult, IfOk, IsTrue};
 ghost use Rattle.icu_normalizer_core.specs.BorrowedMeaning.{borrowed_tables, borrowed_meaning};
+ghost use Rattle.icu_normalizer_core.specs.Boundaries.{IsSteady};
 ghost use Rattle.icu_normalizer_core.specs.Canonical.{IsCanonical};
 ghost use Rattle.icu_normalizer_core.specs.CanonicalFaults.{IsAccepted};
-ghost use Rattle.icu_normalizer_core.specs.CanonicalMeaning.{lists_of};
+ghost use Rattle.icu_normalizer_core.specs.CanonicalMeaning.{lists_of, meaning};
 ghost use Rattle.icu_normalizer_core.specs.CanonicalRefusals.{IsRefusal};
 
 use super::borrowed::CanonicalBorrowed;
 use super::check::first_fault;
+use super::check::steady::steady_characters;
+use super::check::told::told;
+use super::steady::SteadyCharacters;
 use super::tables::{CanonicalFault, CanonicalTables};
-use std::alloc::Global;
+use std::alloc::{AllocError, Global};
 use std::marker::Model;
 use thiserror::Error;
 
@@ -25,22 +29,35 @@ pub enum CanonicalDataError {
     Memory,
 }
 
+impl From<AllocError> for CanonicalDataError {
+    ghost use Rattle.std.specs.Prelude.{◌≡◌};
+    ghost use Rattle.icu_normalizer_core.specs.declared.canonical.data.CanonicalDataError.TheVariants.{Memory};
+
+    ghost from_gives = { λ _ error. error ≡ Memory };
+
+    fn from(_: AllocError) -> CanonicalDataError {
+        CanonicalDataError::Memory
+    }
+}
+
 /// Canonical data: tables that pass every check, seen as those tables.
 #[derive(Debug, Drop)]
 pub struct CanonicalData<'a> {
     tables: CanonicalTables<'a>,
+    steady: SteadyCharacters,
 }
 
 impl<'a> Model for CanonicalData<'a> {
     ghost use Rattle.icu_normalizer_core.specs.declared.canonical.tables.CanonicalTables.{CanonicalTables};
-    ghost use Rattle.icu_normalizer_core.specs.CanonicalMeaning.{lists_of};
+    ghost use Rattle.icu_normalizer_core.specs.CanonicalMeaning.{lists_of, meaning};
     ghost use Rattle.icu_normalizer_core.specs.CanonicalFaults.{IsAccepted};
+    ghost use Rattle.icu_normalizer_core.specs.SteadyAnswers.{AreSteady};
 
     ghost Value = { CanonicalTables };
 
     ghost view = { λ inside. inside.tables };
 
-    ghost invariant = { λ inside. IsAccepted (lists_of inside.tables) };
+    ghost invariant = { λ inside. IsAccepted (lists_of inside.tables) × AreSteady (meaning inside.tables) inside.steady.answers.items };
 }
 
 impl<'a> CanonicalData<'a> {
@@ -54,19 +71,27 @@ impl<'a> CanonicalData<'a> {
             (λ checked. (checked ≡ tables.entry) × IsAccepted (lists_of tables.entry))
             (IsRefusal (lists_of tables.entry)) }
     {
-        match first_fault(alloc, &tables) {
-            Ok(None) => Ok(CanonicalData { tables }),
-            Ok(Some(fault)) => Err(CanonicalDataError::Fault(fault)),
-            Err(_) => Err(CanonicalDataError::Memory),
+        let told = told(alloc, &tables)?;
+        match first_fault(alloc, &tables, &told)? {
+            None => {
+                let steady = steady_characters(alloc, &tables, &told)?;
+                Ok(CanonicalData { tables, steady })
+            }
+            Some(fault) => Err(CanonicalDataError::Fault(fault)),
         }
     }
 
-    /// Canonical data of tables that are known to pass every check.
-    pub(super) fn of_accepted(tables: CanonicalTables<'a>) -> CanonicalData<'a>
+    /// Canonical data of tables that are known to pass every check. The only error is want of memory.
+    pub(super) fn of_accepted(
+        alloc: Global,
+        tables: CanonicalTables<'a>,
+    ) -> Result<CanonicalData<'a>, AllocError>
         requires { IsAccepted (lists_of tables) }
-        ensures { result ≡ tables.entry }
+        ensures { IfOk result (λ made. made ≡ tables.entry) }
     {
-        CanonicalData { tables }
+        let told = told(alloc, &tables)?;
+        let steady = steady_characters(alloc, &tables, &told)?;
+        Ok(CanonicalData { tables, steady })
     }
 
     /// The data, borrowed.
@@ -85,5 +110,13 @@ impl<'a> CanonicalData<'a> {
         ensures accepted { IsAccepted (lists_of result.now) }
     {
         &self.tables
+    }
+
+    /// Whether a character is known to be steady.
+    #[inline]
+    pub(super) fn is_steady(&self, c: char) -> bool
+        ensures { IsTrue result → IsSteady (meaning self.now) c }
+    {
+        self.steady.contains(c)
     }
 }

@@ -62,7 +62,7 @@ fn composes_to(tables: &CanonicalTables<'_>, list: &[u32], c: u32) -> bool
 }
 
 /// Whether a character with a full list of at most eight is its own composed list.
-fn is_own(tables: &CanonicalTables<'_>, c: char) -> bool
+pub(super) fn is_own(tables: &CanonicalTables<'_>, c: char) -> bool
     requires pairs { ArePairs tables.now.pairs }
     requires short { length ((meaning tables.now).full c) ≤ 8 }
     ensures { IsTrue result ↔ (composed (meaning tables.now) (c ∷ []) ≡ c ∷ []) }

@@ -80,7 +80,7 @@ fn with_triples(
 }
 
 /// The code points that aren't plain, and those of the triples where these rise. The only error is want of memory.
-pub(super) fn told(alloc: Global, tables: &CanonicalTables<'_>) -> Result<Vec<u32>, AllocError>
+pub(crate) fn told(alloc: Global, tables: &CanonicalTables<'_>) -> Result<Vec<u32>, AllocError>
     ensures { IfOk result (λ told. Tells (lists_of tables.now) told.items) }
 {
     let start = plain_from(tables);
