@@ -4,7 +4,8 @@ use Rattle.std.proofs.lemmas.List.{append_cancel_left}
 use Rattle.std.proofs.lemmas.Str.{chars-append, chars-nil, encodes-append, encodes-chars, scalars-chars, length-encode, len_utf8_bounds}
 use lib.Utf8.{scalars}
 use Rattle.icu_normalizer_core.specs.Canonical.{Canonical, IsCanonical, composed}
-use Rattle.icu_normalizer.specs.Composing.{HasBoundaryBefore, IsComposedApart}
+use Rattle.icu_normalizer_core.specs.Boundaries.{HasBoundaryBefore}
+use Rattle.icu_normalizer.specs.Composing.{IsComposedApart}
 use Rattle.icu_normalizer.specs.FormCuts.{IsComposed, IsSkipped}
 use Rattle.icu_normalizer.specs.Sinks.{AddsPrefix}
 use Rattle.icu_normalizer.proofs.ComposedWalkLemmas.{composed_nothing}

@@ -6,7 +6,7 @@ use Rattle.std.proofs.lemmas.List.{append_cancel_left}
 use Rattle.std.proofs.lemmas.Str.{chars_past_char, encodes-append, encode_ascii, IsUtf8-append, IsUtf8-drop}
 use Rattle.icu_normalizer_core.specs.Canonical.{Canonical, IsCanonical, composing, recomposed, decomposed, composed, marks_in_order}
 use Rattle.icu_normalizer_core.proofs.DecomposedLemmas.{order_before, put_starter}
-use Rattle.icu_normalizer.specs.Composing.{BeginsApart, HasBoundaryBefore, IsSteady}
+use Rattle.icu_normalizer_core.specs.Boundaries.{HasBoundaryBefore, IsSteady}
 use Rattle.icu_normalizer.specs.FormCuts.{IsOwnForm, IsComposed, ReachesBelow, IsFormCut, IsSkipped}
 use Rattle.icu_normalizer.proofs.ComposedWalkLemmas.{composed_nothing}
 use Rattle.icu_normalizer.proofs.ComposingLemmas.{composing_end, composing_joined, composing_begun, composing_kept, composing_cases, composed_never, never_second, recomposed_nothing, recomposed_begun, recomposed_passed}
@@ -114,9 +114,6 @@ module _ (canonical : Canonical) (ok : IsCanonical canonical) where
   -- a character below U+00C0 is steady
   pub steady_low : (c : ℕ) → c < 0xc0 → IsSteady canonical c
   steady_low c low = ((c, [], full_low canonical c ok low, ok.composing.starters c (omega arith), never_second canonical c ok.composing.seconds (omega arith)), ok.composing.own c (omega arith))
-
-  pub boundary_low : (c : ℕ) → BeginsApart canonical c → HasBoundaryBefore canonical c
-  boundary_low c apart = (apart.0, apart.1, apart.2, ok.composing.starters apart.0 apart.3, never_second canonical apart.0 ok.composing.seconds apart.3)
 
   steady_plain : (c : ℕ) → c < 0x80 → IsSteady canonical c
   steady_plain c plain = steady_low c (omega arith)

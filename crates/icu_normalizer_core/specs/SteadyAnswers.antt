@@ -1,5 +1,5 @@
 -- Lists that answer yes or no for each code point from 0 on; past the end they don't answer yes.
-use Rattle.std.specs.Prelude.{◌≡◌, ◌≢◌, ℕ, ◌<◌, ◌≤◌, Bool, true, List, length, slice_index, slice_get, Some}
+use Rattle.std.specs.Prelude.{◌≡◌, ◌≢◌, ℕ, ◌<◌, ◌≤◌, Bool, true, List, length, slice_index, slice_get, Some, None}
 use Rattle.std.specs.Char.{IsScalar}
 use Rattle.icu_normalizer_core.specs.Boundaries.{IsSteady}
 use Rattle.icu_normalizer_core.specs.Canonical.{Canonical}
