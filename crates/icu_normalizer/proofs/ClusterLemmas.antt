@@ -1,10 +1,11 @@
 -- Texts in two parts that are composed alone.
 use Rattle.std.proofs.Common.{◌≡◌, ℕ, ◌-◌, ◌<◌, List, [], ◌∷◌, ◌++◌, length, length-append, take, drop, chars, encode_utf8, encode_utf8_all, IsUtf8, refl, sym, ap, ap₂, ◌∙◌, append_assoc, append-nil, arith}
 use Rattle.std.proofs.lemmas.List.{append_cancel_left}
-use Rattle.std.proofs.lemmas.Str.{chars-nil, encodes-append, encodes-chars, scalars-chars, length-encode, len_utf8_bounds}
+use Rattle.std.proofs.lemmas.Str.{chars-append, chars-nil, encodes-append, encodes-chars, scalars-chars, length-encode, len_utf8_bounds}
 use lib.Utf8.{scalars}
 use Rattle.icu_normalizer_core.specs.Canonical.{Canonical, IsCanonical, composed}
-use Rattle.icu_normalizer.specs.Composing.{BeginsApart}
+use Rattle.icu_normalizer_core.specs.Boundaries.{HasBoundaryBefore}
+use Rattle.icu_normalizer.specs.Composing.{IsComposedApart}
 use Rattle.icu_normalizer.specs.FormCuts.{IsComposed, IsSkipped}
 use Rattle.icu_normalizer.specs.Sinks.{AddsPrefix}
 use Rattle.icu_normalizer.proofs.ComposedWalkLemmas.{composed_nothing}
@@ -20,11 +21,6 @@ module _ (canonical : Canonical) where
 
   pub form_nothing : form_of [] ≡ []
   form_nothing = ap encode_utf8_all (ap (composed canonical) chars-nil ∙ composed_nothing canonical)
-
-  -- nothing is behind
-  pub alone_whole : (text a b : List ℕ) → a ≡ text → b ≡ [] → form_of text ≡ form_of a ++ form_of b
-  alone_whole text a b e f =
-      sym (ap₂ (λ x y. form_of x ++ form_of y) e f ∙ ap (λ l. form_of text ++ l) form_nothing ∙ append-nil (form_of text))
 
   pub stays_whole : (text a b : List ℕ) → IsUtf8 text → IsComposed canonical (chars text) → a ≡ text → b ≡ [] → form_of text ≡ a ++ form_of b
   stays_whole text a b u own e f =
@@ -48,16 +44,22 @@ module _ (canonical : Canonical) where
       ap encode_utf8_all is.alone ∙ encodes-append is.prefix (composed canonical (chars rest))
       ∙ sym (ap₂ (λ x y. x ++ form_of y) (cut_front text rest is.prefix is.bytes a front) (cut_back text rest is.prefix is.bytes b back))
 
-  -- a character that begins apart is ahead
-  pub alone_parts : IsCanonical canonical → (text ahead read : List ℕ) (c : ℕ) (left : List ℕ) → (is : IsRead text text ahead [] read) → IsUtf8 text → IsUtf8 ahead → chars ahead ≡ c ∷ left
-      → BeginsApart canonical c → (a b : List ℕ) → a ≡ take (length text - length ahead) text → b ≡ drop (length text - length ahead) text → form_of text ≡ form_of a ++ form_of b
-  alone_parts ok text ahead read c left is u v next apart a b front back =
-      let turned : IsRead text ahead ahead read [] = record { whole = is.part; part = refl } in
-      let readable = front_utf8 text ahead ahead read [] turned u v in
-      ap encode_utf8_all
-      (ap (composed canonical) (sym (text_chars text text ahead [] read is u v) ∙ ap (λ l. read ++ l) next) ∙ composed_parts canonical ok read c left apart)
-      ∙ encodes-append (composed canonical read) (composed canonical (c ∷ left))
-      ∙ sym (ap₂ (λ x y. encode_utf8_all (composed canonical x) ++ encode_utf8_all (composed canonical y)) (cut_chars text ahead read is.part a front readable) (ap chars (cut_back text ahead read is.part b back) ∙ next))
+  -- the two parts are composed apart
+  pub form_parts : (text a b : List ℕ) → IsUtf8 a → text ≡ a ++ b → IsComposedApart canonical (chars b) → form_of text ≡ form_of a ++ form_of b
+  form_parts text a b u whole apart =
+      ap encode_utf8_all (ap (composed canonical) (ap chars whole ∙ chars-append a b u) ∙ apart (chars a)) ∙ encodes-append (composed canonical (chars a)) (composed canonical (chars b))
+
+  -- nothing is behind
+  pub apart_nothing : (b : List ℕ) → b ≡ [] → IsComposedApart canonical (chars b)
+  apart_nothing b none xs =
+      let empty = ap chars none ∙ chars-nil in
+      ap (λ l. composed canonical (xs ++ l)) empty ∙ ap (composed canonical) (append-nil xs) ∙ sym (append-nil (composed canonical xs))
+      ∙ ap (λ l. composed canonical xs ++ l) (sym (composed_nothing canonical) ∙ ap (composed canonical) (sym empty))
+
+  -- a character that has a boundary before it is first
+  pub apart_first : IsCanonical canonical → (b : List ℕ) (c : ℕ) (left : List ℕ) → chars b ≡ c ∷ left → HasBoundaryBefore canonical c → IsComposedApart canonical (chars b)
+  apart_first ok b c left next boundary xs =
+      ap (λ l. composed canonical (xs ++ l)) next ∙ composed_parts canonical ok xs c left boundary ∙ ap (λ l. composed canonical xs ++ composed canonical l) (sym next)
 
 -- what is ahead behind a character is shorter
 pub shorter_past : (ahead next : List ℕ) (c : ℕ) → ahead ≡ encode_utf8 c ++ next → length next < length ahead

@@ -4,7 +4,7 @@ use Rattle.std.proofs.lemmas.Bool.{cases_lt, and_parts, ltb-true}
 use Rattle.std.specs.List.{list_all}
 use Rattle.icu_normalizer_core.specs.Canonical.{Canonical, composing, recomposed}
 use Rattle.icu_normalizer.specs.Composing.{composed_with}
-use Rattle.icu_normalizer.proofs.ComposingLemmas.{composing_end, composing_cases, recomposed_begun, recomposed_passed, seen_over}
+use Rattle.icu_normalizer.proofs.ComposingLemmas.{composing_end, composing_cases, recomposed_nothing, recomposed_begun, recomposed_passed, seen_over}
 
 abbrev pub total : (ℕ → ℕ) → List ℕ → ℕ
 total weight [] = 0
@@ -46,6 +46,23 @@ module _ (canonical : Canonical) (weight : ℕ → ℕ) (positive : (c : ℕ) �
       (λ z joins. let now = heavier z ms cs in let sum : weight z ≡ weight s + weight c = adds s c z (seen_over _ _ z joins).1 in (now.0, now.1, now.2, omega (arith, now.3, sum)))
       (λ none starter. (s, ms ++ composing canonical c [] cs, refl, omega arith))
       (λ none mark. heavier s (ms ++ c ∷ []) cs)
+
+  -- composing keeps the weight
+  total_composing : (s : ℕ) (ms cs : List ℕ) → total weight (composing canonical s ms cs) ≡ weight s + total weight ms + total weight cs
+  total_composing s ms [] = ap (total weight) (composing_end canonical s ms) ∙ omega arith
+  total_composing s ms (c ∷ cs) =
+      composing_cases canonical s ms c cs (λ l. total weight l ≡ weight s + total weight ms + (weight c + total weight cs))
+      (λ z joins. let sum : weight z ≡ weight s + weight c = adds s c z (seen_over _ _ z joins).1 in let behind = total_composing z ms cs in omega (arith, behind, sum))
+      (λ none starter. let whole = total_append weight (s ∷ ms) (composing canonical c [] cs) in let behind = total_composing c [] cs in omega (arith, whole, behind))
+      (λ none mark. let more = total_append weight ms (c ∷ []) in let behind = total_composing s (ms ++ c ∷ []) cs in omega (arith, behind, more))
+
+  pub total_recomposed : (cs : List ℕ) → total weight (recomposed canonical cs) ≡ total weight cs
+  total_recomposed [] = ap (total weight) (recomposed_nothing canonical)
+  total_recomposed (c ∷ cs) =
+      elim (cases_lt 0 (canonical.class c)) [
+        | inl mark ↦ let behind = total_recomposed cs in ap (total weight) (recomposed_passed canonical c cs mark) ∙ omega (arith, behind)
+        | inr first ↦ let behind = total_composing c [] cs in ap (total weight) (recomposed_begun canonical c cs first) ∙ omega (arith, behind)
+      ]
 
   -- nothing is seen over by a starter
   seen_by_starter : (ms : List ℕ) (d : ℕ) → canonical.class d ≡ 0 → list_all (λ m. ltb (canonical.class m) (canonical.class d)) ms ≡ true → ms ≡ []

@@ -95,10 +95,14 @@ pub AreUpTo-push : (class : ℕ → ℕ) (ms : List ℕ) (highest c : ℕ) → A
 AreUpTo-push class ms highest c up mark n =
     list_all-append (λ m. ltb (class m) n) ms (c ∷ []) ∙ ap (λ b. b && (ltb (class c) n && true)) (up n) ∙ higher highest (class c) n mark
 
--- a character below U+0300 composes with none before it
-pub composed_low : (canonical : Canonical) (s : ℕ) (ms : List ℕ) (c : ℕ) → ((a b z : ℕ) → canonical.pair a b ≡ Some z → 0x300 ≤ b) → c < 0x300 → composed_with canonical s ms c ≡ None
-composed_low canonical s ms c seconds low =
-    elim (cases_option (composed_with canonical s ms c)) [
+-- a character below U+0300 is no pair's second
+pub never_second : (canonical : Canonical) (d : ℕ) → ((a b c : ℕ) → canonical.pair a b ≡ Some c → 0x300 ≤ b) → d < 0x300 → (a : ℕ) → canonical.pair a d ≡ None
+never_second canonical d seconds low a =
+    elim (cases_option (canonical.pair a d)) [
       | inl none ↦ none
-      | inr some ↦ let h : 0x300 ≤ c = seconds s c some.0 (seen_over _ _ some.0 some.1).1 in absurd (omega (arith, h, low))
+      | inr some ↦ let h : 0x300 ≤ d = seconds a d some.0 some.1 in absurd (omega (arith, h, low))
     ]
+
+-- so it composes with none before it
+pub composed_low : (canonical : Canonical) (s : ℕ) (ms : List ℕ) (c : ℕ) → ((a b z : ℕ) → canonical.pair a b ≡ Some z → 0x300 ≤ b) → c < 0x300 → composed_with canonical s ms c ≡ None
+composed_low canonical s ms c seconds low = composed_never canonical s ms c (never_second canonical c seconds low s)

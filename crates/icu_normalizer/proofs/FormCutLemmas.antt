@@ -7,7 +7,7 @@ use Rattle.icu_normalizer.specs.FormCuts.{IsOwnForm, ReachesBelow, IsFormCut}
 
 -- where a text was cut
 module _ (text rest prefix : List ℕ) (bytes : text ≡ encode_utf8_all prefix ++ rest) where
-  cut_place : length (encode_utf8_all prefix) ≡ length text - length rest
+  pub cut_place : length (encode_utf8_all prefix) ≡ length text - length rest
   cut_place = omega (arith, ap length bytes, length-append (encode_utf8_all prefix) rest)
 
   pub cut_boundary : IsUtf8 rest → IsCharBoundary text (length text - length rest)

@@ -1,3 +1,4 @@
+pub mod ClusterCutLemmas
 pub mod ClusterLemmas
 pub mod ComposedCutLemmas
 pub mod ComposedWalkLemmas
@@ -8,7 +9,6 @@ pub mod CutLemmas
 pub mod equivalence
 pub mod FormCutLemmas
 pub mod IterLemmas
-pub mod OwnLemmas
 pub mod RunLemmas
 pub mod SinkLemmas
 pub mod SkipLemmas

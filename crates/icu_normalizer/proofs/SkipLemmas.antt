@@ -1,41 +1,41 @@
 -- Passing over the front of a text that stays as it stands.
-use Rattle.std.proofs.Common.{◌≡◌, ℕ, zero, suc, ◌-◌, get_or, take, drop, drop-cons, take-append-drop, ap₂, ◌<◌, ◌≤◌, ◌⊎◌, inl, inr, ⊎_elim, List, [], ◌∷◌, ◌++◌, length, length-append, flat_map, chars, encode_utf8, encode_utf8_all, IsUtf8, Some, refl, sym, ap, subst, ◌∙◌, arith, append_assoc, append-nil}
+use Rattle.std.proofs.Common.{◌≡◌, ℕ, zero, suc, ◌-◌, get_or, take, drop, drop-cons, take-append-drop, ap₂, ◌<◌, ◌≤◌, ◌⊎◌, inl, inr, ⊎_elim, List, [], ◌∷◌, ◌++◌, length, length-append, flat_map, chars, encode_utf8, encode_utf8_all, IsUtf8, None, refl, sym, ap, subst, ◌∙◌, arith, append_assoc, append-nil}
 use Rattle.std.proofs.lemmas.Bool.{cases_lt}
 use Rattle.std.proofs.lemmas.Grind.{flat_map-append}
 use Rattle.std.proofs.lemmas.List.{append_cancel_left}
 use Rattle.std.proofs.lemmas.Str.{chars_past_char, encodes-append, encode_ascii, IsUtf8-append, IsUtf8-drop}
 use Rattle.icu_normalizer_core.specs.Canonical.{Canonical, IsCanonical, composing, recomposed, decomposed, composed, marks_in_order}
 use Rattle.icu_normalizer_core.proofs.DecomposedLemmas.{order_before, put_starter}
-use Rattle.icu_normalizer.specs.Composing.{BeginsApart, IsApart}
+use Rattle.icu_normalizer_core.specs.Boundaries.{HasBoundaryBefore, IsSteady}
 use Rattle.icu_normalizer.specs.FormCuts.{IsOwnForm, IsComposed, ReachesBelow, IsFormCut, IsSkipped}
 use Rattle.icu_normalizer.proofs.ComposedWalkLemmas.{composed_nothing}
-use Rattle.icu_normalizer.proofs.ComposingLemmas.{composing_end, composing_joined, composing_begun, composing_kept, composing_cases, composed_low, recomposed_nothing, recomposed_begun, recomposed_passed}
+use Rattle.icu_normalizer.proofs.ComposingLemmas.{composing_end, composing_joined, composing_begun, composing_kept, composing_cases, composed_never, never_second, recomposed_nothing, recomposed_begun, recomposed_passed}
 use Rattle.icu_normalizer.proofs.CutLemmas.{IsRead, ArePlain, are_plain, plain_bytes, plain_boundary, one_char, text_chars, front_utf8, rest_chars, read_starter}
 use Rattle.icu_normalizer.proofs.StepLemmas.{full_low}
 
--- ---- a starter below U+0300 composes with nothing before it
+-- ---- a starter that is no pair's second composes with nothing before it
 
-module _ (canonical : Canonical) (seconds : (a b c : ℕ) → canonical.pair a b ≡ Some c → 0x300 ≤ b) where
-  composing_apart : (s : ℕ) (ms xs : List ℕ) (d : ℕ) (ys : List ℕ) → canonical.class d ≤ 0 → d < 0x300 → composing canonical s ms (xs ++ d ∷ ys) ≡ composing canonical s ms xs ++ composing canonical d [] ys
-  composing_apart s ms [] d ys starter low =
-      composing_begun canonical s ms d ys (composed_low canonical s ms d seconds low) starter ∙ ap (λ l. l ++ composing canonical d [] ys) (sym (composing_end canonical s ms))
-  composing_apart s ms (c ∷ cs) d ys starter low =
+module _ (canonical : Canonical) where
+  composing_apart : (s : ℕ) (ms xs : List ℕ) (d : ℕ) (ys : List ℕ) → canonical.class d ≤ 0 → ((a : ℕ) → canonical.pair a d ≡ None) → composing canonical s ms (xs ++ d ∷ ys) ≡ composing canonical s ms xs ++ composing canonical d [] ys
+  composing_apart s ms [] d ys starter never =
+      composing_begun canonical s ms d ys (composed_never canonical s ms d (never s)) starter ∙ ap (λ l. l ++ composing canonical d [] ys) (sym (composing_end canonical s ms))
+  composing_apart s ms (c ∷ cs) d ys starter never =
       composing_cases canonical s ms c cs (λ l. composing canonical s ms (c ∷ (cs ++ d ∷ ys)) ≡ l ++ composing canonical d [] ys)
-      (λ z joins. composing_joined canonical s ms c z (cs ++ d ∷ ys) joins ∙ composing_apart z ms cs d ys starter low)
+      (λ z joins. composing_joined canonical s ms c z (cs ++ d ∷ ys) joins ∙ composing_apart z ms cs d ys starter never)
       (λ none first.
-      composing_begun canonical s ms c (cs ++ d ∷ ys) none first ∙ ap (λ l. (s ∷ ms) ++ l) (composing_apart c [] cs d ys starter low)
+      composing_begun canonical s ms c (cs ++ d ∷ ys) none first ∙ ap (λ l. (s ∷ ms) ++ l) (composing_apart c [] cs d ys starter never)
       ∙ sym (append_assoc (s ∷ ms) (composing canonical c [] cs) (composing canonical d [] ys)))
-      (λ none mark. composing_kept canonical s ms c (cs ++ d ∷ ys) none mark ∙ composing_apart s (ms ++ c ∷ []) cs d ys starter low)
+      (λ none mark. composing_kept canonical s ms c (cs ++ d ∷ ys) none mark ∙ composing_apart s (ms ++ c ∷ []) cs d ys starter never)
 
-  recomposed_apart : (xs : List ℕ) (d : ℕ) (ys : List ℕ) → canonical.class d ≤ 0 → d < 0x300 → recomposed canonical (xs ++ d ∷ ys) ≡ recomposed canonical xs ++ recomposed canonical (d ∷ ys)
-  recomposed_apart [] d ys starter low = ap (λ l. l ++ recomposed canonical (d ∷ ys)) (sym (recomposed_nothing canonical))
-  recomposed_apart (c ∷ cs) d ys starter low =
+  recomposed_apart : (xs : List ℕ) (d : ℕ) (ys : List ℕ) → canonical.class d ≤ 0 → ((a : ℕ) → canonical.pair a d ≡ None) → recomposed canonical (xs ++ d ∷ ys) ≡ recomposed canonical xs ++ recomposed canonical (d ∷ ys)
+  recomposed_apart [] d ys starter never = ap (λ l. l ++ recomposed canonical (d ∷ ys)) (sym (recomposed_nothing canonical))
+  recomposed_apart (c ∷ cs) d ys starter never =
       ⊎_elim
       (λ mark.
-      recomposed_passed canonical c (cs ++ d ∷ ys) mark ∙ ap (λ l. c ∷ l) (recomposed_apart cs d ys starter low)
+      recomposed_passed canonical c (cs ++ d ∷ ys) mark ∙ ap (λ l. c ∷ l) (recomposed_apart cs d ys starter never)
       ∙ ap (λ l. l ++ recomposed canonical (d ∷ ys)) (sym (recomposed_passed canonical c cs mark)))
       (λ first.
-      recomposed_begun canonical c (cs ++ d ∷ ys) first ∙ composing_apart c [] cs d ys starter low
+      recomposed_begun canonical c (cs ++ d ∷ ys) first ∙ composing_apart c [] cs d ys starter never
       ∙ ap (λ l. composing canonical c [] cs ++ l) (sym (recomposed_begun canonical d ys starter))
       ∙ ap (λ l. l ++ recomposed canonical (d ∷ ys)) (sym (recomposed_begun canonical c cs first)))
       (cases_lt 0 (canonical.class c))
@@ -47,12 +47,12 @@ pub record IsSkipping (canonical : Canonical) (text rest ahead front back : List
   pub last : (back ≡ []) ⊎ ((b : ℕ) × (back ≡ b ∷ []) × (composed canonical (b ∷ []) ≡ b ∷ []))
 
 module _ (canonical : Canonical) (ok : IsCanonical canonical) where
-  -- a text is composed in two parts before a character that begins apart
-  pub composed_parts : (xs : List ℕ) (c : ℕ) (ys : List ℕ) → BeginsApart canonical c → composed canonical (xs ++ c ∷ ys) ≡ composed canonical xs ++ composed canonical (c ∷ ys)
+  -- a text is composed in two parts before a character that has a boundary before it
+  pub composed_parts : (xs : List ℕ) (c : ℕ) (ys : List ℕ) → HasBoundaryBefore canonical c → composed canonical (xs ++ c ∷ ys) ≡ composed canonical xs ++ composed canonical (c ∷ ys)
   unfolding composed decomposed marks_in_order
   composed_parts xs c ys apart =
       let d = apart.0 in
-      let starter : canonical.class d ≡ 0 = ok.composing.starters d apart.3 in
+      let starter = apart.3 in
       let behind = apart.1 ++ flat_map canonical.full ys in
       let front = flat_map canonical.full xs in
       let list : flat_map canonical.full (c ∷ ys) ≡ d ∷ behind = ap (λ l. l ++ flat_map canonical.full ys) apart.2 in
@@ -62,11 +62,11 @@ module _ (canonical : Canonical) (ok : IsCanonical canonical) where
       let alone : decomposed canonical (c ∷ ys) ≡ d ∷ marks_in_order canonical.class behind =
       ap (marks_in_order canonical.class) list ∙ put_starter canonical.class d (marks_in_order canonical.class behind) starter in
       ap (recomposed canonical) whole
-      ∙ recomposed_apart canonical ok.composing.seconds (marks_in_order canonical.class front) d (marks_in_order canonical.class behind) (omega (arith, starter)) apart.3
+      ∙ recomposed_apart canonical (marks_in_order canonical.class front) d (marks_in_order canonical.class behind) (omega (arith, starter)) apart.4
       ∙ ap (λ l. recomposed canonical (marks_in_order canonical.class front) ++ recomposed canonical l) (sym alone)
 
   -- before such a character one that is its own composed list stays as it stands
-  composed_passed : (b c : ℕ) (ys : List ℕ) → composed canonical (b ∷ []) ≡ b ∷ [] → BeginsApart canonical c → composed canonical (b ∷ c ∷ ys) ≡ b ∷ composed canonical (c ∷ ys)
+  composed_passed : (b c : ℕ) (ys : List ℕ) → composed canonical (b ∷ []) ≡ b ∷ [] → HasBoundaryBefore canonical c → composed canonical (b ∷ c ∷ ys) ≡ b ∷ composed canonical (c ∷ ys)
   composed_passed b c ys own apart = composed_parts (b ∷ []) c ys apart ∙ ap (λ l. l ++ composed canonical (c ∷ ys)) own
 
   -- ---- passing over
@@ -74,7 +74,7 @@ module _ (canonical : Canonical) (ok : IsCanonical canonical) where
   pub skipping_none : (text ahead : List ℕ) → ahead ≡ text → IsSkipping canonical text text ahead [] []
   skipping_none text ahead e = record { read = record { whole = refl; part = sym e }; alone = ap (λ l. composed canonical (chars l)) (sym e); last = inl refl }
 
-  passed_last : (back ys : List ℕ) (c : ℕ) → (back ≡ []) ⊎ ((b : ℕ) × (back ≡ b ∷ []) × (composed canonical (b ∷ []) ≡ b ∷ [])) → BeginsApart canonical c → composed canonical (back ++ c ∷ ys) ≡ back ++ composed canonical (c ∷ ys)
+  passed_last : (back ys : List ℕ) (c : ℕ) → (back ≡ []) ⊎ ((b : ℕ) × (back ≡ b ∷ []) × (composed canonical (b ∷ []) ≡ b ∷ [])) → HasBoundaryBefore canonical c → composed canonical (back ++ c ∷ ys) ≡ back ++ composed canonical (c ∷ ys)
   passed_last back ys c (inl none) apart = ap (λ l. composed canonical (l ++ c ∷ ys)) none ∙ ap (λ l. l ++ composed canonical (c ∷ ys)) (sym none)
   passed_last back ys c (inr some) apart =
       ap (λ l. composed canonical (l ++ c ∷ ys)) some.1 ∙ composed_passed some.0 c ys some.2 apart ∙ ap (λ l. l ++ composed canonical (c ∷ ys)) (sym some.1)
@@ -83,7 +83,7 @@ module _ (canonical : Canonical) (ok : IsCanonical canonical) where
   own_last back (inl none) = ap (composed canonical) none ∙ composed_nothing canonical ∙ sym none
   own_last back (inr some) = ap (composed canonical) some.1 ∙ some.2 ∙ sym some.1
 
-  pub skipping_more : (text rest ahead next front back : List ℕ) (c : ℕ) → IsSkipping canonical text rest ahead front back → IsUtf8 ahead → ahead ≡ encode_utf8 c ++ next → IsApart canonical c → IsSkipping canonical text ahead next (front ++ back) (c ∷ [])
+  pub skipping_more : (text rest ahead next front back : List ℕ) (c : ℕ) → IsSkipping canonical text rest ahead front back → IsUtf8 ahead → ahead ≡ encode_utf8 c ++ next → IsSteady canonical c → IsSkipping canonical text ahead next (front ++ back) (c ∷ [])
   skipping_more text rest ahead next front back c is v e apart = record {
     read = read_starter text rest ahead next front back c is.read e;
     alone =
@@ -111,17 +111,18 @@ module _ (canonical : Canonical) (ok : IsCanonical canonical) where
 -- ---- ASCII at the start
 
 module _ (canonical : Canonical) (ok : IsCanonical canonical) where
-  apart_plain : (c : ℕ) → c < 0x80 → BeginsApart canonical c
-  apart_plain c plain = (c, [], full_low canonical c ok (omega arith), omega arith)
+  -- a character below U+00C0 is steady
+  pub steady_low : (c : ℕ) → c < 0xc0 → IsSteady canonical c
+  steady_low c low = ((c, [], full_low canonical c ok low, ok.composing.starters c (omega arith), never_second canonical c ok.composing.seconds (omega arith)), ok.composing.own c (omega arith))
 
-  own_plain : (c : ℕ) → c < 0x80 → composed canonical (c ∷ []) ≡ c ∷ []
-  own_plain c plain = ok.composing.own c (omega arith)
+  steady_plain : (c : ℕ) → c < 0x80 → IsSteady canonical c
+  steady_plain c plain = steady_low c (omega arith)
 
   plain_passed : (front : List ℕ) (x : ℕ) (ys : List ℕ) → ArePlain front → x < 0x80 → composed canonical (front ++ x ∷ ys) ≡ front ++ composed canonical (x ∷ ys)
   plain_passed [] x ys plain last = refl
-  plain_passed (c ∷ []) x ys plain last = composed_passed canonical ok c x ys (own_plain c plain.0) (apart_plain x last)
+  plain_passed (c ∷ []) x ys plain last = composed_passed canonical ok c x ys (steady_plain c plain.0).1 (steady_plain x last).0
   plain_passed (c ∷ d ∷ cs) x ys plain last =
-      composed_passed canonical ok c d (cs ++ x ∷ ys) (own_plain c plain.0) (apart_plain d plain.1.0) ∙ ap (λ l. c ∷ l) (plain_passed (d ∷ cs) x ys plain.1 last)
+      composed_passed canonical ok c d (cs ++ x ∷ ys) (steady_plain c plain.0).1 (steady_plain d plain.1.0).0 ∙ ap (λ l. c ∷ l) (plain_passed (d ∷ cs) x ys plain.1 last)
 
   pub skipping_begun : (text rest ahead : List ℕ) (n : ℕ) → IsUtf8 text → n ≤ length text → ((k : ℕ) → k < n → get_or text k 0 < 0x80) → rest ≡ drop (n - 1) text → ahead ≡ drop n text
       → (front : List ℕ) × (back : List ℕ) × IsSkipping canonical text rest ahead front back
@@ -143,13 +144,13 @@ module _ (canonical : Canonical) (ok : IsCanonical canonical) where
         record {
           read = read;
           alone = ap (composed canonical) (sym (text_chars text rest ahead (take m text) (x ∷ []) read u v)) ∙ plain_passed (take m text) x (chars ahead) front last;
-          last = inr (x, refl, own_plain x last);
+          last = inr (x, refl, (steady_plain x last).1);
         },
       )
 
 -- ---- what is found of the rest is found of the text
 
-split_front : (front xs agreed ys : List ℕ) → front ++ xs ≡ agreed ++ ys → length front ≤ length agreed → (more : List ℕ) × (agreed ≡ front ++ more)
+pub split_front : (front xs agreed ys : List ℕ) → front ++ xs ≡ agreed ++ ys → length front ≤ length agreed → (more : List ℕ) × (agreed ≡ front ++ more)
 split_front [] xs agreed ys e le = (agreed, refl)
 split_front (f ∷ front) xs [] ys e le = absurd (omega (arith, le))
 split_front (f ∷ front) xs (a ∷ agreed) ys e le =

@@ -10,7 +10,7 @@ use lib.Utf8.{low_scalar}
 use Rattle.icu_normalizer_core.specs.BuiltIn.{built_in_step, singled_out}
 use Rattle.icu_normalizer_core.specs.Canonical.{Canonical, IsCanonical, Leaves, put_in_order, marks_in_order, decomposed, recomposed, composed}
 use Rattle.icu_normalizer_core.proofs.DecomposedLemmas.{AreScalar, AreUnmapped, left_one, left_mapped, left_full, order_before, put_starter, decomposed_unmapped, decomposed_scalars}
-use Rattle.icu_normalizer.proofs.ComposedCutLemmas.{total, cut_recomposed}
+use Rattle.icu_normalizer.proofs.ComposedCutLemmas.{total, total_recomposed, cut_recomposed}
 
 -- what steps leave of something is something
 left_some : (step : ℕ → List ℕ) (xs ns : List ℕ) → Leaves step xs ns → 1 ≤ length xs → 1 ≤ length ns
@@ -39,7 +39,7 @@ module _ (canonical : Canonical) (ok : IsCanonical canonical) where
   pub weight : ℕ → ℕ
   weight c = max 1 (length (canonical.full c))
 
-  weighs : (c : ℕ) → 0 < weight c
+  pub weighs : (c : ℕ) → 0 < weight c
   unfolding weight
   weighs c = omega arith
 
@@ -83,6 +83,10 @@ module _ (canonical : Canonical) (ok : IsCanonical canonical) where
   total_decomposed cs s =
       total_unmapped (decomposed canonical cs) (decomposed_scalars canonical cs ok.decomposing s) (decomposed_unmapped canonical cs ok.decomposing (All-from_recursion IsScalar cs s))
       ∙ length_order canonical.class (flat_map canonical.full cs) ∙ sym (total_full cs s)
+
+  pub total_composed : (cs : List ℕ) → AreScalar cs → total weight (composed canonical cs) ≡ total weight cs
+  unfolding composed
+  total_composed cs s = total_recomposed canonical weight weighs adds (decomposed canonical cs) ∙ total_decomposed cs s
 
   free_low : (c : ℕ) → c < 0x300 → built_in_step c ≡ None
   unfolding built_in_step singled_out

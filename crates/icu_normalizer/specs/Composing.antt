@@ -1,5 +1,5 @@
 -- Composing a starter with what stands behind it.
-use Rattle.std.specs.Prelude.{◌≡◌, ℕ, ◌<◌, ◌≤◌, ◌==◌, ◌||◌, ltb, cond, List, [], ◌∷◌, Option, Some, None}
+use Rattle.std.specs.Prelude.{◌≡◌, ℕ, ◌<◌, ◌≤◌, ◌==◌, ◌||◌, ltb, cond, List, [], ◌∷◌, ◌++◌, Option, Some, None}
 use Rattle.std.specs.List.{list_all}
 use Rattle.icu_normalizer_core.specs.Canonical.{Canonical, composed}
 
@@ -18,10 +18,6 @@ IsComposable canonical =
     ((a b c : ℕ) → canonical.pair a b ≡ Some c → 0x300 ≤ b)
     × ((c : ℕ) → c < 0x300 → canonical.class c ≡ 0)
 
--- the first of the character's full list is below U+0300: it composes with nothing before it
-abbrev pub BeginsApart : Canonical → ℕ → Type 0
-BeginsApart canonical c = (d : ℕ) × (ds : List ℕ) × (canonical.full c ≡ d ∷ ds) × (d < 0x300)
-
--- such a character that is its own composed list
-abbrev pub IsApart : Canonical → ℕ → Type 0
-IsApart canonical c = BeginsApart canonical c × (composed canonical (c ∷ []) ≡ c ∷ [])
+-- a text before these characters is composed apart from them
+abbrev pub IsComposedApart : Canonical → List ℕ → Type 0
+IsComposedApart canonical ys = (xs : List ℕ) → composed canonical (xs ++ ys) ≡ composed canonical xs ++ composed canonical ys

@@ -3,17 +3,20 @@
 ghost use Rattle.std.specs.Prelude.{◌≡◌, ◌<◌, ◌≤◌, ◌++◌, length, chars, encode_utf8_all};
 ghost use Rattle.icu_normalizer_core.specs.BorrowedMeaning.{borrowed_meaning};
 ghost use Rattle.icu_normalizer_core.specs.Canonical.{composed};
+ghost use Rattle.icu_normalizer.specs.Composing.{IsComposedApart};
 
-use super::low::{begins_apart, skip_low};
+use super::low::{is_steady, skip_low};
 use icu_normalizer_core::canonical::CanonicalBorrowed;
 
-/// A text in two parts that are composed alone. The second is shorter than the text. It takes no memory.
+/// A text in two parts that are composed alone: the first is its first character and those behind it up to the next
+/// steady one. It takes no memory.
 pub(super) fn first_cluster<'t>(
     canonical: CanonicalBorrowed<'_>,
     text: &'t str,
 ) -> (&'t str, &'t str)
     requires { 0 < length text.now }
-    ensures alone { encode_utf8_all (composed (borrowed_meaning canonical.entry) (chars text.now)) ≡ encode_utf8_all (composed (borrowed_meaning canonical.entry) (chars result.0.now)) ++ encode_utf8_all (composed (borrowed_meaning canonical.entry) (chars result.1.now)) }
+    ensures whole { text.now ≡ result.0.now ++ result.1.now }
+    ensures apart { IsComposedApart (borrowed_meaning canonical.entry) (chars result.1.now) }
     ensures shorter { length result.1.now < length text.now }
 {
     canonical.keep_promise();
@@ -26,7 +29,7 @@ pub(super) fn first_cluster<'t>(
         let Some(c) = chars.next() else {
             return text.split_at(text.len());
         };
-        if begins_apart(canonical, c) {
+        if is_steady(canonical, c) {
             return text.split_at(text.len() - rest.len());
         }
     }

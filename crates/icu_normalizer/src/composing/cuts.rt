@@ -6,6 +6,7 @@ ghost use Rattle.icu_normalizer_core.specs.Canonical.{composed};
 ghost use Rattle.icu_normalizer.specs.FormCuts.{IsComposed, IsFormCut};
 
 use super::Composition;
+use super::clusters::first_cluster;
 use super::low::skip_low;
 use icu_normalizer_core::canonical::CanonicalBorrowed;
 use std::alloc::{AllocError, Global};
@@ -19,14 +20,18 @@ pub(super) fn rest_to_change<'t>(
 ) -> Result<Option<&'t str>, AllocError>
     ensures { IfOk result (λ out. MatchOption out (IsComposed (borrowed_meaning canonical.entry) (chars text.now)) (λ rest. IsFormCut (composed (borrowed_meaning canonical.entry)) 0x300 text.now rest.now)) }
 {
-    let Some(left) = skip_low(canonical, text) else {
-        return Ok(None);
-    };
-    match rest_to_compose(alloc, canonical, left) {
-        Ok(None) => Ok(None),
-        Ok(Some(rest)) => Ok(Some(rest)),
-        Err(error) => Err(error),
+    canonical.keep_promise();
+    let mut left = text;
+    while let Some(rest) = skip_low(canonical, left) {
+        let (cluster, behind) = first_cluster(canonical, rest);
+        match rest_to_compose(alloc, canonical, cluster) {
+            Ok(None) => {}
+            Ok(Some(cut)) => return Ok(Some(&rest[cluster.len() - cut.len()..])),
+            Err(error) => return Err(error),
+        }
+        left = behind;
     }
+    Ok(None)
 }
 
 /// The same, character by character.

@@ -24,8 +24,8 @@ fact_in-rest c =
     let now = c.chars.invariant in
     rest_utf8 _ _ _ now.0 now.1 now.2.read c.utf8.text (subst IsUtf8 c.as_str-here.ensures c.as_str-here.utf8)
 
-pub returns-then-not-is_apart-clause-some : goal.returns-then-not-is_apart-clause-some
-returns-then-not-is_apart-clause-some c =
+pub returns-then-not-is_steady-clause-some : goal.returns-then-not-is_steady-clause-some
+returns-then-not-is_steady-clause-some c =
     let now = c.chars.invariant in
     skipped_rest _ c.keep_promise.ensures _ _ _ now.0 now.1 now.2 c.utf8.text (subst IsUtf8 c.as_str-here.ensures c.as_str-here.utf8)
 
@@ -36,5 +36,5 @@ chars-preserved c =
       now.0 ++ now.1,
       c.in-Some.c ∷ [],
       subst (λ (r : List ℕ). IsSkipping (borrowed_meaning c.args.canonical) c.args.text.now r (chars_rest c.next.new.self) (now.0 ++ now.1) (c.in-Some.c ∷ [])) (sym c.as_str-here.ensures)
-          (skipping_more _ c.keep_promise.ensures _ _ _ _ now.0 now.1 c.in-Some.c now.2 ahead c.in-Some.ensures.steps.0 (c.is_apart.ensures c.if-not-is_apart.false)),
+          (skipping_more _ c.keep_promise.ensures _ _ _ _ now.0 now.1 c.in-Some.c now.2 ahead c.in-Some.ensures.steps.0 (c.is_steady.ensures c.if-not-is_steady.false)),
     )
