@@ -16,3 +16,4 @@ pub mod SortLemmas
 pub mod SplitLemmas
 pub mod StepLemmas
 pub mod WeightLemmas
+pub mod WriterLemmas

@@ -12,3 +12,4 @@ pub mod Run
 pub mod Sinks
 pub mod Splits
 pub mod TextForms
+pub mod Writer

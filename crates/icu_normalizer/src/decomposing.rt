@@ -12,6 +12,7 @@ mod cuts;
 mod normalizer;
 mod owned;
 mod places;
+mod writer;
 
 use crate::run::Run;
 pub(crate) use cuts::plain_len;

@@ -185,7 +185,7 @@ impl<'d> Run<'d> {
 
 /// Sorts the marks from a place on by class, stably.
 #[inline]
-fn sort_marks(
+pub(crate) fn sort_marks(
     canonical: CanonicalBorrowed<'_>,
     chars: &mut SmallVec<char, 16>,
     from: usize,

@@ -8,7 +8,7 @@ ghost use Rattle.icu_normalizer.specs.Sinks.{AddsPrefix, EndsByFailure};
 
 mod splits;
 
-use super::Decomposition;
+use super::writer::Writer;
 use crate::sinks::{NormError, TextSink};
 use icu_normalizer_core::canonical::CanonicalBorrowed;
 use std::alloc::Global;
@@ -68,15 +68,10 @@ impl<'d> DecomposingNormalizerBorrowed<'d> {
         ensures err { OnErr result (AddsPrefix (S.contents sink.old) (encode_utf8_all (decomposed (normalizer_data self.now) (chars text.now))) (S.contents sink.new)) }
         ensures failure { EndsByFailure S.takes S.fails sink.old result sink.new }
     {
-        let mut decomposition = Decomposition::over(alloc, self.canonical, text.chars());
-        while let Some(item) = decomposition.next() {
-            let Ok(c) = item else {
-                return Err(NormError::Memory);
-            };
-            if let Err(error) = sink.write_char(c) {
-                return Err(NormError::Sink(error));
-            }
+        let mut writer = Writer::new(alloc, self.canonical);
+        for c in text.chars() {
+            writer.write_decomposed(c, sink)?;
         }
-        Ok(())
+        writer.flush(sink)
     }
 }

@@ -1,0 +1,11 @@
+use Rattle.std.proofs.Common.{◌≡◌, ◌++◌}
+use Rattle.icu_normalizer.specs.Sinks.{HasTaken}
+use Rattle.icu_normalizer.specs.Writer.{writer_data, Writes}
+use Rattle.icu_normalizer.proofs.decomposing.writer.Writer.write_list.Given as goal
+
+abbrev pub invariant-loop-d : goal.invariant-loop-d
+invariant-loop-d g l =
+    Writes l.initial.self l.yielded (g.S.TextSink.contents l.fn.sink) (g.S.TextSink.contents l.sink) l.self
+    × (writer_data l.self ≡ writer_data l.initial.self)
+    × (l.yielded ++ l.d-iterator ≡ (writer_data l.initial.self).full l.fn.c)
+    × HasTaken g.S.TextSink.takes l.fn.sink l.sink

@@ -1,0 +1,28 @@
+-- Decomposed text on its way to a sink.
+use Rattle.std.specs.Prelude.{◌≡◌, ℕ, List, ◌++◌, encode_utf8_all}
+use Rattle.icu_normalizer_core.specs.BorrowedMeaning.{borrowed_meaning}
+use Rattle.icu_normalizer_core.specs.Canonical.{Canonical, marks_in_order}
+use Rattle.icu_normalizer.specs.declared.decomposing.writer.Writer.{Writer}
+use Rattle.icu_normalizer.specs.Sinks.{AddsPrefix}
+
+-- the canonical data of a writer
+abbrev pub writer_data : Writer → Canonical
+writer_data writer = borrowed_meaning writer.canonical
+
+-- the bytes that are still to be written, where `rest` is still to go in
+unfoldable pub due : Writer → List ℕ → List ℕ
+due writer rest = encode_utf8_all (marks_in_order (writer_data writer).class (writer.marks.items ++ rest))
+
+-- a part of these bytes was added, and `left` is still to be
+pub record AddsFront (old bytes left new : List ℕ) : Type 0 where
+  pub written : List ℕ
+  pub whole : bytes ≡ written ++ left
+  pub holds : new ≡ old ++ written
+
+-- `read` went in: of what was due, what the sink held `before` and holds `after` was written
+pub record Writes (old : Writer) (read before after : List ℕ) (new : Writer) : Type 0 where
+  pub at : (rest : List ℕ) → AddsFront before (due old (read ++ rest)) (due new rest) after
+
+-- the same, but the sink took a part alone
+pub record WritesPart (old : Writer) (read before after : List ℕ) : Type 0 where
+  pub at : (rest : List ℕ) → AddsPrefix before (due old (read ++ rest)) after
