@@ -5,10 +5,12 @@ use Rattle.std.specs.List.{slice_get, All}
 use Rattle.std.specs.Option.{is_some}
 use Rattle.std.proofs.lemmas.Bool.{false≢true}
 use Rattle.std.proofs.lemmas.List.Elements.{All-head, All-tail, All-more, All-weaker}
+use Rattle.std.proofs.Math.Bool.{or-false}
+use Rattle.std.proofs.Math.Path.{fun_ext}
 use Rattle.collate_records.specs.declared.canonical_part.CanonicalPart.{CanonicalPart}
 use Rattle.collate_records.specs.declared.rules.lists.Front.{Front}
 use Rattle.collate_records.specs.Record.{Record}
-use Rattle.collate_records.specs.Meaning.{first_found, mapping_in, compatibility_in, expanded, step_of, full_of, any_step}
+use Rattle.collate_records.specs.Meaning.{first_found, mapping_in, compatibility_in, expanded, full_of}
 use Rattle.collate_records.specs.Rules.{is_mapped, IsBadlyMapped, compatibility_full_of, begins_with_mark, IsBadList, HasBadList}
 use Rattle.collate_records.specs.CanonicalParts.{in_full, SaysSame, subject_of, IsBadOfParts}
 use Rattle.collate_records.specs.Lists.{is_mark_at, IsFront}
@@ -76,23 +78,6 @@ begins-same : (lines others : List Record) (list : List ℕ) → SaysSame lines 
 begins-same lines others [] same = refl
 begins-same lines others (c ∷ cs) same = ap (λ (k : ℕ). not (k == 0)) (sym (class_of-same lines others c same))
 
-flat_same : (later other : ℕ → List ℕ) (ds : List ℕ) → ((d : ℕ) → later d ≡ other d) → flat_map later ds ≡ flat_map other ds
-flat_same later other [] agree = refl
-flat_same later other (d ∷ ds) agree = let e = agree d in let rest = flat_same later other ds agree in cc
-
-after_same : (later other : ℕ → List ℕ) (c : ℕ) (ds : List ℕ) → ((d : ℕ) → later d ≡ other d) → after_step later c ds ≡ after_step other c ds
-after_same later other c [] agree = refl
-after_same later other c (d ∷ ds) agree = flat_same later other (d ∷ ds) agree
-
--- the same steps leave the same
-pub expanded_same : (step other : ℕ → List ℕ) → ((d : ℕ) → step d ≡ other d) → (n c : ℕ) → expanded step n c ≡ expanded other n c
-expanded_same step other agree zero c = expanded_none step 0 c refl ∙ sym (expanded_none other 0 c refl)
-expanded_same step other agree (suc n) c =
-    expanded_after step n c
-    ∙ ap (after_step (expanded step n) c) (agree c)
-    ∙ after_same (expanded step n) (expanded other n) c (other c) (λ d. expanded_same step other agree n d)
-    ∙ sym (expanded_after other n c)
-
 IsBadList-same : (lines others : List Record) (list further : List ℕ) → SaysSame lines others → list ≡ further → IsBadList lines list → IsBadList others further
 IsBadList-same lines others list further same e bad =
     subst (λ (l : List ℕ). IsBadList others l) e
@@ -108,9 +93,9 @@ HasBadList-same lines others same bad =
         bad.1.1,
         ⊎_elim
             (λ canonical. inl (IsBadList-same lines others (full_of lines c) (full_of others c) same
-            (expanded_same (step_of lines) (step_of others) (λ d. step_of-same lines others d same) 0x110000 c) canonical))
+            (ap (λ (step : ℕ → List ℕ). expanded step 0x110000 c) (fun_ext (λ d. step_of-same lines others d same))) canonical))
             (λ all. inr (IsBadList-same lines others (compatibility_full_of lines c) (compatibility_full_of others c) same
-            (expanded_same (any_step lines) (any_step others) (λ d. any_step-same lines others d same) 0x110000 c) all))
+            (ap (λ (step : ℕ → List ℕ). expanded step 0x110000 c) (fun_ext (λ d. any_step-same lines others d same))) all))
             bad.1.2,
       ),
     )
@@ -122,11 +107,7 @@ HasBadList-none bad = false≢true bad.1.0
 pub mapped_parts : (parts : List CanonicalPart) (c : ℕ) → is_mapped (map in_full parts) c ≡ is_some (first_found (mapping_in c) (map in_full parts))
 mapped_parts parts c =
     ap (λ (o : Option (List ℕ)). is_some (first_found (mapping_in c) (map in_full parts)) || is_some o) (parts_without_compatibility parts c)
-    ∙ or_false (is_some (first_found (mapping_in c) (map in_full parts)))
-  where
-    or_false : (b : Bool) → (b || false) ≡ b
-    or_false true = refl
-    or_false false = refl
+    ∙ or-false (is_some (first_found (mapping_in c) (map in_full parts)))
 
 pub bad_of_parts : (parts : List CanonicalPart) (c : ℕ) → IsBadOfParts (map in_full parts) c → IsBadlyMapped (map in_full parts) c
 bad_of_parts parts c bad = (mapped_parts parts c ∙ bad.0, bad.1, bad.2)

@@ -5,7 +5,7 @@ use Rattle.std.specs.Option.{is_some, unwrap_or, IfSome}
 use Rattle.std.specs.Char.{IsScalar}
 use Rattle.std.specs.List.{Contains}
 use lib.Utf8.{scalar_cases}
-use Rattle.std.proofs.lemmas.Bool.{cases_eq, cases_lt, ne_eqb, false≢true, or_left}
+use Rattle.std.proofs.lemmas.Bool.{cases_eq, cases_lt, ne_eqb, or_left}
 use Rattle.std.proofs.lemmas.List.{take_all}
 use Rattle.std.proofs.lemmas.Option.{none-some}
 use Rattle.std.proofs.lemmas.List.Elements.{All-contains, All-cons, All-nil}
@@ -21,6 +21,8 @@ use Rattle.collate_records.specs.Accepted.{AreScalars}
 use Rattle.collate_records.proofs.mappings.EndingLemmas.{ends}
 use Rattle.collate_records.proofs.mappings.SoonEndedLemmas.{EndsSoon, unmapped-ends_soon, two-ends_soon, expanded-unmapped, ends_built_in, ends_unmapped, bounded_built_in}
 use Rattle.collate_records.proofs.mappings.StepLemmas.{IsMapped, step_cases, free_step_cases, step_scalars, mark_unmapped, mapped_starter, no_letters, small_class, step_of-built_in, step_of-compatibility, some_or_none}
+use Rattle.collate_records.proofs.offenders.MappedMarkLemmas.{MapsMark-none}
+use Rattle.collate_records.proofs.lists.BadListLemmas.{HasBadList-none}
 
 -- what is reached from a text that has more
 reaches_from : (step : ℕ → List ℕ) (s t : List ℕ) (x : ℕ) → ((d : ℕ) → Contains s d → Contains t d) → Reaches step s x → Reaches step t x
@@ -138,16 +140,10 @@ module _ (records : List Record) where
       c scalar
 
 -- with no line there is nothing but what is built in
-no_marks : MapsMark [] → ⊥
-no_marks h = false≢true h.1.0
-
-no_lists : HasBadList [] → ⊥
-no_lists h = false≢true h.1.0
-
 ends_alone : (c : ℕ) → Leaves (step_of []) (c ∷ []) (full_of [] c)
 ends_alone c =
     ⊎_elim
-    (λ built_in. ends_built_in (step_of []) 0x10fffd c (built_in-ends_soon [] no_marks c built_in))
+    (λ built_in. ends_built_in (step_of []) 0x10fffd c (built_in-ends_soon [] MapsMark-none c built_in))
     (λ w. ⊎_elim (λ none. ends_unmapped (step_of []) 0x10ffff c none) (λ m. absurd (none-some (step_of [] c) m.found)) w)
     (step_cases [] c)
 
@@ -156,11 +152,11 @@ up_to_last : (s : Record) (ss : List Record) → take (length ss + 1) (s ∷ ss)
 up_to_last s ss = take_all (length ss + 1) (s ∷ ss) (omega arith)
 
 marks_kept : (records : List Record) → NoneOffends C1 records → MapsMark records → ⊥
-marks_kept [] keeps = no_marks
+marks_kept [] keeps = MapsMark-none
 marks_kept (s ∷ ss) keeps = subst (λ lines. MapsMark lines → ⊥) (up_to_last s ss) (keeps (length ss) (omega arith))
 
 lists_kept : (records : List Record) → NoneOffends C4 records → HasBadList records → ⊥
-lists_kept [] keeps = no_lists
+lists_kept [] keeps = HasBadList-none
 lists_kept (s ∷ ss) keeps = subst (λ lines. HasBadList lines → ⊥) (up_to_last s ss) (keeps (length ss) (omega arith))
 
 ends_kept : (records : List Record) → AreScalars records → NoneOffends C2 records → (c : ℕ) → IsScalar c → Leaves (step_of records) (c ∷ []) (full_of records c)

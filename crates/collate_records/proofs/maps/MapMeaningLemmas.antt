@@ -8,6 +8,7 @@ use Rattle.std.proofs.lemmas.Bool.{cases_Bool}
 use Rattle.std.proofs.lemmas.Bool.Decides.{nat_tests}
 use Rattle.std.proofs.lemmas.Option.{unwrap_or-slice_get}
 use Rattle.std.proofs.lemmas.List.Elements.{All-head, All-tail, All-get_or}
+use Rattle.std.proofs.Math.Bool.{and-false}
 use Rattle.icu_normalizer_core.specs.declared.canonical.builder.GivenMapping.{GivenMapping}
 use Rattle.icu_normalizer_core.specs.BuiltIn.{built_in_class, built_in_step, built_in_compatibility_step, syllable_of}
 use Rattle.icu_normalizer_core.specs.Canonical.{IsDecomposing}
@@ -83,13 +84,9 @@ composes_same a b c d e consistent = by (built_in_step c) refl
     same_pair : bytes_eq (d ∷ e ∷ []) (a ∷ b ∷ []) ≡ ((a == d) && (b == e))
     same_pair = grind (arith, nat_tests)
 
-    never : (p : Bool) → (p && false) ≡ false
-    never true = refl
-    never false = refl
-
     by : (o : Option (List ℕ)) → built_in_step c ≡ o
         → (bytes_eq (d ∷ e ∷ []) (a ∷ b ∷ []) && not (is_some o)) ≡ ((a == d) && (b == e) && not (is_some o || is_some (built_in_compatibility_step c)))
-    by (Some ds) h = never _ ∙ sym (never _)
+    by (Some ds) h = and-false _ ∙ sym (and-false _)
     by None h =
         let free : (is_some (built_in_step c) || is_some (built_in_compatibility_step c)) ≡ false = line_free c (d ∷ e ∷ []) false consistent h in
         let none : is_some (built_in_compatibility_step c) ≡ false = sym (ap (λ (o : Option (List ℕ)). is_some o || is_some (built_in_compatibility_step c)) h) ∙ free in
