@@ -1,4 +1,4 @@
--- Full lists: how they are followed, and when they are bad.
+-- When full lists are bad.
 use Rattle.std.proofs.Common.{◌≡◌, ◌≢◌, ℕ, ◌+◌, ◌-◌, ◌<◌, ◌≤◌, List, [], ◌∷◌, ◌++◌, map, take, length, get_or, refl, sym, ap, ◌∙◌, subst, arith, inl, inr, ⊎_elim, Bool, true, false, not, ◌||◌, ◌==◌, Option, Some, None, ◌↔◌, zero, suc, append-nil, flat_map, take_all}
 use Rattle.std.specs.Bool.{IsTrue}
 use Rattle.std.specs.List.{slice_get, All}
@@ -14,39 +14,7 @@ use Rattle.collate_records.specs.Meaning.{first_found, mapping_in, compatibility
 use Rattle.collate_records.specs.Rules.{is_mapped, IsBadlyMapped, compatibility_full_of, begins_with_mark, IsBadList, HasBadList}
 use Rattle.collate_records.specs.CanonicalParts.{in_full, SaysSame, subject_of, IsBadOfParts}
 use Rattle.collate_records.specs.Lists.{is_mark_at, IsFront}
-use Rattle.collate_records.proofs.mappings.CanonicalPartLemmas.{other_mapping, class_of-same, step_of-same, any_step-same, parts_without_compatibility}
-
-pub expanded_none : (step : ℕ → List ℕ) (n c : ℕ) → n ≡ 0 → expanded step n c ≡ c ∷ []
-unfolding expanded
-expanded_none step zero c e = refl
-expanded_none step (suc n) c e = absurd (omega arith)
-
--- what the steps to come leave, by the first of them
-abbrev after_step : (ℕ → List ℕ) → ℕ → List ℕ → List ℕ
-after_step later c [] = c ∷ []
-after_step later c (d ∷ ds) = flat_map later (d ∷ ds)
-
-expanded_after : (step : ℕ → List ℕ) (n c : ℕ) → expanded step (suc n) c ≡ after_step (expanded step n) c (step c)
-unfolding expanded
-expanded_after step n c = refl
-
-pub expanded_unmapped : (step : ℕ → List ℕ) (n c : ℕ) → step c ≡ [] → expanded step n c ≡ c ∷ []
-expanded_unmapped step zero c e = expanded_none step zero c refl
-expanded_unmapped step (suc n) c e = expanded_after step n c ∙ ap (after_step (expanded step n) c) e
-
-pub expanded_one : (step : ℕ → List ℕ) (n c d : ℕ) → n ≢ 0 → step c ≡ d ∷ [] → expanded step n c ≡ expanded step (n - 1) d
-expanded_one step zero c d h e = absurd (h refl)
-expanded_one step (suc n) c d h e =
-    let less : n ≡ suc n - 1 = omega arith in
-    expanded_after step n c ∙ ap (after_step (expanded step n) c) e ∙ append-nil (expanded step n d) ∙ ap (λ (m : ℕ). expanded step m d) less
-
-pub expanded_two : (step : ℕ → List ℕ) (n c d e : ℕ) → n ≢ 0 → step c ≡ d ∷ e ∷ [] → expanded step n c ≡ expanded step (n - 1) d ++ expanded step (n - 1) e
-expanded_two step zero c d e h s = absurd (h refl)
-expanded_two step (suc n) c d e h s =
-    let less : n ≡ suc n - 1 = omega arith in
-    expanded_after step n c ∙ ap (after_step (expanded step n) c) s
-    ∙ ap (λ (l : List ℕ). expanded step n d ++ l) (append-nil (expanded step n e))
-    ∙ ap (λ (m : ℕ). expanded step m d ++ expanded step m e) less
+use Rattle.collate_records.proofs.mappings.CanonicalPartLemmas.{other_mapping, class_of-same, step_of-same, any_step-same, parts_without_compatibility, none_of_all}
 
 mark_at_front : (records : List Record) (list : List ℕ) → begins_with_mark records list ≡ is_mark_at records (slice_get list 0)
 mark_at_front records [] = refl
@@ -112,22 +80,9 @@ mapped_parts parts c =
 pub bad_of_parts : (parts : List CanonicalPart) (c : ℕ) → IsBadOfParts (map in_full parts) c → IsBadlyMapped (map in_full parts) c
 bad_of_parts parts c bad = (mapped_parts parts c ∙ bad.0, bad.1, bad.2)
 
--- no part so far is on a badly mapped character, nor is one more
-pub bad_more : (parts : List CanonicalPart) (i : ℕ) (d : CanonicalPart) (c : ℕ) (b : Bool) → i < length parts
-    → All (λ part. IsBadOfParts (map in_full parts) (subject_of part) → ⊥) (take i parts)
-    → c ≡ subject_of (get_or parts i d) → (IsBadOfParts (map in_full parts) c → IsTrue b) → b ≡ false
-    → All (λ part. IsBadOfParts (map in_full parts) (subject_of part) → ⊥) (take (i + 1) parts)
-bad_more parts i d c b within before e holds is_false =
-    let P : ℕ → Type 0 = λ n. IsBadOfParts (map in_full parts) n → ⊥ in
-    All-more (λ part. IsBadOfParts (map in_full parts) (subject_of part) → ⊥) parts i d within before
-    (subst P e (λ bad. false≢true (sym is_false ∙ holds bad)))
-
 -- where no part is on a badly mapped character, there is none
 pub bad_none : (parts : List CanonicalPart) (i : ℕ) → length parts ≤ i
     → All (λ part. IsBadOfParts (map in_full parts) (subject_of part) → ⊥) (take i parts) → HasBadList (map in_full parts) → ⊥
 bad_none parts i past before bad =
-    let P : CanonicalPart → Type 0 = λ part. IsBadOfParts (map in_full parts) (subject_of part) → ⊥ in
-    let all : All P parts = subst (λ (l : List CanonicalPart). All P l) (take_all i parts past) before in
-    mapped_in_parts parts bad.0 (sym (mapped_parts parts bad.0) ∙ bad.1.0)
-    (All-weaker P (λ part. bad.0 ≢ subject_of part)
-    (λ part none same. let Q : ℕ → Type 0 = λ n. IsBadOfParts (map in_full parts) n in none (subst Q same (sym (mapped_parts parts bad.0) ∙ bad.1.0, bad.1.1, bad.1.2))) parts all)
+    let mapped : IsBadOfParts (map in_full parts) bad.0 = (sym (mapped_parts parts bad.0) ∙ bad.1.0, bad.1.1, bad.1.2) in
+    mapped_in_parts parts bad.0 mapped.0 (none_of_all (λ c. IsBadOfParts (map in_full parts) c) parts i past before bad.0 mapped)

@@ -15,9 +15,9 @@ use Rattle.collate_records.specs.Record.{Record}
 use Rattle.collate_records.specs.Meaning.{first_found, class_in, mapping_in, compatibility_in, class_of, step_of, compatibility_of, canonical_of, is_built_in, pair_of, expanded}
 use Rattle.collate_records.specs.Rules.{HasBadLow, IsBadlyLow}
 use Rattle.collate_records.specs.CanonicalParts.{in_full, SaysSame, subject_of}
-use Rattle.collate_records.proofs.mappings.CanonicalPartLemmas.{class_of-same, step_of-same, compatibility_of-same, pair_of-same, other_class, other_mapping, parts_without_compatibility}
-use Rattle.collate_records.proofs.lists.BadListLemmas.{expanded_unmapped}
+use Rattle.collate_records.proofs.mappings.CanonicalPartLemmas.{class_of-same, step_of-same, compatibility_of-same, pair_of-same, other_class, other_mapping, parts_without_compatibility, none_of_all}
 use Rattle.collate_records.proofs.lists.ComposingLemmas.{composed_unmapped}
+use Rattle.collate_records.proofs.lists.FullListLemmas.{expanded_unmapped}
 
 -- canonical data by classes, mappings and pairs
 abbrev data_by : (ℕ → ℕ) → (ℕ → List ℕ) → (ℕ → ℕ → Option ℕ) → Canonical
@@ -92,25 +92,11 @@ unsaid_mapping (part ∷ parts) c apart =
     ap (λ (o : Option (List ℕ)). elim o as (λ _. Option (List ℕ)) [ Some y ↦ Some y | None ↦ first_found (mapping_in c) (map in_full parts) ]) (other_mapping part c (All-head (λ f. c ≢ subject_of f) part parts apart))
     ∙ unsaid_mapping parts c (All-tail (λ f. c ≢ subject_of f) part parts apart)
 
--- no part so far is on a character that is what it may not be, nor is one more
-pub low_more : (parts : List CanonicalPart) (i : ℕ) (d : CanonicalPart) (c : ℕ) (b : Bool) → i < length parts
-    → All (λ part. IsBadlyLow (map in_full parts) (subject_of part) → ⊥) (take i parts)
-    → c ≡ subject_of (get_or parts i d) → (IsBadlyLow (map in_full parts) c → IsTrue b) → b ≡ false
-    → All (λ part. IsBadlyLow (map in_full parts) (subject_of part) → ⊥) (take (i + 1) parts)
-low_more parts i d c b within before e holds is_false =
-    let P : ℕ → Type 0 = λ n. IsBadlyLow (map in_full parts) n → ⊥ in
-    All-more (λ part. IsBadlyLow (map in_full parts) (subject_of part) → ⊥) parts i d within before
-    (subst P e (λ bad. false≢true (sym is_false ∙ holds bad)))
-
--- where no part is on such a character, there is none
+-- where no part is on a character that is what it may not be, there is none
 pub low_none : (parts : List CanonicalPart) (i : ℕ) → length parts ≤ i
     → All (λ part. IsBadlyLow (map in_full parts) (subject_of part) → ⊥) (take i parts) → HasBadLow (map in_full parts) → ⊥
 low_none parts i past before bad =
-    let P : CanonicalPart → Type 0 = λ part. IsBadlyLow (map in_full parts) (subject_of part) → ⊥ in
-    let Q : ℕ → Type 0 = λ n. IsBadlyLow (map in_full parts) n in
-    let all : All P parts = subst (λ (l : List CanonicalPart). All P l) (take_all i parts past) before in
-    let apart : All (λ part. bad.0 ≢ subject_of part) parts =
-    All-weaker P (λ part. bad.0 ≢ subject_of part) (λ part none same. none (subst Q same bad.1)) parts all in
+    let apart = none_of_all (λ c. IsBadlyLow (map in_full parts) c) parts i past before bad.0 bad.1 in
     untouched (map in_full parts) bad.0 (unsaid_class parts bad.0 apart) (unsaid_mapping parts bad.0 apart) (parts_without_compatibility parts bad.0) bad.1
 
 unsaid_by : (t : Bool) (o : Option (List ℕ)) → o ≡ None → cond t [] (unwrap_or o []) ≡ []

@@ -1,8 +1,12 @@
 -- Lines that say the same of classes and mappings.
-use Rattle.std.proofs.Common.{◌≡◌, ◌≢◌, ℕ, List, [], ◌∷◌, ◌++◌, map, refl, sym, ap, ◌∙◌, subst, arith, Bool, true, false, Option, Some, None, cond}
+use Rattle.std.proofs.Common.{◌≡◌, ◌≢◌, ℕ, List, [], ◌∷◌, ◌++◌, map, refl, sym, ap, ◌∙◌, subst, arith, Bool, true, false, Option, Some, None, cond, ◌+◌, ◌<◌, ◌≤◌, length, take, get_or, take_all}
 use Rattle.std.specs.Option.{unwrap_or}
 use Rattle.std.proofs.lemmas.List.{map-append}
 use Rattle.std.proofs.lemmas.Grind.{common_steps}
+use Rattle.std.specs.Bool.{IsTrue}
+use Rattle.std.specs.List.{All}
+use Rattle.std.proofs.lemmas.Bool.{false≢true}
+use Rattle.std.proofs.lemmas.List.Elements.{All-more, All-weaker}
 use Rattle.collate_records.specs.declared.canonical_part.CanonicalPart.{CanonicalPart}
 use Rattle.collate_records.specs.declared.canonical_part.CanonicalPart.TheVariants.{Class, Map}
 use Rattle.icu_normalizer_core.specs.BuiltIn.{built_in_class, built_in_step, built_in_compatibility_step, syllable_of}
@@ -112,3 +116,19 @@ SaysSame-itself lines = record { classes = λ c. refl; mappings = λ c. refl; co
 -- no parts, and no lines
 pub SaysSame-none : (parts : List CanonicalPart) → parts ≡ [] → SaysSame (map in_full parts) []
 SaysSame-none parts e = subst (λ (l : List Record). SaysSame l []) (ap (map in_full) (sym e)) (SaysSame-itself [])
+
+-- ---- Where the parts are gone through: no part so far is on a character with P,
+
+-- nor is one more,
+pub none_of_more : (P : ℕ → Type 0) (parts : List CanonicalPart) (i : ℕ) (d : CanonicalPart) (c : ℕ) (b : Bool) → i < length parts
+    → All (λ part. P (subject_of part) → ⊥) (take i parts) → c ≡ subject_of (get_or parts i d) → (P c → IsTrue b) → b ≡ false
+    → All (λ part. P (subject_of part) → ⊥) (take (i + 1) parts)
+none_of_more P parts i d c b within before e holds is_false =
+    All-more (λ part. P (subject_of part) → ⊥) parts i d within before (subst (λ (n : ℕ). P n → ⊥) e (λ p. false≢true (sym is_false ∙ holds p)))
+
+-- and at their end a character with P is none that a part is on
+pub none_of_all : (P : ℕ → Type 0) (parts : List CanonicalPart) (i : ℕ) → length parts ≤ i → All (λ part. P (subject_of part) → ⊥) (take i parts)
+    → (c : ℕ) → P c → All (λ part. c ≢ subject_of part) parts
+none_of_all P parts i past before c p =
+    All-weaker (λ part. P (subject_of part) → ⊥) (λ part. c ≢ subject_of part) (λ part none same. none (subst P same p)) parts
+    (subst (λ (l : List CanonicalPart). All (λ part. P (subject_of part) → ⊥) l) (take_all i parts past) before)

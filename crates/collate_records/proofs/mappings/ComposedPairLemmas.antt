@@ -22,6 +22,7 @@ use Rattle.collate_records.proofs.lookups.FoundLemmas.{found_at}
 use Rattle.collate_records.proofs.lookups.KeyLemmas.{mapping-absent}
 use Rattle.collate_records.proofs.mappings.StepLemmas.{step_of-built_in, some_or_none}
 use Rattle.collate_records.proofs.lookups.LookupLemmas.{first_found-append}
+use Rattle.collate_records.proofs.offenders.BreachLemmas.{none_together}
 
 -- a line that composes two characters to c
 record Composes (a b c : ℕ) (s : Record) : Type 0 where
@@ -158,17 +159,11 @@ module _ (records : List Record) where
   unmapped : (HasBadLow records → ⊥) → (c : ℕ) → c < 0xc0 → step_of records c ≡ []
   unmapped lows c low = none_left (step_of records c) (λ some. lows (c, (omega arith, inr (inr (inl (low, some))))))
 
--- no line is such that the lines up to the last are in breach of the rule
-lows_kept : (records : List Record) → NoneOffends C7 records → HasBadLow records → ⊥
-lows_kept [] keeps = HasBadLow-none
-lows_kept (s ∷ ss) keeps =
-    subst (λ lines. HasBadLow lines → ⊥) (take_all (length ss + 1) (s ∷ ss) (omega arith)) (keeps (length ss) (omega arith))
-
 -- lines that keep the rules compose as canonical data do
 pub composing : (records : List Record) → ((c : ℕ) (ds : List ℕ) (x : Bool) (i : ℕ) → i < length records → record_at records i ≡ mapping c ds x → IsScalar c)
     → NoneOffends V14 records → NoneOffends C6 records → NoneOffends C7 records → IsComposing (canonical_of records)
 composing records named once seconds_kept low_kept =
-    let lows = lows_kept records low_kept in
+    let lows = none_together HasBadLow HasBadLow-none records low_kept in
     record {
       syllables = syllables records;
       mapped = mapped records once;

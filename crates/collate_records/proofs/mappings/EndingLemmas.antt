@@ -26,7 +26,7 @@ Leaves-each step f (d ∷ ds) each =
     left_append step (d ∷ []) ds (f d) (flat_map f ds) (each d (Contains-head d ds)) (Leaves-each step f ds (λ e h. each e (Contains-tail d ds e h)))
 
 -- what is left of a character, by its first step
-pub Leaves-by_first : (step : ℕ → List ℕ) (n c : ℕ) (ds : List ℕ) → step c ≡ ds → ((d : ℕ) → Contains ds d → Leaves step (d ∷ []) (expanded step n d))
+Leaves-by_first : (step : ℕ → List ℕ) (n c : ℕ) (ds : List ℕ) → step c ≡ ds → ((d : ℕ) → Contains ds d → Leaves step (d ∷ []) (expanded step n d))
     → Leaves step (c ∷ []) (by_first step n c ds)
 Leaves-by_first step n c [] e each = unmapped c [] [] e nothing
 Leaves-by_first step n c (d ∷ ds) e each =
