@@ -1,6 +1,5 @@
 -- what lines say, as maps of canonical data
 pub mod AcceptedMapLemmas
-pub mod ComposedAlikeLemmas
 pub mod MapLineLemmas
 pub mod MapMeaningLemmas
 pub mod MapNameLemmas

@@ -1,6 +1,7 @@
 -- What a file sets keeps the rules on settings: no line that sets anything is read yet.
 use Rattle.std.proofs.Common.{◌≡◌, ℕ, Bool, true, false, List, [], refl, sym, ◌∙◌, ap, arith}
 use Rattle.std.specs.Prelude.{◌==◌, ◌||◌, ◌+◌, ◌*◌, ◌/◌, ◌%◌, ◌^◌, replicate}
+use Rattle.std.proofs.lemmas.Bool.{or_right}
 use Rattle.icu_collator_core.specs.Collation.{reordered_lead, with_lead}
 use Rattle.icu_collator_core.specs.WeightRules.{is_letter_lead}
 use Rattle.icu_collator_core.proofs.weights.ReorderingLemmas.{given_lead, given_rest}
@@ -9,10 +10,6 @@ use Rattle.collate_records.specs.Accepted.{AreAccepted}
 use Rattle.collate_records.specs.Record.{Record}
 use Rattle.collate_records.specs.Meaning.{collation_of, groups_in, is_compressible_in, place_among, reorder_in, set_to}
 use Rattle.collate_records.proofs.reading.KnownRecordLemmas.{accepted_plain}
-
-implicit_alone : (a b : Bool) → b ≡ true → (a || b) ≡ true
-implicit_alone true b h = refl
-implicit_alone false b h = h
 
 -- where no lead is reordered, no primary is
 pub primary_stays : (place : ℕ → ℕ) → ((lead : ℕ) → place lead ≡ lead) → (p : ℕ) → with_lead place p ≡ p
@@ -37,7 +34,7 @@ accepted_settings records accepted =
       groups = ap (λ (lead : ℕ). are_sound_groups lead (set_to groups_in (replicate 4 0x300) records)) plain.numeric_lead
           ∙ ap (are_sound_groups 0x10) plain.groups;
       implicit = plain.compressible 0xfe;
-      compressible = λ lead h. implicit_alone (is_letter_lead lead) (lead == 0xfe) (sym (plain.compressible lead) ∙ h);
+      compressible = λ lead h. or_right (is_letter_lead lead) (lead == 0xfe) (sym (plain.compressible lead) ∙ h);
       rest = given_rest (collation_of records) (places records) (λ p. refl);
       outside = λ lead h. stay lead;
       inside = λ lead h. ap is_letter_lead (stay lead) ∙ h;

@@ -11,6 +11,7 @@ use Rattle.icu_collator_types.specs.declared.options.ResolvedCollatorOptions.{Re
 use Rattle.icu_collator_types.specs.Options.{is_at_least}
 use Rattle.icu_collator.specs.Levels.{Levels, secondary}
 use Rattle.icu_collator.specs.Order.{levels_order, list_order, secondary_rank, where_in_force}
+use Rattle.icu_collator.proofs.keys.CodesLemmas.{then_equal}
 use Rattle.collate_index.specs.Simple.{AreSimple}
 
 -- numbers and their successors compare alike
@@ -28,11 +29,6 @@ secondaries_order (x ∷ xs) (y ∷ ys) = rw (next_cmp x y, secondaries_order xs
 kept_order : (b : Bool) (xs ys : List ℕ) → where_in_force b (slice_cmp nat_cmp xs ys) ≡ slice_cmp nat_cmp (cond b xs []) (cond b ys [])
 kept_order true xs ys = refl
 kept_order false xs ys = refl
-
-then_equal : (o : Ordering) → ordering_then o Equal ≡ o
-then_equal Less = refl
-then_equal Equal = refl
-then_equal Greater = refl
 
 below_identical : (s : Strength) → is_at_least s Quaternary ≡ false → is_at_least s Identical ≡ false
 below_identical Primary e = refl

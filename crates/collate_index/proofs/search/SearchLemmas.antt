@@ -1,6 +1,6 @@
 -- a search by halves in sorted names: what one comparison tells, where a new name goes, and which names are equal
 use Rattle.std.proofs.Common.{◌≡◌, ℕ, zero, suc, ◌+◌, ◌-◌, ◌*◌, ◌/◌, ◌^◌, ◌<◌, ◌≤◌, Bool, true, false, cond, List, [], ◌∷◌, ◌++◌, length, take, drop, get_or, slice_range, refl, sym, ap, ◌∙◌, subst, arith, true≢false, pow-suc, ⊎_elim}
-use Rattle.std.proofs.lemmas.Bool.{cases_lt}
+use Rattle.std.proofs.lemmas.Bool.{cases_lt, false_from_ne_true}
 use Rattle.std.specs.List.{insert, filter, All, AllWithin}
 use Rattle.std.specs.List.Sorted.{IsNonDecreasingBy, IsPartitionedBy}
 use Rattle.std.specs.Cmp.{IsTotalOrder}
@@ -32,17 +32,13 @@ listed_parted R o past name arrivals i j d l h t =
     let rises : IsNonDecreasingBy (λ other. ordering_index (R other name)) (in_order R arrivals) = searchable_from_sorted o (λ other. other) (in_order R arrivals) name (in_order_is_sorted R o arrivals) in
     before_down past (R (get_or (in_order R arrivals) i d) name) (R (get_or (in_order R arrivals) j d) name) (rises i j d l h) t
 
-not_true : (b : Bool) → (b ≡ true → ⊥) → b ≡ false
-not_true true h = absurd (h refl)
-not_true false h = refl
-
 module _ (p : List ℕ → Bool) (xs : List (List ℕ)) (parted : IsPartitionedBy p xs) where
   pub low_rises : (middle : ℕ) (e : List ℕ) → middle < length xs → p (get_or xs middle e) ≡ true → AllWithin (λ x. p x ≡ true) xs 0 (middle + 1)
   low_rises middle e within t k d l h = parted k middle d (omega arith) within (ap p (get_or_default xs middle d e within) ∙ t)
 
   pub high_falls : (middle : ℕ) (e : List ℕ) → middle < length xs → p (get_or xs middle e) ≡ false → AllWithin (λ x. p x ≡ false) xs middle (length xs)
   high_falls middle e within t k d l h =
-      not_true (p (get_or xs k d)) (λ b. true≢false (sym (parted middle k d l h b) ∙ ap p (get_or_default xs middle d e within) ∙ t))
+      false_from_ne_true (p (get_or xs k d)) (λ b. true≢false (sym (parted middle k d l h b) ∙ ap p (get_or_default xs middle d e within) ∙ t))
 
 -- ---- halves
 

@@ -1,50 +1,20 @@
--- Full lists: how they are followed, and when they are bad.
+-- When full lists are bad.
 use Rattle.std.proofs.Common.{◌≡◌, ◌≢◌, ℕ, ◌+◌, ◌-◌, ◌<◌, ◌≤◌, List, [], ◌∷◌, ◌++◌, map, take, length, get_or, refl, sym, ap, ◌∙◌, subst, arith, inl, inr, ⊎_elim, Bool, true, false, not, ◌||◌, ◌==◌, Option, Some, None, ◌↔◌, zero, suc, append-nil, flat_map, take_all}
 use Rattle.std.specs.Bool.{IsTrue}
 use Rattle.std.specs.List.{slice_get, All}
 use Rattle.std.specs.Option.{is_some}
 use Rattle.std.proofs.lemmas.Bool.{false≢true}
 use Rattle.std.proofs.lemmas.List.Elements.{All-head, All-tail, All-more, All-weaker}
+use Rattle.std.proofs.Math.Bool.{or-false}
+use Rattle.std.proofs.Math.Path.{fun_ext}
 use Rattle.collate_records.specs.declared.canonical_part.CanonicalPart.{CanonicalPart}
 use Rattle.collate_records.specs.declared.rules.lists.Front.{Front}
 use Rattle.collate_records.specs.Record.{Record}
-use Rattle.collate_records.specs.Meaning.{first_found, mapping_in, compatibility_in, expanded, step_of, full_of, any_step}
+use Rattle.collate_records.specs.Meaning.{first_found, mapping_in, compatibility_in, expanded, full_of}
 use Rattle.collate_records.specs.Rules.{is_mapped, IsBadlyMapped, compatibility_full_of, begins_with_mark, IsBadList, HasBadList}
 use Rattle.collate_records.specs.CanonicalParts.{in_full, SaysSame, subject_of, IsBadOfParts}
 use Rattle.collate_records.specs.Lists.{is_mark_at, IsFront}
-use Rattle.collate_records.proofs.mappings.CanonicalPartLemmas.{other_mapping, class_of-same, step_of-same, any_step-same, parts_without_compatibility}
-
-pub expanded_none : (step : ℕ → List ℕ) (n c : ℕ) → n ≡ 0 → expanded step n c ≡ c ∷ []
-unfolding expanded
-expanded_none step zero c e = refl
-expanded_none step (suc n) c e = absurd (omega arith)
-
--- what the steps to come leave, by the first of them
-abbrev after_step : (ℕ → List ℕ) → ℕ → List ℕ → List ℕ
-after_step later c [] = c ∷ []
-after_step later c (d ∷ ds) = flat_map later (d ∷ ds)
-
-expanded_after : (step : ℕ → List ℕ) (n c : ℕ) → expanded step (suc n) c ≡ after_step (expanded step n) c (step c)
-unfolding expanded
-expanded_after step n c = refl
-
-pub expanded_unmapped : (step : ℕ → List ℕ) (n c : ℕ) → step c ≡ [] → expanded step n c ≡ c ∷ []
-expanded_unmapped step zero c e = expanded_none step zero c refl
-expanded_unmapped step (suc n) c e = expanded_after step n c ∙ ap (after_step (expanded step n) c) e
-
-pub expanded_one : (step : ℕ → List ℕ) (n c d : ℕ) → n ≢ 0 → step c ≡ d ∷ [] → expanded step n c ≡ expanded step (n - 1) d
-expanded_one step zero c d h e = absurd (h refl)
-expanded_one step (suc n) c d h e =
-    let less : n ≡ suc n - 1 = omega arith in
-    expanded_after step n c ∙ ap (after_step (expanded step n) c) e ∙ append-nil (expanded step n d) ∙ ap (λ (m : ℕ). expanded step m d) less
-
-pub expanded_two : (step : ℕ → List ℕ) (n c d e : ℕ) → n ≢ 0 → step c ≡ d ∷ e ∷ [] → expanded step n c ≡ expanded step (n - 1) d ++ expanded step (n - 1) e
-expanded_two step zero c d e h s = absurd (h refl)
-expanded_two step (suc n) c d e h s =
-    let less : n ≡ suc n - 1 = omega arith in
-    expanded_after step n c ∙ ap (after_step (expanded step n) c) s
-    ∙ ap (λ (l : List ℕ). expanded step n d ++ l) (append-nil (expanded step n e))
-    ∙ ap (λ (m : ℕ). expanded step m d ++ expanded step m e) less
+use Rattle.collate_records.proofs.mappings.CanonicalPartLemmas.{other_mapping, class_of-same, step_of-same, any_step-same, parts_without_compatibility, none_of_all}
 
 mark_at_front : (records : List Record) (list : List ℕ) → begins_with_mark records list ≡ is_mark_at records (slice_get list 0)
 mark_at_front records [] = refl
@@ -76,23 +46,6 @@ begins-same : (lines others : List Record) (list : List ℕ) → SaysSame lines 
 begins-same lines others [] same = refl
 begins-same lines others (c ∷ cs) same = ap (λ (k : ℕ). not (k == 0)) (sym (class_of-same lines others c same))
 
-flat_same : (later other : ℕ → List ℕ) (ds : List ℕ) → ((d : ℕ) → later d ≡ other d) → flat_map later ds ≡ flat_map other ds
-flat_same later other [] agree = refl
-flat_same later other (d ∷ ds) agree = let e = agree d in let rest = flat_same later other ds agree in cc
-
-after_same : (later other : ℕ → List ℕ) (c : ℕ) (ds : List ℕ) → ((d : ℕ) → later d ≡ other d) → after_step later c ds ≡ after_step other c ds
-after_same later other c [] agree = refl
-after_same later other c (d ∷ ds) agree = flat_same later other (d ∷ ds) agree
-
--- the same steps leave the same
-pub expanded_same : (step other : ℕ → List ℕ) → ((d : ℕ) → step d ≡ other d) → (n c : ℕ) → expanded step n c ≡ expanded other n c
-expanded_same step other agree zero c = expanded_none step 0 c refl ∙ sym (expanded_none other 0 c refl)
-expanded_same step other agree (suc n) c =
-    expanded_after step n c
-    ∙ ap (after_step (expanded step n) c) (agree c)
-    ∙ after_same (expanded step n) (expanded other n) c (other c) (λ d. expanded_same step other agree n d)
-    ∙ sym (expanded_after other n c)
-
 IsBadList-same : (lines others : List Record) (list further : List ℕ) → SaysSame lines others → list ≡ further → IsBadList lines list → IsBadList others further
 IsBadList-same lines others list further same e bad =
     subst (λ (l : List ℕ). IsBadList others l) e
@@ -108,9 +61,9 @@ HasBadList-same lines others same bad =
         bad.1.1,
         ⊎_elim
             (λ canonical. inl (IsBadList-same lines others (full_of lines c) (full_of others c) same
-            (expanded_same (step_of lines) (step_of others) (λ d. step_of-same lines others d same) 0x110000 c) canonical))
+            (ap (λ (step : ℕ → List ℕ). expanded step 0x110000 c) (fun_ext (λ d. step_of-same lines others d same))) canonical))
             (λ all. inr (IsBadList-same lines others (compatibility_full_of lines c) (compatibility_full_of others c) same
-            (expanded_same (any_step lines) (any_step others) (λ d. any_step-same lines others d same) 0x110000 c) all))
+            (ap (λ (step : ℕ → List ℕ). expanded step 0x110000 c) (fun_ext (λ d. any_step-same lines others d same))) all))
             bad.1.2,
       ),
     )
@@ -122,31 +75,14 @@ HasBadList-none bad = false≢true bad.1.0
 pub mapped_parts : (parts : List CanonicalPart) (c : ℕ) → is_mapped (map in_full parts) c ≡ is_some (first_found (mapping_in c) (map in_full parts))
 mapped_parts parts c =
     ap (λ (o : Option (List ℕ)). is_some (first_found (mapping_in c) (map in_full parts)) || is_some o) (parts_without_compatibility parts c)
-    ∙ or_false (is_some (first_found (mapping_in c) (map in_full parts)))
-  where
-    or_false : (b : Bool) → (b || false) ≡ b
-    or_false true = refl
-    or_false false = refl
+    ∙ or-false (is_some (first_found (mapping_in c) (map in_full parts)))
 
 pub bad_of_parts : (parts : List CanonicalPart) (c : ℕ) → IsBadOfParts (map in_full parts) c → IsBadlyMapped (map in_full parts) c
 bad_of_parts parts c bad = (mapped_parts parts c ∙ bad.0, bad.1, bad.2)
-
--- no part so far is on a badly mapped character, nor is one more
-pub bad_more : (parts : List CanonicalPart) (i : ℕ) (d : CanonicalPart) (c : ℕ) (b : Bool) → i < length parts
-    → All (λ part. IsBadOfParts (map in_full parts) (subject_of part) → ⊥) (take i parts)
-    → c ≡ subject_of (get_or parts i d) → (IsBadOfParts (map in_full parts) c → IsTrue b) → b ≡ false
-    → All (λ part. IsBadOfParts (map in_full parts) (subject_of part) → ⊥) (take (i + 1) parts)
-bad_more parts i d c b within before e holds is_false =
-    let P : ℕ → Type 0 = λ n. IsBadOfParts (map in_full parts) n → ⊥ in
-    All-more (λ part. IsBadOfParts (map in_full parts) (subject_of part) → ⊥) parts i d within before
-    (subst P e (λ bad. false≢true (sym is_false ∙ holds bad)))
 
 -- where no part is on a badly mapped character, there is none
 pub bad_none : (parts : List CanonicalPart) (i : ℕ) → length parts ≤ i
     → All (λ part. IsBadOfParts (map in_full parts) (subject_of part) → ⊥) (take i parts) → HasBadList (map in_full parts) → ⊥
 bad_none parts i past before bad =
-    let P : CanonicalPart → Type 0 = λ part. IsBadOfParts (map in_full parts) (subject_of part) → ⊥ in
-    let all : All P parts = subst (λ (l : List CanonicalPart). All P l) (take_all i parts past) before in
-    mapped_in_parts parts bad.0 (sym (mapped_parts parts bad.0) ∙ bad.1.0)
-    (All-weaker P (λ part. bad.0 ≢ subject_of part)
-    (λ part none same. let Q : ℕ → Type 0 = λ n. IsBadOfParts (map in_full parts) n in none (subst Q same (sym (mapped_parts parts bad.0) ∙ bad.1.0, bad.1.1, bad.1.2))) parts all)
+    let mapped : IsBadOfParts (map in_full parts) bad.0 = (sym (mapped_parts parts bad.0) ∙ bad.1.0, bad.1.1, bad.1.2) in
+    mapped_in_parts parts bad.0 mapped.0 (none_of_all (λ c. IsBadOfParts (map in_full parts) c) parts i past before bad.0 mapped)

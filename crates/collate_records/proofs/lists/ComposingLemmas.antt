@@ -1,20 +1,16 @@
--- What a decomposed list is composed to: when it is one character, and that it depends on no more than what is said of
--- characters.
-use Rattle.std.proofs.Common.{◌≡◌, ◌≢◌, ℕ, suc, ◌+◌, ◌<◌, ◌≤◌, ◌==◌, ◌&&◌, ltb, Bool, true, false, cond, List, [], ◌∷◌, ◌++◌, length, get_or, drop, add-one, drop-cons, refl, sym, ap, ◌∙◌, subst, arith, length-append, Option, Some, None, ◌↔◌}
+-- What a decomposed list is composed to: when it is one character.
+use Rattle.std.proofs.Common.{◌≡◌, ◌≢◌, ℕ, suc, ◌+◌, ◌<◌, ◌≤◌, ◌==◌, ltb, Bool, true, false, cond, List, [], ◌∷◌, ◌++◌, length, get_or, drop, add-one, drop-cons, refl, sym, ap, ◌∙◌, subst, arith, length-append, Option, Some, None, ◌↔◌}
 use Rattle.std.specs.List.{list_all}
 use Rattle.std.specs.Bool.{IsTrue}
 use Rattle.std.proofs.lemmas.Bool.{cond-true, cond-false, ne_eqb}
 use Rattle.std.proofs.lemmas.Bool.Decides.{Decides-eqb}
 use Rattle.std.proofs.Math.ListN.{drop_of_length-le}
+use Rattle.std.proofs.lemmas.List.{nil_from_length}
 use Rattle.icu_normalizer_core.specs.Canonical.{Canonical, is_starter, put_in_order, marks_in_order, decomposed, composing, recomposed, composed}
 
 -- how long a list is that another is
 as_long : (xs ys : List ℕ) → xs ≡ ys → length xs ≡ length ys
 as_long xs ys e = ap length e
-
-pub empty_from_length : (xs : List ℕ) → length xs ≡ 0 → xs ≡ []
-empty_from_length [] e = refl
-empty_from_length (x ∷ xs) e = absurd (omega arith)
 
 module _ (canonical : Canonical) where
   -- what composing answers once it is known what the next character composes to, and whether it is a starter
@@ -112,7 +108,7 @@ module _ (canonical : Canonical) where
       (λ h. same ∙ alone.1 (tells.0 h), λ h. tells.1 (alone.0 (sym same ∙ h)))
 
   pub tells_none : (list : List ℕ) (x : ℕ) → length list ≡ 0 → recomposed canonical list ≡ x ∷ [] → ⊥
-  tells_none list x e h = recomposed_none x (sym (ap (recomposed canonical) (empty_from_length list e)) ∙ h)
+  tells_none list x e h = recomposed_none x (sym (ap (recomposed canonical) (nil_from_length list e)) ∙ h)
 
   -- how the characters after a starter compose with it, one after another
   pub step_some : (s start z : ℕ) (rest : List ℕ) (i : ℕ) → i < length rest → canonical.pair s (get_or rest i 0) ≡ Some z
@@ -160,72 +156,3 @@ module _ (canonical : Canonical) where
   -- the composed list of a character, by its full list in order
   pub composed_by_full : (c : ℕ) (list : List ℕ) → list ≡ marks_in_order canonical.class (canonical.full c ++ []) → composed canonical (c ∷ []) ≡ recomposed canonical list
   composed_by_full c list e = composed-is c ∙ ap (recomposed canonical) (sym e)
-
--- canonical data that say the same of each character
-pub record Agree (first second : Canonical) : Type 0 where
-  pub class : (c : ℕ) → first.class c ≡ second.class c
-  pub full : (c : ℕ) → first.full c ≡ second.full c
-  pub pair : (a b : ℕ) → first.pair a b ≡ second.pair a b
-
-module _ (first second : Canonical) (agree : Agree first second) where
-  put_same : (c : ℕ) (ds : List ℕ) → put_in_order first.class c ds ≡ put_in_order second.class c ds
-  unfolding put_in_order
-  put_same c [] = refl
-  put_same c (d ∷ ds) = rw (agree.class d, agree.class c, put_same c ds) refl
-
-  order_same : (cs : List ℕ) → marks_in_order first.class cs ≡ marks_in_order second.class cs
-  unfolding marks_in_order
-  order_same [] = refl
-  order_same (c ∷ cs) = put_same c (marks_in_order first.class cs) ∙ ap (put_in_order second.class c) (order_same cs)
-
-  starter_same : (c : ℕ) → is_starter first c ≡ is_starter second c
-  starter_same c = ap (λ (k : ℕ). k == 0) (agree.class c)
-
-  seen_same : (c : ℕ) (ms : List ℕ) → list_all (λ m. ltb (first.class m) (first.class c)) ms ≡ list_all (λ m. ltb (second.class m) (second.class c)) ms
-  seen_same c [] = refl
-  seen_same c (m ∷ ms) = ap (λ (b : Bool). b && list_all (λ n. ltb (first.class n) (first.class c)) ms) (lower c m) ∙ ap (λ (b : Bool). ltb (second.class m) (second.class c) && b) (seen_same c ms)
-    where
-      lower : (d n : ℕ) → ltb (first.class n) (first.class d) ≡ ltb (second.class n) (second.class d)
-      lower d n = ap (λ (k : ℕ). ltb k (first.class d)) (agree.class n) ∙ ap (λ (k : ℕ). ltb (second.class n) k) (agree.class d)
-
-  composing_same_by : (s : ℕ) (ms : List ℕ) (c : ℕ) (cs : List ℕ) → ((z : ℕ) (ns : List ℕ) → composing first z ns cs ≡ composing second z ns cs)
-      → (o : Option ℕ) (b : Bool) → composed_next first s ms c cs o b ≡ composed_next second s ms c cs o b
-  composing_same_by s ms c cs later (Some z) b = later z ms
-  composing_same_by s ms c cs later None true = ap (λ (l : List ℕ). (s ∷ ms) ++ l) (later c [])
-  composing_same_by s ms c cs later None false = later s (ms ++ c ∷ [])
-
-  -- what the next character composes to
-  abbrev next_pair : Canonical → ℕ → List ℕ → ℕ → Option ℕ
-  next_pair canonical s ms c = cond (list_all (λ m. ltb (canonical.class m) (canonical.class c)) ms) (canonical.pair s c) None
-
-  next_pair_same : (s : ℕ) (ms : List ℕ) (c : ℕ) → next_pair first s ms c ≡ next_pair second s ms c
-  next_pair_same s ms c =
-      ap (λ (b : Bool). cond b (first.pair s c) None) (seen_same c ms)
-      ∙ ap (λ (o : Option ℕ). cond (list_all (λ m. ltb (second.class m) (second.class c)) ms) o None) (agree.pair s c)
-
-  composing_same : (s : ℕ) (ms cs : List ℕ) → composing first s ms cs ≡ composing second s ms cs
-  composing_same s ms [] = composing-nil first s ms ∙ sym (composing-nil second s ms)
-  composing_same s ms (c ∷ cs) =
-      composing-cons first s ms c cs
-      ∙ composing_same_by s ms c cs (λ z ns. composing_same z ns cs) (next_pair first s ms c) (is_starter first c)
-      ∙ ap (λ (o : Option ℕ). composed_next second s ms c cs o (is_starter first c)) (next_pair_same s ms c)
-      ∙ ap (composed_next second s ms c cs (next_pair second s ms c)) (starter_same c)
-      ∙ sym (composing-cons second s ms c cs)
-
-  recomposed_same : (cs : List ℕ) → recomposed first cs ≡ recomposed second cs
-  recomposed_same [] = recomposed-nil first ∙ sym (recomposed-nil second)
-  recomposed_same (c ∷ cs) =
-      recomposed-cons first c cs
-      ∙ ap (λ (b : Bool). cond b (composing first c [] cs) (c ∷ recomposed first cs)) (starter_same c)
-      ∙ ap (λ (l : List ℕ). cond (is_starter second c) l (c ∷ recomposed first cs)) (composing_same c [] cs)
-      ∙ ap (λ (l : List ℕ). cond (is_starter second c) (composing second c [] cs) (c ∷ l)) (recomposed_same cs)
-      ∙ sym (recomposed-cons second c cs)
-
-  -- they compose a character alike
-  pub composed_same : (c : ℕ) → composed first (c ∷ []) ≡ composed second (c ∷ [])
-  composed_same c =
-      composed-is first c
-      ∙ ap (λ (l : List ℕ). recomposed first (marks_in_order first.class (l ++ []))) (agree.full c)
-      ∙ ap (recomposed first) (order_same (second.full c ++ []))
-      ∙ recomposed_same (marks_in_order second.class (second.full c ++ []))
-      ∙ sym (composed-is second c)

@@ -6,23 +6,29 @@ use Rattle.std.specs.Option.{unwrap_or}
 use Rattle.std.proofs.lemmas.Bool.{false≢true}
 use Rattle.std.proofs.lemmas.Bool.Decides.{nat_tests}
 use Rattle.std.proofs.lemmas.List.Elements.{All-head, All-tail, All-more, All-weaker}
-use Rattle.icu_normalizer_core.specs.BuiltIn.{built_in_class, built_in_step, built_in_compatibility_step, singled_out}
-use Rattle.icu_normalizer_core.specs.Canonical.{composed}
+use Rattle.std.proofs.Math.Path.{fun_ext}
+use Rattle.icu_normalizer_core.specs.BuiltIn.{built_in_class, built_in_compatibility_step}
+use Rattle.icu_normalizer_core.specs.Canonical.{Canonical, composed}
+use Rattle.icu_normalizer_core.proofs.BuiltInFacts.{low_free}
 use Rattle.collate_records.specs.declared.canonical_part.CanonicalPart.{CanonicalPart}
 use Rattle.collate_records.specs.Record.{Record}
-use Rattle.collate_records.specs.Meaning.{first_found, class_in, mapping_in, compatibility_in, class_of, step_of, compatibility_of, canonical_of, is_built_in}
+use Rattle.collate_records.specs.Meaning.{first_found, class_in, mapping_in, compatibility_in, class_of, step_of, compatibility_of, canonical_of, is_built_in, pair_of, expanded}
 use Rattle.collate_records.specs.Rules.{HasBadLow, IsBadlyLow}
 use Rattle.collate_records.specs.CanonicalParts.{in_full, SaysSame, subject_of}
-use Rattle.collate_records.proofs.mappings.CanonicalPartLemmas.{class_of-same, step_of-same, compatibility_of-same, pair_of-same, other_class, other_mapping, parts_without_compatibility}
-use Rattle.collate_records.proofs.lists.BadListLemmas.{expanded_same, expanded_unmapped}
-use Rattle.collate_records.proofs.lists.ComposingLemmas.{Agree, composed_same, composed_unmapped}
+use Rattle.collate_records.proofs.mappings.CanonicalPartLemmas.{class_of-same, step_of-same, compatibility_of-same, pair_of-same, other_class, other_mapping, parts_without_compatibility, none_of_all}
+use Rattle.collate_records.proofs.lists.ComposingLemmas.{composed_unmapped}
+use Rattle.collate_records.proofs.lists.FullListLemmas.{expanded_unmapped}
 
-canonical-same : (lines others : List Record) → SaysSame lines others → Agree (canonical_of lines) (canonical_of others)
-canonical-same lines others same = record {
-  class = λ c. class_of-same lines others c same;
-  full = λ c. expanded_same (step_of lines) (step_of others) (λ d. step_of-same lines others d same) 0x110000 c;
-  pair = λ a b. pair_of-same lines others a b same;
-}
+-- canonical data by classes, mappings and pairs
+abbrev data_by : (ℕ → ℕ) → (ℕ → List ℕ) → (ℕ → ℕ → Option ℕ) → Canonical
+data_by class step pair = record { class = class; step = step; full = λ c. expanded step 0x110000 c; pair = pair }
+
+-- lines that say the same mean the same
+canonical-same : (lines others : List Record) → SaysSame lines others → canonical_of lines ≡ canonical_of others
+canonical-same lines others same =
+    ap (λ class. data_by class (step_of lines) (pair_of lines)) (fun_ext (λ c. class_of-same lines others c same))
+    ∙ ap (λ step. data_by (class_of others) step (pair_of lines)) (fun_ext (λ c. step_of-same lines others c same))
+    ∙ ap (λ pair. data_by (class_of others) (step_of others) pair) (fun_ext (λ a. fun_ext (λ b. pair_of-same lines others a b same)))
 
 pub HasBadLow-same : (lines others : List Record) → SaysSame lines others → HasBadLow lines → HasBadLow others
 HasBadLow-same lines others same bad =
@@ -33,7 +39,7 @@ HasBadLow-same lines others same bad =
         ⊎_elim
             (λ mark. inl (λ e. mark (class_of-same lines others c same ∙ e)))
             (λ w. ⊎_elim
-            (λ other. inr (inl (λ e. other (composed_same (canonical_of lines) (canonical_of others) (canonical-same lines others same) c ∙ e))))
+            (λ other. inr (inl (λ e. other (ap (λ (canonical : Canonical). composed canonical (c ∷ [])) (canonical-same lines others same) ∙ e))))
             (λ v. ⊎_elim
             (λ mapped. inr (inr (inl (mapped.0, λ e. mapped.1 (step_of-same lines others c same ∙ e)))))
             (λ mapped. inr (inr (inr (mapped.0, λ e. mapped.1 (compatibility_of-same lines others c same ∙ e)))))
@@ -53,10 +59,6 @@ low_class : (c : ℕ) → c < 0x300 → built_in_class c ≡ None
 unfolding built_in_class
 low_class c h = grind (arith, nat_tests)
 
-low_step : (c : ℕ) → c < 0x300 → built_in_step c ≡ None
-unfolding built_in_step singled_out
-low_step c h = grind (arith, nat_tests)
-
 low_compatibility : (c : ℕ) → c < 0x300 → built_in_compatibility_step c ≡ None
 unfolding built_in_compatibility_step
 low_compatibility c h = grind (arith, nat_tests)
@@ -66,8 +68,8 @@ untouched : (records : List Record) (c : ℕ) → first_found (class_in c) recor
     → first_found (compatibility_in c) records ≡ None → IsBadlyLow records c → ⊥
 untouched records c no_class no_mapping no_compatibility (low, bad) =
     let class : class_of records c ≡ 0 = rw (low_class c low, no_class) refl in
-    let step : step_of records c ≡ [] = rw (low_step c low, low_compatibility c low, no_mapping) refl in
-    let other : compatibility_of records c ≡ [] = rw (low_step c low, low_compatibility c low, no_compatibility) refl in
+    let step : step_of records c ≡ [] = rw (low_free c low, low_compatibility c low, no_mapping) refl in
+    let other : compatibility_of records c ≡ [] = rw (low_free c low, low_compatibility c low, no_compatibility) refl in
     ⊎_elim (λ mark. mark class)
     (λ w. ⊎_elim (λ moved. moved (composed_unmapped (canonical_of records) c (expanded_unmapped (step_of records) 0x110000 c step)))
     (λ v. ⊎_elim (λ mapped. mapped.1 step) (λ mapped. mapped.1 other) v)
@@ -90,25 +92,11 @@ unsaid_mapping (part ∷ parts) c apart =
     ap (λ (o : Option (List ℕ)). elim o as (λ _. Option (List ℕ)) [ Some y ↦ Some y | None ↦ first_found (mapping_in c) (map in_full parts) ]) (other_mapping part c (All-head (λ f. c ≢ subject_of f) part parts apart))
     ∙ unsaid_mapping parts c (All-tail (λ f. c ≢ subject_of f) part parts apart)
 
--- no part so far is on a character that is what it may not be, nor is one more
-pub low_more : (parts : List CanonicalPart) (i : ℕ) (d : CanonicalPart) (c : ℕ) (b : Bool) → i < length parts
-    → All (λ part. IsBadlyLow (map in_full parts) (subject_of part) → ⊥) (take i parts)
-    → c ≡ subject_of (get_or parts i d) → (IsBadlyLow (map in_full parts) c → IsTrue b) → b ≡ false
-    → All (λ part. IsBadlyLow (map in_full parts) (subject_of part) → ⊥) (take (i + 1) parts)
-low_more parts i d c b within before e holds is_false =
-    let P : ℕ → Type 0 = λ n. IsBadlyLow (map in_full parts) n → ⊥ in
-    All-more (λ part. IsBadlyLow (map in_full parts) (subject_of part) → ⊥) parts i d within before
-    (subst P e (λ bad. false≢true (sym is_false ∙ holds bad)))
-
--- where no part is on such a character, there is none
+-- where no part is on a character that is what it may not be, there is none
 pub low_none : (parts : List CanonicalPart) (i : ℕ) → length parts ≤ i
     → All (λ part. IsBadlyLow (map in_full parts) (subject_of part) → ⊥) (take i parts) → HasBadLow (map in_full parts) → ⊥
 low_none parts i past before bad =
-    let P : CanonicalPart → Type 0 = λ part. IsBadlyLow (map in_full parts) (subject_of part) → ⊥ in
-    let Q : ℕ → Type 0 = λ n. IsBadlyLow (map in_full parts) n in
-    let all : All P parts = subst (λ (l : List CanonicalPart). All P l) (take_all i parts past) before in
-    let apart : All (λ part. bad.0 ≢ subject_of part) parts =
-    All-weaker P (λ part. bad.0 ≢ subject_of part) (λ part none same. none (subst Q same bad.1)) parts all in
+    let apart = none_of_all (λ c. IsBadlyLow (map in_full parts) c) parts i past before bad.0 bad.1 in
     untouched (map in_full parts) bad.0 (unsaid_class parts bad.0 apart) (unsaid_mapping parts bad.0 apart) (parts_without_compatibility parts bad.0) bad.1
 
 unsaid_by : (t : Bool) (o : Option (List ℕ)) → o ≡ None → cond t [] (unwrap_or o []) ≡ []

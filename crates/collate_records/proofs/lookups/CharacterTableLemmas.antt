@@ -48,14 +48,6 @@ ArePlaces-new places values empty none default error one = record {
   blocks = λ width. omega (arith, one width);
 }
 
-nothing_either : {V : Type 0} (b : Bool) → cond {A = Option V} b None None ≡ None
-nothing_either true = refl
-nothing_either false = refl
-
-pub placed-new : {V : Type 0} (places : CodePointMap ℕ) (values : List V) → ((c : ℕ) → mapped places c ≡ 0) → (c : ℕ) → placed places values c ≡ None
-placed-new {V} places values none c =
-    ap (λ (p : ℕ). cond {A = Option V} (nat_le c 0x10_FFFF) (value_in values p) None) (none c) ∙ nothing_either (nat_le c 0x10_FFFF)
-
 -- what is written for one character: a place that isn't the default
 mapped-more : (old new : CodePointMap ℕ) (character place c : ℕ) → IsWritten (λ n. n) old (λ c. c == character) place new
     → old.default ≡ 0 → 0 < place → c ≤ 0x10_FFFF → mapped new c ≡ cond (c == character) place (mapped old c)

@@ -1,11 +1,10 @@
 -- How many lines of one kind an accepted file has: each is for a character of its own, and few are named.
 use Rattle.std.proofs.Common.{◌≡◌, ℕ, zero, suc, ◌+◌, ◌<◌, ◌≤◌, ◌⊎◌, inl, inr, ⊎_elim, Bool, true, false, cond, ◌||◌, ◌&&◌, eqb, List, [], ◌∷◌, ◌++◌, length, map, take, get_or, Option, Some, None, refl, sym, ap, ◌∙◌, subst, arith, append-nil, length-append}
 use Rattle.std.specs.Prelude.{flat_map}
-use Rattle.std.specs.Bool.{IsTrue}
 use Rattle.std.specs.Cmp.{nat_eq_equiv}
 use Rattle.std.specs.List.{list_any, IsDistinct}
 use Rattle.std.specs.Set.{is_member, unique_keys}
-use Rattle.std.proofs.lemmas.Bool.{cases_lt, eqb-true, false≢true}
+use Rattle.std.proofs.lemmas.Bool.{cases_lt, eqb-true, false≢true, or_cases, or_parts, or_left, or_right, false_from_ne_true}
 use Rattle.std.proofs.lemmas.Bool.Decides.{nat_tests}
 use Rattle.std.proofs.lemmas.Grind.{flat_map-append}
 use Rattle.std.proofs.lemmas.List.{take_more, length-map}
@@ -13,6 +12,7 @@ use Rattle.std.proofs.lemmas.List.Folds.{list_any-append}
 use Rattle.std.proofs.lemmas.Map.Keys.{IsDistinct-push}
 use Rattle.std.proofs.lemmas.Map.Made.{length-le_from_is_member}
 use Rattle.std.proofs.lemmas.Option.{unwrap_or-slice_get}
+use Rattle.std.proofs.Math.Bool.{or-false, and-false, and-true}
 use Rattle.icu_collator_types.specs.declared.elements.Element.{Element}
 use Rattle.collate_records.specs.declared.rule.Rule.TheVariants.{Grammar, Limit, V14}
 use Rattle.collate_records.specs.Record.{Record, said, nothing, class, mapping, compatibility, weights, range, digit, setting, root, tailoring, lone_weights}
@@ -24,37 +24,18 @@ use Rattle.collate_records.specs.declared.record.Record.{Record as Line}
 use Rattle.collate_records.proofs.offenders.LimitLemmas.{said_of}
 use Rattle.collate_records.specs.Keys.{class_key, mapping_key, weights_key}
 
--- a line is for one character, as others of its kind are for theirs
+-- a line is for one character, which it names, as others of its kind are for theirs
 pub record IsKeyOf (key : Record → List ℕ) (s : Record) (c : ℕ) : Type 0 where
   pub is : key s ≡ c ∷ []
   pub second : (t : Record) → list_any (λ d. eqb c d) (key t) ≡ is_second t s
+  pub names : (q : ℕ) → eqb q c ≡ true → list_any (λ d. eqb q d) (named s) ≡ true
 
--- a kind of lines: those that are for one character each, which they name
-pub record IsKind (key : Record → List ℕ) : Type 0 where
-  pub each : (s : Record) → (key s ≡ []) ⊎ ((c : ℕ) × IsKeyOf key s c)
-  pub names : (s : Record) (q : ℕ) → list_any (λ d. eqb q d) (key s) ≡ true → list_any (λ d. eqb q d) (named s) ≡ true
-
-or_false : (b : Bool) → (b || false) ≡ b
-or_false true = refl
-or_false false = refl
-
-or_either : (a b : Bool) → (a || b) ≡ true → (a ≡ true) ⊎ (b ≡ true)
-or_either true b h = inl refl
-or_either false b h = inr h
-
-or_left : (a b : Bool) → a ≡ true → (a || b) ≡ true
-or_left a b h = ap (λ (t : Bool). t || b) h
-
-or_right : (a b : Bool) → b ≡ true → (a || b) ≡ true
-or_right true b h = refl
-or_right false b h = h
-
-not_true : (b : Bool) → (IsTrue b → ⊥) → b ≡ false
-not_true true h = absurd (h refl)
-not_true false h = refl
+-- a kind of lines: those that are for one character each
+abbrev pub IsKind : (Record → List ℕ) → Type 0
+IsKind key = (s : Record) → (key s ≡ []) ⊎ ((c : ℕ) × IsKeyOf key s c)
 
 turned : (c d : ℕ) → (eqb c d || false) ≡ eqb d c
-turned c d = or_false (eqb c d) ∙ grind (arith, nat_tests)
+turned c d = or-false (eqb c d) ∙ grind (arith, nat_tests)
 
 class_second : (c k : ℕ) (t : Record) → list_any (λ d. eqb c d) (class_key t) ≡ is_second t (class c k)
 class_second c k nothing = refl
@@ -67,27 +48,14 @@ class_second c k (digit d v) = refl
 class_second c k (setting s) = refl
 
 pub class_kind : IsKind class_key
-class_kind = record { each = one; names = within }
-  where
-    one : (s : Record) → (class_key s ≡ []) ⊎ ((c : ℕ) × IsKeyOf class_key s c)
-    one nothing = inl refl
-    one (class c k) = inr (c, record { is = refl; second = class_second c k })
-    one (mapping c ds x) = inl refl
-    one (compatibility d ds) = inl refl
-    one (weights l p t es) = inl refl
-    one (range r) = inl refl
-    one (digit d v) = inl refl
-    one (setting s) = inl refl
-
-    within : (s : Record) (q : ℕ) → list_any (λ d. eqb q d) (class_key s) ≡ true → list_any (λ d. eqb q d) (named s) ≡ true
-    within nothing q h = h
-    within (class c k) q h = h
-    within (mapping c ds x) q h = absurd (false≢true h)
-    within (compatibility d ds) q h = absurd (false≢true h)
-    within (weights l p t es) q h = absurd (false≢true h)
-    within (range r) q h = absurd (false≢true h)
-    within (digit d v) q h = absurd (false≢true h)
-    within (setting s) q h = absurd (false≢true h)
+class_kind nothing = inl refl
+class_kind (class c k) = inr (c, record { is = refl; second = class_second c k; names = λ q h. or_left (eqb q c) false h })
+class_kind (mapping c ds x) = inl refl
+class_kind (compatibility d ds) = inl refl
+class_kind (weights l p t es) = inl refl
+class_kind (range r) = inl refl
+class_kind (digit d v) = inl refl
+class_kind (setting s) = inl refl
 
 mapping_second : (c : ℕ) (cs : List ℕ) (x : Bool) (t : Record) → list_any (λ d. eqb c d) (mapping_key t) ≡ is_second t (mapping c cs x)
 mapping_second c cs x nothing = refl
@@ -100,35 +68,14 @@ mapping_second c cs x (digit d v) = refl
 mapping_second c cs x (setting s) = refl
 
 pub mapping_kind : IsKind mapping_key
-mapping_kind = record { each = one; names = within }
-  where
-    one : (s : Record) → (mapping_key s ≡ []) ⊎ ((c : ℕ) × IsKeyOf mapping_key s c)
-    one nothing = inl refl
-    one (class c k) = inl refl
-    one (mapping c ds x) = inr (c, record { is = refl; second = mapping_second c ds x })
-    one (compatibility d ds) = inl refl
-    one (weights l p t es) = inl refl
-    one (range r) = inl refl
-    one (digit d v) = inl refl
-    one (setting s) = inl refl
-
-    within : (s : Record) (q : ℕ) → list_any (λ d. eqb q d) (mapping_key s) ≡ true → list_any (λ d. eqb q d) (named s) ≡ true
-    within nothing q h = h
-    within (class c k) q h = absurd (false≢true h)
-    within (mapping c ds x) q h = or_left (eqb q c) (list_any (λ d. eqb q d) ds) (sym (or_false (eqb q c)) ∙ h)
-    within (compatibility d ds) q h = absurd (false≢true h)
-    within (weights l p t es) q h = absurd (false≢true h)
-    within (range r) q h = absurd (false≢true h)
-    within (digit d v) q h = absurd (false≢true h)
-    within (setting s) q h = absurd (false≢true h)
-
-and_false : (b : Bool) → (b && false) ≡ false
-and_false true = refl
-and_false false = refl
-
-and_true : (b : Bool) → (b && true) ≡ b
-and_true true = refl
-and_true false = refl
+mapping_kind nothing = inl refl
+mapping_kind (class c k) = inl refl
+mapping_kind (mapping c ds x) = inr (c, record { is = refl; second = mapping_second c ds x; names = λ q h. or_left (eqb q c) (list_any (λ d. eqb q d) ds) h })
+mapping_kind (compatibility d ds) = inl refl
+mapping_kind (weights l p t es) = inl refl
+mapping_kind (range r) = inl refl
+mapping_kind (digit d v) = inl refl
+mapping_kind (setting s) = inl refl
 
 weights_second : (c : ℕ) (es : List Element) (t : Record) → list_any (λ d. eqb c d) (weights_key t) ≡ is_second t (lone_weights c es)
 weights_second c es nothing = refl
@@ -136,8 +83,8 @@ weights_second c es (class d l) = refl
 weights_second c es (mapping d ds x) = refl
 weights_second c es (compatibility d ds) = refl
 weights_second c es (weights root [] [] fs) = refl
-weights_second c es (weights root [] (d ∷ []) fs) = turned c d ∙ sym (and_true (eqb d c))
-weights_second c es (weights root [] (d ∷ e ∷ ds) fs) = sym (and_false (eqb d c))
+weights_second c es (weights root [] (d ∷ []) fs) = turned c d ∙ sym (and-true (eqb d c))
+weights_second c es (weights root [] (d ∷ e ∷ ds) fs) = sym (and-false (eqb d c))
 weights_second c es (weights root (p ∷ ps) text fs) = refl
 weights_second c es (weights tailoring prefix text fs) = refl
 weights_second c es (range r) = refl
@@ -145,35 +92,18 @@ weights_second c es (digit d v) = refl
 weights_second c es (setting s) = refl
 
 pub weights_kind : IsKind weights_key
-weights_kind = record { each = one; names = within }
-  where
-    one : (s : Record) → (weights_key s ≡ []) ⊎ ((c : ℕ) × IsKeyOf weights_key s c)
-    one nothing = inl refl
-    one (class c k) = inl refl
-    one (mapping c ds x) = inl refl
-    one (compatibility d ds) = inl refl
-    one (weights root [] [] es) = inl refl
-    one (weights root [] (c ∷ []) es) = inr (c, record { is = refl; second = weights_second c es })
-    one (weights root [] (c ∷ d ∷ ds) es) = inl refl
-    one (weights root (p ∷ ps) text es) = inl refl
-    one (weights tailoring prefix text es) = inl refl
-    one (range r) = inl refl
-    one (digit d v) = inl refl
-    one (setting s) = inl refl
-
-    within : (s : Record) (q : ℕ) → list_any (λ d. eqb q d) (weights_key s) ≡ true → list_any (λ d. eqb q d) (named s) ≡ true
-    within nothing q h = h
-    within (class c k) q h = absurd (false≢true h)
-    within (mapping c ds x) q h = absurd (false≢true h)
-    within (compatibility d ds) q h = absurd (false≢true h)
-    within (weights root [] [] es) q h = absurd (false≢true h)
-    within (weights root [] (c ∷ []) es) q h = h
-    within (weights root [] (c ∷ d ∷ ds) es) q h = absurd (false≢true h)
-    within (weights root (p ∷ ps) text es) q h = absurd (false≢true h)
-    within (weights tailoring prefix text es) q h = absurd (false≢true h)
-    within (range r) q h = absurd (false≢true h)
-    within (digit d v) q h = absurd (false≢true h)
-    within (setting s) q h = absurd (false≢true h)
+weights_kind nothing = inl refl
+weights_kind (class c k) = inl refl
+weights_kind (mapping c ds x) = inl refl
+weights_kind (compatibility d ds) = inl refl
+weights_kind (weights root [] [] es) = inl refl
+weights_kind (weights root [] (c ∷ []) es) = inr (c, record { is = refl; second = weights_second c es; names = λ q h. or_left (eqb q c) false h })
+weights_kind (weights root [] (c ∷ d ∷ ds) es) = inl refl
+weights_kind (weights root (p ∷ ps) text es) = inl refl
+weights_kind (weights tailoring prefix text es) = inl refl
+weights_kind (range r) = inl refl
+weights_kind (digit d v) = inl refl
+weights_kind (setting s) = inl refl
 
 -- how many different numbers stand in a list
 picked : (b : Bool) (n c : ℕ) (cs : List ℕ) → n ≡ length cs → cond b n (1 + n) ≡ length (cond b cs (c ∷ cs))
@@ -222,8 +152,8 @@ module _ (key : Record → List ℕ) (kind : IsKind key) where
       subst (IsDistinct eqb) (sym (keys_to records i h)) (⊎_elim
       (λ none. subst (λ (cs : List ℕ). IsDistinct eqb (before ++ cs)) (sym none) (subst (IsDistinct eqb) (sym (append-nil before)) distinct))
       (λ w. subst (λ (cs : List ℕ). IsDistinct eqb (before ++ cs)) (sym w.1.is)
-      (IsDistinct-push nat_eq_equiv before w.0 distinct (any_key (record_at records i) w.0 w.1 (take i records) ∙ not_true _ fresh)))
-      (kind.each (record_at records i)))
+      (IsDistinct-push nat_eq_equiv before w.0 distinct (any_key (record_at records i) w.0 w.1 (take i records) ∙ false_from_ne_true _ fresh)))
+      (kind (record_at records i)))
 
   pub distinct_to : (records : List Record) → NoneOffends V14 records → (i : ℕ) → i ≤ length records → IsDistinct eqb (flat_map key (take i records))
   unfolding IsDistinct
@@ -235,14 +165,21 @@ module _ (key : Record → List ℕ) (kind : IsKind key) where
       subst (λ (n : ℕ). IsDistinct eqb (flat_map key (take n records))) same more
 
   -- a character that a line of the kind is for is named
+  names : (s : Record) (q : ℕ) → list_any (λ d. eqb q d) (key s) ≡ true → list_any (λ d. eqb q d) (named s) ≡ true
+  names s q h =
+      ⊎_elim
+      (λ none. absurd (false≢true (sym (ap (list_any (λ d. eqb q d)) none) ∙ h)))
+      (λ w. w.1.names q (sym (or-false (eqb q w.0)) ∙ sym (ap (list_any (λ d. eqb q d)) w.1.is) ∙ h))
+      (kind s)
+
   pub key_named : (q : ℕ) (xs : List Record) → list_any (λ d. eqb q d) (flat_map key xs) ≡ true → list_any (λ d. eqb q d) (flat_map named xs) ≡ true
   key_named q [] h = h
   key_named q (x ∷ xs) h =
       list_any-append (λ d. eqb q d) (named x) (flat_map named xs)
       ∙ ⊎_elim
-      (λ here. or_left _ _ (kind.names x q here))
+      (λ here. or_left _ _ (names x q here))
       (λ later. or_right (list_any (λ d. eqb q d) (named x)) _ (key_named q xs later))
-      (or_either _ _ (sym (list_any-append (λ d. eqb q d) (key x) (flat_map key xs)) ∙ h))
+      (or_cases _ _ (sym (list_any-append (λ d. eqb q d) (key x) (flat_map key xs)) ∙ h))
 
   keys_few : (records : List Record) → NoneOffends V14 records → (i : ℕ) → i ≤ length records → length (flat_map key (take i records)) ≤ different (flat_map named (take i records))
   keys_few records once i h =
@@ -274,10 +211,6 @@ accepted_once file accepted i lt again =
 pub accepted_few : (file : List ℕ) → IsAccepted file → NoneOffends Limit (records_of file)
 accepted_few file accepted i lt over = accepted Limit i (rw (← length-map (lines_of file) read_line) lt, over)
 
-or_neither : (a b : Bool) → (a || b) ≡ false → (a ≡ false) × (b ≡ false)
-or_neither true b h = absurd (false≢true (sym h))
-or_neither false b h = (refl, h)
-
 turned_false : (d c : ℕ) → eqb d c ≡ false → eqb c d ≡ false
 turned_false d c h = grind (arith, nat_tests)
 
@@ -293,7 +226,7 @@ pub mapping-absent : (c : ℕ) (cs : List ℕ) (x : Bool) (xs : List Record) →
 mapping-absent c cs x [] h = refl
 mapping-absent c cs x (nothing ∷ xs) h = mapping-absent c cs x xs h
 mapping-absent c cs x (class d l ∷ xs) h = mapping-absent c cs x xs h
-mapping-absent c cs x (mapping d ds y ∷ xs) h = let w = or_neither (eqb d c) _ h in passed (eqb c d) (Some ds) _ (turned_false d c w.0) (mapping-absent c cs x xs w.1)
+mapping-absent c cs x (mapping d ds y ∷ xs) h = let w = or_parts (eqb d c) _ h in passed (eqb c d) (Some ds) _ (turned_false d c w.0) (mapping-absent c cs x xs w.1)
 mapping-absent c cs x (compatibility d ds ∷ xs) h = mapping-absent c cs x xs h
 mapping-absent c cs x (weights l p t es ∷ xs) h = mapping-absent c cs x xs h
 mapping-absent c cs x (range r ∷ xs) h = mapping-absent c cs x xs h
@@ -302,7 +235,7 @@ mapping-absent c cs x (setting s ∷ xs) h = mapping-absent c cs x xs h
 
 -- what a w line gives to a character by itself
 pub lone_is : (q c : ℕ) (es : List Element) → lone_elements_in q (lone_weights c es) ≡ cond (eqb q c) (Some es) None
-lone_is q c es = ap (λ (b : Bool). cond b (Some es) None) (and_true (eqb q c))
+lone_is q c es = ap (λ (b : Bool). cond b (Some es) None) (and-true (eqb q c))
 
 -- nor elements
 pub weights-absent : (c : ℕ) (es : List Element) (xs : List Record) → list_any (λ t. is_second t (lone_weights c es)) xs ≡ false → first_found (lone_elements_in c) xs ≡ None
@@ -313,10 +246,10 @@ weights-absent c es (mapping d ds x ∷ xs) h = weights-absent c es xs h
 weights-absent c es (compatibility d ds ∷ xs) h = weights-absent c es xs h
 weights-absent c es (weights root [] [] fs ∷ xs) h = weights-absent c es xs h
 weights-absent c es (weights root [] (d ∷ []) fs ∷ xs) h =
-    let w = or_neither (eqb d c && true) _ h in
-    passed (eqb c d && true) (Some fs) _ (and_true (eqb c d) ∙ turned_false d c (sym (and_true (eqb d c)) ∙ w.0)) (weights-absent c es xs w.1)
+    let w = or_parts (eqb d c && true) _ h in
+    passed (eqb c d && true) (Some fs) _ (and-true (eqb c d) ∙ turned_false d c (sym (and-true (eqb d c)) ∙ w.0)) (weights-absent c es xs w.1)
 weights-absent c es (weights root [] (d ∷ e ∷ ds) fs ∷ xs) h =
-    let w = or_neither (eqb d c && false) _ h in passed (eqb c d && false) (Some fs) _ (and_false (eqb c d)) (weights-absent c es xs w.1)
+    let w = or_parts (eqb d c && false) _ h in passed (eqb c d && false) (Some fs) _ (and-false (eqb c d)) (weights-absent c es xs w.1)
 weights-absent c es (weights root (p ∷ ps) text fs ∷ xs) h = weights-absent c es xs h
 weights-absent c es (weights tailoring prefix text fs ∷ xs) h = weights-absent c es xs h
 weights-absent c es (range r ∷ xs) h = weights-absent c es xs h
@@ -341,4 +274,4 @@ pub fresh_at : (lines : List Line) (i : ℕ) (x : Line) → i < length lines →
 fresh_at lines i x h e once =
     let here : record_at (map said lines) i ≡ said x = unwrap_or-slice_get (map said lines) i nothing ∙ said_of lines i x h e in
     ap (λ (s : Record). list_any (λ t. is_second t s) (take i (map said lines))) (sym here)
-    ∙ not_true _ (once i (omega (arith, length-map lines said)))
+    ∙ false_from_ne_true _ (once i (omega (arith, length-map lines said)))

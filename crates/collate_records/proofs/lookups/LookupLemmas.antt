@@ -1,4 +1,4 @@
--- what is found in lines after one more, and in tables with one value more
+-- what is found in lines after others, and in tables with one value more
 use Rattle.std.proofs.lemmas.List.{get_or-map, length-map}
 use Rattle.std.proofs.lemmas.Bool.{eqb-true}
 use Rattle.std.proofs.lemmas.List.Elements.{All-get_or}
@@ -6,12 +6,19 @@ use Rattle.std.proofs.Common.{◌<◌, length, get_or, map, All, subst, ◌≡�
 use Rattle.std.specs.Option.{option_or}
 use Rattle.collate_records.specs.Meaning.{first_found}
 
+-- what is found first in two lists, one after another
+pub first_found-append : {A B : Type 0} (f : A → Option B) (xs ys : List A) → first_found f (xs ++ ys) ≡ option_or (first_found f xs) (first_found f ys)
+first_found-append f [] ys = refl
+first_found-append f (x ∷ xs) ys =
+    elim (f x) as (λ o. (elim o [ Some z ↦ Some z | None ↦ first_found f (xs ++ ys) ]) ≡ option_or (elim o [ Some z ↦ Some z | None ↦ first_found f xs ]) (first_found f ys))
+    [ Some z ↦ refl | None ↦ first_found-append f xs ys ]
+
+first_found-single : {A B : Type 0} (f : A → Option B) (x : A) → first_found f (x ∷ []) ≡ f x
+first_found-single f x = elim (f x) as (λ o. (elim o [ Some y ↦ Some y | None ↦ None ]) ≡ o) [ Some y ↦ refl | None ↦ refl ]
+
 -- what is found first in a list and one more item
 pub first_found-push : {A B : Type 0} (f : A → Option B) (xs : List A) (x : A) → first_found f (xs ++ x ∷ []) ≡ option_or (first_found f xs) (f x)
-first_found-push f [] x = elim (f x) as (λ o. (elim o [ Some y ↦ Some y | None ↦ None ]) ≡ o) [ Some y ↦ refl | None ↦ refl ]
-first_found-push f (y ∷ ys) x =
-    elim (f y) as (λ o. (elim o [ Some z ↦ Some z | None ↦ first_found f (ys ++ x ∷ []) ]) ≡ option_or (elim o [ Some z ↦ Some z | None ↦ first_found f ys ]) (f x))
-    [ Some z ↦ refl | None ↦ first_found-push f ys x ]
+first_found-push f xs x = first_found-append f xs (x ∷ []) ∙ ap (λ o. option_or (first_found f xs) o) (first_found-single f x)
 
 option_or-none : {B : Type 0} (o : Option B) → option_or o None ≡ o
 option_or-none None = refl

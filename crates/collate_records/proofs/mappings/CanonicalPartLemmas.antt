@@ -1,26 +1,19 @@
 -- Lines that say the same of classes and mappings.
-use Rattle.std.proofs.Common.{◌≡◌, ◌≢◌, ℕ, List, [], ◌∷◌, ◌++◌, map, refl, sym, ap, ◌∙◌, subst, arith, Bool, true, false, Option, Some, None, cond}
+use Rattle.std.proofs.Common.{◌≡◌, ◌≢◌, ℕ, List, [], ◌∷◌, ◌++◌, map, refl, sym, ap, ◌∙◌, subst, arith, Bool, true, false, Option, Some, None, cond, ◌+◌, ◌<◌, ◌≤◌, length, take, get_or, take_all}
 use Rattle.std.specs.Option.{unwrap_or}
 use Rattle.std.proofs.lemmas.List.{map-append}
 use Rattle.std.proofs.lemmas.Grind.{common_steps}
+use Rattle.std.specs.Bool.{IsTrue}
+use Rattle.std.specs.List.{All}
+use Rattle.std.proofs.lemmas.Bool.{false≢true}
+use Rattle.std.proofs.lemmas.List.Elements.{All-more, All-weaker}
 use Rattle.collate_records.specs.declared.canonical_part.CanonicalPart.{CanonicalPart}
 use Rattle.collate_records.specs.declared.canonical_part.CanonicalPart.TheVariants.{Class, Map}
 use Rattle.icu_normalizer_core.specs.BuiltIn.{built_in_class, built_in_step, built_in_compatibility_step, syllable_of}
 use Rattle.collate_records.specs.Record.{Record}
 use Rattle.collate_records.specs.Meaning.{class_in, mapping_in, compatibility_in, composed_in, first_found, class_of, step_of, compatibility_of, pair_of, else_mapped, is_built_in, any_step}
 use Rattle.collate_records.specs.CanonicalParts.{in_full, SaysSame, subject_of}
-
--- what is found first, else what is found later
-abbrev pub else_found : {B : Type 0} → Option B → Option B → Option B
-else_found (Some y) later = Some y
-else_found None later = later
-
-pub first_found-append : {A B : Type 0} (found : A → Option B) (xs ys : List A)
-    → first_found found (xs ++ ys) ≡ else_found (first_found found xs) (first_found found ys)
-first_found-append found [] ys = refl
-first_found-append {A} {B} found (x ∷ xs) ys =
-    elim (found x) as (λ (o : Option B). elim o [ Some y ↦ Some y | None ↦ first_found found (xs ++ ys) ] ≡ else_found (elim o [ Some y ↦ Some y | None ↦ first_found found xs ]) (first_found found ys))
-    [ Some y ↦ refl | None ↦ first_found-append found xs ys ]
+use Rattle.collate_records.proofs.lookups.LookupLemmas.{first_found-append, first_found-skip}
 
 -- parts after parts say the same as the lines after the lines
 pub SaysSame-append : (parts lines more others : List Record) → SaysSame parts lines → SaysSame more others → SaysSame (parts ++ more) (lines ++ others)
@@ -75,6 +68,11 @@ parts_without_compatibility (part ∷ parts) c =
     ap (λ (o : Option (List ℕ)). elim o as (λ _. Option (List ℕ)) [ Some y ↦ Some y | None ↦ first_found (compatibility_in c) (map in_full parts) ]) (no_compatibility part c)
     ∙ parts_without_compatibility parts c
 
+-- a mapping stands where there is no other
+pub mapped_alone : (ds : List ℕ) → else_mapped ds [] ≡ ds
+mapped_alone [] = refl
+mapped_alone (d ∷ ds) = refl
+
 -- where no line maps by compatibility, a step is a canonical or a built-in one
 pub any_step-canonical : (lines : List Record) (c : ℕ) → first_found (compatibility_in c) lines ≡ None
     → any_step lines c ≡ unwrap_or (built_in_compatibility_step c) (step_of lines c)
@@ -82,10 +80,6 @@ any_step-canonical lines c none =
     ap (λ (o : Option (List ℕ)). unwrap_or (built_in_compatibility_step c) (else_mapped (step_of lines c) (cond (is_built_in c) [] (unwrap_or o [])))) none
     ∙ ap (unwrap_or (built_in_compatibility_step c)) (by (is_built_in c) (step_of lines c))
   where
-    mapped_alone : (ds : List ℕ) → else_mapped ds [] ≡ ds
-    mapped_alone [] = refl
-    mapped_alone (d ∷ ds) = refl
-
     by : (b : Bool) (ds : List ℕ) → else_mapped ds (cond b [] []) ≡ ds
     by true ds = mapped_alone ds
     by false ds = mapped_alone ds
@@ -96,27 +90,17 @@ any_step_parts parts c ds none is =
     is ∙ sym (any_step-canonical (map in_full parts) c (parts_without_compatibility parts c)
     ∙ ap (λ (o : Option (List ℕ)). unwrap_or o (step_of (map in_full parts) c)) (sym none))
 
-else_found-none : {B : Type 0} (o : Option B) → else_found o None ≡ o
-else_found-none (Some y) = refl
-else_found-none None = refl
-
-pub first_found-push : {A B : Type 0} (found : A → Option B) (xs : List A) (x : A) → found x ≡ None → first_found found (xs ++ x ∷ []) ≡ first_found found xs
-first_found-push {A} {B} found xs x e =
-    first_found-append found xs (x ∷ [])
-    ∙ ap (λ (o : Option B). else_found (first_found found xs) (elim o [ Some y ↦ Some y | None ↦ None ])) e
-    ∙ else_found-none (first_found found xs)
-
 pub first_found-other_class : (lines : List Record) (part : CanonicalPart) (c : ℕ) → c ≢ subject_of part
     → first_found (class_in c) (lines ++ in_full part ∷ []) ≡ first_found (class_in c) lines
-first_found-other_class lines part c apart = first_found-push (class_in c) lines (in_full part) (other_class part c apart)
+first_found-other_class lines part c apart = first_found-skip (class_in c) lines (in_full part) (other_class part c apart)
 
 pub first_found-other_mapping : (lines : List Record) (part : CanonicalPart) (c : ℕ) → c ≢ subject_of part
     → first_found (mapping_in c) (lines ++ in_full part ∷ []) ≡ first_found (mapping_in c) lines
-first_found-other_mapping lines part c apart = first_found-push (mapping_in c) lines (in_full part) (other_mapping part c apart)
+first_found-other_mapping lines part c apart = first_found-skip (mapping_in c) lines (in_full part) (other_mapping part c apart)
 
 pub first_found-other_compatibility : (lines : List Record) (part : CanonicalPart) (c : ℕ)
     → first_found (compatibility_in c) (lines ++ in_full part ∷ []) ≡ first_found (compatibility_in c) lines
-first_found-other_compatibility lines part c = first_found-push (compatibility_in c) lines (in_full part) (no_compatibility part c)
+first_found-other_compatibility lines part c = first_found-skip (compatibility_in c) lines (in_full part) (no_compatibility part c)
 
 pub SaysSame-sym : (parts lines : List Record) → SaysSame parts lines → SaysSame lines parts
 SaysSame-sym parts lines same =
@@ -126,13 +110,25 @@ SaysSame-sym parts lines same =
 pub stated_push : (parts after : List CanonicalPart) (part : CanonicalPart) → after ≡ parts ++ part ∷ [] → map in_full after ≡ map in_full parts ++ in_full part ∷ []
 stated_push parts after part e = ap (map in_full) e ∙ map-append in_full parts (part ∷ [])
 
--- the parts with one more after those that were read
-pub stated_read_push : (parts read after : List CanonicalPart) (part : CanonicalPart) → read ≡ parts → after ≡ parts ++ part ∷ [] → map in_full read ++ in_full part ∷ [] ≡ map in_full after
-stated_read_push parts read after part r e = ap (λ (l : List CanonicalPart). map in_full l ++ in_full part ∷ []) r ∙ sym (stated_push parts after part e)
-
 pub SaysSame-itself : (lines : List Record) → SaysSame lines lines
 SaysSame-itself lines = record { classes = λ c. refl; mappings = λ c. refl; compatibilities = λ c. refl; pairs = λ a b. refl }
 
 -- no parts, and no lines
 pub SaysSame-none : (parts : List CanonicalPart) → parts ≡ [] → SaysSame (map in_full parts) []
 SaysSame-none parts e = subst (λ (l : List Record). SaysSame l []) (ap (map in_full) (sym e)) (SaysSame-itself [])
+
+-- ---- Where the parts are gone through: no part so far is on a character with P,
+
+-- nor is one more,
+pub none_of_more : (P : ℕ → Type 0) (parts : List CanonicalPart) (i : ℕ) (d : CanonicalPart) (c : ℕ) (b : Bool) → i < length parts
+    → All (λ part. P (subject_of part) → ⊥) (take i parts) → c ≡ subject_of (get_or parts i d) → (P c → IsTrue b) → b ≡ false
+    → All (λ part. P (subject_of part) → ⊥) (take (i + 1) parts)
+none_of_more P parts i d c b within before e holds is_false =
+    All-more (λ part. P (subject_of part) → ⊥) parts i d within before (subst (λ (n : ℕ). P n → ⊥) e (λ p. false≢true (sym is_false ∙ holds p)))
+
+-- and at their end a character with P is none that a part is on
+pub none_of_all : (P : ℕ → Type 0) (parts : List CanonicalPart) (i : ℕ) → length parts ≤ i → All (λ part. P (subject_of part) → ⊥) (take i parts)
+    → (c : ℕ) → P c → All (λ part. c ≢ subject_of part) parts
+none_of_all P parts i past before c p =
+    All-weaker (λ part. P (subject_of part) → ⊥) (λ part. c ≢ subject_of part) (λ part none same. none (subst P same p)) parts
+    (subst (λ (l : List CanonicalPart). All (λ part. P (subject_of part) → ⊥) l) (take_all i parts past) before)

@@ -1,9 +1,9 @@
 -- Lines that keep the rules give canonical data, as far as composing goes.
 use Rattle.std.proofs.Common.{◌≡◌, ℕ, ◌+◌, ◌<◌, ◌≤◌, ◌⊎◌, ◌==◌, ◌&&◌, suc, inl, inr, ⊎_elim, not, cond, Bool, List, [], ◌∷◌, length, take, drop, get_or, true, false, Option, Some, None, refl, sym, ap, ◌∙◌, arith, subst, bytes_eq}
-use Rattle.std.specs.Option.{is_some, IfSome}
+use Rattle.std.specs.Option.{is_some, IfSome, option_or}
 use Rattle.std.specs.Char.{IsScalar}
 use Rattle.std.specs.List.{list_any}
-use Rattle.std.proofs.lemmas.Bool.{cases_Bool, cases_eq, cases_lt, eqb-true, false≢true, or_parts, and_parts, false_from_ne_true}
+use Rattle.std.proofs.lemmas.Bool.{cases_Bool, cases_eq, cases_lt, eqb-true, false≢true, or_parts, and_parts, false_from_ne_true, not-true}
 use Rattle.std.proofs.lemmas.Bool.Decides.{Decides-eqb}
 use Rattle.std.proofs.lemmas.List.{take_all, take-append-drop}
 use Rattle.std.proofs.Math.Seq.{drop-cons}
@@ -17,11 +17,12 @@ use Rattle.collate_records.specs.Record.{Record, nothing, class, mapping, compat
 use Rattle.collate_records.specs.Meaning.{first_found, mapping_in, composed_in, is_built_in, step_of, class_of, pair_of, canonical_of}
 use Rattle.collate_records.specs.Rules.{record_at, is_second, pair_in, HasBadSecond, HasBadLow}
 use Rattle.collate_records.specs.Offenders.{NoneOffends}
-use Rattle.collate_records.proofs.lists.LowLemmas.{HasBadLow-none}
+use Rattle.collate_records.proofs.lists.LowLemmas.{HasBadLow-none, none_left}
 use Rattle.collate_records.proofs.lookups.FoundLemmas.{found_at}
 use Rattle.collate_records.proofs.lookups.KeyLemmas.{mapping-absent}
-use Rattle.collate_records.proofs.mappings.CanonicalPartLemmas.{first_found-append, else_found}
 use Rattle.collate_records.proofs.mappings.StepLemmas.{step_of-built_in, some_or_none}
+use Rattle.collate_records.proofs.lookups.LookupLemmas.{first_found-append}
+use Rattle.collate_records.proofs.offenders.BreachLemmas.{none_together}
 
 -- a line that composes two characters to c
 record Composes (a b c : ℕ) (s : Record) : Type 0 where
@@ -31,10 +32,6 @@ record Composes (a b c : ℕ) (s : Record) : Type 0 where
 composing_by : (t : Bool) (c d : ℕ) → cond t (Some c) None ≡ Some d → (t ≡ true) × (c ≡ d)
 composing_by true c d e = (refl, same_Some c d e)
 composing_by false c d e = absurd (none-some d e)
-
-not_back : (b : Bool) → not b ≡ true → b ≡ false
-not_back true e = sym e
-not_back false e = refl
 
 composed_in-some : (a b c : ℕ) (s : Record) → composed_in a b s ≡ Some c → Composes a b c s
 composed_in-some a b c nothing e = absurd (none-some c e)
@@ -51,7 +48,7 @@ composed_in-some a b c (mapping f (d ∷ g ∷ []) false) e =
     let same : f ≡ c = w.1 in
     record {
       line = ap (λ (n : ℕ). mapping n (d ∷ g ∷ []) false) same ∙ ap (λ (n : ℕ). mapping c (n ∷ g ∷ []) false) (sym first) ∙ ap (λ (n : ℕ). mapping c (a ∷ n ∷ []) false) (sym second);
-      free = subst (λ (n : ℕ). is_built_in n ≡ false) same (not_back (is_built_in f) v.1);
+      free = subst (λ (n : ℕ). is_built_in n ≡ false) same (not-true (is_built_in f) v.1);
     }
 composed_in-some a b c (mapping f (d ∷ g ∷ h ∷ ds) x) e = absurd (none-some c e)
 composed_in-some a b c (compatibility d es) e = absurd (none-some c e)
@@ -95,7 +92,7 @@ module _ (records : List Record) where
       drop-cons records i nothing within ∙ ap (λ (s : Record). s ∷ drop (suc i) records) here in
       ap (first_found (mapping_in c)) (sym (take-append-drop i records))
       ∙ first_found-append (mapping_in c) (take i records) (drop i records)
-      ∙ ap (λ (o : Option (List ℕ)). else_found o (first_found (mapping_in c) (drop i records))) (mapping-absent c ds x (take i records) before)
+      ∙ ap (λ (o : Option (List ℕ)). option_or o (first_found (mapping_in c) (drop i records))) (mapping-absent c ds x (take i records) before)
       ∙ ap (first_found (mapping_in c)) later
       ∙ first_here c ds x (drop (suc i) records)
     where
@@ -159,24 +156,14 @@ module _ (records : List Record) where
       (λ apart. absurd (lows (c, (low, inr (inl (λ e. false≢true (sym apart ∙ (bytes_eq-Decides (composed (canonical_of records) (c ∷ [])) (c ∷ [])).1 e)))))))
       (cases_Bool (bytes_eq (composed (canonical_of records) (c ∷ [])) (c ∷ [])))
 
-  unmapped_by : (c : ℕ) (ds : List ℕ) → ((ds ≡ [] → ⊥) → ⊥) → ds ≡ []
-  unmapped_by c [] h = refl
-  unmapped_by c (d ∷ ds) h = absurd (h (λ e. omega (arith, ap length e)))
-
   unmapped : (HasBadLow records → ⊥) → (c : ℕ) → c < 0xc0 → step_of records c ≡ []
-  unmapped lows c low = unmapped_by c (step_of records c) (λ some. lows (c, (omega arith, inr (inr (inl (low, some))))))
-
--- no line is such that the lines up to the last are in breach of the rule
-lows_kept : (records : List Record) → NoneOffends C7 records → HasBadLow records → ⊥
-lows_kept [] keeps = HasBadLow-none
-lows_kept (s ∷ ss) keeps =
-    subst (λ lines. HasBadLow lines → ⊥) (take_all (length ss + 1) (s ∷ ss) (omega arith)) (keeps (length ss) (omega arith))
+  unmapped lows c low = none_left (step_of records c) (λ some. lows (c, (omega arith, inr (inr (inl (low, some))))))
 
 -- lines that keep the rules compose as canonical data do
 pub composing : (records : List Record) → ((c : ℕ) (ds : List ℕ) (x : Bool) (i : ℕ) → i < length records → record_at records i ≡ mapping c ds x → IsScalar c)
     → NoneOffends V14 records → NoneOffends C6 records → NoneOffends C7 records → IsComposing (canonical_of records)
 composing records named once seconds_kept low_kept =
-    let lows = lows_kept records low_kept in
+    let lows = none_together HasBadLow HasBadLow-none records low_kept in
     record {
       syllables = syllables records;
       mapped = mapped records once;

@@ -5,7 +5,7 @@ use Rattle.std.specs.Option.{is_some, unwrap_or, IfSome}
 use Rattle.std.specs.Char.{IsScalar}
 use Rattle.std.specs.List.{Contains}
 use lib.Utf8.{scalar_cases}
-use Rattle.std.proofs.lemmas.Bool.{cases_eq, cases_lt, ne_eqb, false≢true, or_left}
+use Rattle.std.proofs.lemmas.Bool.{cases_eq, cases_lt, ne_eqb, or_left}
 use Rattle.std.proofs.lemmas.List.{take_all}
 use Rattle.std.proofs.lemmas.Option.{none-some}
 use Rattle.std.proofs.lemmas.List.Elements.{All-contains, All-cons, All-nil}
@@ -19,8 +19,13 @@ use Rattle.collate_records.specs.declared.rule.Rule.TheVariants.{C1, C2, C3, C4,
 use Rattle.collate_records.specs.Offenders.{NoneOffends}
 use Rattle.collate_records.specs.Accepted.{AreScalars}
 use Rattle.collate_records.proofs.mappings.EndingLemmas.{ends}
-use Rattle.collate_records.proofs.mappings.SoonEndedLemmas.{EndsSoon, unmapped-ends_soon, two-ends_soon, expanded-unmapped, ends_built_in, ends_unmapped, bounded_built_in}
+use Rattle.collate_records.proofs.mappings.SoonEndedLemmas.{EndsSoon, unmapped-ends_soon, two-ends_soon, bounded_built_in}
 use Rattle.collate_records.proofs.mappings.StepLemmas.{IsMapped, step_cases, free_step_cases, step_scalars, mark_unmapped, mapped_starter, no_letters, small_class, step_of-built_in, step_of-compatibility, some_or_none}
+use Rattle.collate_records.proofs.offenders.MappedMarkLemmas.{MapsMark-none}
+use Rattle.collate_records.proofs.lists.BadListLemmas.{HasBadList-none}
+use Rattle.collate_records.proofs.lists.FullListLemmas.{expanded_unmapped}
+use Rattle.collate_records.proofs.mappings.LoopPartLemmas.{HasLoop-none}
+use Rattle.collate_records.proofs.offenders.BreachLemmas.{none_together}
 
 -- what is reached from a text that has more
 reaches_from : (step : ℕ → List ℕ) (s t : List ℕ) (x : ℕ) → ((d : ℕ) → Contains s d → Contains t d) → Reaches step s x → Reaches step t x
@@ -102,7 +107,7 @@ module _ (records : List Record) where
       ⊎_elim
       (λ built_in. bounded_built_in (step_of records) (λ d. (step_scalars records scalars d).1) 0x10fffd c (built_in-ends_soon marks c built_in))
       (λ w. ⊎_elim
-      (λ none. let e = ap length (expanded-unmapped (step_of records) 0x10ffff c none) in omega (arith, e))
+      (λ none. let e = ap length (expanded_unmapped (step_of records) 0x110000 c none) in omega (arith, e))
       (λ m. ⊎_elim (λ over. absurd (lists (c, (mapped_by c m, m.free, inl (inl over))))) (λ h. h) (cases_lt 8 (length (full_of records c))))
       w)
       (step_cases records c)
@@ -137,37 +142,6 @@ module _ (records : List Record) where
       (λ d r. loops (d, reaches_from (any_step records) (step_of records d) (any_step records d) d (step_in_any d) (reaches_wider (step_of records) (any_step records) step_in_any (step_of records d) d r)))
       c scalar
 
--- with no line there is nothing but what is built in
-no_marks : MapsMark [] → ⊥
-no_marks h = false≢true h.1.0
-
-no_lists : HasBadList [] → ⊥
-no_lists h = false≢true h.1.0
-
-ends_alone : (c : ℕ) → Leaves (step_of []) (c ∷ []) (full_of [] c)
-ends_alone c =
-    ⊎_elim
-    (λ built_in. ends_built_in (step_of []) 0x10fffd c (built_in-ends_soon [] no_marks c built_in))
-    (λ w. ⊎_elim (λ none. ends_unmapped (step_of []) 0x10ffff c none) (λ m. absurd (none-some (step_of [] c) m.found)) w)
-    (step_cases [] c)
-
--- all lines are those up to the last
-up_to_last : (s : Record) (ss : List Record) → take (length ss + 1) (s ∷ ss) ≡ s ∷ ss
-up_to_last s ss = take_all (length ss + 1) (s ∷ ss) (omega arith)
-
-marks_kept : (records : List Record) → NoneOffends C1 records → MapsMark records → ⊥
-marks_kept [] keeps = no_marks
-marks_kept (s ∷ ss) keeps = subst (λ lines. MapsMark lines → ⊥) (up_to_last s ss) (keeps (length ss) (omega arith))
-
-lists_kept : (records : List Record) → NoneOffends C4 records → HasBadList records → ⊥
-lists_kept [] keeps = no_lists
-lists_kept (s ∷ ss) keeps = subst (λ lines. HasBadList lines → ⊥) (up_to_last s ss) (keeps (length ss) (omega arith))
-
-ends_kept : (records : List Record) → AreScalars records → NoneOffends C2 records → (c : ℕ) → IsScalar c → Leaves (step_of records) (c ∷ []) (full_of records c)
-ends_kept [] scalars keeps = λ c scalar. ends_alone c
-ends_kept (s ∷ ss) scalars keeps =
-    ends_without_loop (s ∷ ss) scalars (subst (λ lines. HasLoop lines → ⊥) (up_to_last s ss) (keeps (length ss) (omega arith)))
-
 class_agrees : (records : List Record) (c : ℕ) → IfSome (built_in_class c) (λ k. class_of records c ≡ k)
 class_agrees records c =
     elim (built_in_class c) as (λ o. IfSome o (λ k. unwrap_or o (unwrap_or (first_found (class_in c) records) 0) ≡ k)) [ Some k ↦ refl | None ↦ tt ]
@@ -180,8 +154,8 @@ step_agrees_at records c None e = tt
 pub decomposing : (records : List Record) → AreScalars records → NoneOffends C1 records → NoneOffends C2 records → NoneOffends C3 records
     → NoneOffends C4 records → NoneOffends C9 records → IsDecomposing (canonical_of records)
 decomposing records scalars starters loops classes lists letters =
-    let marks = marks_kept records starters in
-    let bad_lists = lists_kept records lists in
+    let marks = none_together MapsMark MapsMark-none records starters in
+    let bad_lists = none_together HasBadList HasBadList-none records lists in
     record {
       classes = λ c scalar. small_class records classes c;
       built_in_classes = class_agrees records;
@@ -190,7 +164,7 @@ decomposing records scalars starters loops classes lists letters =
       scalars = λ c scalar. (step_scalars records scalars c).0;
       starters = λ c d ds scalar. mapped_starter records marks c d ds;
       letters = λ c d scalar. no_letters records letters c d;
-      ends = ends_kept records scalars loops;
+      ends = ends_without_loop records scalars (none_together HasLoop HasLoop-none records loops);
       begins = λ c d ds scalar. begins records bad_lists c d ds;
       bounded = λ c scalar. bounded records scalars marks bad_lists c;
     }

@@ -1,5 +1,5 @@
 -- Steps without a loop end: a chain of steps never has a number twice.
-use Rattle.std.proofs.Common.{◌≡◌, ℕ, zero, suc, ◌+◌, ◌<◌, ◌≤◌, List, [], ◌∷◌, ◌++◌, length, flat_map, eqb, false, refl, sym, subst, append_assoc, append-nil, arith, length-append, ⊎_elim}
+use Rattle.std.proofs.Common.{◌≡◌, ℕ, zero, suc, ◌+◌, ◌<◌, ◌≤◌, List, [], ◌∷◌, ◌++◌, length, flat_map, eqb, false, refl, sym, subst, append-nil, arith, length-append, ⊎_elim}
 use Rattle.std.specs.List.{Contains, list_any, IsDistinct}
 use Rattle.std.specs.Cmp.{nat_eq_equiv}
 use Rattle.std.proofs.lemmas.Bool.{eqb-true, false_from_ne_true}
@@ -7,9 +7,11 @@ use Rattle.std.proofs.lemmas.List.Elements.{Contains-push, Contains-append_right
 use Rattle.std.proofs.lemmas.Map.Views.{Contains-from_any}
 use Rattle.std.proofs.lemmas.Map.Keys.{IsDistinct-push}
 use Rattle.std.proofs.lemmas.Map.Steps.{length-le_from_distinct_below}
-use Rattle.icu_normalizer_core.specs.Canonical.{Reaches, stands, steps, Leaves, nothing, unmapped, mapped}
+use Rattle.icu_normalizer_core.specs.Canonical.{Reaches, stands, Leaves, nothing, unmapped, mapped}
+use Rattle.icu_normalizer_core.proofs.LeftLemmas.{left_append}
 use Rattle.collate_records.specs.Meaning.{expanded}
 use Rattle.collate_records.proofs.lists.FullListLemmas.{by_first, expanded-suc}
+use Rattle.collate_records.proofs.mappings.LoopLemmas.{reaches_on}
 
 pub Contains-head : (d : ℕ) (ds : List ℕ) → Contains (d ∷ ds) d
 Contains-head d ds = Contains-append_left (d ∷ []) ds d (Contains-push [] d)
@@ -17,29 +19,14 @@ Contains-head d ds = Contains-append_left (d ∷ []) ds d (Contains-push [] d)
 pub Contains-tail : (d : ℕ) (ds : List ℕ) (e : ℕ) → Contains ds e → Contains (d ∷ ds) e
 Contains-tail d ds e h = Contains-append_right (d ∷ []) ds e h
 
--- what is reached from what is reached
-pub reaches_on : (step : ℕ → List ℕ) (t : List ℕ) (y x : ℕ) → Reaches step t y → Reaches step (step y) x → Reaches step t x
-reaches_on step t y x (stands s d h) r = steps s d x h r
-reaches_on step t y x (steps s d e h q) r = steps s d x h (reaches_on step (step d) e x q r)
-
--- what is left of two texts, one after another
-pub Leaves-append : (step : ℕ → List ℕ) (zs ws xs ys : List ℕ) → Leaves step zs ws → Leaves step xs ys → Leaves step (xs ++ zs) (ys ++ ws)
-Leaves-append step zs ws xs ys after nothing = after
-Leaves-append step zs ws xs ys after (unmapped c cs left e r) = unmapped c (cs ++ zs) (left ++ ws) e (Leaves-append step zs ws cs left after r)
-Leaves-append step zs ws xs ys after (mapped c d ds cs left e r) =
-    mapped c d ds (cs ++ zs) (left ++ ws) e
-    (subst (λ (t : List ℕ). Leaves step t (left ++ ws)) (append_assoc (d ∷ ds) cs zs) (Leaves-append step zs ws ((d ∷ ds) ++ cs) left after r))
-
 -- what is left of each character, one after another
 Leaves-each : (step : ℕ → List ℕ) (f : ℕ → List ℕ) (ds : List ℕ) → ((d : ℕ) → Contains ds d → Leaves step (d ∷ []) (f d)) → Leaves step ds (flat_map f ds)
 Leaves-each step f [] each = nothing
 Leaves-each step f (d ∷ ds) each =
-    Leaves-append step ds (flat_map f ds) (d ∷ []) (f d)
-    (Leaves-each step f ds (λ e h. each e (Contains-tail d ds e h)))
-    (each d (Contains-head d ds))
+    left_append step (d ∷ []) ds (f d) (flat_map f ds) (each d (Contains-head d ds)) (Leaves-each step f ds (λ e h. each e (Contains-tail d ds e h)))
 
 -- what is left of a character, by its first step
-pub Leaves-by_first : (step : ℕ → List ℕ) (n c : ℕ) (ds : List ℕ) → step c ≡ ds → ((d : ℕ) → Contains ds d → Leaves step (d ∷ []) (expanded step n d))
+Leaves-by_first : (step : ℕ → List ℕ) (n c : ℕ) (ds : List ℕ) → step c ≡ ds → ((d : ℕ) → Contains ds d → Leaves step (d ∷ []) (expanded step n d))
     → Leaves step (c ∷ []) (by_first step n c ds)
 Leaves-by_first step n c [] e each = unmapped c [] [] e nothing
 Leaves-by_first step n c (d ∷ ds) e each =

@@ -60,12 +60,6 @@ exploring_more step text target list after next so_far below apart e small =
       within = let l = ap length more.1 ∙ length-append list more.0 in omega arith;
     })
 
-pub exploring_found : (step : ℕ → List ℕ) (text : List ℕ) (target : ℕ) (list : List ℕ) (next : ℕ)
-    → IsExploring step text target list next → next < length list → slice_index list next ≡ target → Reaches step text target
-exploring_found step text target list next so_far below e =
-    let P : ℕ → Type 0 = λ c. Reaches step text c in
-    subst P e (so_far.reached (slice_index list next) (Contains-get_or list next 0 below))
-
 -- where an element stands
 read : (list : List ℕ) (c : ℕ) (h : Contains list c) → slice_index list (h.0) ≡ c
 read list c h = sym (get_or_default_zero list h.0 c h.1) ∙ h.2

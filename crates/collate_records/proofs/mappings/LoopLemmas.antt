@@ -52,12 +52,6 @@ reaches_still step later c agree unmapped t x (steps s d y h r) =
     (λ w. steps s d y h (subst (λ (l : List ℕ). Reaches later l y) (sym (agree d w.1)) (reaches_still step later c agree unmapped (step d) y r)))
     (eqb_tells d c)
 
--- the same steps reach the same
-pub reaches_same : (step later : ℕ → List ℕ) → ((d : ℕ) → later d ≡ step d) → (t : List ℕ) (x : ℕ) → Reaches step t x → Reaches later t x
-reaches_same step later agree t x (stands s d h) = stands s d h
-reaches_same step later agree t x (steps s d y h r) =
-    steps s d y h (subst (λ (l : List ℕ). Reaches later l y) (sym (agree d)) (reaches_same step later agree (step d) y r))
-
 -- a list that has the text, and with each character what a step makes of it, has whatever the text reaches
 pub reached_in_closed : (step : ℕ → List ℕ) (all : List ℕ) → ((c : ℕ) → Contains all c → (d : ℕ) → Contains (step c) d → Contains all d)
     → (t : List ℕ) (x : ℕ) → ((d : ℕ) → Contains t d → Contains all d) → Reaches step t x → Contains all x

@@ -1,9 +1,10 @@
 -- Loops of the steps that parts say.
 use Rattle.std.proofs.Common.{◌≡◌, ◌≢◌, ℕ, List, [], ◌∷◌, ◌++◌, refl, sym, ap, ◌∙◌, subst, ⊎_elim, Bool, true, false, cond, ◌||◌, Option, Some, None, ◌↔◌}
 use Rattle.std.specs.Bool.{IsTrue}
-use Rattle.std.specs.Option.{unwrap_or, is_some, option_map}
+use Rattle.std.specs.Option.{unwrap_or, is_some, option_map, option_or}
 use Rattle.std.proofs.lemmas.Bool.{false≢true}
 use Rattle.std.proofs.lemmas.Bool.Decides.{eqb_tells, Decides-eqb}
+use Rattle.std.proofs.Math.Path.{fun_ext}
 use Rattle.icu_normalizer_core.specs.declared.properties.Decomposed.{Decomposed}
 use Rattle.icu_normalizer_core.specs.Properties.{mapped_to}
 use Rattle.icu_normalizer_core.specs.BuiltIn.{built_in_step, built_in_compatibility_step}
@@ -14,16 +15,13 @@ use Rattle.collate_records.specs.Record.{Record}
 use Rattle.collate_records.specs.Meaning.{mapping_in, compatibility_in, else_mapped, first_found, is_built_in, any_step}
 use Rattle.collate_records.specs.Rules.{HasLoop}
 use Rattle.collate_records.specs.CanonicalParts.{in_full, SaysSame, subject_of}
-use Rattle.collate_records.proofs.mappings.CanonicalPartLemmas.{any_step-same, else_found, first_found-append, first_found-push, first_found-other_mapping, first_found-other_compatibility}
+use Rattle.collate_records.proofs.mappings.CanonicalPartLemmas.{any_step-same, first_found-other_mapping, first_found-other_compatibility, mapped_alone}
 use Rattle.collate_records.proofs.mappings.BuiltInFallLemmas.{built_in_falls}
-use Rattle.collate_records.proofs.mappings.LoopLemmas.{falling_never, reaches_same, reaches_still, no_new_loop}
+use Rattle.collate_records.proofs.mappings.LoopLemmas.{falling_never, reaches_still, no_new_loop}
+use Rattle.collate_records.proofs.lookups.LookupLemmas.{first_found-append, first_found-skip}
 
 pub HasLoop-steps : (lines others : List Record) → ((d : ℕ) → any_step lines d ≡ any_step others d) → HasLoop lines → HasLoop others
-HasLoop-steps lines others agree loop = (
-  loop.0,
-  reaches_same (any_step lines) (any_step others) (λ d. sym (agree d)) (any_step others loop.0) loop.0
-      (subst (λ (l : List ℕ). Reaches (any_step lines) l loop.0) (agree loop.0) loop.1),
-)
+HasLoop-steps lines others agree loop = subst (λ (step : ℕ → List ℕ). (c : ℕ) × Reaches step (step c) c) (fun_ext agree) loop
 
 pub HasLoop-same : (lines others : List Record) → SaysSame lines others → HasLoop lines → HasLoop others
 HasLoop-same lines others same = HasLoop-steps lines others (λ d. any_step-same lines others d same)
@@ -51,7 +49,7 @@ pub class_closes_none : (parts : List Record) (c k : ℕ) → (HasLoop parts →
 unfolding step_by
 class_closes_none parts c k before loop =
     before (HasLoop-steps (parts ++ in_full (Class c k) ∷ []) parts
-    (λ d. step_along d _ _ _ _ (first_found-push (mapping_in d) parts (in_full (Class c k)) refl) (first_found-other_compatibility parts (Class c k) d)) loop)
+    (λ d. step_along d _ _ _ _ (first_found-skip (mapping_in d) parts (in_full (Class c k)) refl) (first_found-other_compatibility parts (Class c k) d)) loop)
 
 built_in-same : (c : ℕ) (said other later further : Option (List ℕ)) → is_built_in c ≡ true → step_by c said other ≡ step_by c later further
 unfolding step_by
@@ -69,7 +67,7 @@ built_in_closes_none parts c step x e before loop =
     (λ w. any_step-other parts (Map c step x) d w.1)
     (eqb_tells d c)) loop)
 
-first_kept : {B : Type 0} (o later : Option B) → is_some o ≡ true → else_found o later ≡ o
+first_kept : {B : Type 0} (o later : Option B) → is_some o ≡ true → option_or o later ≡ o
 first_kept (Some y) later e = refl
 first_kept None later e = absurd (false≢true e)
 
@@ -84,10 +82,6 @@ mapped_closes_none parts c step x e before loop =
     (first_found-other_compatibility parts (Map c step x) c)))
     (λ w. any_step-other parts (Map c step x) d w.1)
     (eqb_tells d c)) loop)
-
-mapped_alone : (ds : List ℕ) → else_mapped ds [] ≡ ds
-mapped_alone [] = refl
-mapped_alone (d ∷ ds) = refl
 
 free_by : (o p said : Option (List ℕ)) → is_some o || is_some p ≡ false
     → unwrap_or p (else_mapped (cond (is_some o || is_some p) (unwrap_or o []) (unwrap_or said [])) (cond (is_some o || is_some p) [] [])) ≡ unwrap_or said []
@@ -104,7 +98,7 @@ found_last : (parts : List Record) (c : ℕ) (step : Decomposed) (x : Bool) → 
     → first_found (mapping_in c) (parts ++ in_full (Map c step x) ∷ []) ≡ Some (mapped_to step)
 found_last parts c step x e =
     first_found-append (mapping_in c) parts (in_full (Map c step x) ∷ [])
-    ∙ ap (λ (o : Option (List ℕ)). else_found o (first_found (mapping_in c) (in_full (Map c step x) ∷ []))) e
+    ∙ ap (λ (o : Option (List ℕ)). option_or o (first_found (mapping_in c) (in_full (Map c step x) ∷ []))) e
     ∙ ap (λ (b : Bool). elim (cond b (Some (mapped_to step)) None) as (λ _. Option (List ℕ)) [ Some y ↦ Some y | None ↦ None ]) ((Decides-eqb c c).1 refl)
 
 closed : (b : Bool) → ((IsTrue b → ⊥) → ⊥) → IsTrue b

@@ -4,8 +4,7 @@ use Rattle.std.specs.List.{Contains}
 use Rattle.std.proofs.lemmas.List.Elements.{All-contains, All-cons, All-nil, All-head, All-tail}
 use Rattle.icu_normalizer_core.specs.Canonical.{Leaves, nothing, unmapped}
 use Rattle.collate_records.specs.Meaning.{expanded}
-use Rattle.collate_records.proofs.lists.FullListLemmas.{by_first, expanded-suc}
-use Rattle.collate_records.proofs.mappings.EndingLemmas.{Leaves-by_first}
+use Rattle.collate_records.proofs.lists.FullListLemmas.{by_first, expanded-suc, expanded_unmapped}
 
 module _ (step : ℕ → List ℕ) where
   -- no step leads on from what one step gives
@@ -20,26 +19,11 @@ module _ (step : ℕ → List ℕ) where
       subst (All (λ d. step d ≡ [])) (sym e)
       (All-cons (λ d. step d ≡ []) a (b ∷ []) first (All-cons (λ d. step d ≡ []) b [] second (All-nil (λ d. step d ≡ []))))
 
-  pub expanded-unmapped : (n c : ℕ) → step c ≡ [] → expanded step (suc n) c ≡ c ∷ []
-  expanded-unmapped n c e = expanded-suc step n c ∙ ap (by_first step n c) e
-
-  pub ends_unmapped : (n c : ℕ) → step c ≡ [] → Leaves step (c ∷ []) (expanded step (suc n) c)
-  ends_unmapped n c e = subst (Leaves step (c ∷ [])) (sym (expanded-unmapped n c e)) (unmapped c [] [] e nothing)
-
-  pub ends_by_first : (n c : ℕ) → ((d : ℕ) → Contains (step c) d → Leaves step (d ∷ []) (expanded step n d)) → Leaves step (c ∷ []) (expanded step (suc n) c)
-  ends_by_first n c each = subst (Leaves step (c ∷ [])) (sym (expanded-suc step n c)) (Leaves-by_first step n c (step c) refl each)
-
-  -- three steps end what ends soon after one
-  pub ends_built_in : (n c : ℕ) → All EndsSoon (step c) → Leaves step (c ∷ []) (expanded step (suc (suc (suc n))) c)
-  ends_built_in n c soon =
-      ends_by_first (suc (suc n)) c (λ d h.
-      ends_by_first (suc n) d (λ e k. ends_unmapped n e (All-contains (λ x. step x ≡ []) (step d) e (All-contains EndsSoon (step c) d soon h) k)))
-
   -- what is left of characters that are left alone
   pub flat_map-unmapped : (n : ℕ) (ds : List ℕ) → All (λ d. step d ≡ []) ds → flat_map (expanded step (suc n)) ds ≡ ds
   flat_map-unmapped n [] h = refl
   flat_map-unmapped n (d ∷ ds) h =
-      ap (λ xs. xs ++ flat_map (expanded step (suc n)) ds) (expanded-unmapped n d (All-head (λ x. step x ≡ []) d ds h))
+      ap (λ xs. xs ++ flat_map (expanded step (suc n)) ds) (expanded_unmapped step (suc n) d (All-head (λ x. step x ≡ []) d ds h))
       ∙ ap (λ xs. d ∷ xs) (flat_map-unmapped n ds (All-tail (λ x. step x ≡ []) d ds h))
 
   pub short_by_first : (n c : ℕ) (ds : List ℕ) → All (λ d. step d ≡ []) ds → length ds ≤ 2 → length (by_first step (suc n) c ds) ≤ 2

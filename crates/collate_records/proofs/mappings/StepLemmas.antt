@@ -11,12 +11,11 @@ use Rattle.std.proofs.lemmas.Option.{none-some, unwrap_or-slice_get}
 use Rattle.std.proofs.lemmas.List.Elements.{All-get_or, All-cons, All-nil}
 use Rattle.icu_normalizer_core.specs.BuiltIn.{is_syllable, is_jamo, singled_out, built_in_step, built_in_compatibility_step, built_in_class}
 use Rattle.icu_normalizer_core.specs.Canonical.{IsFree}
-use Rattle.icu_normalizer_core.proofs.BuiltInFacts.{built_in_cases, all_singled_out, syllable_cases}
+use Rattle.icu_normalizer_core.proofs.BuiltInFacts.{built_in_cases, all_singled_out, syllable_cases, built_in_short, small_class as small_built_in_class}
 use Rattle.collate_records.specs.Record.{Record, nothing, class, mapping}
 use Rattle.collate_records.specs.Meaning.{is_built_in, first_found, mapping_in, class_in, step_of, class_of}
 use Rattle.collate_records.specs.Rules.{record_at, MapsMark, MapsHangul, IsBadClass, is_built_in_record}
 use Rattle.collate_records.specs.Accepted.{AreScalars, MapsToScalars}
-use Rattle.collate_records.proofs.offenders.ClassLemmas.{built_in_class-small}
 use Rattle.collate_records.proofs.mappings.EndingLemmas.{Contains-tail}
 use Rattle.collate_records.proofs.lookups.FoundLemmas.{mapping_line, class_line}
 
@@ -53,7 +52,7 @@ list_any_false p xs x e h =
     false_from_ne_true (p x) (λ t. both_ways (list_any p xs) e (list_any_at p xs h.0 x h.1 (subst (λ y. p y ≡ true) (sym h.2) t)))
 
 -- a line on a character that isn't built in says nothing built in
-free_not_said : (c : ℕ) (ds : List ℕ) (x : Bool) → IsFree c → is_built_in_record (mapping c ds x) ≡ false
+pub free_not_said : (c : ℕ) (ds : List ℕ) (x : Bool) → IsFree c → is_built_in_record (mapping c ds x) ≡ false
 free_not_said c [] x free = refl
 free_not_said c (d ∷ []) x free = rw (is_built_in_record, free) refl
 free_not_said c (d ∷ e ∷ []) x free = rw (is_built_in_record, free) refl
@@ -70,24 +69,6 @@ AreTwoScalars ds = All IsScalar ds × (length ds ≤ 2)
 
 no_scalars : AreTwoScalars []
 no_scalars = (All-nil IsScalar, omega arith)
-
-one_scalar : (a : ℕ) → IsScalar a → AreTwoScalars (a ∷ [])
-one_scalar a h = (All-cons IsScalar a [] h (All-nil IsScalar), omega arith)
-
-two_scalars : (a b : ℕ) → IsScalar a → IsScalar b → AreTwoScalars (a ∷ b ∷ [])
-two_scalars a b h k = (All-cons IsScalar a (b ∷ []) h (All-cons IsScalar b [] k (All-nil IsScalar)), omega arith)
-
-built_in_scalars : (c : ℕ) (ds : List ℕ) → built_in_step c ≡ Some ds → AreTwoScalars ds
-built_in_scalars c ds e =
-    ⊎_elim
-    (λ w. let s = syllable_cases c w.0 in
-    subst AreTwoScalars (sym s.2 ∙ w.1) (two_scalars s.0 s.1 (low_scalar s.0 s.5) (low_scalar s.1 s.4)))
-    (λ w. ⊎_elim
-    (λ none. subst AreTwoScalars (sym none) no_scalars)
-    (λ one. all_singled_out (λ a xs. AreTwoScalars xs) (one_scalar 0x300 refl) (one_scalar 0x301 refl) (one_scalar 0x313 refl)
-    (two_scalars 0x308 0x301 refl refl) (two_scalars 0xf71 0xf72 refl refl) (two_scalars 0xf71 0xf74 refl refl) (two_scalars 0xf71 0xf80 refl refl) c ds one)
-    w)
-    (built_in_cases c ds e)
 
 module _ (records : List Record) where
   -- a mapping is built in, or there is none, or a line says it
@@ -120,7 +101,7 @@ module _ (records : List Record) where
   pub step_scalars : AreScalars records → (c : ℕ) → All IsScalar (step_of records c) × (length (step_of records c) ≤ 2)
   step_scalars scalars c =
       ⊎_elim
-      (λ built_in. built_in_scalars c (step_of records c) built_in)
+      (λ built_in. built_in_short c (step_of records c) built_in)
       (λ w. ⊎_elim
       (λ none. subst AreTwoScalars (sym none) no_scalars)
       (λ m. line_scalars scalars c (step_of records c) m)
@@ -153,7 +134,7 @@ module _ (records : List Record) where
   pub small_class : ((i : ℕ) → i < length records → IsBadClass (record_at records i) → ⊥) → (c : ℕ) → class_of records c < 255
   small_class keeps c =
       ⊎_elim
-      (λ w. let small = built_in_class-small c w.0 w.1 in
+      (λ w. let small = small_built_in_class c w.0 w.1 in
       let same : class_of records c ≡ w.0 = ap (λ o. unwrap_or o (unwrap_or (first_found (class_in c) records) 0)) w.1 in omega arith)
       (λ none. let same : class_of records c ≡ unwrap_or (first_found (class_in c) records) 0 = ap (λ o. unwrap_or o (unwrap_or (first_found (class_in c) records) 0)) none in
       ⊎_elim

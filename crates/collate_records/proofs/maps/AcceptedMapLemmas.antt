@@ -4,12 +4,11 @@ use Rattle.std.specs.Char.{IsScalar}
 use Rattle.std.specs.Option.{unwrap_or}
 use lib.Utf8.{low_scalar}
 use Rattle.std.proofs.lemmas.List.Elements.{All-weaker, All-cons, All-nil}
-use Rattle.icu_normalizer_core.specs.Canonical.{Canonical, Leaves, composed, decomposed, recomposed}
+use Rattle.icu_normalizer_core.specs.Canonical.{Canonical, Leaves, composed}
 use Rattle.icu_normalizer_core.specs.CanonicalMaps.{AreMeaning, KeepRules, IsMapped, BeginsWithStarter, given_step, step_of as step_of_maps}
 use Rattle.icu_normalizer_core.specs.Sameness.{AreSameCanonical}
 use Rattle.icu_normalizer_core.proofs.LeftLemmas.{left_one}
-use Rattle.icu_normalizer_core.proofs.DecomposedLemmas.{decomposed_same, decomposed_scalars}
-use Rattle.icu_normalizer_core.proofs.builder.AcceptedMapsSameLemmas.{one_meaning}
+use Rattle.icu_normalizer_core.proofs.builder.AcceptedMapsSameLemmas.{AreAlike, composed_same, one_meaning}
 use Rattle.collate_records.specs.declared.rule.Rule.{Rule}
 use Rattle.collate_records.specs.declared.rule.Rule.TheVariants.{Limit, C3, C5, C6, C8, C9, V14}
 use Rattle.collate_records.specs.Record.{Record, nothing, class, mapping, compatibility, weights, range, digit, setting}
@@ -18,7 +17,6 @@ use Rattle.collate_records.specs.Meaning.{canonical_of, step_of, pair_of, full_o
 use Rattle.collate_records.specs.Maps.{mappings_in, maps_of}
 use Rattle.collate_records.specs.Offenders.{NoneOffends}
 use Rattle.collate_records.specs.Rules.{IsBadClass, IsBadlyComposed, MapsHangul}
-use Rattle.collate_records.proofs.maps.ComposedAlikeLemmas.{AgreeOnScalars, recomposed_alike}
 use Rattle.collate_records.proofs.maps.MapLineLemmas.{MapsToFew, each_line}
 use Rattle.collate_records.proofs.maps.MapMeaningLemmas.{IsConsistent, maps_mean, class_of-maps, step_of-maps}
 use Rattle.collate_records.proofs.maps.MapNameLemmas.{maps_few, maps_one_class, maps_one_mapping}
@@ -107,22 +105,17 @@ module _ (records : List Record) (accepted : AreAccepted records) where
 
 -- a character below U+0300 is its own composed list in all that the maps mean
 composed_own : (records : List Record) → AreAccepted records → (canonical : Canonical) → AreMeaning (maps_of records) canonical → (c : ℕ) → c < 0x300 → composed canonical (c ∷ []) ≡ c ∷ []
-unfolding composed
 composed_own records accepted canonical other c low =
-    let decomposing = accepted_decompose records accepted in
     let composing = accepted_compose records accepted in
     let mean = accepted_maps_mean records accepted in
-    let scalar : IsScalar c = low_scalar c (omega arith) in
-    let agree : AgreeOnScalars canonical (canonical_of records) =
+    let alike : AreAlike canonical (canonical_of records) =
     record {
       class = λ d s. other.class d s ∙ sym (mean.class d s);
       pair = λ a b s t. other.pair a b s t ∙ sym (mean.pair a b s t);
-      made = composing.scalars;
+      scalars = composing.scalars;
     } in
-    ap (recomposed canonical)
-    (decomposed_same canonical (canonical_of records) (c ∷ []) (one_meaning (maps_of records) canonical (canonical_of records) other mean) decomposing
-    (All-cons IsScalar c [] scalar (All-nil IsScalar)))
-    ∙ recomposed_alike canonical (canonical_of records) agree (decomposed (canonical_of records) (c ∷ [])) (decomposed_scalars (canonical_of records) (c ∷ []) decomposing (scalar, tt))
+    composed_same canonical (canonical_of records) alike (c ∷ []) (one_meaning (maps_of records) canonical (canonical_of records) other mean)
+    (accepted_decompose records accepted) (All-cons IsScalar c [] (low_scalar c (omega arith)) (All-nil IsScalar))
     ∙ composing.own c low
 
 -- the maps of accepted lines keep the rules of maps

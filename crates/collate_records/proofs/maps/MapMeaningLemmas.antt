@@ -8,6 +8,7 @@ use Rattle.std.proofs.lemmas.Bool.{cases_Bool}
 use Rattle.std.proofs.lemmas.Bool.Decides.{nat_tests}
 use Rattle.std.proofs.lemmas.Option.{unwrap_or-slice_get}
 use Rattle.std.proofs.lemmas.List.Elements.{All-head, All-tail, All-get_or}
+use Rattle.std.proofs.Math.Bool.{and-false}
 use Rattle.icu_normalizer_core.specs.declared.canonical.builder.GivenMapping.{GivenMapping}
 use Rattle.icu_normalizer_core.specs.BuiltIn.{built_in_class, built_in_step, built_in_compatibility_step, syllable_of}
 use Rattle.icu_normalizer_core.specs.Canonical.{IsDecomposing}
@@ -19,6 +20,7 @@ use Rattle.collate_records.specs.Maps.{mappings_in, maps_of}
 use Rattle.collate_records.specs.Rules.{record_at, Contradicts, is_built_in_record}
 use Rattle.collate_records.proofs.maps.MapLineLemmas.{MapsToFew, given_class-maps, given_step-maps}
 use Rattle.collate_records.proofs.lookups.FoundLemmas.{mapping_line}
+use Rattle.collate_records.proofs.mappings.StepLemmas.{free_not_said}
 
 -- a line contradicts nothing that is built in
 abbrev pub IsConsistent : Record → Type 0
@@ -27,17 +29,10 @@ IsConsistent r = Contradicts r → ⊥
 pub class_of-maps : (records : List Record) (c : ℕ) → class_of_maps (maps_of records) c ≡ class_of records c
 class_of-maps records c = ap (λ (k : ℕ). unwrap_or (built_in_class c) k) (given_class-maps c records)
 
--- a line on a character of which no mapping is built in says nothing that is built in
-unsaid : (c : ℕ) (ds : List ℕ) (x : Bool) → built_in_step c ≡ None → is_built_in_record (mapping c ds x) ≡ false
-unsaid c [] x free = refl
-unsaid c (d ∷ []) x free = rw (is_built_in_record, free) refl
-unsaid c (d ∷ e ∷ []) x free = rw (is_built_in_record, free) refl
-unsaid c (d ∷ e ∷ f ∷ ds) x free = refl
-
--- so nothing at all is built in of it
+-- where a line contradicts nothing that is built in, and no mapping of its character is built in, nothing at all is built in of it
 pub line_free : (c : ℕ) (ds : List ℕ) (x : Bool) → IsConsistent (mapping c ds x) → built_in_step c ≡ None → is_built_in c ≡ false
 line_free c ds x consistent free =
-    ⊎_elim (λ built. absurd (consistent (built, unsaid c ds x free))) (λ none. none) (cases_Bool (is_built_in c))
+    ⊎_elim (λ built. absurd (consistent (built, free_not_said c ds x free))) (λ none. none) (cases_Bool (is_built_in c))
 
 module _ (records : List Record) (few : All MapsToFew records) (consistent : All IsConsistent records) where
   consistent_at : (i : ℕ) (s : Record) → i < length records → record_at records i ≡ s → IsConsistent s
@@ -50,7 +45,7 @@ module _ (records : List Record) (few : All MapsToFew records) (consistent : All
   found_none c built free None e = refl
   found_none c built free (Some ds) e =
       let w = mapping_line records c ds e in
-      absurd (consistent_at w.0 (mapping c ds w.1) w.2 w.3 (built, unsaid c ds w.1 free))
+      absurd (consistent_at w.0 (mapping c ds w.1) w.2 w.3 (built, free_not_said c ds w.1 free))
 
   step_by : (c : ℕ) (o : Option (List ℕ)) (b : Bool) → built_in_step c ≡ o → is_some o || is_some (built_in_compatibility_step c) ≡ b
       → unwrap_or o (given_step (flat_map mappings_in records) c) ≡ cond b (unwrap_or o []) (unwrap_or (first_found (mapping_in c) records) [])
@@ -83,13 +78,9 @@ composes_same a b c d e consistent = by (built_in_step c) refl
     same_pair : bytes_eq (d ∷ e ∷ []) (a ∷ b ∷ []) ≡ ((a == d) && (b == e))
     same_pair = grind (arith, nat_tests)
 
-    never : (p : Bool) → (p && false) ≡ false
-    never true = refl
-    never false = refl
-
     by : (o : Option (List ℕ)) → built_in_step c ≡ o
         → (bytes_eq (d ∷ e ∷ []) (a ∷ b ∷ []) && not (is_some o)) ≡ ((a == d) && (b == e) && not (is_some o || is_some (built_in_compatibility_step c)))
-    by (Some ds) h = never _ ∙ sym (never _)
+    by (Some ds) h = and-false _ ∙ sym (and-false _)
     by None h =
         let free : (is_some (built_in_step c) || is_some (built_in_compatibility_step c)) ≡ false = line_free c (d ∷ e ∷ []) false consistent h in
         let none : is_some (built_in_compatibility_step c) ≡ false = sym (ap (λ (o : Option (List ℕ)). is_some o || is_some (built_in_compatibility_step c)) h) ∙ free in

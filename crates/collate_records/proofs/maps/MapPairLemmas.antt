@@ -2,7 +2,7 @@
 use Rattle.std.proofs.Common.{◌≡◌, ◌≢◌, ℕ, ◌<◌, ◌≤◌, inl, inr, ⊎_elim, Bool, true, false, not, cond, ◌&&◌, ◌==◌, List, [], ◌∷◌, length, All, Option, Some, None, refl, sym, ap, ◌∙◌, arith, subst, get_or, take}
 use Rattle.std.specs.Prelude.{flat_map}
 use Rattle.std.specs.List.{Contains}
-use Rattle.std.proofs.lemmas.Bool.{cases_eq, cases_lt, eqb-true, eq-eqb, and_parts, false_from_ne_true, false≢true}
+use Rattle.std.proofs.lemmas.Bool.{cases_eq, cases_lt, eqb-true, eq-eqb, and_parts, false_from_ne_true, false≢true, not-true}
 use Rattle.std.proofs.lemmas.Option.{unwrap_or-slice_get}
 use Rattle.std.proofs.lemmas.List.{get_or-take, length-take}
 use Rattle.std.proofs.lemmas.List.Folds.{list_any_at}
@@ -19,25 +19,17 @@ use Rattle.collate_records.proofs.maps.MapLineLemmas.{each_line}
 use Rattle.collate_records.proofs.maps.MapMeaningLemmas.{IsConsistent, composes_same}
 use Rattle.collate_records.proofs.maps.MapRuleLemmas.{all_mappings}
 
-not_back : (b : Bool) → not b ≡ true → b ≡ false
-not_back true e = sym e
-not_back false e = refl
-
 -- the line of a composed mapping is for the pair
 two_pair : (a b c d e : ℕ) (x : Bool) → IsConsistent (mapping c (d ∷ e ∷ []) x)
     → composes a b (record { character = c; first = d; second = Some e; is_composed = not x }) ≡ true → pair_in (mapping c (d ∷ e ∷ []) x) ≡ Some (a, b)
 two_pair a b c d e true consistent h = absurd (false≢true h)
 two_pair a b c d e false consistent h =
-    let w = and_parts ((a == d) && (b == e)) (not (is_built_in c)) (assoc (a == d) (b == e) (not (is_built_in c)) (sym (composes_same a b c d e consistent) ∙ h)) in
+    let w = and_parts ((a == d) && (b == e)) (not (is_built_in c)) (sym (composes_same a b c d e consistent) ∙ h) in
     let u = and_parts (a == d) (b == e) w.0 in
     let first : a ≡ d = eqb-true a d u.0 in
     let second : b ≡ e = eqb-true b e u.1 in
-    ap (λ (t : Bool). cond {A = Option (ℕ × ℕ)} t None (Some (d, e))) (not_back (is_built_in c) w.1)
+    ap (λ (t : Bool). cond {A = Option (ℕ × ℕ)} t None (Some (d, e))) (not-true (is_built_in c) w.1)
     ∙ ap (λ (n : ℕ). Some (n, e)) (sym first) ∙ ap (λ (n : ℕ). Some (a, n)) (sym second)
-  where
-    assoc : (p q r : Bool) → (p && q && r) ≡ true → ((p && q) && r) ≡ true
-    assoc true q r h = h
-    assoc false q r h = h
 
 -- ---- The second of a pair
 

@@ -5,10 +5,11 @@ use Rattle.std.specs.List.{list_any}
 use Rattle.std.specs.Bool.{IsTrue}
 use Rattle.std.specs.Option.{is_some}
 use Rattle.std.specs.Str.{bytes_eq}
-use Rattle.std.proofs.lemmas.Bool.{cases_Bool, cases_eq, cases_lt, ne_eqb, false_from_ne_true, false≢true}
+use Rattle.std.proofs.lemmas.Bool.{cases_Bool, cases_eq, cases_lt, ne_eqb, false_from_ne_true, false≢true, true_from_ne_false}
 use Rattle.std.proofs.lemmas.Bool.Decides.{nat_tests}
 use Rattle.std.proofs.lemmas.Option.{none-some, same_Some}
 use Rattle.std.proofs.lemmas.List.Elements.{All-nil, All-cons, All-weaker}
+use Rattle.std.proofs.Math.Bool.{and-true}
 use Rattle.icu_normalizer_core.specs.declared.canonical.builder.GivenClass.{GivenClass}
 use Rattle.icu_normalizer_core.specs.declared.canonical.builder.GivenMapping.{GivenMapping}
 use Rattle.icu_normalizer_core.specs.BuiltIn.{built_in_class, built_in_step, is_syllable, is_jamo}
@@ -102,10 +103,6 @@ one_said c d x = by (built_in_step c) refl
     one_pair : (e : ℕ) → bytes_eq (d ∷ []) (e ∷ []) ≡ (d == e)
     one_pair e = grind (arith, nat_tests)
 
-    and_all : (p : Bool) → (p && true) ≡ p
-    and_all true = refl
-    and_all false = refl
-
     longer : (e f : ℕ) (ds : List ℕ) → bytes_eq (d ∷ []) (e ∷ f ∷ ds) ≡ false
     longer e f ds = grind (arith, nat_tests)
 
@@ -115,7 +112,7 @@ one_said c d x = by (built_in_step c) refl
     by None h = refl
     by (Some []) h = refl
     by (Some (e ∷ [])) h =
-        ap (λ (t : Bool). bytes_eq (d ∷ []) (e ∷ []) && cond t false true) (no_syllable c e h) ∙ and_all (bytes_eq (d ∷ []) (e ∷ [])) ∙ one_pair e
+        ap (λ (t : Bool). bytes_eq (d ∷ []) (e ∷ []) && cond t false true) (no_syllable c e h) ∙ and-true (bytes_eq (d ∷ []) (e ∷ [])) ∙ one_pair e
     by (Some (e ∷ f ∷ ds)) h = never _ (cond (is_syllable c) false true) (longer e f ds)
 
 two_said : (c d e : ℕ) (x : Bool) → is_built_in_mapping (two_of c d e x) ≡ is_built_in_record (mapping c (d ∷ e ∷ []) x)
@@ -131,16 +128,8 @@ two_said c d e x = by (built_in_step c)
     same_pair f g = grind (arith, nat_tests)
 
     regrouped : (p q r s y : Bool) → p ≡ (q && r) → (p && cond s (not y) (not (not y))) ≡ (q && r && cond s (not y) y)
-    regrouped p q r s true e = ap (λ (t : Bool). t && cond s false true) e ∙ grouped q r (cond s false true)
-      where
-        grouped : (a b z : Bool) → ((a && b) && z) ≡ (a && b && z)
-        grouped true b z = refl
-        grouped false b z = refl
-    regrouped p q r s false e = ap (λ (t : Bool). t && cond s true false) e ∙ grouped q r (cond s true false)
-      where
-        grouped : (a b z : Bool) → ((a && b) && z) ≡ (a && b && z)
-        grouped true b z = refl
-        grouped false b z = refl
+    regrouped p q r s true e = ap (λ (t : Bool). t && cond s false true) e
+    regrouped p q r s false e = ap (λ (t : Bool). t && cond s true false) e
 
     by : (o : Option (List ℕ))
         → elim o as (λ _. Bool) [ Some ds ↦ bytes_eq (d ∷ e ∷ []) ds && cond (is_syllable c) (not x) (not (not x)) | None ↦ false ]
@@ -170,16 +159,12 @@ pub all_mappings : (P : GivenMapping → Type 0) (Q : Record → Type 0) → ((c
     → ((c d e : ℕ) (x : Bool) → Q (mapping c (d ∷ e ∷ []) x) → P (two_of c d e x)) → (records : List Record) → All Q records → All P (flat_map mappings_in records)
 all_mappings P Q one two records all = All-flat_map P mappings_in records (All-weaker Q (λ r. All P (mappings_in r)) (line_mappings P Q one two) records all)
 
-true_where : (b : Bool) → (b ≡ false → ⊥) → b ≡ true
-true_where true h = refl
-true_where false h = absurd (h refl)
-
 pub maps_built_in_mappings : (records : List Record) → All IsConsistent records
     → All (λ g. is_built_in_map g.character ≡ true → is_built_in_mapping g ≡ true) (flat_map mappings_in records)
 maps_built_in_mappings =
     all_mappings (λ g. is_built_in_map g.character ≡ true → is_built_in_mapping g ≡ true) IsConsistent
-    (λ c d x consistent built. one_said c d x ∙ true_where _ (λ off. consistent (built, off)))
-    (λ c d e x consistent built. two_said c d e x ∙ true_where _ (λ off. consistent (built, off)))
+    (λ c d x consistent built. one_said c d x ∙ true_from_ne_false _ (λ off. consistent (built, off)))
+    (λ c d e x consistent built. two_said c d e x ∙ true_from_ne_false _ (λ off. consistent (built, off)))
 
 pub maps_letters : (records : List Record) → All (λ r. MapsHangul r → ⊥) records
     → All (λ g. is_built_in_mapping g ≡ false → list_any (λ d. is_jamo d || is_syllable d) (g.character ∷ mapping_given g) ≡ false) (flat_map mappings_in records)

@@ -1,5 +1,5 @@
 -- A breach that the lines up to line i make together: line i is the first that offends, or no line up to it offends.
-use Rattle.std.proofs.Common.{◌≡◌, ℕ, ◌+◌, ◌<◌, ◌≤◌, List, [], ◌∷◌, ◌++◌, length, get_or, map, take, sym, ap, ◌∙◌, subst, arith, below_more, append-nil}
+use Rattle.std.proofs.Common.{◌≡◌, ℕ, ◌+◌, ◌<◌, ◌≤◌, List, [], ◌∷◌, ◌++◌, length, get_or, map, take, sym, ap, ◌∙◌, subst, arith, below_more, append-nil, take_all}
 use Rattle.std.proofs.lemmas.List.{take-map, map_more, length-map}
 use Rattle.collate_records.specs.declared.record.Record.{Record as Line}
 use Rattle.collate_records.specs.Record.{Record, said}
@@ -31,6 +31,11 @@ pub none_at_end : (P : List Record → Type 0) (lines : List Line) (i : ℕ)
     → ((k : ℕ) → k < i → P (take (k + 1) (map said lines)) → ⊥) → length lines ≤ i
     → (k : ℕ) → k < length (map said lines) → P (take (k + 1) (map said lines)) → ⊥
 none_at_end P lines i before past k h = before k (omega (arith, length-map lines said))
+
+-- where no lines up to a last one make a breach, all lines make none
+pub none_together : (P : List Record → Type 0) → (P [] → ⊥) → (records : List Record) → ((i : ℕ) → i < length records → P (take (i + 1) records) → ⊥) → P records → ⊥
+none_together P none [] keeps = none
+none_together P none (s ∷ ss) keeps = subst (λ lines. P lines → ⊥) (take_all (length ss + 1) (s ∷ ss) (omega arith)) (keeps (length ss) (omega arith))
 
 -- parts that say what the lines up to line i say
 pub same_up_to : (parts more : List Record) (lines : List Line) (i : ℕ) (x : Line) → i < length lines → x ≡ get_or lines i x

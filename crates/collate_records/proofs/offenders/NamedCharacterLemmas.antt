@@ -6,20 +6,13 @@ use Rattle.std.specs.BTreeMap.{is_at}
 use Rattle.std.specs.List.{list_any}
 use Rattle.std.proofs.lemmas.List.Folds.{list_any-append}
 use Rattle.std.proofs.lemmas.Bool.Decides.{nat_tests}
+use Rattle.std.proofs.Math.Bool.{or-false, or-true}
 use Rattle.collate_records.specs.Rules.{different}
 use Rattle.collate_records.specs.Limits.{Holds}
 
-or_false : (b : Bool) → (b || false) ≡ b
-or_false true = refl
-or_false false = refl
-
-or_true : (b : Bool) → (b || true) ≡ true
-or_true true = refl
-or_true false = refl
-
 -- whether a list has a number, with one number more at its end
 pub any_push : (n c : ℕ) (cs : List ℕ) → list_any (λ d. eqb n d) (cs ++ c ∷ []) ≡ (list_any (λ d. eqb n d) cs || eqb n c)
-any_push n c cs = list_any-append (λ d. eqb n d) cs (c ∷ []) ∙ ap (λ (b : Bool). list_any (λ d. eqb n d) cs || b) (or_false (eqb n c))
+any_push n c cs = list_any-append (λ d. eqb n d) cs (c ∷ []) ∙ ap (λ (b : Bool). list_any (λ d. eqb n d) cs || b) (or-false (eqb n c))
 
 joined : (a b : Bool) (n m : ℕ) → m ≡ cond a n (1 + n) → cond b m (1 + m) ≡ cond a (cond b n (1 + n)) (1 + cond b n (1 + n))
 joined true true n m e = e
@@ -41,13 +34,13 @@ unfolding different
 different-head c x xs true e h =
     let same : c ≡ x = eqb_is x c e in
     let found : list_any (λ d. eqb x d) (xs ++ c ∷ []) ≡ true =
-    any_push x c xs ∙ ap (λ (b : Bool). list_any (λ d. eqb x d) xs || b) (eqb_back x c e) ∙ or_true _ in
+    any_push x c xs ∙ ap (λ (b : Bool). list_any (λ d. eqb x d) xs || b) (eqb_back x c e) ∙ or-true _ in
     ap (λ (b : Bool). cond b (different (xs ++ c ∷ [])) (1 + different (xs ++ c ∷ []))) found
     ∙ h
     ∙ ap (λ (y : ℕ). cond (list_any (λ d. eqb y d) xs) (different xs) (1 + different xs)) same
 different-head c x xs false e h =
     ap (λ (b : Bool). cond b (different (xs ++ c ∷ [])) (1 + different (xs ++ c ∷ [])))
-    (any_push x c xs ∙ ap (λ (b : Bool). list_any (λ d. eqb x d) xs || b) (eqb_turn x c e) ∙ or_false _)
+    (any_push x c xs ∙ ap (λ (b : Bool). list_any (λ d. eqb x d) xs || b) (eqb_turn x c e) ∙ or-false _)
     ∙ joined (list_any (λ d. eqb c d) xs) (list_any (λ d. eqb x d) xs) (different xs) (different (xs ++ c ∷ [])) h
 
 -- one number more at the end of a list
@@ -61,8 +54,8 @@ is_at_same : (c n : ℕ) → is_at (nat_cmp c) n ≡ eqb n c
 is_at_same c n = grind (arith, nat_tests)
 
 cond_or : (a b : Bool) → cond a true b ≡ (b || a)
-cond_or true b = sym (or_true b)
-cond_or false b = sym (or_false b)
+cond_or true b = sym (or-true b)
+cond_or false b = sym (or-false b)
 
 counted : (b : Bool) (n m k : ℕ) → n ≡ k → m ≡ n + (if not b then 1 else 0) → m ≡ cond b k (1 + k)
 counted true n m k e h = omega arith

@@ -5,6 +5,7 @@ use Rattle.std.specs.List.{list_any}
 use Rattle.std.specs.Option.{unwrap_or}
 use Rattle.std.proofs.lemmas.Option.{same_Some}
 use Rattle.std.proofs.lemmas.List.Elements.{All-head, All-tail, All-weaker}
+use Rattle.std.proofs.Math.Bool.{or-false, and-false}
 use Rattle.icu_collator_types.specs.declared.elements.Element.{Element}
 use Rattle.icu_collator_types.specs.declared.options.AlternateHandling.{AlternateHandling}
 use Rattle.icu_collator_types.specs.declared.options.CollationCaseFirst.{CollationCaseFirst}
@@ -64,10 +65,6 @@ pub no_compatibility : (records : List Record) → All IsKnown records → (c : 
 no_compatibility records known c =
     none_found (compatibility_in c) (known_cases (λ r. compatibility_in c r ≡ None) refl (λ d k. refl) (λ d ds x. refl) (λ d es. refl)) records known
 
-and_false : (b : Bool) → (b && false) ≡ false
-and_false true = refl
-and_false false = refl
-
 none_where : {A : Type 0} (b : Bool) (x : A) → b ≡ false → cond b (Some x) None ≡ None
 none_where true x e = absurd (cc)
 none_where false x e = refl
@@ -92,7 +89,7 @@ module _ (records : List Record) (known : All IsKnown records) where
   longer_none c d ds =
       none_found (elements_in root [] (c ∷ d ∷ ds))
       (known_cases (λ r. elements_in root [] (c ∷ d ∷ ds) r ≡ None) refl (λ e k. refl) (λ e es x. refl)
-      (λ e es. none_where (eqb c e && false) es (and_false (eqb c e)))) records known
+      (λ e es. none_where (eqb c e && false) es (and-false (eqb c e)))) records known
 
   none_set : {A : Type 0} (found : Record → Option A) (default : A) → ((r : Record) → IsKnown r → found r ≡ None) → set_to found default records ≡ default
   none_set {A} found default none = ap (λ (o : Option A). unwrap_or o default) (none_found found none records known)
@@ -108,7 +105,7 @@ module _ (records : List Record) (known : All IsKnown records) where
         compressible = λ lead.
             ap (λ (leads : List ℕ). (lead == 0xfe) || list_any (λ other. other == lead) leads)
             (none_set compress_in [] (known_cases (λ r. compress_in r ≡ None) refl (λ d k. refl) (λ d ds x. refl) (λ d es. refl)))
-            ∙ or_false (lead == 0xfe);
+            ∙ or-false (lead == 0xfe);
         numeric_lead = none_set numeric_in 0x10 (known_cases (λ r. numeric_in r ≡ None) refl (λ d k. refl) (λ d ds x. refl) (λ d es. refl));
         no_dot_above = none_set dot_above_in false (known_cases (λ r. dot_above_in r ≡ None) refl (λ d k. refl) (λ d ds x. refl) (λ d es. refl));
         settings =
@@ -123,10 +120,6 @@ module _ (records : List Record) (known : All IsKnown records) where
             (none_set reorder_in [] (known_cases (λ r. reorder_in r ≡ None) refl (λ d k. refl) (λ d ds x. refl) (λ d es. refl)));
       }
     where
-      or_false : (b : Bool) → (b || false) ≡ b
-      or_false true = refl
-      or_false false = refl
-
       settings_with : AlternateHandling → CollationCaseFirst → MaxVariable → FileSettings
       settings_with a c m = record { alternate_handling = a; case_first = c; max_variable = m }
 

@@ -1,12 +1,8 @@
 -- The order of faults: each rule from rank 1 on has a rank of its own.
-use Rattle.std.proofs.Common.{◌≡◌, ℕ, ◌+◌, ◌<◌, ◌≤◌, List, [], ◌∷◌, get_or, refl, sym, ap, ◌∙◌, subst, arith, ⊎_elim}
-use Rattle.std.proofs.lemmas.Bool.{cases_lt}
+use Rattle.std.proofs.Common.{◌≡◌, ℕ, ◌<◌, [], ◌∷◌, get_or, refl, sym, ap, ◌∙◌, arith}
 use Rattle.collate_records.specs.declared.rule.Rule.{Rule}
 use Rattle.collate_records.specs.declared.rule.Rule.TheVariants.{Grammar, Limit, Set, C1, C2, C3, C4, C5, C6, C7, C8, C9, V1, V2, V3, V4, V5, V6, V7, V8, V9, V10, V11, V12, V13, V14, V15}
-use Rattle.collate_records.specs.Record.{Record}
-use Rattle.collate_records.specs.Offenders.{NoneOffends}
-use Rattle.collate_records.specs.Rules.{Offends, rank}
-use Rattle.collate_records.specs.Phases.{KeepsBelow}
+use Rattle.collate_records.specs.Rules.{rank}
 
 -- the rules in the order of faults
 abbrev rule_at : ℕ → Rule
@@ -46,16 +42,3 @@ pub same_from_rank : (rule other : Rule) → 0 < rank rule → rank rule ≡ ran
 same_from_rank rule other h e =
     let g : 0 < rank other = omega arith in
     sym (rule_at-rank rule h) ∙ ap rule_at e ∙ rule_at-rank other g
-
--- no rule is asked yet
-pub keeps_none : (records : List Record) → KeepsBelow 1 records
-keeps_none records rule i ranked below within offends = absurd (omega arith)
-
--- one rule more is kept
-pub keeps_more : (rule : Rule) (records : List Record) → 0 < rank rule → NoneOffends rule records → KeepsBelow (rank rule) records → KeepsBelow (rank rule + 1) records
-keeps_more rule records positive none keeps other i ranked below within offends =
-    ⊎_elim (λ (lower : rank other < rank rule). keeps other i ranked lower within offends)
-    (λ (upper : rank rule ≤ rank other).
-    let e : rank rule ≡ rank other = omega arith in
-    none i within (subst (λ (r : Rule). Offends r records i) (sym (same_from_rank rule other positive e)) offends))
-    (cases_lt (rank other) (rank rule))

@@ -5,6 +5,7 @@ use Rattle.std.specs.List.{list_any}
 use Rattle.std.proofs.lemmas.List.{get_or-map, take_more, length-map, length-take}
 use Rattle.std.proofs.lemmas.List.Folds.{list_any-append}
 use Rattle.std.proofs.lemmas.Option.{unwrap_or-slice_get}
+use Rattle.std.proofs.Math.Bool.{or-false}
 use Rattle.collate_records.specs.declared.seen.Seen.{Seen}
 use Rattle.collate_records.specs.declared.record.Record.{Record as Line}
 use Rattle.collate_records.specs.declared.rule.Rule.{Rule}
@@ -19,10 +20,6 @@ use Rattle.collate_records.specs.Seen.{is_seen}
 use Rattle.collate_records.specs.Rules.{record_at, is_second, Repeats}
 use Rattle.collate_records.specs.Files.{line_at, records_in, read_line, IsOutside}
 use Rattle.collate_records.specs.Phases.{IsUnsound, AreSound, RefusesLine}
-
-or_false : (b : Bool) → (b || false) ≡ b
-or_false true = refl
-or_false false = refl
 
 -- a line as it stands in the row of lines
 pub line_read : (lines : List (Bor (List ℕ))) (i : ℕ) (d : Bor (List ℕ)) → i < length lines → line_at (map (λ (line : Bor (List ℕ)). line.now) lines) i ≡ (get_or lines i d).now
@@ -74,7 +71,7 @@ pub seen_more : (lines : List (List ℕ)) (i : ℕ) (s : Record) (seen after : S
 seen_more lines i s seen after h e has now = record {
   each = λ other. now other
       ∙ ap (λ (b : Bool). b || is_second s other) (has.each other)
-      ∙ ap (λ (b : Bool). list_any (λ t. is_second t other) (take i (records_in lines)) || b) (sym (or_false (is_second s other)))
+      ∙ ap (λ (b : Bool). list_any (λ t. is_second t other) (take i (records_in lines)) || b) (sym (or-false (is_second s other)))
       ∙ sym (list_any-append (λ t. is_second t other) (take i (records_in lines)) (s ∷ []))
       ∙ ap (λ (ss : List Record). list_any (λ t. is_second t other) ss) (sym (said_to lines i s h e));
 }

@@ -4,6 +4,7 @@ use Rattle.std.specs.Bool.{Decides}
 use Rattle.std.specs.Cmp.Lexicographic.{bytes_decides}
 use Rattle.std.proofs.lemmas.Bool.Decides.{Decides-by_or}
 use Rattle.std.proofs.lemmas.List.Elements.{Decides-contains}
+use Rattle.std.proofs.lemmas.Bool.{false_from_ne_true}
 use Rattle.collate_run.specs.Replies.{is_among}
 
 pub is_among-decides : (names : List (List ℕ)) (name : List ℕ) → Decides (is_among names name) (Contains names name)
@@ -14,9 +15,5 @@ is_among-decides names name =
 pub is_among-true : (names : List (List ℕ)) (name : List ℕ) → Contains names name → is_among names name ≡ true
 is_among-true names name h = (is_among-decides names name).1 h
 
-false_unless : (b : Bool) → (b ≡ true → ⊥) → b ≡ false
-false_unless true h = absurd (h refl)
-false_unless false h = refl
-
 pub is_among-false : (names : List (List ℕ)) (name : List ℕ) → (Contains names name → ⊥) → is_among names name ≡ false
-is_among-false names name h = false_unless (is_among names name) (λ e. h ((is_among-decides names name).0 e))
+is_among-false names name h = false_from_ne_true (is_among names name) (λ e. h ((is_among-decides names name).0 e))

@@ -14,14 +14,6 @@ granted_call line asked old new text w t n = record {
   catalogue_is = n ∙ ap (λ (v : LineCommand). granted v old) w;
 }
 
-pub answers-memory : (line : List ℕ) (asked : LineCommand) (old new : Catalogue) → asked ≡ command_of line → IsCommand asked → new ≡ old → Answers line old new (codes "memory\n")
-answers-memory line asked old new w command n = record {
-  refused = true;
-  may_refuse = λ _. rw (← w) command;
-  text_is = refl;
-  catalogue_is = n;
-}
-
 pub answers-added : (line name : List ℕ) (old new : Catalogue) → add name ≡ command_of line → (Contains old.arrivals name → ⊥) → new ≡ with_name name old → Answers line old new (codes "added\n")
 answers-added line name old new w absent n =
     let e = is_among-false old.arrivals name absent in
@@ -31,12 +23,3 @@ pub answers-duplicate : (line name : List ℕ) (old new : Catalogue) → add nam
 answers-duplicate line name old new w there n =
     let e = is_among-true old.arrivals name there in
     granted_call line (add name) old new (codes "duplicate\n") w (rw e refl) (rw e n)
-
-pub answers-unknown : (line : List ℕ) (old new : Catalogue) → unknown ≡ command_of line → new ≡ old → Answers line old new (codes "bad\n")
-answers-unknown line old new w n = granted_call line unknown old new (codes "bad\n") w refl n
-
-pub answers-found : (line name : List ℕ) (old : Catalogue) (text : List ℕ) (names : List (List ℕ)) → find name ≡ command_of line → names ≡ equal_names (order_of old) name (sorted_names old) → text ≡ listing names → Answers line old old text
-answers-found line name old text names w is e = granted_call line (find name) old old text w (e ∙ ap listing is) refl
-
-pub answers-listed : (line : List ℕ) (old : Catalogue) (text : List ℕ) (names : List (List ℕ)) → list ≡ command_of line → names ≡ sorted_names old → text ≡ listing names → Answers line old old text
-answers-listed line old text names w is e = granted_call line list old old text w (e ∙ ap listing is) refl

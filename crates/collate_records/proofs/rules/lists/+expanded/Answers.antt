@@ -1,8 +1,8 @@
 use Rattle.std.proofs.Common.{ℕ, ◌++◌, List, map, sym, ap, ◌∙◌, subst, append_assoc}
 use Rattle.collate_records.specs.CanonicalParts.{in_full}
 use Rattle.collate_records.specs.Lists.{steps_by, IsFront}
-use Rattle.collate_records.proofs.lists.BadListLemmas.{expanded_none, expanded_unmapped, expanded_one, expanded_two}
 use Rattle.collate_records.proofs.rules.lists.+expanded.Goals as goal
+use Rattle.collate_records.proofs.lists.FullListLemmas.{expanded_none, expanded_unmapped, expanded_one, expanded_two}
 
 pub returns-then-limit-eq0 : goal.returns-then-limit-eq0
 returns-then-limit-eq0 t c = λ before h.

@@ -2,9 +2,9 @@ use Rattle.std.proofs.Common.{◌++◌, ◌-◌, map, sym}
 use Rattle.std.proofs.lemmas.Result.{on_ok_weaker}
 use Rattle.collate_records.specs.CanonicalParts.{in_full}
 use Rattle.collate_records.specs.Meaning.{class_of, expanded, step_of}
-use Rattle.collate_records.proofs.lists.BadListLemmas.{expanded_none, expanded_unmapped, expanded_one, expanded_two}
 use Rattle.collate_records.proofs.lists.OrderLemmas.{put_one, put_two}
 use Rattle.collate_records.proofs.rules.low.+put_full_list.Goals as goal
+use Rattle.collate_records.proofs.lists.FullListLemmas.{expanded_none, expanded_unmapped, expanded_one, expanded_two}
 
 pub returns-then-limit-eq0 : goal.returns-then-limit-eq0
 returns-then-limit-eq0 t c = λ rest e.

@@ -1,10 +1,14 @@
 use Rattle.std.proofs.lemmas.Bool.{false≢true}
-use Rattle.collate_records.proofs.lists.LowLemmas.{low_more, low_none}
+use Rattle.std.proofs.Common.{map}
+use Rattle.collate_records.proofs.lists.LowLemmas.{low_none}
 use Rattle.collate_records.proofs.rules.low.has_bad_low.Goals as goal
+use Rattle.collate_records.specs.CanonicalParts.{in_full}
+use Rattle.collate_records.specs.Rules.{IsBadlyLow}
+use Rattle.collate_records.proofs.mappings.CanonicalPartLemmas.{none_of_more}
 
 pub loop-part-preserved : goal.loop-part-preserved
 loop-part-preserved c =
-    low_more c.args.parts.now c.loop-part.part-index _ c.character.result c.in_ok-is_bad.is_bad c.loop-part-test.true c.loop-part.invariant
+    none_of_more (λ n. IsBadlyLow (map in_full c.args.parts.now) n) c.args.parts.now c.loop-part.part-index _ c.character.result c.in_ok-is_bad.is_bad c.loop-part-test.true c.loop-part.invariant
     c.character.ensures c.in_ok-is_bad.ensures.1 c.if-is_bad.false
 
 pub returns : goal.returns
