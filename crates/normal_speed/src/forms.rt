@@ -122,18 +122,69 @@ fn show_nfd(
     Some(texts.len())
 }
 
-/// Prints the NFC of each text by the data of a provider.
-pub fn show_composed(rt: &HostRuntime, provider: &Held<'_>, texts: &[&str]) -> Option<usize> {
+/// Prints the two parts of each text that is split for NFC, with a bar between them.
+fn show_split_nfc(
+    rt: &HostRuntime,
+    form: ComposingNormalizerBorrowed<'_>,
+    texts: &[&str],
+) -> Option<usize> {
+    for text in texts {
+        let (prefix, rest) = form.split_normalized(rt.alloc(), text).ok()?;
+        println!(rt; "{prefix}|{rest}").ok()?;
+    }
+    Some(texts.len())
+}
+
+/// Prints the two parts of each text that is split for NFD.
+fn show_split_nfd(
+    rt: &HostRuntime,
+    form: DecomposingNormalizerBorrowed<'_>,
+    texts: &[&str],
+) -> Option<usize> {
+    for text in texts {
+        let (prefix, rest) = form.split_normalized(text);
+        println!(rt; "{prefix}|{rest}").ok()?;
+    }
+    Some(texts.len())
+}
+
+/// What is printed of each text.
+#[derive(Clone, Copy)]
+pub enum Shown {
+    /// The form.
+    Form,
+    /// The two parts of the text.
+    Parts,
+}
+
+/// Prints the NFC of each text, or its parts, by the data of a provider.
+pub fn show_composed(
+    rt: &HostRuntime,
+    provider: &Held<'_>,
+    texts: &[&str],
+    shown: Shown,
+) -> Option<usize> {
     match ComposingNormalizer::try_new_nfc_unstable(rt.alloc(), provider) {
-        Ok(owned) => show_nfc(rt, owned.as_borrowed(), texts),
+        Ok(owned) => match shown {
+            Shown::Form => show_nfc(rt, owned.as_borrowed(), texts),
+            Shown::Parts => show_split_nfc(rt, owned.as_borrowed(), texts),
+        },
         Err(_) => None,
     }
 }
 
 /// The same for NFD.
-pub fn show_decomposed(rt: &HostRuntime, provider: &Held<'_>, texts: &[&str]) -> Option<usize> {
+pub fn show_decomposed(
+    rt: &HostRuntime,
+    provider: &Held<'_>,
+    texts: &[&str],
+    shown: Shown,
+) -> Option<usize> {
     match DecomposingNormalizer::try_new_nfd_unstable(rt.alloc(), provider) {
-        Ok(owned) => show_nfd(rt, owned.as_borrowed(), texts),
+        Ok(owned) => match shown {
+            Shown::Form => show_nfd(rt, owned.as_borrowed(), texts),
+            Shown::Parts => show_split_nfd(rt, owned.as_borrowed(), texts),
+        },
         Err(_) => None,
     }
 }

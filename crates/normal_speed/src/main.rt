@@ -1,13 +1,13 @@
 //! Measures normal forms: each line of a file of texts is brought to a form, or asked whether it is in
 //! one, as many rounds as asked for, over the canonical data of a records file. `bench/normal.sh` takes
 //! the times; the program prints how many bytes the forms have or how many texts are in the form, or
-//! shows the form of each line.
+//! shows the form of each line, or the two parts that it is split in.
 #![tactic(auto)]
 
 mod data;
 mod forms;
 
-use forms::{load_all, number_composed, number_decomposed, show_composed, show_decomposed};
+use forms::{Shown, load_all, number_composed, number_decomposed, show_composed, show_decomposed};
 use icu_normalizer_core_tests::held::Held;
 use std::{env, fs, io};
 
@@ -35,8 +35,10 @@ fn run(
         "is_nfc" => number_composed(alloc, provider, &texts, rounds, true),
         "nfd" => number_decomposed(alloc, provider, &texts, rounds, false),
         "is_nfd" => number_decomposed(alloc, provider, &texts, rounds, true),
-        "show_nfc" => show_composed(rt, provider, &texts),
-        "show_nfd" => show_decomposed(rt, provider, &texts),
+        "show_nfc" => show_composed(rt, provider, &texts, Shown::Form),
+        "split_nfc" => show_composed(rt, provider, &texts, Shown::Parts),
+        "show_nfd" => show_decomposed(rt, provider, &texts, Shown::Form),
+        "split_nfd" => show_decomposed(rt, provider, &texts, Shown::Parts),
         _ => load_all(alloc, provider, rounds),
     }
 }
