@@ -6,6 +6,7 @@ ghost use Rattle.icu_normalizer_core.specs.declared.canonical.builder.CanonicalD
 ghost use Rattle.icu_normalizer_core.specs.CanonicalFaults.{IsAccepted};
 ghost use Rattle.icu_normalizer_core.specs.CanonicalMaps.{CanonicalMaps, AreMeaning, KeepRules};
 ghost use Rattle.icu_normalizer_core.specs.CanonicalMeaning.{lists_of, meaning};
+ghost use Rattle.icu_normalizer_core.specs.Plain.{Tells};
 
 mod full_lists;
 mod in_order;
@@ -135,10 +136,26 @@ impl CanonicalDataBuilder {
     /// The tables of what was given, with what is built in; the builder stays as it is. `Rules` comes only where
     /// what was given breaks a rule (docs/RECORDS.md, C1 to C9), says two things of one character, or names more
     /// than 150 characters. Want of memory can come with anything that was given.
-    #[tactic(auto, using(crate::proofs::builder::BuiltMapLemmas::built_meaning, crate::proofs::builder::BuiltTableLemmas::fault_breaks))]
     pub fn build(&self, alloc: Global) -> Result<CanonicalTables<'static>, CanonicalDataBuildError>
         ensures means { IfOk result (λ tables. AreMeaning self.now (meaning tables)) }
         ensures accepted { IfOk result (λ tables. IsAccepted (lists_of tables)) }
+        ensures refused { IfErr result (λ e. (e ≡ Memory) ⊎ ((e ≡ Rules) × (KeepRules self.now → ⊥))) }
+    {
+        match self.build_told(alloc) {
+            Ok((tables, _)) => Ok(tables),
+            Err(error) => Err(error),
+        }
+    }
+
+    /// These tables, and a list of the code points of which they say something.
+    #[tactic(auto, using(crate::proofs::builder::BuiltMapLemmas::built_meaning, crate::proofs::builder::BuiltTableLemmas::fault_breaks))]
+    fn build_told(
+        &self,
+        alloc: Global,
+    ) -> Result<(CanonicalTables<'static>, Vec<u32>), CanonicalDataBuildError>
+        ensures means { IfOk result (λ made. AreMeaning self.now (meaning made.0)) }
+        ensures accepted { IfOk result (λ made. IsAccepted (lists_of made.0)) }
+        ensures tells { IfOk result (λ made. Tells (lists_of made.0) made.1.items) }
         ensures refused { IfErr result (λ e. (e ≡ Memory) ⊎ ((e ≡ Rules) × (KeepRules self.now → ⊥))) }
     {
         let tables = match tables(alloc, self.classes.as_slice(), self.mappings.as_slice()) {
@@ -147,7 +164,7 @@ impl CanonicalDataBuilder {
         };
         let told = told(alloc, &tables)?;
         match first_fault(alloc, &tables, &told)? {
-            None => Ok(tables),
+            None => Ok((tables, told)),
             Some(_) => Err(CanonicalDataBuildError::Rules),
         }
     }
@@ -161,11 +178,8 @@ impl CanonicalDataBuilder {
         ensures accepted { IfOk result (λ made. IsAccepted (lists_of made)) }
         ensures refused { IfErr result (λ e. (e ≡ Memory) ⊎ ((e ≡ Rules) × (KeepRules self.now → ⊥))) }
     {
-        match self.build(alloc) {
-            Ok(tables) => {
-                let data = CanonicalData::of_accepted(alloc, tables)?;
-                Ok(data)
-            }
+        match self.build_told(alloc) {
+            Ok((tables, told)) => Ok(CanonicalData::of_accepted(alloc, tables, &told)?),
             Err(error) => Err(error),
         }
     }

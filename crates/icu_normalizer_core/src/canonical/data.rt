@@ -7,6 +7,7 @@ ghost use Rattle.icu_normalizer_core.specs.Canonical.{IsCanonical};
 ghost use Rattle.icu_normalizer_core.specs.CanonicalFaults.{IsAccepted};
 ghost use Rattle.icu_normalizer_core.specs.CanonicalMeaning.{lists_of, meaning};
 ghost use Rattle.icu_normalizer_core.specs.CanonicalRefusals.{IsRefusal};
+ghost use Rattle.icu_normalizer_core.specs.Plain.{Tells};
 
 use super::borrowed::CanonicalBorrowed;
 use super::check::first_fault;
@@ -73,24 +74,23 @@ impl<'a> CanonicalData<'a> {
     {
         let told = told(alloc, &tables)?;
         match first_fault(alloc, &tables, &told)? {
-            None => {
-                let steady = steady_characters(alloc, &tables, &told)?;
-                Ok(CanonicalData { tables, steady })
-            }
+            None => Ok(CanonicalData::of_accepted(alloc, tables, &told)?),
             Some(fault) => Err(CanonicalDataError::Fault(fault)),
         }
     }
 
-    /// Canonical data of tables that are known to pass every check. The only error is want of memory.
+    /// Canonical data of tables that are known to pass every check, and of a list of the code points of which they
+    /// say something. The only error is want of memory.
     pub(super) fn of_accepted(
         alloc: Global,
         tables: CanonicalTables<'a>,
+        told: &[u32],
     ) -> Result<CanonicalData<'a>, AllocError>
-        requires { IsAccepted (lists_of tables) }
+        requires accepted { IsAccepted (lists_of tables) }
+        requires tells { Tells (lists_of tables) told.now }
         ensures { IfOk result (λ made. made ≡ tables.entry) }
     {
-        let told = told(alloc, &tables)?;
-        let steady = steady_characters(alloc, &tables, &told)?;
+        let steady = steady_characters(alloc, &tables, told)?;
         Ok(CanonicalData { tables, steady })
     }
 

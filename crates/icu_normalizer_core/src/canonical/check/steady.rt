@@ -1,6 +1,6 @@
 //! The characters that composing leaves alone, of tables that pass every check.
 
-ghost use Rattle.std.specs.Prelude.{◌≡◌, ◌≢◌, ℕ, ◌≤◌, length, IfOk, IsTrue};
+ghost use Rattle.std.specs.Prelude.{◌≢◌, ℕ, ◌≤◌, length, IfOk, IsTrue};
 ghost use Rattle.icu_normalizer_core.specs.Boundaries.{IsSteady};
 ghost use Rattle.icu_normalizer_core.specs.CanonicalFaults.{IsAccepted};
 ghost use Rattle.icu_normalizer_core.specs.CanonicalLists.{ArePairs};

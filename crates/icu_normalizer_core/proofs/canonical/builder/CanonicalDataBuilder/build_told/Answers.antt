@@ -5,7 +5,7 @@ use Rattle.icu_normalizer_core.specs.CanonicalFaults.{IsAccepted, IsFirstFault}
 use Rattle.icu_normalizer_core.specs.CanonicalMaps.{KeepRules}
 use Rattle.icu_normalizer_core.specs.CanonicalMeaning.{lists_of}
 use Rattle.icu_normalizer_core.proofs.builder.BuiltTableLemmas.{fault_breaks}
-use Rattle.icu_normalizer_core.proofs.canonical.builder.CanonicalDataBuilder.build.Goals as goal
+use Rattle.icu_normalizer_core.proofs.canonical.builder.CanonicalDataBuilder.build_told.Goals as goal
 
 pub returns-clause-refused : goal.returns-clause-refused
 returns-clause-refused c =
