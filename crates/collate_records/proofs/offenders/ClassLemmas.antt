@@ -12,6 +12,7 @@ use Rattle.collate_records.specs.Offenders.{NoneOffends}
 use Rattle.std.proofs.lemmas.List.{length-map}
 use Rattle.collate_records.specs.Files.{IsAccepted, lines_of, read_line, records_of}
 use Rattle.collate_records.specs.Accepted.{HasSmallClass}
+use Rattle.collate_records.proofs.offenders.LineRuleLemmas.{each_line}
 
 HasSmallClass-from_record : (s : Record) → (IsBadClass s → ⊥) → HasSmallClass s
 HasSmallClass-from_record nothing h = tt
@@ -26,8 +27,7 @@ HasSmallClass-from_record (setting s) h = tt
 -- where no line offends against C3, classes are small
 pub All-HasSmallClass : (records : List Record) → NoneOffends C3 records → All HasSmallClass records
 All-HasSmallClass records keeps =
-    All-from_get_or HasSmallClass records nothing
-    (λ i below. rw (← unwrap_or-slice_get records i nothing) (HasSmallClass-from_record (record_at records i) (keeps i below)))
+    each_line HasSmallClass records (λ i below. HasSmallClass-from_record (record_at records i) (keeps i below))
 
 -- an accepted file gives small classes
 pub accepted_classes : (file : List ℕ) → IsAccepted file → All HasSmallClass (records_of file)
