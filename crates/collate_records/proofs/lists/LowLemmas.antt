@@ -1,11 +1,11 @@
 -- The characters below U+0300: when one of them is what it may not be.
-use Rattle.std.proofs.Common.{◌≡◌, ◌≢◌, ℕ, ◌+◌, ◌<◌, ◌≤◌, List, [], ◌∷◌, length, take, get_or, map, refl, sym, ap, ◌∙◌, subst, arith, inl, inr, ⊎_elim, Bool, true, false, not, cond, Option, Some, None, ◌↔◌, take_all}
+use Rattle.std.proofs.Common.{◌≡◌, ◌≢◌, ℕ, ◌<◌, ◌≤◌, List, [], ◌∷◌, length, take, map, refl, ap, ◌∙◌, arith, inl, inr, ⊎_elim, Bool, true, false, not, cond, Option, Some, None, ◌↔◌}
 use Rattle.std.specs.Bool.{IsTrue}
 use Rattle.std.specs.List.{All}
 use Rattle.std.specs.Option.{unwrap_or}
 use Rattle.std.proofs.lemmas.Bool.{false≢true, cases_eq}
 use Rattle.std.proofs.lemmas.Bool.Decides.{nat_tests}
-use Rattle.std.proofs.lemmas.List.Elements.{All-head, All-tail, All-more, All-weaker}
+use Rattle.std.proofs.lemmas.List.Elements.{All-head, All-tail}
 use Rattle.std.proofs.Math.Path.{fun_ext}
 use Rattle.icu_normalizer_core.specs.BuiltIn.{built_in_class, built_in_compatibility_step}
 use Rattle.icu_normalizer_core.specs.Canonical.{Canonical, composed, marks_in_order, put_in_order, recomposed}

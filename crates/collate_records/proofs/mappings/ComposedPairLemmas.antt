@@ -1,11 +1,11 @@
 -- Lines that keep the rules give canonical data, as far as composing goes.
-use Rattle.std.proofs.Common.{◌≡◌, ℕ, ◌+◌, ◌<◌, ◌≤◌, ◌⊎◌, ◌==◌, ◌&&◌, suc, inl, inr, ⊎_elim, not, cond, Bool, List, [], ◌∷◌, length, take, drop, get_or, true, false, Option, Some, None, refl, sym, ap, ◌∙◌, arith, subst, bytes_eq}
+use Rattle.std.proofs.Common.{◌≡◌, ℕ, ◌<◌, ◌≤◌, ◌⊎◌, ◌==◌, ◌&&◌, suc, inl, inr, ⊎_elim, not, cond, Bool, List, [], ◌∷◌, length, take, drop, get_or, true, false, Option, Some, None, refl, sym, ap, ◌∙◌, arith, subst, bytes_eq}
 use Rattle.std.specs.Option.{is_some, IfSome, option_or}
 use Rattle.std.specs.Char.{IsScalar}
 use Rattle.std.specs.List.{list_any}
-use Rattle.std.proofs.lemmas.Bool.{cases_Bool, cases_eq, cases_lt, eqb-true, false≢true, or_parts, and_parts, false_from_ne_true, not-true}
+use Rattle.std.proofs.lemmas.Bool.{cases_Bool, cases_eq, eqb-true, false≢true, or_parts, and_parts, false_from_ne_true, not-true}
 use Rattle.std.proofs.lemmas.Bool.Decides.{Decides-eqb}
-use Rattle.std.proofs.lemmas.List.{take_all, take-append-drop}
+use Rattle.std.proofs.lemmas.List.{take-append-drop}
 use Rattle.std.proofs.Math.Seq.{drop-cons}
 use Rattle.std.proofs.lemmas.Option.{none-some, same_Some, unwrap_or-slice_get}
 use Rattle.std.proofs.lemmas.Slice.Eq.{bytes_eq-Decides}

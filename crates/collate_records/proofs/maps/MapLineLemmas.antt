@@ -1,11 +1,9 @@
 -- What a line gives to the maps of its file.
-use Rattle.std.proofs.Common.{◌≡◌, ℕ, ◌<◌, ◌≤◌, Bool, true, false, not, cond, ◌==◌, eqb, List, [], ◌∷◌, ◌++◌, length, map, All, Option, Some, None, refl, ap, arith, subst}
+use Rattle.std.proofs.Common.{◌≡◌, ℕ, ◌≤◌, Bool, true, false, not, cond, ◌==◌, eqb, List, [], ◌∷◌, length, map, All, Option, Some, None, refl, ap, arith}
 use Rattle.std.specs.Prelude.{flat_map}
 use Rattle.std.specs.List.{find}
 use Rattle.std.specs.Option.{unwrap_or}
-use Rattle.std.proofs.lemmas.Bool.Decides.{nat_tests}
-use Rattle.std.proofs.lemmas.Option.{unwrap_or-slice_get}
-use Rattle.std.proofs.lemmas.List.Elements.{All-nil, All-cons, All-head, All-tail, All-from_get_or, All-append}
+use Rattle.std.proofs.lemmas.List.Elements.{All-nil, All-head, All-tail, All-append}
 use Rattle.std.specs.Cmp.{nat_eq_equiv}
 use Rattle.icu_normalizer_core.specs.declared.canonical.builder.GivenClass.{GivenClass}
 use Rattle.icu_normalizer_core.specs.declared.canonical.builder.GivenMapping.{GivenMapping}
@@ -13,7 +11,6 @@ use Rattle.icu_normalizer_core.specs.CanonicalMaps.{given_class, given_step, map
 use Rattle.collate_records.specs.Record.{Record, nothing, class, mapping, compatibility, weights, range, digit, setting}
 use Rattle.collate_records.specs.Meaning.{first_found, class_in, mapping_in}
 use Rattle.collate_records.specs.Maps.{classes_in, mappings_in}
-use Rattle.collate_records.specs.Rules.{record_at}
 use Rattle.collate_records.specs.Keys.{class_key, mapping_key}
 
 -- a line maps to one character or to two

@@ -1,9 +1,6 @@
 -- what the rules on classes give
-use Rattle.std.proofs.Common.{◌≡◌, ℕ, ◌<◌, List, Option, Some, None, All, Bool, true, false, cond, arith, inl, inr}
-use Rattle.std.proofs.lemmas.Option.{unwrap_or-slice_get, same_Some}
+use Rattle.std.proofs.Common.{ℕ, List, All, arith, inl, inr}
 use Rattle.std.proofs.lemmas.Bool.{cases_lt}
-use Rattle.std.proofs.lemmas.List.Elements.{All-from_get_or}
-use Rattle.icu_normalizer_core.specs.BuiltIn.{built_in_class}
 use Rattle.icu_normalizer_core.proofs.BuiltInFacts.{small_class}
 use Rattle.collate_records.specs.declared.rule.Rule.TheVariants.{C3}
 use Rattle.collate_records.specs.Record.{Record, nothing, class, mapping, compatibility, weights, range, digit, setting}

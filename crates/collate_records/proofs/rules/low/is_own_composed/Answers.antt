@@ -1,8 +1,8 @@
-use Rattle.std.proofs.Common.{◌≡◌, ◌∷◌, ◌++◌, [], ℕ, List, map, sym, ap, ◌∙◌, subst, append-nil, ◌↔◌, IsTrue}
+use Rattle.std.proofs.Common.{◌≡◌, ◌∷◌, [], ℕ, List, map, sym, ap, ◌∙◌, subst, append-nil, ◌↔◌, IsTrue}
 use Rattle.icu_normalizer_core.specs.Canonical.{marks_in_order, recomposed}
 use Rattle.icu_normalizer_core.proofs.CompositionLemmas.{composed_one}
 use Rattle.collate_records.specs.CanonicalParts.{in_full}
-use Rattle.collate_records.specs.Meaning.{canonical_of, class_of, full_of}
+use Rattle.collate_records.specs.Meaning.{canonical_of, full_of}
 use Rattle.collate_records.proofs.lists.OrderLemmas.{in_order_none}
 use Rattle.collate_records.proofs.rules.low.is_own_composed.Goals as goal
 
