@@ -1,6 +1,6 @@
 -- What a file sets keeps the rules on settings: no line that sets anything is read yet.
-use Rattle.std.proofs.Common.{◌≡◌, ℕ, Bool, true, false, List, [], refl, sym, ◌∙◌, ap, arith}
-use Rattle.std.specs.Prelude.{◌==◌, ◌||◌, ◌+◌, ◌*◌, ◌/◌, ◌%◌, ◌^◌, replicate}
+use Rattle.std.proofs.Common.{◌≡◌, ℕ, List, [], refl, sym, ◌∙◌, ap, arith}
+use Rattle.std.specs.Prelude.{◌==◌, ◌+◌, ◌*◌, ◌/◌, ◌%◌, ◌^◌, replicate}
 use Rattle.std.proofs.lemmas.Bool.{or_right}
 use Rattle.icu_collator_core.specs.Collation.{reordered_lead, with_lead}
 use Rattle.icu_collator_core.specs.WeightRules.{is_letter_lead}

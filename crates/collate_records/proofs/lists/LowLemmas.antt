@@ -1,22 +1,22 @@
 -- The characters below U+0300: when one of them is what it may not be.
-use Rattle.std.proofs.Common.{◌≡◌, ◌≢◌, ℕ, ◌+◌, ◌<◌, ◌≤◌, List, [], ◌∷◌, length, take, get_or, map, refl, sym, ap, ◌∙◌, subst, arith, inl, inr, ⊎_elim, Bool, true, false, not, cond, Option, Some, None, ◌↔◌, take_all}
+use Rattle.std.proofs.Common.{◌≡◌, ◌≢◌, ℕ, ◌<◌, ◌≤◌, List, [], ◌∷◌, length, take, map, refl, ap, ◌∙◌, arith, inl, inr, ⊎_elim, Bool, true, false, not, cond, Option, Some, None, ◌↔◌}
 use Rattle.std.specs.Bool.{IsTrue}
 use Rattle.std.specs.List.{All}
 use Rattle.std.specs.Option.{unwrap_or}
-use Rattle.std.proofs.lemmas.Bool.{false≢true}
+use Rattle.std.proofs.lemmas.Bool.{false≢true, cases_eq}
 use Rattle.std.proofs.lemmas.Bool.Decides.{nat_tests}
-use Rattle.std.proofs.lemmas.List.Elements.{All-head, All-tail, All-more, All-weaker}
+use Rattle.std.proofs.lemmas.List.Elements.{All-head, All-tail}
 use Rattle.std.proofs.Math.Path.{fun_ext}
 use Rattle.icu_normalizer_core.specs.BuiltIn.{built_in_class, built_in_compatibility_step}
-use Rattle.icu_normalizer_core.specs.Canonical.{Canonical, composed}
+use Rattle.icu_normalizer_core.specs.Canonical.{Canonical, composed, marks_in_order, put_in_order, recomposed}
 use Rattle.icu_normalizer_core.proofs.BuiltInFacts.{low_free}
+use Rattle.icu_normalizer_core.proofs.CompositionLemmas.{composed_one, composing_end, mark_alone, recomposed_starter}
 use Rattle.collate_records.specs.declared.canonical_part.CanonicalPart.{CanonicalPart}
 use Rattle.collate_records.specs.Record.{Record}
 use Rattle.collate_records.specs.Meaning.{first_found, class_in, mapping_in, compatibility_in, class_of, step_of, compatibility_of, canonical_of, is_built_in, pair_of, expanded}
 use Rattle.collate_records.specs.Rules.{HasBadLow, IsBadlyLow}
 use Rattle.collate_records.specs.CanonicalParts.{in_full, SaysSame, subject_of}
 use Rattle.collate_records.proofs.mappings.CanonicalPartLemmas.{class_of-same, step_of-same, compatibility_of-same, pair_of-same, other_class, other_mapping, parts_without_compatibility, none_of_all}
-use Rattle.collate_records.proofs.lists.ComposingLemmas.{composed_unmapped}
 use Rattle.collate_records.proofs.lists.FullListLemmas.{expanded_unmapped}
 
 -- canonical data by classes, mappings and pairs
@@ -62,6 +62,14 @@ low_class c h = grind (arith, nat_tests)
 low_compatibility : (c : ℕ) → c < 0x300 → built_in_compatibility_step c ≡ None
 unfolding built_in_compatibility_step
 low_compatibility c h = grind (arith, nat_tests)
+
+-- a character that isn't mapped is its own composed list
+composed_unmapped : (canonical : Canonical) (c : ℕ) → canonical.full c ≡ c ∷ [] → composed canonical (c ∷ []) ≡ c ∷ []
+unfolding marks_in_order put_in_order
+composed_unmapped canonical c e =
+    composed_one canonical c
+    ∙ ap (λ (cs : List ℕ). recomposed canonical (marks_in_order canonical.class cs)) e
+    ∙ ⊎_elim (λ zero. recomposed_starter canonical c [] zero ∙ composing_end canonical c) (λ mark. mark_alone canonical c mark) (cases_eq (canonical.class c) 0)
 
 -- where no line says anything of a character below U+0300, it is as it should be
 untouched : (records : List Record) (c : ℕ) → first_found (class_in c) records ≡ None → first_found (mapping_in c) records ≡ None

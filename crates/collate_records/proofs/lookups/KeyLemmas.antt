@@ -5,7 +5,6 @@ use Rattle.std.specs.Cmp.{nat_eq_equiv}
 use Rattle.std.specs.List.{list_any, IsDistinct}
 use Rattle.std.specs.Set.{is_member, unique_keys}
 use Rattle.std.proofs.lemmas.Bool.{cases_lt, eqb-true, false≢true, or_cases, or_parts, or_left, or_right, false_from_ne_true}
-use Rattle.std.proofs.lemmas.Bool.Decides.{nat_tests}
 use Rattle.std.proofs.lemmas.Grind.{flat_map-append}
 use Rattle.std.proofs.lemmas.List.{take_more, length-map}
 use Rattle.std.proofs.lemmas.List.Folds.{list_any-append}
@@ -35,7 +34,7 @@ abbrev pub IsKind : (Record → List ℕ) → Type 0
 IsKind key = (s : Record) → (key s ≡ []) ⊎ ((c : ℕ) × IsKeyOf key s c)
 
 turned : (c d : ℕ) → (eqb c d || false) ≡ eqb d c
-turned c d = or-false (eqb c d) ∙ grind (arith, nat_tests)
+turned c d = or-false (eqb c d) ∙ nat_eq_equiv.symm c d
 
 class_second : (c k : ℕ) (t : Record) → list_any (λ d. eqb c d) (class_key t) ≡ is_second t (class c k)
 class_second c k nothing = refl
@@ -212,7 +211,7 @@ pub accepted_few : (file : List ℕ) → IsAccepted file → NoneOffends Limit (
 accepted_few file accepted i lt over = accepted Limit i (rw (← length-map (lines_of file) read_line) lt, over)
 
 turned_false : (d c : ℕ) → eqb d c ≡ false → eqb c d ≡ false
-turned_false d c h = grind (arith, nat_tests)
+turned_false d c h = nat_eq_equiv.symm c d ∙ h
 
 abbrev either_found : {B : Type 0} → Option B → Option B → Option B
 either_found here later = elim here [ Some y ↦ Some y | None ↦ later ]

@@ -1,11 +1,11 @@
 -- Lines that keep the rules give canonical data, as far as composing goes.
-use Rattle.std.proofs.Common.{◌≡◌, ℕ, ◌+◌, ◌<◌, ◌≤◌, ◌⊎◌, ◌==◌, ◌&&◌, suc, inl, inr, ⊎_elim, not, cond, Bool, List, [], ◌∷◌, length, take, drop, get_or, true, false, Option, Some, None, refl, sym, ap, ◌∙◌, arith, subst, bytes_eq}
+use Rattle.std.proofs.Common.{◌≡◌, ℕ, ◌<◌, ◌≤◌, ◌⊎◌, ◌==◌, ◌&&◌, suc, inl, inr, ⊎_elim, not, cond, Bool, List, [], ◌∷◌, length, take, drop, get_or, true, false, Option, Some, None, refl, sym, ap, ◌∙◌, arith, subst, bytes_eq}
 use Rattle.std.specs.Option.{is_some, IfSome, option_or}
 use Rattle.std.specs.Char.{IsScalar}
 use Rattle.std.specs.List.{list_any}
-use Rattle.std.proofs.lemmas.Bool.{cases_Bool, cases_eq, cases_lt, eqb-true, false≢true, or_parts, and_parts, false_from_ne_true, not-true}
+use Rattle.std.proofs.lemmas.Bool.{cases_Bool, cases_eq, eqb-true, false≢true, or_parts, and_parts, false_from_ne_true, not-true}
 use Rattle.std.proofs.lemmas.Bool.Decides.{Decides-eqb}
-use Rattle.std.proofs.lemmas.List.{take_all, take-append-drop}
+use Rattle.std.proofs.lemmas.List.{take-append-drop}
 use Rattle.std.proofs.Math.Seq.{drop-cons}
 use Rattle.std.proofs.lemmas.Option.{none-some, same_Some, unwrap_or-slice_get}
 use Rattle.std.proofs.lemmas.Slice.Eq.{bytes_eq-Decides}
@@ -23,6 +23,7 @@ use Rattle.collate_records.proofs.lookups.KeyLemmas.{mapping-absent}
 use Rattle.collate_records.proofs.mappings.StepLemmas.{step_of-built_in, some_or_none}
 use Rattle.collate_records.proofs.lookups.LookupLemmas.{first_found-append}
 use Rattle.collate_records.proofs.offenders.BreachLemmas.{none_together}
+use Rattle.collate_records.proofs.offenders.PairLemmas.{good_second}
 
 -- a line that composes two characters to c
 record Composes (a b c : ℕ) (s : Record) : Type 0 where
@@ -114,24 +115,24 @@ module _ (records : List Record) where
       (λ w. ⊎_elim (λ s. absurd (none-some s.0 (sym (not_built_in c w.free) ∙ singled_mapped c s.0 s.1))) (λ n. n) (some_or_none (singled_out c)))
       (pair_cases a b c e)
 
-  good_second : NoneOffends C6 records → (a b c : ℕ) → IsOfLine a b c → HasBadSecond (Some (a, b)) → ⊥
-  good_second keeps a b c w bad =
-      keeps w.i w.within
+  second_of_line : NoneOffends C6 records → (a b c : ℕ) → IsOfLine a b c → (0x300 ≤ b) × (is_within 0x1161 0x11ff b ≡ false)
+  second_of_line keeps a b c w =
+      good_second a b (λ bad. keeps w.i w.within
       (subst (λ (s : Record). HasBadSecond (pair_in s)) (sym w.line)
-      (subst (λ (t : Bool). HasBadSecond (cond t None (Some (a, b)))) (sym w.free) bad))
+      (subst (λ (t : Bool). HasBadSecond (cond t None (Some (a, b)))) (sym w.free) bad)))
 
   seconds : NoneOffends C6 records → (a b c : ℕ) → pair_of records a b ≡ Some c → 0x300 ≤ b
   seconds keeps a b c e =
       ⊎_elim
       (λ syllable. (syllable_pair a b c syllable).second)
-      (λ w. ⊎_elim (λ low. absurd (good_second keeps a b c w (inl low))) (λ high. high) (cases_lt b 0x300))
+      (λ w. (second_of_line keeps a b c w).0)
       (pair_cases a b c e)
 
   letters : NoneOffends C6 records → (a b c : ℕ) → pair_of records a b ≡ Some c → syllable_of a b ≡ None → is_within 0x1161 0x11ff b ≡ false
   letters keeps a b c e none =
       ⊎_elim
       (λ syllable. absurd (none-some c (sym none ∙ syllable)))
-      (λ w. false_from_ne_true _ (λ t. good_second keeps a b c w (inr t)))
+      (λ w. (second_of_line keeps a b c w).1)
       (pair_cases a b c e)
 
   scalars : ((c : ℕ) (ds : List ℕ) (x : Bool) (i : ℕ) → i < length records → record_at records i ≡ mapping c ds x → IsScalar c)

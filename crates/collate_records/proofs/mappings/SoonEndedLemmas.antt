@@ -1,8 +1,6 @@
 -- what ends after two steps, as what is built in does
 use Rattle.std.proofs.Common.{◌≡◌, ℕ, suc, ◌*◌, ◌≤◌, List, [], ◌∷◌, ◌++◌, length, flat_map, All, refl, sym, ap, ◌∙◌, arith, subst, length-append}
-use Rattle.std.specs.List.{Contains}
-use Rattle.std.proofs.lemmas.List.Elements.{All-contains, All-cons, All-nil, All-head, All-tail}
-use Rattle.icu_normalizer_core.specs.Canonical.{Leaves, nothing, unmapped}
+use Rattle.std.proofs.lemmas.List.Elements.{All-cons, All-nil, All-head, All-tail}
 use Rattle.collate_records.specs.Meaning.{expanded}
 use Rattle.collate_records.proofs.lists.FullListLemmas.{by_first, expanded-suc, expanded_unmapped}
 

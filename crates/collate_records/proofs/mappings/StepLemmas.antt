@@ -4,14 +4,13 @@ use Rattle.std.specs.Option.{is_some, unwrap_or}
 use Rattle.std.specs.Char.{IsScalar}
 use Rattle.std.specs.List.{Contains, list_any}
 use Rattle.std.proofs.lemmas.List.Folds.{list_any_at}
-use lib.Utf8.{low_scalar}
 use Rattle.std.proofs.lemmas.Bool.{or_left, or_right, or_parts, or_from, cases_Bool, cases_eq, cases_lt, both_ways, false≢true, false_from_ne_true, cond-true, cond-false}
 use Rattle.std.proofs.lemmas.Bool.Decides.{eqb_tells}
 use Rattle.std.proofs.lemmas.Option.{none-some, unwrap_or-slice_get}
-use Rattle.std.proofs.lemmas.List.Elements.{All-get_or, All-cons, All-nil}
+use Rattle.std.proofs.lemmas.List.Elements.{All-get_or, All-nil}
 use Rattle.icu_normalizer_core.specs.BuiltIn.{is_syllable, is_jamo, singled_out, built_in_step, built_in_compatibility_step, built_in_class}
 use Rattle.icu_normalizer_core.specs.Canonical.{IsFree}
-use Rattle.icu_normalizer_core.proofs.BuiltInFacts.{built_in_cases, all_singled_out, syllable_cases, built_in_short, small_class as small_built_in_class}
+use Rattle.icu_normalizer_core.proofs.BuiltInFacts.{built_in_short, small_class as small_built_in_class}
 use Rattle.collate_records.specs.Record.{Record, nothing, class, mapping}
 use Rattle.collate_records.specs.Meaning.{is_built_in, first_found, mapping_in, class_in, step_of, class_of}
 use Rattle.collate_records.specs.Rules.{record_at, MapsMark, MapsHangul, IsBadClass, is_built_in_record}

@@ -17,13 +17,14 @@ use Rattle.collate_records.specs.Meaning.{canonical_of, step_of, pair_of, full_o
 use Rattle.collate_records.specs.Maps.{mappings_in, maps_of}
 use Rattle.collate_records.specs.Offenders.{NoneOffends}
 use Rattle.collate_records.specs.Rules.{IsBadClass, IsBadlyComposed, MapsHangul}
-use Rattle.collate_records.proofs.maps.MapLineLemmas.{MapsToFew, each_line}
+use Rattle.collate_records.proofs.maps.MapLineLemmas.{MapsToFew}
 use Rattle.collate_records.proofs.maps.MapMeaningLemmas.{IsConsistent, maps_mean, class_of-maps, step_of-maps}
 use Rattle.collate_records.proofs.maps.MapNameLemmas.{maps_few, maps_one_class, maps_one_mapping}
 use Rattle.collate_records.proofs.maps.MapPairLemmas.{maps_seconds, maps_pairs}
 use Rattle.collate_records.proofs.maps.MapRuleLemmas.{maps_classes, maps_built_in_classes, maps_built_in_mappings, maps_letters}
 use Rattle.collate_records.proofs.reading.AcceptedLemmas.{accepted_decompose, accepted_compose}
 use Rattle.collate_records.proofs.reading.ScalarLemmas.{mapped_some}
+use Rattle.collate_records.proofs.offenders.LineRuleLemmas.{each_line}
 
 -- a line that is read maps to one character or to two
 said_few : (s : Record) → IsSaid s → MapsToFew s

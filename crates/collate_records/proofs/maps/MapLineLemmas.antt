@@ -1,18 +1,16 @@
 -- What a line gives to the maps of its file.
-use Rattle.std.proofs.Common.{◌≡◌, ℕ, ◌<◌, ◌≤◌, Bool, true, false, not, cond, ◌==◌, eqb, List, [], ◌∷◌, ◌++◌, length, map, All, Option, Some, None, refl, ap, arith, subst}
+use Rattle.std.proofs.Common.{◌≡◌, ℕ, ◌≤◌, Bool, true, false, not, cond, ◌==◌, eqb, List, [], ◌∷◌, length, map, All, Option, Some, None, refl, ap, arith}
 use Rattle.std.specs.Prelude.{flat_map}
 use Rattle.std.specs.List.{find}
 use Rattle.std.specs.Option.{unwrap_or}
-use Rattle.std.proofs.lemmas.Bool.Decides.{nat_tests}
-use Rattle.std.proofs.lemmas.Option.{unwrap_or-slice_get}
-use Rattle.std.proofs.lemmas.List.Elements.{All-nil, All-cons, All-head, All-tail, All-from_get_or}
+use Rattle.std.proofs.lemmas.List.Elements.{All-nil, All-head, All-tail, All-append}
+use Rattle.std.specs.Cmp.{nat_eq_equiv}
 use Rattle.icu_normalizer_core.specs.declared.canonical.builder.GivenClass.{GivenClass}
 use Rattle.icu_normalizer_core.specs.declared.canonical.builder.GivenMapping.{GivenMapping}
 use Rattle.icu_normalizer_core.specs.CanonicalMaps.{given_class, given_step, mapping_given}
 use Rattle.collate_records.specs.Record.{Record, nothing, class, mapping, compatibility, weights, range, digit, setting}
 use Rattle.collate_records.specs.Meaning.{first_found, class_in, mapping_in}
 use Rattle.collate_records.specs.Maps.{classes_in, mappings_in}
-use Rattle.collate_records.specs.Rules.{record_at}
 use Rattle.collate_records.specs.Keys.{class_key, mapping_key}
 
 -- a line maps to one character or to two
@@ -20,23 +18,11 @@ abbrev pub MapsToFew : Record → Type 0
 MapsToFew (mapping c ds x) = (length ds ≤ 2) × (1 ≤ length ds)
 MapsToFew _ = Unit {0}
 
--- what holds of every line by its place holds of all
-pub each_line : (P : Record → Type 0) (records : List Record) → ((i : ℕ) → i < length records → P (record_at records i)) → All P records
-each_line P records each =
-    All-from_get_or P records nothing (λ i lt. subst P (unwrap_or-slice_get records i nothing) (each i lt))
-
 -- what holds of each item that a line gives holds of all items
-pub All-append : {B : Type 0} (P : B → Type 0) (xs ys : List B) → All P xs → All P ys → All P (xs ++ ys)
-All-append P [] ys h k = k
-All-append P (x ∷ xs) ys h k = All-cons P x (xs ++ ys) (All-head P x xs h) (All-append P xs ys (All-tail P x xs h) k)
-
 pub All-flat_map : {A B : Type 0} (P : B → Type 0) (f : A → List B) (xs : List A) → All (λ x. All P (f x)) xs → All P (flat_map f xs)
 All-flat_map P f [] h = All-nil P
 All-flat_map P f (x ∷ xs) h =
     All-append P (f x) (flat_map f xs) (All-head (λ y. All P (f y)) x xs h) (All-flat_map P f xs (All-tail (λ y. All P (f y)) x xs h))
-
-turned : (c d : ℕ) → eqb c d ≡ eqb d c
-turned c d = grind (arith, nat_tests)
 
 -- ---- What is found
 
@@ -55,7 +41,7 @@ pub given_class-maps : (c : ℕ) (records : List Record) → given_class (flat_m
 given_class-maps c [] = refl
 given_class-maps c (nothing ∷ rs) = given_class-maps c rs
 given_class-maps c (class d k ∷ rs) =
-    class_by (eqb d c) (eqb c d) (record { character = d; class = k }) (find (λ g. g.character == c) (flat_map classes_in rs)) (first_found (class_in c) rs) (turned d c) (given_class-maps c rs)
+    class_by (eqb d c) (eqb c d) (record { character = d; class = k }) (find (λ g. g.character == c) (flat_map classes_in rs)) (first_found (class_in c) rs) (nat_eq_equiv.symm d c) (given_class-maps c rs)
 given_class-maps c (mapping d ds x ∷ rs) = given_class-maps c rs
 given_class-maps c (compatibility d ds ∷ rs) = given_class-maps c rs
 given_class-maps c (weights l p t es ∷ rs) = given_class-maps c rs
@@ -81,10 +67,10 @@ given_step-maps c (class d k ∷ rs) few = given_step-maps c rs (All-tail MapsTo
 given_step-maps c (mapping d [] x ∷ rs) few = absurd (let h = All-head MapsToFew (mapping d [] x) rs few in omega (arith, h.1))
 given_step-maps c (mapping d (e ∷ []) x ∷ rs) few =
     step_by (eqb d c) (eqb c d) (record { character = d; first = e; second = None; is_composed = false })
-    (find (λ g. g.character == c) (flat_map mappings_in rs)) (first_found (mapping_in c) rs) (turned d c) (given_step-maps c rs (All-tail MapsToFew _ rs few))
+    (find (λ g. g.character == c) (flat_map mappings_in rs)) (first_found (mapping_in c) rs) (nat_eq_equiv.symm d c) (given_step-maps c rs (All-tail MapsToFew _ rs few))
 given_step-maps c (mapping d (e ∷ f ∷ []) x ∷ rs) few =
     step_by (eqb d c) (eqb c d) (record { character = d; first = e; second = Some f; is_composed = not x })
-    (find (λ g. g.character == c) (flat_map mappings_in rs)) (first_found (mapping_in c) rs) (turned d c) (given_step-maps c rs (All-tail MapsToFew _ rs few))
+    (find (λ g. g.character == c) (flat_map mappings_in rs)) (first_found (mapping_in c) rs) (nat_eq_equiv.symm d c) (given_step-maps c rs (All-tail MapsToFew _ rs few))
 given_step-maps c (mapping d (e ∷ f ∷ g ∷ ds) x ∷ rs) few = absurd (let h = All-head MapsToFew (mapping d (e ∷ f ∷ g ∷ ds) x) rs few in omega (arith, h.0))
 given_step-maps c (compatibility d ds ∷ rs) few = given_step-maps c rs (All-tail MapsToFew _ rs few)
 given_step-maps c (weights l p t es ∷ rs) few = given_step-maps c rs (All-tail MapsToFew _ rs few)

@@ -17,7 +17,7 @@ use Rattle.icu_normalizer_core.proofs.LeftLemmas.{left_same}
 use Rattle.collate_records.specs.Record.{Record, nothing, class, mapping, compatibility, weights, range, digit, setting}
 use Rattle.collate_records.specs.Meaning.{first_found, mapping_in, composed_in, is_built_in, class_of, step_of, pair_of, canonical_of}
 use Rattle.collate_records.specs.Maps.{mappings_in, maps_of}
-use Rattle.collate_records.specs.Rules.{record_at, Contradicts, is_built_in_record}
+use Rattle.collate_records.specs.Rules.{record_at, Contradicts}
 use Rattle.collate_records.proofs.maps.MapLineLemmas.{MapsToFew, given_class-maps, given_step-maps}
 use Rattle.collate_records.proofs.lookups.FoundLemmas.{mapping_line}
 use Rattle.collate_records.proofs.mappings.StepLemmas.{free_not_said}

@@ -1,10 +1,10 @@
 -- The characters that maps of lines name: each class and each mapping has its own, and few are named.
-use Rattle.std.proofs.Common.{◌≡◌, ℕ, ◌+◌, ◌≤◌, ⊎_elim, inl, Bool, true, false, cond, ◌||◌, eqb, List, [], ◌∷◌, ◌++◌, length, map, take, refl, sym, ap, ◌∙◌, arith, subst, All}
+use Rattle.std.proofs.Common.{◌≡◌, ℕ, ◌≤◌, ⊎_elim, inl, Bool, true, false, cond, ◌||◌, eqb, List, [], ◌∷◌, ◌++◌, length, map, refl, sym, ap, ◌∙◌, arith, subst, All, ◌<◌}
 use Rattle.std.specs.Prelude.{flat_map}
 use Rattle.std.specs.Cmp.{nat_eq_equiv}
 use Rattle.std.specs.List.{list_any, AllByRecursion, IsDistinct}
 use Rattle.std.specs.Set.{distinct_count, is_member, unique_keys}
-use Rattle.std.proofs.lemmas.Bool.{cases_lt, or_right, false≢true}
+use Rattle.std.proofs.lemmas.Bool.{cases_lt, or_right, false≢true, or_parts}
 use Rattle.std.proofs.lemmas.List.{take_all}
 use Rattle.std.proofs.lemmas.List.Folds.{list_any-append}
 use Rattle.std.proofs.lemmas.Map.Made.{length-le_from_is_member}
@@ -17,6 +17,7 @@ use Rattle.collate_records.specs.Offenders.{NoneOffends}
 use Rattle.collate_records.specs.Keys.{class_key, mapping_key}
 use Rattle.collate_records.proofs.lookups.KeyLemmas.{class_kind, mapping_kind, distinct_to, key_named, different-unique, is_member-unique}
 use Rattle.collate_records.proofs.maps.MapLineLemmas.{MapsToFew, class_keys, mapping_keys}
+use Rattle.collate_records.proofs.offenders.BreachLemmas.{none_together}
 
 -- ---- One class and one mapping for a character
 
@@ -34,15 +35,7 @@ maps_one_mapping records few once =
 
 none_among : (x : ℕ) (ys : List ℕ) → list_any (λ y. eqb x y) ys ≡ false → AllByRecursion (λ y. eqb x y ≡ false) ys
 none_among x [] h = tt
-none_among x (y ∷ ys) h = (first (eqb x y) _ h, none_among x ys (second (eqb x y) _ h))
-  where
-    first : (a b : Bool) → (a || b) ≡ false → a ≡ false
-    first true b e = e
-    first false b e = refl
-
-    second : (a b : Bool) → (a || b) ≡ false → b ≡ false
-    second true b e = absurd (false≢true (sym e))
-    second false b e = e
+none_among x (y ∷ ys) h = let w = or_parts (eqb x y) _ h in (w.0, none_among x ys w.1)
 
 unique_distinct : (xs : List ℕ) → IsDistinct eqb (unique_keys eqb xs)
 unfolding IsDistinct
@@ -92,12 +85,10 @@ all_named q records h =
 
 names_limit : (records : List Record) → NoneOffends Limit records → different (flat_map named records) ≤ 150
 unfolding different
-names_limit [] few = omega arith
-names_limit (s ∷ ss) few =
-    let whole = take_all (length ss + 1) (s ∷ ss) (omega arith) in
-    let bounded : names_in (take (length ss + 1) (s ∷ ss)) ≤ 150 =
-    ⊎_elim (λ past. absurd (few (length ss) (omega arith) (inl past))) (λ within. within) (cases_lt 150 (names_in (take (length ss + 1) (s ∷ ss)))) in
-    let all : names_in (s ∷ ss) ≤ 150 = subst (λ (rs : List Record). names_in rs ≤ 150) whole bounded in
+names_limit records few =
+    let bounded : names_in records ≤ 150 =
+    ⊎_elim (λ (past : 150 < names_in records). absurd (none_together (λ rs. 150 < names_in rs) (λ h. omega arith) records (λ i lt over. few i lt (inl over)) past))
+    (λ (within : names_in records ≤ 150). within) (cases_lt 150 (names_in records)) in
     omega arith
 
 pub maps_few : (records : List Record) → NoneOffends Limit records → distinct_count eqb (named_by (maps_of records)) ≤ 150

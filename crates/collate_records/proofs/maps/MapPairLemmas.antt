@@ -1,8 +1,8 @@
 -- Composed pairs of maps: the line that gives one.
-use Rattle.std.proofs.Common.{◌≡◌, ◌≢◌, ℕ, ◌<◌, ◌≤◌, inl, inr, ⊎_elim, Bool, true, false, not, cond, ◌&&◌, ◌==◌, List, [], ◌∷◌, length, All, Option, Some, None, refl, sym, ap, ◌∙◌, arith, subst, get_or, take}
+use Rattle.std.proofs.Common.{◌≡◌, ◌≢◌, ℕ, ◌<◌, ◌≤◌, ⊎_elim, Bool, true, false, not, cond, ◌&&◌, ◌==◌, List, [], ◌∷◌, length, All, Option, Some, None, refl, sym, ap, ◌∙◌, arith, subst, get_or, take}
 use Rattle.std.specs.Prelude.{flat_map}
 use Rattle.std.specs.List.{Contains}
-use Rattle.std.proofs.lemmas.Bool.{cases_eq, cases_lt, eqb-true, eq-eqb, and_parts, false_from_ne_true, false≢true, not-true}
+use Rattle.std.proofs.lemmas.Bool.{cases_eq, cases_lt, eqb-true, eq-eqb, and_parts, false≢true, not-true}
 use Rattle.std.proofs.lemmas.Option.{unwrap_or-slice_get}
 use Rattle.std.proofs.lemmas.List.{get_or-take, length-take}
 use Rattle.std.proofs.lemmas.List.Folds.{list_any_at}
@@ -15,9 +15,10 @@ use Rattle.collate_records.specs.Meaning.{is_built_in}
 use Rattle.collate_records.specs.Maps.{mappings_in}
 use Rattle.collate_records.specs.Rules.{record_at, IsBadlyComposed, HasBadSecond, RepeatsPair, is_same_pair, pair_in}
 use Rattle.collate_records.specs.Keys.{mapping_key}
-use Rattle.collate_records.proofs.maps.MapLineLemmas.{each_line}
 use Rattle.collate_records.proofs.maps.MapMeaningLemmas.{IsConsistent, composes_same}
 use Rattle.collate_records.proofs.maps.MapRuleLemmas.{all_mappings}
+use Rattle.collate_records.proofs.offenders.PairLemmas.{good_second}
+use Rattle.collate_records.proofs.offenders.LineRuleLemmas.{each_line}
 
 -- the line of a composed mapping is for the pair
 two_pair : (a b c d e : ℕ) (x : Bool) → IsConsistent (mapping c (d ∷ e ∷ []) x)
@@ -33,17 +34,12 @@ two_pair a b c d e false consistent h =
 
 -- ---- The second of a pair
 
-good_second : (a b : ℕ) (o : Option (ℕ × ℕ)) → o ≡ Some (a, b) → (HasBadSecond o → ⊥) → (0x300 ≤ b) × (is_within 0x1161 0x11ff b ≡ false)
-good_second a b o e good =
-    let none : HasBadSecond (Some (a, b)) → ⊥ = subst (λ (p : Option (ℕ × ℕ)). HasBadSecond p → ⊥) e good in
-    (⊎_elim (λ low. absurd (none (inl low))) (λ high. high) (cases_lt b 0x300), false_from_ne_true _ (λ vowel. none (inr vowel)))
-
 pub maps_seconds : (a b : ℕ) (records : List Record) → All (λ r. IsConsistent r × (IsBadlyComposed r → ⊥)) records
     → All (λ g. composes a b g ≡ true → (0x300 ≤ b) × (is_within 0x1161 0x11ff b ≡ false)) (flat_map mappings_in records)
 maps_seconds a b =
     all_mappings (λ g. composes a b g ≡ true → (0x300 ≤ b) × (is_within 0x1161 0x11ff b ≡ false)) (λ r. IsConsistent r × (IsBadlyComposed r → ⊥))
     (λ c d x good h. absurd (false≢true h))
-    (λ c d e x good h. good_second a b (pair_in (mapping c (d ∷ e ∷ []) x)) (two_pair a b c d e x good.0 h) good.1)
+    (λ c d e x good h. good_second a b (subst (λ (p : Option (ℕ × ℕ)). HasBadSecond p → ⊥) (two_pair a b c d e x good.0 h) good.1))
 
 -- ---- One pair, one character
 

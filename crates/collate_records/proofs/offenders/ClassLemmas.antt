@@ -1,9 +1,6 @@
 -- what the rules on classes give
-use Rattle.std.proofs.Common.{◌≡◌, ℕ, ◌<◌, List, Option, Some, None, All, Bool, true, false, cond, arith, inl, inr}
-use Rattle.std.proofs.lemmas.Option.{unwrap_or-slice_get, same_Some}
+use Rattle.std.proofs.Common.{ℕ, List, All, arith, inl, inr}
 use Rattle.std.proofs.lemmas.Bool.{cases_lt}
-use Rattle.std.proofs.lemmas.List.Elements.{All-from_get_or}
-use Rattle.icu_normalizer_core.specs.BuiltIn.{built_in_class}
 use Rattle.icu_normalizer_core.proofs.BuiltInFacts.{small_class}
 use Rattle.collate_records.specs.declared.rule.Rule.TheVariants.{C3}
 use Rattle.collate_records.specs.Record.{Record, nothing, class, mapping, compatibility, weights, range, digit, setting}
@@ -12,6 +9,7 @@ use Rattle.collate_records.specs.Offenders.{NoneOffends}
 use Rattle.std.proofs.lemmas.List.{length-map}
 use Rattle.collate_records.specs.Files.{IsAccepted, lines_of, read_line, records_of}
 use Rattle.collate_records.specs.Accepted.{HasSmallClass}
+use Rattle.collate_records.proofs.offenders.LineRuleLemmas.{each_line}
 
 HasSmallClass-from_record : (s : Record) → (IsBadClass s → ⊥) → HasSmallClass s
 HasSmallClass-from_record nothing h = tt
@@ -26,8 +24,7 @@ HasSmallClass-from_record (setting s) h = tt
 -- where no line offends against C3, classes are small
 pub All-HasSmallClass : (records : List Record) → NoneOffends C3 records → All HasSmallClass records
 All-HasSmallClass records keeps =
-    All-from_get_or HasSmallClass records nothing
-    (λ i below. rw (← unwrap_or-slice_get records i nothing) (HasSmallClass-from_record (record_at records i) (keeps i below)))
+    each_line HasSmallClass records (λ i below. HasSmallClass-from_record (record_at records i) (keeps i below))
 
 -- an accepted file gives small classes
 pub accepted_classes : (file : List ℕ) → IsAccepted file → All HasSmallClass (records_of file)

@@ -1,13 +1,19 @@
 -- What line i says, and the rules that look at one line.
-use Rattle.std.proofs.Common.{◌≡◌, ℕ, ◌<◌, List, length, get_or, map, sym, ap, ◌∙◌, subst, arith, Option, Some, None, MatchOption, HoldsAt}
+use Rattle.std.proofs.Common.{◌≡◌, ℕ, ◌<◌, List, length, get_or, map, sym, ap, ◌∙◌, subst, arith, Option, Some, None, MatchOption, HoldsAt, All}
 use Rattle.std.specs.List.{AllWithin}
 use Rattle.std.specs.Option.{unwrap_or, option_map}
-use Rattle.std.proofs.lemmas.Option.{slice_get-map, slice_get-get_or}
+use Rattle.std.proofs.lemmas.Option.{slice_get-map, slice_get-get_or, unwrap_or-slice_get}
 use Rattle.std.proofs.lemmas.List.{length-map}
+use Rattle.std.proofs.lemmas.List.Elements.{All-from_get_or}
 use Rattle.collate_records.specs.declared.record.Record.{Record as Line}
 use Rattle.collate_records.specs.declared.record.Record.TheVariants.{Nothing}
 use Rattle.collate_records.specs.Record.{Record, nothing, said}
 use Rattle.collate_records.specs.Rules.{record_at}
+
+-- what holds of every line by its place holds of all
+pub each_line : (P : Record → Type 0) (records : List Record) → ((i : ℕ) → i < length records → P (record_at records i)) → All P records
+each_line P records each =
+    All-from_get_or P records nothing (λ i lt. subst P (unwrap_or-slice_get records i nothing) (each i lt))
 
 pub record_at-said : (lines : List Line) (i : ℕ) (d : Line) → i < length lines → record_at (map said lines) i ≡ said (get_or lines i d)
 record_at-said lines i d h =

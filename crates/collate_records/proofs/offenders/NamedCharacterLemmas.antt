@@ -7,6 +7,8 @@ use Rattle.std.specs.List.{list_any}
 use Rattle.std.proofs.lemmas.List.Folds.{list_any-append}
 use Rattle.std.proofs.lemmas.Bool.Decides.{nat_tests}
 use Rattle.std.proofs.Math.Bool.{or-false, or-true}
+use Rattle.std.specs.Cmp.{nat_eq_equiv}
+use Rattle.std.proofs.lemmas.Bool.{eqb-true}
 use Rattle.collate_records.specs.Rules.{different}
 use Rattle.collate_records.specs.Limits.{Holds}
 
@@ -20,27 +22,18 @@ joined true false n m e = ap (λ k. 1 + k) e
 joined false true n m e = e
 joined false false n m e = ap (λ k. 1 + k) e
 
-eqb_turn : (x c : ℕ) → eqb c x ≡ false → eqb x c ≡ false
-eqb_turn x c e = grind (arith, nat_tests)
-
-eqb_back : (x c : ℕ) → eqb c x ≡ true → eqb x c ≡ true
-eqb_back x c e = grind (arith, nat_tests)
-
-eqb_is : (x c : ℕ) → eqb c x ≡ true → c ≡ x
-eqb_is x c e = grind (arith, nat_tests)
-
 different-head : (c x : ℕ) (xs : List ℕ) (t : Bool) → eqb c x ≡ t → different (xs ++ c ∷ []) ≡ cond (list_any (λ d. eqb c d) xs) (different xs) (1 + different xs) → different (x ∷ (xs ++ c ∷ [])) ≡ cond (t || list_any (λ d. eqb c d) xs) (different (x ∷ xs)) (1 + different (x ∷ xs))
 unfolding different
 different-head c x xs true e h =
-    let same : c ≡ x = eqb_is x c e in
+    let same : c ≡ x = eqb-true c x e in
     let found : list_any (λ d. eqb x d) (xs ++ c ∷ []) ≡ true =
-    any_push x c xs ∙ ap (λ (b : Bool). list_any (λ d. eqb x d) xs || b) (eqb_back x c e) ∙ or-true _ in
+    any_push x c xs ∙ ap (λ (b : Bool). list_any (λ d. eqb x d) xs || b) (nat_eq_equiv.symm x c ∙ e) ∙ or-true _ in
     ap (λ (b : Bool). cond b (different (xs ++ c ∷ [])) (1 + different (xs ++ c ∷ []))) found
     ∙ h
     ∙ ap (λ (y : ℕ). cond (list_any (λ d. eqb y d) xs) (different xs) (1 + different xs)) same
 different-head c x xs false e h =
     ap (λ (b : Bool). cond b (different (xs ++ c ∷ [])) (1 + different (xs ++ c ∷ [])))
-    (any_push x c xs ∙ ap (λ (b : Bool). list_any (λ d. eqb x d) xs || b) (eqb_turn x c e) ∙ or-false _)
+    (any_push x c xs ∙ ap (λ (b : Bool). list_any (λ d. eqb x d) xs || b) (nat_eq_equiv.symm x c ∙ e) ∙ or-false _)
     ∙ joined (list_any (λ d. eqb c d) xs) (list_any (λ d. eqb x d) xs) (different xs) (different (xs ++ c ∷ [])) h
 
 -- one number more at the end of a list

@@ -1,11 +1,12 @@
 -- Lines that compose the same two characters.
-use Rattle.std.proofs.Common.{◌≡◌, ℕ, ◌+◌, ◌<◌, Bool, false, ◌||◌, List, [], ◌∷◌, length, get_or, take, map, refl, sym, ap, ◌∙◌, below_more, Option, Some, None}
-use Rattle.std.proofs.lemmas.Bool.{false≢true}
+use Rattle.std.proofs.Common.{◌≡◌, ℕ, ◌+◌, ◌<◌, Bool, false, ◌||◌, List, [], ◌∷◌, length, get_or, take, map, refl, sym, ap, ◌∙◌, below_more, Option, Some, None, ◌≤◌, ⊎_elim, inl, inr}
+use Rattle.std.proofs.lemmas.Bool.{false≢true, cases_lt, false_from_ne_true}
 use Rattle.std.proofs.lemmas.List.{take-map}
 use Rattle.std.specs.List.{list_any}
+use Rattle.icu_normalizer_core.specs.BuiltIn.{is_within}
 use Rattle.collate_records.specs.declared.record.Record.{Record as Line}
 use Rattle.collate_records.specs.Record.{Record, said}
-use Rattle.collate_records.specs.Rules.{record_at, RepeatsPair, is_same_pair, pair_in}
+use Rattle.collate_records.specs.Rules.{record_at, RepeatsPair, is_same_pair, pair_in, HasBadSecond}
 use Rattle.collate_records.proofs.offenders.LineRuleLemmas.{record_at-said}
 
 -- whether lines compose the two characters of another
@@ -41,3 +42,8 @@ pub none_more : (lines before : List Line) (i : ℕ) (x : Line) (b : Bool) → i
 none_more lines before i x b within read e is unset earlier =
     below_more (λ k. RepeatsPair (map said lines) k → ⊥) i earlier
     (λ again. false≢true (sym unset ∙ is ∙ repeats_at lines before i x within read e ∙ again))
+
+-- a second that is not a bad one is from U+0300 on, and no vowel or final consonant of Hangul
+pub good_second : (a b : ℕ) → (HasBadSecond (Some (a, b)) → ⊥) → (0x300 ≤ b) × (is_within 0x1161 0x11ff b ≡ false)
+good_second a b good =
+    (⊎_elim (λ low. absurd (good (inl low))) (λ high. high) (cases_lt b 0x300), false_from_ne_true _ (λ letter. good (inr letter)))

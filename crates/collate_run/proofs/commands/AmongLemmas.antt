@@ -1,5 +1,5 @@
 -- a name that stands among others
-use Rattle.std.proofs.Common.{◌≡◌, ℕ, Bool, true, false, List, Contains, bytes_eq, refl}
+use Rattle.std.proofs.Common.{◌≡◌, ℕ, true, false, List, Contains, bytes_eq, refl}
 use Rattle.std.specs.Bool.{Decides}
 use Rattle.std.specs.Cmp.Lexicographic.{bytes_decides}
 use Rattle.std.proofs.lemmas.Bool.Decides.{Decides-by_or}

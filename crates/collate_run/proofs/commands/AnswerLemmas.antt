@@ -1,8 +1,7 @@
 -- the outcomes of one line
 use Rattle.std.proofs.Common.{◌≡◌, ℕ, true, false, List, Contains, codes, refl, ◌∙◌, ap}
-use Rattle.collate_index.specs.Catalogue.{Catalogue, order_of, sorted_names, with_name}
-use Rattle.collate_index.specs.Names.{equal_names}
-use Rattle.collate_run.specs.Replies.{LineCommand, add, find, list, unknown, IsCommand, Answers, answer_to, granted, listing, command_of}
+use Rattle.collate_index.specs.Catalogue.{Catalogue, with_name}
+use Rattle.collate_run.specs.Replies.{LineCommand, add, Answers, answer_to, granted, command_of}
 use Rattle.collate_run.proofs.commands.AmongLemmas.{is_among-true, is_among-false}
 
 -- a line that was granted memory
