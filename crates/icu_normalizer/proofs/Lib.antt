@@ -1,4 +1,5 @@
 pub mod ClusterCutLemmas
+pub mod ClusterFormLemmas
 pub mod ClusterLemmas
 pub mod ComposedCutLemmas
 pub mod ComposedWalkLemmas

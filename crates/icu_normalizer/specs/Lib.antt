@@ -1,3 +1,4 @@
+pub mod ClusterForm
 pub mod Composer
 pub mod Composing
 pub mod Compositions

@@ -8,6 +8,7 @@ ghost use Rattle.icu_normalizer.specs.Composing.{IsComposable};
 ghost use Rattle.icu_normalizer.specs.Iter.{Spells};
 ghost use Rattle.icu_normalizer.specs.Readable.{IsReadable};
 
+mod cluster_form;
 mod clusters;
 mod composer;
 mod cuts;

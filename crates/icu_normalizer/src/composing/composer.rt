@@ -45,7 +45,8 @@ impl<'d> Composer<'d> {
 
     /// Drops all characters.
     pub(crate) fn clear(&mut self)
-        ensures { IsIdle self.new }
+        ensures idle { IsIdle self.new }
+        ensures same { data_of self.new ≡ data_of self.old }
     {
         self.starter = None;
         self.marks.clear();
@@ -60,6 +61,7 @@ impl<'d> Composer<'d> {
         ensures output { KeepsComposed self.old [] (option_to_list result) self.new }
         ensures composing { IfNone result (self.new.leaving ≡ false) }
         ensures fewer { waiting self.new + length (option_to_list result) ≤ waiting self.old }
+        ensures same { data_of self.new ≡ data_of self.old }
     {
         if !self.leaving {
             return None;
@@ -83,6 +85,7 @@ impl<'d> Composer<'d> {
         ensures output { IfOk result (λ out. KeepsComposed self.old (c ∷ []) (option_to_list out) self.new) }
         ensures composing { IfOk result (λ out. IfNone out (self.new.leaving ≡ false)) }
         ensures fewer { IfOk result (λ out. waiting self.new + length (option_to_list out) ≤ waiting self.old + 1) }
+        ensures same { data_of self.new ≡ data_of self.old }
     {
         let class = class_of(self.canonical, c);
         let Some(starter) = self.starter else {
@@ -113,6 +116,7 @@ impl<'d> Composer<'d> {
         ensures output { coming self.old [] ≡ option_to_list result ++ coming self.new [] }
         ensures done { IfNone result (coming self.new [] ≡ []) }
         ensures fewer { waiting self.new + length (option_to_list result) ≤ waiting self.old }
+        ensures same { data_of self.new ≡ data_of self.old }
     {
         self.leaving = true;
         self.starter.take()

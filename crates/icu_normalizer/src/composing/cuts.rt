@@ -3,9 +3,10 @@
 ghost use Rattle.std.specs.Prelude.{◌≡◌, ◌<◌, ◌≤◌, MatchOption, IfOk, chars};
 ghost use Rattle.icu_normalizer_core.specs.BorrowedMeaning.{borrowed_meaning};
 ghost use Rattle.icu_normalizer_core.specs.Canonical.{composed};
+ghost use Rattle.icu_normalizer.specs.ClusterForm.{form_data};
 ghost use Rattle.icu_normalizer.specs.FormCuts.{IsComposed, IsFormCut};
 
-use super::Composition;
+use super::cluster_form::ClusterForm;
 use super::clusters::first_cluster;
 use super::low::skip_low;
 use icu_normalizer_core::canonical::CanonicalBorrowed;
@@ -21,10 +22,11 @@ pub(super) fn rest_to_change<'t>(
     ensures { IfOk result (λ out. MatchOption out (IsComposed (borrowed_meaning canonical.entry) (chars text.now)) (λ rest. IsFormCut (composed (borrowed_meaning canonical.entry)) 0x300 text.now rest.now)) }
 {
     canonical.keep_promise();
+    let mut form = ClusterForm::new(alloc, canonical);
     let mut left = text;
     while let Some(rest) = skip_low(canonical, left) {
         let (cluster, behind) = first_cluster(canonical, rest);
-        match rest_to_compose(alloc, canonical, cluster) {
+        match rest_to_compose(canonical, &mut form, cluster) {
             Ok(None) => {}
             Ok(Some(cut)) => return Ok(Some(&rest[cluster.len() - cut.len()..])),
             Err(error) => return Err(error),
@@ -34,36 +36,34 @@ pub(super) fn rest_to_change<'t>(
     Ok(None)
 }
 
-/// The same, character by character.
+/// The same of a cluster, character by character.
 fn rest_to_compose<'t>(
-    alloc: Global,
     canonical: CanonicalBorrowed<'_>,
+    form: &mut ClusterForm<'_>,
     text: &'t str,
 ) -> Result<Option<&'t str>, AllocError>
-    ensures { IfOk result (λ out. MatchOption out (IsComposed (borrowed_meaning canonical.entry) (chars text.now)) (λ rest. IsFormCut (composed (borrowed_meaning canonical.entry)) 0x300 text.now rest.now)) }
+    requires { form_data form.old ≡ borrowed_meaning canonical }
+    ensures same { form_data form.new ≡ form_data form.old }
+    ensures cut { IfOk result (λ out. MatchOption out (IsComposed (borrowed_meaning canonical.entry) (chars text.now)) (λ rest. IsFormCut (composed (borrowed_meaning canonical.entry)) 0x300 text.now rest.now)) }
 {
     canonical.keep_promise();
+    form.begin(text)?;
     let mut rest = text;
     let mut chars = text.chars();
-    let mut composition = Composition::over(alloc, canonical, text.chars());
     'chars: loop {
         let here = chars.as_str();
         let Some(c) = chars.next() else {
-            match composition.next() {
-                None => return Ok(None),
-                Some(Ok(_)) => return Ok(Some(rest)),
-                Some(Err(error)) => return Err(error),
-            }
+            return match form.next()? {
+                None => Ok(None),
+                Some(_) => Ok(Some(rest)),
+            };
         };
         rest = later_rest(c, here, rest);
-        match composition.next() {
-            None => return Ok(Some(rest)),
-            Some(Err(error)) => return Err(error),
-            Some(Ok(composed)) => {
-                if composed != c {
-                    return Ok(Some(rest));
-                }
-            }
+        let Some(composed) = form.next()? else {
+            return Ok(Some(rest));
+        };
+        if composed != c {
+            return Ok(Some(rest));
         }
     }
 }

@@ -9,7 +9,7 @@ ghost use Rattle.icu_normalizer.specs.Sinks.{AddsPrefix, EndsByFailure};
 
 mod splits;
 
-use super::Composition;
+use super::cluster_form::ClusterForm;
 use super::clusters::{first_cluster, split_apart};
 use crate::sinks::{NormError, TextSink};
 use icu_normalizer_core::canonical::CanonicalBorrowed;
@@ -24,6 +24,7 @@ pub struct ComposingNormalizerBorrowed<'d> {
 }
 
 impl<'d> ComposingNormalizerBorrowed<'d> {
+    ghost use Rattle.icu_normalizer.specs.ClusterForm.{form_data};
     ghost use Rattle.icu_normalizer.specs.Normalizers.{composing_data};
 
     /// A normaliser over canonical data. It takes no memory.
@@ -73,10 +74,11 @@ impl<'d> ComposingNormalizerBorrowed<'d> {
         ensures err { OnErr result (AddsPrefix (S.contents sink.old) (encode_utf8_all (composed (composing_data self.now) (chars text.now))) (S.contents sink.new)) }
         ensures failure { EndsByFailure S.takes S.fails sink.old result sink.new }
     {
+        let mut form = ClusterForm::new(alloc, self.canonical);
         let mut left = text;
         while !left.is_empty() {
             let (cluster, rest) = first_cluster(self.canonical, left);
-            if let Err(error) = self.write_cluster(alloc, cluster, sink) {
+            if let Err(error) = self.write_cluster(&mut form, cluster, sink) {
                 return Err(error);
             }
             let (plain, rest) = split_apart(self.canonical, rest);
@@ -88,26 +90,32 @@ impl<'d> ComposingNormalizerBorrowed<'d> {
         Ok(())
     }
 
-    /// The same, character by character.
+    /// The same of a cluster, character by character.
     fn write_cluster<S: TextSink>(
         &self,
-        alloc: Global,
+        form: &mut ClusterForm<'_>,
         text: &str,
         sink: &mut S,
     ) -> Result<(), NormError<S::Error>>
+        requires { form_data form.old ≡ composing_data self.now }
+        ensures same { form_data form.new ≡ form_data form.old }
         ensures ok { OnOk result (S.contents sink.new ≡ S.contents sink.old ++ encode_utf8_all (composed (composing_data self.now) (chars text.now))) }
         ensures err { OnErr result (AddsPrefix (S.contents sink.old) (encode_utf8_all (composed (composing_data self.now) (chars text.now))) (S.contents sink.new)) }
         ensures failure { EndsByFailure S.takes S.fails sink.old result sink.new }
     {
-        let mut composition = Composition::over(alloc, self.canonical, text.chars());
-        while let Some(item) = composition.next() {
-            let Ok(c) = item else {
+        if form.begin(text).is_err() {
+            return Err(NormError::Memory);
+        }
+        'chars: loop {
+            let Ok(next) = form.next() else {
                 return Err(NormError::Memory);
+            };
+            let Some(c) = next else {
+                return Ok(());
             };
             if let Err(error) = sink.write_char(c) {
                 return Err(NormError::Sink(error));
             }
         }
-        Ok(())
     }
 }

@@ -8,10 +8,10 @@ returns-in-Err-clause-steps g c =
     let step = rw c.in-Err.is at c.in-Some-next.ensures.steps in
     record {
       first = record {
-        at = λ cs left. let now = (c.loop-item.invariant.0.at cs left).2 in composes_stop g.I.Iterator.next_gives _ c.clear.ensures (step.first.at now.unread now.source);
+        at = λ cs left. let now = (c.loop-item.invariant.0.at cs left).2 in composes_stop g.I.Iterator.next_gives _ c.clear.ensures.idle (step.first.at now.unread now.source);
       };
       again = step.again;
-      size = omega (arith, step.size, c.clear.ensures.empty, c.loop-item.invariant.2);
+      size = omega (arith, step.size, c.clear.ensures.idle.empty, c.loop-item.invariant.2);
     }
 
 pub loop-item-preserved : goal.loop-item-preserved
@@ -41,9 +41,9 @@ returns-in-Ok-Some-clause-steps g c =
 pub returns-in-Err-push-clause-steps : goal.returns-in-Err-push-clause-steps
 returns-in-Err-push-clause-steps g c =
     record {
-      first = record { at = λ cs left. composes_stop g.I.Iterator.next_gives _ c.clear-in-Err-push.ensures c.stop.ensures.text };
+      first = record { at = λ cs left. composes_stop g.I.Iterator.next_gives _ c.clear-in-Err-push.ensures.idle c.stop.ensures.text };
       again = c.stop.ensures.ready;
-      size = omega (arith, c.clear-in-Err-push.ensures.empty, c.stop.ensures.size);
+      size = omega (arith, c.clear-in-Err-push.ensures.idle.empty, c.stop.ensures.size);
     }
 
 pub returns-in-Some-finish-clause-steps : goal.returns-in-Some-finish-clause-steps

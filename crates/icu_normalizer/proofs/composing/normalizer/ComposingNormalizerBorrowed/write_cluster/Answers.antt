@@ -1,49 +1,75 @@
-use Rattle.std.proofs.Common.{[], ◌∷◌, ◌++◌, refl, sym, append-nil, rules}
+use Rattle.std.proofs.Common.{◌≡◌, [], ◌∷◌, ◌++◌, chars, sym, ap, ◌∙◌, append-nil, arith}
+use Rattle.icu_normalizer_core.specs.Canonical.{Canonical, composed}
+use Rattle.icu_normalizer.specs.ClusterForm.{IsBegun, form_data, form_left}
 use Rattle.icu_normalizer.specs.Sinks.{nothing, more}
-use Rattle.icu_normalizer.proofs.IterLemmas.{Spells-chars}
+use Rattle.icu_normalizer.proofs.ClusterFormLemmas.{ok_unless_err}
 use Rattle.icu_normalizer.proofs.SinkLemmas.{seen_more, sink_more, sink_all, sink_cut, sink_part}
 use Rattle.icu_normalizer.proofs.composing.normalizer.ComposingNormalizerBorrowed.write_cluster.Goals as goal
 
-pub loop-item-init : goal.loop-item-init
-loop-item-init g c =
-    (search rules, ([], _, c.over-composition.ensures.text _ (Spells-chars _ _ c.utf8.text c.chars.ensures.rest), refl, sym (append-nil _), nothing _))
+pub returns-then-is_err-clause-failure : goal.returns-then-is_err-clause-failure
+returns-then-is_err-clause-failure g c = nothing _
 
-pub returns-in_default-item-clause-err : goal.returns-in_default-item-clause-err
-returns-in_default-item-clause-err g c = let now = c.loop-item.invariant.1 in sink_cut _ _ _ now.0 now.1 now.3 now.4
+pub chars-init : goal.chars-init
+chars-init g c =
+    let left = ok_unless_err (form_left c.begin.new.self ≡ composed (form_data c.args.form.now) (chars c.args.text.now)) c.begin.result c.if-is_err.ensures.value c.begin.ensures.left in
+    let begun = ok_unless_err (IsBegun c.begin.new.self) c.begin.result c.if-is_err.ensures.value c.begin.ensures.begun in (
+      [],
+      sym (left ∙ ap (λ (k : Canonical). composed k (chars c.args.text.now)) c.requires),
+      sym (append-nil _),
+      nothing _,
+      begun,
+      c.begin.ensures.same,
+    )
+
+pub next-requires : goal.next-requires
+next-requires g c = c.chars.invariant.4
+
+pub returns-in_default-clause-same : goal.returns-in_default-clause-same
+returns-in_default-clause-same g c = c.in_default.ensures.same ∙ c.chars.invariant.5
+
+pub returns-in_default-clause-err : goal.returns-in_default-clause-err
+returns-in_default-clause-err g c = let now = c.chars.invariant in sink_cut _ _ _ now.0 (form_left c.chars.form) now.1 now.2
+
+pub returns-in_default-clause-failure : goal.returns-in_default-clause-failure
+returns-in_default-clause-failure g c = c.chars.invariant.3
+
+pub returns-in_default-next-clause-same : goal.returns-in_default-next-clause-same
+returns-in_default-next-clause-same g c = c.in-Ok.ensures.same ∙ c.chars.invariant.5
+
+pub returns-in_default-next-clause-ok : goal.returns-in_default-next-clause-ok
+returns-in_default-next-clause-ok g c =
+    let now = c.chars.invariant in
+    let none = rw c.in_default-next.is at c.in-Ok.ensures.left in
+    let done = rw c.in_default-next.is at c.in-Ok.ensures.done in
+    sink_all _ _ _ now.0 (form_left c.chars.form) now.1 (none ∙ done) now.2
+
+pub returns-in_default-next-clause-failure : goal.returns-in_default-next-clause-failure
+returns-in_default-next-clause-failure g c = c.chars.invariant.3
+
+pub returns-in-Err-clause-same : goal.returns-in-Err-clause-same
+returns-in-Err-clause-same g c = c.in-Ok.ensures.same ∙ c.chars.invariant.5
 
 pub returns-in-Err-clause-err : goal.returns-in-Err-clause-err
 returns-in-Err-clause-err g c =
-    let now = c.loop-item.invariant.1 in
-    let step = rw c.in-Ok.is at c.in-Some.ensures.steps in
-    let next = step.first.at now.1 now.2 in
-    sink_part _ _ _ _ now.0 now.1 _ next.0 now.3 next.1 now.4 c.in-Err.ensures.err
-
-pub returns-in_default-item-clause-failure : goal.returns-in_default-item-clause-failure
-returns-in_default-item-clause-failure g c = c.loop-item.invariant.1.5
+    let now = c.chars.invariant in
+    let step = rw c.in-Some.is at c.in-Ok.ensures.left in
+    sink_part _ _ _ _ now.0 (form_left c.chars.form) _ (form_left c.next.new.self) now.1 step now.2 c.in-Err.ensures.err
 
 pub returns-in-Err-clause-failure : goal.returns-in-Err-clause-failure
-returns-in-Err-clause-failure g c = (_, c.loop-item.invariant.1.5, c.in-Err.ensures.failed)
+returns-in-Err-clause-failure g c = (_, c.chars.invariant.3, c.in-Err.ensures.failed)
 
-pub loop-item-preserved : goal.loop-item-preserved
-loop-item-preserved g c =
-    let now = c.loop-item.invariant.1 in
-    let step = rw c.in-Ok.is at c.in-Some.ensures.steps in
-    let next = step.first.at now.1 now.2 in (
-      step.again,
-      (
-        now.0 ++ c.in-Ok.c ∷ [],
-        next.0,
-        next.2,
-        seen_more _ now.0 now.1 _ next.0 now.3 next.1,
-        sink_more _ _ _ now.0 _ now.4 c.in_default-write_char.ensures.ok,
-        more _ _ _ now.5 c.in_default-write_char.ensures.taken,
-      ),
+pub chars-smaller : goal.chars-smaller
+chars-smaller g c =
+    let fewer = rw c.in-Some.is at c.in-Ok.ensures.fewer in omega (arith, fewer)
+
+pub chars-preserved : goal.chars-preserved
+chars-preserved g c =
+    let now = c.chars.invariant in
+    let step = rw c.in-Some.is at c.in-Ok.ensures.left in (
+      now.0 ++ c.in-Some.c ∷ [],
+      seen_more _ now.0 (form_left c.chars.form) _ (form_left c.next.new.self) now.1 step,
+      sink_more _ _ _ now.0 _ now.2 c.in_default-write_char.ensures.ok,
+      more _ _ _ now.3 c.in_default-write_char.ensures.taken,
+      c.in-Ok.ensures.begun,
+      c.in-Ok.ensures.same ∙ now.5,
     )
-
-pub returns-clause-ok : goal.returns-clause-ok
-returns-clause-ok g c =
-    let now = c.loop-item.invariant.1 in
-    sink_all _ _ _ now.0 now.1 now.3 (c.in_default.ensures.steps.first.at now.1 now.2).0 now.4
-
-pub returns-clause-failure : goal.returns-clause-failure
-returns-clause-failure g c = c.loop-item.invariant.1.5

@@ -1,15 +1,17 @@
 use Rattle.std.proofs.Common.{◌≡◌, ℕ, List, ◌++◌, chars, encode_utf8_all}
-use Rattle.std.specs.Str.Iter.{chars_steps}
 use Rattle.icu_normalizer_core.specs.Canonical.{composed}
-use Rattle.icu_normalizer.specs.Compositions.{ComposesTo}
+use Rattle.icu_normalizer.specs.ClusterForm.{IsBegun, form_data, form_left, form_size}
 use Rattle.icu_normalizer.specs.Normalizers.{composing_data}
 use Rattle.icu_normalizer.specs.Sinks.{HasTaken}
 use Rattle.icu_normalizer.proofs.composing.normalizer.ComposingNormalizerBorrowed.write_cluster.Given as goal
 
-abbrev pub invariant-loop-item : goal.invariant-loop-item
-invariant-loop-item g l =
-    (goal.iterator-loop-item g).can_next l.composition
-    × ((seen : List ℕ) × (left : List ℕ) × ComposesTo chars_steps l.composition left
-    × (composed (composing_data l.fn.self) (chars l.fn.text) ≡ seen ++ left)
+abbrev pub invariant-chars : goal.invariant-chars
+invariant-chars g l =
+    (seen : List ℕ) × (composed (composing_data l.fn.self) (chars l.fn.text) ≡ seen ++ form_left l.form)
     × (g.S.TextSink.contents l.sink ≡ g.S.TextSink.contents l.fn.sink ++ encode_utf8_all seen)
-    × HasTaken g.S.TextSink.takes l.fn.sink l.sink)
+    × HasTaken g.S.TextSink.takes l.fn.sink l.sink
+    × IsBegun l.form
+    × (form_data l.form ≡ form_data l.fn.form)
+
+abbrev pub decreases-chars : goal.decreases-chars
+decreases-chars g l = form_size l.form

@@ -9,7 +9,7 @@ use Rattle.icu_normalizer.proofs.SinkLemmas.{taken_both, ends_after}
 use Rattle.icu_normalizer.proofs.composing.normalizer.ComposingNormalizerBorrowed.write_composed.Goals as goal
 
 pub loop-left-init : goal.loop-left-init
-loop-left-init g c = (partly_begun _ _, c.utf8.text, nothing _)
+loop-left-init g c = (partly_begun _ _, c.utf8.text, nothing _, search rules)
 
 pub is_empty-requires-text-self : goal.is_empty-requires-text-self
 is_empty-requires-text-self g c = λ _. c.loop-left.invariant.1
@@ -41,6 +41,7 @@ loop-left-preserved g c =
       partly_more _ _ _ _ _ _ _ (partly_more _ _ _ _ _ _ _ c.loop-left.invariant.0 (form_parts _ _ _ _ u c.first_cluster.ensures.whole c.first_cluster.ensures.apart) c.in_default.ensures.ok) c.split_apart.ensures.stays c.in_default-write_str.ensures.ok,
       search rules,
       more _ _ _ (taken_both _ _ _ c.loop-left.invariant.2 c.in_default.ensures.failure) c.in_default-write_str.ensures.taken,
+      c.write_cluster.ensures.same ∙ c.loop-left.invariant.3,
     )
 
 pub returns-clause-ok : goal.returns-clause-ok
