@@ -110,7 +110,7 @@ impl<'d> Writer<'d> {
     }
 
     /// Writes a character of this class. A mark is held.
-    #[inline]
+    #[inline(always)]
     fn add<S: TextSink>(
         &mut self,
         c: char,
@@ -181,7 +181,7 @@ impl<'d> Writer<'d> {
     }
 
     /// Writes the marks that are held, as is right before a starter and at the end of the text.
-    #[inline]
+    #[inline(always)]
     pub(super) fn flush<S: TextSink>(&mut self, sink: &mut S) -> Result<(), NormError<S::Error>>
         ensures ok { OnOk result (S.contents sink.new ≡ S.contents sink.old ++ due self.old []) }
         ensures empty { OnOk result (held self.new ≡ []) }
@@ -192,12 +192,25 @@ impl<'d> Writer<'d> {
         if self.count == 0 {
             return Ok(());
         }
+        self.flush_held(sink)
+    }
+
+    /// The same, where there may be some.
+    #[inline(never)]
+    fn flush_held<S: TextSink>(&mut self, sink: &mut S) -> Result<(), NormError<S::Error>>
+        ensures ok { OnOk result (S.contents sink.new ≡ S.contents sink.old ++ due self.old []) }
+        ensures empty { OnOk result (held self.new ≡ []) }
+        ensures err { OnErr result (AddsPrefix (S.contents sink.old) (due self.old []) (S.contents sink.new)) }
+        ensures failure { EndsByFailure S.takes S.fails sink.old result sink.new }
+        ensures same { writer_data self.new ≡ writer_data self.old }
+    {
         let written = self.write_marks(sink);
         self.clear();
         written
     }
 
     /// Writes the marks that are held, in order.
+    #[inline]
     fn write_marks<S: TextSink>(&self, sink: &mut S) -> Result<(), NormError<S::Error>>
         ensures ok { OnOk result (S.contents sink.new ≡ S.contents sink.old ++ due self.now []) }
         ensures err { OnErr result (AddsPrefix (S.contents sink.old) (due self.now []) (S.contents sink.new)) }
