@@ -76,10 +76,10 @@ module _ (class : ℕ → ℕ) where
       ∙ ap (λ l. l ++ marks_in_order class rest) (sym (drop-append-le next xs (c ∷ []) within))
       ∙ sym (out_ready (xs ++ c ∷ []) next n rest (omega (arith, length-append xs (c ∷ []))))
 
-  mark_from : (n : ℕ) → 0 < n → ltb 0 n ≡ true
+  pub mark_from : (n : ℕ) → 0 < n → ltb 0 n ≡ true
   mark_from n h = grind (arith, nat_tests)
 
-  all_pushed : (xs : List ℕ) (y : ℕ) → list_all (is_mark class) xs ≡ true → is_mark class y ≡ true → list_all (is_mark class) (xs ++ y ∷ []) ≡ true
+  pub all_pushed : (xs : List ℕ) (y : ℕ) → list_all (is_mark class) xs ≡ true → is_mark class y ≡ true → list_all (is_mark class) (xs ++ y ∷ []) ≡ true
   all_pushed [] y front last = and_from _ _ last refl
   all_pushed (x ∷ xs) y front last =
       let parts = and_parts (is_mark class x) (list_all (is_mark class) xs) front in and_from _ _ parts.0 (all_pushed xs y parts.1 last)

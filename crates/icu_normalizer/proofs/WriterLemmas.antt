@@ -1,15 +1,20 @@
 -- The steps of a writer of decomposed text.
-use Rattle.std.proofs.Common.{◌≡◌, ℕ, List, [], ◌∷◌, ◌++◌, encode_utf8_all, refl, sym, ap, ap₂, ◌∙◌, append_assoc, append-nil, take, drop}
+use Rattle.std.proofs.Common.{◌≡◌, ℕ, List, [], ◌∷◌, ◌++◌, encode_utf8_all, refl, sym, ap, ap₂, ◌∙◌, append_assoc, append-nil, arith, inr, ◌+◌, ◌<◌, ◌≤◌, length, take, set, Bool, true, not, ltb, ◌==◌, ◌&&◌}
+use Rattle.std.proofs.lemmas.Bool.{and_parts, and_from}
+use Rattle.std.proofs.lemmas.Bool.Decides.{nat_tests}
 use Rattle.std.proofs.lemmas.Str.{encodes-append}
-use Rattle.std.specs.List.{flat_map}
+use Rattle.std.proofs.lemmas.List.{take_more_set}
+use Rattle.std.specs.List.{list_all, flat_map}
 use Rattle.std.specs.Prelude.{Result, Ok, Err, OnErr}
-use Rattle.icu_normalizer_core.specs.Canonical.{Canonical, marks_in_order, decomposed}
+use Rattle.icu_normalizer_core.specs.Canonical.{Canonical, put_in_order, marks_in_order, decomposed}
 use Rattle.icu_normalizer_core.proofs.DecomposedLemmas.{order_before}
 use Rattle.icu_normalizer.specs.declared.decomposing.writer.Writer.{Writer}
+use Rattle.icu_normalizer.specs.Marks.{is_mark, rises_to}
 use Rattle.icu_normalizer.specs.Sinks.{AddsPrefix}
-use Rattle.icu_normalizer.specs.Writer.{writer_data, due, AddsFront, Writes, WritesPart}
-use Rattle.icu_normalizer.proofs.RunLemmas.{order_nothing}
+use Rattle.icu_normalizer.specs.Writer.{writer_data, held, due, AddsFront, Writes, WritesPart}
+use Rattle.icu_normalizer.proofs.RunLemmas.{order_nothing, all_pushed, mark_from}
 use Rattle.icu_normalizer.proofs.SinkLemmas.{joined_front, joined_back}
+use Rattle.icu_normalizer.proofs.SplitLemmas.{put_stays}
 
 -- ---- parts of bytes
 
@@ -61,14 +66,14 @@ part_nothing a xs s = record { at = λ rest. ([], _, refl, sym (append-nil s)) }
 
 -- ---- one character
 
-pub mark_held : (old new : Writer) (c : ℕ) (sink : List ℕ) → writer_data new ≡ writer_data old → new.marks.items ≡ old.marks.items ++ c ∷ [] → Writes old (c ∷ []) sink sink new
+pub mark_held : (old new : Writer) (c : ℕ) (sink : List ℕ) → writer_data new ≡ writer_data old → held new ≡ held old ++ c ∷ [] → Writes old (c ∷ []) sink sink new
 unfolding due
 mark_held old new c sink same pushed = record {
   at = λ rest. record {
     written = [];
     whole =
         ap₂ (λ (k : Canonical) (l : List ℕ). encode_utf8_all (marks_in_order k.class l)) (sym same)
-        (sym (append_assoc old.marks.items (c ∷ []) rest) ∙ ap (λ l. l ++ rest) (sym pushed));
+        (sym (append_assoc (held old) (c ∷ []) rest) ∙ ap (λ l. l ++ rest) (sym pushed));
     holds = sym (append-nil sink);
   };
 }
@@ -79,17 +84,17 @@ starter_due : (writer : Writer) (c : ℕ) (rest : List ℕ) → (writer_data wri
 unfolding due
 starter_due writer c rest starter =
     let class = (writer_data writer).class in
-    ap encode_utf8_all (order_before class c writer.marks.items rest starter) ∙ encodes-append (marks_in_order class writer.marks.items) (c ∷ marks_in_order class rest)
-    ∙ ap₂ (λ front back. encode_utf8_all (marks_in_order class front) ++ back) (sym (append-nil writer.marks.items)) (encodes-append (c ∷ []) (marks_in_order class rest))
+    ap encode_utf8_all (order_before class c (held writer) rest starter) ∙ encodes-append (marks_in_order class (held writer)) (c ∷ marks_in_order class rest)
+    ∙ ap₂ (λ front back. encode_utf8_all (marks_in_order class front) ++ back) (sym (append-nil (held writer))) (encodes-append (c ∷ []) (marks_in_order class rest))
 
-pub nothing_held : (writer : Writer) (rest : List ℕ) → writer.marks.items ≡ [] → due writer rest ≡ encode_utf8_all (marks_in_order (writer_data writer).class rest)
+pub nothing_held : (writer : Writer) (rest : List ℕ) → (held writer) ≡ [] → due writer rest ≡ encode_utf8_all (marks_in_order (writer_data writer).class rest)
 unfolding due
 nothing_held writer rest none = ap (λ l. encode_utf8_all (marks_in_order (writer_data writer).class (l ++ rest))) none
 
-pub nothing_due : (writer : Writer) → writer.marks.items ≡ [] → due writer [] ≡ []
+pub nothing_due : (writer : Writer) → (held writer) ≡ [] → due writer [] ≡ []
 nothing_due writer none = nothing_held writer [] none ∙ ap encode_utf8_all (order_nothing (writer_data writer).class)
 
-pub starter_written : (old new : Writer) (c : ℕ) (before middle after : List ℕ) → writer_data new ≡ writer_data old → (writer_data old).class c ≡ 0 → new.marks.items ≡ []
+pub starter_written : (old new : Writer) (c : ℕ) (before middle after : List ℕ) → writer_data new ≡ writer_data old → (writer_data old).class c ≡ 0 → held new ≡ []
     → middle ≡ before ++ due old [] → after ≡ middle ++ encode_utf8_all (c ∷ []) → Writes old (c ∷ []) before after new
 starter_written old new c before middle after same starter empty flushed written = record {
   at = λ rest. record {
@@ -112,13 +117,54 @@ pub held_cut : (old : Writer) (c : ℕ) (before after : List ℕ) → (writer_da
 held_cut old c before after starter part = record { at = λ rest. joined_front before after _ _ _ (sym (starter_due old c rest starter)) part }
 
 -- what is held, in order
-pub marks_due : (writer : Writer) (ys : List ℕ) → ys ≡ take 0 writer.marks.items ++ marks_in_order (writer_data writer).class (drop 0 writer.marks.items) → encode_utf8_all ys ≡ due writer []
+pub marks_due : (writer : Writer) (ys : List ℕ) → ys ≡ marks_in_order (writer_data writer).class (held writer) → encode_utf8_all ys ≡ due writer []
 unfolding due
-marks_due writer ys sorted = ap encode_utf8_all (sorted ∙ ap (marks_in_order (writer_data writer).class) (sym (append-nil writer.marks.items)))
+marks_due writer ys sorted = ap encode_utf8_all (sorted ∙ ap (marks_in_order (writer_data writer).class) (sym (append-nil (held writer))))
+
+begins_last : (before last n : ℕ) → (before == last) ≡ true → last ≤ n → (not (ltb n before) && (n == n)) ≡ true
+begins_last before last n h le = grind (arith, nat_tests)
+
+not_below : (m n : ℕ) → not (ltb n m) ≡ true → m ≤ n
+not_below m n h = grind (arith, nat_tests)
+
+module _ (class : ℕ → ℕ) where
+  -- one mark more
+  pub rises_more : (before last c : ℕ) (xs : List ℕ) → rises_to class before last xs ≡ true → last ≤ class c → rises_to class before (class c) (xs ++ c ∷ []) ≡ true
+  rises_more before last c [] h le = begins_last before last (class c) h le
+  rises_more before last c (x ∷ xs) h le =
+      let parts = and_parts (not (ltb (class x) before)) (rises_to class (class x) last xs) h in and_from _ _ parts.0 (rises_more (class x) last c xs parts.1 le)
+
+  -- marks that rise are in order
+  pub rising_order : (before last : ℕ) (xs : List ℕ) → rises_to class before last xs ≡ true → xs ≡ marks_in_order class xs
+  unfolding marks_in_order put_in_order
+  rising_order before last [] h = refl
+  rising_order before last (x ∷ []) h = refl
+  rising_order before last (x ∷ y ∷ xs) h =
+      let parts = and_parts (not (ltb (class x) before)) (rises_to class (class x) last (y ∷ xs)) h in
+      let next = and_parts (not (ltb (class y) (class x))) (rises_to class (class y) last xs) parts.1 in
+      sym (ap (put_in_order class x) (sym (rising_order (class x) last (y ∷ xs) parts.1)) ∙ put_stays class x y xs (inr (not_below (class x) (class y) next.0)))
+
+  -- what is held, with one mark more
+  pub marks_with : (xs ys : List ℕ) (c : ℕ) → ys ≡ xs ++ c ∷ [] → list_all (is_mark class) xs ≡ true → 0 < class c → list_all (is_mark class) ys ≡ true
+  marks_with xs ys c e marks mark = rw e (all_pushed class xs c marks (mark_from class (class c) mark))
+
+  pub order_with : (xs ys : List ℕ) (last c k : ℕ) → ys ≡ xs ++ c ∷ [] → rises_to class 0 last xs ≡ true → last ≤ k → k ≡ class c → rises_to class 0 k ys ≡ true
+  order_with xs ys last c k e rises le is = rw (e, is) (rises_more 0 last c xs rises (omega (arith, is, le)))
+
+pub few_with : (few more : List ℕ) (count c : ℕ) → count < length few → more ≡ [] → take (count + 1) (set few count c) ++ more ≡ (take count few ++ more) ++ c ∷ []
+few_with few more count c lt none =
+    ap₂ (λ front back. front ++ back) (take_more_set few count c lt) none ∙ append-nil (take count few ++ c ∷ [])
+    ∙ ap (λ l. l ++ c ∷ []) (sym (append-nil (take count few)) ∙ ap (λ l. take count few ++ l) (sym none))
+
+-- few marks that rise
+pub few_due : (writer : Writer) (ys : List ℕ) → ys ≡ take writer.count writer.few → writer.in_order ≡ true → writer.count < 4 → encode_utf8_all ys ≡ due writer []
+few_due writer ys is rises few =
+    marks_due writer ys (is ∙ sym (append-nil (take writer.count writer.few)) ∙ ap (λ l. take writer.count writer.few ++ l) (sym (writer.full few))
+    ∙ rising_order (writer_data writer).class 0 writer.last (held writer) (writer.order rises))
 
 -- ---- a text
 
-pub text_due : (writer : Writer) (canonical : Canonical) (cs : List ℕ) → writer_data writer ≡ canonical → writer.marks.items ≡ []
+pub text_due : (writer : Writer) (canonical : Canonical) (cs : List ℕ) → writer_data writer ≡ canonical → (held writer) ≡ []
     → encode_utf8_all (decomposed canonical cs) ≡ due writer (flat_map canonical.full cs)
 unfolding decomposed
 text_due writer canonical cs same none =

@@ -1,5 +1,5 @@
 -- Decomposed text on its way to a sink.
-use Rattle.std.specs.Prelude.{◌≡◌, ℕ, List, ◌++◌, encode_utf8_all}
+use Rattle.std.specs.Prelude.{◌≡◌, ℕ, List, ◌++◌, take, encode_utf8_all}
 use Rattle.icu_normalizer_core.specs.BorrowedMeaning.{borrowed_meaning}
 use Rattle.icu_normalizer_core.specs.Canonical.{Canonical, marks_in_order}
 use Rattle.icu_normalizer.specs.declared.decomposing.writer.Writer.{Writer}
@@ -9,9 +9,13 @@ use Rattle.icu_normalizer.specs.Sinks.{AddsPrefix}
 abbrev pub writer_data : Writer → Canonical
 writer_data writer = borrowed_meaning writer.canonical
 
+-- the marks that it holds, as they came
+abbrev pub held : Writer → List ℕ
+held writer = take writer.count writer.few ++ writer.more.items
+
 -- the bytes that are still to be written, where `rest` is still to go in
 unfoldable pub due : Writer → List ℕ → List ℕ
-due writer rest = encode_utf8_all (marks_in_order (writer_data writer).class (writer.marks.items ++ rest))
+due writer rest = encode_utf8_all (marks_in_order (writer_data writer).class (held writer ++ rest))
 
 -- a part of these bytes was added, and `left` is still to be
 pub record AddsFront (old bytes left new : List ℕ) : Type 0 where

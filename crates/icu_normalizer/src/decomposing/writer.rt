@@ -1,42 +1,58 @@
 //! Decomposed text on its way to a sink.
 
-ghost use Rattle.std.specs.Prelude.{◌≡◌, ℕ, ◌<◌, ◌≤◌, [], ◌∷◌, ◌++◌, true, length, encode_utf8_all, OnOk, OnErr};
+ghost use Rattle.std.specs.Prelude.{◌≡◌, ◌≢◌, ℕ, ◌<◌, ◌≤◌, [], ◌∷◌, ◌++◌, true, take, length, encode_utf8_all, IfOk, OnOk, OnErr, IsTrue};
 ghost use Rattle.std.specs.Char.{IsScalar};
 ghost use Rattle.std.specs.List.{list_all};
 ghost use Rattle.icu_normalizer_core.specs.BorrowedMeaning.{borrowed_meaning};
-ghost use Rattle.icu_normalizer.specs.Marks.{is_mark};
+ghost use Rattle.icu_normalizer_core.specs.Canonical.{marks_in_order};
+ghost use Rattle.icu_normalizer.specs.Marks.{is_mark, rises_to};
 ghost use Rattle.icu_normalizer.specs.Sinks.{AddsPrefix, EndsByFailure};
 
 use crate::run::sort_marks;
 use crate::sinks::{NormError, TextSink};
 use icu_normalizer_core::canonical::{CanonicalBorrowed, Reading};
 use smallvec::SmallVec;
-use std::alloc::Global;
+use std::alloc::{AllocError, Global};
+
+/// How many marks are held without memory.
+const FEW: usize = 4;
 
 /// Writes decomposed text. Starters go to the sink at once; the marks behind the last starter, whose order is still
-/// open, are held.
+/// open, are held: `few` has the first `count`, and `more` those behind them. Where they are known to be in order, they
+/// are not sorted.
 #[derive(Debug, Drop)]
 pub(super) struct Writer<'d> {
     canonical: CanonicalBorrowed<'d>,
-    marks: SmallVec<char, 16>,
-    ghost held: { list_all (is_mark (borrowed_meaning canonical).class) marks.items ≡ true },
+    few: [char; 4],
+    count: usize,
+    more: Vec<char>,
+    last: u8,
+    in_order: bool,
+    ghost within: { count ≤ 4 },
+    ghost full: { count < 4 → more.items ≡ [] },
+    ghost marks: { list_all (is_mark (borrowed_meaning canonical).class) (take count few ++ more.items) ≡ true },
+    ghost order: { in_order ≡ true → rises_to (borrowed_meaning canonical).class 0 last (take count few ++ more.items) ≡ true },
     ghost low: { (c : ℕ) → c < 0xc0 → (borrowed_meaning canonical).full c ≡ c ∷ [] },
     ghost starters: { (c : ℕ) → c < 0xc0 → (borrowed_meaning canonical).class c ≡ 0 },
 }
 
 impl<'d> Writer<'d> {
     ghost use Rattle.icu_normalizer.specs.Readable.{IsReadable};
-    ghost use Rattle.icu_normalizer.specs.Writer.{writer_data, due, Writes, WritesPart};
+    ghost use Rattle.icu_normalizer.specs.Writer.{writer_data, held, due, Writes, WritesPart};
 
     /// Nothing is held.
     pub(super) fn new(alloc: Global, canonical: CanonicalBorrowed<'d>) -> Writer<'d>
         requires { IsReadable (borrowed_meaning canonical) }
-        ensures empty { result.marks.items ≡ [] }
+        ensures empty { held result ≡ [] }
         ensures same { writer_data result ≡ borrowed_meaning canonical.entry }
     {
         Writer {
             canonical,
-            marks: SmallVec::new(alloc),
+            few: ['\0'; 4],
+            count: 0,
+            more: Vec::new(alloc),
+            last: 0,
+            in_order: true,
         }
     }
 
@@ -94,7 +110,7 @@ impl<'d> Writer<'d> {
     }
 
     /// Writes a character of this class. A mark is held.
-    #[inline]
+    #[inline(always)]
     fn add<S: TextSink>(
         &mut self,
         c: char,
@@ -108,7 +124,7 @@ impl<'d> Writer<'d> {
         ensures same { writer_data self.new ≡ writer_data self.old }
     {
         if class != 0 {
-            return match self.marks.push(c) {
+            return match self.hold(c, class) {
                 Ok(()) => Ok(()),
                 Err(_) => Err(NormError::Memory),
             };
@@ -120,39 +136,123 @@ impl<'d> Writer<'d> {
         }
     }
 
-    /// Writes the marks that are held, as is right before a starter and at the end of the text.
+    /// Holds a mark of this class.
     #[inline]
+    fn hold(&mut self, c: char, class: u8) -> Result<(), AllocError>
+        requires class { class ≡ (writer_data self.old).class c }
+        requires mark { class ≢ 0 }
+        ensures ok { OnOk result (held self.new ≡ held self.old ++ c ∷ []) }
+        ensures same { writer_data self.new ≡ writer_data self.old }
+    {
+        let in_order = self.rises(class);
+        if self.count == FEW {
+            return self.hold_more(c, class);
+        }
+        self.few[self.count] = c;
+        self.count += 1;
+        self.last = class;
+        self.in_order = in_order;
+        Ok(())
+    }
+
+    /// The same, where `few` is full.
+    #[cold]
+    fn hold_more(&mut self, c: char, class: u8) -> Result<(), AllocError>
+        requires class { class ≡ (writer_data self.old).class c }
+        requires mark { class ≢ 0 }
+        requires full { self.old.count ≡ 4 }
+        ensures ok { OnOk result (held self.new ≡ held self.old ++ c ∷ []) }
+        ensures same { writer_data self.new ≡ writer_data self.old }
+    {
+        let in_order = self.rises(class);
+        self.more.push(c)?;
+        self.last = class;
+        self.in_order = in_order;
+        Ok(())
+    }
+
+    /// Whether the marks are known to be in order, with one more of this class.
+    #[inline]
+    fn rises(&self, class: u8) -> bool
+        ensures order { IsTrue result → self.now.in_order ≡ true }
+        ensures last { IsTrue result → self.now.last ≤ class }
+    {
+        self.in_order && self.last <= class
+    }
+
+    /// Writes the marks that are held, as is right before a starter and at the end of the text.
+    #[inline(always)]
     pub(super) fn flush<S: TextSink>(&mut self, sink: &mut S) -> Result<(), NormError<S::Error>>
         ensures ok { OnOk result (S.contents sink.new ≡ S.contents sink.old ++ due self.old []) }
-        ensures empty { OnOk result (self.new.marks.items ≡ []) }
+        ensures empty { OnOk result (held self.new ≡ []) }
         ensures err { OnErr result (AddsPrefix (S.contents sink.old) (due self.old []) (S.contents sink.new)) }
         ensures failure { EndsByFailure S.takes S.fails sink.old result sink.new }
         ensures same { writer_data self.new ≡ writer_data self.old }
     {
-        if self.marks.is_empty() {
+        if self.count == 0 {
             return Ok(());
         }
-        self.write_marks(sink)
+        self.flush_held(sink)
     }
 
     /// The same, where there may be some.
-    fn write_marks<S: TextSink>(&mut self, sink: &mut S) -> Result<(), NormError<S::Error>>
+    #[inline(never)]
+    fn flush_held<S: TextSink>(&mut self, sink: &mut S) -> Result<(), NormError<S::Error>>
         ensures ok { OnOk result (S.contents sink.new ≡ S.contents sink.old ++ due self.old []) }
-        ensures empty { OnOk result (self.new.marks.items ≡ []) }
+        ensures empty { OnOk result (held self.new ≡ []) }
         ensures err { OnErr result (AddsPrefix (S.contents sink.old) (due self.old []) (S.contents sink.new)) }
         ensures failure { EndsByFailure S.takes S.fails sink.old result sink.new }
         ensures same { writer_data self.new ≡ writer_data self.old }
     {
-        let Ok(()) = sort_marks(self.canonical, &mut self.marks, 0) else {
+        let written = self.write_marks(sink);
+        self.clear();
+        written
+    }
+
+    /// Writes the marks that are held, in order.
+    #[inline]
+    fn write_marks<S: TextSink>(&self, sink: &mut S) -> Result<(), NormError<S::Error>>
+        ensures ok { OnOk result (S.contents sink.new ≡ S.contents sink.old ++ due self.now []) }
+        ensures err { OnErr result (AddsPrefix (S.contents sink.old) (due self.now []) (S.contents sink.new)) }
+        ensures failure { EndsByFailure S.takes S.fails sink.old result sink.new }
+    {
+        if self.in_order && self.count < FEW {
+            return write_chars(&self.few[..self.count], sink);
+        }
+        let Ok(marks) = self.sorted() else {
             return Err(NormError::Memory);
         };
-        let written = write_chars(&self.marks, sink);
-        self.marks.clear();
-        written
+        write_chars(&marks, sink)
+    }
+
+    /// The marks that are held, in order.
+    fn sorted(&self) -> Result<SmallVec<char, 16>, AllocError>
+        ensures { IfOk result (λ marks. marks.items ≡ marks_in_order (writer_data self.now).class (held self.now)) }
+    {
+        let mut marks = SmallVec::new(*self.more.allocator());
+        marks.extend_from_slice(&self.few[..self.count])?;
+        marks.extend_from_slice(&self.more)?;
+        sort_marks(self.canonical, &mut marks, 0)?;
+        Ok(marks)
+    }
+
+    /// Holds none.
+    #[inline]
+    fn clear(&mut self)
+        ensures empty { held self.new ≡ [] }
+        ensures same { writer_data self.new ≡ writer_data self.old }
+    {
+        if self.count == FEW {
+            self.more.clear();
+        }
+        self.count = 0;
+        self.last = 0;
+        self.in_order = true;
     }
 }
 
 /// Writes characters to a sink.
+#[inline]
 fn write_chars<S: TextSink>(chars: &[char], sink: &mut S) -> Result<(), NormError<S::Error>>
     ensures ok { OnOk result (S.contents sink.new ≡ S.contents sink.old ++ encode_utf8_all chars.now) }
     ensures err { OnErr result (AddsPrefix (S.contents sink.old) (encode_utf8_all chars.now) (S.contents sink.new)) }

@@ -1,13 +1,12 @@
-use Rattle.std.proofs.Common.{sym, ap, ◌++◌, ◌∙◌, append-nil, arith}
-use Rattle.std.proofs.lemmas.Bool.Decides.{nat_tests}
-use Rattle.std.proofs.lemmas.List.{nil_from_length}
+use Rattle.std.proofs.Common.{sym, ap, ◌++◌, ◌∙◌, append-nil, arith, take}
 use Rattle.icu_normalizer.specs.Sinks.{nothing}
 use Rattle.icu_normalizer.proofs.WriterLemmas.{nothing_due}
 use Rattle.icu_normalizer.proofs.decomposing.writer.Writer.flush.Goals as goal
 
-pub returns-then-is_empty-clause-ok : goal.returns-then-is_empty-clause-ok
-returns-then-is_empty-clause-ok g c =
-    sym (ap (λ l. g.S.TextSink.contents c.args.sink.now ++ l) (nothing_due c.args.self.now (nil_from_length _ (grind (arith, nat_tests)))) ∙ append-nil _)
+pub returns-then-self-eq0-clause-ok : goal.returns-then-self-eq0-clause-ok
+returns-then-self-eq0-clause-ok g c =
+    let b = c.args.self.now in
+    sym (ap (λ l. g.S.TextSink.contents c.args.sink.now ++ l) (nothing_due b (ap (λ n. take n b.few ++ b.more.items) c.if-self-eq0.true ∙ b.full (omega (arith, c.if-self-eq0.true)))) ∙ append-nil _)
 
-pub returns-then-is_empty-clause-failure : goal.returns-then-is_empty-clause-failure
-returns-then-is_empty-clause-failure g c = nothing _
+pub returns-then-self-eq0-clause-failure : goal.returns-then-self-eq0-clause-failure
+returns-then-self-eq0-clause-failure g c = nothing _
