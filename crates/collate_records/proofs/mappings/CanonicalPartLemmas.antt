@@ -117,16 +117,16 @@ SaysSame-itself lines = record { classes = λ c. refl; mappings = λ c. refl; co
 pub SaysSame-none : (parts : List CanonicalPart) → parts ≡ [] → SaysSame (map in_full parts) []
 SaysSame-none parts e = subst (λ (l : List Record). SaysSame l []) (ap (map in_full) (sym e)) (SaysSame-itself [])
 
--- ---- Where the parts are gone through: no part so far is on a character with P,
+-- ---- Parts gone through one by one, in search of a character with P
 
--- nor is one more,
+-- where no part so far is on one, and the next part isn't, none up to the next is
 pub none_of_more : (P : ℕ → Type 0) (parts : List CanonicalPart) (i : ℕ) (d : CanonicalPart) (c : ℕ) (b : Bool) → i < length parts
     → All (λ part. P (subject_of part) → ⊥) (take i parts) → c ≡ subject_of (get_or parts i d) → (P c → IsTrue b) → b ≡ false
     → All (λ part. P (subject_of part) → ⊥) (take (i + 1) parts)
 none_of_more P parts i d c b within before e holds is_false =
     All-more (λ part. P (subject_of part) → ⊥) parts i d within before (subst (λ (n : ℕ). P n → ⊥) e (λ p. false≢true (sym is_false ∙ holds p)))
 
--- and at their end a character with P is none that a part is on
+-- where no part at all is on one, no part is on any of them
 pub none_of_all : (P : ℕ → Type 0) (parts : List CanonicalPart) (i : ℕ) → length parts ≤ i → All (λ part. P (subject_of part) → ⊥) (take i parts)
     → (c : ℕ) → P c → All (λ part. c ≢ subject_of part) parts
 none_of_all P parts i past before c p =
