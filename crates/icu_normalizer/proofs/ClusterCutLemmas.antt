@@ -8,7 +8,7 @@ use Rattle.std.specs.Str.{IsCharBoundary}
 use Rattle.icu_normalizer_core.specs.Canonical.{Canonical, IsCanonical, composed}
 use Rattle.icu_normalizer_core.proofs.DecomposedLemmas.{AreScalar}
 use Rattle.icu_normalizer.specs.Composing.{IsComposedApart}
-use Rattle.icu_normalizer.specs.FormCuts.{IsOwnForm, IsComposed, ReachesBelow, IsFormCut, IsSkipped}
+use Rattle.icu_normalizer.specs.FormCuts.{IsComposed, ReachesBelow, IsFormCut, IsSkipped}
 use Rattle.icu_normalizer.proofs.ComposedCutLemmas.{same_front}
 use Rattle.icu_normalizer.proofs.CutLemmas.{are_scalar}
 use Rattle.icu_normalizer.proofs.FormCutLemmas.{cut_place}

@@ -9,8 +9,8 @@ use Rattle.icu_normalizer.specs.Composing.{IsComposedApart}
 use Rattle.icu_normalizer.specs.FormCuts.{IsComposed, IsSkipped}
 use Rattle.icu_normalizer.specs.Sinks.{AddsPrefix}
 use Rattle.icu_normalizer.proofs.ComposedWalkLemmas.{composed_nothing}
-use Rattle.icu_normalizer.proofs.CutLemmas.{IsRead, back_scalars, text_chars, front_utf8}
-use Rattle.icu_normalizer.proofs.FormCutLemmas.{cut_front, cut_chars, cut_back}
+use Rattle.icu_normalizer.proofs.CutLemmas.{back_scalars}
+use Rattle.icu_normalizer.proofs.FormCutLemmas.{cut_front, cut_back}
 use Rattle.icu_normalizer.proofs.SinkLemmas.{joined_front, joined_back}
 use Rattle.icu_normalizer.proofs.SkipLemmas.{composed_parts}
 

@@ -1,5 +1,5 @@
-use Rattle.std.proofs.Common.{[], ◌∷◌, ◌++◌, chars, encode_utf8_all, refl, sym, ap, ap₂, ◌∙◌, arith, length}
-use Rattle.std.proofs.Math.Seq.{take-length, drop-length}
+use Rattle.std.proofs.Common.{[], ◌∷◌, ◌++◌, chars, encode_utf8_all, refl, sym, ap, ◌∙◌, arith, length}
+use Rattle.std.proofs.Math.Seq.{drop-length}
 use Rattle.std.proofs.lemmas.Str.{chars_past_char}
 use Rattle.std.specs.Str.Iter.{chars_rest}
 use Rattle.icu_normalizer_core.specs.BorrowedMeaning.{borrowed_meaning}

@@ -1,8 +1,5 @@
-use Rattle.std.proofs.Common.{rules, ◌++◌, encode_utf8_all, length, length-append, IsUtf8, refl, sym, ap, subst, ◌∙◌, arith}
-use Rattle.std.specs.Str.{IsCharBoundary}
+use Rattle.std.proofs.Common.{rules, encode_utf8_all, length, length-append, IsUtf8, ap, ◌∙◌, arith}
 use Rattle.icu_normalizer_core.specs.BorrowedMeaning.{borrowed_meaning}
-use Rattle.icu_normalizer_core.specs.Canonical.{composed}
-use Rattle.icu_normalizer.specs.FormCuts.{IsSkipped}
 use Rattle.icu_normalizer.proofs.ClusterCutLemmas.{cluster_skipped, cluster_boundary, cut_rest, cluster_cut, skipped_nothing, skipped_twice}
 use Rattle.icu_normalizer.proofs.SkipLemmas.{skipped_cut, skipped_own}
 use Rattle.icu_normalizer.proofs.composing.cuts.rest_to_change.Goals as goal

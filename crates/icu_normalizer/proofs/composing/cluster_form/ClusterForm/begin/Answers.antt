@@ -1,7 +1,6 @@
-use Rattle.std.proofs.Common.{◌≡◌, ◌++◌, chars, flat_map, IsUtf8, sym, ap, subst, ◌∙◌}
+use Rattle.std.proofs.Common.{chars, flat_map, IsUtf8, sym, ap, subst, ◌∙◌}
 use Rattle.std.proofs.lemmas.Result.{on_ok_weaker}
 use Rattle.std.proofs.lemmas.Str.{chars_past_char, IsUtf8-past_char}
-use Rattle.std.specs.Str.Iter.{chars_rest}
 use Rattle.icu_normalizer.specs.ClusterForm.{form_data}
 use Rattle.icu_normalizer.specs.Run.{reordered}
 use Rattle.icu_normalizer.proofs.ClusterFormLemmas.{read_none, read_more, read_all}
