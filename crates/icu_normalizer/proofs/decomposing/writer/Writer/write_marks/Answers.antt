@@ -1,7 +1,6 @@
-use Rattle.std.proofs.Common.{[], ◌++◌, refl, ap, ◌∙◌, subst, encode_utf8_all}
+use Rattle.std.proofs.Common.{◌++◌, refl, ap, ◌∙◌, subst, encode_utf8_all}
 use Rattle.std.proofs.lemmas.Result.{on_ok_weaker, on_err_weaker}
 use Rattle.icu_normalizer.specs.Sinks.{AddsPrefix, nothing}
-use Rattle.icu_normalizer.specs.Writer.{due}
 use Rattle.icu_normalizer.proofs.WriterLemmas.{marks_due, few_due}
 use Rattle.icu_normalizer.proofs.decomposing.writer.Writer.write_marks.Goals as goal
 
