@@ -1,13 +1,12 @@
 -- How many decomposed characters a character stands for, and where this cuts a composed list.
-use Rattle.std.proofs.Common.{◌≡◌, ℕ, ◌+◌, ◌<◌, ◌≤◌, max, ◌&&◌, ltb, List, [], ◌∷◌, ◌++◌, length, flat_map, Some, None, refl, sym, ap, subst, ◌∙◌, arith, length-append}
+use Rattle.std.proofs.Common.{◌≡◌, ℕ, ◌+◌, ◌<◌, ◌≤◌, max, ◌&&◌, ltb, List, [], ◌∷◌, ◌++◌, length, flat_map, Some, refl, sym, ap, subst, ◌∙◌, arith, length-append}
 use Rattle.std.proofs.lemmas.Bool.{cond_both}
-use Rattle.std.proofs.lemmas.Bool.Decides.{nat_tests}
 use Rattle.std.proofs.lemmas.Grind.{flat_map-append}
 use Rattle.std.proofs.lemmas.List.Elements.{All-head, All-tail, All-from_recursion}
 use Rattle.std.specs.Prelude.{All}
 use Rattle.std.specs.Char.{IsScalar}
 use lib.Utf8.{low_scalar}
-use Rattle.icu_normalizer_core.specs.BuiltIn.{built_in_step, singled_out}
+use Rattle.icu_normalizer_core.proofs.BuiltInFacts.{low_free}
 use Rattle.icu_normalizer_core.specs.Canonical.{Canonical, IsCanonical, Leaves, put_in_order, marks_in_order, decomposed, recomposed, composed}
 use Rattle.icu_normalizer_core.proofs.DecomposedLemmas.{AreScalar, AreUnmapped, left_one, left_mapped, left_full, order_before, put_starter, decomposed_unmapped, decomposed_scalars}
 use Rattle.icu_normalizer.proofs.ComposedCutLemmas.{total, total_recomposed, cut_recomposed}
@@ -88,17 +87,13 @@ module _ (canonical : Canonical) (ok : IsCanonical canonical) where
   unfolding composed
   total_composed cs s = total_recomposed canonical weight weighs adds (decomposed canonical cs) ∙ total_decomposed cs s
 
-  free_low : (c : ℕ) → c < 0x300 → built_in_step c ≡ None
-  unfolding built_in_step singled_out
-  free_low c low = grind (arith, nat_tests)
-
   -- the full list of a character below U+0300 begins with a starter
   pub full_begins : (c : ℕ) → c < 0x300 → (ds : List ℕ) → canonical.step c ≡ ds → (d : ℕ) × (es : List ℕ) × (canonical.full c ≡ d ∷ es) × (canonical.class d ≡ 0)
   full_begins c low [] e = (c, [], full_unmapped c (low_scalar c (omega arith)) e, ok.composing.starters c low)
   full_begins c low (d ∷ ds) e =
       let s = low_scalar c (omega arith) in
       let first = first_of (canonical.full c) (left_some canonical.step (c ∷ []) (canonical.full c) (ok.decomposing.ends c s) (omega arith)) in
-      (first.0, first.1, first.2, ok.decomposing.begins c d ds s (free_low c low) e first.0 first.1 first.2)
+      (first.0, first.1, first.2, ok.decomposing.begins c d ds s (low_free c low) e first.0 first.1 first.2)
 
   -- behind a front that is its own composed list, and before a character below U+0300, a text is composed anew
   pub composed_behind : (front : List ℕ) (c : ℕ) (back rest : List ℕ) → AreScalar front → c < 0x300 → composed canonical (front ++ c ∷ back) ≡ front ++ rest → rest ≡ composed canonical (c ∷ back)
