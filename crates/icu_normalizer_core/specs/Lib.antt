@@ -27,3 +27,4 @@ pub mod Readings
 pub mod Sameness
 pub mod Settled
 pub mod Triples
+pub mod Words

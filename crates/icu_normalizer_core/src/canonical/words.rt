@@ -3,11 +3,36 @@
 
 ghost use Rattle.std.specs.Prelude.{◌≡◌, ◌<◌, ◌^◌};
 ghost use Rattle.icu_normalizer_core.specs.CanonicalWords.{is_mark_word, is_singled_word, is_one_word, is_pair_word, is_list_word, states_list, class_of_word, is_word};
+ghost use Rattle.icu_normalizer_core.specs.Words.{word_lists};
 
 use crate::built_in::{built_in_class, is_singled_out, is_syllable};
+use icu_codepointtrie::CodePointTrie;
+use icu_packed_vector::PackedVec;
 
 /// All bits of a word but the two uppermost, which say nothing here.
 pub(super) const PLAIN_WORD: u32 = 0x3fff_ffff;
+
+/// The words of code points, with the lists that they name places in.
+#[derive(Clone, Copy, Debug)]
+pub(crate) struct Words<'t> {
+    /// Each code point's word.
+    pub(crate) trie: &'t CodePointTrie<'t, u32>,
+    /// Full lists, one after another, of characters below 10000 (hex).
+    pub(crate) scalars16: &'t PackedVec<'t, u16>,
+    /// Full lists, one after another, of any characters.
+    pub(crate) scalars24: &'t PackedVec<'t, char>,
+}
+
+impl Words<'_> {
+    /// The character's word, without its two uppermost bits.
+    #[inline]
+    pub(crate) fn word(self, c: char) -> u32
+        ensures word { result ≡ (word_lists self.entry).word c }
+        ensures bound { result < 2 ^ 30 }
+    {
+        self.trie.get(c) & PLAIN_WORD
+    }
+}
 
 /// Whether the word is that of a mark: D800 (hex) and its class, from 1 to 254.
 #[inline]
