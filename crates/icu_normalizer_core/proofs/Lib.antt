@@ -19,6 +19,7 @@ pub mod MarkLemmas
 pub mod OffenderLemmas
 pub mod PairLemmas
 pub mod PairTestLemmas
+pub mod ReadingLemmas
 pub mod ScalarLemmas
 pub mod SettledLemmas
 pub mod SettlingLemmas
