@@ -1,3 +1,4 @@
+pub mod BorrowedCompatibility
 pub mod BorrowedMeaning
 pub mod BuiltIn
 pub mod BuiltInTests
@@ -10,6 +11,9 @@ pub mod CanonicalMeaning
 pub mod CanonicalRefusals
 pub mod CanonicalWords
 pub mod CharacterWords
+pub mod Compatibility
+pub mod CompatibilityFaults
+pub mod CompatibilityMeaning
 pub mod DataErrors
 pub mod Decoding
 pub mod FullLists

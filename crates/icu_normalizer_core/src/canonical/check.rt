@@ -4,12 +4,12 @@ ghost use Rattle.std.specs.Prelude.{IfOk, MatchOption};
 ghost use Rattle.icu_normalizer_core.specs.CanonicalFaults.{IsAccepted, IsFirstFault};
 ghost use Rattle.icu_normalizer_core.specs.CanonicalMeaning.{lists_of};
 
-mod built_in;
-mod characters;
+pub(crate) mod built_in;
+pub(crate) mod characters;
 mod forms;
-mod full_lists;
+pub(crate) mod full_lists;
 mod full_start;
-pub(super) mod left;
+pub(crate) mod left;
 mod loops;
 mod marks;
 mod own;

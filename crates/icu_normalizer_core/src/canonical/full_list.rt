@@ -193,7 +193,7 @@ pub(super) fn character(code: u32) -> char
 
 /// The full list of a character.
 #[inline]
-pub(super) fn full_list<'d>(tables: &'d CanonicalTables<'d>, c: char) -> FullList<'d>
+pub(crate) fn full_list<'d>(tables: &'d CanonicalTables<'d>, c: char) -> FullList<'d>
     requires { All IsScalar ((meaning tables.now).full c) }
     ensures { result ≡ (meaning tables.now).full c }
 {

@@ -88,7 +88,7 @@ impl CanonicalTables<'_> {
 
     /// The character's word, without its two uppermost bits.
     #[inline]
-    pub(super) fn word(&self, c: char) -> u32
+    pub(crate) fn word(&self, c: char) -> u32
         ensures word { result ≡ (lists_of self.now).word c }
         ensures bound { result < 2 ^ 30 }
     {
@@ -98,7 +98,7 @@ impl CanonicalTables<'_> {
     /// The class of a character.
     #[inline]
     #[tactic(auto, unfolding(crate::specs::CanonicalLists::canonical_of))]
-    pub(super) fn class(&self, c: char) -> u8
+    pub(crate) fn class(&self, c: char) -> u8
         ensures { result ≡ (meaning self.now).class c }
     {
         class_of_word(c as u32, self.word(c))

@@ -77,7 +77,7 @@ pub(super) fn is_list_word(word: u32) -> bool
 }
 
 /// Whether the word states a full list, in one of these three ways.
-pub(super) fn states_list(word: u32) -> bool
+pub(crate) fn states_list(word: u32) -> bool
     ensures { result ≡ states_list word }
 {
     is_one_word(word) || is_pair_word(word) || is_list_word(word)
@@ -86,7 +86,7 @@ pub(super) fn states_list(word: u32) -> bool
 /// Whether the word says something of the character: that it is its own full list and a starter, that its full list is
 /// a syllable's letters, a class, or a full list.
 #[tactic(auto, unfolding(crate::specs::CanonicalWords::is_word))]
-pub(super) fn is_word(c: u32, word: u32) -> bool
+pub(crate) fn is_word(c: u32, word: u32) -> bool
     ensures { result ≡ is_word c word }
 {
     word == 0
@@ -99,7 +99,7 @@ pub(super) fn is_word(c: u32, word: u32) -> bool
 /// The class that the word says of the character.
 #[inline]
 #[tactic(auto, unfolding(crate::specs::CanonicalWords::class_of_word))]
-pub(super) fn class_of_word(c: u32, word: u32) -> u8
+pub(crate) fn class_of_word(c: u32, word: u32) -> u8
     ensures { result ≡ class_of_word c word }
 {
     if is_mark_word(word) {

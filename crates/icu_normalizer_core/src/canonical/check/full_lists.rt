@@ -49,7 +49,7 @@ impl Words<'_> {
 }
 
 /// Whether the first of the characters is a mark.
-fn begins_with_mark(tables: &CanonicalTables<'_>, left: &Left) -> bool
+pub(crate) fn begins_with_mark(tables: &CanonicalTables<'_>, left: &Left) -> bool
     ensures { result ≡ begins_with_mark (meaning tables.now) (left_items left.now) }
 {
     left.count > 0 && class_of(tables, left.characters[0]) != 0

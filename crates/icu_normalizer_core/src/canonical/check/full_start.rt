@@ -14,7 +14,7 @@ use crate::canonical::words::{Words, is_list_word};
 
 impl Left {
     /// No character.
-    pub(super) fn none() -> Left
+    pub(crate) fn none() -> Left
         ensures { left_items result ≡ [] }
     {
         Left {
