@@ -43,4 +43,4 @@ pub record IsCompatibility (canonical compatibility : Canonical) : Type 0 where
   pub low : (c : ℕ) → c < 0xa0 → compatibility.full c ≡ c ∷ []
   -- it is the full lists of what canonical mappings leave, one after another; so that of a composed character is those of its pair
   pub lists : (c : ℕ) → IsScalar c → compatibility.full c ≡ flat_map compatibility.full (canonical.full c)
-  pub pairs : (a b z : ℕ) → IsScalar a → IsScalar b → compatibility.pair a b ≡ Some z → compatibility.full z ≡ compatibility.full a ++ compatibility.full b
+  pub pairs : (a b z : ℕ) → compatibility.pair a b ≡ Some z → compatibility.full z ≡ compatibility.full a ++ compatibility.full b

@@ -3,7 +3,8 @@
 
 ghost use Rattle.std.specs.Prelude.{◌≡◌, ◌↔◌, true, false, IsTrue, MatchOption, All, List, take, flat_map};
 ghost use Rattle.std.specs.Char.{IsScalar};
-ghost use Rattle.icu_normalizer_core.specs.CanonicalFaults.{NoneOffends, IsLeastOffender, IsAccepted};
+ghost use Rattle.icu_normalizer_core.specs.CanonicalFaults.{NoneOffends, IsLeastOffender, IsAccepted, begins_with_mark};
+ghost use Rattle.icu_normalizer_core.specs.CanonicalWords.{states_list};
 ghost use Rattle.icu_normalizer_core.specs.CanonicalMeaning.{lists_of, meaning};
 ghost use Rattle.icu_normalizer_core.specs.Compatibility.{IsUnbound};
 ghost use Rattle.icu_normalizer_core.specs.CompatibilityFaults.{OffendsWordList, IsOwnItem, HasOtherItem};
@@ -59,6 +60,13 @@ fn is_unbound(c: u32) -> bool
     built_in_step(c).is_none() && built_in_compatibility_step(c).is_none()
 }
 
+/// Whether a list that a word states for a character without a built-in mapping begins with a mark.
+fn is_bad_start(tables: &CanonicalTables<'_>, c: u32, word: u32, full: &Left) -> bool
+    ensures { IsTrue result ↔ (IsUnbound c × (states_list word ≡ true) × (begins_with_mark (meaning tables.now) (left_items full.now) ≡ true)) }
+{
+    is_unbound(c) && states_list(word) && begins_with_mark(tables, full)
+}
+
 /// Whether nothing is wrong with the full list of a character.
 fn has_good_list(tables: &CanonicalTables<'_>, words: Words<'_>, c: char) -> bool
     requires { All IsScalar ((meaning tables.now).full c) }
@@ -70,10 +78,13 @@ fn has_good_list(tables: &CanonicalTables<'_>, words: Words<'_>, c: char) -> boo
         return false;
     }
     let full = words.full_start(c);
-    if full.count > 8 || !are_own_items(words, &full.characters[..full.count]) {
+    if full.count > 8 {
         return false;
     }
-    if is_unbound(c as u32) && states_list(word) && begins_with_mark(tables, &full) {
+    if !are_own_items(words, &full.characters[..full.count]) {
+        return false;
+    }
+    if is_bad_start(tables, c as u32, word, &full) {
         return false;
     }
     full.is(&joined_start(words, full_list(tables, c)))
@@ -81,12 +92,15 @@ fn has_good_list(tables: &CanonicalTables<'_>, words: Words<'_>, c: char) -> boo
 
 /// Whether nothing is wrong with the full list of a character.
 fn is_good(tables: &CanonicalTables<'_>, words: Words<'_>, c: char) -> bool
-    requires { All IsScalar ((meaning tables.now).full c) }
+    requires { IsAccepted (lists_of tables.now) }
     ensures good { result ≡ true → OffendsWordList (lists_of tables.now) (word_lists words.entry) c → ⊥ }
     ensures bad { result ≡ false → OffendsWordList (lists_of tables.now) (word_lists words.entry) c }
 {
     // Of most characters neither word says anything.
-    (words.word(c) == 0 && tables.word(c) == 0) || has_good_list(tables, words, c)
+    if words.word(c) == 0 && tables.word(c) == 0 {
+        return true;
+    }
+    has_good_list(tables, words, c)
 }
 
 /// The least character with a bad full list, `None` where there is none.
