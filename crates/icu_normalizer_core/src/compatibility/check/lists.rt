@@ -108,5 +108,11 @@ pub(super) fn first_bad_list(tables: &CanonicalTables<'_>, words: Words<'_>) -> 
     requires { IsAccepted (lists_of tables.now) }
     ensures { MatchOption result (NoneOffends (OffendsWordList (lists_of tables.now) (word_lists words.entry))) (IsLeastOffender (OffendsWordList (lists_of tables.now) (word_lists words.entry))) }
 {
-    first_refused(|c| is_good(tables, words, c))
+    first_refused(
+        |c|
+            requires { IsAccepted (lists_of tables.now) }
+            ensures good { result ≡ true → OffendsWordList (lists_of tables.entry.now) (word_lists words.entry) c → ⊥ }
+            ensures bad { result ≡ false → OffendsWordList (lists_of tables.entry.now) (word_lists words.entry) c }
+        { is_good(tables, words, c) },
+    )
 }
