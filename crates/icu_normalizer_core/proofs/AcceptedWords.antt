@@ -1,20 +1,19 @@
 -- What accepted compatibility words mean keeps the promise of compatibility data.
-use Rattle.std.proofs.Common.{◌≡◌, ◌≢◌, ℕ, ◌<◌, ◌≤◌, inl, inr, ⊎_elim, not, ◌==◌, ◌&&◌, List, [], ◌∷◌, ◌++◌, length, flat_map, true, false, Option, Some, None, refl, sym, ap, subst, ◌∙◌, arith}
+use Rattle.std.proofs.Common.{◌≡◌, ◌≢◌, ℕ, ◌<◌, ◌≤◌, inl, inr, ⊎_elim, not, ◌==◌, ◌&&◌, List, [], ◌∷◌, ◌++◌, length, flat_map, true, Option, Some, None, refl, sym, ap, subst, ◌∙◌, arith}
 use Rattle.std.specs.Option.{IfSome}
 use Rattle.std.specs.List.{All, Contains}
 use Rattle.std.specs.Char.{IsScalar}
 use lib.Utf8.{low_scalar}
-use Rattle.std.proofs.lemmas.Bool.{and_parts, cases_Bool, cases_lt, cases_eq, ne_eqb, eqb-true, false≢true}
+use Rattle.std.proofs.lemmas.Bool.{and_parts, cases_Bool, cases_lt, cases_eq, ne_eqb, eqb-true}
 use Rattle.std.proofs.lemmas.Grind.{flat_map-append}
 use Rattle.std.proofs.lemmas.List.Elements.{All-contains_itself, All-head, All-tail}
-use Rattle.icu_normalizer_core.specs.Canonical.{IsCanonical}
 use Rattle.icu_normalizer_core.specs.CanonicalFaults.{IsAccepted, begins_with_mark}
 use Rattle.icu_normalizer_core.specs.CanonicalLists.{CanonicalLists, canonical_of}
 use Rattle.icu_normalizer_core.specs.CanonicalWords.{is_word, states_list}
 use Rattle.icu_normalizer_core.specs.Compatibility.{IsUnbound, IsCompatibility, compatibility_of, fixed_list}
-use Rattle.icu_normalizer_core.specs.CompatibilityFaults.{AreAcceptedWords, IsOwnItem, is_good_word}
+use Rattle.icu_normalizer_core.specs.CompatibilityFaults.{AreAcceptedWords, is_good_word}
 use Rattle.icu_normalizer_core.specs.Words.{WordLists, full_in, class_in}
-use Rattle.icu_normalizer_core.proofs.AcceptedForms.{eq_stands, scalar_stands}
+use Rattle.icu_normalizer_core.proofs.AcceptedForms.{scalar_stands}
 use Rattle.icu_normalizer_core.proofs.AcceptedPairs.{canonical}
 use Rattle.icu_normalizer_core.proofs.AcceptedTables.{list_stands, own_full, free_letter, free_single, full_left}
 use Rattle.icu_normalizer_core.proofs.BuiltInFacts.{low_free, free_full}

@@ -1,5 +1,5 @@
 -- What words tell of characters, told of what has their lists and classes.
-use Rattle.std.proofs.Common.{◌≡◌, ℕ, sym, ◌∙◌}
+use Rattle.std.proofs.Common.{◌≡◌, ℕ, ◌∙◌}
 use Rattle.icu_normalizer_core.specs.Canonical.{Canonical}
 use Rattle.icu_normalizer_core.specs.Readings.{IsTold, IsToldBy}
 use Rattle.icu_normalizer_core.specs.declared.canonical.reading.Reading.{Reading}

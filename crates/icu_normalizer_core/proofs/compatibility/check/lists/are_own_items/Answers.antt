@@ -1,4 +1,4 @@
-use Rattle.std.proofs.Common.{ℕ, ◌<◌, length, subst, arith}
+use Rattle.std.proofs.Common.{subst, arith}
 use Rattle.icu_normalizer_core.specs.CompatibilityFaults.{IsOwnItem}
 use Rattle.icu_normalizer_core.specs.Words.{word_lists}
 use Rattle.icu_normalizer_core.proofs.compatibility.check.lists.are_own_items.Goals as goal
