@@ -83,14 +83,14 @@ listed_scalars (k ∷ a ∷ b ∷ rest) c t =
 
 -- ---- Words
 
-free_letter : (c : ℕ) → built_in_step c ≡ None → is_syllable c ≡ false
+pub free_letter : (c : ℕ) → built_in_step c ≡ None → is_syllable c ≡ false
 free_letter c free = ⊎_elim (λ t. absurd (none-some _ (sym free ∙ syllable_mapped c t))) (λ f. f) (cases_Bool (is_syllable c))
 
 pub free_single : (c : ℕ) → built_in_step c ≡ None → singled_out c ≡ None
 free_single c free = ⊎_elim (λ none. none) (λ some. absurd (none-some some.0 (sym free ∙ singled_mapped c some.0 some.1))) (cases_step (singled_out c))
 
 -- the word of a character without a built-in mapping states a list, or the character is its own full list
-own_full : (s16 s24 : List ℕ) (c w : ℕ) → is_word c w ≡ true → is_syllable c ≡ false → singled_out c ≡ None → states_list w ≡ false
+pub own_full : (s16 s24 : List ℕ) (c w : ℕ) → is_word c w ≡ true → is_syllable c ≡ false → singled_out c ≡ None → states_list w ≡ false
     → full_of_word s16 s24 c w ≡ c ∷ []
 unfolding is_word full_of_word
 own_full s16 s24 c w is letter single states = grind (arith, nat_tests, single, letter, states)

@@ -32,7 +32,7 @@ other_fails : (xs ys : List ℕ) → xs ≢ ys → pointwise nat_eq xs ys ≡ fa
 other_fails xs ys ne = ⊎_elim (λ t. absurd (ne (same_text xs ys (sym t)))) (λ f. f) (cases_Bool (pointwise nat_eq xs ys))
 
 -- a list that begins like a short one is that one
-short_start : (n : ℕ) (xs ys : List ℕ) → length ys < n → take n xs ≡ ys → xs ≡ ys
+pub short_start : (n : ℕ) (xs ys : List ℕ) → length ys < n → take n xs ≡ ys → xs ≡ ys
 short_start n xs ys short e =
     let size : length (take n xs) ≡ length ys = ap length e in
     let cut = length-take n xs in
@@ -58,7 +58,7 @@ any_found p (x ∷ xs) e =
 
 -- ---- Built-in lists are short
 
-full_short : (c : ℕ) (list : List ℕ) → built_in_full c ≡ Some list → length list ≤ 3
+pub full_short : (c : ℕ) (list : List ℕ) → built_in_full c ≡ Some list → length list ≤ 3
 unfolding built_in_full
 full_short c list e =
     ⊎_elim

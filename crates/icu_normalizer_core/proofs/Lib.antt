@@ -3,6 +3,7 @@ mod TableRows
 pub mod AcceptedForms
 pub mod AcceptedPairs
 pub mod AcceptedTables
+pub mod AcceptedWords
 pub mod builder
 pub mod BuiltInFacts
 pub mod BuiltInTestLemmas
@@ -12,13 +13,16 @@ pub mod DecodingComputing
 pub mod DecomposedLemmas
 pub mod EndingLemmas
 pub mod FaultLemmas
+pub mod FixedListLemmas
 pub mod FullListLemmas
 pub mod FullStartLemmas
+pub mod JoinedStartLemmas
 pub mod LeftLemmas
 pub mod MarkLemmas
 pub mod OffenderLemmas
 pub mod PairLemmas
 pub mod PairTestLemmas
+pub mod ReadingLemmas
 pub mod ScalarLemmas
 pub mod SettledLemmas
 pub mod SettlingLemmas
@@ -29,3 +33,4 @@ pub mod TextLemmas
 pub mod ToldLemmas
 pub mod TripleLemmas
 pub mod Utf16Lemmas
+pub mod WordListLemmas

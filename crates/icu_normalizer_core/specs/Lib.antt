@@ -1,3 +1,4 @@
+pub mod BorrowedCompatibility
 pub mod BorrowedMeaning
 pub mod Boundaries
 pub mod BuiltIn
@@ -11,6 +12,9 @@ pub mod CanonicalMeaning
 pub mod CanonicalRefusals
 pub mod CanonicalWords
 pub mod CharacterWords
+pub mod Compatibility
+pub mod CompatibilityFaults
+pub mod CompatibilityMeaning
 pub mod DataErrors
 pub mod Decoding
 pub mod FullLists
@@ -29,3 +33,4 @@ pub mod Sameness
 pub mod Settled
 pub mod SteadyAnswers
 pub mod Triples
+pub mod Words

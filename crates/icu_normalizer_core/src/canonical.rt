@@ -2,17 +2,17 @@
 
 mod borrowed;
 mod builder;
-mod check;
+pub(crate) mod check;
 mod data;
-mod full_list;
+pub(crate) mod full_list;
 mod packing;
 mod pairs;
 mod reading;
 mod search;
 mod steady;
 mod steps;
-mod tables;
-mod words;
+pub(crate) mod tables;
+pub(crate) mod words;
 
 pub use borrowed::CanonicalBorrowed;
 pub use builder::{CanonicalDataBuildError, CanonicalDataBuilder, GivenClass, GivenMapping};

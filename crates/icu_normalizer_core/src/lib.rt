@@ -4,6 +4,7 @@
 
 pub mod built_in;
 pub mod canonical;
+pub mod compatibility;
 pub mod decoding;
 pub mod laws;
 pub mod properties;

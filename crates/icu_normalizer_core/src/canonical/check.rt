@@ -5,12 +5,12 @@ ghost use Rattle.icu_normalizer_core.specs.CanonicalFaults.{IsAccepted, IsFirstF
 ghost use Rattle.icu_normalizer_core.specs.CanonicalMeaning.{lists_of};
 ghost use Rattle.icu_normalizer_core.specs.Plain.{Tells};
 
-mod built_in;
-mod characters;
+pub(crate) mod built_in;
+pub(crate) mod characters;
 mod forms;
-mod full_lists;
+pub(crate) mod full_lists;
 mod full_start;
-pub(super) mod left;
+pub(crate) mod left;
 mod loops;
 mod marks;
 mod own;

@@ -105,7 +105,7 @@ impl<'a> CanonicalData<'a> {
 
     /// The tables.
     #[inline]
-    pub(super) fn tables(&self) -> &CanonicalTables<'a>
+    pub(crate) fn tables(&self) -> &CanonicalTables<'a>
         ensures same { result.now ≡ self.now }
         ensures accepted { IsAccepted (lists_of result.now) }
     {

@@ -7,9 +7,10 @@ ghost use Rattle.icu_normalizer_core.specs.CanonicalWords.{items_at, is_list_wor
 ghost use Rattle.icu_normalizer_core.specs.CanonicalMeaning.{meaning};
 ghost use Rattle.icu_normalizer_core.specs.BuiltIn.{singled_out};
 ghost use Rattle.icu_normalizer_core.specs.FullLists.{source_items, IsPart};
+ghost use Rattle.icu_normalizer_core.specs.Words.{full_in, word_lists};
 
 use super::tables::CanonicalTables;
-use super::words::{is_list_word, is_one_word, is_pair_word, is_singled_word};
+use super::words::{Words, is_list_word, is_one_word, is_pair_word, is_singled_word};
 use crate::built_in::{letter, singled_out};
 use crate::properties::Decomposed;
 use std::iter::FusedIterator;
@@ -20,9 +21,9 @@ use std::marker::Model;
 pub(super) enum Source {
     /// Here, from the first on.
     Few([char; 3]),
-    /// In the tables' `scalars16`.
+    /// In the words' `scalars16`.
     In16,
-    /// In the tables' `scalars24`.
+    /// In the words' `scalars24`.
     In24,
 }
 
@@ -30,7 +31,7 @@ pub(super) enum Source {
 /// allocated.
 #[derive(Debug, Drop)]
 pub struct FullList<'d> {
-    tables: &'d CanonicalTables<'d>,
+    words: Words<'d>,
     source: Source,
     next: usize,
     end: usize,
@@ -43,34 +44,34 @@ impl<'d> Model for FullList<'d> {
 
     ghost Value = { List ℕ };
 
-    ghost view = { λ it. items_at (source_items it.tables.now it.source) it.next (it.end - it.next) };
+    ghost view = { λ it. items_at (source_items it.words it.source) it.next (it.end - it.next) };
 
-    ghost invariant = { λ it. IsPart (source_items it.tables.now it.source) it.next it.end };
+    ghost invariant = { λ it. IsPart (source_items it.words it.source) it.next it.end };
 }
 
 /// The character at a place.
 #[inline]
-fn character_at(tables: &CanonicalTables<'_>, source: Source, place: usize) -> char
-    requires inside { place < length (source_items tables.now source) }
-    requires scalar { IsScalar (slice_index (source_items tables.now source) place) }
-    ensures { result ≡ slice_index (source_items tables.now source) place }
+fn character_at(words: Words<'_>, source: Source, place: usize) -> char
+    requires inside { place < length (source_items words source) }
+    requires scalar { IsScalar (slice_index (source_items words source) place) }
+    ensures { result ≡ slice_index (source_items words.entry source) place }
 {
     match source {
         Source::Few(characters) => characters[place],
-        Source::In16 => char::from_u32(tables.scalars16.at(place) as u32).unwrap(),
-        Source::In24 => tables.scalars24.at(place),
+        Source::In16 => char::from_u32(words.scalars16.at(place) as u32).unwrap(),
+        Source::In24 => words.scalars24.at(place),
     }
 }
 
 impl<'d> FullList<'d> {
     /// The characters from one place to before another.
     #[inline]
-    fn new(tables: &'d CanonicalTables<'d>, source: Source, next: usize, end: usize) -> FullList<'d>
-        requires { IsPart (source_items tables.now source) next end }
-        ensures { result ≡ items_at (source_items tables.now source) next (end - next) }
+    fn new(words: Words<'d>, source: Source, next: usize, end: usize) -> FullList<'d>
+        requires { IsPart (source_items words source) next end }
+        ensures { result ≡ items_at (source_items words.entry source) next (end - next) }
     {
         FullList {
-            tables,
+            words,
             source,
             next,
             end,
@@ -81,40 +82,40 @@ impl<'d> FullList<'d> {
 /// So many characters from a place on, as many as there are.
 #[inline]
 fn part<'d>(
-    tables: &'d CanonicalTables<'d>,
+    words: Words<'d>,
     source: Source,
     items: usize,
     place: usize,
     count: usize,
 ) -> FullList<'d>
-    requires items { items ≡ length (source_items tables.now source) }
-    requires scalars { All IsScalar (items_at (source_items tables.now source) place count) }
-    ensures { result ≡ items_at (source_items tables.now source) place count }
+    requires items { items ≡ length (source_items words source) }
+    requires scalars { All IsScalar (items_at (source_items words source) place count) }
+    ensures { result ≡ items_at (source_items words.entry source) place count }
 {
     let next = place.min(items);
     let end = next + count.min(items - next);
-    FullList::new(tables, source, next, end)
+    FullList::new(words, source, next, end)
 }
 
 /// The list of one character.
 #[inline]
-fn one<'d>(tables: &'d CanonicalTables<'d>, a: char) -> FullList<'d>
+fn one<'d>(words: Words<'d>, a: char) -> FullList<'d>
     ensures { result ≡ a ∷ [] }
 {
-    FullList::new(tables, Source::Few([a, a, a]), 0, 1)
+    FullList::new(words, Source::Few([a, a, a]), 0, 1)
 }
 
 /// The list of two characters.
 #[inline]
-fn two<'d>(tables: &'d CanonicalTables<'d>, a: char, b: char) -> FullList<'d>
+fn two<'d>(words: Words<'d>, a: char, b: char) -> FullList<'d>
     ensures { result ≡ a ∷ b ∷ [] }
 {
-    FullList::new(tables, Source::Few([a, b, b]), 0, 2)
+    FullList::new(words, Source::Few([a, b, b]), 0, 2)
 }
 
 /// The letters of a Hangul syllable (UAX 15).
 #[tactic(auto, unfolding(crate::specs::CanonicalWords::syllable_letters))]
-fn letters<'d>(tables: &'d CanonicalTables<'d>, c: u32) -> FullList<'d>
+fn letters<'d>(words: Words<'d>, c: u32) -> FullList<'d>
     requires { c < 0x110000 }
     ensures { result ≡ syllable_letters c }
 {
@@ -123,61 +124,61 @@ fn letters<'d>(tables: &'d CanonicalTables<'d>, c: u32) -> FullList<'d>
     let vowel = letter(0x1161 + place % 588 / 28);
     let trailing = place % 28;
     if trailing == 0 {
-        two(tables, leading, vowel)
+        two(words, leading, vowel)
     } else {
         let last = letter(0x11a7 + trailing);
-        FullList::new(tables, Source::Few([leading, vowel, last]), 0, 3)
+        FullList::new(words, Source::Few([leading, vowel, last]), 0, 3)
     }
 }
 
 /// The list of a built-in mapping to characters that aren't mapped, or the character itself.
-fn singled<'d>(tables: &'d CanonicalTables<'d>, c: char) -> FullList<'d>
+fn singled<'d>(words: Words<'d>, c: char) -> FullList<'d>
     ensures { result ≡ unwrap_or (singled_out c) (c ∷ []) }
 {
     match singled_out(c as u32) {
-        None => one(tables, c),
-        Some(Decomposed::Default) => FullList::new(tables, Source::In24, 0, 0),
-        Some(Decomposed::Singleton(a)) => one(tables, a),
-        Some(Decomposed::Expansion(a, b)) => two(tables, a, b),
+        None => one(words, c),
+        Some(Decomposed::Default) => FullList::new(words, Source::In24, 0, 0),
+        Some(Decomposed::Singleton(a)) => one(words, a),
+        Some(Decomposed::Expansion(a, b)) => two(words, a, b),
     }
 }
 
 /// The list that a word names a place of.
 #[tactic(auto, unfolding(crate::specs::CanonicalWords::list_at))]
-fn listed<'d>(tables: &'d CanonicalTables<'d>, word: u32) -> FullList<'d>
+fn listed<'d>(words: Words<'d>, word: u32) -> FullList<'d>
     requires word { is_list_word word ≡ true }
-    requires scalars { All IsScalar (list_at tables.now.scalars16 tables.now.scalars24 word) }
-    ensures { result ≡ list_at tables.now.scalars16 tables.now.scalars24 word }
+    requires scalars { All IsScalar (list_at words.scalars16.now words.scalars24.now word) }
+    ensures { result ≡ list_at words.entry.scalars16.now words.entry.scalars24.now word }
 {
     let offset = (word / 0x1_0000) as usize - 1;
     let count = (word % 16) as usize;
-    let in_16 = tables.scalars16.len();
+    let in_16 = words.scalars16.len();
     if offset < in_16 {
-        part(tables, Source::In16, in_16, offset, count + 2)
+        part(words, Source::In16, in_16, offset, count + 2)
     } else {
-        let in_24 = tables.scalars24.len();
-        part(tables, Source::In24, in_24, offset - in_16, count + 1)
+        let in_24 = words.scalars24.len();
+        part(words, Source::In24, in_24, offset - in_16, count + 1)
     }
 }
 
 /// The list that a word states by itself.
 #[inline]
 #[tactic(auto, unfolding(crate::specs::CanonicalWords::full_of_word))]
-pub(super) fn stated<'d>(tables: &'d CanonicalTables<'d>, c: char, word: u32) -> FullList<'d>
+pub(super) fn stated<'d>(words: Words<'d>, c: char, word: u32) -> FullList<'d>
     requires word { is_list_word word ≡ false }
     requires bound { word < 2 ^ 30 }
-    ensures { result ≡ full_of_word tables.now.scalars16 tables.now.scalars24 c word }
+    ensures { result ≡ full_of_word words.entry.scalars16.now words.entry.scalars24.now c word }
 {
     if is_pair_word(word) {
-        two(tables, character(word % 0x8000), character(word / 0x8000))
+        two(words, character(word % 0x8000), character(word / 0x8000))
     } else if is_one_word(word) {
-        one(tables, character(word))
+        one(words, character(word))
     } else if word == 1 {
-        letters(tables, c as u32)
+        letters(words, c as u32)
     } else if is_singled_word(word) {
-        singled(tables, c)
+        singled(words, c)
     } else {
-        one(tables, c)
+        one(words, c)
     }
 }
 
@@ -192,15 +193,26 @@ pub(super) fn character(code: u32) -> char
 
 /// The full list of a character.
 #[inline]
-pub(super) fn full_list<'d>(tables: &'d CanonicalTables<'d>, c: char) -> FullList<'d>
+pub(crate) fn full_list<'d>(tables: &'d CanonicalTables<'d>, c: char) -> FullList<'d>
     requires { All IsScalar ((meaning tables.now).full c) }
     ensures { result ≡ (meaning tables.now).full c }
 {
-    let word = tables.word(c);
-    if is_list_word(word) {
-        listed(tables, word)
-    } else {
-        stated(tables, c, word)
+    tables.words().full_list(c)
+}
+
+impl<'t> Words<'t> {
+    /// The full list that the words state of a character.
+    #[inline]
+    pub(crate) fn full_list(self, c: char) -> FullList<'t>
+        requires { All IsScalar (full_in (word_lists self) c) }
+        ensures { result ≡ full_in (word_lists self.entry) c }
+    {
+        let word = self.word(c);
+        if is_list_word(word) {
+            listed(self, word)
+        } else {
+            stated(self, c, word)
+        }
     }
 }
 
@@ -217,7 +229,7 @@ impl Iterator for FullList<'_> {
             return None;
         }
         let place = self.next;
-        let c = character_at(self.tables, self.source, place);
+        let c = character_at(self.words, self.source, place);
         self.next = place + 1;
         Some(c)
     }

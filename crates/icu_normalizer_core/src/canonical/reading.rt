@@ -1,11 +1,12 @@
 //! What one read of canonical data tells of a character.
 
 ghost use Rattle.icu_normalizer_core.specs.CanonicalMeaning.{meaning};
-ghost use Rattle.icu_normalizer_core.specs.Readings.{IsTold};
+ghost use Rattle.icu_normalizer_core.specs.Readings.{IsTold, IsToldBy};
+ghost use Rattle.icu_normalizer_core.specs.Words.{word_lists};
 
 use super::full_list::character;
 use super::tables::CanonicalTables;
-use super::words::{is_mark_word, is_pair_word};
+use super::words::{Words, is_mark_word, is_pair_word};
 
 /// What one read of canonical data tells of a character.
 #[derive(Clone, Copy, Debug)]
@@ -20,18 +21,28 @@ pub enum Reading {
 
 /// What the character's word alone tells.
 #[inline]
-#[tactic(auto, unfolding(crate::specs::CanonicalLists::canonical_of, crate::specs::CanonicalWords::class_of_word, crate::specs::CanonicalWords::full_of_word))]
 pub(super) fn read_character(tables: &CanonicalTables<'_>, c: char) -> Reading
     ensures { IsTold (meaning tables.now) c result }
 {
-    let word = tables.word(c);
-    if word == 0 {
-        Reading::Itself(0)
-    } else if is_pair_word(word) {
-        Reading::Two(character(word % 0x8000), character(word / 0x8000))
-    } else if is_mark_word(word) {
-        Reading::Itself((word - 0xd800) as u8)
-    } else {
-        Reading::Other
+    tables.words().reading(c)
+}
+
+impl Words<'_> {
+    /// What the character's word alone tells.
+    #[inline]
+    #[tactic(auto, unfolding(crate::specs::CanonicalWords::class_of_word, crate::specs::CanonicalWords::full_of_word))]
+    pub(crate) fn reading(self, c: char) -> Reading
+        ensures { IsToldBy (word_lists self.entry) c result }
+    {
+        let word = self.word(c);
+        if word == 0 {
+            Reading::Itself(0)
+        } else if is_pair_word(word) {
+            Reading::Two(character(word % 0x8000), character(word / 0x8000))
+        } else if is_mark_word(word) {
+            Reading::Itself((word - 0xd800) as u8)
+        } else {
+            Reading::Other
+        }
     }
 }

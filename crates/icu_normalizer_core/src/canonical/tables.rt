@@ -3,8 +3,9 @@
 ghost use Rattle.std.specs.Prelude.{◌≡◌, ◌<◌, ◌^◌};
 ghost use Rattle.icu_normalizer_core.specs.CanonicalMeaning.{lists_of};
 ghost use Rattle.icu_normalizer_core.specs.CanonicalMeaning.{meaning};
+ghost use Rattle.icu_normalizer_core.specs.Words.{words_of, word_lists};
 
-use super::words::{PLAIN_WORD, class_of_word};
+use super::words::{PLAIN_WORD, Words, class_of_word};
 use icu_codepointtrie::CodePointTrie;
 use icu_packed_vector::PackedVec;
 use std::error::Error;
@@ -73,9 +74,21 @@ impl fmt::Display for CanonicalFault {
 impl Error for CanonicalFault {}
 
 impl CanonicalTables<'_> {
+    /// The words, with the lists that they name places in.
+    #[inline]
+    pub(super) fn words(&self) -> Words<'_>
+        ensures { word_lists result ≡ words_of (lists_of self.now) }
+    {
+        Words {
+            trie: &self.trie,
+            scalars16: &self.scalars16,
+            scalars24: &self.scalars24,
+        }
+    }
+
     /// The character's word, without its two uppermost bits.
     #[inline]
-    pub(super) fn word(&self, c: char) -> u32
+    pub(crate) fn word(&self, c: char) -> u32
         ensures word { result ≡ (lists_of self.now).word c }
         ensures bound { result < 2 ^ 30 }
     {
@@ -85,7 +98,7 @@ impl CanonicalTables<'_> {
     /// The class of a character.
     #[inline]
     #[tactic(auto, unfolding(crate::specs::CanonicalLists::canonical_of))]
-    pub(super) fn class(&self, c: char) -> u8
+    pub(crate) fn class(&self, c: char) -> u8
         ensures { result ≡ (meaning self.now).class c }
     {
         class_of_word(c as u32, self.word(c))

@@ -3,11 +3,36 @@
 
 ghost use Rattle.std.specs.Prelude.{◌≡◌, ◌<◌, ◌^◌};
 ghost use Rattle.icu_normalizer_core.specs.CanonicalWords.{is_mark_word, is_singled_word, is_one_word, is_pair_word, is_list_word, states_list, class_of_word, is_word};
+ghost use Rattle.icu_normalizer_core.specs.Words.{word_lists};
 
 use crate::built_in::{built_in_class, is_singled_out, is_syllable};
+use icu_codepointtrie::CodePointTrie;
+use icu_packed_vector::PackedVec;
 
 /// All bits of a word but the two uppermost, which say nothing here.
 pub(super) const PLAIN_WORD: u32 = 0x3fff_ffff;
+
+/// The words of code points, with the lists that they name places in.
+#[derive(Clone, Copy, Debug)]
+pub(crate) struct Words<'t> {
+    /// Each code point's word.
+    pub(crate) trie: &'t CodePointTrie<'t, u32>,
+    /// Full lists, one after another, of characters below 10000 (hex).
+    pub(crate) scalars16: &'t PackedVec<'t, u16>,
+    /// Full lists, one after another, of any characters.
+    pub(crate) scalars24: &'t PackedVec<'t, char>,
+}
+
+impl Words<'_> {
+    /// The character's word, without its two uppermost bits.
+    #[inline]
+    pub(crate) fn word(self, c: char) -> u32
+        ensures word { result ≡ (word_lists self.entry).word c }
+        ensures bound { result < 2 ^ 30 }
+    {
+        self.trie.get(c) & PLAIN_WORD
+    }
+}
 
 /// Whether the word is that of a mark: D800 (hex) and its class, from 1 to 254.
 #[inline]
@@ -52,7 +77,7 @@ pub(super) fn is_list_word(word: u32) -> bool
 }
 
 /// Whether the word states a full list, in one of these three ways.
-pub(super) fn states_list(word: u32) -> bool
+pub(crate) fn states_list(word: u32) -> bool
     ensures { result ≡ states_list word }
 {
     is_one_word(word) || is_pair_word(word) || is_list_word(word)
@@ -61,7 +86,7 @@ pub(super) fn states_list(word: u32) -> bool
 /// Whether the word says something of the character: that it is its own full list and a starter, that its full list is
 /// a syllable's letters, a class, or a full list.
 #[tactic(auto, unfolding(crate::specs::CanonicalWords::is_word))]
-pub(super) fn is_word(c: u32, word: u32) -> bool
+pub(crate) fn is_word(c: u32, word: u32) -> bool
     ensures { result ≡ is_word c word }
 {
     word == 0
@@ -74,7 +99,7 @@ pub(super) fn is_word(c: u32, word: u32) -> bool
 /// The class that the word says of the character.
 #[inline]
 #[tactic(auto, unfolding(crate::specs::CanonicalWords::class_of_word))]
-pub(super) fn class_of_word(c: u32, word: u32) -> u8
+pub(crate) fn class_of_word(c: u32, word: u32) -> u8
     ensures { result ≡ class_of_word c word }
 {
     if is_mark_word(word) {

@@ -94,7 +94,7 @@ fn names_no_letter(built_in: Option<Decomposed>, listed: Decomposed) -> bool
 }
 
 /// The characters of a mapping.
-fn step_characters(step: Decomposed) -> Left
+pub(crate) fn step_characters(step: Decomposed) -> Left
     ensures { left_items result ≡ mapped_to step }
 {
     match step {
@@ -106,7 +106,7 @@ fn step_characters(step: Decomposed) -> Left
 
 /// The full list of a character with a built-in mapping.
 #[tactic(auto, unfolding(crate::specs::CanonicalWords::built_in_full))]
-fn built_in_full(c: u32) -> Option<Left>
+pub(crate) fn built_in_full(c: u32) -> Option<Left>
     ensures { option_map left_items result ≡ built_in_full c }
 {
     if is_syllable(c) {

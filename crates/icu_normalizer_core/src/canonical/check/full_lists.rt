@@ -17,30 +17,39 @@ use super::settle::listed_left;
 use super::told::first_refused_of;
 use crate::built_in::built_in_step;
 use crate::canonical::tables::CanonicalTables;
-use crate::canonical::words::{is_list_word, states_list};
+use crate::canonical::words::{Words, is_list_word, states_list};
 use icu_packed_vector::PackedVec;
 
 /// Whether the word names no place outside the lists.
-#[tactic(auto, unfolding(crate::specs::CanonicalWords::is_inside))]
 pub(super) fn is_inside(tables: &CanonicalTables<'_>, word: u32) -> bool
     ensures { result ≡ is_inside tables.now.scalars16 tables.now.scalars24 word }
 {
-    if !is_list_word(word) {
-        return true;
-    }
-    let offset = (word / 0x1_0000) as usize - 1;
-    let count = (word % 16) as usize;
-    let in_16 = tables.scalars16.len();
-    if offset < in_16 {
-        offset + (count + 2) <= in_16
-    } else {
-        let place = offset - in_16;
-        place + (count + 1) <= tables.scalars24.len()
+    tables.words().is_inside(word)
+}
+
+impl Words<'_> {
+    /// Whether a word names no place outside the lists.
+    #[tactic(auto, unfolding(crate::specs::CanonicalWords::is_inside))]
+    pub(crate) fn is_inside(self, word: u32) -> bool
+        ensures { result ≡ is_inside self.entry.scalars16.now self.entry.scalars24.now word }
+    {
+        if !is_list_word(word) {
+            return true;
+        }
+        let offset = (word / 0x1_0000) as usize - 1;
+        let count = (word % 16) as usize;
+        let in_16 = self.scalars16.len();
+        if offset < in_16 {
+            offset + (count + 2) <= in_16
+        } else {
+            let place = offset - in_16;
+            place + (count + 1) <= self.scalars24.len()
+        }
     }
 }
 
 /// Whether the first of the characters is a mark.
-fn begins_with_mark(tables: &CanonicalTables<'_>, left: &Left) -> bool
+pub(crate) fn begins_with_mark(tables: &CanonicalTables<'_>, left: &Left) -> bool
     ensures { result ≡ begins_with_mark (meaning tables.now) (left_items left.now) }
 {
     left.count > 0 && class_of(tables, left.characters[0]) != 0

@@ -5,15 +5,16 @@ ghost use Rattle.icu_normalizer_core.specs.CanonicalMeaning.{meaning};
 ghost use Rattle.icu_normalizer_core.specs.CanonicalWords.{items_at, is_list_word, list_at};
 ghost use Rattle.icu_normalizer_core.specs.FullLists.{source_items};
 ghost use Rattle.icu_normalizer_core.specs.Settled.{left_items};
+ghost use Rattle.icu_normalizer_core.specs.Words.{full_in, word_lists};
 
 use super::left::Left;
 use crate::canonical::full_list::{FullList, Source, stated};
 use crate::canonical::tables::CanonicalTables;
-use crate::canonical::words::is_list_word;
+use crate::canonical::words::{Words, is_list_word};
 
 impl Left {
     /// No character.
-    pub(super) fn none() -> Left
+    pub(crate) fn none() -> Left
         ensures { left_items result ≡ [] }
     {
         Left {
@@ -24,19 +25,19 @@ impl Left {
 }
 
 /// The number at a place, `None` past the end.
-fn number_at(tables: &CanonicalTables<'_>, source: Source, place: usize) -> Option<u32>
-    ensures { result ≡ slice_get (source_items tables.now source) place }
+fn number_at(words: Words<'_>, source: Source, place: usize) -> Option<u32>
+    ensures { result ≡ slice_get (source_items words.entry source) place }
 {
     match source {
         Source::Few(characters) => match characters.get(place) {
             Some(c) => Some(*c as u32),
             None => None,
         },
-        Source::In16 => match tables.scalars16.get(place) {
+        Source::In16 => match words.scalars16.get(place) {
             Some(number) => Some(number as u32),
             None => None,
         },
-        Source::In24 => match tables.scalars24.get(place) {
+        Source::In24 => match words.scalars24.get(place) {
             Some(c) => Some(c as u32),
             None => None,
         },
@@ -44,13 +45,13 @@ fn number_at(tables: &CanonicalTables<'_>, source: Source, place: usize) -> Opti
 }
 
 /// The first nine of so many numbers from a place on, as many as there are.
-fn part_start(tables: &CanonicalTables<'_>, source: Source, place: usize, count: usize) -> Left
+fn part_start(words: Words<'_>, source: Source, place: usize, count: usize) -> Left
     requires { place + count < 2 ^ 32 }
-    ensures { left_items result ≡ take 9 (items_at (source_items tables.now source) place count) }
+    ensures { left_items result ≡ take 9 (items_at (source_items words.entry source) place count) }
 {
     let mut left = Left::none();
     for i in 0..count {
-        if let Some(number) = number_at(tables, source, place + i) {
+        if let Some(number) = number_at(words, source, place + i) {
             left = left.with(number);
         }
     }
@@ -59,18 +60,18 @@ fn part_start(tables: &CanonicalTables<'_>, source: Source, place: usize, count:
 
 /// The first nine numbers of the list that a word names a place of.
 #[tactic(auto, unfolding(crate::specs::CanonicalWords::list_at))]
-fn listed_start(tables: &CanonicalTables<'_>, word: u32) -> Left
+fn listed_start(words: Words<'_>, word: u32) -> Left
     requires word { is_list_word word ≡ true }
     requires bound { word < 2 ^ 30 }
-    ensures { left_items result ≡ take 9 (list_at tables.now.scalars16 tables.now.scalars24 word) }
+    ensures { left_items result ≡ take 9 (list_at words.entry.scalars16.now words.entry.scalars24.now word) }
 {
     let offset = (word / 0x1_0000) as usize - 1;
     let count = (word % 16) as usize;
-    let in_16 = tables.scalars16.len();
+    let in_16 = words.scalars16.len();
     if offset < in_16 {
-        part_start(tables, Source::In16, offset, count + 2)
+        part_start(words, Source::In16, offset, count + 2)
     } else {
-        part_start(tables, Source::In24, offset - in_16, count + 1)
+        part_start(words, Source::In24, offset - in_16, count + 1)
     }
 }
 
@@ -89,10 +90,19 @@ fn start_of(list: FullList<'_>) -> Left
 pub(super) fn full_start(tables: &CanonicalTables<'_>, c: char) -> Left
     ensures { left_items result ≡ take 9 ((meaning tables.now).full c) }
 {
-    let word = tables.word(c);
-    if is_list_word(word) {
-        listed_start(tables, word)
-    } else {
-        start_of(stated(tables, c, word))
+    tables.words().full_start(c)
+}
+
+impl Words<'_> {
+    /// The first nine numbers of the full list that the words state of a character.
+    pub(crate) fn full_start(self, c: char) -> Left
+        ensures { left_items result ≡ take 9 (full_in (word_lists self.entry) c) }
+    {
+        let word = self.word(c);
+        if is_list_word(word) {
+            listed_start(self, word)
+        } else {
+            start_of(stated(self, c, word))
+        }
     }
 }

@@ -18,7 +18,7 @@ use std::alloc::{AllocError, Global};
 
 impl Left {
     /// One character.
-    pub(super) fn one(c: u32) -> Left
+    pub(crate) fn one(c: u32) -> Left
         ensures { left_items result ≡ c ∷ [] }
     {
         Left {
@@ -28,7 +28,7 @@ impl Left {
     }
 
     /// Both, one behind the other, cut to nine.
-    pub(super) fn joined(self, other: Left) -> Left
+    pub(crate) fn joined(self, other: Left) -> Left
         ensures { left_items result ≡ take 9 (left_items self ++ left_items other) }
     {
         let mut left = self;
@@ -39,7 +39,7 @@ impl Left {
     }
 
     /// With one more character, if there is room.
-    pub(super) fn with(self, c: u32) -> Left
+    pub(crate) fn with(self, c: u32) -> Left
         ensures { left_items result ≡ take 9 (left_items self ++ c ∷ []) }
     {
         if self.count == 9 {
@@ -54,7 +54,7 @@ impl Left {
     }
 
     /// Whether both are the same characters.
-    pub(super) fn is(&self, other: &Left) -> bool
+    pub(crate) fn is(&self, other: &Left) -> bool
         ensures same { IsTrue result ↔ (left_items self.now ≡ left_items other.now) }
         ensures test { result ≡ pointwise nat_eq (left_items self.now) (left_items other.now) }
     {

@@ -1,29 +1,14 @@
-use Rattle.std.proofs.Common.{◌≡◌, ℕ, All, true, sym, subst, ap, ◌∙◌}
+use Rattle.std.proofs.Common.{All, sym, subst, ap, ◌∙◌}
 use Rattle.std.specs.Char.{IsScalar}
 use Rattle.icu_normalizer_core.specs.CanonicalMeaning.{lists_of}
-use Rattle.icu_normalizer_core.specs.CanonicalWords.{is_list_word, full_of_word}
-use Rattle.icu_normalizer_core.proofs.FullListLemmas.{full_listed}
+use Rattle.icu_normalizer_core.specs.Words.{WordLists, full_in}
 use Rattle.icu_normalizer_core.proofs.TableMeanings.{full_is}
 use Rattle.icu_normalizer_core.proofs.canonical.full_list.full_list.Goals as goal
 
-pub listed-requires-clause-scalars : goal.listed-requires-clause-scalars
-listed-requires-clause-scalars c =
-    let is : is_list_word c.word-word.result ≡ true = sym c.is_list_word.ensures ∙ c.if-is_list_word.true in
-    let full = full_is (lists_of c.args.tables.now) c.args.c
-    ∙ ap (λ (w : ℕ). full_of_word c.args.tables.now.scalars16 c.args.tables.now.scalars24 c.args.c w) (sym c.word-word.ensures.word)
-    ∙ full_listed c.args.tables.now.scalars16 c.args.tables.now.scalars24 c.args.c c.word-word.result is in
-    subst (All IsScalar) full c.requires
+pub full_list-requires : goal.full_list-requires
+full_list-requires c =
+    subst (λ (words : WordLists). All IsScalar (full_in words c.args.c)) (sym c.words.ensures)
+    (subst (All IsScalar) (full_is (lists_of c.args.tables.now) c.args.c) c.requires)
 
-pub returns-then-is_list_word : goal.returns-then-is_list_word
-returns-then-is_list_word c =
-    let is : is_list_word c.word-word.result ≡ true = sym c.is_list_word.ensures ∙ c.if-is_list_word.true in
-    let full = full_is (lists_of c.args.tables.now) c.args.c
-    ∙ ap (λ (w : ℕ). full_of_word c.args.tables.now.scalars16 c.args.tables.now.scalars24 c.args.c w) (sym c.word-word.ensures.word)
-    ∙ full_listed c.args.tables.now.scalars16 c.args.tables.now.scalars24 c.args.c c.word-word.result is in
-    c.listed.ensures ∙ sym full
-
-pub returns-else-is_list_word : goal.returns-else-is_list_word
-returns-else-is_list_word c =
-    c.stated.ensures
-    ∙ ap (λ (w : ℕ). full_of_word c.args.tables.now.scalars16 c.args.tables.now.scalars24 c.args.c w) c.word-word.ensures.word
-    ∙ sym (full_is (lists_of c.args.tables.now) c.args.c)
+pub returns : goal.returns
+returns c = c.full_list.ensures ∙ ap (λ (words : WordLists). full_in words c.args.c) c.words.ensures ∙ sym (full_is (lists_of c.args.tables.now) c.args.c)

@@ -1,0 +1,35 @@
+//! The tables.
+
+ghost use Rattle.std.specs.Prelude.{◌≡◌};
+ghost use Rattle.icu_normalizer_core.specs.CompatibilityMeaning.{nfkd_lists};
+ghost use Rattle.icu_normalizer_core.specs.Words.{word_lists};
+
+use crate::canonical::words::Words;
+use icu_codepointtrie::CodePointTrie;
+use icu_packed_vector::PackedVec;
+
+/// Compatibility full lists in packed tables, not yet checked (`CompatibilityData::try_new` checks them).
+#[derive(Debug, Drop)]
+pub struct NfkdTables<'a> {
+    /// The word of each code point: its class, or its full list by canonical and compatibility mappings. The words have the
+    /// forms of canonical ones (`CanonicalTables`).
+    pub trie: CodePointTrie<'a, u32>,
+    /// Full lists, one after another, of characters below 10000 (hex) alone; it may be empty.
+    pub scalars16: PackedVec<'a, u16>,
+    /// Full lists, one after another, of any characters; their places are counted on from the end of `scalars16`.
+    pub scalars24: PackedVec<'a, char>,
+}
+
+impl NfkdTables<'_> {
+    /// The words, with the lists that they name places in.
+    #[inline]
+    pub(super) fn words(&self) -> Words<'_>
+        ensures { word_lists result ≡ nfkd_lists self.now }
+    {
+        Words {
+            trie: &self.trie,
+            scalars16: &self.scalars16,
+            scalars24: &self.scalars24,
+        }
+    }
+}
