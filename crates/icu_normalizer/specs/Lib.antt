@@ -13,4 +13,6 @@ pub mod Run
 pub mod Sinks
 pub mod Splits
 pub mod TextForms
+pub mod Uts46
+pub mod Uts46Loading
 pub mod Writer

@@ -7,3 +7,4 @@ pub mod decomposing;
 pub mod laws;
 mod run;
 pub mod sinks;
+pub mod uts46;

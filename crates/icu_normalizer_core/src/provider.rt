@@ -16,7 +16,7 @@ pub use error::{DataError, TableName};
 use icu_codepointtrie::CodePointTrie;
 use icu_packed_vector::PackedVec;
 pub use lists::{NfdLists, NfkdLists, Uts46Tables};
-pub use load::load_canonical_data;
+pub use load::{load_canonical, load_canonical_data};
 use std::alloc::Global;
 
 /// A source of tables. Each call gives one of them, not yet checked, or says why it can't be had: it is missing

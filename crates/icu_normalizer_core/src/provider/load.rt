@@ -7,7 +7,7 @@ use crate::canonical::{CanonicalData, CanonicalDataError, CanonicalTables};
 use std::alloc::Global;
 
 /// The canonical tables that a provider has, not yet checked. The first load that is refused is the answer.
-fn load_canonical<P: NormalizerProvider>(
+pub fn load_canonical<P: NormalizerProvider>(
     alloc: Global,
     provider: &P,
 ) -> Result<CanonicalTables<'_>, DataError>
