@@ -10,6 +10,7 @@ pub mod CutLemmas
 pub mod equivalence
 pub mod FormCutLemmas
 pub mod IterLemmas
+pub mod MappedLemmas
 pub mod RunLemmas
 pub mod SinkLemmas
 pub mod SkipLemmas

@@ -14,5 +14,6 @@ pub mod Sinks
 pub mod Splits
 pub mod TextForms
 pub mod Uts46
+pub mod Uts46Iter
 pub mod Uts46Loading
 pub mod Writer

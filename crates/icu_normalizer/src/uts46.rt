@@ -1,5 +1,6 @@
 //! What is done with the characters of domain names (UTS 46).
 
+mod characters;
 mod list;
 mod mapper;
 mod table;

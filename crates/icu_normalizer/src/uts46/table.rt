@@ -1,6 +1,6 @@
 //! Mapper tables that were checked.
 
-ghost use Rattle.std.specs.Prelude.{◌≡◌, false, MatchOption, option_to_list};
+ghost use Rattle.std.specs.Prelude.{◌≡◌, ◌≤◌, false, [], length, MatchOption, option_to_list};
 ghost use Rattle.std.specs.Char.{IsScalar};
 ghost use Rattle.icu_normalizer.specs.Uts46.{becomes, mapper_of, has_good_word, IsMapperTable};
 
@@ -55,9 +55,17 @@ impl<'a> MapperTable<'a> {
         }
     }
 
+    /// The list of no character.
+    pub(super) fn nothing(&self) -> MappedList<'_>
+        ensures { result ≡ [] }
+    {
+        MappedList::one(&self.tables.scalars24, None)
+    }
+
     /// What a character becomes, where an ignored one becomes `ignored`.
     pub(super) fn list(&self, c: char, ignored: Option<char>) -> MappedList<'_>
-        ensures { result ≡ becomes (option_to_list ignored) c (mapper_of self.now c) }
+        ensures list { result ≡ becomes (option_to_list ignored) c (mapper_of self.now c) }
+        ensures bound { length result ≤ 31 }
     {
         let list = &self.tables.scalars24;
         match self.tables.trie.get(c) {
