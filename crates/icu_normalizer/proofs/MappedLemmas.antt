@@ -1,9 +1,10 @@
 -- The steps of an iterator of mapped characters.
 use Rattle.std.proofs.Common.{◌≡◌, ℕ, true, false, List, [], ◌∷◌, ◌++◌, Option, Some, None, option_to_list, refl, sym, ap, subst, ◌∙◌}
+use Rattle.std.specs.Iterator.{Count}
 use Rattle.icu_normalizer.specs.declared.uts46.characters.MappedChars.{MappedChars}
 use Rattle.icu_normalizer.specs.Iter.{Spells, SourceSpells}
 use Rattle.icu_normalizer.specs.Uts46.{becomes, mapper_of}
-use Rattle.icu_normalizer.specs.Uts46Iter.{mapped_by, MapsTo, KeepsMapped}
+use Rattle.icu_normalizer.specs.Uts46Iter.{mapped_by, MapsTo, KeepsMapped, MappingSteps}
 use Rattle.icu_normalizer.proofs.IterLemmas.{Spells-next, Spells-end}
 
 module _ {I : Type 0} (steps : I → Option ℕ → I → Type 0) where
@@ -85,3 +86,16 @@ module _ {I : Type 0} (steps : I → Option ℕ → I → Type 0) where
   pub mapped_then : (a b c : MappedChars I) (written : List ℕ) → KeepsMapped steps a [] b → KeepsMapped steps b written c → KeepsMapped steps a written c
   mapped_then a b c written first second =
       record { at = λ cs left. let middle = first.at cs left in let last = second.at middle.0 middle.2 in (last.0, middle.1 ∙ last.1, last.2) }
+
+  -- what is still to come is what it gives
+  pub maps_spells : (can : I → Type 0) (left : I → Count) (s : MappedChars I) (out : List ℕ) → MapsTo steps s out → Spells (MappingSteps can steps left) s out
+  maps_spells can left s [] h = λ x t step. let first = step.at [] h in let none : [] ≡ x ∷ first.0 = first.1 in cc
+  maps_spells can left s (c ∷ cs) h = (
+    λ t step. let end = step.at (c ∷ cs) h in let none : c ∷ cs ≡ [] = end.0 in cc,
+    λ x t step.
+        let first = step.at (c ∷ cs) h in
+        let parts : c ∷ cs ≡ x ∷ first.0 = first.1 in
+        let head : x ≡ c = cc in
+        let tail : first.0 ≡ cs = cc in
+        (head, maps_spells can left t cs (subst (MapsTo steps t) tail first.2)),
+  )

@@ -16,4 +16,5 @@ pub mod TextForms
 pub mod Uts46
 pub mod Uts46Iter
 pub mod Uts46Loading
+pub mod Uts46Texts
 pub mod Writer

@@ -1,8 +1,12 @@
-//! What is done with the characters of domain names (UTS 46).
+//! What is done with the characters of domain names (UTS 46). Begin with `Uts46Mapper::try_new`.
 
+mod borrowed;
 mod characters;
+mod iter;
 mod list;
 mod mapper;
 mod table;
 
+pub use borrowed::Uts46MapperBorrowed;
+pub use iter::Uts46Iter;
 pub use mapper::Uts46Mapper;
