@@ -16,11 +16,11 @@ returns-clause-text g c = λ cs h.
     let spells = maps_spells it.next_gives it.can_next it.remaining c.new-mapped.result _ (c.new-mapped.ensures.text cs h) in
     let given = c.new.ensures.text _ spells in
     let by_tables =
-        subst
-        (λ (t : CanonicalTables).
-        ComposesTo (MappingSteps it.can_next it.next_gives it.remaining) c.new.result
-        (composed (meaning t) (mapped_with (option_to_list c.args.ignored) (mapper_of c.mapper.inside.table) cs)))
-        c.as_borrowed-canonical.ensures.same given in
+    subst
+    (λ (t : CanonicalTables).
+    ComposesTo (MappingSteps it.can_next it.next_gives it.remaining) c.new.result
+    (composed (meaning t) (mapped_with (option_to_list c.args.ignored) (mapper_of c.mapper.inside.table) cs)))
+    c.as_borrowed-canonical.ensures.same given in
     subst
     (λ (m : MapperTables).
     ComposesTo (MappingSteps it.can_next it.next_gives it.remaining) c.new.result
