@@ -1,5 +1,5 @@
 -- What is left of the mapped characters of a domain name.
-use Rattle.std.specs.Prelude.{◌≡◌, ℕ, ◌+◌, ◌*◌, ◌≤◌, List, [], ◌∷◌, ◌++◌, length, option_to_list, Option, MatchOption, if◌then◌else◌}
+use Rattle.std.specs.Prelude.{◌≡◌, ℕ, ◌+◌, ◌*◌, ◌≤◌, List, [], ◌++◌, length, option_to_list, Option, MatchOption, if◌then◌else◌}
 use Rattle.std.specs.Iterator.{Count}
 use Rattle.icu_normalizer.specs.declared.uts46.characters.MappedChars.{MappedChars}
 use Rattle.icu_normalizer.specs.Iter.{SourceSpells, SourceIsReady, source_size, IsFirstOf}

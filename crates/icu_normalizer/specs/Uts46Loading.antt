@@ -1,7 +1,6 @@
 -- What loading a mapper of domain names gives.
 use Rattle.std.specs.Prelude.{◌≡◌, ◌⊎◌, Result, Ok, Err}
 use Rattle.icu_normalizer_core.specs.declared.canonical.tables.CanonicalTables.{CanonicalTables}
-use Rattle.icu_normalizer_core.specs.declared.provider.error.TableName.{TableName}
 use Rattle.icu_normalizer_core.specs.declared.provider.error.TableName.TheVariants.{Uts46}
 use Rattle.icu_normalizer_core.specs.declared.provider.error.DataError.{DataError}
 use Rattle.icu_normalizer_core.specs.declared.provider.error.DataError.TheVariants.{Missing, Invalid, Canonical, Memory}

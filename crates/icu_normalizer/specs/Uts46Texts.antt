@@ -1,5 +1,5 @@
 -- What is left of a mapped and composed domain name, and what a mapper's tables mean.
-use Rattle.std.specs.Prelude.{◌≡◌, ℕ, ◌≤◌, List, Option, Result}
+use Rattle.std.specs.Prelude.{ℕ, ◌≤◌, List, Option, Result}
 use Rattle.std.specs.Iterator.{Count, at_most}
 use Rattle.icu_normalizer_core.specs.Canonical.{Canonical}
 use Rattle.icu_normalizer_core.specs.CanonicalMeaning.{meaning}

@@ -4,7 +4,6 @@ use Rattle.icu_normalizer_core.specs.Canonical.{composed}
 use Rattle.icu_normalizer_core.specs.CanonicalMeaning.{meaning}
 use Rattle.icu_normalizer.specs.Uts46.{mapper_of, mapped_with}
 use Rattle.icu_normalizer.specs.Uts46Loading.{MapperTables}
-use Rattle.icu_normalizer.specs.Uts46Texts.{Gives}
 use Rattle.icu_normalizer.specs.Compositions.{ComposesTo}
 use Rattle.icu_normalizer.specs.Uts46Iter.{MappingSteps}
 use Rattle.icu_normalizer.proofs.MappedLemmas.{maps_spells}

@@ -1,4 +1,4 @@
-use Rattle.std.proofs.Common.{◌≡◌, ◌≤◌, ◌∷◌, length, refl, subst, ap, ◌∙◌, arith}
+use Rattle.std.proofs.Common.{length, refl, subst, ap, ◌∙◌, arith}
 use Rattle.icu_normalizer.specs.Uts46Iter.{MapsTo}
 use Rattle.icu_normalizer.proofs.MappedLemmas.{mapped_popped, mapped_then, mapped_done}
 use Rattle.icu_normalizer.proofs.uts46.characters.MappedCharsIterator.next.Goals as goal

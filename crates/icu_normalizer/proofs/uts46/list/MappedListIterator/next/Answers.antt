@@ -1,4 +1,4 @@
-use Rattle.std.proofs.Common.{◌≡◌, ℕ, ◌+◌, ◌-◌, ◌<◌, List, ◌∷◌, ◌++◌, take, drop, Option, option_to_list, sym, ap, ◌∙◌, arith}
+use Rattle.std.proofs.Common.{ℕ, ◌+◌, ◌-◌, ◌<◌, List, ◌∷◌, ◌++◌, take, drop, Option, option_to_list, sym, ap, ◌∙◌, arith}
 use Rattle.icu_normalizer_core.proofs.FullListLemmas.{items_first}
 use Rattle.icu_normalizer.proofs.uts46.list.MappedListIterator.next.Goals as goal
 
