@@ -9,8 +9,10 @@ pub mod CompositionLemmas
 pub mod CutLemmas
 pub mod equivalence
 pub mod FormCutLemmas
+pub mod FormingLemmas
 pub mod IterLemmas
 pub mod MappedLemmas
+pub mod OwnLemmas
 pub mod RunLemmas
 pub mod SinkLemmas
 pub mod SkipLemmas

@@ -5,6 +5,8 @@ pub mod Compositions
 pub mod Decompositions
 pub mod Equivalence
 pub mod FormCuts
+pub mod FormData
+pub mod Forming
 pub mod Iter
 pub mod Marks
 pub mod Normalizers

@@ -1,11 +1,11 @@
 //! Where a text has to be changed to be in NFD.
 
 ghost use Rattle.std.specs.Prelude.{◌≡◌, ℕ, ◌<◌, ◌≤◌, length, slice_index, IfSome, IfNone, chars};
-ghost use Rattle.icu_normalizer_core.specs.BorrowedMeaning.{borrowed_meaning};
+ghost use Rattle.icu_normalizer.specs.FormData.{form_meaning, low_bound};
 ghost use Rattle.icu_normalizer.specs.Splits.{IsDecomposed, IsCut};
 
 use super::places::class_in_place;
-use icu_normalizer_core::canonical::CanonicalBorrowed;
+use crate::form_data::FormData;
 
 /// How many ASCII characters a text begins with. Normal forms leave them as they are.
 pub(crate) fn plain_len(text: &str) -> usize
@@ -23,11 +23,11 @@ pub(crate) fn plain_len(text: &str) -> usize
 
 /// What has to be changed for a text to be in NFD, from the last starter before the first change on; `None` where
 /// nothing has to be changed. It takes no memory.
-pub(super) fn rest_to_change<'t>(canonical: CanonicalBorrowed<'_>, text: &'t str) -> Option<&'t str>
-    ensures none { IfNone result (IsDecomposed (borrowed_meaning canonical.entry) (chars text.now)) }
-    ensures some { IfSome result (λ rest. IsCut (borrowed_meaning canonical.entry) text.now rest.now) }
+pub(super) fn rest_to_change<'t>(basis: FormData<'_>, text: &'t str) -> Option<&'t str>
+    ensures none { IfNone result (IsDecomposed (form_meaning basis.entry) (chars text.now)) }
+    ensures some { IfSome result (λ rest. IsCut (form_meaning basis.entry) (low_bound basis.entry) text.now rest.now) }
 {
-    canonical.keep_promise();
+    basis.keep_promise();
     let plain = plain_len(text);
     let mut rest = &text[plain.saturating_sub(1)..];
     let mut before = 0;
@@ -37,7 +37,7 @@ pub(super) fn rest_to_change<'t>(canonical: CanonicalBorrowed<'_>, text: &'t str
         let Some(c) = chars.next() else {
             return None;
         };
-        let Some(class) = class_in_place(canonical, before, c) else {
+        let Some(class) = class_in_place(basis, before, c) else {
             return Some(rest);
         };
         if class == 0 {

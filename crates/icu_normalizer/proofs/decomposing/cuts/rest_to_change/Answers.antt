@@ -10,7 +10,7 @@ range_from-requires c = λ _. plain_boundary _ _ c.utf8.text c.plain_len-plain.e
 
 pub chars-init : goal.chars-init
 chars-init c =
-    begun _ _ _ _ c.plain_len-plain.result c.keep_promise.ensures c.plain_len-plain.ensures.within c.plain_len-plain.ensures.plain
+    begun _ _ _ _ c.plain_len-plain.result c.keep_promise.ensures.forming c.plain_len-plain.ensures.within c.plain_len-plain.ensures.plain
     (c.range_from-rest.ensures.value ∙ ap (λ k. drop k c.args.text.now) c.saturating_sub.ensures) (c.chars-chars.ensures.rest ∙ c.range_from.ensures.value)
 
 pub returns-in_default-clause-none : goal.returns-in_default-clause-none
@@ -19,7 +19,7 @@ returns-in_default-clause-none c =
     read_all _ _ _ now.0 now.1 now.3 c.utf8.text (subst IsUtf8 c.as_str-here.ensures c.as_str-here.utf8) _ c.chars.before now.2 c.in_default.ensures.steps.0.0
 
 pub class_in_place-requires : goal.class_in_place-requires
-class_in_place-requires c = readable _ c.keep_promise.ensures
+class_in_place-requires c = readable _ c.keep_promise.ensures.forming
 
 pub fact_in-rest : goal.fact_in-rest
 fact_in-rest c =
@@ -30,7 +30,7 @@ pub returns-in_default-class_in_place-clause-some : goal.returns-in_default-clas
 returns-in_default-class_in_place-clause-some c =
     let now = c.chars.invariant in
     let ahead = subst IsUtf8 c.as_str-here.ensures c.as_str-here.utf8 in
-    read_cut _ _ _ now.0 now.1 now.3 c.utf8.text ahead _ c.chars.before c.in-Some.c (chars (chars_rest c.next.new.self)) c.keep_promise.ensures now.2
+    read_cut _ _ _ now.0 now.1 now.3 c.utf8.text ahead _ _ c.chars.before c.in-Some.c (chars (chars_rest c.next.new.self)) c.keep_promise.ensures.forming c.keep_promise.ensures.low now.2
     (chars_past_char _ _ _ ahead c.in-Some.ensures.steps.0) c.in_default-class_in_place.ensures.none
 
 pub chars-preserved-then-class-eq0 : goal.chars-preserved-then-class-eq0
