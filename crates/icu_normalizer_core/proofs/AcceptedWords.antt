@@ -12,12 +12,13 @@ use Rattle.icu_normalizer_core.specs.CanonicalLists.{CanonicalLists, canonical_o
 use Rattle.icu_normalizer_core.specs.CanonicalWords.{is_word, states_list}
 use Rattle.icu_normalizer_core.specs.Compatibility.{IsUnbound, IsCompatibility, compatibility_of, fixed_list}
 use Rattle.icu_normalizer_core.specs.CompatibilityFaults.{AreAcceptedWords, is_good_word}
-use Rattle.icu_normalizer_core.specs.Words.{WordLists, full_in, class_in}
+use Rattle.icu_normalizer_core.specs.Words.{WordLists, full_in, class_in, is_inside_in}
 use Rattle.icu_normalizer_core.proofs.AcceptedForms.{scalar_stands}
 use Rattle.icu_normalizer_core.proofs.AcceptedPairs.{canonical}
 use Rattle.icu_normalizer_core.proofs.AcceptedTables.{list_stands, own_full, free_letter, free_single, full_left}
 use Rattle.icu_normalizer_core.proofs.BuiltInFacts.{low_free, free_full}
 use Rattle.icu_normalizer_core.proofs.FixedListLemmas.{fixed_low}
+use Rattle.icu_normalizer_core.proofs.FullListLemmas.{full_some}
 use Rattle.icu_normalizer_core.proofs.LeftLemmas.{left_double, left_one}
 
 module _ (lists : CanonicalLists) (words : WordLists) (a : IsAccepted lists) (w : AreAcceptedWords lists words) where
@@ -41,6 +42,11 @@ module _ (lists : CanonicalLists) (words : WordLists) (a : IsAccepted lists) (w 
   word_is c scalar =
       (and_parts (words.has_word c) (is_word c (words.word c))
       (and_parts (words.has_word c && is_word c (words.word c)) (class_in words c == class c) (good_word c scalar)).0).1
+
+  nonempty : (c : ℕ) → IsScalar c → 1 ≤ length (full c)
+  nonempty c scalar =
+      full_some words.scalars16 words.scalars24 c (words.word c)
+      (⊎_elim (λ t. t) (λ outside. absurd (w.full_lists c scalar (inl outside))) (cases_Bool (is_inside_in words c)))
 
   bounded : (c : ℕ) → IsScalar c → length (full c) ≤ 8
   bounded c scalar = ⊎_elim (λ over. absurd (w.full_lists c scalar (inr (inl over)))) (λ h. h) (cases_lt 8 (length (full c)))
@@ -99,6 +105,7 @@ module _ (lists : CanonicalLists) (words : WordLists) (a : IsAccepted lists) (w 
     class = λ c. refl;
     step = λ c. refl;
     pair = λ x y. refl;
+    nonempty = nonempty;
     bounded = bounded;
     scalars = word_scalars;
     own = item_own;

@@ -26,6 +26,7 @@ pub mod ReadingLemmas
 pub mod ScalarLemmas
 pub mod SettledLemmas
 pub mod SettlingLemmas
+pub mod SteadyCompatibilityLemmas
 pub mod SteadyLemmas
 pub mod TableComputing
 pub mod TableMeanings

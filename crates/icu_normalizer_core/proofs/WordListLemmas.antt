@@ -74,3 +74,7 @@ module _ (lists : CanonicalLists) (words : WordLists) (c : ℕ) (scalar : IsScal
   plain_good (inr (inr (inl other))) = other.2 (item_own other.0 (subst (λ (xs : List ℕ). Contains xs other.0) own_is other.1))
   plain_good (inr (inr (inr (inl begins)))) = let none : states_list 0 ≡ false = refl in false≢true (sym none ∙ ap (λ (w : ℕ). states_list w) (sym says_none) ∙ begins.1)
   plain_good (inr (inr (inr (inr other)))) = other (sym joined_is)
+
+  -- both words say that the character is its own full list
+  pub plain_same : full_in words c ≡ (canonical_of lists).full c
+  plain_same = own_is ∙ sym canonical_is

@@ -32,7 +32,8 @@ pub record IsCompatibility (canonical compatibility : Canonical) : Type 0 where
   pub class : (c : ℕ) → compatibility.class c ≡ canonical.class c
   pub step : (c : ℕ) → compatibility.step c ≡ canonical.step c
   pub pair : (a b : ℕ) → compatibility.pair a b ≡ canonical.pair a b
-  -- a full list has at most eight characters, and each is its own full list
+  -- a full list has one to eight characters, and each is its own full list
+  pub nonempty : (c : ℕ) → IsScalar c → 1 ≤ length (compatibility.full c)
   pub bounded : (c : ℕ) → IsScalar c → length (compatibility.full c) ≤ 8
   pub scalars : (c : ℕ) → IsScalar c → All IsScalar (compatibility.full c)
   pub own : (c d : ℕ) → IsScalar c → Contains (compatibility.full c) d → compatibility.full d ≡ d ∷ []

@@ -9,7 +9,7 @@ mod packing;
 mod pairs;
 mod reading;
 mod search;
-mod steady;
+pub(crate) mod steady;
 mod steps;
 pub(crate) mod tables;
 pub(crate) mod words;

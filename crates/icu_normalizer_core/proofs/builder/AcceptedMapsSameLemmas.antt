@@ -56,7 +56,7 @@ module _ (a b : Canonical) (alike : AreAlike a b) where
       ∙ else_same (cond (seen b) (b.pair starter c) None) (λ z. composing a z marks cs) (λ z. composing b z marks cs) _ _
       (λ z e. composing_same z marks cs (found_scalar (seen b) starter c z e) ms h.1) left_same
 
-  recomposed_same : (cs : List ℕ) → AreScalar cs → recomposed a cs ≡ recomposed b cs
+  pub recomposed_same : (cs : List ℕ) → AreScalar cs → recomposed a cs ≡ recomposed b cs
   unfolding recomposed
   recomposed_same [] h = refl
   recomposed_same (c ∷ cs) h =

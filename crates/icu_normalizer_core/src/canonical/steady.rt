@@ -12,7 +12,7 @@ pub(crate) struct SteadyCharacters {
 impl SteadyCharacters {
     /// Whether a character is known to be steady.
     #[inline]
-    pub(super) fn contains(&self, c: char) -> bool
+    pub(crate) fn contains(&self, c: char) -> bool
         ensures { IsTrue result ↔ SaysYes self.now.answers.items c }
     {
         says_yes(&self.answers, c as u32)

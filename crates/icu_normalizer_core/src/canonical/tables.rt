@@ -76,7 +76,7 @@ impl Error for CanonicalFault {}
 impl CanonicalTables<'_> {
     /// The words, with the lists that they name places in.
     #[inline]
-    pub(super) fn words(&self) -> Words<'_>
+    pub(crate) fn words(&self) -> Words<'_>
         ensures { word_lists result ≡ words_of (lists_of self.now) }
     {
         Words {

@@ -1,8 +1,9 @@
 //! Compatibility data, borrowed: what they say of each character. No call here takes memory.
 
-ghost use Rattle.std.specs.Prelude.{◌≡◌};
+ghost use Rattle.std.specs.Prelude.{◌≡◌, IsTrue};
 ghost use Rattle.icu_normalizer_core.specs.BorrowedCompatibility.{borrowed_compatibility, canonical_beneath, compatibility_tables};
 ghost use Rattle.icu_normalizer_core.specs.BorrowedMeaning.{borrowed_tables};
+ghost use Rattle.icu_normalizer_core.specs.Boundaries.{IsSteady};
 ghost use Rattle.icu_normalizer_core.specs.Canonical.{is_starter, IsCanonical};
 ghost use Rattle.icu_normalizer_core.specs.Compatibility.{IsCompatibility};
 ghost use Rattle.icu_normalizer_core.specs.Readings.{IsTold};
@@ -51,6 +52,16 @@ impl<'d> CompatibilityBorrowed<'d> {
         ensures { result ≡ is_starter (borrowed_compatibility self.now) c }
     {
         self.class(c) == 0
+    }
+
+    /// Whether one read tells that composing leaves a character alone, whatever stands before it: it is its own
+    /// composed list (NFKC), and its full list begins with a starter that is no pair's second (UAX 15). `false` says
+    /// nothing: it may come of such characters too, and comes of each from U+10000 on.
+    #[inline]
+    pub fn is_steady(&self, c: char) -> bool
+        ensures { IsTrue result → IsSteady (borrowed_compatibility self.now) c }
+    {
+        self.checked.is_steady(c)
     }
 
     /// What one read tells of a character: whether it is its own full list, and of which class, or the two

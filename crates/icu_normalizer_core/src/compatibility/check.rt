@@ -8,6 +8,7 @@ ghost use Rattle.icu_normalizer_core.specs.Words.{word_lists};
 
 mod fixed;
 mod lists;
+pub(super) mod steady;
 mod values;
 
 use crate::canonical::words::Words;

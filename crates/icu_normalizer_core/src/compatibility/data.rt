@@ -1,15 +1,18 @@
 //! Compatibility data: canonical data with compatibility tables that were checked.
 
-ghost use Rattle.std.specs.Prelude.{◌≡◌, MatchResult};
+ghost use Rattle.std.specs.Prelude.{◌≡◌, MatchResult, IsTrue};
+ghost use Rattle.icu_normalizer_core.specs.Boundaries.{IsSteady};
 ghost use Rattle.icu_normalizer_core.specs.BorrowedCompatibility.{compatibility_tables};
 ghost use Rattle.icu_normalizer_core.specs.CanonicalFaults.{IsAccepted};
 ghost use Rattle.icu_normalizer_core.specs.CanonicalMeaning.{lists_of};
 ghost use Rattle.icu_normalizer_core.specs.CompatibilityFaults.{AreAcceptedWords};
-ghost use Rattle.icu_normalizer_core.specs.CompatibilityMeaning.{nfkd_lists, IsWordRefusal};
+ghost use Rattle.icu_normalizer_core.specs.CompatibilityMeaning.{compatibility_meaning, nfkd_lists, IsWordRefusal};
 
 use super::borrowed::CompatibilityBorrowed;
 use super::check::first_fault;
+use super::check::steady::steady_characters;
 use super::tables::NfkdTables;
+use crate::canonical::steady::SteadyCharacters;
 use crate::canonical::{CanonicalData, CanonicalDataError};
 use std::alloc::Global;
 use std::marker::Model;
@@ -19,26 +22,32 @@ use std::marker::Model;
 pub struct CompatibilityData<'a> {
     canonical: CanonicalData<'a>,
     tables: NfkdTables<'a>,
+    steady: SteadyCharacters,
 }
 
 impl<'a> Model for CompatibilityData<'a> {
     ghost use Rattle.icu_normalizer_core.specs.CanonicalFaults.{IsAccepted};
     ghost use Rattle.icu_normalizer_core.specs.CanonicalMeaning.{lists_of};
+    ghost use Rattle.icu_normalizer_core.specs.Compatibility.{compatibility_of};
     ghost use Rattle.icu_normalizer_core.specs.CompatibilityFaults.{AreAcceptedWords};
     ghost use Rattle.icu_normalizer_core.specs.CompatibilityMeaning.{CompatibilityTables, nfkd_lists};
+    ghost use Rattle.icu_normalizer_core.specs.SteadyAnswers.{AreSteady};
 
     ghost Value = { CompatibilityTables };
 
     ghost view = { λ inside. record { canonical = inside.canonical; nfkd = inside.tables } };
 
-    ghost invariant = { λ inside. IsAccepted (lists_of inside.canonical) × AreAcceptedWords (lists_of inside.canonical) (nfkd_lists inside.tables) };
+    ghost invariant = { λ inside.
+        IsAccepted (lists_of inside.canonical)
+        × AreAcceptedWords (lists_of inside.canonical) (nfkd_lists inside.tables)
+        × AreSteady (compatibility_of (lists_of inside.canonical) (nfkd_lists inside.tables)) inside.steady.answers.items };
 }
 
 impl<'a> CompatibilityData<'a> {
-    /// Compatibility data from canonical data and tables, if these pass every check; the first fault otherwise. The check takes
-    /// no memory.
+    /// Compatibility data from canonical data and tables, if these pass every check; the first fault otherwise. Want of
+    /// memory can come with any tables.
     pub fn try_new(
-        _alloc: Global,
+        alloc: Global,
         canonical: CanonicalData<'a>,
         tables: NfkdTables<'a>,
     ) -> Result<CompatibilityData<'a>, CanonicalDataError>
@@ -47,7 +56,14 @@ impl<'a> CompatibilityData<'a> {
             (IsWordRefusal (lists_of canonical.entry) (nfkd_lists tables.entry)) }
     {
         match first_fault(canonical.tables(), tables.words()) {
-            None => Ok(CompatibilityData { canonical, tables }),
+            None => {
+                let steady = steady_characters(alloc, &canonical, tables.words())?;
+                Ok(CompatibilityData {
+                    canonical,
+                    tables,
+                    steady,
+                })
+            }
             Some(fault) => Err(CanonicalDataError::Fault(fault)),
         }
     }
@@ -75,5 +91,13 @@ impl<'a> CompatibilityData<'a> {
         ensures accepted { AreAcceptedWords (lists_of self.now.canonical) (nfkd_lists self.now.nfkd) }
     {
         &self.tables
+    }
+
+    /// Whether a character is known to be steady.
+    #[inline]
+    pub(super) fn is_steady(&self, c: char) -> bool
+        ensures { IsTrue result → IsSteady (compatibility_meaning self.now) c }
+    {
+        self.steady.contains(c)
     }
 }
