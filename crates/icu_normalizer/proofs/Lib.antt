@@ -1,6 +1,7 @@
 pub mod ClusterCutLemmas
 pub mod ClusterFormLemmas
 pub mod ClusterLemmas
+pub mod CompatibleLemmas
 pub mod ComposedCutLemmas
 pub mod ComposedWalkLemmas
 pub mod ComposerLemmas

@@ -2,29 +2,46 @@
 
 ghost use Rattle.std.specs.Prelude.{◌≡◌, IsTrue};
 ghost use Rattle.icu_normalizer_core.specs.Boundaries.{IsSteady};
+ghost use Rattle.icu_normalizer_core.specs.Canonical.{IsCanonical};
 ghost use Rattle.icu_normalizer_core.specs.Readings.{IsTold};
-ghost use Rattle.icu_normalizer.specs.FormData.{form_meaning, low_bound};
+ghost use Rattle.icu_normalizer.specs.FormData.{form_meaning, form_canonical, low_bound, IsSaidOver};
 ghost use Rattle.icu_normalizer.specs.Forming.{IsForming, AreLowBelow};
 
 use icu_normalizer_core::canonical::{CanonicalBorrowed, FullList, Reading};
+use icu_normalizer_core::compatibility::CompatibilityBorrowed;
 
 /// What a normal form is made by.
 #[derive(Clone, Copy, Debug)]
 pub(crate) enum FormData<'d> {
     /// Canonical data: NFD and NFC.
     Canonical(CanonicalBorrowed<'d>),
+    /// Compatibility data: NFKD and NFKC.
+    Compatibility(CompatibilityBorrowed<'d>),
 }
 
 impl<'d> FormData<'d> {
     /// The data keep what making a normal form rests on. It computes nothing.
     #[inline]
-    #[tactic(auto, using(crate::proofs::FormingLemmas::forming_canonical, crate::proofs::FormingLemmas::low_canonical))]
+    #[tactic(auto, using(crate::proofs::FormingLemmas::forming_canonical, crate::proofs::FormingLemmas::low_canonical, crate::proofs::CompatibleLemmas::forming_compatibility, crate::proofs::CompatibleLemmas::low_compatibility))]
     pub(crate) fn keep_promise(&self)
         ensures forming { IsForming (form_meaning self.now) }
         ensures low { AreLowBelow (low_bound self.now) (form_meaning self.now) }
     {
         match self {
             FormData::Canonical(canonical) => canonical.keep_promise(),
+            FormData::Compatibility(both) => both.keep_promise(),
+        }
+    }
+
+    /// The data keep what canonical data promise, and what compatibility data do. It computes nothing.
+    #[inline]
+    pub(crate) fn keep_promises(&self)
+        ensures canonical { IsCanonical (form_canonical self.now) }
+        ensures said { IsSaidOver (form_canonical self.now) (form_meaning self.now) }
+    {
+        match self {
+            FormData::Canonical(canonical) => canonical.keep_promise(),
+            FormData::Compatibility(both) => both.keep_promise(),
         }
     }
 
@@ -35,6 +52,7 @@ impl<'d> FormData<'d> {
     {
         match self {
             FormData::Canonical(canonical) => canonical.class(c),
+            FormData::Compatibility(both) => both.class(c),
         }
     }
 
@@ -45,6 +63,7 @@ impl<'d> FormData<'d> {
     {
         match self {
             FormData::Canonical(canonical) => canonical.is_steady(c),
+            FormData::Compatibility(both) => both.is_steady(c),
         }
     }
 
@@ -55,6 +74,7 @@ impl<'d> FormData<'d> {
     {
         match self {
             FormData::Canonical(canonical) => canonical.reading(c),
+            FormData::Compatibility(both) => both.reading(c),
         }
     }
 
@@ -65,6 +85,7 @@ impl<'d> FormData<'d> {
     {
         match self {
             FormData::Canonical(canonical) => canonical.compose(first, second),
+            FormData::Compatibility(both) => both.compose(first, second),
         }
     }
 
@@ -75,6 +96,7 @@ impl<'d> FormData<'d> {
     {
         match self {
             FormData::Canonical(canonical) => canonical.full_list(c),
+            FormData::Compatibility(both) => both.full_list(c),
         }
     }
 }

@@ -1,7 +1,7 @@
 //! Texts in NFC.
 
 ghost use Rattle.std.specs.Prelude.{◌≡◌, ◌++◌, OnOk, OnErr, chars, encode_utf8_all};
-ghost use Rattle.icu_normalizer.specs.FormData.{form_meaning};
+ghost use Rattle.icu_normalizer.specs.FormData.{form_meaning, IsSaidOver};
 ghost use Rattle.icu_normalizer_core.specs.BorrowedMeaning.{borrowed_meaning};
 ghost use Rattle.icu_normalizer_core.specs.Canonical.{IsCanonical, composed};
 ghost use Rattle.icu_normalizer.specs.Composing.{IsComposable};
@@ -27,24 +27,31 @@ pub struct ComposingNormalizerBorrowed<'d> {
 
 impl<'d> ComposingNormalizerBorrowed<'d> {
     ghost use Rattle.icu_normalizer.specs.ClusterForm.{form_data};
-    ghost use Rattle.icu_normalizer.specs.Normalizers.{composing_data};
+    ghost use Rattle.icu_normalizer.specs.Normalizers.{composing_data, composing_canonical};
 
     /// A normaliser over canonical data. It takes no memory.
     pub(crate) fn new_with_data(canonical: CanonicalBorrowed<'d>) -> ComposingNormalizerBorrowed<'d>
-        ensures { composing_data result ≡ borrowed_meaning canonical.entry }
+        ensures data { composing_data result ≡ borrowed_meaning canonical.entry }
+        ensures canonical { composing_canonical result ≡ borrowed_meaning canonical.entry }
     {
-        let basis = FormData::Canonical(canonical);
+        ComposingNormalizerBorrowed::over(FormData::Canonical(canonical))
+    }
+
+    /// The same, over data of either kind.
+    pub(super) fn over(basis: FormData<'d>) -> ComposingNormalizerBorrowed<'d>
+        ensures { result.basis ≡ basis.entry }
+    {
         basis.keep_promise();
         ComposingNormalizerBorrowed { basis }
     }
 
-    /// Its data keep what canonical data promise, which the laws ask for. It computes nothing.
+    /// Its data keep what canonical data promise, which the laws ask for, and what compatibility data do where it is over
+    /// these. It computes nothing.
     pub fn keep_promise(&self)
-        ensures { IsCanonical (composing_data self.now) }
+        ensures canonical { IsCanonical (composing_canonical self.now) }
+        ensures data { IsSaidOver (composing_canonical self.now) (composing_data self.now) }
     {
-        match self.basis {
-            FormData::Canonical(canonical) => canonical.keep_promise(),
-        }
+        self.basis.keep_promises();
     }
 
     /// Writes a text in NFC to a sink. After an error the sink holds what it held, and a prefix of the text in NFC.

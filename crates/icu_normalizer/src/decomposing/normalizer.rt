@@ -1,7 +1,7 @@
 //! Texts in NFD.
 
 ghost use Rattle.std.specs.Prelude.{◌≡◌, ◌++◌, OnOk, OnErr, chars, encode_utf8_all};
-ghost use Rattle.icu_normalizer.specs.FormData.{form_meaning};
+ghost use Rattle.icu_normalizer.specs.FormData.{form_meaning, IsSaidOver};
 ghost use Rattle.icu_normalizer_core.specs.BorrowedMeaning.{borrowed_meaning};
 ghost use Rattle.icu_normalizer_core.specs.Canonical.{IsCanonical, decomposed};
 ghost use Rattle.icu_normalizer.specs.Readable.{IsReadable};
@@ -23,25 +23,32 @@ pub struct DecomposingNormalizerBorrowed<'d> {
 }
 
 impl<'d> DecomposingNormalizerBorrowed<'d> {
-    ghost use Rattle.icu_normalizer.specs.Normalizers.{normalizer_data, normalizer_bound};
+    ghost use Rattle.icu_normalizer.specs.Normalizers.{normalizer_data, normalizer_canonical, normalizer_bound};
 
     /// A normaliser over canonical data. It takes no memory.
     pub fn new_with_data(canonical: CanonicalBorrowed<'d>) -> DecomposingNormalizerBorrowed<'d>
         ensures data { normalizer_data result ≡ borrowed_meaning canonical.entry }
+        ensures canonical { normalizer_canonical result ≡ borrowed_meaning canonical.entry }
         ensures bound { normalizer_bound result ≡ 0xc0 }
     {
-        let basis = FormData::Canonical(canonical);
+        DecomposingNormalizerBorrowed::over(FormData::Canonical(canonical))
+    }
+
+    /// The same, over data of either kind.
+    pub(super) fn over(basis: FormData<'d>) -> DecomposingNormalizerBorrowed<'d>
+        ensures { result.basis ≡ basis.entry }
+    {
         basis.keep_promise();
         DecomposingNormalizerBorrowed { basis }
     }
 
-    /// Its data keep what canonical data promise, which the laws ask for. It computes nothing.
+    /// Its data keep what canonical data promise, which the laws ask for, and what compatibility data do where it is over
+    /// these. It computes nothing.
     pub fn keep_promise(&self)
-        ensures { IsCanonical (normalizer_data self.now) }
+        ensures canonical { IsCanonical (normalizer_canonical self.now) }
+        ensures data { IsSaidOver (normalizer_canonical self.now) (normalizer_data self.now) }
     {
-        match self.basis {
-            FormData::Canonical(canonical) => canonical.keep_promise(),
-        }
+        self.basis.keep_promises();
     }
 
     /// Writes a text in NFD to a sink. After an error the sink holds what it held, and a prefix of the text in NFD.
