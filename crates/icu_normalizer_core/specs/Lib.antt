@@ -14,6 +14,7 @@ pub mod CanonicalWords
 pub mod CharacterWords
 pub mod Compatibility
 pub mod CompatibilityFaults
+pub mod CompatibilityLoading
 pub mod CompatibilityMeaning
 pub mod DataErrors
 pub mod Decoding

@@ -1,6 +1,8 @@
 -- What loading gives.
 use Rattle.std.specs.Prelude.{◌≡◌, ℕ, ◌⊎◌, List, Result, Ok, Err}
 use Rattle.icu_codepointtrie.specs.Places.{TrieTables}
+use Rattle.icu_normalizer_core.specs.declared.canonical.data.CanonicalDataError.{CanonicalDataError}
+use Rattle.icu_normalizer_core.specs.declared.canonical.data.CanonicalDataError.TheVariants.{Fault, Memory as NoMemory}
 use Rattle.icu_normalizer_core.specs.declared.canonical.tables.CanonicalTables.{CanonicalTables}
 use Rattle.icu_normalizer_core.specs.declared.provider.error.DataError.{DataError}
 use Rattle.icu_normalizer_core.specs.declared.provider.error.DataError.TheVariants.{Missing, Invalid, Canonical, Memory}
@@ -19,6 +21,11 @@ loaded (Ok trie) (Err refusal) pairs = Err refusal
 loaded (Ok trie) (Ok lists) (Err refusal) = Err refusal
 loaded (Ok trie) (Ok lists) (Ok pairs) =
     Ok (record { trie = trie; scalars16 = lists.scalars16; scalars24 = lists.scalars24; steps = lists.steps; pairs = pairs })
+
+-- why tables weren't made canonical data, as a reason why data can't be had
+abbrev pub refusal_of : CanonicalDataError → DataError
+refusal_of (Fault fault) = Canonical fault
+refusal_of NoMemory = Memory
 
 -- loaded tables are refused for their first fault
 abbrev pub IsRefusedFor : CanonicalTables → DataError → Type 0

@@ -1,4 +1,4 @@
-//! What canonical data are loaded from.
+//! What canonical and compatibility data are loaded from.
 
 ghost use Rattle.std.specs.Prelude.{ℕ, List, Result};
 ghost use Rattle.icu_codepointtrie.specs.Places.{TrieTables};
@@ -16,7 +16,7 @@ pub use error::{DataError, TableName};
 use icu_codepointtrie::CodePointTrie;
 use icu_packed_vector::PackedVec;
 pub use lists::{NfdLists, NfkdLists, Uts46Tables};
-pub use load::{load_canonical, load_canonical_data};
+pub use load::{load_canonical, load_canonical_data, load_compatibility_data};
 use std::alloc::Global;
 
 /// A source of tables. Each call gives one of them, not yet checked, or says why it can't be had: it is missing

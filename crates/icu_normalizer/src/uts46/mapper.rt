@@ -1,7 +1,7 @@
 //! Mappers of domain names, which hold their data.
 
-ghost use Rattle.std.specs.Prelude.{◌≡◌, Ok, MatchResult};
-ghost use Rattle.icu_normalizer_core.specs.Loading.{loaded, CheckedMemoryAside};
+ghost use Rattle.std.specs.Prelude.{◌≡◌, MatchResult};
+ghost use Rattle.icu_normalizer_core.specs.Loading.{loaded};
 ghost use Rattle.icu_normalizer_core.specs.declared.provider.error.DataError.TheVariants.{Invalid};
 ghost use Rattle.icu_normalizer_core.specs.declared.provider.error.TableName.TheVariants.{Uts46};
 ghost use Rattle.icu_normalizer.specs.Uts46.{IsMapperTable};
@@ -10,7 +10,7 @@ ghost use Rattle.icu_normalizer.specs.Uts46Texts.{borrowed_mapper};
 
 use super::borrowed::Uts46MapperBorrowed;
 use super::table::MapperTable;
-use icu_normalizer_core::canonical::{CanonicalData, CanonicalDataError, CanonicalTables};
+use icu_normalizer_core::canonical::CanonicalData;
 use icu_normalizer_core::provider::{
     DataError, NormalizerProvider, TableName, Uts46Tables, load_canonical,
 };
@@ -30,17 +30,6 @@ impl<'a> Model for Uts46Mapper<'a> {
     ghost Value = { MapperTables };
 
     ghost view = { λ inside. record { canonical = inside.canonical; mapping = inside.table } };
-}
-
-/// Canonical data of loaded tables, or their first fault.
-fn checked<'a>(alloc: Global, tables: CanonicalTables<'a>) -> Result<CanonicalData<'a>, DataError>
-    ensures { CheckedMemoryAside result (Ok tables.entry) }
-{
-    match CanonicalData::try_new(alloc, tables) {
-        Ok(data) => Ok(data),
-        Err(CanonicalDataError::Fault(fault)) => Err(DataError::Canonical(fault)),
-        Err(CanonicalDataError::Memory) => Err(DataError::Memory),
-    }
 }
 
 impl<'a> Uts46Mapper<'a> {
@@ -63,7 +52,7 @@ impl<'a> Uts46Mapper<'a> {
     {
         let tables = load_canonical(alloc, provider)?;
         let mapping = provider.load_uts46(alloc)?;
-        let canonical = checked(alloc, tables)?;
+        let canonical = CanonicalData::try_new(alloc, tables)?;
         Uts46Mapper::of_checked(canonical, mapping)
     }
 

@@ -1,6 +1,6 @@
 //! The names of tables, and why data can't be had.
 
-use crate::canonical::CanonicalFault;
+use crate::canonical::{CanonicalDataError, CanonicalFault};
 use std::alloc::AllocError;
 use std::error::Error;
 use std::fmt;
@@ -60,7 +60,7 @@ pub enum DataError {
     /// The provider has the table, but can't read it: its bytes end too early, say, or hold a value that is none of
     /// its type. Only the provider says so.
     Invalid(TableName),
-    /// The canonical tables were loaded, and `CanonicalData::try_new` refuses them for this fault.
+    /// The tables were loaded, and `CanonicalData::try_new` or `CompatibilityData::try_new` refuses them for this fault.
     Canonical(CanonicalFault),
     /// Memory was refused.
     Memory,
@@ -92,5 +92,19 @@ impl From<AllocError> for DataError {
 
     fn from(_refused: AllocError) -> DataError {
         DataError::Memory
+    }
+}
+
+impl From<CanonicalDataError> for DataError {
+    ghost use Rattle.std.specs.Prelude.{◌≡◌};
+    ghost use Rattle.icu_normalizer_core.specs.Loading.{refusal_of};
+
+    ghost from_gives = { λ refused error. error ≡ refusal_of refused };
+
+    fn from(refused: CanonicalDataError) -> DataError {
+        match refused {
+            CanonicalDataError::Fault(fault) => DataError::Canonical(fault),
+            CanonicalDataError::Memory => DataError::Memory,
+        }
     }
 }

@@ -1,9 +1,12 @@
-//! Canonical tables from a provider.
+//! Canonical and compatibility data from a provider.
 
+ghost use Rattle.std.specs.Prelude.{Ok};
+ghost use Rattle.icu_normalizer_core.specs.CompatibilityLoading.{loaded_words, loaded_both, BothCheckedMemoryAside};
 ghost use Rattle.icu_normalizer_core.specs.Loading.{MemoryAside, CheckedMemoryAside, loaded};
 
-use super::{DataError, NfdLists, NormalizerProvider};
-use crate::canonical::{CanonicalData, CanonicalDataError, CanonicalTables};
+use super::{DataError, NfdLists, NfkdLists, NormalizerProvider};
+use crate::canonical::{CanonicalData, CanonicalTables};
+use crate::compatibility::{CompatibilityData, NfkdTables};
 use std::alloc::Global;
 
 /// The canonical tables that a provider has, not yet checked. The first load that is refused is the answer.
@@ -38,9 +41,55 @@ pub fn load_canonical_data<P: NormalizerProvider>(
     ensures { CheckedMemoryAside result (loaded (P.nfd provider.now) (P.nfd_tables provider.now) (P.pairs provider.now)) }
 {
     let tables = load_canonical(alloc, provider)?;
-    match CanonicalData::try_new(alloc, tables) {
-        Ok(data) => Ok(data),
-        Err(CanonicalDataError::Fault(fault)) => Err(DataError::Canonical(fault)),
-        Err(CanonicalDataError::Memory) => Err(DataError::Memory),
-    }
+    let data = CanonicalData::try_new(alloc, tables)?;
+    Ok(data)
+}
+
+/// The compatibility tables that a provider has, not yet checked. The first load that is refused is the answer.
+fn load_words<P: NormalizerProvider>(
+    alloc: Global,
+    provider: &P,
+) -> Result<NfkdTables<'_>, DataError>
+    ensures { MemoryAside result (loaded_words (P.nfkd provider.now) (P.nfkd_tables provider.now)) }
+{
+    let trie = provider.load_nfkd(alloc)?;
+    let NfkdLists {
+        scalars16,
+        scalars24,
+    } = provider.load_nfkd_tables(alloc)?;
+    Ok(NfkdTables {
+        trie,
+        scalars16,
+        scalars24,
+    })
+}
+
+/// Compatibility data of tables, if both pass every check; else the first canonical fault, or the first of the others.
+fn checked<'a>(
+    alloc: Global,
+    canonical: CanonicalTables<'a>,
+    words: NfkdTables<'a>,
+) -> Result<CompatibilityData<'a>, DataError>
+    ensures { BothCheckedMemoryAside result (loaded_both (Ok canonical.entry) (Ok words.entry)) }
+{
+    let canonical = CanonicalData::try_new(alloc, canonical)?;
+    let data = CompatibilityData::try_new(alloc, canonical, words)?;
+    Ok(data)
+}
+
+/// The compatibility data that a provider has. The answer is the first refusal, if there is one: of `load_nfd`, of
+/// `load_nfd_tables`, of `load_pairs`, of `load_nfkd`, of `load_nfkd_tables`, then of `CanonicalData::try_new`, then of
+/// `CompatibilityData::try_new`.
+pub fn load_compatibility_data<P: NormalizerProvider>(
+    alloc: Global,
+    provider: &P,
+) -> Result<CompatibilityData<'_>, DataError>
+    ensures { BothCheckedMemoryAside result
+        (loaded_both
+        (loaded (P.nfd provider.now) (P.nfd_tables provider.now) (P.pairs provider.now))
+        (loaded_words (P.nfkd provider.now) (P.nfkd_tables provider.now))) }
+{
+    let canonical = load_canonical(alloc, provider)?;
+    let words = load_words(alloc, provider)?;
+    checked(alloc, canonical, words)
 }
