@@ -1,9 +1,8 @@
 -- What the data of a normal form say of characters.
-use Rattle.std.specs.Prelude.{◌≡◌, ℕ, ◌⊎◌}
+use Rattle.std.specs.Prelude.{ℕ}
 use Rattle.icu_normalizer_core.specs.BorrowedCompatibility.{borrowed_compatibility, canonical_beneath}
 use Rattle.icu_normalizer_core.specs.BorrowedMeaning.{borrowed_meaning}
 use Rattle.icu_normalizer_core.specs.Canonical.{Canonical}
-use Rattle.icu_normalizer_core.specs.Compatibility.{IsCompatibility}
 use Rattle.icu_normalizer.specs.declared.form_data.FormData.{FormData}
 use Rattle.icu_normalizer.specs.declared.form_data.FormData.TheVariants.{Canonical as OfCanonical, Compatibility as OfBoth}
 
@@ -21,7 +20,3 @@ form_canonical (OfBoth both) = canonical_beneath both
 abbrev pub low_bound : FormData → ℕ
 low_bound (OfCanonical canonical) = 0xc0
 low_bound (OfBoth both) = 0xa0
-
--- what is said is what canonical data say, or compatibility data over them
-abbrev pub IsSaidOver : Canonical → Canonical → Type 0
-IsSaidOver canonical said = (said ≡ canonical) ⊎ IsCompatibility canonical said

@@ -1,7 +1,8 @@
 -- What making a normal form rests on. Canonical data and compatibility data both keep it.
-use Rattle.std.specs.Prelude.{◌≡◌, ℕ, ◌<◌, ◌≤◌, List, [], ◌∷◌, ◌++◌, length, All, Contains, Some}
+use Rattle.std.specs.Prelude.{◌≡◌, ℕ, ◌<◌, ◌≤◌, ◌⊎◌, List, [], ◌∷◌, ◌++◌, length, All, Contains, Some}
 use Rattle.std.specs.Char.{IsScalar}
 use Rattle.icu_normalizer_core.specs.Canonical.{Canonical}
+use Rattle.icu_normalizer_core.specs.Compatibility.{IsCompatibility}
 
 pub record IsForming (said : Canonical) : Type 0 where
   -- a character below U+0300 is a starter, and its full list begins with one; one below U+00A0 stands for itself
@@ -22,3 +23,7 @@ pub record IsForming (said : Canonical) : Type 0 where
 pub record AreLowBelow (bound : ℕ) (said : Canonical) : Type 0 where
   pub within : bound ≤ 0x300
   pub itself : (c : ℕ) → c < bound → said.full c ≡ c ∷ []
+
+-- what is said is what canonical data say, or compatibility data over them
+abbrev pub IsSaidOver : Canonical → Canonical → Type 0
+IsSaidOver canonical said = (said ≡ canonical) ⊎ IsCompatibility canonical said

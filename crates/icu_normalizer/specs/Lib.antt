@@ -10,6 +10,7 @@ pub mod Forming
 pub mod Iter
 pub mod Marks
 pub mod Normalizers
+pub mod NormalizerTables
 pub mod Readable
 pub mod Run
 pub mod Sinks

@@ -4,11 +4,14 @@ ghost use Rattle.std.specs.Prelude.{◌≡◌, IsTrue};
 ghost use Rattle.icu_normalizer_core.specs.Boundaries.{IsSteady};
 ghost use Rattle.icu_normalizer_core.specs.Canonical.{IsCanonical};
 ghost use Rattle.icu_normalizer_core.specs.Readings.{IsTold};
-ghost use Rattle.icu_normalizer.specs.FormData.{form_meaning, form_canonical, low_bound, IsSaidOver};
-ghost use Rattle.icu_normalizer.specs.Forming.{IsForming, AreLowBelow};
+ghost use Rattle.icu_normalizer.specs.FormData.{form_meaning, form_canonical, low_bound};
+ghost use Rattle.icu_normalizer.specs.Forming.{IsForming, AreLowBelow, IsSaidOver};
+
+mod owned;
 
 use icu_normalizer_core::canonical::{CanonicalBorrowed, FullList, Reading};
 use icu_normalizer_core::compatibility::CompatibilityBorrowed;
+pub(crate) use owned::OwnedData;
 
 /// What a normal form is made by.
 #[derive(Clone, Copy, Debug)]

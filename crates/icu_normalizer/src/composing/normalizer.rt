@@ -1,23 +1,25 @@
-//! Texts in NFC.
+//! Texts in NFC, or in NFKC.
 
-ghost use Rattle.std.specs.Prelude.{◌≡◌, ◌++◌, OnOk, OnErr, chars, encode_utf8_all};
-ghost use Rattle.icu_normalizer.specs.FormData.{form_meaning, IsSaidOver};
-ghost use Rattle.icu_normalizer_core.specs.BorrowedMeaning.{borrowed_meaning};
+ghost use Rattle.std.specs.Prelude.{◌≡◌, ℕ, ◌*◌, List, ◌++◌, OnOk, OnErr, chars, encode_utf8_all};
+ghost use Rattle.std.specs.Iterator.{IsFinite, size};
 ghost use Rattle.icu_normalizer_core.specs.Canonical.{IsCanonical, composed};
 ghost use Rattle.icu_normalizer.specs.Composing.{IsComposable};
+ghost use Rattle.icu_normalizer.specs.FormData.{form_meaning};
+ghost use Rattle.icu_normalizer.specs.Forming.{IsSaidOver};
+ghost use Rattle.icu_normalizer.specs.Iter.{Spells};
 ghost use Rattle.icu_normalizer.specs.Readable.{IsReadable};
 ghost use Rattle.icu_normalizer.specs.Sinks.{AddsPrefix, EndsByFailure};
 
 mod splits;
 
+use super::Composition;
 use super::cluster_form::ClusterForm;
 use super::clusters::{first_cluster, split_apart};
 use crate::form_data::FormData;
 use crate::sinks::{NormError, TextSink};
-use icu_normalizer_core::canonical::CanonicalBorrowed;
 use std::alloc::Global;
 
-/// A normaliser to NFC (UAX 15), borrowed.
+/// A normaliser to NFC or NFKC (UAX 15), borrowed. What its calls say of NFC is said of NFKC where it is one to NFKC.
 #[derive(Clone, Copy, Debug)]
 pub struct ComposingNormalizerBorrowed<'d> {
     basis: FormData<'d>,
@@ -27,17 +29,10 @@ pub struct ComposingNormalizerBorrowed<'d> {
 
 impl<'d> ComposingNormalizerBorrowed<'d> {
     ghost use Rattle.icu_normalizer.specs.ClusterForm.{form_data};
+    ghost use Rattle.icu_normalizer.specs.Compositions.{ComposesTo, CanCompose, composition_size};
     ghost use Rattle.icu_normalizer.specs.Normalizers.{composing_data, composing_canonical};
 
-    /// A normaliser over canonical data. It takes no memory.
-    pub(crate) fn new_with_data(canonical: CanonicalBorrowed<'d>) -> ComposingNormalizerBorrowed<'d>
-        ensures data { composing_data result ≡ borrowed_meaning canonical.entry }
-        ensures canonical { composing_canonical result ≡ borrowed_meaning canonical.entry }
-    {
-        ComposingNormalizerBorrowed::over(FormData::Canonical(canonical))
-    }
-
-    /// The same, over data of either kind.
+    /// A normaliser over these data. It takes no memory.
     pub(super) fn over(basis: FormData<'d>) -> ComposingNormalizerBorrowed<'d>
         ensures { result.basis ≡ basis.entry }
     {
@@ -52,6 +47,20 @@ impl<'d> ComposingNormalizerBorrowed<'d> {
         ensures data { IsSaidOver (composing_canonical self.now) (composing_data self.now) }
     {
         self.basis.keep_promises();
+    }
+
+    /// The characters of `chars` in NFC, in order. Memory is taken for long runs of marks alone; where it is refused, that
+    /// error comes once and nothing after it.
+    pub fn normalize_iter<I: Iterator<Item = char> + Drop>(
+        &self,
+        alloc: Global,
+        chars: I,
+    ) -> Composition<'d, I>
+        ensures text { (cs : List ℕ) → Spells I.next_gives chars cs → ComposesTo I.next_gives result (composed (composing_data self.now) cs) }
+        ensures ready { I.can_next chars → IsFinite (I.remaining chars) → CanCompose I.can_next I.remaining result }
+        ensures size { composition_size I.remaining result ≡ 8 * size (I.remaining chars) }
+    {
+        Composition::over(alloc, self.basis, chars)
     }
 
     /// Writes a text in NFC to a sink. After an error the sink holds what it held, and a prefix of the text in NFC.

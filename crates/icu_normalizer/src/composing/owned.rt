@@ -1,48 +1,74 @@
-//! Normalisers to NFC that hold their data.
+//! Normalisers to NFC and NFKC that hold their data.
 
 ghost use Rattle.std.specs.Prelude.{◌≡◌};
 ghost use Rattle.icu_normalizer_core.specs.CanonicalMeaning.{meaning};
-ghost use Rattle.icu_normalizer_core.specs.Loading.{loaded, CheckedMemoryAside};
+ghost use Rattle.icu_normalizer_core.specs.CompatibilityLoading.{loaded_both, loaded_words};
+ghost use Rattle.icu_normalizer_core.specs.Loading.{loaded};
+ghost use Rattle.icu_normalizer.specs.NormalizerTables.{tables_meaning, IsMadeOfCanonical, IsMadeOfBoth};
 
 use super::ComposingNormalizerBorrowed;
-use icu_normalizer_core::canonical::CanonicalData;
-use icu_normalizer_core::provider::{DataError, NormalizerProvider, load_canonical_data};
+use crate::form_data::OwnedData;
+use icu_normalizer_core::provider::{
+    DataError, NormalizerProvider, load_canonical_data, load_compatibility_data,
+};
 use std::alloc::Global;
 use std::marker::Model;
 
-/// A normaliser to NFC (UAX 15). It is seen as the canonical tables that it reads.
+/// A normaliser to NFC or NFKC (UAX 15). It is seen as the tables that it reads: canonical ones, and to NFKC
+/// compatibility ones too.
 #[derive(Debug, Drop)]
 pub struct ComposingNormalizer<'a> {
-    canonical: CanonicalData<'a>,
+    data: OwnedData<'a>,
 }
 
 impl<'a> Model for ComposingNormalizer<'a> {
-    ghost use Rattle.icu_normalizer_core.specs.declared.canonical.tables.CanonicalTables.{CanonicalTables};
+    ghost use Rattle.icu_normalizer.specs.NormalizerTables.{NormalizerTables, tables_of};
 
-    ghost Value = { CanonicalTables };
+    ghost Value = { NormalizerTables };
 
-    ghost view = { λ inside. inside.canonical };
+    ghost view = { λ inside. tables_of inside.data };
 }
 
 impl<'a> ComposingNormalizer<'a> {
-    ghost use Rattle.icu_normalizer.specs.Normalizers.{composing_data};
+    ghost use Rattle.icu_normalizer.specs.Normalizers.{composing_data, composing_canonical};
 
-    /// A normaliser over a provider's tables. The answer is the first refusal, if there is one: of `load_nfd`, of
+    /// A normaliser to NFC over a provider's tables. The answer is the first refusal, if there is one: of `load_nfd`, of
     /// `load_nfd_tables`, of `load_pairs`, then of `CanonicalData::try_new`.
     pub fn try_new_nfc_unstable<P: NormalizerProvider>(
         alloc: Global,
         provider: &'a P,
     ) -> Result<ComposingNormalizer<'a>, DataError>
-        ensures { CheckedMemoryAside result (loaded (P.nfd provider.now) (P.nfd_tables provider.now) (P.pairs provider.now)) }
+        ensures { IsMadeOfCanonical result (loaded (P.nfd provider.now) (P.nfd_tables provider.now) (P.pairs provider.now)) }
     {
         let canonical = load_canonical_data(alloc, provider)?;
-        Ok(ComposingNormalizer { canonical })
+        Ok(ComposingNormalizer {
+            data: OwnedData::Canonical(canonical),
+        })
+    }
+
+    /// A normaliser to NFKC over a provider's tables. The answer is the first refusal, if there is one: of `load_nfd`, of
+    /// `load_nfd_tables`, of `load_pairs`, of `load_nfkd`, of `load_nfkd_tables`, then of `CanonicalData::try_new`, then of
+    /// `CompatibilityData::try_new`.
+    pub fn try_new_nfkc_unstable<P: NormalizerProvider>(
+        alloc: Global,
+        provider: &'a P,
+    ) -> Result<ComposingNormalizer<'a>, DataError>
+        ensures { IsMadeOfBoth result
+            (loaded_both
+            (loaded (P.nfd provider.now) (P.nfd_tables provider.now) (P.pairs provider.now))
+            (loaded_words (P.nfkd provider.now) (P.nfkd_tables provider.now))) }
+    {
+        let both = load_compatibility_data(alloc, provider)?;
+        Ok(ComposingNormalizer {
+            data: OwnedData::Compatibility(both),
+        })
     }
 
     /// The same, borrowed: that has the calls.
     pub fn as_borrowed(&self) -> ComposingNormalizerBorrowed<'_>
-        ensures { composing_data result ≡ meaning self.now }
+        ensures data { composing_data result ≡ tables_meaning self.now }
+        ensures canonical { composing_canonical result ≡ meaning self.now.canonical }
     {
-        ComposingNormalizerBorrowed::new_with_data(self.canonical.as_borrowed())
+        ComposingNormalizerBorrowed::over(self.data.as_form_data())
     }
 }

@@ -1,21 +1,25 @@
-//! Texts in NFD.
+//! Texts in NFD, or in NFKD.
 
-ghost use Rattle.std.specs.Prelude.{◌≡◌, ◌++◌, OnOk, OnErr, chars, encode_utf8_all};
-ghost use Rattle.icu_normalizer.specs.FormData.{form_meaning, IsSaidOver};
+ghost use Rattle.std.specs.Prelude.{◌≡◌, ℕ, ◌*◌, List, ◌++◌, OnOk, OnErr, chars, encode_utf8_all};
+ghost use Rattle.std.specs.Iterator.{IsFinite, size};
 ghost use Rattle.icu_normalizer_core.specs.BorrowedMeaning.{borrowed_meaning};
 ghost use Rattle.icu_normalizer_core.specs.Canonical.{IsCanonical, decomposed};
+ghost use Rattle.icu_normalizer.specs.FormData.{form_meaning};
+ghost use Rattle.icu_normalizer.specs.Forming.{IsSaidOver};
+ghost use Rattle.icu_normalizer.specs.Iter.{Spells};
 ghost use Rattle.icu_normalizer.specs.Readable.{IsReadable};
 ghost use Rattle.icu_normalizer.specs.Sinks.{AddsPrefix, EndsByFailure};
 
 mod splits;
 
+use super::Decomposition;
 use super::writer::Writer;
 use crate::form_data::FormData;
 use crate::sinks::{NormError, TextSink};
 use icu_normalizer_core::canonical::CanonicalBorrowed;
 use std::alloc::Global;
 
-/// A normaliser to NFD (UAX 15), borrowed.
+/// A normaliser to NFD or NFKD (UAX 15), borrowed. What its calls say of NFD is said of NFKD where it is one to NFKD.
 #[derive(Clone, Copy, Debug)]
 pub struct DecomposingNormalizerBorrowed<'d> {
     basis: FormData<'d>,
@@ -23,9 +27,10 @@ pub struct DecomposingNormalizerBorrowed<'d> {
 }
 
 impl<'d> DecomposingNormalizerBorrowed<'d> {
+    ghost use Rattle.icu_normalizer.specs.Decompositions.{DecomposesTo, CanDecompose, decomposition_size};
     ghost use Rattle.icu_normalizer.specs.Normalizers.{normalizer_data, normalizer_canonical, normalizer_bound};
 
-    /// A normaliser over canonical data. It takes no memory.
+    /// A normaliser to NFD, over canonical data. It takes no memory.
     pub fn new_with_data(canonical: CanonicalBorrowed<'d>) -> DecomposingNormalizerBorrowed<'d>
         ensures data { normalizer_data result ≡ borrowed_meaning canonical.entry }
         ensures canonical { normalizer_canonical result ≡ borrowed_meaning canonical.entry }
@@ -49,6 +54,20 @@ impl<'d> DecomposingNormalizerBorrowed<'d> {
         ensures data { IsSaidOver (normalizer_canonical self.now) (normalizer_data self.now) }
     {
         self.basis.keep_promises();
+    }
+
+    /// The characters of `chars` in NFD, in order. Memory is taken for long runs of marks alone; where it is refused, that
+    /// error comes once and nothing after it.
+    pub fn normalize_iter<I: Iterator<Item = char> + Drop>(
+        &self,
+        alloc: Global,
+        chars: I,
+    ) -> Decomposition<'d, I>
+        ensures text { (cs : List ℕ) → Spells I.next_gives chars cs → DecomposesTo I.next_gives result (decomposed (normalizer_data self.now) cs) }
+        ensures ready { I.can_next chars → IsFinite (I.remaining chars) → CanDecompose I.can_next I.remaining result }
+        ensures size { decomposition_size I.remaining result ≡ 8 * size (I.remaining chars) }
+    {
+        Decomposition::over(alloc, self.basis, chars)
     }
 
     /// Writes a text in NFD to a sink. After an error the sink holds what it held, and a prefix of the text in NFD.

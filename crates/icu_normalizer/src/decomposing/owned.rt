@@ -1,48 +1,75 @@
-//! Normalisers to NFD that hold their data.
+//! Normalisers to NFD and NFKD that hold their data.
 
 ghost use Rattle.std.specs.Prelude.{◌≡◌};
 ghost use Rattle.icu_normalizer_core.specs.CanonicalMeaning.{meaning};
-ghost use Rattle.icu_normalizer_core.specs.Loading.{loaded, CheckedMemoryAside};
+ghost use Rattle.icu_normalizer_core.specs.CompatibilityLoading.{loaded_both, loaded_words};
+ghost use Rattle.icu_normalizer_core.specs.Loading.{loaded};
+ghost use Rattle.icu_normalizer.specs.NormalizerTables.{tables_meaning, tables_bound, IsMadeOfCanonical, IsMadeOfBoth};
 
 use super::DecomposingNormalizerBorrowed;
-use icu_normalizer_core::canonical::CanonicalData;
-use icu_normalizer_core::provider::{DataError, NormalizerProvider, load_canonical_data};
+use crate::form_data::OwnedData;
+use icu_normalizer_core::provider::{
+    DataError, NormalizerProvider, load_canonical_data, load_compatibility_data,
+};
 use std::alloc::Global;
 use std::marker::Model;
 
-/// A normaliser to NFD (UAX 15). It is seen as the canonical tables that it reads.
+/// A normaliser to NFD or NFKD (UAX 15). It is seen as the tables that it reads: canonical ones, and to NFKD
+/// compatibility ones too.
 #[derive(Debug, Drop)]
 pub struct DecomposingNormalizer<'a> {
-    canonical: CanonicalData<'a>,
+    data: OwnedData<'a>,
 }
 
 impl<'a> Model for DecomposingNormalizer<'a> {
-    ghost use Rattle.icu_normalizer_core.specs.declared.canonical.tables.CanonicalTables.{CanonicalTables};
+    ghost use Rattle.icu_normalizer.specs.NormalizerTables.{NormalizerTables, tables_of};
 
-    ghost Value = { CanonicalTables };
+    ghost Value = { NormalizerTables };
 
-    ghost view = { λ inside. inside.canonical };
+    ghost view = { λ inside. tables_of inside.data };
 }
 
 impl<'a> DecomposingNormalizer<'a> {
-    ghost use Rattle.icu_normalizer.specs.Normalizers.{normalizer_data};
+    ghost use Rattle.icu_normalizer.specs.Normalizers.{normalizer_data, normalizer_canonical, normalizer_bound};
 
-    /// A normaliser over a provider's tables. The answer is the first refusal, if there is one: of `load_nfd`, of
+    /// A normaliser to NFD over a provider's tables. The answer is the first refusal, if there is one: of `load_nfd`, of
     /// `load_nfd_tables`, of `load_pairs`, then of `CanonicalData::try_new`.
     pub fn try_new_nfd_unstable<P: NormalizerProvider>(
         alloc: Global,
         provider: &'a P,
     ) -> Result<DecomposingNormalizer<'a>, DataError>
-        ensures { CheckedMemoryAside result (loaded (P.nfd provider.now) (P.nfd_tables provider.now) (P.pairs provider.now)) }
+        ensures { IsMadeOfCanonical result (loaded (P.nfd provider.now) (P.nfd_tables provider.now) (P.pairs provider.now)) }
     {
         let canonical = load_canonical_data(alloc, provider)?;
-        Ok(DecomposingNormalizer { canonical })
+        Ok(DecomposingNormalizer {
+            data: OwnedData::Canonical(canonical),
+        })
+    }
+
+    /// A normaliser to NFKD over a provider's tables. The answer is the first refusal, if there is one: of `load_nfd`, of
+    /// `load_nfd_tables`, of `load_pairs`, of `load_nfkd`, of `load_nfkd_tables`, then of `CanonicalData::try_new`, then of
+    /// `CompatibilityData::try_new`.
+    pub fn try_new_nfkd_unstable<P: NormalizerProvider>(
+        alloc: Global,
+        provider: &'a P,
+    ) -> Result<DecomposingNormalizer<'a>, DataError>
+        ensures { IsMadeOfBoth result
+            (loaded_both
+            (loaded (P.nfd provider.now) (P.nfd_tables provider.now) (P.pairs provider.now))
+            (loaded_words (P.nfkd provider.now) (P.nfkd_tables provider.now))) }
+    {
+        let both = load_compatibility_data(alloc, provider)?;
+        Ok(DecomposingNormalizer {
+            data: OwnedData::Compatibility(both),
+        })
     }
 
     /// The same, borrowed: that has the calls.
     pub fn as_borrowed(&self) -> DecomposingNormalizerBorrowed<'_>
-        ensures { normalizer_data result ≡ meaning self.now }
+        ensures data { normalizer_data result ≡ tables_meaning self.now }
+        ensures canonical { normalizer_canonical result ≡ meaning self.now.canonical }
+        ensures bound { normalizer_bound result ≡ tables_bound self.now }
     {
-        DecomposingNormalizerBorrowed::new_with_data(self.canonical.as_borrowed())
+        DecomposingNormalizerBorrowed::over(self.data.as_form_data())
     }
 }
