@@ -11,6 +11,7 @@ pub mod CutLemmas
 pub mod equivalence
 pub mod FormCutLemmas
 pub mod FormingLemmas
+pub mod FormLawLemmas
 pub mod IterLemmas
 pub mod MappedLemmas
 pub mod OwnLemmas

@@ -7,6 +7,7 @@ ghost use Rattle.std.specs.Prelude.{◌≡◌, ℕ, ◌↔◌, All, List, chars}
 ghost use Rattle.std.specs.Str.{IsUtf8};
 ghost use Rattle.icu_normalizer_core.specs.Canonical.{Canonical, IsCanonical, IsDecomposing, composed, decomposed};
 ghost use Rattle.icu_normalizer.specs.Equivalence.{IsEquivalent};
+ghost use Rattle.icu_normalizer.specs.Forming.{IsSaidOver};
 ghost use Rattle.icu_normalizer.specs.FormCuts.{IsComposed};
 ghost use Rattle.icu_normalizer.specs.Splits.{IsDecomposed};
 ghost use Rattle.icu_normalizer.specs.TextForms.{composed_text, decomposed_text};
@@ -77,4 +78,31 @@ pub fn forms_of_texts_are_normalized()
         → IsDecomposed canonical (chars (decomposed_text canonical text)) }
     ensures composed { (canonical : Canonical) (text : List ℕ) → IsCanonical canonical → IsUtf8 text
         → IsComposed canonical (chars (composed_text canonical text)) }
+{}
+
+/// The same of the normal forms by compatibility data, NFKD and NFKC, too. What a normaliser's data say, and what the
+/// canonical data beneath do, its `keep_promise` tells.
+#[tactic(auto, using(crate::proofs::FormLawLemmas::over_decomposed_twice, crate::proofs::FormLawLemmas::over_decomposed_composed, crate::proofs::FormLawLemmas::over_composed_decomposed, crate::proofs::FormLawLemmas::over_composed_twice))]
+pub fn forms_of_data_stay()
+    ensures decomposed_twice { (canonical said : Canonical) (xs : List ℕ) → IsCanonical canonical → IsSaidOver canonical said → All IsScalar xs
+        → decomposed said (decomposed said xs) ≡ decomposed said xs }
+    ensures decomposed_then_composed { (canonical said : Canonical) (xs : List ℕ) → IsCanonical canonical → IsSaidOver canonical said → All IsScalar xs
+        → composed said (decomposed said xs) ≡ composed said xs }
+    ensures composed_then_decomposed { (canonical said : Canonical) (xs : List ℕ) → IsCanonical canonical → IsSaidOver canonical said → All IsScalar xs
+        → decomposed said (composed said xs) ≡ decomposed said xs }
+    ensures composed_twice { (canonical said : Canonical) (xs : List ℕ) → IsCanonical canonical → IsSaidOver canonical said → All IsScalar xs
+        → composed said (composed said xs) ≡ composed said xs }
+{}
+
+/// The same of the normal forms of texts.
+#[tactic(auto, using(crate::proofs::FormLawLemmas::over_text_decomposed_twice, crate::proofs::FormLawLemmas::over_text_decomposed_composed, crate::proofs::FormLawLemmas::over_text_composed_decomposed, crate::proofs::FormLawLemmas::over_text_composed_twice))]
+pub fn forms_of_texts_by_data_stay()
+    ensures decomposed_twice { (canonical said : Canonical) (text : List ℕ) → IsCanonical canonical → IsSaidOver canonical said → IsUtf8 text
+        → decomposed_text said (decomposed_text said text) ≡ decomposed_text said text }
+    ensures decomposed_then_composed { (canonical said : Canonical) (text : List ℕ) → IsCanonical canonical → IsSaidOver canonical said → IsUtf8 text
+        → composed_text said (decomposed_text said text) ≡ composed_text said text }
+    ensures composed_then_decomposed { (canonical said : Canonical) (text : List ℕ) → IsCanonical canonical → IsSaidOver canonical said → IsUtf8 text
+        → decomposed_text said (composed_text said text) ≡ decomposed_text said text }
+    ensures composed_twice { (canonical said : Canonical) (text : List ℕ) → IsCanonical canonical → IsSaidOver canonical said → IsUtf8 text
+        → composed_text said (composed_text said text) ≡ composed_text said text }
 {}

@@ -1,30 +1,30 @@
 -- Normal forms: they are lists of scalar values and their own normal forms, and equivalent texts are those with one of them.
-use Rattle.std.proofs.Common.{◌≡◌, ℕ, cond, ltb, List, [], ◌∷◌, ◌++◌, sym, ap, ◌∙◌, None}
+use Rattle.std.proofs.Common.{◌≡◌, ℕ, cond, ltb, List, [], ◌∷◌, ◌++◌, sym, ap, ◌∙◌, Some, None}
 use Rattle.std.specs.Prelude.{◌↔◌, All}
 use Rattle.std.specs.List.{list_all}
 use Rattle.std.specs.Char.{IsScalar}
 use Rattle.std.proofs.lemmas.Bool.{cond_both}
 use Rattle.std.proofs.lemmas.List.Elements.{recursion_from_All, All-from_recursion}
-use Rattle.icu_normalizer_core.specs.Canonical.{Canonical, IsCanonical, IsDecomposing, IsComposing, is_starter, decomposed, composing, recomposed, composed}
+use Rattle.icu_normalizer_core.specs.Canonical.{Canonical, IsCanonical, IsDecomposing, is_starter, decomposed, composing, recomposed, composed}
 use Rattle.icu_normalizer.specs.Equivalence.{IsEquivalent}
 use Rattle.icu_normalizer_core.proofs.DecomposedLemmas.{AreScalar, all_append, decomposed_all_scalars, decomposed_scalars}
 use Rattle.icu_normalizer.proofs.equivalence.EquivalenceLemmas.{decomposed_equivalent, decomposed_one, equivalent_one}
 use Rattle.icu_normalizer.proofs.equivalence.ComposedLemmas.{either_way, where_seen, composed_equivalent}
 
 -- composing scalar values makes scalar values
-composing_scalars : (canonical : Canonical) (s : ℕ) (ms cs : List ℕ) → IsComposing canonical → IsScalar s → AreScalar ms → AreScalar cs
+composing_scalars : (canonical : Canonical) (s : ℕ) (ms cs : List ℕ) → ((a b z : ℕ) → canonical.pair a b ≡ Some z → IsScalar z) → IsScalar s → AreScalar ms → AreScalar cs
     → AreScalar (composing canonical s ms cs)
 unfolding composing
 composing_scalars canonical s ms [] d h hm hs = (h, hm)
 composing_scalars canonical s ms (c ∷ cs) d h hm hs =
     let is_seen = list_all (λ m. ltb (canonical.class m) (canonical.class c)) ms
     in either_way (cond is_seen (canonical.pair s c) None) (λ z. composing canonical z ms cs) _ AreScalar
-    (λ z e. composing_scalars canonical z ms cs d (d.scalars s c z (where_seen is_seen (canonical.pair s c) z e).1) hm hs.1)
+    (λ z e. composing_scalars canonical z ms cs d (d s c z (where_seen is_seen (canonical.pair s c) z e).1) hm hs.1)
     (cond_both (is_starter canonical c) ((s ∷ ms) ++ composing canonical c [] cs) (composing canonical s (ms ++ c ∷ []) cs) AreScalar
     (λ _. all_append IsScalar (s ∷ ms) (composing canonical c [] cs) (h, hm) (composing_scalars canonical c [] cs d hs.0 tt hs.1))
     (λ _. composing_scalars canonical s (ms ++ c ∷ []) cs d h (all_append IsScalar ms (c ∷ []) hm (hs.0, tt)) hs.1))
 
-recomposed_scalars : (canonical : Canonical) (cs : List ℕ) → IsComposing canonical → AreScalar cs → AreScalar (recomposed canonical cs)
+pub recomposed_scalars : (canonical : Canonical) (cs : List ℕ) → ((a b z : ℕ) → canonical.pair a b ≡ Some z → IsScalar z) → AreScalar cs → AreScalar (recomposed canonical cs)
 unfolding recomposed
 recomposed_scalars canonical [] d hs = tt
 recomposed_scalars canonical (c ∷ cs) d hs =
@@ -36,7 +36,7 @@ pub composed_scalars : (canonical : Canonical) (xs : List ℕ) → IsCanonical c
 unfolding composed
 composed_scalars canonical xs d s =
     All-from_recursion IsScalar (recomposed canonical (decomposed canonical xs))
-    (recomposed_scalars canonical (decomposed canonical xs) d.composing (decomposed_scalars canonical xs d.decomposing (recursion_from_All IsScalar xs s)))
+    (recomposed_scalars canonical (decomposed canonical xs) d.composing.scalars (decomposed_scalars canonical xs d.decomposing (recursion_from_All IsScalar xs s)))
 
 -- each normal form of a normal form is that of the text
 pub decomposed_twice : (canonical : Canonical) (xs : List ℕ) → IsDecomposing canonical → All IsScalar xs

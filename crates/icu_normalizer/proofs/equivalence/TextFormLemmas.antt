@@ -40,7 +40,7 @@ same_written cs ds s t = (ap encode_utf8_all, λ e. sym (written_chars cs s) ∙
 -- ---- forms of texts
 
 -- a form of a text that was written goes by the list
-form_written : (form : List ℕ → List ℕ) (cs ds : List ℕ) → All IsScalar cs → form cs ≡ ds → form (chars (encode_utf8_all cs)) ≡ ds
+pub form_written : (form : List ℕ → List ℕ) (cs ds : List ℕ) → All IsScalar cs → form cs ≡ ds → form (chars (encode_utf8_all cs)) ≡ ds
 form_written form cs ds s e = ap form (written_chars cs s) ∙ e
 
 module _ (canonical : Canonical) (text : List ℕ) (u : IsUtf8 text) where
