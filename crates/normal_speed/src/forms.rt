@@ -5,187 +5,128 @@ use icu_normalizer::decomposing::{DecomposingNormalizer, DecomposingNormalizerBo
 use icu_normalizer_core::provider::load_canonical_data;
 use icu_normalizer_core_tests::held::Held;
 use std::alloc::Global;
+use std::borrow::CowStr;
 
-/// How many bytes the NFC of a text has; or if it is asked, 1 for a text that is its own.
-fn number_nfc(
-    alloc: Global,
-    form: ComposingNormalizerBorrowed<'_>,
-    text: &str,
-    asks: bool,
-) -> Option<usize> {
-    if asks {
-        return Some(usize::from(form.is_normalized(alloc, text).ok()?));
-    }
-    let normal = form.normalize(alloc, text).ok()?;
-    Some(normal.as_str().len())
-}
-
-/// The same of NFD.
-fn number_nfd(
-    alloc: Global,
-    form: DecomposingNormalizerBorrowed<'_>,
-    text: &str,
-    asks: bool,
-) -> Option<usize> {
-    if asks {
-        return Some(usize::from(form.is_normalized(text)));
-    }
-    let normal = form.normalize(alloc, text).ok()?;
-    Some(normal.as_str().len())
-}
-
-/// The sum of these numbers over the texts, round by round.
-fn sum_nfc(
-    alloc: Global,
-    form: ComposingNormalizerBorrowed<'_>,
-    texts: &[&str],
-    rounds: u32,
-    asks: bool,
-) -> Option<usize> {
-    let mut sum: usize = 0;
-    for _round in 0..rounds {
-        for text in texts {
-            sum = sum.wrapping_add(number_nfc(alloc, form, text, asks)?);
-        }
-    }
-    Some(sum)
-}
-
-/// The same of NFD.
-fn sum_nfd(
-    alloc: Global,
-    form: DecomposingNormalizerBorrowed<'_>,
-    texts: &[&str],
-    rounds: u32,
-    asks: bool,
-) -> Option<usize> {
-    let mut sum: usize = 0;
-    for _round in 0..rounds {
-        for text in texts {
-            sum = sum.wrapping_add(number_nfd(alloc, form, text, asks)?);
-        }
-    }
-    Some(sum)
-}
-
-/// The sum for NFC over the data of a provider.
-pub fn number_composed(
-    alloc: Global,
-    provider: &Held<'_>,
-    texts: &[&str],
-    rounds: u32,
-    asks: bool,
-) -> Option<usize> {
-    match ComposingNormalizer::try_new_nfc_unstable(alloc, provider) {
-        Ok(owned) => sum_nfc(alloc, owned.as_borrowed(), texts, rounds, asks),
-        Err(_) => None,
-    }
-}
-
-/// The same for NFD.
-pub fn number_decomposed(
-    alloc: Global,
-    provider: &Held<'_>,
-    texts: &[&str],
-    rounds: u32,
-    asks: bool,
-) -> Option<usize> {
-    match DecomposingNormalizer::try_new_nfd_unstable(alloc, provider) {
-        Ok(owned) => sum_nfd(alloc, owned.as_borrowed(), texts, rounds, asks),
-        Err(_) => None,
-    }
-}
-
-/// Prints the NFC of each text, a line each, and says how many there are.
-fn show_nfc(
-    rt: &HostRuntime,
-    form: ComposingNormalizerBorrowed<'_>,
-    texts: &[&str],
-) -> Option<usize> {
-    for text in texts {
-        let normal = form.normalize(rt.alloc(), text).ok()?;
-        println!(rt; "{}", normal.as_str()).ok()?;
-    }
-    Some(texts.len())
-}
-
-/// Prints the NFD of each text.
-fn show_nfd(
-    rt: &HostRuntime,
-    form: DecomposingNormalizerBorrowed<'_>,
-    texts: &[&str],
-) -> Option<usize> {
-    for text in texts {
-        let normal = form.normalize(rt.alloc(), text).ok()?;
-        println!(rt; "{}", normal.as_str()).ok()?;
-    }
-    Some(texts.len())
-}
-
-/// Prints the two parts of each text that is split for NFC, with a bar between them.
-fn show_split_nfc(
-    rt: &HostRuntime,
-    form: ComposingNormalizerBorrowed<'_>,
-    texts: &[&str],
-) -> Option<usize> {
-    for text in texts {
-        let (prefix, rest) = form.split_normalized(rt.alloc(), text).ok()?;
-        println!(rt; "{prefix}|{rest}").ok()?;
-    }
-    Some(texts.len())
-}
-
-/// Prints the two parts of each text that is split for NFD.
-fn show_split_nfd(
-    rt: &HostRuntime,
-    form: DecomposingNormalizerBorrowed<'_>,
-    texts: &[&str],
-) -> Option<usize> {
-    for text in texts {
-        let (prefix, rest) = form.split_normalized(text);
-        println!(rt; "{prefix}|{rest}").ok()?;
-    }
-    Some(texts.len())
-}
-
-/// What is printed of each text.
+/// What is done with each text.
 #[derive(Clone, Copy)]
-pub enum Shown {
-    /// The form.
+pub enum Action {
+    /// The bytes of its form are numbered.
     Form,
-    /// The two parts of the text.
-    Parts,
+    /// It is asked whether it is its own form, and numbered where it is.
+    Ask,
+    /// Its form is printed.
+    Show,
+    /// The two parts that it is split in are printed, with a bar between them.
+    Split,
 }
 
-/// Prints the NFC of each text, or its parts, by the data of a provider.
-pub fn show_composed(
-    rt: &HostRuntime,
-    provider: &Held<'_>,
-    texts: &[&str],
-    shown: Shown,
-) -> Option<usize> {
-    match ComposingNormalizer::try_new_nfc_unstable(rt.alloc(), provider) {
-        Ok(owned) => match shown {
-            Shown::Form => show_nfc(rt, owned.as_borrowed(), texts),
-            Shown::Parts => show_split_nfc(rt, owned.as_borrowed(), texts),
-        },
-        Err(_) => None,
+/// A normal form.
+#[derive(Clone, Copy)]
+enum Form<'d> {
+    Composed(ComposingNormalizerBorrowed<'d>),
+    Decomposed(DecomposingNormalizerBorrowed<'d>),
+}
+
+impl Form<'_> {
+    /// The form of a text.
+    fn normalize<'t>(self, alloc: Global, text: &'t str) -> Option<CowStr<'t>> {
+        match self {
+            Form::Composed(form) => form.normalize(alloc, text).ok(),
+            Form::Decomposed(form) => form.normalize(alloc, text).ok(),
+        }
+    }
+
+    /// Whether a text is its own form.
+    fn is_normalized(self, alloc: Global, text: &str) -> Option<bool> {
+        match self {
+            Form::Composed(form) => form.is_normalized(alloc, text).ok(),
+            Form::Decomposed(form) => Some(form.is_normalized(text)),
+        }
+    }
+
+    /// The two parts that a text is split in.
+    fn split_normalized<'t>(self, alloc: Global, text: &'t str) -> Option<(&'t str, &'t str)> {
+        match self {
+            Form::Composed(form) => form.split_normalized(alloc, text).ok(),
+            Form::Decomposed(form) => Some(form.split_normalized(text)),
+        }
+    }
+
+    /// How many bytes the form of a text has; or if it is asked, 1 for a text that is its own.
+    fn number(self, alloc: Global, text: &str, asks: bool) -> Option<usize> {
+        if asks {
+            return Some(usize::from(self.is_normalized(alloc, text)?));
+        }
+        let normal = self.normalize(alloc, text)?;
+        Some(normal.as_str().len())
+    }
+
+    /// The sum of these numbers over the texts.
+    fn sum(self, alloc: Global, texts: &[&str], asks: bool) -> Option<usize> {
+        let mut sum: usize = 0;
+        for text in texts {
+            sum = sum.wrapping_add(self.number(alloc, text, asks)?);
+        }
+        Some(sum)
+    }
+
+    /// The same, round by round.
+    fn sum_rounds(self, alloc: Global, texts: &[&str], rounds: u32, asks: bool) -> Option<usize> {
+        let mut sum: usize = 0;
+        for _round in 0..rounds {
+            sum = sum.wrapping_add(self.sum(alloc, texts, asks)?);
+        }
+        Some(sum)
+    }
+
+    /// Prints the form of each text, a line each, and says how many there are.
+    fn show(self, rt: &HostRuntime, texts: &[&str]) -> Option<usize> {
+        for text in texts {
+            let normal = self.normalize(rt.alloc(), text)?;
+            println!(rt; "{}", normal.as_str()).ok()?;
+        }
+        Some(texts.len())
+    }
+
+    /// The same of the two parts of each text.
+    fn show_split(self, rt: &HostRuntime, texts: &[&str]) -> Option<usize> {
+        for text in texts {
+            let (prefix, rest) = self.split_normalized(rt.alloc(), text)?;
+            println!(rt; "{prefix}|{rest}").ok()?;
+        }
+        Some(texts.len())
+    }
+
+    /// Does this with each text.
+    fn act(self, rt: &HostRuntime, action: Action, texts: &[&str], rounds: u32) -> Option<usize> {
+        match action {
+            Action::Form => self.sum_rounds(rt.alloc(), texts, rounds, false),
+            Action::Ask => self.sum_rounds(rt.alloc(), texts, rounds, true),
+            Action::Show => self.show(rt, texts),
+            Action::Split => self.show_split(rt, texts),
+        }
     }
 }
 
-/// The same for NFD.
-pub fn show_decomposed(
+/// Does this with each text, by the form of this name over the data of a provider; `None` where there is no such form.
+pub fn run_form(
     rt: &HostRuntime,
     provider: &Held<'_>,
+    name: &str,
+    action: Action,
     texts: &[&str],
-    shown: Shown,
+    rounds: u32,
 ) -> Option<usize> {
-    match DecomposingNormalizer::try_new_nfd_unstable(rt.alloc(), provider) {
-        Ok(owned) => match shown {
-            Shown::Form => show_nfd(rt, owned.as_borrowed(), texts),
-            Shown::Parts => show_split_nfd(rt, owned.as_borrowed(), texts),
-        },
-        Err(_) => None,
+    match name {
+        "nfc" => {
+            let owned = ComposingNormalizer::try_new_nfc_unstable(rt.alloc(), provider).ok()?;
+            Form::Composed(owned.as_borrowed()).act(rt, action, texts, rounds)
+        }
+        "nfd" => {
+            let owned = DecomposingNormalizer::try_new_nfd_unstable(rt.alloc(), provider).ok()?;
+            Form::Decomposed(owned.as_borrowed()).act(rt, action, texts, rounds)
+        }
+        _ => None,
     }
 }
 

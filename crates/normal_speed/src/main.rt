@@ -7,7 +7,7 @@
 mod data;
 mod forms;
 
-use forms::{Shown, load_all, number_composed, number_decomposed, show_composed, show_decomposed};
+use forms::{Action, load_all, run_form};
 use icu_normalizer_core_tests::held::Held;
 use std::{env, fs, io};
 
@@ -20,6 +20,19 @@ fn words(rt: &HostRuntime) -> io::Result<Vec<String>> {
     Ok(words)
 }
 
+/// What is done with each text, and the name of the form that it is done by.
+fn action(task: &str) -> (Action, &str) {
+    if let Some(form) = task.strip_prefix("is_") {
+        (Action::Ask, form)
+    } else if let Some(form) = task.strip_prefix("show_") {
+        (Action::Show, form)
+    } else if let Some(form) = task.strip_prefix("split_") {
+        (Action::Split, form)
+    } else {
+        (Action::Form, task)
+    }
+}
+
 /// What a task says of the texts of a file, or prints of them.
 fn run(
     rt: &HostRuntime,
@@ -29,18 +42,12 @@ fn run(
     rounds: u32,
 ) -> Option<usize> {
     let alloc = rt.alloc();
-    let texts: Vec<&str> = texts.lines().collect(alloc).ok()?;
-    match task {
-        "nfc" => number_composed(alloc, provider, &texts, rounds, false),
-        "is_nfc" => number_composed(alloc, provider, &texts, rounds, true),
-        "nfd" => number_decomposed(alloc, provider, &texts, rounds, false),
-        "is_nfd" => number_decomposed(alloc, provider, &texts, rounds, true),
-        "show_nfc" => show_composed(rt, provider, &texts, Shown::Form),
-        "split_nfc" => show_composed(rt, provider, &texts, Shown::Parts),
-        "show_nfd" => show_decomposed(rt, provider, &texts, Shown::Form),
-        "split_nfd" => show_decomposed(rt, provider, &texts, Shown::Parts),
-        _ => load_all(alloc, provider, rounds),
+    if task == "try_new" {
+        return load_all(alloc, provider, rounds);
     }
+    let texts: Vec<&str> = texts.lines().collect(alloc).ok()?;
+    let (action, form) = action(task);
+    run_form(rt, provider, form, action, &texts, rounds)
 }
 
 /// Does what the words say: records file, texts file, task, rounds.
