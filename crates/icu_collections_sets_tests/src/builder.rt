@@ -3,11 +3,6 @@ use icu_collections_sets::codepointinvlist::{
     CodePointInversionList, CodePointInversionListBuilder,
 };
 use std::alloc::{AllocError, Global};
-use std::test::Fail;
-
-fn list_of(alloc: Global, builder: &CodePointInversionListBuilder) -> Result<Vec<u32>, AllocError> {
-    builder.build(alloc)?.get_inversion_list_vec(alloc)
-}
 
 /// Whether a builder's set has these ends.
 fn has_edges(
@@ -15,22 +10,28 @@ fn has_edges(
     builder: &CodePointInversionListBuilder,
     edges: &[u32],
 ) -> Result<bool, AllocError> {
-    Ok(list_of(alloc, builder)?.as_slice() == edges)
+    let list = builder.build(alloc)?.get_inversion_list_vec(alloc)?;
+    Ok(list.as_slice() == edges)
 }
 
-fn two_ranges(alloc: Global) -> Result<CodePointInversionListBuilder, AllocError> {
+/// A builder that was given these ranges.
+fn builder_of(
+    alloc: Global,
+    ranges: &[(u32, u32)],
+) -> Result<CodePointInversionListBuilder, AllocError> {
     let mut builder = CodePointInversionListBuilder::new(alloc);
-    builder.add_range32(0x0A..=0x13)?;
-    builder.add_range32(0x28..=0x31)?;
+    for (first, last) in ranges {
+        builder.add_range32(*first..=*last)?;
+    }
     Ok(builder)
 }
 
+fn two_ranges(alloc: Global) -> Result<CodePointInversionListBuilder, AllocError> {
+    builder_of(alloc, &[(0x0A, 0x13), (0x28, 0x31)])
+}
+
 fn six_edges(alloc: Global) -> Result<CodePointInversionList<'static>, AllocError> {
-    let mut builder = CodePointInversionListBuilder::new(alloc);
-    builder.add_range32(0x05..=0x09)?;
-    builder.add_range32(0x16..=0x20)?;
-    builder.add_range32(0x2C..=0x32)?;
-    builder.build(alloc)
+    builder_of(alloc, &[(0x05, 0x09), (0x16, 0x20), (0x2C, 0x32)])?.build(alloc)
 }
 
 /// What a builder is edited by: the set of six ends, a character, a code point, or a range of them.
@@ -184,38 +185,46 @@ const EDITS: &[(Edit, Part, &[u32])] = &[
     (Edit::Complement, Part::Range32(0x14, 0x27), &[0x0A, 0x32]),
 ];
 
-#[test]
-fn edits_of_builders(rt: HostRuntime) -> Result<(), Fail> {
-    for (edit, part, edges) in EDITS {
-        assert!(rt; comes_to(rt.alloc(), *edit, *part, edges)?, "{edges:?}");
+/// The number of the first edit that comes to other ends.
+fn first_wrong_edit(alloc: Global) -> Option<usize> {
+    for (number, (edit, part, edges)) in EDITS.iter().enumerate() {
+        if comes_to(alloc, *edit, *part, edges) != Ok(true) {
+            return Some(number);
+        }
     }
-    Ok(())
+    None
+}
+
+#[test]
+fn edits_of_builders(rt: HostRuntime) {
+    assert_eq!(rt; first_wrong_edit(rt.alloc()), None);
 }
 
 /// Whether a new builder is empty, and its set has no end.
-fn starts_empty(alloc: Global) -> Result<bool, AllocError> {
+fn starts_empty(alloc: Global) -> bool {
     let empty = CodePointInversionListBuilder::new(alloc);
-    Ok(empty.is_empty() && has_edges(alloc, &empty, &[])?)
+    empty.is_empty() && has_edges(alloc, &empty, &[]) == Ok(true)
+}
+
+/// Whether the builder of two ranges has their ends.
+fn has_two_ranges(alloc: Global) -> Result<bool, AllocError> {
+    has_edges(alloc, &two_ranges(alloc)?, &[0x0A, 0x14, 0x28, 0x32])
 }
 
 #[test]
-fn ok_build(rt: HostRuntime) -> Result<(), Fail> {
-    assert!(rt; starts_empty(rt.alloc())?);
-    let builder = two_ranges(rt.alloc())?;
-    assert!(rt; has_edges(rt.alloc(), &builder, &[0x0A, 0x14, 0x28, 0x32])?);
-    Ok(())
+fn ok_build(rt: HostRuntime) {
+    assert!(rt; starts_empty(rt.alloc()));
+    assert!(rt; has_two_ranges(rt.alloc()) == Ok(true));
 }
 
-#[test]
-fn ok_complement(rt: HostRuntime) -> Result<(), Fail> {
-    let mut builder = two_ranges(rt.alloc())?;
+/// Whether it has those of the rest after `complement`.
+fn is_complemented(alloc: Global) -> Result<bool, AllocError> {
+    let mut builder = two_ranges(alloc)?;
     builder.complement()?;
-    assert!(rt;
-        has_edges(
-            rt.alloc(),
-            &builder,
-            &[0, 0x0A, 0x14, 0x28, 0x32, 0x11_0000]
-        )?
-    );
-    Ok(())
+    has_edges(alloc, &builder, &[0, 0x0A, 0x14, 0x28, 0x32, 0x11_0000])
+}
+
+#[test]
+fn ok_complement(rt: HostRuntime) {
+    assert!(rt; is_complemented(rt.alloc()) == Ok(true));
 }

@@ -4,7 +4,6 @@ use icu_collections_sets::codepointinvliststringlist::{
     CodePointInversionListAndStringList, InvalidStringList,
 };
 use std::alloc::{AllocError, Global};
-use std::test::Fail;
 
 fn strings_of(alloc: Global, texts: &[&str]) -> Result<Vec<String>, AllocError> {
     let mut strings = Vec::new(alloc);
@@ -19,10 +18,20 @@ fn refusal(alloc: Global, texts: &[&str]) -> Result<Option<InvalidStringList>, A
     Ok(CodePointInversionListAndStringList::try_from(CodePointInversionList::all(), strings).err())
 }
 
-fn printed(alloc: Global, texts: &[&str]) -> Result<String, AllocError> {
-    match refusal(alloc, texts)? {
-        None => String::from_str(alloc, "none"),
-        Some(fault) => format!(in alloc; "{fault}"),
+/// Whether a refusal is shown as this.
+fn is_shown(alloc: Global, fault: &InvalidStringList, text: &str) -> bool {
+    match format!(in alloc; "{fault}") {
+        Ok(shown) => shown.as_str() == text,
+        Err(_) => false,
+    }
+}
+
+/// Whether what these texts are refused for is shown as this, `none` where they are not refused.
+fn is_refused_as(alloc: Global, texts: &[&str], text: &str) -> bool {
+    match refusal(alloc, texts) {
+        Ok(None) => text == "none",
+        Ok(Some(fault)) => is_shown(alloc, &fault, text),
+        Err(_) => false,
     }
 }
 
@@ -36,15 +45,19 @@ const REFUSED: &[(&[&str], &str)] = &[
     (&["éa", "b2"], "not sorted: éa, b2"),
 ];
 
-#[test]
-fn refused_strings(rt: HostRuntime) -> Result<(), Fail> {
-    for (texts, expected) in REFUSED {
-        assert!(rt;
-            printed(rt.alloc(), texts)?.as_str() == *expected,
-            "{expected}"
-        );
+/// The number of the first row that is refused otherwise.
+fn first_refused_otherwise(alloc: Global) -> Option<usize> {
+    for (number, (texts, expected)) in REFUSED.iter().enumerate() {
+        if !is_refused_as(alloc, texts, expected) {
+            return Some(number);
+        }
     }
-    Ok(())
+    None
+}
+
+#[test]
+fn refused_strings(rt: HostRuntime) {
+    assert_eq!(rt; first_refused_otherwise(rt.alloc()), None);
 }
 
 /// Whether the set holds each of these texts, or none of them.
@@ -66,10 +79,9 @@ fn tells_apart(set: &CodePointInversionListAndStringList<'_>, held: u32, other: 
 fn with_strings(
     alloc: Global,
     texts: &[&str],
-) -> Result<Option<CodePointInversionListAndStringList<'static>>, AllocError> {
-    let strings = strings_of(alloc, texts)?;
-    let list = CodePointInversionList::bmp();
-    Ok(CodePointInversionListAndStringList::try_from(list, strings).ok())
+) -> Option<CodePointInversionListAndStringList<'static>> {
+    let strings = strings_of(alloc, texts).ok()?;
+    CodePointInversionListAndStringList::try_from(CodePointInversionList::bmp(), strings).ok()
 }
 
 /// Whether the set has so many members and so many strings.
@@ -86,81 +98,97 @@ fn is_of_four(set: &CodePointInversionListAndStringList<'_>) -> bool {
         && tells_apart(set, 0xD800, 0x1_0000)
 }
 
-#[test]
-fn sets_with_strings(rt: HostRuntime) -> Result<(), Fail> {
-    let set = with_strings(rt.alloc(), &["", "ab", "b2", "éa"])?.ok_or("no set")?;
-    assert!(rt; is_of_four(&set));
-    Ok(())
-}
-
-/// Whether a set is equal to its copy.
-fn is_copied(
-    alloc: Global,
-    set: &CodePointInversionListAndStringList<'_>,
-) -> Result<bool, AllocError> {
-    Ok(set.clone(alloc)? == *set)
-}
-
-/// Whether two sets are equal.
-fn are_equal(
-    first: &CodePointInversionListAndStringList<'_>,
-    second: &CodePointInversionListAndStringList<'_>,
-) -> bool {
-    *first == *second
-}
-
-#[test]
-fn copies_of_sets_with_strings(rt: HostRuntime) -> Result<(), Fail> {
-    let set = with_strings(rt.alloc(), &["ab", "éa"])?.ok_or("no set")?;
-    assert!(rt; is_copied(rt.alloc(), &set)?);
-    Ok(())
-}
-
-/// Whether a set is not equal to the one with these strings.
-fn differs(
-    alloc: Global,
-    set: &CodePointInversionListAndStringList<'_>,
-    texts: &[&str],
-) -> Result<bool, AllocError> {
-    match with_strings(alloc, texts)? {
-        None => Ok(false),
-        Some(other) => Ok(!are_equal(&other, set)),
+/// Whether the set with four strings is made.
+fn makes_four(alloc: Global) -> bool {
+    match with_strings(alloc, &["", "ab", "b2", "éa"]) {
+        Some(set) => is_of_four(&set),
+        None => false,
     }
 }
 
 #[test]
-fn sets_with_other_strings(rt: HostRuntime) -> Result<(), Fail> {
-    let set = with_strings(rt.alloc(), &["ab", "éa"])?.ok_or("no set")?;
-    assert!(rt; differs(rt.alloc(), &set, &[])?);
-    Ok(())
+fn sets_with_strings(rt: HostRuntime) {
+    assert!(rt; makes_four(rt.alloc()));
+}
+
+/// Whether a set is equal to its copy.
+fn is_copied(alloc: Global, set: &CodePointInversionListAndStringList<'_>) -> bool {
+    match set.clone(alloc) {
+        Ok(copy) => copy == *set,
+        Err(_) => false,
+    }
+}
+
+/// Whether the set with these strings is.
+fn strings_are_copied(alloc: Global, texts: &[&str]) -> bool {
+    match with_strings(alloc, texts) {
+        Some(set) => is_copied(alloc, &set),
+        None => false,
+    }
+}
+
+#[test]
+fn copies_of_sets_with_strings(rt: HostRuntime) {
+    assert!(rt; strings_are_copied(rt.alloc(), &["ab", "éa"]));
+}
+
+/// Whether the set with these strings is another than a set.
+fn differs_from(
+    alloc: Global,
+    set: &CodePointInversionListAndStringList<'_>,
+    texts: &[&str],
+) -> bool {
+    match with_strings(alloc, texts) {
+        Some(other) => !(other == *set),
+        None => false,
+    }
+}
+
+/// Whether the sets with these strings and with those are made, and are two.
+fn differ(alloc: Global, texts: &[&str], others: &[&str]) -> bool {
+    match with_strings(alloc, texts) {
+        Some(set) => differs_from(alloc, &set, others),
+        None => false,
+    }
+}
+
+#[test]
+fn sets_with_other_strings(rt: HostRuntime) {
+    assert!(rt; differ(rt.alloc(), &["ab", "éa"], &[]));
 }
 
 /// Whether a string alone is refused by its length.
-fn is_of_bad_length(alloc: Global, text: &str) -> Result<bool, AllocError> {
-    let string = String::from_str(alloc, text)?;
-    Ok(refusal(alloc, &[text])? == Some(InvalidStringList::InvalidStringLength(string)))
+fn is_of_bad_length(alloc: Global, text: &str) -> bool {
+    match refusal(alloc, &[text]) {
+        Ok(Some(InvalidStringList::InvalidStringLength(string))) => string.as_str() == text,
+        _ => false,
+    }
 }
 
 #[test]
-fn a_string_of_one_character(rt: HostRuntime) -> Result<(), Fail> {
-    assert!(rt; is_of_bad_length(rt.alloc(), "x")?);
-    Ok(())
+fn a_string_of_one_character(rt: HostRuntime) {
+    assert!(rt; is_of_bad_length(rt.alloc(), "x"));
 }
 
 /// Whether a set prints as this text.
-fn prints(
-    alloc: Global,
-    set: &CodePointInversionListAndStringList<'_>,
-    text: &str,
-) -> Result<bool, AllocError> {
-    Ok(format!(in alloc; "{set:?}")?.as_str() == text)
+fn prints(alloc: Global, set: &CodePointInversionListAndStringList<'_>, text: &str) -> bool {
+    match format!(in alloc; "{set:?}") {
+        Ok(printed) => printed.as_str() == text,
+        Err(_) => false,
+    }
+}
+
+/// Whether the set with these strings does.
+fn strings_print(alloc: Global, texts: &[&str], text: &str) -> bool {
+    match with_strings(alloc, texts) {
+        Some(set) => prints(alloc, &set, text),
+        None => false,
+    }
 }
 
 #[test]
-fn what_sets_with_strings_print(rt: HostRuntime) -> Result<(), Fail> {
+fn what_sets_with_strings_print(rt: HostRuntime) {
     let text =
         "CodePointInversionListAndStringList { code_points: CodePointInversionList { edges: [0, 65536] }, strings: [\"ab\"] }";
-    let set = with_strings(rt.alloc(), &["ab"])?.ok_or("no set")?;
-    assert!(rt; prints(rt.alloc(), &set, text)?);
-    Ok(())
+    assert!(rt; strings_print(rt.alloc(), &["ab"], text));
 }

@@ -6,8 +6,7 @@ use icu_collections_sets::codepointinvlist::CodePointInversionList;
 use icu_collections_sets::codepointinvliststringlist::CodePointInversionListAndStringList;
 use icu_collections_sets::json::JsonError;
 use serde_json::Value;
-use std::alloc::{AllocError, Global};
-use std::test::Fail;
+use std::alloc::Global;
 
 /// A set of code points through JSON.
 fn reread(
@@ -16,8 +15,10 @@ fn reread(
 ) -> Result<CodePointInversionList<'static>, JsonError>
     ensures { MatchResult result (λ again. again ≡ set.now) (λ error. error ≡ Memory) }
 {
-    let value = set.to_json(alloc)?;
-    CodePointInversionList::from_json(alloc, &value)
+    match set.to_json(alloc) {
+        Ok(value) => CodePointInversionList::from_json(alloc, &value),
+        Err(_) => Err(JsonError::Memory),
+    }
 }
 
 /// A set of code points and strings through JSON.
@@ -27,28 +28,41 @@ fn reread_string_list(
 ) -> Result<CodePointInversionListAndStringList<'static>, JsonError>
     ensures { MatchResult result (λ again. again ≡ set.now) (λ error. error ≡ Memory) }
 {
-    let value = set.to_json(alloc)?;
-    CodePointInversionListAndStringList::from_json(alloc, &value)
+    match set.to_json(alloc) {
+        Ok(value) => CodePointInversionListAndStringList::from_json(alloc, &value),
+        Err(_) => Err(JsonError::Memory),
+    }
 }
 
-/// The value as JSON text, or why it is none.
-fn compact(alloc: Global, list: &[u32]) -> Result<String, JsonError> {
-    let Ok(set) = CodePointInversionList::try_from_u32_inversion_list_slice(alloc, list) else {
-        return Err(JsonError::Memory);
-    };
-    let again = reread(alloc, &set)?;
-    let value = again.to_json(alloc)?;
-    Ok(value.to_string(alloc)?)
+/// Whether a value is written as this text.
+fn is_written(alloc: Global, value: &Value, text: &str) -> bool {
+    match value.to_string(alloc) {
+        Ok(written) => written.as_str() == text,
+        Err(_) => false,
+    }
 }
 
-/// The inversion list of a value, or the text of its refusal.
-fn read(alloc: Global, value: &Value) -> Result<String, AllocError> {
-    match CodePointInversionList::from_json(alloc, value) {
-        Ok(set) => {
-            let edges = set.get_inversion_list_vec(alloc)?;
-            format!(in alloc; "{edges:?}")
-        }
-        Err(error) => format!(in alloc; "{error}"),
+/// Whether the value of a set is.
+fn set_is_written(alloc: Global, set: &CodePointInversionList<'_>, text: &str) -> bool {
+    match set.to_json(alloc) {
+        Ok(value) => is_written(alloc, &value, text),
+        Err(_) => false,
+    }
+}
+
+/// Whether that of a set that went through JSON is.
+fn reread_is_written(alloc: Global, set: &CodePointInversionList<'_>, text: &str) -> bool {
+    match reread(alloc, set) {
+        Ok(again) => set_is_written(alloc, &again, text),
+        Err(_) => false,
+    }
+}
+
+/// Whether that of the set of a list is.
+fn list_is_written(alloc: Global, list: &[u32], text: &str) -> bool {
+    match CodePointInversionList::try_from_u32_inversion_list_slice(alloc, list) {
+        Ok(set) => reread_is_written(alloc, &set, text),
+        Err(_) => false,
     }
 }
 
@@ -62,23 +76,69 @@ const WRITTEN: &[(&[u32], &str)] = &[
     ),
 ];
 
-#[test]
-fn ok_to_json(rt: HostRuntime) -> Result<(), Fail> {
+/// The first text that is not written.
+fn first_unwritten(alloc: Global) -> Option<&'static str> {
     for (edges, expected) in WRITTEN {
-        assert!(rt;
-            compact(rt.alloc(), edges)?.as_str() == *expected,
-            "of {expected}"
-        );
+        if !list_is_written(alloc, edges, expected) {
+            return Some(expected);
+        }
     }
-    Ok(())
+    None
 }
 
-/// Whether JSON text is read as this list, or refused with this text.
-fn reads(alloc: Global, text: &str, expected: &str) -> Result<bool, AllocError> {
-    let Ok(value) = Value::from_str(alloc, text) else {
-        return Ok(false);
-    };
-    Ok(read(alloc, &value)?.as_str() == expected)
+#[test]
+fn ok_to_json(rt: HostRuntime) {
+    assert_eq!(rt; first_unwritten(rt.alloc()), None);
+}
+
+/// Whether numbers print as this text.
+fn print(alloc: Global, numbers: &[u32], text: &str) -> bool {
+    match format!(in alloc; "{numbers:?}") {
+        Ok(printed) => printed.as_str() == text,
+        Err(_) => false,
+    }
+}
+
+/// Whether the inversion list of a set does.
+fn lists(alloc: Global, set: &CodePointInversionList<'_>, text: &str) -> bool {
+    match set.get_inversion_list_vec(alloc) {
+        Ok(edges) => print(alloc, edges.as_slice(), text),
+        Err(_) => false,
+    }
+}
+
+/// Whether a refusal is shown as this text.
+fn is_shown(alloc: Global, error: &JsonError, text: &str) -> bool {
+    match format!(in alloc; "{error}") {
+        Ok(shown) => shown.as_str() == text,
+        Err(_) => false,
+    }
+}
+
+/// Whether a value is read as this list, or refused with this text.
+fn is_read(alloc: Global, value: &Value, expected: &str) -> bool {
+    match CodePointInversionList::from_json(alloc, value) {
+        Ok(set) => lists(alloc, &set, expected),
+        Err(error) => is_shown(alloc, &error, expected),
+    }
+}
+
+/// Whether JSON text is.
+fn reads(alloc: Global, text: &str, expected: &str) -> bool {
+    match Value::from_str(alloc, text) {
+        Ok(value) => is_read(alloc, &value, expected),
+        Err(_) => false,
+    }
+}
+
+/// The first of these texts that is read or refused otherwise.
+fn first_read_otherwise<'t>(alloc: Global, rows: &[(&'t str, &str)]) -> Option<&'t str> {
+    for (text, expected) in rows {
+        if !reads(alloc, text, expected) {
+            return Some(text);
+        }
+    }
+    None
 }
 
 const LISTS: &[(&str, &str)] = &[
@@ -94,11 +154,8 @@ const LISTS: &[(&str, &str)] = &[
 ];
 
 #[test]
-fn ok_from_json(rt: HostRuntime) -> Result<(), Fail> {
-    for (text, expected) in LISTS {
-        assert!(rt; reads(rt.alloc(), text, expected)?);
-    }
-    Ok(())
+fn ok_from_json(rt: HostRuntime) {
+    assert_eq!(rt; first_read_otherwise(rt.alloc(), LISTS), None);
 }
 
 const REFUSED: &[(&str, &str)] = &[
@@ -121,30 +178,61 @@ const REFUSED: &[(&str, &str)] = &[
 ];
 
 #[test]
-fn refused_values(rt: HostRuntime) -> Result<(), Fail> {
-    for (text, expected) in REFUSED {
-        assert!(rt; reads(rt.alloc(), text, expected)?);
-    }
-    Ok(())
+fn refused_values(rt: HostRuntime) {
+    assert_eq!(rt; first_read_otherwise(rt.alloc(), REFUSED), None);
 }
 
-/// The set of a value with strings as JSON text, or the text of its refusal.
-fn read_string_list(alloc: Global, value: &Value) -> Result<String, AllocError> {
+/// Whether the value of a set with strings is written as this text.
+fn string_list_is_written(
+    alloc: Global,
+    set: &CodePointInversionListAndStringList<'_>,
+    text: &str,
+) -> bool {
+    match set.to_json(alloc) {
+        Ok(value) => is_written(alloc, &value, text),
+        Err(_) => false,
+    }
+}
+
+/// Whether that of a set with strings that went through JSON is.
+fn reread_string_list_is_written(
+    alloc: Global,
+    set: &CodePointInversionListAndStringList<'_>,
+    text: &str,
+) -> bool {
+    match reread_string_list(alloc, set) {
+        Ok(again) => string_list_is_written(alloc, &again, text),
+        Err(_) => false,
+    }
+}
+
+/// Whether a value is read as the set with strings of this text, or refused with it.
+fn string_list_is_read(alloc: Global, value: &Value, expected: &str) -> bool {
     match CodePointInversionListAndStringList::from_json(alloc, value) {
-        Ok(set) => match reread_string_list(alloc, &set) {
-            Ok(again) => again.to_json(alloc)?.to_string(alloc),
-            Err(error) => format!(in alloc; "{error}"),
-        },
-        Err(error) => format!(in alloc; "{error}"),
+        Ok(set) => reread_string_list_is_written(alloc, &set, expected),
+        Err(error) => is_shown(alloc, &error, expected),
     }
 }
 
-/// Whether JSON text is read as this set with strings, or refused with this text.
-fn reads_string_list(alloc: Global, text: &str, expected: &str) -> Result<bool, AllocError> {
-    let Ok(value) = Value::from_str(alloc, text) else {
-        return Ok(false);
-    };
-    Ok(read_string_list(alloc, &value)?.as_str() == expected)
+/// Whether JSON text is.
+fn reads_string_list(alloc: Global, text: &str, expected: &str) -> bool {
+    match Value::from_str(alloc, text) {
+        Ok(value) => string_list_is_read(alloc, &value, expected),
+        Err(_) => false,
+    }
+}
+
+/// The first of these texts that is read or refused otherwise.
+fn first_string_list_read_otherwise<'t>(
+    alloc: Global,
+    rows: &[(&'t str, &str)],
+) -> Option<&'t str> {
+    for (text, expected) in rows {
+        if !reads_string_list(alloc, text, expected) {
+            return Some(text);
+        }
+    }
+    None
 }
 
 const STRING_LISTS: &[(&str, &str)] = &[
@@ -159,11 +247,11 @@ const STRING_LISTS: &[(&str, &str)] = &[
 ];
 
 #[test]
-fn ok_from_json_string_list(rt: HostRuntime) -> Result<(), Fail> {
-    for (text, expected) in STRING_LISTS {
-        assert!(rt; reads_string_list(rt.alloc(), text, expected)?);
-    }
-    Ok(())
+fn ok_from_json_string_list(rt: HostRuntime) {
+    assert_eq!(rt;
+        first_string_list_read_otherwise(rt.alloc(), STRING_LISTS),
+        None
+    );
 }
 
 const REFUSED_STRING_LISTS: &[(&str, &str)] = &[
@@ -208,9 +296,9 @@ const REFUSED_STRING_LISTS: &[(&str, &str)] = &[
 ];
 
 #[test]
-fn refused_string_lists(rt: HostRuntime) -> Result<(), Fail> {
-    for (text, expected) in REFUSED_STRING_LISTS {
-        assert!(rt; reads_string_list(rt.alloc(), text, expected)?);
-    }
-    Ok(())
+fn refused_string_lists(rt: HostRuntime) {
+    assert_eq!(rt;
+        first_string_list_read_otherwise(rt.alloc(), REFUSED_STRING_LISTS),
+        None
+    );
 }

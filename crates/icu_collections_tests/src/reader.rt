@@ -7,7 +7,6 @@ use icu_collections::char16trie::{
 };
 use icu_collections_sets::packed_vector::PackedVec;
 use std::alloc::{AllocError, Global};
-use std::test::Fail;
 
 /// What reading a list of units comes to.
 fn read(
@@ -50,6 +49,7 @@ fn ok_read_units(rt: HostRuntime) {
 }
 
 /// The keys that are no longer than the limit.
+#[derive(Drop)]
 struct Short {
     most: usize,
 }
@@ -62,19 +62,27 @@ impl EntryTest for Short {
     }
 }
 
+/// Whether all keys of these units are no longer than so many.
+fn all_short(
+    alloc: Global,
+    units: &[u16],
+    limit: usize,
+    most: usize,
+) -> Result<bool, ReadUnitsError> {
+    match PackedVec::from_slice(alloc, units) {
+        Ok(units) => all_pass(alloc, &units, limit, &Short { most }),
+        Err(_) => Err(ReadUnitsError::Memory),
+    }
+}
+
 #[test]
-fn ok_all_pass(rt: HostRuntime) -> Result<(), Fail> {
+fn ok_all_pass(rt: HostRuntime) {
     let alloc = rt.alloc();
-    let units = PackedVec::from_slice(alloc, &[0x30u16, 0x61, 0xb0, 0x62, 0x8002])?;
-    assert_eq!(rt; all_pass(alloc, &units, 9, &Short { most: 2 }), Ok(true));
-    assert_eq!(rt; all_pass(alloc, &units, 9, &Short { most: 1 }), Ok(false));
-    assert_eq!(rt;
-        all_pass(alloc, &units, 1, &Short { most: 2 }),
-        Err(ReadUnitsError::BadUnits(3))
-    );
-    let units = PackedVec::from_slice(alloc, &[] as &[u16])?;
-    assert_eq!(rt; all_pass(alloc, &units, 9, &Short { most: 0 }), Ok(true));
-    Ok(())
+    let units = &[0x30u16, 0x61, 0xb0, 0x62, 0x8002];
+    assert!(rt; all_short(alloc, units, 9, 2) == Ok(true));
+    assert!(rt; all_short(alloc, units, 9, 1) == Ok(false));
+    assert!(rt; all_short(alloc, units, 1, 2) == Err(ReadUnitsError::BadUnits(3)));
+    assert!(rt; all_short(alloc, &[], 9, 0) == Ok(true));
 }
 
 #[test]
@@ -94,44 +102,71 @@ fn a_branch_in_halves(rt: HostRuntime) {
     assert!(rt; lists(rt.alloc(), &units, 1, &pairs));
 }
 
-#[test]
-fn units_that_are_refused(rt: HostRuntime) {
-    let alloc = rt.alloc();
+/// Units, a limit, a place, and whether reading stops there.
+const STOPS: &[(&[u16], usize, usize, bool)] = &[
     // an end inside
-    assert!(rt; stops_at(alloc, &[0x30, 0x61], 9, 2));
-    assert!(rt; stops_at(alloc, &[0x31, 0x61], 9, 2));
-    assert!(rt; stops_at(alloc, &[0x30, 0x61, 0xffff, 1], 9, 4));
-    assert!(rt; stops_at(alloc, &[1, 0x61, 0x8001, 0x62], 9, 4));
+    (&[0x30, 0x61], 9, 2, true),
+    (&[0x31, 0x61], 9, 2, true),
+    (&[0x30, 0x61, 0xffff, 1], 9, 4, true),
+    (&[1, 0x61, 0x8001, 0x62], 9, 4, true),
     // a jump past the end
-    assert!(rt; stops_at(alloc, &[1, 0x61, 3, 0x62, 0x8001], 9, 5));
+    (&[1, 0x61, 3, 0x62, 0x8001], 9, 5, true),
     // a value at the root
-    assert!(rt; stops_at(alloc, &[0x8001], 9, 0));
-    assert!(rt; stops_at(alloc, &[0xb0, 0x61, 0x8001], 9, 0));
+    (&[0x8001], 9, 0, true),
+    (&[0xb0, 0x61, 0x8001], 9, 0, true),
     // a key over the limit
-    assert!(rt; stops_at(alloc, &[0x30, 0x61, 0xb0, 0x62, 0x8002], 1, 3));
-    assert!(rt; stops_at(alloc, &[0x30, 0x61, 0x8005], 0, 1));
+    (&[0x30, 0x61, 0xb0, 0x62, 0x8002], 1, 3, true),
+    (&[0x30, 0x61, 0x8005], 0, 1, true),
     // units of a branch that do not rise
-    assert!(rt; stops_at(alloc, &[1, 0x62, 0x8001, 0x61, 0x8002], 9, 3));
-    assert!(rt; stops_at(alloc, &[1, 0x61, 0x8001, 0x61, 0x8002], 9, 3));
-    assert!(rt; !stops_at(alloc, &[1, 0x61, 0x8001, 0x62, 0x8002], 9, 3));
+    (&[1, 0x62, 0x8001, 0x61, 0x8002], 9, 3, true),
+    (&[1, 0x61, 0x8001, 0x61, 0x8002], 9, 3, true),
+    (&[1, 0x61, 0x8001, 0x62, 0x8002], 9, 3, false),
     // halves on the wrong side of the unit between them
-    let first = [
-        5u16, 99, 6, 100, 0x8004, 101, 0x8005, 102, 0x8006, 97, 0x8001, 98, 0x8002, 99, 0x8003,
-    ];
-    assert!(rt; stops_at(alloc, &first, 9, 13));
-    let second = [
-        5u16, 101, 6, 100, 0x8004, 101, 0x8005, 102, 0x8006, 97, 0x8001, 98, 0x8002, 99, 0x8003,
-    ];
-    assert!(rt; stops_at(alloc, &second, 9, 3));
+    (
+        &[
+            5, 99, 6, 100, 0x8004, 101, 0x8005, 102, 0x8006, 97, 0x8001, 98, 0x8002, 99, 0x8003,
+        ],
+        9,
+        13,
+        true,
+    ),
+    (
+        &[
+            5, 101, 6, 100, 0x8004, 101, 0x8005, 102, 0x8006, 97, 0x8001, 98, 0x8002, 99, 0x8003,
+        ],
+        9,
+        3,
+        true,
+    ),
+];
+
+/// The number of the first row of which it is otherwise.
+fn first_wrong_stop(alloc: Global) -> Option<usize> {
+    for (number, (units, limit, place, stops)) in STOPS.iter().enumerate() {
+        if stops_at(alloc, units, *limit, *place) != *stops {
+            return Some(number);
+        }
+    }
+    None
 }
 
 #[test]
-fn texts_of_refusals(rt: HostRuntime) -> Result<(), Fail> {
-    let text = format!(in rt.alloc(); "{}", ReadUnitsError::BadUnits(12))?;
-    assert_eq!(rt; text.as_str(), "bad units at 12");
-    let text = format!(in rt.alloc(); "{}", ReadUnitsError::Memory)?;
-    assert_eq!(rt; text.as_str(), "out of memory");
-    Ok(())
+fn units_that_are_refused(rt: HostRuntime) {
+    assert_eq!(rt; first_wrong_stop(rt.alloc()), None);
+}
+
+/// Whether a refusal is shown as this text.
+fn is_shown(alloc: Global, error: ReadUnitsError, text: &str) -> bool {
+    match format!(in alloc; "{error}") {
+        Ok(shown) => shown.as_str() == text,
+        Err(_) => false,
+    }
+}
+
+#[test]
+fn texts_of_refusals(rt: HostRuntime) {
+    assert!(rt; is_shown(rt.alloc(), ReadUnitsError::BadUnits(12), "bad units at 12"));
+    assert!(rt; is_shown(rt.alloc(), ReadUnitsError::Memory, "out of memory"));
 }
 
 /// Units at which the forms of nodes and numbers change.
@@ -170,82 +205,120 @@ fn answer(trie: &Char16Trie<'_>, typed: &[u16]) -> TrieResult {
 }
 
 /// Whether the cursor answers as the list says after each beginning of a key, to each of the edges.
-fn agrees(alloc: Global, units: &[u16]) -> Result<bool, AllocError> {
-    let list = match read(alloc, units, 64) {
-        Ok(list) => list,
-        Err(ReadUnitsError::Memory) => return Err(AllocError),
-        Err(ReadUnitsError::BadUnits(place)) => return Ok(place <= units.len()),
-    };
-    let trie = Char16Trie::new(PackedVec::from_slice(alloc, units)?);
-    for (key, _) in &list {
-        let mut typed = Vec::new(alloc);
-        for unit in key {
-            for edge in EDGES {
-                typed.push(edge)?;
-                if answer(&trie, &typed) != expected(&list, &typed) {
-                    return Ok(false);
-                }
-                typed.pop();
-            }
-            typed.push(*unit)?;
-            if answer(&trie, &typed) != expected(&list, &typed) {
+fn agrees_along(
+    trie: &Char16Trie<'_>,
+    list: &[(Vec<u16>, i32)],
+    key: &[u16],
+    typed: &mut Vec<u16>,
+) -> Result<bool, AllocError> {
+    typed.clear();
+    for unit in key {
+        for edge in EDGES {
+            typed.push(edge)?;
+            if answer(trie, typed) != expected(list, typed) {
                 return Ok(false);
             }
+            typed.pop();
+        }
+        typed.push(*unit)?;
+        if answer(trie, typed) != expected(list, typed) {
+            return Ok(false);
         }
     }
     Ok(true)
 }
 
-#[test]
-fn short_lists_of_units(rt: HostRuntime) -> Result<(), Fail> {
-    let alloc = rt.alloc();
+/// Whether it does so along each key.
+fn agrees_with(alloc: Global, trie: &Char16Trie<'_>, list: &[(Vec<u16>, i32)]) -> bool {
+    let mut typed = Vec::new(alloc);
+    for (key, _) in list {
+        if agrees_along(trie, list, key, &mut typed) != Ok(true) {
+            return false;
+        }
+    }
+    true
+}
+
+/// Whether the cursor of these units does, with this list.
+fn list_agrees(alloc: Global, units: &[u16], list: &[(Vec<u16>, i32)]) -> bool {
+    match PackedVec::from_slice(alloc, units) {
+        Ok(packed) => agrees_with(alloc, &Char16Trie::new(packed), list),
+        Err(_) => false,
+    }
+}
+
+/// Whether it does with the list that is read of them, or none is.
+fn agrees(alloc: Global, units: &[u16]) -> bool {
+    match read(alloc, units, 64) {
+        Ok(list) => list_agrees(alloc, units, &list),
+        Err(ReadUnitsError::Memory) => false,
+        Err(ReadUnitsError::BadUnits(place)) => place <= units.len(),
+    }
+}
+
+/// Whether it is so of all lists of up to three edges.
+fn short_lists_agree(alloc: Global) -> bool {
     for a in EDGES {
-        assert!(rt; agrees(alloc, &[a])?);
+        if !agrees(alloc, &[a]) {
+            return false;
+        }
         for b in EDGES {
-            assert!(rt; agrees(alloc, &[a, b])?);
+            if !agrees(alloc, &[a, b]) {
+                return false;
+            }
             for c in EDGES {
-                assert!(rt; agrees(alloc, &[a, b, c])?);
+                if !agrees(alloc, &[a, b, c]) {
+                    return false;
+                }
             }
         }
     }
-    Ok(())
+    true
 }
 
 #[test]
-fn all_lists_of_one_unit(rt: HostRuntime) -> Result<(), Fail> {
-    let alloc = rt.alloc();
+fn short_lists_of_units(rt: HostRuntime) {
+    assert!(rt; short_lists_agree(rt.alloc()));
+}
+
+/// The first unit of which it isn't so.
+fn first_unit_that_disagrees(alloc: Global) -> Option<u16> {
     for unit in 0..=u16::MAX {
-        assert!(rt; agrees(alloc, &[unit])?, "at {unit}");
+        if !agrees(alloc, &[unit]) {
+            return Some(unit);
+        }
     }
-    Ok(())
+    None
 }
 
 #[test]
-fn lists_of_four_units(rt: HostRuntime) -> Result<(), Fail> {
-    let alloc = rt.alloc();
+fn all_lists_of_one_unit(rt: HostRuntime) {
+    assert_eq!(rt; first_unit_that_disagrees(rt.alloc()), None);
+}
+
+/// Whether it is so of all lists of four edges, or of all that begin with 1 before them.
+fn four_agree(alloc: Global, is_branch: bool) -> bool {
     for a in EDGES {
         for b in EDGES {
             for c in EDGES {
                 for d in EDGES {
-                    assert!(rt; agrees(alloc, &[a, b, c, d])?);
+                    let units = [1, a, b, c, d];
+                    if !agrees(alloc, if is_branch { &units } else { &units[1..] }) {
+                        return false;
+                    }
                 }
             }
         }
     }
-    Ok(())
+    true
 }
 
 #[test]
-fn branches_of_two_units(rt: HostRuntime) -> Result<(), Fail> {
-    let alloc = rt.alloc();
-    for a in EDGES {
-        for b in EDGES {
-            for c in EDGES {
-                for d in EDGES {
-                    assert!(rt; agrees(alloc, &[1, a, b, c, d])?);
-                }
-            }
-        }
-    }
-    Ok(())
+fn lists_of_four_units(rt: HostRuntime) {
+    assert!(rt; four_agree(rt.alloc(), false));
+}
+
+#[test]
+fn branches_of_two_units(rt: HostRuntime) {
+    assert!(rt; four_agree(rt.alloc(), true));
 }
