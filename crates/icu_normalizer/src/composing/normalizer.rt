@@ -40,8 +40,8 @@ impl<'d> ComposingNormalizerBorrowed<'d> {
         ComposingNormalizerBorrowed { basis }
     }
 
-    /// Its data keep what canonical data promise, which the laws ask for, and what compatibility data do where it is over
-    /// these. It computes nothing.
+    /// Its data keep what canonical data promise, which the laws ask for, and what compatibility data do where it is
+    /// over these. It computes nothing.
     pub fn keep_promise(&self)
         ensures canonical { IsCanonical (composing_canonical self.now) }
         ensures data { IsSaidOver (composing_canonical self.now) (composing_data self.now) }
@@ -49,8 +49,8 @@ impl<'d> ComposingNormalizerBorrowed<'d> {
         self.basis.keep_promises();
     }
 
-    /// The characters of `chars` in NFC, in order. Memory is taken for long runs of marks alone; where it is refused, that
-    /// error comes once and nothing after it.
+    /// The characters of `chars` in NFC, in order. Memory is taken for long runs of marks alone; where it is refused,
+    /// that error comes once and nothing after it.
     pub fn normalize_iter<I: Iterator<Item = char> + Drop>(
         &self,
         alloc: Global,

@@ -32,8 +32,8 @@ impl<'a> Model for ComposingNormalizer<'a> {
 impl<'a> ComposingNormalizer<'a> {
     ghost use Rattle.icu_normalizer.specs.Normalizers.{composing_data, composing_canonical};
 
-    /// A normaliser to NFC over a provider's tables. The answer is the first refusal, if there is one: of `load_nfd`, of
-    /// `load_nfd_tables`, of `load_pairs`, then of `CanonicalData::try_new`.
+    /// A normaliser to NFC over a provider's tables. The answer is the first refusal, if there is one: of `load_nfd`,
+    /// of `load_nfd_tables`, of `load_pairs`, then of `CanonicalData::try_new`.
     pub fn try_new_nfc_unstable<P: NormalizerProvider>(
         alloc: Global,
         provider: &'a P,
@@ -46,9 +46,9 @@ impl<'a> ComposingNormalizer<'a> {
         })
     }
 
-    /// A normaliser to NFKC over a provider's tables. The answer is the first refusal, if there is one: of `load_nfd`, of
-    /// `load_nfd_tables`, of `load_pairs`, of `load_nfkd`, of `load_nfkd_tables`, then of `CanonicalData::try_new`, then of
-    /// `CompatibilityData::try_new`.
+    /// A normaliser to NFKC over a provider's tables. The answer is the first refusal, if there is one: of `load_nfd`,
+    /// of `load_nfd_tables`, of `load_pairs`, of `load_nfkd`, of `load_nfkd_tables`, then of `CanonicalData::try_new`,
+    /// then of `CompatibilityData::try_new`.
     pub fn try_new_nfkc_unstable<P: NormalizerProvider>(
         alloc: Global,
         provider: &'a P,

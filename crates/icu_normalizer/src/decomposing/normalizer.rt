@@ -47,8 +47,8 @@ impl<'d> DecomposingNormalizerBorrowed<'d> {
         DecomposingNormalizerBorrowed { basis }
     }
 
-    /// Its data keep what canonical data promise, which the laws ask for, and what compatibility data do where it is over
-    /// these. It computes nothing.
+    /// Its data keep what canonical data promise, which the laws ask for, and what compatibility data do where it is
+    /// over these. It computes nothing.
     pub fn keep_promise(&self)
         ensures canonical { IsCanonical (normalizer_canonical self.now) }
         ensures data { IsSaidOver (normalizer_canonical self.now) (normalizer_data self.now) }
@@ -56,8 +56,8 @@ impl<'d> DecomposingNormalizerBorrowed<'d> {
         self.basis.keep_promises();
     }
 
-    /// The characters of `chars` in NFD, in order. Memory is taken for long runs of marks alone; where it is refused, that
-    /// error comes once and nothing after it.
+    /// The characters of `chars` in NFD, in order. Memory is taken for long runs of marks alone; where it is refused,
+    /// that error comes once and nothing after it.
     pub fn normalize_iter<I: Iterator<Item = char> + Drop>(
         &self,
         alloc: Global,

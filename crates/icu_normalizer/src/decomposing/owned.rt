@@ -32,8 +32,8 @@ impl<'a> Model for DecomposingNormalizer<'a> {
 impl<'a> DecomposingNormalizer<'a> {
     ghost use Rattle.icu_normalizer.specs.Normalizers.{normalizer_data, normalizer_canonical, normalizer_bound};
 
-    /// A normaliser to NFD over a provider's tables. The answer is the first refusal, if there is one: of `load_nfd`, of
-    /// `load_nfd_tables`, of `load_pairs`, then of `CanonicalData::try_new`.
+    /// A normaliser to NFD over a provider's tables. The answer is the first refusal, if there is one: of `load_nfd`,
+    /// of `load_nfd_tables`, of `load_pairs`, then of `CanonicalData::try_new`.
     pub fn try_new_nfd_unstable<P: NormalizerProvider>(
         alloc: Global,
         provider: &'a P,
@@ -46,9 +46,9 @@ impl<'a> DecomposingNormalizer<'a> {
         })
     }
 
-    /// A normaliser to NFKD over a provider's tables. The answer is the first refusal, if there is one: of `load_nfd`, of
-    /// `load_nfd_tables`, of `load_pairs`, of `load_nfkd`, of `load_nfkd_tables`, then of `CanonicalData::try_new`, then of
-    /// `CompatibilityData::try_new`.
+    /// A normaliser to NFKD over a provider's tables. The answer is the first refusal, if there is one: of `load_nfd`,
+    /// of `load_nfd_tables`, of `load_pairs`, of `load_nfkd`, of `load_nfkd_tables`, then of `CanonicalData::try_new`,
+    /// then of `CompatibilityData::try_new`.
     pub fn try_new_nfkd_unstable<P: NormalizerProvider>(
         alloc: Global,
         provider: &'a P,
