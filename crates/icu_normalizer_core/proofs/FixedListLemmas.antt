@@ -2,11 +2,13 @@
 use Rattle.std.proofs.Common.{◌≡◌, ℕ, ◌<◌, ◌≤◌, ⊎_elim, cond, ltb, ◌==◌, List, [], ◌∷◌, length, take, Option, Some, None, sym, ap, subst, ◌∙◌, arith}
 use Rattle.std.proofs.lemmas.List.{take_all}
 use Rattle.std.proofs.lemmas.Bool.{cases_Bool, cases_lt, cond-true, cond-false, lt-ltb, le-ltb}
+use Rattle.std.proofs.lemmas.Bool.Decides.{nat_tests}
 use Rattle.std.proofs.lemmas.Option.{none-some, same_Some}
 use Rattle.icu_normalizer_core.specs.BuiltIn.{built_in_compatibility_step}
 use Rattle.icu_normalizer_core.specs.CanonicalWords.{built_in_full}
 use Rattle.icu_normalizer_core.specs.Compatibility.{fixed_list}
 use Rattle.icu_normalizer_core.proofs.AcceptedTables.{cases_step}
+use Rattle.icu_normalizer_core.proofs.BuiltInFacts.{free_full, free_past}
 use Rattle.icu_normalizer_core.proofs.BuiltInTestLemmas.{full_short, short_start}
 
 abbrev fixed_from : ℕ → Option (List ℕ) → Option (List ℕ)
@@ -23,6 +25,14 @@ fixed_low c e h = ap (fixed_from c) e ∙ cond-true (ltb c 0xa0) (Some (c ∷ []
 fixed_step : (c : ℕ) → built_in_full c ≡ None → 0xa0 ≤ c → fixed_list c ≡ built_in_compatibility_step c
 unfolding fixed_list
 fixed_step c e h = ap (fixed_from c) e ∙ cond-false (ltb c 0xa0) (Some (c ∷ [])) (built_in_compatibility_step c) (le-ltb c 0xa0 h)
+
+no_step_past : (c : ℕ) → 0x10000 ≤ c → built_in_compatibility_step c ≡ None
+unfolding built_in_compatibility_step
+no_step_past c h = grind (arith, nat_tests)
+
+-- nothing is fixed from U+10000 on
+pub fixed_past : (c : ℕ) → 0x10000 ≤ c → fixed_list c ≡ None
+fixed_past c h = fixed_step c (free_full c (free_past c h)) (omega arith) ∙ no_step_past c h
 
 abbrev IsShort : List ℕ → Type 0
 IsShort list = length list ≤ 3

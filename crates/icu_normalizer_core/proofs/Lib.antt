@@ -7,6 +7,7 @@ pub mod AcceptedWords
 pub mod builder
 pub mod BuiltInFacts
 pub mod BuiltInTestLemmas
+pub mod CompatibilityWalkLemmas
 pub mod CompositionLemmas
 pub mod DecodedLemmas
 pub mod DecodingComputing

@@ -16,6 +16,7 @@ pub mod Compatibility
 pub mod CompatibilityFaults
 pub mod CompatibilityLoading
 pub mod CompatibilityMeaning
+pub mod CompatibilityWalks
 pub mod DataErrors
 pub mod Decoding
 pub mod FullLists

@@ -16,7 +16,6 @@ pub(crate) mod words;
 
 pub use borrowed::CanonicalBorrowed;
 pub use builder::{CanonicalDataBuildError, CanonicalDataBuilder, GivenClass, GivenMapping};
-pub use check::characters::first_refused;
 pub use data::{CanonicalData, CanonicalDataError};
 pub use full_list::FullList;
 pub use reading::Reading;

@@ -1,11 +1,9 @@
 //! Mapper tables that were checked.
 
-ghost use Rattle.std.specs.Prelude.{◌≡◌, ◌≤◌, false, [], length, MatchOption, option_to_list};
-ghost use Rattle.std.specs.Char.{IsScalar};
+ghost use Rattle.std.specs.Prelude.{◌≡◌, ◌≤◌, true, false, [], length, MatchOption, option_to_list};
 ghost use Rattle.icu_normalizer.specs.Uts46.{becomes, mapper_of, has_good_word, IsMapperTable};
 
 use super::list::MappedList;
-use icu_normalizer_core::canonical::first_refused;
 use icu_normalizer_core::provider::Uts46Tables;
 use std::marker::Model;
 
@@ -20,11 +18,19 @@ fn has_good_word(tables: &Uts46Tables<'_>, c: char) -> bool
         && (word < 3 || (word & 0xff == 3 && count > 0 && end <= tables.scalars24.len()))
 }
 
-/// The least character that has none, `None` where each has one.
-fn first_bad_word(tables: &Uts46Tables<'_>) -> Option<char>
-    ensures { MatchOption result (IsMapperTable tables.now) (λ c. IsScalar c × (has_good_word tables.now c ≡ false)) }
+/// Whether each character has one.
+fn has_good_words(tables: &Uts46Tables<'_>) -> bool
+    ensures good { result ≡ true → IsMapperTable tables.now }
+    ensures bad { result ≡ false → ¬ IsMapperTable tables.now }
 {
-    first_refused(|c| has_good_word(tables, c))
+    for code in 0..0x11_0000u32 {
+        if let Some(c) = char::from_u32(code) {
+            if !has_good_word(tables, c) {
+                return false;
+            }
+        }
+    }
+    true
 }
 
 /// A mapper table that passed the check, seen as the tables that it reads.
@@ -49,9 +55,10 @@ impl<'a> MapperTable<'a> {
     pub(super) fn try_new(tables: Uts46Tables<'a>) -> Option<MapperTable<'a>>
         ensures { MatchOption result (¬ IsMapperTable tables.entry) (λ table. (table ≡ tables.entry) × IsMapperTable tables.entry) }
     {
-        match first_bad_word(&tables) {
-            None => Some(MapperTable { tables }),
-            Some(_) => None,
+        if has_good_words(&tables) {
+            Some(MapperTable { tables })
+        } else {
+            None
         }
     }
 

@@ -6,7 +6,7 @@ ghost use Rattle.icu_normalizer_core.specs.CanonicalMeaning.{lists_of};
 ghost use Rattle.icu_normalizer_core.specs.Plain.{Tells};
 
 pub(crate) mod built_in;
-pub(crate) mod characters;
+mod characters;
 mod forms;
 pub(crate) mod full_lists;
 mod full_start;

@@ -18,8 +18,8 @@ pub struct CompatibilityBorrowed<'d> {
 }
 
 impl<'d> CompatibilityBorrowed<'d> {
-    /// Checked data keep what compatibility data promise (UAX 15): their full lists fit to canonical data, and to what is
-    /// built in.
+    /// Checked data keep what compatibility data promise (UAX 15): their full lists fit to canonical data, and to
+    /// what is built in.
     ///
     /// It computes nothing: its contract is what every holder of compatibility data knows.
     #[inline]
@@ -81,8 +81,8 @@ impl<'d> CompatibilityBorrowed<'d> {
         self.canonical().compose(first, second)
     }
 
-    /// The full list of a character: what canonical and compatibility mapping steps leave of it (UAX 15). It has at most
-    /// eight characters.
+    /// The full list of a character: what canonical and compatibility mapping steps leave of it (UAX 15). It has one
+    /// to eight characters.
     #[inline]
     pub fn full_list(&self, c: char) -> FullList<'d>
         ensures { result ≡ (borrowed_compatibility self.now).full c }

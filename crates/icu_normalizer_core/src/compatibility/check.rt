@@ -1,4 +1,4 @@
-//! The check of compatibility tables: a function for each kind of fault, which names its least character.
+//! The check of compatibility tables: one walk over the code points finds the least character of each kind of fault.
 
 ghost use Rattle.std.specs.Prelude.{MatchOption};
 ghost use Rattle.icu_normalizer_core.specs.CanonicalFaults.{IsAccepted};
@@ -10,26 +10,32 @@ mod fixed;
 mod lists;
 pub(super) mod steady;
 mod values;
+mod walk;
 
 use crate::canonical::words::Words;
 use crate::canonical::{CanonicalFault, CanonicalTables};
-use fixed::first_bad_built_in;
-use lists::first_bad_list;
-use values::first_bad_value;
+use walk::{Faults, silent_from, with_code};
 
 /// What the words are to be refused for, `None` where they pass every check.
 pub(super) fn first_fault(tables: &CanonicalTables<'_>, words: Words<'_>) -> Option<CanonicalFault>
     requires { IsAccepted (lists_of tables.now) }
     ensures { MatchOption result (AreAcceptedWords (lists_of tables.now) (word_lists words.entry)) (IsFirstWordFault (lists_of tables.now) (word_lists words.entry)) }
 {
-    if let Some(c) = first_bad_value(tables, words) {
-        return Some(CanonicalFault::BadValue(c));
+    let mut faults = Faults {
+        full_list: None,
+        built_in: None,
+    };
+    for code in 0..silent_from(tables, words) {
+        match with_code(tables, words, code, faults) {
+            Ok(further) => faults = further,
+            Err(c) => return Some(CanonicalFault::BadValue(c)),
+        }
     }
-    if let Some(c) = first_bad_list(tables, words) {
-        return Some(CanonicalFault::BadList(c));
+    match faults.full_list {
+        Some(c) => Some(CanonicalFault::BadList(c)),
+        None => match faults.built_in {
+            Some(c) => Some(CanonicalFault::BuiltIn(c)),
+            None => None,
+        },
     }
-    if let Some(c) = first_bad_built_in(words) {
-        return Some(CanonicalFault::BuiltIn(c));
-    }
-    None
 }

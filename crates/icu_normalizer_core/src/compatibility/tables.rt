@@ -11,8 +11,8 @@ use icu_packed_vector::PackedVec;
 /// Compatibility full lists in packed tables, not yet checked (`CompatibilityData::try_new` checks them).
 #[derive(Debug, Drop)]
 pub struct NfkdTables<'a> {
-    /// The word of each code point: its class, or its full list by canonical and compatibility mappings. The words have the
-    /// forms of canonical ones (`CanonicalTables`).
+    /// The word of each code point: its class, or its full list by canonical and compatibility mappings. The words
+    /// have the forms of canonical ones (`CanonicalTables`).
     pub trie: CodePointTrie<'a, u32>,
     /// Full lists, one after another, of characters below 10000 (hex) alone; it may be empty.
     pub scalars16: PackedVec<'a, u16>,

@@ -60,7 +60,8 @@ pub enum DataError {
     /// The provider has the table, but can't read it: its bytes end too early, say, or hold a value that is none of
     /// its type. Only the provider says so.
     Invalid(TableName),
-    /// The tables were loaded, and `CanonicalData::try_new` or `CompatibilityData::try_new` refuses them for this fault.
+    /// The tables were loaded, and `CanonicalData::try_new` or `CompatibilityData::try_new` refuses them for this
+    /// fault.
     Canonical(CanonicalFault),
     /// Memory was refused.
     Memory,

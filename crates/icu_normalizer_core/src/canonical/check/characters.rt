@@ -4,7 +4,7 @@ ghost use Rattle.std.specs.Prelude.{◌<◌, ℕ, true, false, MatchOption};
 ghost use Rattle.std.specs.Char.{IsScalar};
 
 /// The least character of which the test says no, `None` where it says yes of each.
-pub fn first_refused<F: Fn(char) -> bool>(accepts: F) -> Option<char>
+pub(super) fn first_refused<F: Fn(char) -> bool>(accepts: F) -> Option<char>
     requires { F.IsAlwaysCallable accepts }
     ensures { MatchOption result
         ((c : ℕ) → IsScalar c → F.post accepts c true)

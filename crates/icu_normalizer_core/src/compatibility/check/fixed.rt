@@ -1,7 +1,6 @@
-//! Characters with another full list than the one that is fixed for them.
+//! Whether a character has the full list that is fixed for it.
 
-ghost use Rattle.std.specs.Prelude.{◌≡◌, true, false, MatchOption, Option, option_map};
-ghost use Rattle.icu_normalizer_core.specs.CanonicalFaults.{NoneOffends, IsLeastOffender};
+ghost use Rattle.std.specs.Prelude.{◌≡◌, true, false, Option, option_map};
 ghost use Rattle.icu_normalizer_core.specs.Compatibility.{fixed_list};
 ghost use Rattle.icu_normalizer_core.specs.CompatibilityFaults.{OffendsFixed};
 ghost use Rattle.icu_normalizer_core.specs.Settled.{left_items};
@@ -9,13 +8,12 @@ ghost use Rattle.icu_normalizer_core.specs.Words.{word_lists};
 
 use crate::built_in::built_in_compatibility_step;
 use crate::canonical::check::built_in::{built_in_full, step_characters};
-use crate::canonical::check::characters::first_refused;
 use crate::canonical::check::left::Left;
 use crate::canonical::words::Words;
 
 /// The full list that is fixed for a character: by a built-in mapping, or itself below U+00A0.
 #[tactic(auto, unfolding(crate::specs::Compatibility::fixed_list))]
-fn fixed_list(c: u32) -> Option<Left>
+pub(super) fn fixed_list(c: u32) -> Option<Left>
     ensures { option_map left_items result ≡ fixed_list c }
 {
     match built_in_full(c) {
@@ -33,7 +31,7 @@ fn fixed_list(c: u32) -> Option<Left>
 }
 
 /// Whether the full list of a character is the one that is fixed for it, if one is.
-fn is_fixed(words: Words<'_>, c: char) -> bool
+pub(super) fn is_fixed(words: Words<'_>, c: char) -> bool
     ensures good { result ≡ true → OffendsFixed (word_lists words.entry) c → ⊥ }
     ensures bad { result ≡ false → OffendsFixed (word_lists words.entry) c }
 {
@@ -41,11 +39,4 @@ fn is_fixed(words: Words<'_>, c: char) -> bool
         None => true,
         Some(list) => words.full_start(c).is(&list),
     }
-}
-
-/// The least character with another full list than the one that is fixed, `None` where there is none.
-pub(super) fn first_bad_built_in(words: Words<'_>) -> Option<char>
-    ensures { MatchOption result (NoneOffends (OffendsFixed (word_lists words.entry))) (IsLeastOffender (OffendsFixed (word_lists words.entry))) }
-{
-    first_refused(|c| is_fixed(words, c))
 }

@@ -1,9 +1,9 @@
-//! Full lists that stand outside the tables, are too long, have an item that is mapped or no character, begin with a mark, or
-//! aren't the lists of what canonical mappings leave.
+//! Whether a full list stands inside the tables, is short enough, has no item that is mapped or no character, begins
+//! with no mark, and is the lists of what canonical mappings leave.
 
-ghost use Rattle.std.specs.Prelude.{◌≡◌, ◌↔◌, true, false, IsTrue, MatchOption, All, List, take, flat_map};
+ghost use Rattle.std.specs.Prelude.{◌≡◌, ◌↔◌, true, false, IsTrue, All, List, take, flat_map};
 ghost use Rattle.std.specs.Char.{IsScalar};
-ghost use Rattle.icu_normalizer_core.specs.CanonicalFaults.{NoneOffends, IsLeastOffender, IsAccepted, begins_with_mark};
+ghost use Rattle.icu_normalizer_core.specs.CanonicalFaults.{begins_with_mark};
 ghost use Rattle.icu_normalizer_core.specs.CanonicalWords.{states_list};
 ghost use Rattle.icu_normalizer_core.specs.CanonicalMeaning.{lists_of, meaning};
 ghost use Rattle.icu_normalizer_core.specs.Compatibility.{IsUnbound};
@@ -12,7 +12,6 @@ ghost use Rattle.icu_normalizer_core.specs.Settled.{left_items};
 ghost use Rattle.icu_normalizer_core.specs.Words.{word_lists, full_in};
 
 use crate::built_in::{built_in_compatibility_step, built_in_step};
-use crate::canonical::check::characters::first_refused;
 use crate::canonical::check::full_lists::begins_with_mark;
 use crate::canonical::check::left::Left;
 use crate::canonical::full_list::full_list;
@@ -68,7 +67,7 @@ fn is_bad_start(tables: &CanonicalTables<'_>, c: u32, word: u32, full: &Left) ->
 }
 
 /// Whether nothing is wrong with the full list of a character.
-fn has_good_list(tables: &CanonicalTables<'_>, words: Words<'_>, c: char) -> bool
+pub(super) fn has_good_list(tables: &CanonicalTables<'_>, words: Words<'_>, c: char) -> bool
     requires { All IsScalar ((meaning tables.now).full c) }
     ensures good { result ≡ true → OffendsWordList (lists_of tables.now) (word_lists words.entry) c → ⊥ }
     ensures bad { result ≡ false → OffendsWordList (lists_of tables.now) (word_lists words.entry) c }
@@ -88,31 +87,4 @@ fn has_good_list(tables: &CanonicalTables<'_>, words: Words<'_>, c: char) -> boo
         return false;
     }
     full.is(&joined_start(words, full_list(tables, c)))
-}
-
-/// Whether nothing is wrong with the full list of a character.
-fn is_good(tables: &CanonicalTables<'_>, words: Words<'_>, c: char) -> bool
-    requires { IsAccepted (lists_of tables.now) }
-    ensures good { result ≡ true → OffendsWordList (lists_of tables.now) (word_lists words.entry) c → ⊥ }
-    ensures bad { result ≡ false → OffendsWordList (lists_of tables.now) (word_lists words.entry) c }
-{
-    // Of most characters neither word says anything.
-    if words.word(c) == 0 && tables.word(c) == 0 {
-        return true;
-    }
-    has_good_list(tables, words, c)
-}
-
-/// The least character with a bad full list, `None` where there is none.
-pub(super) fn first_bad_list(tables: &CanonicalTables<'_>, words: Words<'_>) -> Option<char>
-    requires { IsAccepted (lists_of tables.now) }
-    ensures { MatchOption result (NoneOffends (OffendsWordList (lists_of tables.now) (word_lists words.entry))) (IsLeastOffender (OffendsWordList (lists_of tables.now) (word_lists words.entry))) }
-{
-    first_refused(
-        |c|
-            requires { IsAccepted (lists_of tables.now) }
-            ensures good { result ≡ true → OffendsWordList (lists_of tables.entry.now) (word_lists words.entry) c → ⊥ }
-            ensures bad { result ≡ false → OffendsWordList (lists_of tables.entry.now) (word_lists words.entry) c }
-        { is_good(tables, words, c) },
-    )
 }

@@ -1,28 +1,19 @@
-//! Characters without a word, with one that has none of the forms, or with another class than the canonical one.
+//! Whether a character has a word, of one of the forms and of the canonical class.
 
-ghost use Rattle.std.specs.Prelude.{◌≡◌, MatchOption};
-ghost use Rattle.icu_normalizer_core.specs.CanonicalFaults.{NoneOffends, IsLeastOffender};
+ghost use Rattle.std.specs.Prelude.{◌≡◌};
 ghost use Rattle.icu_normalizer_core.specs.CanonicalMeaning.{lists_of};
-ghost use Rattle.icu_normalizer_core.specs.CompatibilityFaults.{OffendsWord, is_good_word};
+ghost use Rattle.icu_normalizer_core.specs.CompatibilityFaults.{is_good_word};
 ghost use Rattle.icu_normalizer_core.specs.Words.{word_lists};
 
 use crate::canonical::CanonicalTables;
-use crate::canonical::check::characters::first_refused;
 use crate::canonical::words::{Words, class_of_word, is_word};
 
 /// Whether the character has a word, of one of the forms and of the canonical class.
 #[tactic(auto, unfolding(crate::specs::CanonicalLists::canonical_of))]
-fn has_good_word(tables: &CanonicalTables<'_>, words: Words<'_>, c: char) -> bool
+pub(super) fn has_good_word(tables: &CanonicalTables<'_>, words: Words<'_>, c: char) -> bool
     ensures { result ≡ is_good_word (lists_of tables.now) (word_lists words.entry) c }
 {
     let code = c as u32;
     let word = words.word(c);
     words.trie.has_cell(code) && is_word(code, word) && class_of_word(code, word) == tables.class(c)
-}
-
-/// The least character with a bad word, `None` where there is none.
-pub(super) fn first_bad_value(tables: &CanonicalTables<'_>, words: Words<'_>) -> Option<char>
-    ensures { MatchOption result (NoneOffends (OffendsWord (lists_of tables.now) (word_lists words.entry))) (IsLeastOffender (OffendsWord (lists_of tables.now) (word_lists words.entry))) }
-{
-    first_refused(|c| has_good_word(tables, words, c))
 }
