@@ -14,10 +14,12 @@ pub mod CanonicalWords
 pub mod CharacterWords
 pub mod Compatibility
 pub mod CompatibilityFaults
+pub mod CompatibilityMaps
 pub mod CompatibilityMeaning
 pub mod DataErrors
 pub mod Decoding
 pub mod FullLists
+pub mod GivenCompatibilities
 pub mod GivenMaps
 pub mod InOrder
 pub mod ListWords
@@ -31,6 +33,7 @@ pub mod PropertyMeanings
 pub mod Readings
 pub mod Sameness
 pub mod Settled
+pub mod SettledMappings
 pub mod SteadyAnswers
 pub mod Triples
 pub mod Words
