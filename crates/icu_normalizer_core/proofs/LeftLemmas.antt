@@ -17,6 +17,12 @@ unmapped_left step xs ns nothing = tt
 unmapped_left step xs ns (unmapped c cs ms e h) = (e, unmapped_left step cs ms h)
 unmapped_left step xs ns (mapped c d ds cs ms e h) = unmapped_left step ((d ∷ ds) ++ cs) ms h
 
+-- so is each of them
+pub unmapped_at : (step : ℕ → List ℕ) (done : List ℕ) (x : ℕ) (rest : List ℕ) → AreUnmapped step (done ++ x ∷ rest) → step x ≡ []
+unfolding AreUnmapped
+unmapped_at step [] x rest h = h.0
+unmapped_at step (y ∷ ys) x rest h = unmapped_at step ys x rest h.1
+
 -- a character that is left of itself isn't mapped
 pub unmapped_itself : (step : ℕ → List ℕ) (c : ℕ) → Leaves step (c ∷ []) (c ∷ []) → step c ≡ []
 unfolding AreUnmapped

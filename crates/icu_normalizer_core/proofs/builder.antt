@@ -1,5 +1,9 @@
+pub mod AllStepLemmas
 pub mod AcceptedMapsLimitLemmas
 pub mod AcceptedMapsSameLemmas
+pub mod SettledMappingLemmas
+pub mod MappingReadLemmas
+pub mod FullWordLemmas
 pub mod InOrderLemmas
 pub mod MapNumberLemmas
 pub mod ListWordLemmas

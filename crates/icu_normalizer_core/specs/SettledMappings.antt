@@ -78,7 +78,7 @@ KeepsFullWord step k scalars24 c word = (more : List ℕ) → IsFullWord step k 
 
 -- the words of so many characters are right, also when scalars24 grows
 pub record AreRightSoFar (step : ℕ → List ℕ) (class : ℕ → ℕ) (scalars24 done : List ℕ) (words : CodePointMap ℕ) (places : ℕ) : Type 0 where
-  pub words : HasRightWords (λ c word. IsScalar c → KeepsFullWord step (class c) scalars24 c word) done words
+  pub right : HasRightWords (λ c word. IsScalar c → KeepsFullWord step (class c) scalars24 c word) done words
   pub size : length scalars24 ≤ 8 * places
 
 -- each character has its word

@@ -24,7 +24,7 @@ use Rattle.icu_normalizer_core.proofs.builder.MapNumberLemmas.{found_all}
 
 -- ---- What is found
 
-find_true : {X : Type 0} (p : X → Bool) (xs : List X) (x : X) → find p xs ≡ Some x → p x ≡ true
+pub find_true : {X : Type 0} (p : X → Bool) (xs : List X) (x : X) → find p xs ≡ Some x → p x ≡ true
 find_true p [] x e = absurd cc
 find_true {X} p (y ∷ ys) x e =
     ⊎_elim

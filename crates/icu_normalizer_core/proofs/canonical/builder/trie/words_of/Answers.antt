@@ -5,7 +5,7 @@ use Rattle.icu_normalizer_core.proofs.builder.WordMapLemmas.{words_more, words_n
 use Rattle.icu_normalizer_core.proofs.canonical.builder.trie.words_of.Goals as goal
 use Rattle.icu_normalizer_core.proofs.canonical.builder.trie.words_of.Goals.{then-c-le1114111, else-c-le1114111}
 
-pub loop-c-init : goal.loop-c-initial
+pub loop-c-init : goal.loop-c-init
 loop-c-init c =
     words_none (λ x word. IsWordOf (class_with c.args.classes.now x) c.args.steps.now c.args.lists.now.scalars24.items x word) c.in_ok-words.words c.in_ok-words.ensures
 
