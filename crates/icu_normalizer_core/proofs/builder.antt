@@ -17,3 +17,4 @@ pub mod AcceptedMappingLemmas
 pub mod CoveredLemmas
 pub mod KeptRuleLemmas
 pub mod BuiltTableLemmas
+pub mod FullWordMapLemmas

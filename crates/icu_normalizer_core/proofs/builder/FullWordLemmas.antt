@@ -97,17 +97,17 @@ module _ (over : Mappings) (sound : IsSound over) where
       (cases_step (built_in_step c))
 
   -- the canonical word, where it states no list and the list is the canonical one
-  pub canonical_word : (c : ℕ) (scalars24 : List ℕ) (left start : Left) → IsScalar c → lists.word c < 2 ^ 30 → StartsLeft steps (c ∷ []) left → length (left_items left) ≤ 8
+  pub canonical_word : (c : ℕ) (scalars24 : List ℕ) (left start : Left) → IsScalar c → StartsLeft steps (c ∷ []) left → length (left_items left) ≤ 8
       → states_list (lists.word c) ≡ false → left_items start ≡ take 9 (base.full c) → left_items start ≡ left_items left
       → KeepsFullWord steps (base.class c) scalars24 c (lists.word c)
-  canonical_word c scalars24 left start s fits starts few plain is same more =
+  canonical_word c scalars24 left start s starts few plain is same more =
       let off = unlisted (lists.word c) plain in
       let cut : take 9 (base.full c) ≡ left_items left = sym is ∙ same in
       let whole : base.full c ≡ starts.0 = sym (take_whole 9 (base.full c) (omega (arith, few, ap length cut))) ∙ cut ∙ starts_whole steps (c ∷ []) left starts few in
       let full : full_of_word [] (scalars24 ++ more) c (lists.word c) ≡ starts.0 =
       full_unlisted [] (scalars24 ++ more) lists.scalars16 lists.scalars24 c (lists.word c) off ∙ sym (full_is lists c) ∙ whole in
       record {
-        fits = fits;
+        fits = omega arith;
         form = good_form c s;
         inside = inside_apart [] (scalars24 ++ more) (lists.word c) off;
         class = sym (class_is lists c);

@@ -71,7 +71,7 @@ impl Mappings<'_> {
             let Some(left) = self.left_of(settled, *c) else {
                 return Err(CanonicalDataBuildError::Rules);
             };
-            if left.count > 8 {
+            if left.characters[..left.count].len() > 8 {
                 return Err(CanonicalDataBuildError::Rules);
             }
             let word = self.full_word(&mut scalars24, *c, &left)?;
