@@ -2,7 +2,7 @@
 use Rattle.std.proofs.Common.{◌≡◌, ℕ, List, [], ◌∷◌, ◌++◌, sym, subst, ◌∙◌}
 use Rattle.std.specs.List.{All}
 use Rattle.std.specs.Char.{IsScalar}
-use Rattle.std.proofs.lemmas.List.Elements.{All-cons, All-head, All-tail, All-append}
+use Rattle.std.proofs.lemmas.List.Elements.{All-cons, All-nil, All-head, All-tail, All-append}
 use Rattle.icu_normalizer_core.specs.Canonical.{Leaves, nothing, unmapped, mapped}
 pub use Rattle.icu_normalizer_core.proofs.DecomposedLemmas.{left_append, left_mapped, left_one, left_unmapped}
 
@@ -22,6 +22,11 @@ pub unmapped_at : (step : ℕ → List ℕ) (done : List ℕ) (x : ℕ) (rest : 
 unfolding AreUnmapped
 unmapped_at step [] x rest h = h.0
 unmapped_at step (y ∷ ys) x rest h = unmapped_at step ys x rest h.1
+
+pub all_unmapped : (step : ℕ → List ℕ) (xs : List ℕ) → AreUnmapped step xs → All (λ c. step c ≡ []) xs
+unfolding AreUnmapped
+all_unmapped step [] h = All-nil (λ c. step c ≡ [])
+all_unmapped step (x ∷ xs) h = All-cons (λ c. step c ≡ []) x xs h.0 (all_unmapped step xs h.1)
 
 -- a character that is left of itself isn't mapped
 pub unmapped_itself : (step : ℕ → List ℕ) (c : ℕ) → Leaves step (c ∷ []) (c ∷ []) → step c ≡ []

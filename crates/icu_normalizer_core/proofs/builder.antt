@@ -18,3 +18,6 @@ pub mod CoveredLemmas
 pub mod KeptRuleLemmas
 pub mod BuiltTableLemmas
 pub mod FullWordMapLemmas
+pub mod CompatibilityRuleLemmas
+pub mod CompatibilityTableLemmas
+pub mod UnnamedWordLemmas

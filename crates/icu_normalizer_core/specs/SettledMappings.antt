@@ -1,9 +1,11 @@
 -- What canonical and compatibility steps leave together, found mapping by mapping over canonical tables: a mapping is settled where it is known what
 -- they leave of it, in its first nine characters.
-use Rattle.std.specs.Prelude.{◌≡◌, ◌≢◌, ℕ, ◌*◌, ◌<◌, ◌≤◌, ◌^◌, Bool, true, false, List, [], ◌∷◌, ◌++◌, length, take, flat_map, slice_get, Option, Some, None}
+use Rattle.std.specs.Prelude.{◌≡◌, ◌≢◌, ℕ, ◌*◌, ◌<◌, ◌≤◌, ◌^◌, Bool, true, false, List, [], ◌∷◌, ◌++◌, length, map, take, flat_map, slice_get, Option, Some, None}
 use Rattle.std.specs.List.{All}
 use Rattle.std.specs.Char.{IsScalar}
 use Rattle.icu_normalizer_core.specs.declared.canonical.builder.GivenCompatibility.{GivenCompatibility}
+use Rattle.icu_normalizer_core.specs.declared.canonical.builder.GivenClass.{GivenClass}
+use Rattle.icu_normalizer_core.specs.declared.canonical.builder.GivenMapping.{GivenMapping}
 use Rattle.icu_normalizer_core.specs.declared.canonical.builder.mappings.Mappings.{Mappings}
 use Rattle.icu_normalizer_core.specs.declared.canonical.check.left.Left.{Left}
 use Rattle.icu_normalizer_core.specs.BuiltIn.{built_in_compatibility_step}
@@ -12,7 +14,7 @@ use Rattle.icu_normalizer_core.specs.CanonicalFaults.{IsAccepted}
 use Rattle.icu_normalizer_core.specs.CanonicalMaps.{is_built_in}
 use Rattle.icu_normalizer_core.specs.CanonicalMeaning.{lists_of, meaning}
 use Rattle.icu_normalizer_core.specs.CanonicalWords.{is_word, is_inside, class_of_word, full_of_word}
-use Rattle.icu_normalizer_core.specs.CharacterWords.{HasRightWords}
+use Rattle.icu_normalizer_core.specs.CharacterWords.{HasRightWords, built_in_named, unnamed_word}
 use Rattle.icu_codepointtrie.specs.CodePointMaps.{CodePointMap}
 use Rattle.icu_normalizer_core.specs.CompatibilityMaps.{all_steps, first_given}
 use Rattle.icu_normalizer_core.specs.GivenCompatibilities.{IsOfCharacters}
@@ -76,10 +78,20 @@ pub record IsFullWord (step : ℕ → List ℕ) (k : ℕ) (scalars24 : List ℕ)
 abbrev pub KeepsFullWord : (ℕ → List ℕ) → ℕ → List ℕ → ℕ → ℕ → Type 0
 KeepsFullWord step k scalars24 c word = (more : List ℕ) → IsFullWord step k (scalars24 ++ more) c word
 
+-- the characters that are named by what is built in, but Hangul, or given
+abbrev pub named_with : List GivenClass → List GivenMapping → List GivenCompatibility → List ℕ
+named_with classes mappings given =
+    (((0xff9e ∷ 0xff9f ∷ built_in_named) ++ map (λ g. g.character) classes) ++ map (λ g. g.character) mappings) ++ map (λ g. g.character) given
+
 -- the words of so many characters are right, also when scalars24 grows
 pub record AreRightSoFar (step : ℕ → List ℕ) (class : ℕ → ℕ) (scalars24 done : List ℕ) (words : CodePointMap ℕ) (places : ℕ) : Type 0 where
   pub right : HasRightWords (λ c word. IsScalar c → KeepsFullWord step (class c) scalars24 c word) done words
   pub size : length scalars24 ≤ 8 * places
+
+-- the word as none is set is right of each character outside a list
+abbrev pub AreOthersUnnamed : (ℕ → List ℕ) → (ℕ → ℕ) → List ℕ → Type 0
+AreOthersUnnamed step class named =
+    (scalars24 : List ℕ) (c : ℕ) → IsScalar c → (IsAmong named c → ⊥) → IsFullWord step (class c) scalars24 c (unnamed_word c)
 
 -- each character has its word
 pub record AreFullWords (step : ℕ → List ℕ) (class : ℕ → ℕ) (words : WordLists) : Type 0 where

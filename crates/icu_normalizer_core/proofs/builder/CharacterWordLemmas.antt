@@ -34,7 +34,7 @@ class_one : (c : ℕ) → class_of_word c 1 ≡ 0
 unfolding class_of_word
 class_one c = refl
 
-full_of_one : (s24 : List ℕ) (c : ℕ) → full_of_word [] s24 c 1 ≡ syllable_letters c
+pub full_of_one : (s24 : List ℕ) (c : ℕ) → full_of_word [] s24 c 1 ≡ syllable_letters c
 unfolding full_of_word
 full_of_one s24 c = refl
 

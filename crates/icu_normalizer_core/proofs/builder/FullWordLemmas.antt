@@ -63,10 +63,10 @@ module _ (over : Mappings) (sound : IsSound over) where
       (λ f. absurd (sound.accepted.values c s f))
       (cases_Bool (lists.has_word c && is_word c (lists.word c)))
 
-  both_on : (c : ℕ) (ds : List ℕ) → built_in_step c ≡ Some ds → steps c ≡ ds
+  pub both_on : (c : ℕ) (ds : List ℕ) → built_in_step c ≡ Some ds → steps c ≡ ds
   both_on = built_on base (decomposing over sound) over.given.now sound.given sound.starters
 
-  both_marks : (c k : ℕ) → built_in_class c ≡ Some k → 0 < k → built_in_step c ≡ None → steps c ≡ []
+  pub both_marks : (c k : ℕ) → built_in_class c ≡ Some k → 0 < k → built_in_step c ≡ None → steps c ≡ []
   both_marks = marks_unmapped base (decomposing over sound) over.given.now sound.given sound.starters
 
   base_on : (c : ℕ) (ds : List ℕ) → built_in_step c ≡ Some ds → base.step c ≡ ds

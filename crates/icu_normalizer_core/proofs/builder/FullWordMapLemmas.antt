@@ -1,19 +1,26 @@
 -- The compatibility words of characters in a map, one after another.
-use Rattle.std.proofs.Common.{◌≡◌, ℕ, ◌+◌, ◌*◌, ◌<◌, ◌≤◌, ◌==◌, ⊎_elim, List, [], ◌∷◌, ◌++◌, length, take, Option, refl, sym, ap, subst, ◌∙◌, arith, append_assoc, length-append}
-use Rattle.std.specs.Prelude.{false}
+use Rattle.std.proofs.Common.{◌≡◌, ℕ, ◌+◌, ◌*◌, ◌<◌, ◌≤◌, ◌%◌, ◌^◌, ◌==◌, ⊎_elim, false, List, [], ◌∷◌, ◌++◌, length, take, Option, refl, sym, ap, subst, ◌∙◌, arith, append_assoc, length-append}
+use Rattle.std.specs.Option.{unwrap_or}
 use Rattle.std.specs.Char.{IsScalar}
 use Rattle.icu_codepointtrie.specs.Blocks.{different_blocks}
-use Rattle.icu_codepointtrie.specs.CodePointMaps.{CodePointMap, IsWritten}
+use Rattle.std.proofs.lemmas.List.{append-nil}
+use Rattle.icu_codepointtrie.specs.BuiltTries.{IsTrieOf}
+use Rattle.icu_codepointtrie.specs.CodePointMaps.{CodePointMap, IsWritten, mapped}
+use Rattle.icu_codepointtrie.specs.Places.{value_at}
+use Rattle.icu_normalizer_core.specs.declared.compatibility.tables.NfkdTables.{NfkdTables}
+use Rattle.icu_normalizer_core.specs.CanonicalWords.{plain_word}
+use Rattle.icu_normalizer_core.specs.CompatibilityMeaning.{nfkd_lists}
 use Rattle.icu_normalizer_core.specs.declared.canonical.builder.mappings.Mappings.{Mappings}
 use Rattle.icu_normalizer_core.specs.declared.canonical.check.left.Left.{Left}
 use Rattle.icu_normalizer_core.specs.BuiltIn.{is_syllable}
 use Rattle.icu_normalizer_core.specs.CanonicalMeaning.{meaning}
 use Rattle.icu_normalizer_core.specs.CharacterWords.{AreUnnamed}
 use Rattle.icu_normalizer_core.specs.Settled.{left_items}
-use Rattle.icu_normalizer_core.specs.SettledMappings.{AreMappingStarts, AreRightSoFar, HasBadLeft, HasOpen, IsAllSettled, IsFullWord, IsSound, KeepsFullWord, StartsLeft, steps_in}
+use Rattle.icu_normalizer_core.specs.SettledMappings.{AreFullWords, AreMappingStarts, AreOthersUnnamed, AreRightSoFar, HasBadLeft, HasOpen, IsAllSettled, IsFullWord, IsSound, KeepsFullWord, StartsLeft, steps_in}
 use Rattle.icu_normalizer_core.proofs.DecomposedLemmas.{left_one}
 use Rattle.icu_normalizer_core.proofs.SettledLemmas.{cut_long}
 use Rattle.icu_normalizer_core.proofs.builder.BuiltTableLemmas.{scalar_bound}
+use Rattle.icu_normalizer_core.proofs.builder.CoveredLemmas.{among_or_not}
 use Rattle.icu_normalizer_core.proofs.builder.MappingReadLemmas.{open_endless}
 use Rattle.icu_normalizer_core.proofs.builder.WordMapLemmas.{words_along, words_more, words_none}
 
@@ -50,3 +57,24 @@ open_bad over settled c sound starts done s o = (c, s, λ list leaves. absurd (o
 pub long_bad : (step : ℕ → List ℕ) (c : ℕ) (left : Left) → IsScalar c → StartsLeft step (c ∷ []) left → 8 < length (left_items left) → HasBadLeft step
 long_bad step c left s starts long =
     (c, s, λ list leaves. subst (λ (xs : List ℕ). 8 < length xs) (left_one step (c ∷ []) starts.0 list starts.1 leaves) (cut_long (left_items left) starts.0 starts.2 long))
+
+-- the tables of right words have each character's word
+pub table_words : (step : ℕ → List ℕ) (class : ℕ → ℕ) (scalars24 named : List ℕ) (words : CodePointMap ℕ) (places : ℕ) (tables : NfkdTables)
+    → AreRightSoFar step class scalars24 named words places → AreOthersUnnamed step class named → IsTrieOf words tables.trie → tables.scalars16 ≡ []
+    → tables.scalars24 ≡ scalars24 → AreFullWords step class (nfkd_lists tables)
+table_words step class scalars24 named words places tables has others is none same = record {
+  has_word = λ c s. is.cells c;
+  scalars16 = none;
+  each = λ c s.
+      let bound = scalar_bound c s in
+      let kept : IsRight step class scalars24 c (mapped words c) → IsFullWord step (class c) scalars24 c (mapped words c) =
+      λ right. subst (λ (t : List ℕ). IsFullWord step (class c) t c (mapped words c)) (append-nil scalars24) (right s []) in
+      let word : IsFullWord step (class c) scalars24 c (mapped words c) =
+      ⊎_elim
+      (λ yes. kept (has.right.among c bound yes))
+      (λ no. ⊎_elim kept (λ first. subst (IsFullWord step (class c) scalars24 c) (sym first) (others scalars24 c s no)) (has.right.others c bound))
+      (among_or_not named c) in
+      let small : mapped words c % 2 ^ 30 ≡ mapped words c = let f = word.fits in omega arith in
+      let read : plain_word (unwrap_or (value_at tables.trie c) 0) ≡ mapped words c = ap (λ (o : Option ℕ). plain_word (unwrap_or o 0)) (is.within c bound) ∙ small in
+      subst (λ (n : ℕ). IsFullWord step (class c) tables.scalars24 c n) (sym read) (subst (λ (t : List ℕ). IsFullWord step (class c) t c (mapped words c)) (sym same) word);
+}

@@ -11,6 +11,7 @@ ghost use Rattle.icu_normalizer_core.specs.CompatibilityMaps.{AllMaps, AreAccept
 ghost use Rattle.icu_normalizer_core.specs.CompatibilityMeaning.{nfkd_lists};
 ghost use Rattle.icu_normalizer_core.specs.Plain.{Tells};
 
+mod compatibility_tables;
 mod compatibility_words;
 mod full_lists;
 mod in_order;
@@ -29,6 +30,8 @@ use super::check::first_fault;
 use super::check::told::told;
 use super::data::CanonicalData;
 use super::tables::CanonicalTables;
+use crate::compatibility::NfkdTables;
+use compatibility_tables::compatibility_tables;
 use std::alloc::{AllocError, Global};
 use std::marker::Model;
 use tables::tables;
@@ -219,5 +222,27 @@ impl CanonicalDataBuilder {
             Ok((tables, told)) => Ok(CanonicalData::of_accepted(alloc, tables, &told)?),
             Err(error) => Err(error),
         }
+    }
+
+    /// The compatibility tables of what was given, with what is built in; the builder stays as it is. Over canonical
+    /// tables that mean what was given they pass every check (`CompatibilityData::try_new`). `Rules` comes only where
+    /// what was given breaks a rule (docs/RECORDS.md, C1 to C9), says two things of one character, or names more than
+    /// 150 characters. Want of memory can come with anything that was given.
+    pub fn build_nfkd(&self, alloc: Global) -> Result<NfkdTables<'static>, CanonicalDataBuildError>
+        ensures means { IfOk result (λ made. AreMeaningOf self.now (nfkd_lists made)) }
+        ensures accepted { IfOk result (λ made. AreAcceptedOver self.now.canonical (nfkd_lists made)) }
+        ensures refused { IfErr result (λ e. (e ≡ Memory) ⊎ ((e ≡ Rules) × (KeepAllRules self.now → ⊥))) }
+    {
+        let tables = match self.build(alloc) {
+            Ok(tables) => tables,
+            Err(error) => return Err(error),
+        };
+        compatibility_tables(
+            alloc,
+            self.classes.as_slice(),
+            self.mappings.as_slice(),
+            self.compatibilities.as_slice(),
+            &tables,
+        )
     }
 }
