@@ -1,5 +1,5 @@
 -- Compatibility mappings that are given to a builder are of characters.
-use Rattle.std.specs.Prelude.{ℕ, ◌<◌, length}
+use Rattle.std.specs.Prelude.{◌<◌, length}
 use Rattle.std.specs.List.{All}
 use Rattle.std.specs.Char.{IsScalar}
 use Rattle.icu_normalizer_core.specs.declared.canonical.builder.GivenCompatibility.{GivenCompatibility}

@@ -1,22 +1,21 @@
 -- Compatibility words of maps that keep the rules are accepted, over canonical tables that mean the maps.
-use Rattle.std.proofs.Common.{◌≡◌, ◌≢◌, ℕ, ◌<◌, ◌≤◌, ◌==◌, ◌&&◌, ◌||◌, ◌⊎◌, inl, inr, ⊎_elim, Bool, true, false, not, List, [], ◌∷◌, ◌++◌, length, flat_map, slice_index, Option, Some, None, refl, sym, ap, subst, ◌∙◌, arith}
+use Rattle.std.proofs.Common.{◌≡◌, ◌≢◌, ℕ, ◌<◌, ◌≤◌, ◌==◌, ◌&&◌, ◌||◌, ◌⊎◌, inl, inr, ⊎_elim, Bool, true, false, not, List, [], ◌∷◌, length, flat_map, slice_index, Option, Some, None, refl, sym, ap, subst, ◌∙◌, arith}
 use Rattle.std.specs.List.{All, find}
 use Rattle.std.specs.Option.{is_some, unwrap_or}
 use Rattle.std.specs.Char.{IsScalar}
 use lib.Utf8.{low_scalar}
-use Rattle.std.proofs.lemmas.Bool.{and_from, cases_Bool, cases_lt, eq-eqb, eqb-true, false≢true}
+use Rattle.std.proofs.lemmas.Bool.{and_from, cases_lt, eq-eqb, eqb-true, false≢true}
 use Rattle.std.proofs.lemmas.List.Elements.{All-contains, All-cons, All-head, All-nil, All-tail}
-use Rattle.std.proofs.lemmas.Option.{none-some, same_Some}
+use Rattle.std.proofs.lemmas.Option.{same_Some}
 use Rattle.icu_normalizer_core.specs.declared.canonical.builder.GivenMapping.{GivenMapping}
 use Rattle.icu_normalizer_core.specs.declared.canonical.builder.mappings.Mappings.{Mappings}
 use Rattle.icu_normalizer_core.specs.BuiltIn.{built_in_compatibility_step, built_in_step}
 use Rattle.icu_normalizer_core.specs.Canonical.{Canonical, Leaves, nothing}
 use Rattle.icu_normalizer_core.specs.CanonicalFaults.{NoneOffends, begins_with_mark}
 use Rattle.icu_normalizer_core.specs.CanonicalLists.{CanonicalLists}
-use Rattle.icu_normalizer_core.specs.CanonicalMaps.{CanonicalMaps, AreMeaning, given_step, is_built_in, is_built_in_mapping, mapping_given, step_of}
+use Rattle.icu_normalizer_core.specs.CanonicalMaps.{CanonicalMaps, AreMeaning, given_step, is_built_in, is_built_in_mapping, mapping_given}
 use Rattle.icu_normalizer_core.specs.CanonicalMeaning.{lists_of, meaning}
-use Rattle.icu_normalizer_core.specs.CanonicalWords.{built_in_full, full_of_word, is_inside, is_word, states_list}
-use Rattle.icu_normalizer_core.specs.Compatibility.{fixed_list}
+use Rattle.icu_normalizer_core.specs.CanonicalWords.{full_of_word, is_inside, is_word}
 use Rattle.icu_normalizer_core.specs.CompatibilityFaults.{AreAcceptedWords, OffendsFixed, OffendsWord, OffendsWordList}
 use Rattle.icu_normalizer_core.specs.CompatibilityMaps.{AllMaps, AreMeaningOf, KeepAllRules, all_steps_of, compatibility_step, else_mapped}
 use Rattle.icu_normalizer_core.specs.SettledMappings.{AreFullWords, HasBadLeft, IsSound, steps_in}
@@ -26,7 +25,7 @@ use Rattle.icu_normalizer_core.proofs.DecomposedLemmas.{left_one}
 use Rattle.icu_normalizer_core.proofs.FixedListLemmas.{fixed_built, fixed_low, fixed_step}
 use Rattle.icu_normalizer_core.proofs.LeftLemmas.{all_unmapped, left_alone, left_append, left_single, unmapped_left}
 use Rattle.icu_normalizer_core.proofs.builder.AcceptedMappingLemmas.{find_true, unbuilt}
-use Rattle.icu_normalizer_core.proofs.builder.AllStepLemmas.{all_first, all_scalars, all_second, cases_list, cases_step, compatible, left_of_scalars, left_through, scalars_left, unbound}
+use Rattle.icu_normalizer_core.proofs.builder.AllStepLemmas.{all_first, all_scalars, all_second, cases_step, compatible, left_of_scalars, left_through, scalars_left, unbound}
 use Rattle.icu_normalizer_core.proofs.builder.AllStepLemmas.{step_fixed as fixed_compatibility}
 use Rattle.icu_normalizer_core.proofs.builder.CharacterWordLemmas.{states_class}
 use Rattle.icu_normalizer_core.proofs.builder.FullWordLemmas.{both_marks, both_on, built_in_same}
@@ -217,4 +216,3 @@ module _ (canonical_maps : CanonicalMaps) (over : Mappings) (sound : IsSound ove
 
       pub built_words_accepted : AreAcceptedWords lists words
       built_words_accepted = record { values = good_values; full_lists = good_lists; built_ins = good_fixed }
-

@@ -1,5 +1,5 @@
 -- Compatibility tables that are built, and the canonical tables over which they are accepted.
-use Rattle.std.proofs.Common.{◌≡◌, ℕ, ◌==◌, ◌&&◌, inl, inr, List, [], ◌∷◌, flat_map, not, refl, sym, ap, ◌∙◌}
+use Rattle.std.proofs.Common.{◌≡◌, ℕ, ◌==◌, ◌&&◌, inl, inr, List, [], ◌∷◌, flat_map, not, refl, ap, ◌∙◌}
 use Rattle.std.specs.List.{All}
 use Rattle.std.specs.Char.{IsScalar}
 use Rattle.std.proofs.lemmas.List.Elements.{All-head}

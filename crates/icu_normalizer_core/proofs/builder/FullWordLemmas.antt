@@ -1,21 +1,21 @@
 -- The compatibility word of a character, over sound mappings.
-use Rattle.std.proofs.Common.{◌≡◌, ◌≢◌, ℕ, ◌+◌, ◌<◌, ◌≤◌, ◌^◌, ◌&&◌, ◌⊎◌, inl, inr, ⊎_elim, Bool, true, false, List, [], ◌∷◌, ◌++◌, length, take, Option, Some, None, refl, sym, ap, subst, ◌∙◌, arith}
+use Rattle.std.proofs.Common.{◌≡◌, ◌≢◌, ℕ, ◌<◌, ◌≤◌, ◌&&◌, ⊎_elim, true, false, List, [], ◌∷◌, ◌++◌, length, take, Option, Some, None, refl, sym, ap, subst, ◌∙◌, arith}
 use Rattle.std.specs.List.{All}
-use Rattle.std.specs.Option.{unwrap_or, IfSome}
+use Rattle.std.specs.Option.{IfSome}
 use Rattle.std.specs.Char.{IsScalar}
-use Rattle.std.proofs.lemmas.Bool.{and_parts, cases_Bool, cases_eq, cond-false, false≢true, or_parts}
+use Rattle.std.proofs.lemmas.Bool.{and_parts, cases_Bool, cases_eq, cond-false, or_parts}
 use Rattle.std.proofs.lemmas.List.Elements.{All-cons, All-nil}
 use Rattle.std.proofs.lemmas.Option.{same_Some}
 use Rattle.icu_normalizer_core.specs.declared.canonical.builder.mappings.Mappings.{Mappings}
 use Rattle.icu_normalizer_core.specs.declared.canonical.check.left.Left.{Left}
 use Rattle.icu_normalizer_core.specs.BuiltIn.{built_in_class, built_in_step, is_syllable}
-use Rattle.icu_normalizer_core.specs.Canonical.{Canonical, IsFree, Leaves}
+use Rattle.icu_normalizer_core.specs.Canonical.{Canonical, Leaves}
 use Rattle.icu_normalizer_core.specs.CanonicalLists.{CanonicalLists}
 use Rattle.icu_normalizer_core.specs.CanonicalMeaning.{lists_of, meaning}
-use Rattle.icu_normalizer_core.specs.CanonicalWords.{built_in_full, class_of_word, full_of_word, is_list_word, is_one_word, is_pair_word, is_word, states_list, syllable_letters}
-use Rattle.icu_normalizer_core.specs.ListWords.{KeepsStating, StatesList}
+use Rattle.icu_normalizer_core.specs.CanonicalWords.{built_in_full, full_of_word, is_list_word, is_one_word, is_pair_word, is_word, states_list, syllable_letters}
+use Rattle.icu_normalizer_core.specs.ListWords.{KeepsStating}
 use Rattle.icu_normalizer_core.specs.Settled.{left_items}
-use Rattle.icu_normalizer_core.specs.SettledMappings.{IsFullWord, IsSound, KeepsFullWord, StartsLeft, steps_in}
+use Rattle.icu_normalizer_core.specs.SettledMappings.{IsSound, KeepsFullWord, StartsLeft, steps_in}
 use Rattle.icu_normalizer_core.proofs.BuiltInFacts.{built_in_left, syllable_left}
 use Rattle.icu_normalizer_core.proofs.DecomposedLemmas.{left_one}
 use Rattle.icu_normalizer_core.proofs.LeftLemmas.{left_alone}

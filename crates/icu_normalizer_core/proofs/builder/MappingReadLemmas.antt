@@ -4,20 +4,18 @@ use Rattle.std.specs.Prelude.{MatchOption, option_map}
 use Rattle.std.specs.Option.{is_some}
 use Rattle.std.specs.List.{All}
 use Rattle.std.specs.Char.{IsScalar}
-use Rattle.std.proofs.lemmas.Grind.{flat_map-append}
 use Rattle.std.proofs.lemmas.List.{append-nil, take_more}
 use Rattle.std.proofs.lemmas.List.Elements.{All-cons, All-nil}
-use Rattle.icu_normalizer_core.specs.declared.canonical.builder.GivenCompatibility.{GivenCompatibility}
 use Rattle.icu_normalizer_core.specs.declared.canonical.builder.mappings.Mappings.{Mappings}
 use Rattle.icu_normalizer_core.specs.declared.canonical.check.left.Left.{Left}
 use Rattle.icu_normalizer_core.specs.declared.properties.Decomposed.{Decomposed}
 use Rattle.icu_normalizer_core.specs.BuiltIn.{built_in_compatibility_step, built_in_step}
 use Rattle.icu_normalizer_core.specs.Canonical.{Canonical, IsDecomposing, IsFree, Leaves}
 use Rattle.icu_normalizer_core.specs.CanonicalMeaning.{lists_of, meaning}
-use Rattle.icu_normalizer_core.specs.CompatibilityMaps.{all_steps, first_given}
+use Rattle.icu_normalizer_core.specs.CompatibilityMaps.{first_given}
 use Rattle.icu_normalizer_core.specs.Properties.{mapped_to}
 use Rattle.icu_normalizer_core.specs.Settled.{left_items, IsAmong}
-use Rattle.icu_normalizer_core.specs.SettledMappings.{AreMappingStarts, HasOpen, IsAllSettled, IsOpenMapping, IsSound, StartsLeft, mapping_at, steps_in}
+use Rattle.icu_normalizer_core.specs.SettledMappings.{AreMappingStarts, HasOpen, IsAllSettled, IsOpenMapping, IsSound, StartsLeft, steps_in}
 use Rattle.icu_normalizer_core.proofs.AcceptedPairs.{canonical}
 use Rattle.icu_normalizer_core.proofs.LeftLemmas.{AreUnmapped, unmapped_at, unmapped_left}
 use Rattle.icu_normalizer_core.proofs.SettlingLemmas.{among_behind, among_front}

@@ -1,5 +1,5 @@
 -- Mappings settled one after another over canonical data, until no more can be.
-use Rattle.std.proofs.Common.{◌≡◌, ◌≢◌, ℕ, zero, suc, ◌+◌, ◌<◌, ◌≤◌, ◌⊎◌, inl, inr, ⊎_elim, Bool, true, false, ◌==◌, List, [], ◌∷◌, ◌++◌, length, take, drop, flat_map, set, slice_get, Option, Some, None, refl, sym, ap, subst, ◌∙◌, arith}
+use Rattle.std.proofs.Common.{◌≡◌, ℕ, zero, suc, ◌+◌, ◌<◌, ◌≤◌, ◌⊎◌, inl, inr, ⊎_elim, Bool, true, false, ◌==◌, List, [], ◌∷◌, ◌++◌, length, take, drop, flat_map, set, slice_get, Option, Some, None, sym, ap, subst, ◌∙◌, arith}
 use Rattle.std.specs.Prelude.{MatchOption}
 use Rattle.std.specs.List.{All}
 use Rattle.std.specs.Char.{IsScalar}
@@ -12,14 +12,14 @@ use Rattle.icu_normalizer_core.specs.declared.canonical.builder.GivenCompatibili
 use Rattle.icu_normalizer_core.specs.declared.canonical.check.left.Left.{Left}
 use Rattle.icu_normalizer_core.specs.BuiltIn.{built_in_compatibility_step}
 use Rattle.icu_normalizer_core.specs.Canonical.{Canonical, IsDecomposing, IsFree, Leaves, nothing, unmapped, mapped}
-use Rattle.icu_normalizer_core.specs.CompatibilityMaps.{all_steps, first_given, given_compatibility}
+use Rattle.icu_normalizer_core.specs.CompatibilityMaps.{all_steps, first_given}
 use Rattle.icu_normalizer_core.specs.GivenCompatibilities.{IsOfCharacters}
 use Rattle.icu_normalizer_core.specs.Settled.{left_items, IsAmong, open_count}
 use Rattle.icu_normalizer_core.specs.SettledMappings.{AreMappingStarts, AreOnStarters, HasOpen, IsAllSettled, IsOpenMapping, StartsLeft, mapping_at}
 use Rattle.icu_normalizer_core.proofs.DecomposedLemmas.{left_full, left_mapped, left_one}
 use Rattle.icu_normalizer_core.proofs.LeftLemmas.{left_alone, left_append}
 use Rattle.icu_normalizer_core.proofs.SettledLemmas.{cut_joined}
-use Rattle.icu_normalizer_core.proofs.SettlingLemmas.{among_behind, among_front, got_inside, got_other, got_same, written_length, open_pushed, AreOpen}
+use Rattle.icu_normalizer_core.proofs.SettlingLemmas.{among_behind, among_front, got_other, got_same, written_length, AreOpen}
 use Rattle.icu_normalizer_core.proofs.builder.AllStepLemmas.{all_first, all_scalars, all_second, cases_list, given_is, step_given}
 use Rattle.icu_normalizer_core.proofs.builder.MapNumberLemmas.{found_all}
 
