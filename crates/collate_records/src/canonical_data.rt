@@ -36,8 +36,8 @@ pub(crate) fn canonical_data(
 /// Gives what a line says of a class or a mapping, if it does. `AllocError` where memory is refused.
 fn give(builder: &mut CanonicalDataBuilder, given: &Record) -> Result<(), AllocError>
     requires { HasSmallClass (said given.now) }
-    ensures classes { OnOk result (builder.new.classes ≡ builder.old.classes ++ classes_in (said given.now)) }
-    ensures mappings { OnOk result (builder.new.mappings ≡ builder.old.mappings ++ mappings_in (said given.now)) }
+    ensures classes { OnOk result (builder.new.canonical.classes ≡ builder.old.canonical.classes ++ classes_in (said given.now)) }
+    ensures mappings { OnOk result (builder.new.canonical.mappings ≡ builder.old.canonical.mappings ++ mappings_in (said given.now)) }
 {
     match given {
         Record::Class { character, class } => builder.class(*character, *class as u8),

@@ -166,7 +166,7 @@ unfolding built_in_step built_in_full
 free_full c e = chain_none (is_syllable c) (is_jamo c || (c == 0xfffd)) (syllable_step c) [] _ _ (singled_out c) e
 
 -- numbers from U+E000 to U+10FFFF are scalar values
-high_scalar : (c : ℕ) → 0xe000 ≤ c → c < 0x110000 → IsScalar c
+pub high_scalar : (c : ℕ) → 0xe000 ≤ c → c < 0x110000 → IsScalar c
 high_scalar c h k = grind (arith, nat_tests)
 
 pub class_scalar : (c k : ℕ) → built_in_class c ≡ Some k → IsScalar c

@@ -14,7 +14,7 @@ use Rattle.icu_normalizer_core.proofs.BuiltInTestLemmas.{full_short, short_start
 abbrev fixed_from : ℕ → Option (List ℕ) → Option (List ℕ)
 fixed_from c o = elim o [ Some list ↦ Some list | None ↦ cond (ltb c 0xa0) (Some (c ∷ [])) (built_in_compatibility_step c) ]
 
-fixed_built : (c : ℕ) (list : List ℕ) → built_in_full c ≡ Some list → fixed_list c ≡ Some list
+pub fixed_built : (c : ℕ) (list : List ℕ) → built_in_full c ≡ Some list → fixed_list c ≡ Some list
 unfolding fixed_list
 fixed_built c list e = ap (fixed_from c) e
 
@@ -22,7 +22,7 @@ pub fixed_low : (c : ℕ) → built_in_full c ≡ None → c < 0xa0 → fixed_li
 unfolding fixed_list
 fixed_low c e h = ap (fixed_from c) e ∙ cond-true (ltb c 0xa0) (Some (c ∷ [])) (built_in_compatibility_step c) (lt-ltb c 0xa0 h)
 
-fixed_step : (c : ℕ) → built_in_full c ≡ None → 0xa0 ≤ c → fixed_list c ≡ built_in_compatibility_step c
+pub fixed_step : (c : ℕ) → built_in_full c ≡ None → 0xa0 ≤ c → fixed_list c ≡ built_in_compatibility_step c
 unfolding fixed_list
 fixed_step c e h = ap (fixed_from c) e ∙ cond-false (ltb c 0xa0) (Some (c ∷ [])) (built_in_compatibility_step c) (le-ltb c 0xa0 h)
 

@@ -2,7 +2,7 @@
 use Rattle.std.proofs.Common.{◌≡◌, ℕ, List, [], ◌∷◌, ◌++◌, sym, subst, ◌∙◌}
 use Rattle.std.specs.List.{All}
 use Rattle.std.specs.Char.{IsScalar}
-use Rattle.std.proofs.lemmas.List.Elements.{All-cons, All-head, All-tail, All-append}
+use Rattle.std.proofs.lemmas.List.Elements.{All-cons, All-nil, All-head, All-tail, All-append}
 use Rattle.icu_normalizer_core.specs.Canonical.{Leaves, nothing, unmapped, mapped}
 pub use Rattle.icu_normalizer_core.proofs.DecomposedLemmas.{left_append, left_mapped, left_one, left_unmapped}
 
@@ -16,6 +16,17 @@ unfolding AreUnmapped
 unmapped_left step xs ns nothing = tt
 unmapped_left step xs ns (unmapped c cs ms e h) = (e, unmapped_left step cs ms h)
 unmapped_left step xs ns (mapped c d ds cs ms e h) = unmapped_left step ((d ∷ ds) ++ cs) ms h
+
+-- so is each of them
+pub unmapped_at : (step : ℕ → List ℕ) (done : List ℕ) (x : ℕ) (rest : List ℕ) → AreUnmapped step (done ++ x ∷ rest) → step x ≡ []
+unfolding AreUnmapped
+unmapped_at step [] x rest h = h.0
+unmapped_at step (y ∷ ys) x rest h = unmapped_at step ys x rest h.1
+
+pub all_unmapped : (step : ℕ → List ℕ) (xs : List ℕ) → AreUnmapped step xs → All (λ c. step c ≡ []) xs
+unfolding AreUnmapped
+all_unmapped step [] h = All-nil (λ c. step c ≡ [])
+all_unmapped step (x ∷ xs) h = All-cons (λ c. step c ≡ []) x xs h.0 (all_unmapped step xs h.1)
 
 -- a character that is left of itself isn't mapped
 pub unmapped_itself : (step : ℕ → List ℕ) (c : ℕ) → Leaves step (c ∷ []) (c ∷ []) → step c ≡ []

@@ -15,24 +15,24 @@ use Rattle.icu_normalizer_core.proofs.SettledLemmas.{start_mapped}
 
 -- ---- Writes
 
-got_same : {X : Type 0} (xs : List X) (i : ℕ) (y : X) → i < length xs → slice_get (set xs i y) i ≡ Some y
+pub got_same : {X : Type 0} (xs : List X) (i : ℕ) (y : X) → i < length xs → slice_get (set xs i y) i ≡ Some y
 got_same [] i y h = absurd (omega arith)
 got_same (x ∷ xs) zero y h = refl
 got_same (x ∷ xs) (suc i) y h = got_same xs i y (omega arith)
 
-got_other : {X : Type 0} (xs : List X) (i j : ℕ) (y : X) → j ≢ i → slice_get (set xs i y) j ≡ slice_get xs j
+pub got_other : {X : Type 0} (xs : List X) (i j : ℕ) (y : X) → j ≢ i → slice_get (set xs i y) j ≡ slice_get xs j
 got_other [] i j y ne = refl
 got_other (x ∷ xs) zero zero y ne = absurd (ne refl)
 got_other (x ∷ xs) zero (suc j) y ne = refl
 got_other (x ∷ xs) (suc i) zero y ne = refl
 got_other (x ∷ xs) (suc i) (suc j) y ne = got_other xs i j y (λ e. ne (ap suc e))
 
-got_inside : {X : Type 0} (xs : List X) (i : ℕ) (x : X) → slice_get xs i ≡ Some x → i < length xs
+pub got_inside : {X : Type 0} (xs : List X) (i : ℕ) (x : X) → slice_get xs i ≡ Some x → i < length xs
 got_inside [] i x e = absurd (none-some x e)
 got_inside (y ∷ xs) zero x e = omega arith
 got_inside (y ∷ xs) (suc i) x e = let h = got_inside xs i x e in omega arith
 
-written_length : {X : Type 0} (xs : List X) (i : ℕ) (y : X) → length (set xs i y) ≡ length xs
+pub written_length : {X : Type 0} (xs : List X) (i : ℕ) (y : X) → length (set xs i y) ≡ length xs
 written_length [] i y = refl
 written_length (x ∷ xs) zero y = refl
 written_length (x ∷ xs) (suc i) y = ap suc (written_length xs i y)
@@ -85,11 +85,11 @@ starts_written steps settled i left t h starts s = record {
 
 -- ---- Where no more can be settled, what is open has no end
 
-among_behind : (xs ys : List ℕ) (c : ℕ) → IsAmong ys c → IsAmong (xs ++ ys) c
+pub among_behind : (xs ys : List ℕ) (c : ℕ) → IsAmong ys c → IsAmong (xs ++ ys) c
 among_behind [] ys c h = h
 among_behind (x ∷ xs) ys c h = inr (among_behind xs ys c h)
 
-among_front : (xs ys : List ℕ) (c : ℕ) → IsAmong xs c → IsAmong (xs ++ ys) c
+pub among_front : (xs ys : List ℕ) (c : ℕ) → IsAmong xs c → IsAmong (xs ++ ys) c
 among_front [] ys c h = elim h [ ]
 among_front (x ∷ xs) ys c (inl e) = inl e
 among_front (x ∷ xs) ys c (inr h) = inr (among_front xs ys c h)
@@ -136,7 +136,7 @@ pub mapping_double : (a b x y : ℕ) → x ≡ a → y ≡ b → y ≢ 0x110000 
 mapping_double a b x y e f ne =
     cond-false (b == 0x110000) (a ∷ []) (a ∷ b ∷ []) (ne_eqb b 0x110000 (λ same. ne (f ∙ same))) ∙ ap (λ (n : ℕ). n ∷ b ∷ []) (sym e) ∙ ap (λ (n : ℕ). x ∷ n ∷ []) (sym f)
 
-got_at : {X : Type 0} (xs : List X) (i : ℕ) (x : X) → i < length xs → x ≡ get_or xs i x → slice_get xs i ≡ Some x
+pub got_at : {X : Type 0} (xs : List X) (i : ℕ) (x : X) → i < length xs → x ≡ get_or xs i x → slice_get xs i ≡ Some x
 got_at [] i x h e = absurd (omega arith)
 got_at (y ∷ xs) zero x h e = ap (λ (z : _). Some z) (sym e)
 got_at (y ∷ xs) (suc i) x h e = got_at xs i x (omega arith) e
@@ -189,7 +189,7 @@ pub record AreOpen (settled : List (Option Left)) (count : ℕ) : Type 0 where
   pub length : length settled ≡ count
   pub none : (i : ℕ) (left : Left) → slice_get settled i ≡ Some (Some left) → ⊥
 
-open_pushed : (settled : List (Option Left)) (i : ℕ) (left : Left) → ((j : ℕ) (l : Left) → slice_get settled j ≡ Some (Some l) → ⊥)
+pub open_pushed : (settled : List (Option Left)) (i : ℕ) (left : Left) → ((j : ℕ) (l : Left) → slice_get settled j ≡ Some (Some l) → ⊥)
     → slice_get (settled ++ None ∷ []) i ≡ Some (Some left) → ⊥
 open_pushed [] zero left h e = none-some left (same_Some None (Some left) e)
 open_pushed [] (suc i) left h e = none-some (Some left) e

@@ -1,5 +1,9 @@
+pub mod AllStepLemmas
 pub mod AcceptedMapsLimitLemmas
 pub mod AcceptedMapsSameLemmas
+pub mod SettledMappingLemmas
+pub mod MappingReadLemmas
+pub mod FullWordLemmas
 pub mod InOrderLemmas
 pub mod MapNumberLemmas
 pub mod ListWordLemmas
@@ -13,3 +17,7 @@ pub mod AcceptedMappingLemmas
 pub mod CoveredLemmas
 pub mod KeptRuleLemmas
 pub mod BuiltTableLemmas
+pub mod FullWordMapLemmas
+pub mod CompatibilityRuleLemmas
+pub mod CompatibilityTableLemmas
+pub mod UnnamedWordLemmas

@@ -53,10 +53,21 @@ built_in_named = 0x300 ∷ 0x301 ∷ 0x308 ∷ 0x313 ∷ 0x340 ∷ 0x341 ∷ 0x3
 abbrev pub unnamed_word : ℕ → ℕ
 unnamed_word c = cond (is_syllable c) 1 0
 
--- A map has the words of the characters of a list. Others have their words or are as none were set.
-pub record HasWords (classes : List GivenClass) (steps scalars24 named : List ℕ) (words : CodePointMap ℕ) : Type 0 where
+-- no word is set but 1 for each syllable
+pub record AreUnnamed (words : CodePointMap ℕ) : Type 0 where
   pub default : words.default ≡ 0
-  pub among : (c : ℕ) → c ≤ 0x10_FFFF → IsAmong named c → IsWordOf (class_with classes c) steps scalars24 c (mapped words c)
-  pub others : (c : ℕ) → c ≤ 0x10_FFFF → IsWordOf (class_with classes c) steps scalars24 c (mapped words c) ⊎ (mapped words c ≡ unnamed_word c)
+  pub each : (c : ℕ) → c ≤ 0x10_FFFF → mapped words c ≡ unnamed_word c
+  pub wide : different_blocks (λ n. n) 512 words.values ≤ 3
+  pub narrow : different_blocks (λ n. n) 16 words.values ≤ 3
+
+-- A map has right words of the characters of a list. Others have right words or are as none were set.
+pub record HasRightWords (IsRight : ℕ → ℕ → Type 0) (named : List ℕ) (words : CodePointMap ℕ) : Type 0 where
+  pub default : words.default ≡ 0
+  pub among : (c : ℕ) → c ≤ 0x10_FFFF → IsAmong named c → IsRight c (mapped words c)
+  pub others : (c : ℕ) → c ≤ 0x10_FFFF → IsRight c (mapped words c) ⊎ (mapped words c ≡ unnamed_word c)
   pub wide : different_blocks (λ n. n) 512 words.values ≤ 3 + length named
   pub narrow : different_blocks (λ n. n) 16 words.values ≤ 3 + length named
+
+-- a map has the words of canonical tables of the characters of a list
+abbrev pub HasWords : List GivenClass → List ℕ → List ℕ → List ℕ → CodePointMap ℕ → Type 0
+HasWords classes steps scalars24 named words = HasRightWords (λ c word. IsWordOf (class_with classes c) steps scalars24 c word) named words

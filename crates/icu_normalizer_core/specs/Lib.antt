@@ -15,11 +15,13 @@ pub mod CharacterWords
 pub mod Compatibility
 pub mod CompatibilityFaults
 pub mod CompatibilityLoading
+pub mod CompatibilityMaps
 pub mod CompatibilityMeaning
 pub mod CompatibilityWalks
 pub mod DataErrors
 pub mod Decoding
 pub mod FullLists
+pub mod GivenCompatibilities
 pub mod GivenMaps
 pub mod InOrder
 pub mod ListWords
@@ -33,6 +35,7 @@ pub mod PropertyMeanings
 pub mod Readings
 pub mod Sameness
 pub mod Settled
+pub mod SettledMappings
 pub mod SteadyAnswers
 pub mod Triples
 pub mod Words

@@ -15,7 +15,9 @@ pub(crate) mod tables;
 pub(crate) mod words;
 
 pub use borrowed::CanonicalBorrowed;
-pub use builder::{CanonicalDataBuildError, CanonicalDataBuilder, GivenClass, GivenMapping};
+pub use builder::{
+    CanonicalDataBuildError, CanonicalDataBuilder, GivenClass, GivenCompatibility, GivenMapping,
+};
 pub use data::{CanonicalData, CanonicalDataError};
 pub use full_list::FullList;
 pub use reading::Reading;

@@ -1,7 +1,7 @@
 //! Compatibility data in packed tables: full lists by canonical and compatibility mappings together, over canonical data.
 
 mod borrowed;
-mod check;
+pub(crate) mod check;
 mod data;
 mod tables;
 

@@ -5,6 +5,7 @@ use icu_normalizer_core::canonical::{
     CanonicalBorrowed, CanonicalData, CanonicalDataBuildError, CanonicalDataBuilder,
     CanonicalTables,
 };
+use icu_normalizer_core::compatibility::{CompatibilityBorrowed, CompatibilityData};
 use std::alloc::{AllocError, Global};
 use std::test::Fail;
 
@@ -109,6 +110,57 @@ fn refusal(
 fn maps_that_break_rules(rt: HostRuntime) -> Result<(), Fail> {
     for (character, target) in [('b', 'b'), ('\u{323}', 'b'), ('ß', '\u{1100}'), ('b', 'c')] {
         let refused = refusal(rt.alloc(), character, target)?;
+        assert!(rt; refused == Some(CanonicalDataBuildError::Rules));
+    }
+    Ok(())
+}
+
+/// A builder that was given some canonical mappings, and compatibility mappings of Unicode's data.
+fn given_both(alloc: Global) -> Result<CanonicalDataBuilder, AllocError> {
+    let mut builder = given(alloc)?;
+    builder.kmap(alloc, 'ﬅ', &['ſ', 't'])?;
+    builder.kmap(alloc, 'ﬃ', &['f', 'f', 'i'])?;
+    builder.kmap(alloc, 'ſ', &['s'])?;
+    builder.kmap(alloc, 'ẚ', &['á', 'ạ'])?;
+    Ok(builder)
+}
+
+/// Whether full lists are what steps of both kinds leave.
+fn say_both(data: CompatibilityBorrowed<'_>) -> bool {
+    data.full_list('ﬅ').eq(['s', 't'])
+        && data.full_list('ﬃ').eq(['f', 'f', 'i'])
+        && data.full_list('ẚ').eq(['a', '\u{301}', 'a', '\u{323}'])
+        && data.full_list('ạ').eq(['a', '\u{323}'])
+        && data.full_list('\u{ff9e}').eq(['\u{3099}'])
+        && data.class('\u{323}') == 220
+}
+
+#[test]
+fn ok_build_nfkd(rt: HostRuntime) -> Result<(), Fail> {
+    let builder = given_both(rt.alloc())?;
+    let canonical = builder.build_data(rt.alloc())?;
+    let nfkd = builder.build_nfkd(rt.alloc())?;
+    let data = CompatibilityData::try_new(rt.alloc(), canonical, nfkd)?;
+    assert!(rt; say_both(data.as_borrowed()));
+    Ok(())
+}
+
+/// Why no compatibility tables are built where a character is mapped besides.
+fn compatibility_refusal(
+    alloc: Global,
+    character: char,
+    target: char,
+) -> Result<Option<CanonicalDataBuildError>, AllocError> {
+    let mut builder = given_both(alloc)?;
+    builder.kmap(alloc, character, &[target])?;
+    Ok(builder.build_nfkd(alloc).err())
+}
+
+// A loop with a mapping that is given, a mapping on a mark, and one below U+00A0.
+#[test]
+fn compatibility_mappings_that_break_rules(rt: HostRuntime) -> Result<(), Fail> {
+    for (character, target) in [('s', 'ﬅ'), ('\u{323}', 'b'), ('b', 'c')] {
+        let refused = compatibility_refusal(rt.alloc(), character, target)?;
         assert!(rt; refused == Some(CanonicalDataBuildError::Rules));
     }
     Ok(())

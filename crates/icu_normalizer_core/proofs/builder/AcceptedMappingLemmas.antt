@@ -24,7 +24,7 @@ use Rattle.icu_normalizer_core.proofs.builder.MapNumberLemmas.{found_all}
 
 -- ---- What is found
 
-find_true : {X : Type 0} (p : X → Bool) (xs : List X) (x : X) → find p xs ≡ Some x → p x ≡ true
+pub find_true : {X : Type 0} (p : X → Bool) (xs : List X) (x : X) → find p xs ≡ Some x → p x ≡ true
 find_true p [] x e = absurd cc
 find_true {X} p (y ∷ ys) x e =
     ⊎_elim
@@ -75,7 +75,7 @@ not_some : (o : Option (List ℕ)) → not (is_some o) ≡ true → o ≡ None
 not_some None e = refl
 not_some (Some ds) e = let off : false ≡ true = e in absurd cc
 
-unbuilt : (g : GivenMapping) → built_in_step g.character ≡ None → is_built_in_mapping g ≡ false
+pub unbuilt : (g : GivenMapping) → built_in_step g.character ≡ None → is_built_in_mapping g ≡ false
 unbuilt g e =
     ap (λ (o : Option (List ℕ)). elim o [ Some ds ↦ bytes_eq (mapping_given g) ds && cond (is_syllable g.character) g.is_composed (not g.is_composed) | None ↦ false ]) e
 

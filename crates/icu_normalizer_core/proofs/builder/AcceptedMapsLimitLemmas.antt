@@ -9,8 +9,8 @@ use Rattle.std.proofs.lemmas.List.{length-map}
 use Rattle.std.proofs.lemmas.List.Folds.{list_any-append}
 use Rattle.std.proofs.lemmas.Map.Made.{length-le_from_is_member}
 use Rattle.std.proofs.lemmas.Map.Steps.{list_any_congr}
-use Rattle.icu_normalizer_core.specs.declared.canonical.builder.GivenMapping.{GivenMapping}
 use Rattle.icu_normalizer_core.specs.CanonicalMaps.{CanonicalMaps, KeepRules, mapping_given, named}
+use Rattle.icu_normalizer_core.specs.CompatibilityMaps.{AllMaps, KeepCompatibilityRules, all_named}
 
 -- ---- Distinct numbers among others
 
@@ -25,28 +25,28 @@ members_kept (x ∷ xs) q = by (is_member nat_eq xs x) (nat_eq q x) refl refl (m
     by true false m t r = r
     by false c m t r = rw t (ap (λ v. c || v) r)
 
-distinct_among : (xs ys : List ℕ) → IsDistinct nat_eq xs → ((q : ℕ) → is_member nat_eq xs q ≡ true → is_member nat_eq ys q ≡ true) → length xs ≤ distinct_count nat_eq ys
+pub distinct_among : (xs ys : List ℕ) → IsDistinct nat_eq xs → ((q : ℕ) → is_member nat_eq xs q ≡ true → is_member nat_eq ys q ≡ true) → length xs ≤ distinct_count nat_eq ys
 distinct_among xs ys distinct among =
     length-le_from_is_member nat_eq_equiv xs (unique_keys nat_eq ys) distinct (λ q m. members_kept ys q ∙ among q m)
 
 -- ---- Classes and mappings
 
-front_named : (xs ys : List ℕ) (q : ℕ) → is_member nat_eq xs q ≡ true → is_member nat_eq (xs ++ ys) q ≡ true
+pub front_named : (xs ys : List ℕ) (q : ℕ) → is_member nat_eq xs q ≡ true → is_member nat_eq (xs ++ ys) q ≡ true
 front_named xs ys q e = list_any-append (nat_eq q) xs ys ∙ or_left (list_any (nat_eq q) xs) (list_any (nat_eq q) ys) e
 
-behind_named : (xs ys : List ℕ) (q : ℕ) → is_member nat_eq ys q ≡ true → is_member nat_eq (xs ++ ys) q ≡ true
+pub behind_named : (xs ys : List ℕ) (q : ℕ) → is_member nat_eq ys q ≡ true → is_member nat_eq (xs ++ ys) q ≡ true
 behind_named xs ys q e = list_any-append (nat_eq q) xs ys ∙ or_right (list_any (nat_eq q) xs) (list_any (nat_eq q) ys) e
 
-mapped_named : (ms : List GivenMapping) (q : ℕ) → is_member nat_eq (map (λ g. g.character) ms) q ≡ true
-    → is_member nat_eq (flat_map (λ g. g.character ∷ mapping_given g) ms) q ≡ true
-mapped_named [] q e = e
-mapped_named (m ∷ ms) q e = by (nat_eq q m.character) (mapped_named ms q) e
+-- keys stand among what is named with more
+pub keys_named : {X : Type 0} (key : X → ℕ) (more : X → List ℕ) (xs : List X) (q : ℕ) → is_member nat_eq (map key xs) q ≡ true
+    → is_member nat_eq (flat_map (λ x. key x ∷ more x) xs) q ≡ true
+keys_named key more [] q e = e
+keys_named {X} key more (x ∷ xs) q e = by (nat_eq q (key x)) (keys_named key more xs q) e
   where
-    by : (b : Bool) → (is_member nat_eq (map (λ g. g.character) ms) q ≡ true → is_member nat_eq (flat_map (λ g. g.character ∷ mapping_given g) ms) q ≡ true)
-        → (b || is_member nat_eq (map (λ g. g.character) ms) q) ≡ true
-        → (b || is_member nat_eq (mapping_given m ++ flat_map (λ g. g.character ∷ mapping_given g) ms) q) ≡ true
+    by : (b : Bool) → (is_member nat_eq (map key xs) q ≡ true → is_member nat_eq (flat_map (λ y. key y ∷ more y) xs) q ≡ true)
+        → (b || is_member nat_eq (map key xs) q) ≡ true → (b || is_member nat_eq (more x ++ flat_map (λ y. key y ∷ more y) xs) q) ≡ true
     by true later e = refl
-    by false later e = behind_named (mapping_given m) (flat_map (λ g. g.character ∷ mapping_given g) ms) q (later e)
+    by false later e = behind_named (more x) (flat_map (λ y. key y ∷ more y) xs) q (later e)
 
 -- within the rules there are at most 150 of each
 pub rules_limit_classes : (maps : CanonicalMaps) → KeepRules maps → length maps.classes ≤ 150
@@ -58,5 +58,11 @@ rules_limit_classes maps rules =
 pub rules_limit_mappings : (maps : CanonicalMaps) → KeepRules maps → length maps.mappings ≤ 150
 rules_limit_mappings maps rules =
     let among = distinct_among (map (λ g. g.character) maps.mappings) (named maps) rules.one_mapping
-    (λ q e. behind_named (map (λ g. g.character) maps.classes) (flat_map (λ g. g.character ∷ mapping_given g) maps.mappings) q (mapped_named maps.mappings q e)) in
+    (λ q e. behind_named (map (λ g. g.character) maps.classes) (flat_map (λ g. g.character ∷ mapping_given g) maps.mappings) q (keys_named (λ g. g.character) mapping_given maps.mappings q e)) in
     omega (arith, among, rules.few, length-map maps.mappings (λ g. g.character))
+
+pub rules_limit_compatibilities : (maps : AllMaps) → KeepCompatibilityRules maps → length maps.compatibilities ≤ 150
+rules_limit_compatibilities maps rules =
+    let among = distinct_among (map (λ g. g.character) maps.compatibilities) (all_named maps) rules.one_mapping
+    (λ q e. behind_named (named maps.canonical) (flat_map (λ g. g.character ∷ g.mapping.items) maps.compatibilities) q (keys_named (λ g. g.character) (λ g. g.mapping.items) maps.compatibilities q e)) in
+    omega (arith, among, rules.few, length-map maps.compatibilities (λ g. g.character))

@@ -34,7 +34,7 @@ class_one : (c : ℕ) → class_of_word c 1 ≡ 0
 unfolding class_of_word
 class_one c = refl
 
-full_of_one : (s24 : List ℕ) (c : ℕ) → full_of_word [] s24 c 1 ≡ syllable_letters c
+pub full_of_one : (s24 : List ℕ) (c : ℕ) → full_of_word [] s24 c 1 ≡ syllable_letters c
 unfolding full_of_word
 full_of_one s24 c = refl
 
@@ -140,7 +140,7 @@ singled_word class given steps s24 c e is = by (singled_out c) refl
 
 -- ---- Mapped characters
 
-form_states : (c word : ℕ) → states_list word ≡ true → is_word c word ≡ true
+pub form_states : (c word : ℕ) → states_list word ≡ true → is_word c word ≡ true
 unfolding is_word
 form_states c word e = rw e (or_last ((((word == 0) || ((word == 1) && is_syllable c)) || is_mark_word word) || (is_singled_word word && is_some (singled_out c))))
   where
@@ -180,11 +180,11 @@ full_alone s24 c word f none e =
     (λ g. let off : built_in_full c ≡ None = cond-false (is_syllable c) _ _ f ∙ cond-false (is_jamo c || (c == 0xfffd)) _ _ g ∙ none in rw off tt)
     (cases_Bool (is_jamo c || (c == 0xfffd)))
 
-class_zero : (c : ℕ) → class_of_word c 0 ≡ 0
+pub class_zero : (c : ℕ) → class_of_word c 0 ≡ 0
 unfolding class_of_word
 class_zero c = refl
 
-full_zero : (s24 : List ℕ) (c : ℕ) → full_of_word [] s24 c 0 ≡ c ∷ []
+pub full_zero : (s24 : List ℕ) (c : ℕ) → full_of_word [] s24 c 0 ≡ c ∷ []
 unfolding full_of_word
 full_zero s24 c = refl
 

@@ -15,7 +15,7 @@ use Rattle.icu_normalizer_core.specs.Settled.{IsAmong}
 use Rattle.icu_normalizer_core.proofs.TableMeanings.{step_in_free}
 use Rattle.icu_normalizer_core.proofs.builder.CharacterWordLemmas.{syllable_word, zero_word}
 
-among_or_not : (xs : List ℕ) (c : ℕ) → IsAmong xs c ⊎ (IsAmong xs c → ⊥)
+pub among_or_not : (xs : List ℕ) (c : ℕ) → IsAmong xs c ⊎ (IsAmong xs c → ⊥)
 among_or_not [] c = inr (λ h. h)
 among_or_not (x ∷ xs) c =
     ⊎_elim
@@ -23,21 +23,21 @@ among_or_not (x ∷ xs) c =
     (λ (other : x ≢ c). ⊎_elim (λ later. inl (inr later)) (λ none. inr (λ h. ⊎_elim (λ e. other e) (λ later. none later) h)) (among_or_not xs c))
     (cases_eq x c)
 
-not_front : (xs ys : List ℕ) (c : ℕ) → (IsAmong (xs ++ ys) c → ⊥) → IsAmong xs c → ⊥
+pub not_front : (xs ys : List ℕ) (c : ℕ) → (IsAmong (xs ++ ys) c → ⊥) → IsAmong xs c → ⊥
 not_front [] ys c none h = h
 not_front (x ∷ xs) ys c none (inl e) = none (inl e)
 not_front (x ∷ xs) ys c none (inr h) = not_front xs ys c (λ later. none (inr later)) h
 
-not_behind : (xs ys : List ℕ) (c : ℕ) → (IsAmong (xs ++ ys) c → ⊥) → IsAmong ys c → ⊥
+pub not_behind : (xs ys : List ℕ) (c : ℕ) → (IsAmong (xs ++ ys) c → ⊥) → IsAmong ys c → ⊥
 not_behind [] ys c none h = none h
 not_behind (x ∷ xs) ys c none h = not_behind xs ys c (λ later. none (inr later)) h
 
-unclassed : (classes : List GivenClass) (c : ℕ) → (IsAmong (map (λ g. g.character) classes) c → ⊥) → find (λ g. g.character == c) classes ≡ None
+pub unclassed : (classes : List GivenClass) (c : ℕ) → (IsAmong (map (λ g. g.character) classes) c → ⊥) → find (λ g. g.character == c) classes ≡ None
 unclassed [] c none = refl
 unclassed (g ∷ gs) c none =
     cond-false (g.character == c) (Some g) (find (λ h. h.character == c) gs) (ne_eqb g.character c (λ e. none (inl e))) ∙ unclassed gs c (λ later. none (inr later))
 
-unmapped : (mappings : List GivenMapping) (c : ℕ) → (IsAmong (map (λ g. g.character) mappings) c → ⊥) → find (λ g. g.character == c) mappings ≡ None
+pub unmapped : (mappings : List GivenMapping) (c : ℕ) → (IsAmong (map (λ g. g.character) mappings) c → ⊥) → find (λ g. g.character == c) mappings ≡ None
 unmapped [] c none = refl
 unmapped (g ∷ gs) c none =
     cond-false (g.character == c) (Some g) (find (λ h. h.character == c) gs) (ne_eqb g.character c (λ e. none (inl e))) ∙ unmapped gs c (λ later. none (inr later))

@@ -22,7 +22,7 @@ use Rattle.icu_normalizer_core.proofs.TableMeanings.{step_in_built_in, step_in_f
 
 -- ---- Lists cut to nine
 
-take_whole : (n : ℕ) (xs : List ℕ) → length (take n xs) < n → take n xs ≡ xs
+pub take_whole : (n : ℕ) (xs : List ℕ) → length (take n xs) < n → take n xs ≡ xs
 take_whole zero xs h = absurd (omega arith)
 take_whole (suc n) [] h = refl
 take_whole (suc n) (x ∷ xs) h = ap (λ (t : List ℕ). x ∷ t) (take_whole n xs (omega arith))
@@ -32,18 +32,18 @@ take_most zero xs = omega arith
 take_most (suc n) [] = omega arith
 take_most (suc n) (x ∷ xs) = let h = take_most n xs in omega arith
 
-take_some : (xs : List ℕ) → 0 < length xs → 0 < length (take 9 xs)
+pub take_some : (xs : List ℕ) → 0 < length xs → 0 < length (take 9 xs)
 take_some [] h = absurd (omega arith)
 take_some (x ∷ xs) h = omega arith
 
-take_all_of : (P : ℕ → Type 0) (n : ℕ) (xs : List ℕ) → All P xs → All P (take n xs)
+pub take_all_of : (P : ℕ → Type 0) (n : ℕ) (xs : List ℕ) → All P xs → All P (take n xs)
 take_all_of P zero xs all = All-nil P
 take_all_of P (suc n) [] all = All-nil P
 take_all_of P (suc n) (x ∷ xs) all = All-cons P x (take n xs) (All-head P x xs all) (take_all_of P n xs (All-tail P x xs all))
 
 -- ---- What steps leave
 
-left_some : (step : ℕ → List ℕ) (x : ℕ) (xs ns : List ℕ) → Leaves step (x ∷ xs) ns → 0 < length ns
+pub left_some : (step : ℕ → List ℕ) (x : ℕ) (xs ns : List ℕ) → Leaves step (x ∷ xs) ns → 0 < length ns
 left_some step x xs ns (unmapped c cs ms e h) = omega arith
 left_some step x xs ns (mapped c d ds cs ms e h) = left_some step d (ds ++ cs) ns h
 

@@ -10,9 +10,8 @@ use Rattle.icu_codepointtrie.specs.Blocks.{block, different_blocks}
 use Rattle.icu_codepointtrie.specs.CodePointMaps.{CodePointMap, mapped, IsWritten, covers}
 use Rattle.icu_codepointtrie.proofs.built.BlockCountLemmas.{different_blocks-few}
 use Rattle.icu_codepointtrie.proofs.built.BlockLemmas.{same_block}
-use Rattle.icu_normalizer_core.specs.declared.canonical.builder.GivenClass.{GivenClass}
 use Rattle.icu_normalizer_core.specs.BuiltIn.{is_syllable}
-use Rattle.icu_normalizer_core.specs.CharacterWords.{class_with, IsWordOf, HasWords, unnamed_word}
+use Rattle.icu_normalizer_core.specs.CharacterWords.{AreUnnamed, HasRightWords, unnamed_word}
 use Rattle.icu_normalizer_core.specs.Settled.{IsAmong}
 
 -- ---- One word more
@@ -34,34 +33,34 @@ test_zero : (c word default : ℕ) → default ≡ 0 → word ≡ 0 → ((c == c
 test_zero c word default none zero =
     ap (λ (b : Bool). b && not (word == default)) (eq-eqb c c refl) ∙ ap not (eq-eqb word default (zero ∙ sym none))
 
-module _ (classes : List GivenClass) (steps s24 done : List ℕ) (old new : CodePointMap ℕ) (c word : ℕ)
-    (before : HasWords classes steps s24 done old) (inside : c ≤ 0x10_FFFF)
+module _ (IsRight : ℕ → ℕ → Type 0) (done : List ℕ) (old new : CodePointMap ℕ) (c word : ℕ)
+    (before : HasRightWords IsRight done old) (inside : c ≤ 0x10_FFFF)
     (written : IsWritten (λ n. n) old (λ x. x == c) word new)
     (blocks : (width : ℕ) → different_blocks (λ n. n) width new.values ≤ different_blocks (λ n. n) width old.values + 1)
-    (says : IsWordOf (class_with classes c) steps s24 c word) (syllable : word ≡ 0 → is_syllable c ≡ false) where
+    (says : IsRight c word) (syllable : word ≡ 0 → is_syllable c ≡ false) where
   elsewhere : (x : ℕ) → x ≤ 0x10_FFFF → x ≢ c → mapped new x ≡ mapped old x
   elsewhere x h ne = written.values x h ∙ cond-false _ _ _ (test_other x c word old.default ne)
 
-  here : IsWordOf (class_with classes c) steps s24 c (mapped new c)
+  here : IsRight c (mapped new c)
   here =
       ⊎_elim
       (λ (zero : word ≡ 0).
       let same : mapped new c ≡ mapped old c = written.values c inside ∙ cond-false _ _ _ (test_zero c word old.default before.default zero) in
       ⊎_elim
-      (λ right. subst (λ (w : ℕ). IsWordOf (class_with classes c) steps s24 c w) (sym same) right)
+      (λ right. subst (IsRight c) (sym same) right)
       (λ first.
       let at : mapped new c ≡ word = same ∙ first ∙ cond-false (is_syllable c) 1 0 (syllable zero) ∙ sym zero in
-      subst (λ (w : ℕ). IsWordOf (class_with classes c) steps s24 c w) (sym at) says)
+      subst (IsRight c) (sym at) says)
       (before.others c inside))
       (λ (some : word ≢ 0).
       let at : mapped new c ≡ word = written.values c inside ∙ cond-true _ _ _ (test_here c word old.default before.default some) in
-      subst (λ (w : ℕ). IsWordOf (class_with classes c) steps s24 c w) (sym at) says)
+      subst (IsRight c) (sym at) says)
       (cases_eq word 0)
 
   Right : ℕ → Type 0
-  Right x = IsWordOf (class_with classes x) steps s24 x (mapped new x)
+  Right x = IsRight x (mapped new x)
 
-  pub words_more : HasWords classes steps s24 (done ++ c ∷ []) new
+  pub words_more : HasRightWords IsRight (done ++ c ∷ []) new
   unfolding Right
   words_more = record {
     default = written.default ∙ before.default;
@@ -69,7 +68,7 @@ module _ (classes : List GivenClass) (steps s24 done : List ℕ) (old new : Code
         (λ (same : x ≡ c). subst Right (sym same) here)
         (λ (other : x ≢ c).
         ⊎_elim
-        (λ old_one. subst (λ (w : ℕ). IsWordOf (class_with classes x) steps s24 x w) (sym (elsewhere x h other)) (before.among x h old_one))
+        (λ old_one. subst (IsRight x) (sym (elsewhere x h other)) (before.among x h old_one))
         (λ e. absurd (other (sym e)))
         (among_last done c x is))
         (cases_eq x c);
@@ -77,7 +76,7 @@ module _ (classes : List GivenClass) (steps s24 done : List ℕ) (old new : Code
         (λ (same : x ≡ c). inl (subst Right (sym same) here))
         (λ (other : x ≢ c).
         ⊎_elim
-        (λ right. inl (subst (λ (w : ℕ). IsWordOf (class_with classes x) steps s24 x w) (sym (elsewhere x h other)) right))
+        (λ right. inl (subst (IsRight x) (sym (elsewhere x h other)) right))
         (λ first. inr (elsewhere x h other ∙ first))
         (before.others x h))
         (cases_eq x c);
@@ -85,14 +84,25 @@ module _ (classes : List GivenClass) (steps s24 done : List ℕ) (old new : Code
     narrow = omega (arith, blocks 16, before.narrow, length-append done (c ∷ []));
   }
 
-pub words_past : (classes : List GivenClass) (steps s24 done : List ℕ) (words : CodePointMap ℕ) (c : ℕ) → HasWords classes steps s24 done words → 0x10_FFFF < c
-    → HasWords classes steps s24 (done ++ c ∷ []) words
-words_past classes steps s24 done words c before past = record {
+pub words_past : (IsRight : ℕ → ℕ → Type 0) (done : List ℕ) (words : CodePointMap ℕ) (c : ℕ) → HasRightWords IsRight done words → 0x10_FFFF < c
+    → HasRightWords IsRight (done ++ c ∷ []) words
+words_past IsRight done words c before past = record {
   default = before.default;
   among = λ x h is. ⊎_elim (λ old_one. before.among x h old_one) (λ e. absurd (omega arith)) (among_last done c x is);
   others = before.others;
   wide = omega (arith, before.wide, length-append done (c ∷ []));
   narrow = omega (arith, before.narrow, length-append done (c ∷ []));
+}
+
+-- what is right in one way is right in another
+pub words_along : (IsRight IsOther : ℕ → ℕ → Type 0) (named : List ℕ) (words : CodePointMap ℕ) → ((c word : ℕ) → IsRight c word → IsOther c word)
+    → HasRightWords IsRight named words → HasRightWords IsOther named words
+words_along IsRight IsOther named words along has = record {
+  default = has.default;
+  among = λ c h is. along c (mapped words c) (has.among c h is);
+  others = λ c h. ⊎_elim (λ right. inl (along c (mapped words c) right)) (λ first. inr first) (has.others c h);
+  wide = has.wide;
+  narrow = has.narrow;
 }
 
 -- ---- No word is set
@@ -180,15 +190,23 @@ few_narrow m all is =
     (cases_lt j 3450))
     (cases_lt j 2752))
 
-pub words_none : (classes : List GivenClass) (steps s24 : List ℕ) (old new : CodePointMap ℕ) (range : RangeInclusive ℕ) → length old.values ≡ 0x11_0000
+pub words_unnamed : (old new : CodePointMap ℕ) (range : RangeInclusive ℕ) → length old.values ≡ 0x11_0000
     → ((c : ℕ) → mapped old c ≡ 0) → old.default ≡ 0 → IsWritten (λ n. n) old (covers range) 1 new
-    → range_inclusive_start range ≡ 0xac00 → range_inclusive_end range ≡ 0xd7a3 → range_inclusive_exhausted range ≡ false → HasWords classes steps s24 [] new
-words_none classes steps s24 old new range all none default written first last fresh =
+    → range_inclusive_start range ≡ 0xac00 → range_inclusive_end range ≡ 0xd7a3 → range_inclusive_exhausted range ≡ false → AreUnnamed new
+words_unnamed old new range all none default written first last fresh =
     let is = unnamed old new range none default written first last fresh in
     record {
       default = written.default ∙ default;
-      among = λ x h bad. absurd bad;
-      others = λ x h. inr (is x h);
+      each = is;
       wide = few_wide new (written.all ∙ all) is;
       narrow = few_narrow new (written.all ∙ all) is;
     }
+
+pub words_none : (IsRight : ℕ → ℕ → Type 0) (words : CodePointMap ℕ) → AreUnnamed words → HasRightWords IsRight [] words
+words_none IsRight words is = record {
+  default = is.default;
+  among = λ x h bad. absurd bad;
+  others = λ x h. inr (is.each x h);
+  wide = is.wide;
+  narrow = is.narrow;
+}

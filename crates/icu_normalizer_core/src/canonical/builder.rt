@@ -1,19 +1,26 @@
 //! Canonical tables made of classes and mappings that are given one by one: what is given, and the parts of the tables.
 
-ghost use Rattle.std.specs.Prelude.{◌≡◌, ◌++◌, ◌∷◌, ◌&&◌, ◌⊎◌, [], OnOk, OnErr, IfOk, IfErr};
+ghost use Rattle.std.specs.Prelude.{◌≡◌, ◌++◌, ◌∷◌, ◌&&◌, ◌⊎◌, ◌<◌, [], length, All, OnOk, OnErr, IfOk, IfErr};
+ghost use Rattle.std.specs.Char.{IsScalar};
 ghost use Rattle.std.specs.Option.{is_some};
 ghost use Rattle.icu_normalizer_core.specs.declared.canonical.builder.CanonicalDataBuildError.TheVariants.{Rules, Memory};
 ghost use Rattle.icu_normalizer_core.specs.CanonicalFaults.{IsAccepted};
-ghost use Rattle.icu_normalizer_core.specs.CanonicalMaps.{CanonicalMaps, AreMeaning, KeepRules};
+ghost use Rattle.icu_normalizer_core.specs.CanonicalMaps.{AreMeaning, KeepRules};
 ghost use Rattle.icu_normalizer_core.specs.CanonicalMeaning.{lists_of, meaning};
+ghost use Rattle.icu_normalizer_core.specs.CompatibilityMaps.{AllMaps, AreAcceptedOver, AreMeaningOf, IsGivenTo, KeepAllRules};
+ghost use Rattle.icu_normalizer_core.specs.CompatibilityMeaning.{nfkd_lists};
 ghost use Rattle.icu_normalizer_core.specs.Plain.{Tells};
 
+mod compatibility_tables;
+mod compatibility_words;
 mod full_lists;
 mod in_order;
 mod list_words;
 mod lists;
+mod mappings;
 mod numbers;
 mod pairs;
+mod settle;
 mod steps;
 mod tables;
 mod trie;
@@ -23,6 +30,8 @@ use super::check::first_fault;
 use super::check::told::told;
 use super::data::CanonicalData;
 use super::tables::CanonicalTables;
+use crate::compatibility::NfkdTables;
+use compatibility_tables::compatibility_tables;
 use std::alloc::{AllocError, Global};
 use std::marker::Model;
 use tables::tables;
@@ -67,41 +76,54 @@ pub struct GivenMapping {
     is_composed: bool,
 }
 
-/// Canonical tables in the making, seen as the classes and mappings that were given.
+/// A compatibility mapping that is given for a character, to one character or more.
+#[derive(Debug, Drop)]
+pub struct GivenCompatibility {
+    character: char,
+    mapping: Vec<char>,
+}
+
+/// Tables in the making, seen as the classes and mappings that were given.
 #[derive(Debug, Drop)]
 pub struct CanonicalDataBuilder {
     classes: Vec<GivenClass>,
     mappings: Vec<GivenMapping>,
+    compatibilities: Vec<GivenCompatibility>,
 }
 
 impl Model for CanonicalDataBuilder {
-    ghost use Rattle.icu_normalizer_core.specs.CanonicalMaps.{CanonicalMaps};
+    ghost use Rattle.std.specs.Prelude.{All};
+    ghost use Rattle.icu_normalizer_core.specs.CompatibilityMaps.{AllMaps};
+    ghost use Rattle.icu_normalizer_core.specs.GivenCompatibilities.{IsOfCharacters};
     ghost use Rattle.icu_normalizer_core.specs.GivenMaps.{AreOfScalars};
 
-    ghost Value = { CanonicalMaps };
+    ghost Value = { AllMaps };
 
-    ghost view = { λ inside. record { classes = inside.classes.items; mappings = inside.mappings.items } };
+    ghost view = { λ inside. record { canonical = record { classes = inside.classes.items; mappings = inside.mappings.items }; compatibilities = inside.compatibilities.items } };
 
-    ghost invariant = { λ inside. AreOfScalars (record { classes = inside.classes.items; mappings = inside.mappings.items }) };
+    ghost invariant = { λ inside. AreOfScalars (record { classes = inside.classes.items; mappings = inside.mappings.items }) × All IsOfCharacters inside.compatibilities.items };
 }
 
 impl CanonicalDataBuilder {
     /// Nothing is given yet.
     pub fn new(alloc: Global) -> CanonicalDataBuilder
-        ensures classes { result.classes ≡ [] }
-        ensures mappings { result.mappings ≡ [] }
+        ensures classes { result.canonical.classes ≡ [] }
+        ensures mappings { result.canonical.mappings ≡ [] }
+        ensures compatibilities { result.compatibilities ≡ [] }
     {
         CanonicalDataBuilder {
             classes: Vec::new(alloc),
             mappings: Vec::new(alloc),
+            compatibilities: Vec::new(alloc),
         }
     }
 
     /// Gives a character its canonical combining class. Nothing is refused here but for want of memory, where
     /// nothing changes.
     pub fn class(&mut self, c: char, class: u8) -> Result<(), AllocError>
-        ensures classes { OnOk result (self.new.classes ≡ self.old.classes ++ record { character = c; class = class } ∷ []) }
-        ensures mappings { self.new.mappings ≡ self.old.mappings }
+        ensures classes { OnOk result (self.new.canonical.classes ≡ self.old.canonical.classes ++ record { character = c; class = class } ∷ []) }
+        ensures mappings { self.new.canonical.mappings ≡ self.old.canonical.mappings }
+        ensures compatibilities { self.new.compatibilities ≡ self.old.compatibilities }
         ensures refused { OnErr result (self.new ≡ self.old) }
     {
         self.classes.push(GivenClass {
@@ -120,8 +142,9 @@ impl CanonicalDataBuilder {
         second: Option<char>,
         is_composed: bool,
     ) -> Result<(), AllocError>
-        ensures mappings { OnOk result (self.new.mappings ≡ self.old.mappings ++ record { character = c; first = first; second = second; is_composed = is_composed && is_some second } ∷ []) }
-        ensures classes { self.new.classes ≡ self.old.classes }
+        ensures mappings { OnOk result (self.new.canonical.mappings ≡ self.old.canonical.mappings ++ record { character = c; first = first; second = second; is_composed = is_composed && is_some second } ∷ []) }
+        ensures classes { self.new.canonical.classes ≡ self.old.canonical.classes }
+        ensures compatibilities { self.new.compatibilities ≡ self.old.compatibilities }
         ensures refused { OnErr result (self.new ≡ self.old) }
     {
         self.mappings.push(GivenMapping {
@@ -133,13 +156,30 @@ impl CanonicalDataBuilder {
         Ok(())
     }
 
+    /// Gives a character its compatibility mapping, to one character or more (docs/RECORDS.md, `kmap`). Nothing is
+    /// refused here but for want of memory, where nothing changes.
+    pub fn kmap(&mut self, alloc: Global, c: char, mapping: &[char]) -> Result<(), AllocError>
+        requires some { 0 < length mapping.now }
+        requires scalars { All IsScalar mapping.now }
+        ensures compatibilities { OnOk result (IsGivenTo self.old.compatibilities c mapping.now self.new.compatibilities) }
+        ensures canonical { self.new.canonical ≡ self.old.canonical }
+        ensures refused { OnErr result (self.new ≡ self.old) }
+    {
+        let mapping = Vec::from_slice(alloc, mapping)?;
+        self.compatibilities.push(GivenCompatibility {
+            character: c,
+            mapping,
+        })?;
+        Ok(())
+    }
+
     /// The tables of what was given, with what is built in; the builder stays as it is. `Rules` comes only where
     /// what was given breaks a rule (docs/RECORDS.md, C1 to C9), says two things of one character, or names more
     /// than 150 characters. Want of memory can come with anything that was given.
     pub fn build(&self, alloc: Global) -> Result<CanonicalTables<'static>, CanonicalDataBuildError>
-        ensures means { IfOk result (λ tables. AreMeaning self.now (meaning tables)) }
+        ensures means { IfOk result (λ tables. AreMeaning self.now.canonical (meaning tables)) }
         ensures accepted { IfOk result (λ tables. IsAccepted (lists_of tables)) }
-        ensures refused { IfErr result (λ e. (e ≡ Memory) ⊎ ((e ≡ Rules) × (KeepRules self.now → ⊥))) }
+        ensures refused { IfErr result (λ e. (e ≡ Memory) ⊎ ((e ≡ Rules) × (KeepRules self.now.canonical → ⊥))) }
     {
         match self.build_told(alloc) {
             Ok((tables, _)) => Ok(tables),
@@ -153,10 +193,10 @@ impl CanonicalDataBuilder {
         &self,
         alloc: Global,
     ) -> Result<(CanonicalTables<'static>, Vec<u32>), CanonicalDataBuildError>
-        ensures means { IfOk result (λ made. AreMeaning self.now (meaning made.0)) }
+        ensures means { IfOk result (λ made. AreMeaning self.now.canonical (meaning made.0)) }
         ensures accepted { IfOk result (λ made. IsAccepted (lists_of made.0)) }
         ensures tells { IfOk result (λ made. Tells (lists_of made.0) made.1.items) }
-        ensures refused { IfErr result (λ e. (e ≡ Memory) ⊎ ((e ≡ Rules) × (KeepRules self.now → ⊥))) }
+        ensures refused { IfErr result (λ e. (e ≡ Memory) ⊎ ((e ≡ Rules) × (KeepRules self.now.canonical → ⊥))) }
     {
         let tables = match tables(alloc, self.classes.as_slice(), self.mappings.as_slice()) {
             Ok(tables) => tables,
@@ -174,13 +214,35 @@ impl CanonicalDataBuilder {
         &self,
         alloc: Global,
     ) -> Result<CanonicalData<'static>, CanonicalDataBuildError>
-        ensures means { IfOk result (λ made. AreMeaning self.now (meaning made)) }
+        ensures means { IfOk result (λ made. AreMeaning self.now.canonical (meaning made)) }
         ensures accepted { IfOk result (λ made. IsAccepted (lists_of made)) }
-        ensures refused { IfErr result (λ e. (e ≡ Memory) ⊎ ((e ≡ Rules) × (KeepRules self.now → ⊥))) }
+        ensures refused { IfErr result (λ e. (e ≡ Memory) ⊎ ((e ≡ Rules) × (KeepRules self.now.canonical → ⊥))) }
     {
         match self.build_told(alloc) {
             Ok((tables, told)) => Ok(CanonicalData::of_accepted(alloc, tables, &told)?),
             Err(error) => Err(error),
         }
+    }
+
+    /// The compatibility tables of what was given, with what is built in; the builder stays as it is. Over canonical
+    /// tables that mean what was given they pass every check (`CompatibilityData::try_new`). `Rules` comes only where
+    /// what was given breaks a rule (docs/RECORDS.md, C1 to C9), says two things of one character, or names more than
+    /// 150 characters. Want of memory can come with anything that was given.
+    pub fn build_nfkd(&self, alloc: Global) -> Result<NfkdTables<'static>, CanonicalDataBuildError>
+        ensures means { IfOk result (λ made. AreMeaningOf self.now (nfkd_lists made)) }
+        ensures accepted { IfOk result (λ made. AreAcceptedOver self.now.canonical (nfkd_lists made)) }
+        ensures refused { IfErr result (λ e. (e ≡ Memory) ⊎ ((e ≡ Rules) × (KeepAllRules self.now → ⊥))) }
+    {
+        let tables = match self.build(alloc) {
+            Ok(tables) => tables,
+            Err(error) => return Err(error),
+        };
+        compatibility_tables(
+            alloc,
+            self.classes.as_slice(),
+            self.mappings.as_slice(),
+            self.compatibilities.as_slice(),
+            &tables,
+        )
     }
 }

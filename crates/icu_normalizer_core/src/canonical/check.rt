@@ -9,7 +9,7 @@ pub(crate) mod built_in;
 mod characters;
 mod forms;
 pub(crate) mod full_lists;
-mod full_start;
+pub(crate) mod full_start;
 pub(crate) mod left;
 mod loops;
 mod marks;

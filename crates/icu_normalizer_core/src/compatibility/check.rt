@@ -17,7 +17,7 @@ use crate::canonical::{CanonicalFault, CanonicalTables};
 use walk::{Faults, silent_from, with_code};
 
 /// What the words are to be refused for, `None` where they pass every check.
-pub(super) fn first_fault(tables: &CanonicalTables<'_>, words: Words<'_>) -> Option<CanonicalFault>
+pub(crate) fn first_fault(tables: &CanonicalTables<'_>, words: Words<'_>) -> Option<CanonicalFault>
     requires { IsAccepted (lists_of tables.now) }
     ensures { MatchOption result (AreAcceptedWords (lists_of tables.now) (word_lists words.entry)) (IsFirstWordFault (lists_of tables.now) (word_lists words.entry)) }
 {

@@ -23,7 +23,7 @@ pub struct NfkdTables<'a> {
 impl NfkdTables<'_> {
     /// The words, with the lists that they name places in.
     #[inline]
-    pub(super) fn words(&self) -> Words<'_>
+    pub(crate) fn words(&self) -> Words<'_>
         ensures { word_lists result ≡ nfkd_lists self.now }
     {
         Words {

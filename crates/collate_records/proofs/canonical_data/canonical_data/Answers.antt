@@ -38,5 +38,5 @@ pub returns-in-Ok : goal.returns-in-Ok
 returns-in-Ok c =
     let lines = map said c.args.records.now in
     subst (λ (maps : CanonicalMaps). AreMeaning maps (meaning c.in-Ok.data))
-    (all_given lines c.loop-given.given-index c.loop-given.builder (omega (arith, length-map c.args.records.now said, c.loop-given-test.false)) c.loop-given.invariant.0 c.loop-given.invariant.1)
+    (all_given lines c.loop-given.given-index c.loop-given.builder.canonical (omega (arith, length-map c.args.records.now said, c.loop-given-test.false)) c.loop-given.invariant.0 c.loop-given.invariant.1)
     c.in-Ok.ensures.means

@@ -6,5 +6,5 @@ use Rattle.collate_records.proofs.canonical_data.canonical_data.Given as goal
 
 abbrev pub invariant-loop-given : goal.invariant-loop-given
 invariant-loop-given l =
-    (l.builder.classes ≡ flat_map classes_in (take l.given-index (map said l.records)))
-    × (l.builder.mappings ≡ flat_map mappings_in (take l.given-index (map said l.records)))
+    (l.builder.canonical.classes ≡ flat_map classes_in (take l.given-index (map said l.records)))
+    × (l.builder.canonical.mappings ≡ flat_map mappings_in (take l.given-index (map said l.records)))

@@ -1,12 +1,11 @@
 //! The trie of the words of characters.
 
-ghost use Rattle.std.specs.Prelude.{◌≡◌, ◌++◌, ◌+◌, ◌≤◌, ◌<◌, ◌==◌, ℕ, List, [], map, IfOk, All};
+ghost use Rattle.std.specs.Prelude.{◌≡◌, ◌++◌, ◌+◌, ◌≤◌, ◌<◌, ◌==◌, ℕ, map, IfOk, All};
 ghost use Rattle.icu_codepointtrie.specs.Blocks.{different_blocks};
 ghost use Rattle.icu_codepointtrie.specs.BuiltTries.{IsTrieOf};
 ghost use Rattle.icu_codepointtrie.specs.CodePointMaps.{IsWritten};
-ghost use Rattle.icu_normalizer_core.specs.declared.canonical.builder.GivenClass.{GivenClass as PlainClass};
 ghost use Rattle.icu_normalizer_core.specs.CanonicalLists.{AreTriples};
-ghost use Rattle.icu_normalizer_core.specs.CharacterWords.{AreListWords, AreStarters, HasWords, built_in_named};
+ghost use Rattle.icu_normalizer_core.specs.CharacterWords.{AreListWords, AreStarters, AreUnnamed, HasWords, built_in_named};
 
 use super::list_words::ListWords;
 use super::words::word_of;
@@ -56,7 +55,7 @@ fn add_mapped(named: &mut Vec<u32>, mappings: &[GivenMapping]) -> Result<(), All
 }
 
 /// Sets the word of a character, unless it is 0.
-fn set_word(words: &mut CodePointTrieBuilder<u32>, c: u32, word: u32)
+pub(super) fn set_word(words: &mut CodePointTrieBuilder<u32>, c: u32, word: u32)
     requires { c ≤ 0x10_FFFF }
     ensures written { IsWritten (λ n. n) words.old (λ x. x == c) word words.new }
     ensures blocks { (width : ℕ) → different_blocks (λ n. n) width words.new.values ≤ different_blocks (λ n. n) width words.old.values + 1 }
@@ -65,8 +64,8 @@ fn set_word(words: &mut CodePointTrieBuilder<u32>, c: u32, word: u32)
 }
 
 /// The words as none are set, 1 for each Hangul syllable. The only error is want of memory.
-fn unnamed_words(alloc: Global) -> Result<CodePointTrieBuilder<u32>, AllocError>
-    ensures { (classes : List PlainClass) (steps scalars24 : List ℕ) → IfOk result (HasWords classes steps scalars24 []) }
+pub(super) fn unnamed_words(alloc: Global) -> Result<CodePointTrieBuilder<u32>, AllocError>
+    ensures { IfOk result AreUnnamed }
 {
     let mut words = CodePointTrieBuilder::new(alloc, 0, 0, TrieType::Fast)?;
     words.set_range_value(0xac00..=0xd7a3, 1).unwrap();

@@ -87,7 +87,7 @@ fn start_of(list: FullList<'_>) -> Left
 }
 
 /// The first nine numbers of the full list of a character.
-pub(super) fn full_start(tables: &CanonicalTables<'_>, c: char) -> Left
+pub(crate) fn full_start(tables: &CanonicalTables<'_>, c: char) -> Left
     ensures { left_items result ≡ take 9 ((meaning tables.now).full c) }
 {
     tables.words().full_start(c)

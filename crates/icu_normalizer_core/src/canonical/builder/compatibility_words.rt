@@ -1,0 +1,77 @@
+//! The compatibility words of characters.
+
+ghost use Rattle.std.specs.Prelude.{◌≡◌, ◌++◌, ◌+◌, ◌*◌, ◌-◌, ◌^◌, ◌<◌, ◌≤◌, ◌∷◌, ◌⊎◌, ℕ, List, [], false, length, IfOk, IfErr, OnOk, All};
+ghost use Rattle.std.specs.Char.{IsScalar};
+ghost use Rattle.icu_normalizer_core.specs.declared.canonical.builder.CanonicalDataBuildError.TheVariants.{Rules, Memory};
+ghost use Rattle.icu_normalizer_core.specs.BuiltIn.{is_syllable};
+ghost use Rattle.icu_normalizer_core.specs.CanonicalMeaning.{meaning};
+ghost use Rattle.icu_normalizer_core.specs.Settled.{left_items};
+ghost use Rattle.icu_normalizer_core.specs.SettledMappings.{AreMappingStarts, AreRightSoFar, HasBadLeft, IsAllSettled, IsSound, KeepsFullWord, StartsLeft, steps_in};
+
+use super::CanonicalDataBuildError;
+use super::lists::list_word;
+use super::mappings::Mappings;
+use super::trie::{set_word, unnamed_words};
+use crate::canonical::check::full_start::full_start;
+use crate::canonical::check::left::Left;
+use crate::canonical::words::states_list;
+use icu_codepointtrie::CodePointTrieBuilder;
+use std::alloc::{AllocError, Global};
+
+/// The compatibility words of characters, and the characters of lists that stand apart from their words.
+#[derive(Drop)]
+pub(super) struct CompatibilityWords {
+    pub(super) scalars24: Vec<char>,
+    pub(super) words: CodePointTrieBuilder<u32>,
+}
+
+impl Mappings<'_> {
+    /// The word of a character of which steps leave a list: the canonical word, where that states no list and the list is the canonical
+    /// one; else the list's. The only error is want of memory.
+    fn full_word(self, scalars24: &mut Vec<char>, c: char, left: &Left) -> Result<u32, AllocError>
+        requires sound { IsSound self }
+        requires starts { StartsLeft (steps_in self) (c ∷ []) left.now }
+        requires few { length (left_items left.now) ≤ 8 }
+        requires room { length scalars24.old.items < 2 ^ 14 - 1 }
+        ensures grows { OnOk result ((more : List ℕ) × (scalars24.new.items ≡ scalars24.old.items ++ more) × (length more ≤ 8)) }
+        ensures says { IfOk result (KeepsFullWord (steps_in self.entry) ((meaning self.entry.tables.now).class c) scalars24.new.items c) }
+        ensures syllable { IfOk result (λ word. word ≡ 0 → is_syllable c ≡ false) }
+    {
+        let word = self.tables.word(c);
+        if !states_list(word) && full_start(self.tables, c).is(left) {
+            return Ok(word);
+        }
+        let word = list_word(scalars24, 0, &left.characters[..left.count])?;
+        Ok(word)
+    }
+
+    /// The words of characters. `Rules` where steps from one don't end or leave more than eight characters.
+    pub(super) fn full_words(
+        self,
+        alloc: Global,
+        settled: &[Option<Left>],
+        named: &[char],
+    ) -> Result<CompatibilityWords, CanonicalDataBuildError>
+        requires sound { IsSound self }
+        requires starts { AreMappingStarts (steps_in self) self.given.now settled.now }
+        requires done { IsAllSettled (meaning self.tables.now).full self.given.now settled.now }
+        requires scalars { All IsScalar named.now }
+        requires few { length named.now ≤ 500 }
+        ensures words { IfOk result (λ made. AreRightSoFar (steps_in self.entry) (meaning self.entry.tables.now).class made.scalars24.items named.now made.words (length named.now)) }
+        ensures refused { IfErr result (λ e. (e ≡ Memory) ⊎ ((e ≡ Rules) × HasBadLeft (steps_in self.entry))) }
+    {
+        let mut words = unnamed_words(alloc)?;
+        let mut scalars24 = Vec::new(alloc);
+        for c in named {
+            let Some(left) = self.left_of(settled, *c) else {
+                return Err(CanonicalDataBuildError::Rules);
+            };
+            if left.characters[..left.count].len() > 8 {
+                return Err(CanonicalDataBuildError::Rules);
+            }
+            let word = self.full_word(&mut scalars24, *c, &left)?;
+            set_word(&mut words, *c as u32, word);
+        }
+        Ok(CompatibilityWords { scalars24, words })
+    }
+}

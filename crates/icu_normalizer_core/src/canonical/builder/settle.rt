@@ -1,0 +1,128 @@
+//! What canonical and compatibility steps leave together, found mapping by mapping.
+
+ghost use Rattle.std.specs.Prelude.{◌≡◌, ◌<◌, ℕ, ◌∷◌, [], true, false, length, slice_get, List, Some, None, MatchOption, IfOk, All};
+ghost use Rattle.std.specs.Char.{IsScalar};
+ghost use Rattle.icu_normalizer_core.specs.CanonicalMeaning.{meaning};
+ghost use Rattle.icu_normalizer_core.specs.Settled.{open_count};
+ghost use Rattle.icu_normalizer_core.specs.SettledMappings.{AreMappingStarts, HasOpen, IsAllSettled, IsOpenMapping, IsSound, StartsLeft, mapping_at, steps_in};
+
+use super::GivenCompatibility;
+use super::mappings::{Mappings, place_of};
+use crate::built_in::{built_in_compatibility_step, built_in_step};
+use crate::canonical::check::built_in::step_characters;
+use crate::canonical::check::left::Left;
+use crate::canonical::full_list::full_list;
+use std::alloc::{AllocError, Global};
+
+impl Mappings<'_> {
+    /// What steps leave of a character without a canonical mapping; `None` where that isn't settled.
+    fn listed_left(self, settled: &[Option<Left>], c: char) -> Option<Left>
+        requires sound { IsSound self }
+        requires starts { AreMappingStarts (steps_in self) self.given.now settled.now }
+        requires unmapped { (meaning self.tables.now).step c ≡ [] }
+        ensures { MatchOption result (IsOpenMapping self.entry.given.now settled.now c) (StartsLeft (steps_in self.entry) (c ∷ [])) }
+    {
+        if let Some(step) = built_in_compatibility_step(c as u32) {
+            return Some(step_characters(step));
+        }
+        if built_in_step(c as u32).is_some() {
+            return Some(Left::one(c as u32));
+        }
+        match place_of(self.given, c) {
+            Some(place) => settled[place],
+            None => Some(Left::one(c as u32)),
+        }
+    }
+
+    /// What steps leave of a character; `None` where that isn't settled.
+    pub(super) fn left_of(self, settled: &[Option<Left>], c: char) -> Option<Left>
+        requires sound { IsSound self }
+        requires starts { AreMappingStarts (steps_in self) self.given.now settled.now }
+        ensures { MatchOption result (HasOpen (meaning self.entry.tables.now).full self.entry.given.now settled.now (c ∷ [])) (StartsLeft (steps_in self.entry) (c ∷ [])) }
+    {
+        let mut left = Left::none();
+        for d in full_list(self.tables, c) {
+            let Some(more) = self.listed_left(settled, d) else {
+                return None;
+            };
+            left = left.joined(more);
+        }
+        Some(left)
+    }
+
+    /// What steps leave of a mapping; `None` where that isn't settled.
+    fn mapping_left(self, settled: &[Option<Left>], mapping: &[char]) -> Option<Left>
+        requires sound { IsSound self }
+        requires starts { AreMappingStarts (steps_in self) self.given.now settled.now }
+        requires scalars { All IsScalar mapping.now }
+        ensures { MatchOption result (HasOpen (meaning self.entry.tables.now).full self.entry.given.now settled.now mapping.now) (StartsLeft (steps_in self.entry) mapping.now) }
+    {
+        let mut left = Left::none();
+        for c in mapping {
+            let Some(more) = self.left_of(settled, *c) else {
+                return None;
+            };
+            left = left.joined(more);
+        }
+        Some(left)
+    }
+
+    /// Settles a mapping, where it wasn't settled and can be; whether it was.
+    fn settle_at(self, settled: &mut [Option<Left>], place: usize) -> bool
+        requires sound { IsSound self }
+        requires starts { AreMappingStarts (steps_in self) self.given.now settled.old }
+        requires inside { place < length self.given.now }
+        ensures starts { AreMappingStarts (steps_in self.entry) self.entry.given.now settled.new }
+        ensures progress { result ≡ true → open_count settled.new < open_count settled.old }
+        ensures same { result ≡ false → settled.new ≡ settled.old }
+        ensures open { result ≡ false → slice_get settled.new place ≡ Some None → HasOpen (meaning self.entry.tables.now).full self.entry.given.now settled.new (mapping_at self.entry.given.now place) }
+    {
+        if settled[place].is_some() {
+            return false;
+        }
+        let Some(left) = self.mapping_left(settled, self.given[place].mapping.as_slice()) else {
+            return false;
+        };
+        settled[place] = Some(left);
+        true
+    }
+
+    /// Settles the mappings that can be, one after another; whether there was one.
+    fn settle_once(self, settled: &mut [Option<Left>]) -> bool
+        requires sound { IsSound self }
+        requires starts { AreMappingStarts (steps_in self) self.given.now settled.old }
+        ensures starts { AreMappingStarts (steps_in self.entry) self.entry.given.now settled.new }
+        ensures progress { result ≡ true → open_count settled.new < open_count settled.old }
+        ensures done { result ≡ false → IsAllSettled (meaning self.entry.tables.now).full self.entry.given.now settled.new }
+    {
+        let mut more = false;
+        for place in 0..self.given.len() {
+            if self.settle_at(settled, place) {
+                more = true;
+            }
+        }
+        more
+    }
+
+    /// What steps leave of the mappings, where they end. The only error is want of memory.
+    pub(super) fn settle(self, alloc: Global) -> Result<Vec<Option<Left>>, AllocError>
+        requires { IsSound self }
+        ensures starts { IfOk result (λ settled. AreMappingStarts (steps_in self.entry) self.entry.given.now settled.items) }
+        ensures done { IfOk result (λ settled. IsAllSettled (meaning self.entry.tables.now).full self.entry.given.now settled.items) }
+    {
+        let mut settled = all_open(alloc, self.given)?;
+        while self.settle_once(settled.as_mut_slice()) {}
+        Ok(settled)
+    }
+}
+
+/// No mapping is settled yet. The only error is want of memory.
+fn all_open(alloc: Global, given: &[GivenCompatibility]) -> Result<Vec<Option<Left>>, AllocError>
+    ensures { (step : ℕ → List ℕ) → IfOk result (λ settled. AreMappingStarts step given.now settled.items) }
+{
+    let mut settled = Vec::new(alloc);
+    for _ in 0..given.len() {
+        settled.push(None)?;
+    }
+    Ok(settled)
+}
