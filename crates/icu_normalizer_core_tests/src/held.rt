@@ -1,22 +1,28 @@
-//! A provider that holds canonical tables, as a library above writes one.
+//! A provider that holds tables, as a library above writes one.
 
-ghost use Rattle.std.specs.Prelude.{true, false, Ok, Err};
+ghost use Rattle.std.specs.Prelude.{true, false, Some, None, Ok, Err};
 ghost use Rattle.icu_normalizer_core.specs.declared.provider.error.DataError.TheVariants.{Missing};
 ghost use Rattle.icu_normalizer_core.specs.declared.provider.error.TableName.TheVariants.{Nfd, NfdTables, Nfkd, NfkdTables, Pairs, Uts46};
 
+use crate::tables::{PAIRS, STEPS, pair, tables};
 use icu_codepointtrie::CodePointTrie;
 use icu_normalizer_core::canonical::CanonicalTables;
+use icu_normalizer_core::compatibility::NfkdTables;
 use icu_normalizer_core::provider::{
     DataError, NfdLists, NfkdLists, NormalizerProvider, TableName, Uts46Tables,
 };
 use icu_packed_vector::PackedVec;
 use std::alloc::Global;
 
-/// A provider of canonical tables, some of which it may lack.
+/// A provider of tables, some of which it may lack.
 #[derive(Drop)]
 pub struct Held<'t> {
     /// What is held.
     pub tables: CanonicalTables<'t>,
+    /// The compatibility tables, where it has them.
+    pub nfkd: Option<NfkdTables<'t>>,
+    /// The mapper table of domain names, where it has one.
+    pub uts46: Option<Uts46Tables<'t>>,
     /// `load_nfd` answers that its table is missing.
     pub lacks_words: bool,
     /// `load_nfd_tables` does.
@@ -34,13 +40,16 @@ impl NormalizerProvider for Held<'_> {
           Ok (record { scalars16 = held.tables.scalars16; scalars24 = held.tables.scalars24; steps = held.tables.steps })
     ] };
 
-    ghost nfkd = { λ _. Err (Missing Nfkd) };
+    ghost nfkd = { λ held. elim held.nfkd [ None ↦ Err (Missing Nfkd) | Some tables ↦ Ok tables.trie ] };
 
-    ghost nfkd_tables = { λ _. Err (Missing NfkdTables) };
+    ghost nfkd_tables = { λ held. elim held.nfkd [
+      | None ↦ Err (Missing NfkdTables)
+      | Some tables ↦ Ok (record { scalars16 = tables.scalars16; scalars24 = tables.scalars24 })
+    ] };
 
     ghost pairs = { λ held. elim held.lacks_pairs [ true ↦ Err (Missing Pairs) | false ↦ Ok held.tables.pairs ] };
 
-    ghost uts46 = { λ _. Err (Missing Uts46) };
+    ghost uts46 = { λ held. elim held.uts46 [ None ↦ Err (Missing Uts46) | Some tables ↦ Ok tables ] };
 
     fn load_nfd(&self, alloc: Global) -> Result<CodePointTrie<'_, u32>, DataError> {
         if self.lacks_words {
@@ -64,12 +73,28 @@ impl NormalizerProvider for Held<'_> {
         })
     }
 
-    fn load_nfkd(&self, _alloc: Global) -> Result<CodePointTrie<'_, u32>, DataError> {
-        Err(DataError::Missing(TableName::Nfkd))
+    fn load_nfkd(&self, alloc: Global) -> Result<CodePointTrie<'_, u32>, DataError> {
+        match &self.nfkd {
+            None => Err(DataError::Missing(TableName::Nfkd)),
+            Some(tables) => {
+                let trie = tables.trie.clone(alloc)?;
+                Ok(trie)
+            }
+        }
     }
 
-    fn load_nfkd_tables(&self, _alloc: Global) -> Result<NfkdLists<'_>, DataError> {
-        Err(DataError::Missing(TableName::NfkdTables))
+    fn load_nfkd_tables(&self, alloc: Global) -> Result<NfkdLists<'_>, DataError> {
+        match &self.nfkd {
+            None => Err(DataError::Missing(TableName::NfkdTables)),
+            Some(tables) => {
+                let scalars16 = tables.scalars16.clone(alloc)?;
+                let scalars24 = tables.scalars24.clone(alloc)?;
+                Ok(NfkdLists {
+                    scalars16,
+                    scalars24,
+                })
+            }
+        }
     }
 
     fn load_pairs(&self, alloc: Global) -> Result<PackedVec<'_, u64>, DataError> {
@@ -80,17 +105,34 @@ impl NormalizerProvider for Held<'_> {
         Ok(pairs)
     }
 
-    fn load_uts46(&self, _alloc: Global) -> Result<Uts46Tables<'_>, DataError> {
-        Err(DataError::Missing(TableName::Uts46))
+    fn load_uts46(&self, alloc: Global) -> Result<Uts46Tables<'_>, DataError> {
+        match &self.uts46 {
+            None => Err(DataError::Missing(TableName::Uts46)),
+            Some(tables) => {
+                let trie = tables.trie.clone(alloc)?;
+                let scalars24 = tables.scalars24.clone(alloc)?;
+                Ok(Uts46Tables { trie, scalars24 })
+            }
+        }
     }
 }
 
-/// A provider of these tables, which lacks none of them.
+/// A provider of these tables, which lacks none of them, and has no others.
 pub fn provider_of(tables: CanonicalTables<'_>) -> Held<'_> {
     Held {
         tables,
+        nfkd: None,
+        uts46: None,
         lacks_words: false,
         lacks_lists: false,
         lacks_pairs: false,
     }
+}
+
+/// A provider of the tables of the worked rows, and of a letter with a diaeresis; `None` where memory is refused.
+pub fn letters(alloc: Global) -> Option<Held<'static>> {
+    let steps = [0xe1, 0x61, 0x301, 0xe4, 0x61, 0x308, 0x1ea1, 0x61, 0x323];
+    let pairs = [PAIRS[0], pair(0x61, 0x308, 0xe4), PAIRS[1]];
+    let tables = tables(alloc, &[(0xe4, 0x184_0061)], &steps, &pairs)?;
+    Some(provider_of(tables))
 }

@@ -1,4 +1,4 @@
-//! Tests of characters and their canonical data, by public calls. They stand here so that the crate below is proved once.
+//! Tests of characters and their canonical and compatibility data, by public calls. They stand here so that the crate below is proved once.
 //! `tables` has canonical tables that the tests of crates above use too, and `held` a provider of them.
 #![tactic(auto)]
 
@@ -6,6 +6,8 @@
 mod builder;
 #[cfg(test)]
 mod canonical;
+#[cfg(test)]
+mod compatibility;
 #[cfg(test)]
 mod decoding;
 pub mod held;

@@ -3,8 +3,7 @@
 use icu_codepointtrie::{CodePointTrie, CodePointTrieBuilder, CodePointTrieBuilderError, TrieType};
 use icu_normalizer_core::canonical::CanonicalTables;
 use icu_packed_vector::PackedVec;
-use std::alloc::Global;
-use std::test::Fail;
+use std::alloc::{AllocError, Global};
 
 /// The words of characters other than syllables: marks with their classes, the seven with a built-in mapping, and two pairs.
 pub const WORDS: [(u32, u32); 21] = [
@@ -56,28 +55,40 @@ fn set_words(
     Ok(())
 }
 
-/// The words of the worked rows, with others for some characters.
-fn trie(alloc: Global, words: &[(u32, u32)]) -> Result<CodePointTrie<'static, u32>, Fail> {
-    let mut map = CodePointTrieBuilder::new(alloc, PLAIN, 0, TrieType::Fast)?;
+/// Writes those of syllables, those of the worked rows, and two lists of others.
+fn set_all_words(
+    map: &mut CodePointTrieBuilder<u32>,
+    words: &[(u32, u32)],
+    others: &[(u32, u32)],
+) -> Result<(), CodePointTrieBuilderError> {
     map.set_range_value(0xac00..=0xd7a3, 1)?;
-    set_words(&mut map, &WORDS)?;
-    set_words(&mut map, words)?;
-    let trie = map.build(alloc)?;
-    Ok(trie)
+    set_words(map, &WORDS)?;
+    set_words(map, words)?;
+    set_words(map, others)
 }
 
-/// The tables of the worked rows, with other words for some characters, and these mappings and pairs.
-pub fn tables(
+/// The words of the worked rows, with others for some characters, and others yet; `None` where memory is refused.
+pub fn trie(
     alloc: Global,
     words: &[(u32, u32)],
+    others: &[(u32, u32)],
+) -> Option<CodePointTrie<'static, u32>> {
+    let mut map = CodePointTrieBuilder::new(alloc, PLAIN, 0, TrieType::Fast).ok()?;
+    set_all_words(&mut map, words, others).ok()?;
+    map.build(alloc).ok()
+}
+
+/// Tables of these words, mappings and pairs.
+fn packed(
+    alloc: Global,
+    trie: CodePointTrie<'static, u32>,
     steps: &[u32],
     pairs: &[u64],
-) -> Result<CanonicalTables<'static>, Fail> {
+) -> Result<CanonicalTables<'static>, AllocError> {
     let scalars16 = PackedVec::from_slice(alloc, &[])?;
     let scalars24 = PackedVec::from_slice(alloc, &[])?;
     let steps = PackedVec::from_slice(alloc, steps)?;
     let pairs = PackedVec::from_slice(alloc, pairs)?;
-    let trie = trie(alloc, words)?;
     Ok(CanonicalTables {
         trie,
         scalars16,
@@ -85,4 +96,16 @@ pub fn tables(
         steps,
         pairs,
     })
+}
+
+/// The tables of the worked rows, with other words for some characters, and these mappings and pairs; `None` where memory
+/// is refused.
+pub fn tables(
+    alloc: Global,
+    words: &[(u32, u32)],
+    steps: &[u32],
+    pairs: &[u64],
+) -> Option<CanonicalTables<'static>> {
+    let trie = trie(alloc, words, &[])?;
+    packed(alloc, trie, steps, pairs).ok()
 }
