@@ -17,5 +17,6 @@ pub mod SkipLemmas
 pub mod SortLemmas
 pub mod SplitLemmas
 pub mod StepLemmas
+pub mod TextLemmas
 pub mod WeightLemmas
 pub mod WriterLemmas

@@ -7,4 +7,5 @@ pub mod decomposing;
 pub mod laws;
 mod run;
 pub mod sinks;
+mod texts;
 pub mod uts46;
