@@ -10,6 +10,7 @@ pub mod CutLemmas
 pub mod equivalence
 pub mod FormCutLemmas
 pub mod IterLemmas
+pub mod ListLemmas
 pub mod MappedLemmas
 pub mod RunLemmas
 pub mod SinkLemmas
@@ -17,6 +18,8 @@ pub mod SkipLemmas
 pub mod SortLemmas
 pub mod SplitLemmas
 pub mod StepLemmas
+pub mod TextCutLemmas
 pub mod TextLemmas
+pub mod TextWalkLemmas
 pub mod WeightLemmas
 pub mod WriterLemmas

@@ -13,6 +13,7 @@ pub mod Readable
 pub mod Run
 pub mod Sinks
 pub mod Splits
+pub mod TextCuts
 pub mod TextForms
 pub mod Texts
 pub mod Uts46
