@@ -5,9 +5,10 @@ use Rattle.std.proofs.lemmas.Bool.{cases_lt}
 use Rattle.std.proofs.lemmas.List.{append_cancel_right}
 use Rattle.std.proofs.lemmas.Str.{IsCharBoundary-at_seam, chars-append, encodes-append, encodes-chars, scalars-chars, IsUtf8-append}
 use Rattle.std.specs.Str.{IsCharBoundary}
-use Rattle.icu_normalizer_core.specs.Canonical.{Canonical, IsCanonical, composed}
+use Rattle.icu_normalizer_core.specs.Canonical.{Canonical, composed}
 use Rattle.icu_normalizer_core.proofs.DecomposedLemmas.{AreScalar}
 use Rattle.icu_normalizer.specs.Composing.{IsComposedApart}
+use Rattle.icu_normalizer.specs.Forming.{IsForming}
 use Rattle.icu_normalizer.specs.FormCuts.{IsComposed, ReachesBelow, IsFormCut, IsSkipped}
 use Rattle.icu_normalizer.proofs.ComposedCutLemmas.{same_front}
 use Rattle.icu_normalizer.proofs.CutLemmas.{are_scalar}
@@ -24,7 +25,7 @@ within_front front more agreed left c e within =
     let parts = split_front (agreed ++ c ∷ []) left front more (append_assoc agreed (c ∷ []) left ∙ sym e) sizes in
     (parts.0, parts.1 ∙ append_assoc agreed (c ∷ []) parts.0)
 
-module _ (canonical : Canonical) (ok : IsCanonical canonical) (cluster more : List ℕ) (scalar : AreScalar cluster) (apart : IsComposedApart canonical more) where
+module _ (canonical : Canonical) (ok : IsForming canonical) (cluster more : List ℕ) (scalar : AreScalar cluster) (apart : IsComposedApart canonical more) where
   -- characters and their composed list weigh the same, so neither is a proper front of the other
   own_from_front : (ys zs : List ℕ) → composed canonical cluster ++ ys ≡ cluster ++ zs → IsComposed canonical cluster
   own_from_front ys zs e =
@@ -94,7 +95,7 @@ module _ (canonical : Canonical) (text cluster more : List ℕ) (whole : text �
         (IsCharBoundary-at_seam text (encode_utf8_all is.prefix) (cut ++ more) cut_bytes (IsUtf8-append cut more is.readable.1 v))
 
     -- where a cluster is cut, the text may be cut
-    pub cluster_cut : IsCanonical canonical → IsUtf8 more → (rest : List ℕ) → rest ≡ cut ++ more → IsFormCut (composed canonical) 0x300 text rest
+    pub cluster_cut : IsForming canonical → IsUtf8 more → (rest : List ℕ) → rest ≡ cut ++ more → IsFormCut (composed canonical) 0x300 text rest
     cluster_cut ok v rest same =
         let rest_chars : chars rest ≡ chars cut ++ chars more = ap chars same ∙ chars-append cut more is.readable.1 in
         let scalar = are_scalar (chars cluster) (scalars-chars cluster u) in

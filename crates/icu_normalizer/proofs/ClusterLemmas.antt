@@ -3,7 +3,7 @@ use Rattle.std.proofs.Common.{◌≡◌, ℕ, ◌-◌, ◌<◌, List, [], ◌∷
 use Rattle.std.proofs.lemmas.List.{append_cancel_left}
 use Rattle.std.proofs.lemmas.Str.{chars-append, chars-nil, encodes-append, encodes-chars, scalars-chars, length-encode, len_utf8_bounds}
 use lib.Utf8.{scalars}
-use Rattle.icu_normalizer_core.specs.Canonical.{Canonical, IsCanonical, composed}
+use Rattle.icu_normalizer_core.specs.Canonical.{Canonical, composed}
 use Rattle.icu_normalizer_core.specs.Boundaries.{HasBoundaryBefore}
 use Rattle.icu_normalizer.specs.Composing.{IsComposedApart}
 use Rattle.icu_normalizer.specs.FormCuts.{IsComposed, IsSkipped}
@@ -57,9 +57,9 @@ module _ (canonical : Canonical) where
       ∙ ap (λ l. composed canonical xs ++ l) (sym (composed_nothing canonical) ∙ ap (composed canonical) (sym empty))
 
   -- a character that has a boundary before it is first
-  pub apart_first : IsCanonical canonical → (b : List ℕ) (c : ℕ) (left : List ℕ) → chars b ≡ c ∷ left → HasBoundaryBefore canonical c → IsComposedApart canonical (chars b)
-  apart_first ok b c left next boundary xs =
-      ap (λ l. composed canonical (xs ++ l)) next ∙ composed_parts canonical ok xs c left boundary ∙ ap (λ l. composed canonical xs ++ composed canonical l) (sym next)
+  pub apart_first : (b : List ℕ) (c : ℕ) (left : List ℕ) → chars b ≡ c ∷ left → HasBoundaryBefore canonical c → IsComposedApart canonical (chars b)
+  apart_first b c left next boundary xs =
+      ap (λ l. composed canonical (xs ++ l)) next ∙ composed_parts canonical xs c left boundary ∙ ap (λ l. composed canonical xs ++ composed canonical l) (sym next)
 
 -- what is ahead behind a character is shorter
 pub shorter_past : (ahead next : List ℕ) (c : ℕ) → ahead ≡ encode_utf8 c ++ next → length next < length ahead

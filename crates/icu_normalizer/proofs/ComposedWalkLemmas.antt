@@ -3,8 +3,9 @@ use Rattle.std.proofs.Common.{◌≡◌, ℕ, ◌+◌, ◌<◌, ◌≤◌, ◌�
 use Rattle.std.proofs.lemmas.Bool.{cases_lt, cases_eq}
 use Rattle.std.proofs.lemmas.List.{append_cancel_left, get_or_append_left, get_or_at, get_or_past, get_or_push, nil_from_length}
 use Rattle.std.proofs.lemmas.Str.{chars-nil}
-use Rattle.icu_normalizer_core.specs.Canonical.{Canonical, IsCanonical, composed, recomposed, decomposed, marks_in_order}
+use Rattle.icu_normalizer_core.specs.Canonical.{Canonical, composed, recomposed, decomposed, marks_in_order}
 use Rattle.icu_normalizer_core.proofs.DecomposedLemmas.{AreScalar}
+use Rattle.icu_normalizer.specs.Forming.{IsForming}
 use Rattle.icu_normalizer.specs.FormCuts.{IsComposed, IsFormCut, ReachesBelow}
 use Rattle.icu_normalizer.proofs.CutLemmas.{IsRead, text_chars, text_scalars, rest_utf8, front_utf8, rest_chars, read_starter, read_mark, are_scalar, front_scalars}
 use Rattle.icu_normalizer.proofs.WeightLemmas.{composed_behind}
@@ -102,7 +103,7 @@ pub walked_all : (canonical : Canonical) (text rest ahead front back left : List
 walked_all canonical text rest ahead front back left is u v empty none e =
     e ∙ ap (λ l. (front ++ back) ++ l) (none ∙ sym empty) ∙ append_assoc front back (chars ahead) ∙ text_chars text rest ahead front back is.read u v
 
-module _ (canonical : Canonical) (ok : IsCanonical canonical) (text rest ahead front mid more left : List ℕ) (is : IsLowRead text rest ahead front (mid ++ more)) (u : IsUtf8 text) (v : IsUtf8 ahead)
+module _ (canonical : Canonical) (ok : IsForming canonical) (text rest ahead front mid more left : List ℕ) (is : IsLowRead text rest ahead front (mid ++ more)) (u : IsUtf8 text) (v : IsUtf8 ahead)
     (form : composed canonical (chars text) ≡ (front ++ mid) ++ left) (parts : PartAtOnce (more ++ chars ahead) left) where
   whole : (front ++ mid) ++ (more ++ chars ahead) ≡ chars text
   whole =
@@ -156,24 +157,24 @@ module _ (canonical : Canonical) (ok : IsCanonical canonical) (text rest ahead f
   }
 
 -- the composed list goes on where the text ends
-pub walked_end : (canonical : Canonical) → IsCanonical canonical → (text rest ahead front back left : List ℕ) → IsLowRead text rest ahead front back → IsUtf8 text → IsUtf8 ahead → chars ahead ≡ []
+pub walked_end : (canonical : Canonical) → IsForming canonical → (text rest ahead front back left : List ℕ) → IsLowRead text rest ahead front back → IsUtf8 text → IsUtf8 ahead → chars ahead ≡ []
     → composed canonical (chars text) ≡ (front ++ back) ++ left → (y : ℕ) (ys : List ℕ) → left ≡ y ∷ ys → IsFormCut (composed canonical) 0x300 text rest
 walked_end canonical ok text rest ahead front back left is u v empty form y ys e =
     walked_cut canonical ok text rest ahead front back [] left (subst (IsLowRead text rest ahead front) (sym (append-nil back)) is) u v form
     (subst (λ l. PartAtOnce l left) (sym empty) (subst (PartAtOnce []) (sym e) tt)) (inr empty)
 
 -- the text and its composed list differ at c
-pub looked_cut : (canonical : Canonical) → IsCanonical canonical → (text rest next : List ℕ) (c : ℕ) (seen left : List ℕ) → IsLooked text rest next c seen → IsUtf8 text → IsUtf8 next
+pub looked_cut : (canonical : Canonical) → IsForming canonical → (text rest next : List ℕ) (c : ℕ) (seen left : List ℕ) → IsLooked text rest next c seen → IsUtf8 text → IsUtf8 next
     → composed canonical (chars text) ≡ seen ++ left → PartAtOnce (c ∷ chars next) left → IsFormCut (composed canonical) 0x300 text rest
 looked_cut canonical ok text rest next c seen left is u v form parts =
     walked_cut canonical ok text rest next is.front is.mid (c ∷ []) left is.low u v (form ∙ ap (λ l. l ++ left) is.same) parts (inl (omega arith))
 
-pub looked_end : (canonical : Canonical) → IsCanonical canonical → (text rest next : List ℕ) (c : ℕ) (seen left : List ℕ) → IsLooked text rest next c seen → IsUtf8 text → IsUtf8 next
+pub looked_end : (canonical : Canonical) → IsForming canonical → (text rest next : List ℕ) (c : ℕ) (seen left : List ℕ) → IsLooked text rest next c seen → IsUtf8 text → IsUtf8 next
     → composed canonical (chars text) ≡ seen ++ left → left ≡ [] → IsFormCut (composed canonical) 0x300 text rest
 looked_end canonical ok text rest next c seen left is u v form e =
     looked_cut canonical ok text rest next c seen left is u v form (subst (PartAtOnce (c ∷ chars next)) (sym e) tt)
 
-pub looked_other : (canonical : Canonical) → IsCanonical canonical → (text rest next : List ℕ) (c : ℕ) (seen left : List ℕ) → IsLooked text rest next c seen → IsUtf8 text → IsUtf8 next
+pub looked_other : (canonical : Canonical) → IsForming canonical → (text rest next : List ℕ) (c : ℕ) (seen left : List ℕ) → IsLooked text rest next c seen → IsUtf8 text → IsUtf8 next
     → composed canonical (chars text) ≡ seen ++ left → (y : ℕ) (ys : List ℕ) → left ≡ y ∷ ys → (y ≡ c → ⊥) → IsFormCut (composed canonical) 0x300 text rest
 looked_other canonical ok text rest next c seen left is u v form y ys e other =
     looked_cut canonical ok text rest next c seen left is u v form (subst (PartAtOnce (c ∷ chars next)) (sym e) (λ same. other (sym same)))

@@ -6,16 +6,17 @@ use Rattle.std.specs.List.{AllByRecursion}
 use Rattle.std.specs.Str.{IsCharBoundary}
 use Rattle.std.proofs.lemmas.Str.{IsCharBoundary-start, IsCharBoundary-after_ascii, encode_ascii, chars-nil, chars_from_encodes, encodes-chars, encodes-append, scalars-chars}
 use lib.Utf8.{scalar, scalars}
-use Rattle.icu_normalizer_core.specs.Canonical.{Canonical, IsCanonical, decomposed}
+use Rattle.icu_normalizer_core.specs.Canonical.{Canonical, decomposed}
 use Rattle.icu_normalizer_core.proofs.DecomposedLemmas.{AreScalar}
+use Rattle.icu_normalizer.specs.FormCuts.{ReachesBelow}
+use Rattle.icu_normalizer.specs.Forming.{IsForming, AreLowBelow}
 use Rattle.icu_normalizer.specs.Readable.{IsReadable}
-use Rattle.icu_normalizer.specs.Splits.{IsDecomposed, IsInPlace, ReachesFar, IsCut}
+use Rattle.icu_normalizer.specs.Splits.{IsDecomposed, IsInPlace, IsCut}
 use Rattle.icu_normalizer.proofs.SplitLemmas.{IsWalked, walked_none, walked_low, in_place_is_decomposed, walked_changes, walked_far, walked_alone}
-use Rattle.icu_normalizer.proofs.StepLemmas.{full_low}
 
--- canonical data can be read fast
-pub readable : (canonical : Canonical) → IsCanonical canonical → IsReadable canonical
-readable canonical ok = (ok.decomposing.bounded, λ c low. full_low canonical c ok low, λ c low. ok.composing.starters c (omega arith))
+-- the data of a normal form can be read fast
+pub readable : (canonical : Canonical) → IsForming canonical → IsReadable canonical
+readable canonical ok = (ok.bounded, ok.low, λ c low. ok.starters c (omega arith))
 
 pub front_scalars : (xs ys : List ℕ) → scalars (xs ++ ys) ≡ true → scalars xs ≡ true
 front_scalars [] ys h = refl
@@ -64,8 +65,9 @@ module _ (text rest ahead front back : List ℕ) (is : IsRead text rest ahead fr
       subst (IsDecomposed canonical) same (in_place_is_decomposed canonical 0 (front ++ back) w.in_place)
 
   -- a character out of its place is ahead
-  pub read_cut : (canonical : Canonical) (before c : ℕ) (left : List ℕ) → IsCanonical canonical → IsWalked canonical front back before → chars ahead ≡ c ∷ left → (IsInPlace canonical before c → ⊥) → IsCut canonical text rest
-  read_cut canonical before c left ok w next out =
+  pub read_cut : (canonical : Canonical) (bound before c : ℕ) (left : List ℕ) → IsForming canonical → AreLowBelow bound canonical → IsWalked canonical front back before → chars ahead ≡ c ∷ left → (IsInPlace canonical before c → ⊥)
+      → IsCut canonical bound text rest
+  read_cut canonical bound before c left ok below w next out =
       let same : (front ++ back) ++ c ∷ left ≡ chars text = append_assoc front back (c ∷ left) ∙ ap (λ l. front ++ (back ++ l)) (sym next) ∙ text_chars in
       let scalar : AreScalar ((front ++ back) ++ c ∷ left) = subst AreScalar (sym same) (are_scalar (chars text) (scalars-chars text u)) in
       record {
@@ -76,8 +78,8 @@ module _ (text rest ahead front back : List ℕ) (is : IsRead text rest ahead fr
         alone =
             ap (decomposed canonical) (sym text_chars) ∙ walked_alone canonical front back (chars ahead) before w
             ∙ ap (λ l. front ++ decomposed canonical l) rest_chars;
-        far = subst (λ l. ReachesFar canonical l front) same (walked_far canonical ok.decomposing front back before c left scalar w out (λ x low. full_low canonical x ok low) (λ x low. ok.composing.starters x (omega arith)));
-        changes = λ h. walked_changes canonical ok.decomposing front back before c left scalar w out (subst (IsDecomposed canonical) (sym same) h);
+        far = subst (λ l. ReachesBelow (decomposed canonical) bound l front) same (walked_far canonical ok front back before c left scalar w out bound below);
+        changes = λ h. walked_changes canonical ok front back before c left scalar w out (subst (IsDecomposed canonical) (sym same) h);
       }
 
 pub one_char : (c : ℕ) → encode_utf8_all (c ∷ []) ≡ encode_utf8 c
@@ -107,7 +109,7 @@ are_plain [] (suc n) h = tt
 are_plain (x ∷ xs) zero h = tt
 are_plain (x ∷ xs) (suc n) h = (h zero (omega arith), are_plain xs n (λ k lt. h (suc k) (omega arith)))
 
-plain_low : (cs : List ℕ) → ArePlain cs → AllByRecursion (λ c. c < 0xc0) cs
+pub plain_low : (cs : List ℕ) → ArePlain cs → AllByRecursion (λ c. c < 0xa0) cs
 plain_low [] h = tt
 plain_low (c ∷ cs) h = ((let first = h.0 in omega arith), plain_low cs h.1)
 
@@ -119,7 +121,7 @@ plain_bytes (c ∷ cs) h = ap₂ (λ x y. x ++ y) (encode_ascii c h.0) (plain_by
 abbrev pub IsBegun : Canonical → List ℕ → List ℕ → List ℕ → Type 0
 IsBegun canonical text rest ahead = (front : List ℕ) × (back : List ℕ) × IsWalked canonical front back 0 × IsRead text rest ahead front back
 
-pub begun : (canonical : Canonical) (text rest ahead : List ℕ) (n : ℕ) → IsCanonical canonical → n ≤ length text → ((k : ℕ) → k < n → get_or text k 0 < 0x80)
+pub begun : (canonical : Canonical) (text rest ahead : List ℕ) (n : ℕ) → IsForming canonical → n ≤ length text → ((k : ℕ) → k < n → get_or text k 0 < 0x80)
     → rest ≡ drop (n - 1) text → ahead ≡ drop n text → IsBegun canonical text rest ahead
 begun canonical text rest ahead zero ok within plain e f =
     let start : rest ≡ text = e ∙ ap (λ k. drop k text) (let zero_is : 0 - 1 ≡ 0 = omega arith in zero_is) in
@@ -131,7 +133,7 @@ begun canonical text rest ahead (suc m) ok within plain e f =
     let front : ArePlain (take m text) = are_plain text m (λ k lt. plain k (omega arith)) in (
       take m text,
       x ∷ [],
-      walked_low canonical (take m text) x (λ y low. full_low canonical y ok low) (λ y low. ok.composing.starters y (omega arith)) (plain_low (take m text) front) (omega arith),
+      walked_low canonical (take m text) x ok.low (λ y low. ok.starters y (omega arith)) (plain_low (take m text) front) (omega arith),
       record {
         whole = sym (take-append-drop m text) ∙ ap₂ (λ a b. a ++ b) (sym (plain_bytes (take m text) front)) (sym start);
         part = start ∙ drop-cons text m 0 (omega arith) ∙ ap₂ (λ a b. a ++ b) (sym (one_char x ∙ encode_ascii x last)) (sym f);

@@ -9,9 +9,11 @@ pub mod CompositionLemmas
 pub mod CutLemmas
 pub mod equivalence
 pub mod FormCutLemmas
+pub mod FormingLemmas
 pub mod IterLemmas
 pub mod ListLemmas
 pub mod MappedLemmas
+pub mod OwnLemmas
 pub mod RunLemmas
 pub mod SinkLemmas
 pub mod SkipLemmas

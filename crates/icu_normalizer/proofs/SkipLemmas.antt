@@ -4,15 +4,16 @@ use Rattle.std.proofs.lemmas.Bool.{cases_lt}
 use Rattle.std.proofs.lemmas.Grind.{flat_map-append}
 use Rattle.std.proofs.lemmas.List.{append_cancel_left}
 use Rattle.std.proofs.lemmas.Str.{chars_past_char, encodes-append, encode_ascii, IsUtf8-append, IsUtf8-drop}
-use Rattle.icu_normalizer_core.specs.Canonical.{Canonical, IsCanonical, composing, recomposed, decomposed, composed, marks_in_order}
+use Rattle.icu_normalizer_core.specs.Canonical.{Canonical, composing, recomposed, decomposed, composed, marks_in_order}
 use Rattle.icu_normalizer_core.proofs.DecomposedLemmas.{order_before, put_starter}
 use Rattle.icu_normalizer_core.specs.Boundaries.{HasBoundaryBefore, IsSteady}
+use Rattle.icu_normalizer.specs.Forming.{IsForming}
 use Rattle.icu_normalizer.specs.FormCuts.{IsOwnForm, IsComposed, ReachesBelow, IsFormCut, IsSkipped}
 use Rattle.icu_normalizer.proofs.ComposedWalkLemmas.{composed_nothing}
 use Rattle.icu_normalizer.proofs.ComposingLemmas.{composing_end, composing_joined, composing_begun, composing_kept, composing_cases, composed_never, never_second, recomposed_nothing, recomposed_begun, recomposed_passed}
-use Rattle.icu_normalizer.proofs.CutLemmas.{IsRead, ArePlain, are_plain, plain_bytes, plain_boundary, one_char, text_chars, front_utf8, rest_chars, read_starter}
+use Rattle.icu_normalizer.proofs.CutLemmas.{IsRead, ArePlain, are_plain, plain_bytes, plain_boundary, one_char, text_chars, front_utf8, rest_chars, read_starter, decomposed_nothing}
 use Rattle.icu_normalizer.proofs.ListLemmas.{split_front}
-use Rattle.icu_normalizer.proofs.StepLemmas.{full_low}
+use Rattle.icu_normalizer.proofs.StepLemmas.{decomposed_itself}
 
 -- ---- a starter that is no pair's second composes with nothing before it
 
@@ -47,7 +48,7 @@ pub record IsSkipping (canonical : Canonical) (text rest ahead front back : List
   pub alone : composed canonical (chars text) ≡ front ++ composed canonical (back ++ chars ahead)
   pub last : (back ≡ []) ⊎ ((b : ℕ) × (back ≡ b ∷ []) × (composed canonical (b ∷ []) ≡ b ∷ []))
 
-module _ (canonical : Canonical) (ok : IsCanonical canonical) where
+module _ (canonical : Canonical) where
   -- a text is composed in two parts before a character that has a boundary before it
   pub composed_parts : (xs : List ℕ) (c : ℕ) (ys : List ℕ) → HasBoundaryBefore canonical c → composed canonical (xs ++ c ∷ ys) ≡ composed canonical xs ++ composed canonical (c ∷ ys)
   unfolding composed decomposed marks_in_order
@@ -111,25 +112,32 @@ module _ (canonical : Canonical) (ok : IsCanonical canonical) where
 
 -- ---- ASCII at the start
 
-module _ (canonical : Canonical) (ok : IsCanonical canonical) where
-  -- a character below U+00C0 is steady
-  pub steady_low : (c : ℕ) → c < 0xc0 → IsSteady canonical c
-  steady_low c low = ((c, [], full_low canonical c ok low, ok.composing.starters c (omega arith), never_second canonical c ok.composing.seconds (omega arith)), ok.composing.own c (omega arith))
+module _ (canonical : Canonical) (ok : IsForming canonical) where
+  -- a character below U+00A0 is steady
+  own_low : (c : ℕ) → c < 0xa0 → composed canonical (c ∷ []) ≡ c ∷ []
+  unfolding composed
+  own_low c low =
+      let starter = ok.starters c (omega arith) in
+      ap (recomposed canonical) (decomposed_itself canonical c [] (ok.low c low) starter ∙ ap (λ l. c ∷ l) (decomposed_nothing canonical))
+      ∙ recomposed_begun canonical c [] (omega (arith, starter)) ∙ composing_end canonical c []
+
+  pub steady_low : (c : ℕ) → c < 0xa0 → IsSteady canonical c
+  steady_low c low = ((c, [], ok.low c low, ok.starters c (omega arith), never_second canonical c ok.seconds (omega arith)), own_low c low)
 
   steady_plain : (c : ℕ) → c < 0x80 → IsSteady canonical c
   steady_plain c plain = steady_low c (omega arith)
 
   plain_passed : (front : List ℕ) (x : ℕ) (ys : List ℕ) → ArePlain front → x < 0x80 → composed canonical (front ++ x ∷ ys) ≡ front ++ composed canonical (x ∷ ys)
   plain_passed [] x ys plain last = refl
-  plain_passed (c ∷ []) x ys plain last = composed_passed canonical ok c x ys (steady_plain c plain.0).1 (steady_plain x last).0
+  plain_passed (c ∷ []) x ys plain last = composed_passed canonical c x ys (steady_plain c plain.0).1 (steady_plain x last).0
   plain_passed (c ∷ d ∷ cs) x ys plain last =
-      composed_passed canonical ok c d (cs ++ x ∷ ys) (steady_plain c plain.0).1 (steady_plain d plain.1.0).0 ∙ ap (λ l. c ∷ l) (plain_passed (d ∷ cs) x ys plain.1 last)
+      composed_passed canonical c d (cs ++ x ∷ ys) (steady_plain c plain.0).1 (steady_plain d plain.1.0).0 ∙ ap (λ l. c ∷ l) (plain_passed (d ∷ cs) x ys plain.1 last)
 
   pub skipping_begun : (text rest ahead : List ℕ) (n : ℕ) → IsUtf8 text → n ≤ length text → ((k : ℕ) → k < n → get_or text k 0 < 0x80) → rest ≡ drop (n - 1) text → ahead ≡ drop n text
       → (front : List ℕ) × (back : List ℕ) × IsSkipping canonical text rest ahead front back
   skipping_begun text rest ahead zero u within plain e f =
       let start : rest ≡ text = e ∙ ap (λ k. drop k text) (let zero_is : 0 - 1 ≡ 0 = omega arith in zero_is) in
-      ([], [], subst (λ (r : List ℕ). IsSkipping canonical text r ahead [] []) (sym start) (skipping_none canonical ok text ahead f))
+      ([], [], subst (λ (r : List ℕ). IsSkipping canonical text r ahead [] []) (sym start) (skipping_none canonical text ahead f))
   skipping_begun text rest ahead (suc m) u within plain e f =
       let start : rest ≡ drop m text = e ∙ ap (λ k. drop k text) (let one : suc m - 1 ≡ m = omega arith in one) in
       let x = get_or text m 0 in

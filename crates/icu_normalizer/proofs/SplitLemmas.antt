@@ -3,15 +3,16 @@ use Rattle.std.proofs.Common.{◌≡◌, ℕ, ◌<◌, ◌≤◌, ◌⊎◌, inl
 use Rattle.std.proofs.lemmas.Bool.{cases_eq, cases_lt, and_parts}
 use Rattle.std.proofs.lemmas.Bool.Decides.{nat_tests}
 use Rattle.std.proofs.lemmas.Grind.{flat_map-append}
-use Rattle.std.proofs.lemmas.List.Elements.{All-from_recursion}
 use Rattle.std.proofs.lemmas.List.Folds.{list_all-append}
-use Rattle.std.specs.Char.{IsScalar}
 use Rattle.std.specs.List.{AllByRecursion, list_all}
-use Rattle.icu_normalizer_core.specs.Canonical.{Canonical, IsDecomposing, put_in_order, marks_in_order, decomposed}
-use Rattle.icu_normalizer_core.proofs.DecomposedLemmas.{AreScalar, AreUnmapped, decomposed_unmapped, left_unmapped, order_before}
+use Rattle.icu_normalizer_core.specs.Canonical.{Canonical, put_in_order, marks_in_order, decomposed}
+use Rattle.icu_normalizer_core.proofs.DecomposedLemmas.{AreScalar, order_before}
+use Rattle.icu_normalizer.specs.Forming.{IsForming, AreLowBelow}
+use Rattle.icu_normalizer.specs.FormCuts.{ReachesBelow}
 use Rattle.icu_normalizer.specs.Marks.{is_mark}
-use Rattle.icu_normalizer.specs.Splits.{IsDecomposed, IsInPlace, ReachesFar}
-use Rattle.icu_normalizer.proofs.StepLemmas.{decomposed_itself, left_nothing}
+use Rattle.icu_normalizer.specs.Splits.{IsDecomposed, IsInPlace}
+use Rattle.icu_normalizer.proofs.OwnLemmas.{AreOwn, decomposed_own}
+use Rattle.icu_normalizer.proofs.StepLemmas.{decomposed_itself}
 
 -- ---- putting one character in order
 
@@ -82,13 +83,11 @@ module _ (canonical : Canonical) where
 
   -- ---- and only such a text is
 
-  module _ (d : IsDecomposing canonical) where
+  module _ (ok : IsForming canonical) where
     -- a character that leads the decomposed list stands for itself, and the others are decomposed alone
     first_alone : (c : ℕ) (cs zs : List ℕ) → AreScalar (c ∷ cs) → decomposed canonical (c ∷ cs) ≡ c ∷ zs → (canonical.full c ≡ c ∷ []) × (decomposed canonical cs ≡ zs)
     first_alone c cs zs s h =
-        let unmapped = subst (AreUnmapped canonical) h (decomposed_unmapped canonical (c ∷ cs) d (All-from_recursion IsScalar (c ∷ cs) s)) in
-        let left = left_unmapped canonical.step c [] (canonical.full c) unmapped.0 (d.ends c s.0) in
-        let full : canonical.full c ≡ c ∷ [] = left.whole ∙ ap (λ l. c ∷ l) (left_nothing canonical.step [] left.rest refl left.of_rest) in
+        let full = (subst (AreOwn canonical) h (decomposed_own canonical ok (c ∷ cs) s)).0 in
         (full, put_first canonical.class c (decomposed canonical cs) zs (sym (decomposed_first c cs full) ∙ h))
 
     agreed_behind : (b : ℕ) (xs ys zs : List ℕ) → AreScalar (b ∷ (xs ++ ys)) → decomposed canonical (b ∷ (xs ++ ys)) ≡ b ∷ (xs ++ zs) → AreInPlace (canonical.class b) xs
@@ -127,13 +126,13 @@ module _ (canonical : Canonical) where
   pub walked_none : IsWalked [] [] 0
   walked_none = record { in_place = tt; last = refl; starts = inl refl; marks = refl }
 
-  -- characters below U+00C0 are in their place
-  low_in_place : (before : ℕ) (cs : List ℕ) → ((x : ℕ) → x < 0xc0 → canonical.full x ≡ x ∷ []) → ((x : ℕ) → x < 0xc0 → canonical.class x ≡ 0) → AllByRecursion (λ c. c < 0xc0) cs → AreInPlace before cs
+  -- characters below U+00A0 are in their place
+  low_in_place : (before : ℕ) (cs : List ℕ) → ((x : ℕ) → x < 0xa0 → canonical.full x ≡ x ∷ []) → ((x : ℕ) → x < 0xa0 → canonical.class x ≡ 0) → AllByRecursion (λ c. c < 0xa0) cs → AreInPlace before cs
   low_in_place before [] itself starter low = tt
   low_in_place before (c ∷ cs) itself starter low =
       ((itself c low.0, inl (starter c low.0)), low_in_place (canonical.class c) cs itself starter low.1)
 
-  pub walked_low : (front : List ℕ) (c : ℕ) → ((x : ℕ) → x < 0xc0 → canonical.full x ≡ x ∷ []) → ((x : ℕ) → x < 0xc0 → canonical.class x ≡ 0) → AllByRecursion (λ c. c < 0xc0) front → c < 0xc0 → IsWalked front (c ∷ []) 0
+  pub walked_low : (front : List ℕ) (c : ℕ) → ((x : ℕ) → x < 0xa0 → canonical.full x ≡ x ∷ []) → ((x : ℕ) → x < 0xa0 → canonical.class x ≡ 0) → AllByRecursion (λ c. c < 0xa0) front → c < 0xa0 → IsWalked front (c ∷ []) 0
   walked_low front c itself starter low last = record {
     in_place = in_place_more 0 front c (low_in_place 0 front itself starter low) (itself c last, inl (starter c last));
     last = last_more 0 front c ∙ starter c last;
@@ -198,23 +197,24 @@ module _ (canonical : Canonical) where
   starter_before (f ∷ front) back (y ∷ xs) w x zero e marks =
       let rest : front ++ back ≡ xs ++ x ∷ w = cc in omega (arith, starter_before front back xs w x zero rest marks)
 
-  module _ (d : IsDecomposing canonical) (front back : List ℕ) (before c : ℕ) (left : List ℕ) (scalar : AreScalar ((front ++ back) ++ c ∷ left)) (w : IsWalked front back before) (out : IsInPlace canonical before c → ⊥) where
+  module _ (ok : IsForming canonical) (front back : List ℕ) (before c : ℕ) (left : List ℕ) (scalar : AreScalar ((front ++ back) ++ c ∷ left)) (w : IsWalked front back before) (out : IsInPlace canonical before c → ⊥) where
     out_last : IsInPlace canonical (last_class 0 (front ++ back)) c → ⊥
     out_last h = out (subst (λ b. IsInPlace canonical b c) w.last h)
 
     pub walked_changes : IsDecomposed canonical ((front ++ back) ++ c ∷ left) → ⊥
     walked_changes h =
         let text = (front ++ back) ++ c ∷ left in
-        let kept = agreed_in_place d text [] [] (subst AreScalar (sym (append-nil text)) scalar) (ap (decomposed canonical) (append-nil text) ∙ h ∙ sym (append-nil text)) in
+        let kept = agreed_in_place ok text [] [] (subst AreScalar (sym (append-nil text)) scalar) (ap (decomposed canonical) (append-nil text) ∙ h ∙ sym (append-nil text)) in
         let there = within 0 (front ++ back) c left text [] (sym (append-nil text)) kept out_last in
         omega (arith, ap length there.1, length-append text there.0, length-append (front ++ back) (c ∷ left))
 
-    pub walked_far : ((x : ℕ) → x < 0xc0 → canonical.full x ≡ x ∷ []) → ((x : ℕ) → x < 0xc0 → canonical.class x ≡ 0) → ReachesFar canonical ((front ++ back) ++ c ∷ left) front
-    walked_far itself starter agreed others zs x e same low =
-        let kept = agreed_in_place d agreed (x ∷ others) zs (subst AreScalar e scalar) (ap (decomposed canonical) (sym e) ∙ same) in
-        let more = in_place_more 0 agreed x kept (itself x low, inl (starter x low)) in
+    pub walked_far : (bound : ℕ) → AreLowBelow bound canonical → ReachesBelow (decomposed canonical) bound ((front ++ back) ++ c ∷ left) front
+    walked_far bound below agreed others zs x e same low =
+        let kept = agreed_in_place ok agreed (x ∷ others) zs (subst AreScalar e scalar) (ap (decomposed canonical) (sym e) ∙ same) in
+        let starter = ok.starters x (omega (arith, low, below.within)) in
+        let more = in_place_more 0 agreed x kept (below.itself x low, inl starter) in
         let there = within 0 (front ++ back) c left (agreed ++ x ∷ []) others (e ∙ sym (append_assoc agreed (x ∷ []) others)) more out_last in
-        starter_before front back agreed there.0 x (starter x low) (there.1 ∙ append_assoc agreed (x ∷ []) there.0) w.marks
+        starter_before front back agreed there.0 x starter (there.1 ∙ append_assoc agreed (x ∷ []) there.0) w.marks
 
   -- what stands before the last starter that was read can be left as it is
   alone_from : (front back more : List ℕ) → AreInPlace 0 (front ++ back) → (front ≡ []) ⊎ ((s : ℕ) × (marks : List ℕ) × (back ≡ s ∷ marks) × (canonical.class s ≡ 0))

@@ -1,8 +1,7 @@
 -- The steps of an iterator of decomposed text.
 use Rattle.std.proofs.Common.{◌≡◌, ℕ, ◌<◌, true, false, List, [], ◌∷◌, ◌++◌, flat_map, Option, Some, None, refl, sym, ap, subst, ◌∙◌, arith}
-use lib.Utf8.{low_scalar}
-use Rattle.icu_normalizer_core.specs.Canonical.{Canonical, IsCanonical, Leaves, marks_in_order, decomposed}
-use Rattle.icu_normalizer_core.proofs.DecomposedLemmas.{left_unmapped, order_before}
+use Rattle.icu_normalizer_core.specs.Canonical.{Canonical, marks_in_order, decomposed}
+use Rattle.icu_normalizer_core.proofs.DecomposedLemmas.{order_before}
 use Rattle.icu_normalizer.specs.declared.decomposing.Decomposition.{Decomposition}
 use Rattle.icu_normalizer.specs.Decompositions.{canonical_of, DecomposesTo, KeepsDecomposed}
 use Rattle.icu_normalizer.specs.Iter.{Spells, SourceSpells}
@@ -10,19 +9,7 @@ use Rattle.icu_normalizer.specs.Run.{reordered, held, KeepsOutput}
 use Rattle.icu_normalizer.proofs.IterLemmas.{Spells-next, Spells-end}
 use Rattle.icu_normalizer.proofs.RunLemmas.{order_nothing, reordered_empty}
 
--- what is left of nothing
-pub left_nothing : (step : ℕ → List ℕ) (xs ns : List ℕ) → xs ≡ [] → Leaves step xs ns → ns ≡ []
-left_nothing step xs ns e Leaves.nothing = refl
-left_nothing step xs ns e (Leaves.unmapped c cs ms u h) = cc
-left_nothing step xs ns e (Leaves.mapped c d ds cs ms u h) = cc
-
--- a character below U+00C0 stands for itself, and nothing comes before it
-pub full_low : (canonical : Canonical) (c : ℕ) → IsCanonical canonical → c < 0xc0 → canonical.full c ≡ c ∷ []
-full_low canonical c ok low =
-    let whole = canonical.full c in
-    let left = left_unmapped canonical.step c [] whole (ok.composing.unmapped c low) (ok.decomposing.ends c (low_scalar c (omega arith))) in
-    left.whole ∙ ap (λ l. c ∷ l) (left_nothing canonical.step [] left.rest refl left.of_rest)
-
+-- a starter that stands for itself comes first in the decomposed list
 pub decomposed_itself : (canonical : Canonical) (c : ℕ) (cs : List ℕ) → canonical.full c ≡ c ∷ [] → canonical.class c ≡ 0 → decomposed canonical (c ∷ cs) ≡ c ∷ decomposed canonical cs
 unfolding decomposed
 decomposed_itself canonical c cs full starter =
@@ -105,7 +92,7 @@ module _ {I : Type 0} (steps : I → Option ℕ → I → Type 0) where
             );
       }
 
-  pub keeps_passed : (old new : Decomposition I) (x : ℕ) → old.done ≡ false → steps old.chars (Some x) new.chars → new.done ≡ false → canonical_of new ≡ canonical_of old → held old.run ≡ 0 → held new.run ≡ 0 → x < 0xc0 → KeepsDecomposed steps old (x ∷ []) new
+  pub keeps_passed : (old new : Decomposition I) (x : ℕ) → old.done ≡ false → steps old.chars (Some x) new.chars → new.done ≡ false → canonical_of new ≡ canonical_of old → held old.run ≡ 0 → held new.run ≡ 0 → x < 0xa0 → KeepsDecomposed steps old (x ∷ []) new
   unfolding decomposed
   keeps_passed old new x before step after same empty still low =
       record {

@@ -14,13 +14,9 @@ pub characters_front : (xs ys : List ℕ) → AreCharacters (xs ++ ys) → AreCh
 characters_front [] ys h = tt
 characters_front (x ∷ xs) ys h = (h.0, characters_front xs ys h.1)
 
-module _ (encode : List ℕ → List ℕ) (is : IsEncoding encode) where
-  pub plain_units : (cs : List ℕ) → ArePlain cs → encode cs ≡ cs
-  plain_units [] plain = is.nothing
-  plain_units (c ∷ cs) plain = is.append (c ∷ []) cs ∙ ap₂ (λ x y. x ++ y) (is.plain c plain.0) (plain_units cs plain.1)
+-- ---- what was read, and what is ahead
 
-  -- ---- what was read, and what is ahead
-
+module _ (encode : List ℕ → List ℕ) where
   -- the rest comes behind `front`, and what is ahead comes behind `back`, which is the start of the rest
   pub record IsReadTo (text rest ahead : Text) (front back : List ℕ) : Type 0 where
     pub units : text.units ≡ encode front ++ rest.units
@@ -28,7 +24,17 @@ module _ (encode : List ℕ → List ℕ) (is : IsEncoding encode) where
     pub units_ahead : rest.units ≡ encode back ++ ahead.units
     pub characters_ahead : rest.characters ≡ back ++ ahead.characters
 
-  module _ (text rest ahead next : Text) (front back : List ℕ) (c : ℕ) (r : IsReadTo text rest ahead front back) where
+  -- what was passed over: nothing, or characters of which the last begins the rest
+  abbrev pub IsPastPlain : Text → Text → Text → Type 0
+  IsPastPlain text rest ahead =
+      IsReadTo text rest ahead [] [] ⊎ ((front : List ℕ) × (c : ℕ) × ArePlain front × (c < 0x80) × IsReadTo text rest ahead front (c ∷ []))
+
+module _ (encode : List ℕ → List ℕ) (is : IsEncoding encode) where
+  pub plain_units : (cs : List ℕ) → ArePlain cs → encode cs ≡ cs
+  plain_units [] plain = is.nothing
+  plain_units (c ∷ cs) plain = is.append (c ∷ []) cs ∙ ap₂ (λ x y. x ++ y) (is.plain c plain.0) (plain_units cs plain.1)
+
+  module _ (text rest ahead next : Text) (front back : List ℕ) (c : ℕ) (r : IsReadTo encode text rest ahead front back) where
     pub all_units : text.units ≡ encode (front ++ back) ++ ahead.units
     all_units =
         r.units ∙ ap (λ l. encode front ++ l) r.units_ahead ∙ sym (append_assoc (encode front) (encode back) ahead.units)
@@ -38,11 +44,11 @@ module _ (encode : List ℕ → List ℕ) (is : IsEncoding encode) where
     all_characters = r.characters ∙ ap (λ l. front ++ l) r.characters_ahead ∙ sym (append_assoc front back ahead.characters)
 
     -- the rest begins with the character that comes next
-    pub read_first : BeginsWith encode ahead c next → IsReadTo text ahead next (front ++ back) (c ∷ [])
+    pub read_first : BeginsWith encode ahead c next → IsReadTo encode text ahead next (front ++ back) (c ∷ [])
     read_first b = record { units = all_units; characters = all_characters; units_ahead = b.units; characters_ahead = b.characters }
 
     -- the rest stays where it began
-    pub read_behind : BeginsWith encode ahead c next → IsReadTo text rest next front (back ++ c ∷ [])
+    pub read_behind : BeginsWith encode ahead c next → IsReadTo encode text rest next front (back ++ c ∷ [])
     read_behind b = record {
       units = r.units;
       characters = r.characters;
@@ -58,14 +64,9 @@ module _ (encode : List ℕ → List ℕ) (is : IsEncoding encode) where
 
   -- ---- ASCII at the start
 
-  -- what was passed over: nothing, or characters of which the last begins the rest
-  abbrev pub IsPastPlain : Text → Text → Text → Type 0
-  IsPastPlain text rest ahead =
-      IsReadTo text rest ahead [] [] ⊎ ((front : List ℕ) × (c : ℕ) × ArePlain front × (c < 0x80) × IsReadTo text rest ahead front (c ∷ []))
-
   pub past_plain : (text rest ahead : Text) (n : ℕ) → n ≤ length text.units → ((k : ℕ) → k < n → get_or text.units k 0 < 0x80)
       → rest.units ≡ drop (n - 1) text.units → text.characters ≡ take (n - 1) text.units ++ rest.characters
-      → ahead.units ≡ drop n text.units → text.characters ≡ take n text.units ++ ahead.characters → IsPastPlain text rest ahead
+      → ahead.units ≡ drop n text.units → text.characters ≡ take n text.units ++ ahead.characters → IsPastPlain encode text rest ahead
   past_plain text rest ahead zero within plain e f g h =
       let none : zero - 1 ≡ zero = omega arith in
       let start : rest.units ≡ text.units = e ∙ ap (λ k. drop k text.units) none in
@@ -142,7 +143,7 @@ module _ (encode : List ℕ → List ℕ) (is : IsEncoding encode) where
 
   -- ---- where a text is cut
 
-  module _ (form : List ℕ → List ℕ) (bound : ℕ) (text rest ahead : Text) (front back : List ℕ) (r : IsReadTo text rest ahead front back) (scalars : AreCharacters text.characters) where
+  module _ (form : List ℕ → List ℕ) (bound : ℕ) (text rest ahead : Text) (front back : List ℕ) (r : IsReadTo encode text rest ahead front back) (scalars : AreCharacters text.characters) where
     -- it was read to its end, and is its own form
     pub cut_at_end : IsAtEnd ahead → form [] ≡ [] → IsOwnForm form (front ++ back) → IsTextCut encode form bound text ahead
     cut_at_end end nothing own =

@@ -1,22 +1,27 @@
 -- Texts that are read from the front.
-use Rattle.std.proofs.Common.{◌≡◌, ℕ, zero, suc, ◌+◌, ◌-◌, ◌*◌, ◌/◌, ◌%◌, ◌<◌, ◌≤◌, ◌^◌, true, false, ◌&&◌, List, [], ◌∷◌, ◌++◌, Option, None, Some, length, length-drop, take, drop, take_all, take-append-drop, get_or, slice_index, chars, encode_utf8, encode_utf8_all, IsUtf8, refl, sym, ap, ap₂, subst, ◌∙◌, arith, append-nil, ⊎_elim}
+use Rattle.std.proofs.Common.{◌≡◌, ℕ, zero, suc, ◌+◌, ◌-◌, ◌*◌, ◌/◌, ◌%◌, ◌<◌, ◌≤◌, ◌^◌, true, false, ◌&&◌, List, [], ◌∷◌, ◌++◌, Option, None, Some, ◌↔◌, length, length-append, length-drop, take, drop, take_all, take-append-drop, get_or, slice_index, chars, encode_utf8, encode_utf8_all, IsUtf8, refl, sym, ap, ap₂, subst, ◌∙◌, arith, append-nil, ⊎_elim}
+use Rattle.std.proofs.Math.Seq.{take-append_seam, drop-append_seam}
 use Rattle.std.proofs.lemmas.Bool.{cases_lt, and_from}
 use Rattle.std.proofs.lemmas.Bool.Decides.{nat_tests}
-use Rattle.std.proofs.lemmas.List.Elements.{recursion_from_All}
-use Rattle.std.proofs.lemmas.Str.{chars_from_encodes, chars_past_char, encodes-append, encodes-chars, scalars-chars}
+use Rattle.std.proofs.lemmas.List.Elements.{recursion_from_All, All-from_recursion}
+use Rattle.std.proofs.lemmas.Str.{IsCharBoundary-at_seam, chars-encodes, chars_from_encodes, chars_past_char, encodes-append, encodes-chars, scalars-chars}
 use Rattle.std.specs.Char.{IsScalar}
 use Rattle.std.specs.Char.Escape.{encode_utf16}
 use Rattle.std.specs.Char.Utf16.{is_high_surrogate, is_low_surrogate, surrogate_pair_char}
 use Rattle.std.specs.Option.{MatchOption}
+use Rattle.std.specs.Str.{IsCharBoundary}
 use lib.Utf8.{scalar, scalars, scalar_cases, low_scalar}
 use Rattle.bstr.specs.Utf8.{Decoded, decoded, good, or_replacement, lossy_chars}
-use Rattle.bstr.proofs.lemmas.EncodeLemmas.{decoded-encode}
+use Rattle.bstr.proofs.lemmas.EncodeLemmas.{decoded-encode, lossy_chars-encode}
 use Rattle.bstr.proofs.lemmas.LossyLemmas.{lossy_chars-front}
 use Rattle.bstr.proofs.lemmas.PieceLemmas.{size-some, size-within, lossy_chars-step}
 use Rattle.bstr.proofs.lemmas.SoundLemmas.{SpellsChar-decoded}
 use Rattle.icu_normalizer_core.specs.Decoding.{utf8_chars, utf16_chars}
 use Rattle.icu_normalizer_core.proofs.DecodedLemmas.{utf8_scalars, unit_scalars}
+use Rattle.icu_normalizer_core.proofs.TextLemmas.{utf16_text as written_units}
 use Rattle.icu_normalizer_core.proofs.Utf16Lemmas.{is_pair, lone_char, utf16_chars-nil, one_unit, pair_step, lone_step}
+use Rattle.icu_normalizer.specs.FormCuts.{IsOwnForm, ReachesBelow}
+use Rattle.icu_normalizer.specs.TextCuts.{IsOwnText, ReachesTo}
 use Rattle.icu_normalizer.specs.Texts.{Text, str_text, utf8_text, utf16_text, encode_utf16_all, AreCharacters, BeginsWith, BeginsDamaged}
 use Rattle.icu_normalizer.proofs.CutLemmas.{ArePlain, are_plain, are_scalar, plain_bytes}
 
@@ -188,3 +193,40 @@ utf16_none units rest u e small not alone = record {
       (cases_lt c 0x1_0000);
   characters = ap utf16_chars e ∙ lone_read u rest alone ∙ ap (λ x. x ∷ utf16_chars rest) (lone_damaged u (surrogate u small not));
 }
+
+-- ---- the parts of a text that is cut
+
+module _ (text front rest : List ℕ) (whole : text ≡ front ++ rest) where
+  seam : length front ≡ length text - length rest
+  seam = omega (arith, ap length whole, length-append front rest)
+
+  pub part_before : (a : List ℕ) → a ≡ take (length text - length rest) text → a ≡ front
+  part_before a e = e ∙ ap (λ n. take n text) (sym seam) ∙ ap (take (length front)) whole ∙ take-append_seam front rest
+
+  pub part_behind : (b : List ℕ) → b ≡ drop (length text - length rest) text → b ≡ rest
+  part_behind b e = e ∙ ap (λ n. drop n text) (sym seam) ∙ ap (drop (length front)) whole ∙ drop-append_seam front rest
+
+  pub str_cut : IsUtf8 rest → IsCharBoundary text (length text - length rest)
+  str_cut u = subst (IsCharBoundary text) seam (IsCharBoundary-at_seam text front rest whole u)
+
+all_scalars : (cs : List ℕ) → AreCharacters cs → scalars cs ≡ true
+all_scalars [] all = refl
+all_scalars (c ∷ cs) all = and_from (scalar c) (scalars cs) all.0 (all_scalars cs all.1)
+
+pub str_reads : (cs : List ℕ) → AreCharacters cs → chars (encode_utf8_all cs) ≡ cs
+str_reads cs all = chars-encodes cs (all_scalars cs all)
+
+pub utf8_reads : (cs : List ℕ) → AreCharacters cs → utf8_chars (encode_utf8_all cs) ≡ cs
+utf8_reads cs all = lossy_chars-encode cs (all_scalars cs all)
+
+pub utf16_reads : (cs : List ℕ) → AreCharacters cs → utf16_chars (encode_utf16_all cs) ≡ cs
+utf16_reads cs all = written_units cs (All-from_recursion IsScalar cs all)
+
+-- ---- a text that is known to be UTF-8 has no damaged part
+
+pub str_far : (form : List ℕ → List ℕ) (bound : ℕ) (bytes prefix : List ℕ) → IsUtf8 bytes → ReachesTo encode_utf8_all form bound (str_text bytes) prefix → ReachesBelow form bound (chars bytes) prefix
+str_far form bound bytes prefix u far agreed left others c e f low =
+    far agreed (encode_utf8_all (c ∷ left)) left others c (sym (encodes-chars bytes u) ∙ ap encode_utf8_all e ∙ encodes-append agreed (c ∷ left)) e f low
+
+pub str_empty : (form : List ℕ → List ℕ) (bytes rest : List ℕ) → IsUtf8 bytes → (rest ≡ []) ↔ IsOwnText encode_utf8_all form (str_text bytes) → (rest ≡ []) ↔ IsOwnForm form (chars bytes)
+str_empty form bytes rest u is = (λ none. (is.0 none).1, λ own. is.1 (encodes-chars bytes u, own))

@@ -1,14 +1,14 @@
 -- What is left of the composed list of a cluster.
 use Rattle.std.specs.Prelude.{◌≡◌, ℕ, ◌+◌, List, []}
-use Rattle.icu_normalizer_core.specs.BorrowedMeaning.{borrowed_meaning}
 use Rattle.icu_normalizer_core.specs.Canonical.{Canonical}
+use Rattle.icu_normalizer.specs.FormData.{form_meaning}
 use Rattle.icu_normalizer.specs.declared.composing.cluster_form.ClusterForm.{ClusterForm}
 use Rattle.icu_normalizer.specs.Composer.{coming, waiting}
 use Rattle.icu_normalizer.specs.Run.{reordered, held, pending}
 
--- the canonical data
+-- what its data say of characters
 abbrev pub form_data : ClusterForm → Canonical
-form_data form = borrowed_meaning form.composer.canonical
+form_data form = form_meaning form.composer.basis
 
 -- the characters that are left
 abbrev pub form_left : ClusterForm → List ℕ

@@ -1,13 +1,13 @@
 -- The last starter of decomposed characters, and the marks behind it.
 use Rattle.std.specs.Prelude.{◌≡◌, ℕ, ◌+◌, ◌-◌, false, List, [], ◌++◌, length, drop, Option, Some, None, option_to_list, if◌then◌else◌}
 use Rattle.smallvec.specs.SmallVec.{small_vec_len}
-use Rattle.icu_normalizer_core.specs.BorrowedMeaning.{borrowed_meaning}
 use Rattle.icu_normalizer_core.specs.Canonical.{Canonical, composing, recomposed}
+use Rattle.icu_normalizer.specs.FormData.{form_meaning}
 use Rattle.icu_normalizer.specs.declared.composing.composer.Composer.{Composer}
 
--- the canonical data of a composer
+-- what the data of a composer say of characters
 abbrev pub data_of : Composer → Canonical
-data_of composer = borrowed_meaning composer.canonical
+data_of composer = form_meaning composer.basis
 
 -- the composed list from the last starter on, if there is one
 abbrev pub composing_from : Canonical → Option ℕ → List ℕ → List ℕ → List ℕ

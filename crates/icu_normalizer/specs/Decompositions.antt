@@ -6,7 +6,7 @@ use Rattle.icu_normalizer.specs.declared.decomposing.Decomposition.{Decompositio
 use Rattle.icu_normalizer.specs.Iter.{SourceSpells, SourceIsReady, source_size, YieldsFirstOk}
 use Rattle.icu_normalizer.specs.Run.{reordered, held, data_of}
 
--- the canonical data of an iterator
+-- what the data of an iterator say of characters
 abbrev pub canonical_of : {I : Type 0} → Decomposition I → Canonical
 canonical_of s = data_of s.run
 

@@ -6,6 +6,8 @@ pub mod Decompositions
 pub mod Encodings
 pub mod Equivalence
 pub mod FormCuts
+pub mod FormData
+pub mod Forming
 pub mod Iter
 pub mod Marks
 pub mod Normalizers

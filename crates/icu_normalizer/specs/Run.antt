@@ -1,13 +1,13 @@
 -- Decomposed characters on their way out.
 use Rattle.std.specs.Prelude.{◌≡◌, ℕ, ◌-◌, List, ◌++◌, take, drop}
 use Rattle.smallvec.specs.SmallVec.{small_vec_len}
-use Rattle.icu_normalizer_core.specs.BorrowedMeaning.{borrowed_meaning}
 use Rattle.icu_normalizer_core.specs.Canonical.{Canonical, marks_in_order}
+use Rattle.icu_normalizer.specs.FormData.{form_meaning}
 use Rattle.icu_normalizer.specs.declared.run.Run.{Run}
 
--- the canonical data of a run
+-- what the data of a run say of characters
 abbrev pub data_of : Run → Canonical
-data_of run = borrowed_meaning run.canonical
+data_of run = form_meaning run.basis
 
 -- what comes out, where `rest` is still to go in
 unfoldable pub reordered : Run → List ℕ → List ℕ

@@ -1,7 +1,7 @@
 -- How far a text is its own decomposed list, and where it may be cut.
 use Rattle.std.specs.Prelude.{◌≡◌, ℕ, ◌≤◌, ◌⊎◌, List, [], ◌∷◌}
 use Rattle.icu_normalizer_core.specs.Canonical.{Canonical, decomposed}
-use Rattle.icu_normalizer.specs.FormCuts.{IsOwnForm, ReachesBelow, IsFormCut}
+use Rattle.icu_normalizer.specs.FormCuts.{IsOwnForm, IsFormCut}
 
 -- the text is its own decomposed list
 abbrev pub IsDecomposed : Canonical → List ℕ → Type 0
@@ -11,11 +11,7 @@ IsDecomposed canonical text = IsOwnForm (decomposed canonical) text
 abbrev pub IsInPlace : Canonical → ℕ → ℕ → Type 0
 IsInPlace canonical before c = (canonical.full c ≡ c ∷ []) × ((canonical.class c ≡ 0) ⊎ (before ≤ canonical.class c))
 
--- the prefix holds all that stands before any character below U+00C0 at or before the first place at which the text
--- and its decomposed list differ
-abbrev pub ReachesFar : Canonical → List ℕ → List ℕ → Type 0
-ReachesFar canonical text prefix = ReachesBelow (decomposed canonical) 0xc0 text prefix
-
--- a text that is not its own decomposed list is cut: `rest` can be decomposed alone
-abbrev pub IsCut : Canonical → List ℕ → List ℕ → Type 0
-IsCut canonical text rest = IsFormCut (decomposed canonical) 0xc0 text rest
+-- a text that is not its own decomposed list is cut: `rest` can be decomposed alone, and no character below the bound
+-- stands behind the cut before the first change
+abbrev pub IsCut : Canonical → ℕ → List ℕ → List ℕ → Type 0
+IsCut canonical bound text rest = IsFormCut (decomposed canonical) bound text rest

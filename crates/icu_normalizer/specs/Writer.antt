@@ -1,13 +1,13 @@
 -- Decomposed text on its way to a sink.
 use Rattle.std.specs.Prelude.{◌≡◌, ℕ, List, ◌++◌, take, encode_utf8_all}
-use Rattle.icu_normalizer_core.specs.BorrowedMeaning.{borrowed_meaning}
 use Rattle.icu_normalizer_core.specs.Canonical.{Canonical, marks_in_order}
+use Rattle.icu_normalizer.specs.FormData.{form_meaning}
 use Rattle.icu_normalizer.specs.declared.decomposing.writer.Writer.{Writer}
 use Rattle.icu_normalizer.specs.Sinks.{AddsPrefix}
 
--- the canonical data of a writer
+-- what the data of a writer say of characters
 abbrev pub writer_data : Writer → Canonical
-writer_data writer = borrowed_meaning writer.canonical
+writer_data writer = form_meaning writer.basis
 
 -- the marks that it holds, as they came
 abbrev pub held : Writer → List ℕ

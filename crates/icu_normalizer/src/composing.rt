@@ -5,6 +5,7 @@ ghost use Rattle.std.specs.Iterator.{at_most, IsFinite, size};
 ghost use Rattle.icu_normalizer_core.specs.BorrowedMeaning.{borrowed_meaning};
 ghost use Rattle.icu_normalizer_core.specs.Canonical.{composed};
 ghost use Rattle.icu_normalizer.specs.Composing.{IsComposable};
+ghost use Rattle.icu_normalizer.specs.FormData.{form_meaning};
 ghost use Rattle.icu_normalizer.specs.Iter.{Spells};
 ghost use Rattle.icu_normalizer.specs.Readable.{IsReadable};
 
@@ -17,6 +18,7 @@ mod normalizer;
 mod owned;
 
 use crate::decomposing::Decomposition;
+use crate::form_data::FormData;
 use composer::Composer;
 use icu_normalizer_core::canonical::CanonicalBorrowed;
 pub use normalizer::ComposingNormalizerBorrowed;
@@ -42,26 +44,23 @@ impl<'d, I: Iterator<Item = char> + Drop> Composition<'d, I> {
         ensures ready { I.can_next chars → IsFinite (I.remaining chars) → CanCompose I.can_next I.remaining result }
         ensures size { composition_size I.remaining result ≡ 8 * size (I.remaining chars) }
     {
-        canonical.keep_promise();
-        Self::over(alloc, canonical, chars)
+        let basis = FormData::Canonical(canonical);
+        basis.keep_promise();
+        Self::over(alloc, basis, chars)
     }
 
     /// The same, by data that are read fast.
     #[inline]
-    pub(crate) fn over(
-        alloc: Global,
-        canonical: CanonicalBorrowed<'d>,
-        chars: I,
-    ) -> Composition<'d, I>
-        requires readable { IsReadable (borrowed_meaning canonical) }
-        requires composable { IsComposable (borrowed_meaning canonical) }
-        ensures text { (cs : List ℕ) → Spells I.next_gives chars cs → ComposesTo I.next_gives result (composed (borrowed_meaning canonical.entry) cs) }
+    pub(crate) fn over(alloc: Global, basis: FormData<'d>, chars: I) -> Composition<'d, I>
+        requires readable { IsReadable (form_meaning basis) }
+        requires composable { IsComposable (form_meaning basis) }
+        ensures text { (cs : List ℕ) → Spells I.next_gives chars cs → ComposesTo I.next_gives result (composed (form_meaning basis.entry) cs) }
         ensures ready { I.can_next chars → IsFinite (I.remaining chars) → CanCompose I.can_next I.remaining result }
         ensures size { composition_size I.remaining result ≡ 8 * size (I.remaining chars) }
     {
         Composition {
-            chars: Decomposition::over(alloc, canonical, chars),
-            composer: Composer::new(alloc, canonical),
+            chars: Decomposition::over(alloc, basis, chars),
+            composer: Composer::new(alloc, basis),
         }
     }
 }

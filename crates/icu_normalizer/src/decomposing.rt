@@ -4,6 +4,7 @@ ghost use Rattle.std.specs.Prelude.{◌≡◌, ℕ, ◌+◌, ◌*◌, ◌<◌, �
 ghost use Rattle.std.specs.Iterator.{at_most, IsFinite, size};
 ghost use Rattle.icu_normalizer_core.specs.BorrowedMeaning.{borrowed_meaning};
 ghost use Rattle.icu_normalizer_core.specs.Canonical.{decomposed};
+ghost use Rattle.icu_normalizer.specs.FormData.{form_meaning};
 ghost use Rattle.icu_normalizer.specs.Iter.{Spells};
 ghost use Rattle.icu_normalizer.specs.Readable.{IsReadable};
 ghost use Rattle.icu_normalizer.specs.Run.{pending};
@@ -14,8 +15,8 @@ mod owned;
 mod places;
 mod writer;
 
+use crate::form_data::FormData;
 use crate::run::Run;
-pub(crate) use cuts::plain_len;
 use icu_normalizer_core::canonical::CanonicalBorrowed;
 pub use normalizer::DecomposingNormalizerBorrowed;
 pub use owned::DecomposingNormalizer;
@@ -42,26 +43,23 @@ impl<'d, I: Iterator<Item = char> + Drop> Decomposition<'d, I> {
         ensures ready { I.can_next chars → IsFinite (I.remaining chars) → CanDecompose I.can_next I.remaining result }
         ensures size { decomposition_size I.remaining result ≡ 8 * size (I.remaining chars) }
     {
-        canonical.keep_promise();
-        Self::over(alloc, canonical, chars)
+        let basis = FormData::Canonical(canonical);
+        basis.keep_promise();
+        Self::over(alloc, basis, chars)
     }
 
     /// The same, by data that are read fast.
     #[inline]
-    pub(crate) fn over(
-        alloc: Global,
-        canonical: CanonicalBorrowed<'d>,
-        chars: I,
-    ) -> Decomposition<'d, I>
-        requires { IsReadable (borrowed_meaning canonical) }
-        ensures text { (cs : List ℕ) → Spells I.next_gives chars cs → DecomposesTo I.next_gives result (decomposed (borrowed_meaning canonical.entry) cs) }
+    pub(crate) fn over(alloc: Global, basis: FormData<'d>, chars: I) -> Decomposition<'d, I>
+        requires { IsReadable (form_meaning basis) }
+        ensures text { (cs : List ℕ) → Spells I.next_gives chars cs → DecomposesTo I.next_gives result (decomposed (form_meaning basis.entry) cs) }
         ensures ready { I.can_next chars → IsFinite (I.remaining chars) → CanDecompose I.can_next I.remaining result }
         ensures size { decomposition_size I.remaining result ≡ 8 * size (I.remaining chars) }
     {
         Decomposition {
             chars,
             done: false,
-            run: Run::new(alloc, canonical),
+            run: Run::new(alloc, basis),
         }
     }
 
@@ -82,7 +80,7 @@ impl<'d, I: Iterator<Item = char> + Drop> Decomposition<'d, I> {
             self.done = true;
             return Ok(None);
         };
-        if c < '\u{c0}' && self.run.is_empty() {
+        if c < '\u{a0}' && self.run.is_empty() {
             return Ok(Some(c));
         }
         self.run.push_decomposed(c)?;

@@ -4,6 +4,7 @@
 
 pub mod composing;
 pub mod decomposing;
+mod form_data;
 pub mod laws;
 mod run;
 pub mod sinks;

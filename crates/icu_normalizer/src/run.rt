@@ -4,11 +4,12 @@ ghost use Rattle.std.specs.Prelude.{◌≡◌, ℕ, ◌+◌, ◌<◌, ◌≤◌,
 ghost use Rattle.std.specs.Char.{IsScalar};
 ghost use Rattle.std.specs.List.{list_all};
 ghost use Rattle.smallvec.specs.SmallVec.{small_vec_len};
-ghost use Rattle.icu_normalizer_core.specs.BorrowedMeaning.{borrowed_meaning};
+ghost use Rattle.icu_normalizer.specs.FormData.{form_meaning};
 ghost use Rattle.icu_normalizer_core.specs.Canonical.{marks_in_order};
 ghost use Rattle.icu_normalizer.specs.Marks.{is_mark};
 
-use icu_normalizer_core::canonical::{CanonicalBorrowed, Reading};
+use crate::form_data::FormData;
+use icu_normalizer_core::canonical::Reading;
 use smallvec::SmallVec;
 use std::alloc::{AllocError, Global};
 
@@ -19,16 +20,16 @@ const KEPT: usize = 4;
 /// and the marks behind the last starter, whose order is still open.
 #[derive(Debug, Drop)]
 pub(crate) struct Run<'d> {
-    canonical: CanonicalBorrowed<'d>,
+    basis: FormData<'d>,
     chars: SmallVec<char, 16>,
     next: usize,
     ready: usize,
     ghost taken: { next ≤ ready },
     ghost within: { ready ≤ small_vec_len chars },
-    ghost marks: { list_all (is_mark (borrowed_meaning canonical).class) (drop ready chars.items) ≡ true },
-    ghost bounded: { (c : ℕ) → IsScalar c → length ((borrowed_meaning canonical).full c) ≤ 8 },
-    ghost low: { (c : ℕ) → c < 0xc0 → (borrowed_meaning canonical).full c ≡ c ∷ [] },
-    ghost starters: { (c : ℕ) → c < 0xc0 → (borrowed_meaning canonical).class c ≡ 0 },
+    ghost marks: { list_all (is_mark (form_meaning basis).class) (drop ready chars.items) ≡ true },
+    ghost bounded: { (c : ℕ) → IsScalar c → length ((form_meaning basis).full c) ≤ 8 },
+    ghost low: { (c : ℕ) → c < 0xa0 → (form_meaning basis).full c ≡ c ∷ [] },
+    ghost starters: { (c : ℕ) → c < 0xa0 → (form_meaning basis).class c ≡ 0 },
 }
 
 impl<'d> Run<'d> {
@@ -36,13 +37,13 @@ impl<'d> Run<'d> {
     ghost use Rattle.icu_normalizer.specs.Run.{reordered, held, pending, data_of, KeepsOutput};
 
     /// No characters yet.
-    pub(crate) fn new(alloc: Global, canonical: CanonicalBorrowed<'d>) -> Run<'d>
-        requires { IsReadable (borrowed_meaning canonical) }
+    pub(crate) fn new(alloc: Global, basis: FormData<'d>) -> Run<'d>
+        requires { IsReadable (form_meaning basis) }
         ensures held { held result ≡ 0 }
-        ensures same { data_of result ≡ borrowed_meaning canonical.entry }
+        ensures same { data_of result ≡ form_meaning basis.entry }
     {
         Run {
-            canonical,
+            basis,
             chars: SmallVec::new(alloc),
             next: 0,
             ready: 0,
@@ -111,10 +112,10 @@ impl<'d> Run<'d> {
         ensures held { held self.new ≤ held self.old + 8 }
         ensures same { data_of self.new ≡ data_of self.old }
     {
-        if c < '\u{c0}' {
+        if c < '\u{a0}' {
             return self.add(c, 0);
         }
-        match self.canonical.reading(c) {
+        match self.basis.reading(c) {
             Reading::Itself(class) => self.add(c, class),
             Reading::Two(first, second) => {
                 self.push(first)?;
@@ -130,7 +131,7 @@ impl<'d> Run<'d> {
         ensures held { held self.new ≤ held self.old + 8 }
         ensures same { data_of self.new ≡ data_of self.old }
     {
-        for d in self.canonical.full_list(c) {
+        for d in self.basis.full_list(c) {
             self.push(d)?;
         }
         Ok(())
@@ -143,10 +144,10 @@ impl<'d> Run<'d> {
         ensures held { held self.new ≤ held self.old + 1 }
         ensures same { data_of self.new ≡ data_of self.old }
     {
-        if c < '\u{c0}' {
+        if c < '\u{a0}' {
             return self.add(c, 0);
         }
-        let class = self.canonical.class(c);
+        let class = self.basis.class(c);
         self.add(c, class)
     }
 
@@ -177,7 +178,7 @@ impl<'d> Run<'d> {
         ensures succeeds { held self.old ≡ 0 → OnErr result ⊥ }
         ensures same { data_of self.new ≡ data_of self.old }
     {
-        sort_marks(self.canonical, &mut self.chars, self.ready)?;
+        sort_marks(self.basis, &mut self.chars, self.ready)?;
         self.ready = self.chars.len();
         Ok(())
     }
@@ -186,13 +187,13 @@ impl<'d> Run<'d> {
 /// Sorts the marks from a place on by class, stably.
 #[inline]
 pub(crate) fn sort_marks(
-    canonical: CanonicalBorrowed<'_>,
+    basis: FormData<'_>,
     chars: &mut SmallVec<char, 16>,
     from: usize,
 ) -> Result<(), AllocError>
     requires within { from ≤ small_vec_len chars.old }
-    requires marks { list_all (is_mark (borrowed_meaning canonical).class) (drop from chars.old.items) ≡ true }
-    ensures ok { OnOk result (chars.new.items ≡ take from chars.old.items ++ marks_in_order (borrowed_meaning canonical.entry).class (drop from chars.old.items)) }
+    requires marks { list_all (is_mark (form_meaning basis).class) (drop from chars.old.items) ≡ true }
+    ensures ok { OnOk result (chars.new.items ≡ take from chars.old.items ++ marks_in_order (form_meaning basis.entry).class (drop from chars.old.items)) }
     ensures err { OnErr result (chars.new.items ≡ chars.old.items) }
     ensures len { small_vec_len chars.new ≡ small_vec_len chars.old }
     ensures succeeds { small_vec_len chars.old ≤ from + 1 → OnErr result ⊥ }
@@ -201,19 +202,15 @@ pub(crate) fn sort_marks(
         return Ok(());
     }
     let alloc = *chars.allocator();
-    sort_slice(alloc, canonical, &mut chars[from..])
+    sort_slice(alloc, basis, &mut chars[from..])
 }
 
 /// Sorts marks by class, stably.
 #[cold]
-fn sort_slice(
-    alloc: Global,
-    canonical: CanonicalBorrowed<'_>,
-    marks: &mut [char],
-) -> Result<(), AllocError>
-    requires { list_all (is_mark (borrowed_meaning canonical).class) marks.old ≡ true }
-    ensures ok { OnOk result (marks.new ≡ marks_in_order (borrowed_meaning canonical.entry).class marks.old) }
+fn sort_slice(alloc: Global, basis: FormData<'_>, marks: &mut [char]) -> Result<(), AllocError>
+    requires { list_all (is_mark (form_meaning basis).class) marks.old ≡ true }
+    ensures ok { OnOk result (marks.new ≡ marks_in_order (form_meaning basis.entry).class marks.old) }
     ensures err { OnErr result (marks.new ≡ marks.old) }
 {
-    marks.sort_by_key(alloc, |c| canonical.class(*c))
+    marks.sort_by_key(alloc, |c| basis.class(*c))
 }

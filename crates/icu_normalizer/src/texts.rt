@@ -5,6 +5,7 @@ mod known;
 mod units;
 
 ghost use Rattle.std.specs.Prelude.{◌≡◌, ℕ, ◌<◌, ◌≤◌, List, ◌++◌, length, drop, take, slice_index, MatchOption, IfSome, IfNone};
+ghost use Rattle.icu_normalizer.specs.TextCuts.{IsBehind};
 ghost use Rattle.icu_normalizer.specs.Texts.{Text as Spelled, IsEncoding, AreCharacters, BeginsWith, BeginsDamaged, IsAtEnd};
 
 /// A text in some encoding, which is read from the front. What is damaged reads as U+FFFD.
@@ -38,6 +39,12 @@ pub(crate) trait Text: Copy {
         ensures none { IfNone result (IsAtEnd (spelled self)) }
         ensures some { IfSome result (λ r. MatchOption r.0 (BeginsDamaged encode (spelled self) (spelled r.1)) (λ c. BeginsWith encode (spelled self) c (spelled r.1))) }
         ensures fewer { IfSome result (λ r. length (spelled r.1).units < length (spelled self).units) };
+
+    /// The text in two parts: undamaged text, and `rest`, which stands behind it.
+    fn split_before(self, rest: Self) -> (Self, Self)
+        requires { (prefix : List ℕ) × IsBehind encode (spelled self) prefix (spelled rest) }
+        ensures front { (prefix : List ℕ) → IsBehind encode (spelled self) prefix (spelled rest) → ((spelled result.0).units ≡ encode prefix) × ((spelled result.0).characters ≡ prefix) }
+        ensures back { ((spelled result.1).units ≡ (spelled rest).units) × ((spelled result.1).characters ≡ (spelled rest).characters) };
 
     ghost encoding: { IsEncoding encode };
 }

@@ -1,14 +1,14 @@
 //! The NFC of clusters, character by character.
 
 ghost use Rattle.std.specs.Prelude.{◌≡◌, ◌+◌, ◌≤◌, [], ◌++◌, length, option_to_list, IfNone, IfOk, OnOk, chars};
-ghost use Rattle.icu_normalizer_core.specs.BorrowedMeaning.{borrowed_meaning};
+ghost use Rattle.icu_normalizer.specs.FormData.{form_meaning};
 ghost use Rattle.icu_normalizer_core.specs.Canonical.{composed};
 ghost use Rattle.icu_normalizer.specs.Composing.{IsComposable};
 ghost use Rattle.icu_normalizer.specs.Readable.{IsReadable};
 
 use super::composer::Composer;
+use crate::form_data::FormData;
 use crate::run::Run;
-use icu_normalizer_core::canonical::CanonicalBorrowed;
 use std::alloc::{AllocError, Global};
 
 /// What is left of the NFC of a cluster. It is made once, and takes one cluster after another.
@@ -16,21 +16,21 @@ use std::alloc::{AllocError, Global};
 pub(super) struct ClusterForm<'d> {
     run: Run<'d>,
     composer: Composer<'d>,
-    ghost same: { borrowed_meaning run.canonical ≡ borrowed_meaning composer.canonical },
+    ghost same: { form_meaning run.basis ≡ form_meaning composer.basis },
 }
 
 impl<'d> ClusterForm<'d> {
     ghost use Rattle.icu_normalizer.specs.ClusterForm.{IsBegun, form_data, form_left, form_size};
 
     /// Nothing is left.
-    pub(super) fn new(alloc: Global, canonical: CanonicalBorrowed<'d>) -> ClusterForm<'d>
-        requires readable { IsReadable (borrowed_meaning canonical) }
-        requires composable { IsComposable (borrowed_meaning canonical) }
-        ensures same { form_data result ≡ borrowed_meaning canonical.entry }
+    pub(super) fn new(alloc: Global, basis: FormData<'d>) -> ClusterForm<'d>
+        requires readable { IsReadable (form_meaning basis) }
+        requires composable { IsComposable (form_meaning basis) }
+        ensures same { form_data result ≡ form_meaning basis.entry }
     {
         ClusterForm {
-            run: Run::new(alloc, canonical),
-            composer: Composer::new(alloc, canonical),
+            run: Run::new(alloc, basis),
+            composer: Composer::new(alloc, basis),
         }
     }
 

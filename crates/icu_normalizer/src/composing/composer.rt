@@ -1,10 +1,10 @@
 //! Composing decomposed characters: the last starter, and the marks behind it that did not compose.
 
 ghost use Rattle.std.specs.Prelude.{◌≡◌, ℕ, ◌+◌, ◌≤◌, List, [], ◌∷◌, ◌++◌, false, length, None, option_to_list, IfNone, IfOk};
-ghost use Rattle.icu_normalizer_core.specs.BorrowedMeaning.{borrowed_meaning};
+ghost use Rattle.icu_normalizer.specs.FormData.{form_meaning};
 ghost use Rattle.icu_normalizer.specs.Composing.{AreUpTo, IsComposable, composed_with};
 
-use icu_normalizer_core::canonical::CanonicalBorrowed;
+use crate::form_data::FormData;
 use smallvec::SmallVec;
 use std::alloc::{AllocError, Global};
 
@@ -12,29 +12,29 @@ use std::alloc::{AllocError, Global};
 /// another starter has taken its place.
 #[derive(Debug, Drop)]
 pub(crate) struct Composer<'d> {
-    canonical: CanonicalBorrowed<'d>,
+    basis: FormData<'d>,
     starter: Option<char>,
     marks: SmallVec<char, 16>,
     highest: u8,
     leaving: bool,
     next: usize,
-    ghost between: { leaving ≡ false → AreUpTo (borrowed_meaning canonical).class marks.items highest },
+    ghost between: { leaving ≡ false → AreUpTo (form_meaning basis).class marks.items highest },
     ghost alone: { leaving ≡ false → starter ≡ None → marks.items ≡ [] },
     ghost unread: { leaving ≡ false → next ≡ 0 },
-    ghost composable: { IsComposable (borrowed_meaning canonical) },
+    ghost composable: { IsComposable (form_meaning basis) },
 }
 
 impl<'d> Composer<'d> {
     ghost use Rattle.icu_normalizer.specs.Composer.{KeepsComposed, IsIdle, coming, waiting, data_of};
 
     /// No characters yet.
-    pub(crate) fn new(alloc: Global, canonical: CanonicalBorrowed<'d>) -> Composer<'d>
-        requires { IsComposable (borrowed_meaning canonical) }
+    pub(crate) fn new(alloc: Global, basis: FormData<'d>) -> Composer<'d>
+        requires { IsComposable (form_meaning basis) }
         ensures idle { IsIdle result }
-        ensures same { data_of result ≡ borrowed_meaning canonical.entry }
+        ensures same { data_of result ≡ form_meaning basis.entry }
     {
         Composer {
-            canonical,
+            basis,
             starter: None,
             marks: SmallVec::new(alloc),
             highest: 0,
@@ -87,7 +87,7 @@ impl<'d> Composer<'d> {
         ensures fewer { IfOk result (λ out. waiting self.new + length (option_to_list out) ≤ waiting self.old + 1) }
         ensures same { data_of self.new ≡ data_of self.old }
     {
-        let class = class_of(self.canonical, c);
+        let class = class_of(self.basis, c);
         let Some(starter) = self.starter else {
             if class != 0 {
                 return Ok(Some(c));
@@ -95,7 +95,7 @@ impl<'d> Composer<'d> {
             self.starter = Some(c);
             return Ok(None);
         };
-        if let Some(composed) = joined(self.canonical, starter, self.highest, c, class) {
+        if let Some(composed) = joined(self.basis, starter, self.highest, c, class) {
             self.starter = Some(composed);
             return Ok(None);
         }
@@ -125,25 +125,19 @@ impl<'d> Composer<'d> {
 
 /// The class of a character. One below U+0300 is a starter, so its class is not looked up.
 #[inline]
-fn class_of(canonical: CanonicalBorrowed<'_>, c: char) -> u8
-    requires { IsComposable (borrowed_meaning canonical) }
-    ensures { result ≡ (borrowed_meaning canonical.entry).class c }
+fn class_of(basis: FormData<'_>, c: char) -> u8
+    requires { IsComposable (form_meaning basis) }
+    ensures { result ≡ (form_meaning basis.entry).class c }
 {
-    if c < '\u{300}' { 0 } else { canonical.class(c) }
+    if c < '\u{300}' { 0 } else { basis.class(c) }
 }
 
 /// What a starter and `c` compose to, where `highest` is the highest class between them, or 0.
 #[inline]
-fn joined(
-    canonical: CanonicalBorrowed<'_>,
-    starter: char,
-    highest: u8,
-    c: char,
-    class: u8,
-) -> Option<char>
-    requires class { class ≡ (borrowed_meaning canonical).class c }
-    requires composable { IsComposable (borrowed_meaning canonical) }
-    ensures { (between : List ℕ) → AreUpTo (borrowed_meaning canonical.entry).class between highest → result ≡ composed_with (borrowed_meaning canonical.entry) starter between c }
+fn joined(basis: FormData<'_>, starter: char, highest: u8, c: char, class: u8) -> Option<char>
+    requires class { class ≡ (form_meaning basis).class c }
+    requires composable { IsComposable (form_meaning basis) }
+    ensures { (between : List ℕ) → AreUpTo (form_meaning basis.entry).class between highest → result ≡ composed_with (form_meaning basis.entry) starter between c }
 {
     if c < '\u{300}' {
         return None;
@@ -151,5 +145,5 @@ fn joined(
     if highest > 0 && class <= highest {
         return None;
     }
-    canonical.compose(starter, c)
+    basis.compose(starter, c)
 }

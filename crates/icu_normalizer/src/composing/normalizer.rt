@@ -1,6 +1,7 @@
 //! Texts in NFC.
 
 ghost use Rattle.std.specs.Prelude.{◌≡◌, ◌++◌, OnOk, OnErr, chars, encode_utf8_all};
+ghost use Rattle.icu_normalizer.specs.FormData.{form_meaning};
 ghost use Rattle.icu_normalizer_core.specs.BorrowedMeaning.{borrowed_meaning};
 ghost use Rattle.icu_normalizer_core.specs.Canonical.{IsCanonical, composed};
 ghost use Rattle.icu_normalizer.specs.Composing.{IsComposable};
@@ -11,6 +12,7 @@ mod splits;
 
 use super::cluster_form::ClusterForm;
 use super::clusters::{first_cluster, split_apart};
+use crate::form_data::FormData;
 use crate::sinks::{NormError, TextSink};
 use icu_normalizer_core::canonical::CanonicalBorrowed;
 use std::alloc::Global;
@@ -18,9 +20,9 @@ use std::alloc::Global;
 /// A normaliser to NFC (UAX 15), borrowed.
 #[derive(Clone, Copy, Debug)]
 pub struct ComposingNormalizerBorrowed<'d> {
-    canonical: CanonicalBorrowed<'d>,
-    ghost readable: { IsReadable (borrowed_meaning canonical) },
-    ghost composable: { IsComposable (borrowed_meaning canonical) },
+    basis: FormData<'d>,
+    ghost readable: { IsReadable (form_meaning basis) },
+    ghost composable: { IsComposable (form_meaning basis) },
 }
 
 impl<'d> ComposingNormalizerBorrowed<'d> {
@@ -31,15 +33,18 @@ impl<'d> ComposingNormalizerBorrowed<'d> {
     pub(crate) fn new_with_data(canonical: CanonicalBorrowed<'d>) -> ComposingNormalizerBorrowed<'d>
         ensures { composing_data result ≡ borrowed_meaning canonical.entry }
     {
-        canonical.keep_promise();
-        ComposingNormalizerBorrowed { canonical }
+        let basis = FormData::Canonical(canonical);
+        basis.keep_promise();
+        ComposingNormalizerBorrowed { basis }
     }
 
     /// Its data keep what canonical data promise, which the laws ask for. It computes nothing.
     pub fn keep_promise(&self)
         ensures { IsCanonical (composing_data self.now) }
     {
-        self.canonical.keep_promise();
+        match self.basis {
+            FormData::Canonical(canonical) => canonical.keep_promise(),
+        }
     }
 
     /// Writes a text in NFC to a sink. After an error the sink holds what it held, and a prefix of the text in NFC.
@@ -74,14 +79,14 @@ impl<'d> ComposingNormalizerBorrowed<'d> {
         ensures err { OnErr result (AddsPrefix (S.contents sink.old) (encode_utf8_all (composed (composing_data self.now) (chars text.now))) (S.contents sink.new)) }
         ensures failure { EndsByFailure S.takes S.fails sink.old result sink.new }
     {
-        let mut form = ClusterForm::new(alloc, self.canonical);
+        let mut form = ClusterForm::new(alloc, self.basis);
         let mut left = text;
         while !left.is_empty() {
-            let (cluster, rest) = first_cluster(self.canonical, left);
+            let (cluster, rest) = first_cluster(self.basis, left);
             if let Err(error) = self.write_cluster(&mut form, cluster, sink) {
                 return Err(error);
             }
-            let (plain, rest) = split_apart(self.canonical, rest);
+            let (plain, rest) = split_apart(self.basis, rest);
             if let Err(error) = sink.write_str(plain) {
                 return Err(NormError::Sink(error));
             }

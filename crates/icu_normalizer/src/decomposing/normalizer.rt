@@ -1,14 +1,17 @@
 //! Texts in NFD.
 
 ghost use Rattle.std.specs.Prelude.{◌≡◌, ◌++◌, OnOk, OnErr, chars, encode_utf8_all};
+ghost use Rattle.icu_normalizer.specs.FormData.{form_meaning};
 ghost use Rattle.icu_normalizer_core.specs.BorrowedMeaning.{borrowed_meaning};
 ghost use Rattle.icu_normalizer_core.specs.Canonical.{IsCanonical, decomposed};
 ghost use Rattle.icu_normalizer.specs.Readable.{IsReadable};
 ghost use Rattle.icu_normalizer.specs.Sinks.{AddsPrefix, EndsByFailure};
 
+mod encodings;
 mod splits;
 
 use super::writer::Writer;
+use crate::form_data::FormData;
 use crate::sinks::{NormError, TextSink};
 use icu_normalizer_core::canonical::CanonicalBorrowed;
 use std::alloc::Global;
@@ -16,26 +19,30 @@ use std::alloc::Global;
 /// A normaliser to NFD (UAX 15), borrowed.
 #[derive(Clone, Copy, Debug)]
 pub struct DecomposingNormalizerBorrowed<'d> {
-    canonical: CanonicalBorrowed<'d>,
-    ghost readable: { IsReadable (borrowed_meaning canonical) },
+    basis: FormData<'d>,
+    ghost readable: { IsReadable (form_meaning basis) },
 }
 
 impl<'d> DecomposingNormalizerBorrowed<'d> {
-    ghost use Rattle.icu_normalizer.specs.Normalizers.{normalizer_data};
+    ghost use Rattle.icu_normalizer.specs.Normalizers.{normalizer_data, normalizer_bound};
 
     /// A normaliser over canonical data. It takes no memory.
     pub fn new_with_data(canonical: CanonicalBorrowed<'d>) -> DecomposingNormalizerBorrowed<'d>
-        ensures { normalizer_data result ≡ borrowed_meaning canonical.entry }
+        ensures data { normalizer_data result ≡ borrowed_meaning canonical.entry }
+        ensures bound { normalizer_bound result ≡ 0xc0 }
     {
-        canonical.keep_promise();
-        DecomposingNormalizerBorrowed { canonical }
+        let basis = FormData::Canonical(canonical);
+        basis.keep_promise();
+        DecomposingNormalizerBorrowed { basis }
     }
 
     /// Its data keep what canonical data promise, which the laws ask for. It computes nothing.
     pub fn keep_promise(&self)
         ensures { IsCanonical (normalizer_data self.now) }
     {
-        self.canonical.keep_promise();
+        match self.basis {
+            FormData::Canonical(canonical) => canonical.keep_promise(),
+        }
     }
 
     /// Writes a text in NFD to a sink. After an error the sink holds what it held, and a prefix of the text in NFD.
@@ -68,7 +75,7 @@ impl<'d> DecomposingNormalizerBorrowed<'d> {
         ensures err { OnErr result (AddsPrefix (S.contents sink.old) (encode_utf8_all (decomposed (normalizer_data self.now) (chars text.now))) (S.contents sink.new)) }
         ensures failure { EndsByFailure S.takes S.fails sink.old result sink.new }
     {
-        let mut writer = Writer::new(alloc, self.canonical);
+        let mut writer = Writer::new(alloc, self.basis);
         for c in text.chars() {
             writer.write_decomposed(c, sink)?;
         }

@@ -1,28 +1,29 @@
 //! Characters that NFD leaves in their place.
 
 ghost use Rattle.std.specs.Prelude.{◌≡◌, [], ◌∷◌, ◌↔◌, IsTrue, IfSome, IfNone};
-ghost use Rattle.icu_normalizer_core.specs.BorrowedMeaning.{borrowed_meaning};
+ghost use Rattle.icu_normalizer.specs.FormData.{form_meaning};
 ghost use Rattle.icu_normalizer.specs.Readable.{IsReadable};
 ghost use Rattle.icu_normalizer.specs.Splits.{IsInPlace};
 
-use icu_normalizer_core::canonical::{CanonicalBorrowed, Reading};
+use crate::form_data::FormData;
+use icu_normalizer_core::canonical::Reading;
 
 /// The class of a character that is in its place behind one of class `before`: it stands for itself, and if it is a
 /// mark, then its class is not below `before`. `None` for any other.
 #[inline]
-pub(super) fn class_in_place(canonical: CanonicalBorrowed<'_>, before: u8, c: char) -> Option<u8>
-    requires { IsReadable (borrowed_meaning canonical) }
-    ensures class { IfSome result (λ class. class ≡ (borrowed_meaning canonical.entry).class c) }
-    ensures some { IfSome result (λ _. IsInPlace (borrowed_meaning canonical.entry) before c) }
-    ensures none { IfNone result (IsInPlace (borrowed_meaning canonical.entry) before c → ⊥) }
+pub(super) fn class_in_place(basis: FormData<'_>, before: u8, c: char) -> Option<u8>
+    requires { IsReadable (form_meaning basis) }
+    ensures class { IfSome result (λ class. class ≡ (form_meaning basis.entry).class c) }
+    ensures some { IfSome result (λ _. IsInPlace (form_meaning basis.entry) before c) }
+    ensures none { IfNone result (IsInPlace (form_meaning basis.entry) before c → ⊥) }
 {
-    if c < '\u{c0}' {
+    if c < '\u{a0}' {
         return Some(0);
     }
-    let class = match canonical.reading(c) {
+    let class = match basis.reading(c) {
         Reading::Itself(class) => class,
         Reading::Two(_, _) => return None,
-        Reading::Other => own_class(canonical, c)?,
+        Reading::Other => own_class(basis, c)?,
     };
     if class == 0 || before <= class {
         Some(class)
@@ -32,15 +33,15 @@ pub(super) fn class_in_place(canonical: CanonicalBorrowed<'_>, before: u8, c: ch
 }
 
 /// The class of a character that is its own full list.
-fn own_class(canonical: CanonicalBorrowed<'_>, c: char) -> Option<u8>
-    ensures class { IfSome result (λ class. class ≡ (borrowed_meaning canonical.entry).class c) }
-    ensures some { IfSome result (λ _. (borrowed_meaning canonical.entry).full c ≡ c ∷ []) }
-    ensures none { IfNone result ((borrowed_meaning canonical.entry).full c ≡ c ∷ [] → ⊥) }
+fn own_class(basis: FormData<'_>, c: char) -> Option<u8>
+    ensures class { IfSome result (λ class. class ≡ (form_meaning basis.entry).class c) }
+    ensures some { IfSome result (λ _. (form_meaning basis.entry).full c ≡ c ∷ []) }
+    ensures none { IfNone result ((form_meaning basis.entry).full c ≡ c ∷ [] → ⊥) }
 {
-    let mut list = canonical.full_list(c);
+    let mut list = basis.full_list(c);
     let first = list.next()?;
     if first == c && list.next().is_none() {
-        Some(canonical.class(c))
+        Some(basis.class(c))
     } else {
         None
     }

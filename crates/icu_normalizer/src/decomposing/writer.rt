@@ -3,14 +3,15 @@
 ghost use Rattle.std.specs.Prelude.{◌≡◌, ◌≢◌, ℕ, ◌<◌, ◌≤◌, [], ◌∷◌, ◌++◌, true, take, length, encode_utf8_all, IfOk, OnOk, OnErr, IsTrue};
 ghost use Rattle.std.specs.Char.{IsScalar};
 ghost use Rattle.std.specs.List.{list_all};
-ghost use Rattle.icu_normalizer_core.specs.BorrowedMeaning.{borrowed_meaning};
+ghost use Rattle.icu_normalizer.specs.FormData.{form_meaning};
 ghost use Rattle.icu_normalizer_core.specs.Canonical.{marks_in_order};
 ghost use Rattle.icu_normalizer.specs.Marks.{is_mark, rises_to};
 ghost use Rattle.icu_normalizer.specs.Sinks.{AddsPrefix, EndsByFailure};
 
+use crate::form_data::FormData;
 use crate::run::sort_marks;
 use crate::sinks::{NormError, TextSink};
-use icu_normalizer_core::canonical::{CanonicalBorrowed, Reading};
+use icu_normalizer_core::canonical::Reading;
 use smallvec::SmallVec;
 use std::alloc::{AllocError, Global};
 
@@ -22,7 +23,7 @@ const FEW: usize = 4;
 /// are not sorted.
 #[derive(Debug, Drop)]
 pub(super) struct Writer<'d> {
-    canonical: CanonicalBorrowed<'d>,
+    basis: FormData<'d>,
     few: [char; 4],
     count: usize,
     more: Vec<char>,
@@ -30,10 +31,10 @@ pub(super) struct Writer<'d> {
     in_order: bool,
     ghost within: { count ≤ 4 },
     ghost full: { count < 4 → more.items ≡ [] },
-    ghost marks: { list_all (is_mark (borrowed_meaning canonical).class) (take count few ++ more.items) ≡ true },
-    ghost order: { in_order ≡ true → rises_to (borrowed_meaning canonical).class 0 last (take count few ++ more.items) ≡ true },
-    ghost low: { (c : ℕ) → c < 0xc0 → (borrowed_meaning canonical).full c ≡ c ∷ [] },
-    ghost starters: { (c : ℕ) → c < 0xc0 → (borrowed_meaning canonical).class c ≡ 0 },
+    ghost marks: { list_all (is_mark (form_meaning basis).class) (take count few ++ more.items) ≡ true },
+    ghost order: { in_order ≡ true → rises_to (form_meaning basis).class 0 last (take count few ++ more.items) ≡ true },
+    ghost low: { (c : ℕ) → c < 0xa0 → (form_meaning basis).full c ≡ c ∷ [] },
+    ghost starters: { (c : ℕ) → c < 0xa0 → (form_meaning basis).class c ≡ 0 },
 }
 
 impl<'d> Writer<'d> {
@@ -41,13 +42,13 @@ impl<'d> Writer<'d> {
     ghost use Rattle.icu_normalizer.specs.Writer.{writer_data, held, due, Writes, WritesPart};
 
     /// Nothing is held.
-    pub(super) fn new(alloc: Global, canonical: CanonicalBorrowed<'d>) -> Writer<'d>
-        requires { IsReadable (borrowed_meaning canonical) }
+    pub(super) fn new(alloc: Global, basis: FormData<'d>) -> Writer<'d>
+        requires { IsReadable (form_meaning basis) }
         ensures empty { held result ≡ [] }
-        ensures same { writer_data result ≡ borrowed_meaning canonical.entry }
+        ensures same { writer_data result ≡ form_meaning basis.entry }
     {
         Writer {
-            canonical,
+            basis,
             few: ['\0'; 4],
             count: 0,
             more: Vec::new(alloc),
@@ -68,10 +69,10 @@ impl<'d> Writer<'d> {
         ensures failure { EndsByFailure S.takes S.fails sink.old result sink.new }
         ensures same { writer_data self.new ≡ writer_data self.old }
     {
-        if c < '\u{c0}' {
+        if c < '\u{a0}' {
             return self.add(c, 0, sink);
         }
-        match self.canonical.reading(c) {
+        match self.basis.reading(c) {
             Reading::Itself(class) => self.add(c, class, sink),
             Reading::Two(first, second) => {
                 self.write(first, sink)?;
@@ -88,7 +89,7 @@ impl<'d> Writer<'d> {
         ensures failure { EndsByFailure S.takes S.fails sink.old result sink.new }
         ensures same { writer_data self.new ≡ writer_data self.old }
     {
-        for d in self.canonical.full_list(c) {
+        for d in self.basis.full_list(c) {
             self.write(d, sink)?;
         }
         Ok(())
@@ -102,10 +103,10 @@ impl<'d> Writer<'d> {
         ensures failure { EndsByFailure S.takes S.fails sink.old result sink.new }
         ensures same { writer_data self.new ≡ writer_data self.old }
     {
-        if c < '\u{c0}' {
+        if c < '\u{a0}' {
             return self.add(c, 0, sink);
         }
-        let class = self.canonical.class(c);
+        let class = self.basis.class(c);
         self.add(c, class, sink)
     }
 
@@ -232,7 +233,7 @@ impl<'d> Writer<'d> {
         let mut marks = SmallVec::new(*self.more.allocator());
         marks.extend_from_slice(&self.few[..self.count])?;
         marks.extend_from_slice(&self.more)?;
-        sort_marks(self.canonical, &mut marks, 0)?;
+        sort_marks(self.basis, &mut marks, 0)?;
         Ok(marks)
     }
 

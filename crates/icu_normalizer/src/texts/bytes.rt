@@ -40,6 +40,11 @@ impl<'t> Text for &'t [u8] {
         }
         Some((first, &self[size..]))
     }
+
+    #[inline]
+    fn split_before(self, rest: Self) -> (Self, Self) {
+        self.split_at(Text::len(self) - Text::len(rest))
+    }
 }
 
 /// How many bytes of ASCII come first.

@@ -38,4 +38,9 @@ impl<'t> Text for &'t str {
         let c = chars.next()?;
         Some((Some(c), chars.as_str()))
     }
+
+    #[inline]
+    fn split_before(self, rest: Self) -> (Self, Self) {
+        self.split_at(Text::len(self) - Text::len(rest))
+    }
 }

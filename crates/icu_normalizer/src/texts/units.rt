@@ -46,6 +46,11 @@ impl<'t> Text for &'t [u16] {
             None => Some((None, rest)),
         }
     }
+
+    #[inline]
+    fn split_before(self, rest: Self) -> (Self, Self) {
+        self.split_at(Text::len(self) - Text::len(rest))
+    }
 }
 
 /// The character of a surrogate and the half of a pair that stands behind it, and what stands behind both.

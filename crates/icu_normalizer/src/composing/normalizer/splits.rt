@@ -17,7 +17,7 @@ impl ComposingNormalizerBorrowed<'_> {
     pub fn is_normalized(&self, alloc: Global, text: &str) -> Result<bool, AllocError>
         ensures { IfOk result (λ is. IsTrue is ↔ IsComposed (composing_data self.now) (chars text.now)) }
     {
-        let rest = rest_to_change(alloc, self.canonical, text)?;
+        let rest = rest_to_change(alloc, self.basis, text)?;
         Ok(rest.is_none())
     }
 
@@ -36,7 +36,7 @@ impl ComposingNormalizerBorrowed<'_> {
         ensures empty { IfOk result (λ parts. (parts.1.now ≡ []) ↔ IsComposed (composing_data self.now) (chars text.now)) }
         ensures far { IfOk result (λ parts. ReachesBelow (composed (composing_data self.now)) 0x300 (chars text.now) (chars parts.0.now)) }
     {
-        let rest = match rest_to_change(alloc, self.canonical, text) {
+        let rest = match rest_to_change(alloc, self.basis, text) {
             Ok(rest) => rest,
             Err(error) => return Err(error),
         };

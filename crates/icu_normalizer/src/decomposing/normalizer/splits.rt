@@ -3,37 +3,35 @@
 ghost use Rattle.std.specs.Prelude.{◌≡◌, [], ◌++◌, ◌↔◌, IsTrue, IfOk, chars, encode_utf8_all};
 ghost use Rattle.std.specs.Cow.{cow_str_bytes, IsBorrowedStr};
 ghost use Rattle.icu_normalizer_core.specs.Canonical.{decomposed};
-ghost use Rattle.icu_normalizer.specs.Splits.{IsDecomposed, ReachesFar};
+ghost use Rattle.icu_normalizer.specs.FormCuts.{ReachesBelow};
+ghost use Rattle.icu_normalizer.specs.Splits.{IsDecomposed};
 
-use super::super::cuts::rest_to_change;
+use super::super::cuts::{rest_to_change, split};
 use super::DecomposingNormalizerBorrowed;
 use std::alloc::{AllocError, Global};
 use std::borrow::CowStr;
 
 impl DecomposingNormalizerBorrowed<'_> {
-    ghost use Rattle.icu_normalizer.specs.Normalizers.{normalizer_data};
+    ghost use Rattle.icu_normalizer.specs.Normalizers.{normalizer_data, normalizer_bound};
 
     /// Whether a text is its own NFD. It takes no memory.
     pub fn is_normalized(&self, text: &str) -> bool
         ensures { IsTrue result ↔ IsDecomposed (normalizer_data self.now) (chars text.now) }
     {
-        rest_to_change(self.canonical, text).is_none()
+        rest_to_change(self.basis, text).is_empty()
     }
 
     /// A text in two parts: the prefix and the NFD of the rest are together the NFD of the text. The rest is empty
     /// exactly where the text is its own NFD. The prefix holds at least all that stands before the last character below
-    /// U+00C0 at or before the first difference between the text and its NFD. It takes no memory.
+    /// `normalizer_bound` (U+00C0) at or before the first difference between the text and its NFD. It takes no memory.
     pub fn split_normalized<'t>(&self, text: &'t str) -> (&'t str, &'t str)
         ensures whole { result.0.now ++ result.1.now ≡ text.now }
         ensures normal { chars result.0.now ++ decomposed (normalizer_data self.now) (chars result.1.now) ≡ decomposed (normalizer_data self.now) (chars text.now) }
         ensures bytes { result.0.now ++ encode_utf8_all (decomposed (normalizer_data self.now) (chars result.1.now)) ≡ encode_utf8_all (decomposed (normalizer_data self.now) (chars text.now)) }
         ensures empty { (result.1.now ≡ []) ↔ IsDecomposed (normalizer_data self.now) (chars text.now) }
-        ensures far { ReachesFar (normalizer_data self.now) (chars text.now) (chars result.0.now) }
+        ensures far { ReachesBelow (decomposed (normalizer_data self.now)) (normalizer_bound self.now) (chars text.now) (chars result.0.now) }
     {
-        match rest_to_change(self.canonical, text) {
-            None => text.split_at(text.len()),
-            Some(rest) => text.split_at(text.len() - rest.len()),
-        }
+        split(self.basis, text)
     }
 
     /// The NFD of a text, borrowed exactly where the text is its own NFD.

@@ -46,7 +46,7 @@ returns-in-Some-2-clause-cut c =
     let now = c.chars.invariant in
     let ahead = subst IsUtf8 c.as_str-here.ensures c.as_str-here.utf8 in
     let step = rw c.in-Some-2.is at c.in_ok-next.ensures.left in
-    walked_end _ c.keep_promise.ensures _ _ _ now.0 now.1 (form_left c.chars.form) now.2 c.utf8.text ahead (nothing_ahead _ c.in_default.ensures.steps.0.0) now.3 _ _ step
+    walked_end _ c.keep_promise.ensures.forming _ _ _ now.0 now.1 (form_left c.chars.form) now.2 c.utf8.text ahead (nothing_ahead _ c.in_default.ensures.steps.0.0) now.3 _ _ step
 
 pub later_rest-rest-requires-text-rest : goal.later_rest-rest-requires-text-rest
 later_rest-rest-requires-text-rest c =
@@ -70,7 +70,7 @@ returns-in_default-2-clause-cut c =
     let here = looked _ _ _ _ now.0 now.1 _ c.in-Some.c now.2 c.in-Some.ensures.steps.0 (λ low. c.later_rest-rest.ensures.low low ∙ c.as_str-here.ensures) c.later_rest-rest.ensures.high in
     let none = rw c.in_default-2.is at c.in_ok-composed.ensures.left in
     let done = rw c.in_default-2.is at c.in_ok-composed.ensures.done in
-    looked_end _ c.keep_promise.ensures _ _ _ c.in-Some.c (now.0 ++ now.1) (form_left c.chars.form) here c.utf8.text next now.3 (none ∙ done)
+    looked_end _ c.keep_promise.ensures.forming _ _ _ c.in-Some.c (now.0 ++ now.1) (form_left c.chars.form) here c.utf8.text next now.3 (none ∙ done)
 
 pub returns-then-composed-c-clause-same : goal.returns-then-composed-c-clause-same
 returns-then-composed-c-clause-same c = c.in_ok-composed.ensures.same ∙ c.chars.invariant.5
@@ -82,7 +82,7 @@ returns-then-composed-c-clause-cut c =
     let next = IsUtf8-past_char _ _ c.in-Some.c ahead c.in-Some.ensures.steps.0 in
     let here = looked _ _ _ _ now.0 now.1 _ c.in-Some.c now.2 c.in-Some.ensures.steps.0 (λ low. c.later_rest-rest.ensures.low low ∙ c.as_str-here.ensures) c.later_rest-rest.ensures.high in
     let step = rw c.in-Some-3.is at c.in_ok-composed.ensures.left in
-    looked_other _ c.keep_promise.ensures _ _ _ c.in-Some.c (now.0 ++ now.1) (form_left c.chars.form) here c.utf8.text next now.3 _ _ step c.if-composed-c.true
+    looked_other _ c.keep_promise.ensures.forming _ _ _ c.in-Some.c (now.0 ++ now.1) (form_left c.chars.form) here c.utf8.text next now.3 _ _ step c.if-composed-c.true
 
 pub chars-preserved : goal.chars-preserved
 chars-preserved c =

@@ -1,0 +1,80 @@
+//! The data that normal forms are made by.
+
+ghost use Rattle.std.specs.Prelude.{◌≡◌, IsTrue};
+ghost use Rattle.icu_normalizer_core.specs.Boundaries.{IsSteady};
+ghost use Rattle.icu_normalizer_core.specs.Readings.{IsTold};
+ghost use Rattle.icu_normalizer.specs.FormData.{form_meaning, low_bound};
+ghost use Rattle.icu_normalizer.specs.Forming.{IsForming, AreLowBelow};
+
+use icu_normalizer_core::canonical::{CanonicalBorrowed, FullList, Reading};
+
+/// What a normal form is made by.
+#[derive(Clone, Copy, Debug)]
+pub(crate) enum FormData<'d> {
+    /// Canonical data: NFD and NFC.
+    Canonical(CanonicalBorrowed<'d>),
+}
+
+impl<'d> FormData<'d> {
+    /// The data keep what making a normal form rests on. It computes nothing.
+    #[inline]
+    #[tactic(auto, using(crate::proofs::FormingLemmas::forming_canonical, crate::proofs::FormingLemmas::low_canonical))]
+    pub(crate) fn keep_promise(&self)
+        ensures forming { IsForming (form_meaning self.now) }
+        ensures low { AreLowBelow (low_bound self.now) (form_meaning self.now) }
+    {
+        match self {
+            FormData::Canonical(canonical) => canonical.keep_promise(),
+        }
+    }
+
+    /// The canonical combining class of a character; a starter has 0.
+    #[inline]
+    pub(crate) fn class(&self, c: char) -> u8
+        ensures { result ≡ (form_meaning self.now).class c }
+    {
+        match self {
+            FormData::Canonical(canonical) => canonical.class(c),
+        }
+    }
+
+    /// Whether one read tells that composing leaves a character alone, whatever stands before it. `false` says nothing.
+    #[inline]
+    pub(crate) fn is_steady(&self, c: char) -> bool
+        ensures { IsTrue result → IsSteady (form_meaning self.now) c }
+    {
+        match self {
+            FormData::Canonical(canonical) => canonical.is_steady(c),
+        }
+    }
+
+    /// What one read tells of a character.
+    #[inline]
+    pub(crate) fn reading(&self, c: char) -> Reading
+        ensures { IsTold (form_meaning self.now) c result }
+    {
+        match self {
+            FormData::Canonical(canonical) => canonical.reading(c),
+        }
+    }
+
+    /// The character that two compose to, `None` where they don't compose.
+    #[inline]
+    pub(crate) fn compose(&self, first: char, second: char) -> Option<char>
+        ensures { result ≡ (form_meaning self.now).pair first second }
+    {
+        match self {
+            FormData::Canonical(canonical) => canonical.compose(first, second),
+        }
+    }
+
+    /// The full list of a character: what mapping steps leave of it.
+    #[inline]
+    pub(crate) fn full_list(&self, c: char) -> FullList<'d>
+        ensures { result ≡ (form_meaning self.now).full c }
+    {
+        match self {
+            FormData::Canonical(canonical) => canonical.full_list(c),
+        }
+    }
+}
