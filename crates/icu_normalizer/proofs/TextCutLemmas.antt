@@ -1,9 +1,10 @@
 -- Texts that were read to a place.
-use Rattle.std.proofs.Common.{◌≡◌, ℕ, zero, suc, ◌+◌, ◌-◌, ◌<◌, ◌≤◌, ◌↔◌, ◌⊎◌, inl, inr, List, [], ◌∷◌, ◌++◌, length, length-append, take, drop, get_or, refl, sym, ap, ap₂, subst, ◌∙◌, arith, append_assoc, append-nil, ⊎_elim}
+use Rattle.std.proofs.Common.{◌≡◌, ℕ, zero, suc, ◌+◌, ◌-◌, ◌<◌, ◌≤◌, ◌↔◌, ◌⊎◌, inl, inr, Option, None, Some, List, [], ◌∷◌, ◌++◌, length, length-append, take, drop, get_or, refl, sym, ap, ap₂, subst, ◌∙◌, arith, append_assoc, append-nil, ⊎_elim}
 use Rattle.std.proofs.lemmas.Bool.{cases_lt}
 use Rattle.std.proofs.lemmas.List.{append_cancel_left, take_more}
 use Rattle.std.proofs.Common.{drop-cons, take-append-drop}
 use Rattle.std.specs.Char.{IsScalar}
+use Rattle.std.specs.Option.{MatchOption}
 use Rattle.icu_normalizer.specs.FormCuts.{IsOwnForm}
 use Rattle.icu_normalizer.specs.TextCuts.{IsBehind, IsOwnText, IsTextCut, IsTextSplit, ReachesTo}
 use Rattle.icu_normalizer.specs.Texts.{Text, AreCharacters, BeginsDamaged, BeginsWith, IsAtEnd, IsEncoding, IsUndamaged}
@@ -13,6 +14,15 @@ use Rattle.icu_normalizer.proofs.ListLemmas.{split_front}
 pub characters_front : (xs ys : List ℕ) → AreCharacters (xs ++ ys) → AreCharacters xs
 characters_front [] ys h = tt
 characters_front (x ∷ xs) ys h = (h.0, characters_front xs ys h.1)
+
+-- ---- what `split_char` gives
+
+module _ (encode : List ℕ → List ℕ) (text rest : Text) (first : Option ℕ) (begins : MatchOption first (BeginsDamaged encode text rest) (λ c. BeginsWith encode text c rest)) where
+  pub first_damaged : first ≡ None → BeginsDamaged encode text rest
+  first_damaged is = subst (λ o. MatchOption o (BeginsDamaged encode text rest) (λ c. BeginsWith encode text c rest)) is begins
+
+  pub first_char : (c : ℕ) → first ≡ Some c → BeginsWith encode text c rest
+  first_char c is = subst (λ o. MatchOption o (BeginsDamaged encode text rest) (λ d. BeginsWith encode text d rest)) is begins
 
 -- ---- what was read, and what is ahead
 

@@ -14,7 +14,6 @@ abbrev pub IsWalkedTo : (List ℕ → List ℕ) → Canonical → Text → Text 
 IsWalkedTo encode canonical text rest ahead before = (front : List ℕ) × (back : List ℕ) × IsWalked canonical front back before × IsReadTo encode text rest ahead front back
 
 module _ (encode : List ℕ → List ℕ) (is : IsEncoding encode) (canonical : Canonical) (ok : IsForming canonical) where
-
   pub walk_begun : (text rest ahead : Text) → IsPastPlain encode text rest ahead → IsWalkedTo encode canonical text rest ahead 0
   walk_begun text rest ahead (inl r) = ([], [], walked_none canonical, r)
   walk_begun text rest ahead (inr p) =

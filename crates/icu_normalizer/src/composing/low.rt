@@ -6,8 +6,8 @@ ghost use Rattle.icu_normalizer.specs.FormData.{form_meaning};
 ghost use Rattle.icu_normalizer_core.specs.Canonical.{composed};
 ghost use Rattle.icu_normalizer.specs.FormCuts.{IsComposed, IsSkipped};
 
-use crate::texts::Text;
 use crate::form_data::FormData;
+use crate::texts::Text;
 
 /// What is left of a text once characters that nothing composes with and that stay as they stand are passed over, from
 /// the last of them on; `None` where nothing is left, and the text is its own NFC. It takes no memory.

@@ -19,7 +19,8 @@ pub(super) fn rest_to_change<T: Text>(basis: FormData<'_>, text: T) -> T
     let mut rest = text.behind_plain(plain.saturating_sub(1));
     let mut ahead = text.behind_plain(plain);
     let mut before = 0;
-    'chars: while let Some((first, next)) = ahead.split_char() {
+    'chars: while let Some(read) = ahead.split_char() {
+        let first = read.0;
         let Some(c) = first else {
             return rest;
         };
@@ -30,7 +31,7 @@ pub(super) fn rest_to_change<T: Text>(basis: FormData<'_>, text: T) -> T
             rest = ahead;
         }
         before = class;
-        ahead = next;
+        ahead = read.1;
     }
     ahead
 }

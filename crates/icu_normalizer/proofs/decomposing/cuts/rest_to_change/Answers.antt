@@ -1,8 +1,7 @@
-use Rattle.std.proofs.Common.{◌++◌, take, drop, ap, subst, ◌∙◌, arith}
-use Rattle.std.specs.Option.{MatchOption}
+use Rattle.std.proofs.Common.{◌++◌, take, drop, ap, ◌∙◌, arith}
 use Rattle.icu_normalizer.specs.FormData.{form_meaning, low_bound}
 use Rattle.icu_normalizer.proofs.CutLemmas.{readable}
-use Rattle.icu_normalizer.proofs.TextCutLemmas.{past_plain}
+use Rattle.icu_normalizer.proofs.TextCutLemmas.{first_char, first_damaged, past_plain}
 use Rattle.icu_normalizer.proofs.TextWalkLemmas.{walk_begun, walk_starter, walk_mark, walk_ended, walk_out, walk_damaged}
 use Rattle.icu_normalizer.proofs.decomposing.cuts.rest_to_change.Goals as goal
 
@@ -21,24 +20,24 @@ class_in_place-requires g c = readable _ c.keep_promise.ensures.forming
 pub returns-in_default-first : goal.returns-in_default-first
 returns-in_default-first g c =
     walk_damaged g.T.Text.encode g.met.T.Text.encoding _ c.keep_promise.ensures.forming _ _ _ c.chars.before (low_bound c.args.basis) c.keep_promise.ensures.low c.chars.invariant c.keep_promise-2.ensures
-    _ (let fewer = c.in-Some.ensures.fewer in omega arith) (subst (λ o. MatchOption o _ _) c.in_default-first.is c.in-Some.ensures.some)
+    _ (let fewer = c.in-Some.ensures.fewer in omega arith) (first_damaged g.T.Text.encode (g.T.Text.spelled c.chars.ahead) (g.T.Text.spelled c.in-Some.read.1) _ c.in-Some.ensures.some c.in_default-first.is)
 
 pub returns-in_default-class_in_place : goal.returns-in_default-class_in_place
 returns-in_default-class_in_place g c =
     walk_out g.T.Text.encode g.met.T.Text.encoding _ c.keep_promise.ensures.forming _ _ _ c.chars.before (low_bound c.args.basis) c.keep_promise.ensures.low c.chars.invariant c.keep_promise-2.ensures
-    _ c.in-Some-first.c (let fewer = c.in-Some.ensures.fewer in omega arith) (subst (λ o. MatchOption o _ _) c.in-Some-first.is c.in-Some.ensures.some) c.in_default-class_in_place.ensures.none
+    _ c.in-Some-first.c (let fewer = c.in-Some.ensures.fewer in omega arith) (first_char g.T.Text.encode (g.T.Text.spelled c.chars.ahead) (g.T.Text.spelled c.in-Some.read.1) _ c.in-Some.ensures.some _ c.in-Some-first.is) c.in_default-class_in_place.ensures.none
 
 pub chars-preserved-then-class-eq0 : goal.chars-preserved-then-class-eq0
 chars-preserved-then-class-eq0 g c =
     let here = c.in-Some-class_in_place.ensures in
     walk_starter g.T.Text.encode g.met.T.Text.encoding _ c.keep_promise.ensures.forming _ _ _ _ c.chars.before c.in-Some-first.c _ c.chars.invariant
-    (subst (λ o. MatchOption o _ _) c.in-Some-first.is c.in-Some.ensures.some) here.some here.class c.if-class-eq0.true
+    (first_char g.T.Text.encode (g.T.Text.spelled c.chars.ahead) (g.T.Text.spelled c.in-Some.read.1) _ c.in-Some.ensures.some _ c.in-Some-first.is) here.some here.class c.if-class-eq0.true
 
 pub chars-preserved : goal.chars-preserved
 chars-preserved g c =
     let here = c.in-Some-class_in_place.ensures in
     walk_mark g.T.Text.encode g.met.T.Text.encoding _ c.keep_promise.ensures.forming _ _ _ _ c.chars.before c.in-Some-first.c _ c.chars.invariant
-    (subst (λ o. MatchOption o _ _) c.in-Some-first.is c.in-Some.ensures.some) here.some here.class (let mark = c.if-class-eq0.false in omega arith)
+    (first_char g.T.Text.encode (g.T.Text.spelled c.chars.ahead) (g.T.Text.spelled c.in-Some.read.1) _ c.in-Some.ensures.some _ c.in-Some-first.is) here.some here.class (let mark = c.if-class-eq0.false in omega arith)
 
 pub returns : goal.returns
 returns g c =
