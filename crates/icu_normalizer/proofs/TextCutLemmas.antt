@@ -4,7 +4,7 @@ use Rattle.std.proofs.lemmas.Bool.{cases_lt}
 use Rattle.std.proofs.lemmas.List.{append_cancel_left, take_more}
 use Rattle.std.proofs.Common.{drop-cons, take-append-drop}
 use Rattle.std.specs.Char.{IsScalar}
-use Rattle.std.specs.Option.{MatchOption}
+use Rattle.std.specs.Option.{MatchOption, unwrap_or}
 use Rattle.icu_normalizer.specs.FormCuts.{IsOwnForm}
 use Rattle.icu_normalizer.specs.TextCuts.{IsBehind, IsOwnText, IsTextCut, IsTextSplit, ReachesTo}
 use Rattle.icu_normalizer.specs.Texts.{Text, AreCharacters, BeginsDamaged, BeginsWith, IsAtEnd, IsEncoding, IsUndamaged}
@@ -23,6 +23,12 @@ module _ (encode : List ℕ → List ℕ) (text rest : Text) (first : Option ℕ
 
   pub first_char : (c : ℕ) → first ≡ Some c → BeginsWith encode text c rest
   first_char c is = subst (λ o. MatchOption o (BeginsDamaged encode text rest) (λ d. BeginsWith encode text d rest)) is begins
+
+-- what is damaged reads as U+FFFD
+pub first_read : (encode : List ℕ → List ℕ) (text rest : Text) (first : Option ℕ) (c : ℕ) → MatchOption first (BeginsDamaged encode text rest) (λ d. BeginsWith encode text d rest)
+    → c ≡ unwrap_or first 0xFFFD → text.characters ≡ c ∷ rest.characters
+first_read encode text rest None c begins is = begins.characters ∙ ap (λ x. x ∷ rest.characters) (sym is)
+first_read encode text rest (Some d) c begins is = begins.characters ∙ ap (λ x. x ∷ rest.characters) (sym is)
 
 -- ---- what was read, and what is ahead
 
@@ -202,3 +208,8 @@ module _ (encode : List ℕ → List ℕ) (is : IsEncoding encode) where
     far = subst (ReachesTo encode form bound text) (sym fc) cut.far;
     empty = subst (λ (u : List ℕ). (u ≡ []) ↔ IsOwnText encode form text) (sym bu) cut.empty;
   }
+
+-- the front of an undamaged text that is its own form, where nothing is behind it
+pub own_units : (encode form : List ℕ → List ℕ) (text : Text) (front rest : List ℕ) → IsOwnText encode form text → front ++ rest ≡ text.units → rest ≡ [] → front ≡ encode (form text.characters)
+own_units encode form text front rest own whole none =
+    sym (append-nil front) ∙ ap (λ l. front ++ l) (sym none) ∙ whole ∙ sym own.0 ∙ ap encode (sym own.1)

@@ -22,7 +22,7 @@ use Rattle.icu_normalizer_core.proofs.TextLemmas.{utf16_text as written_units}
 use Rattle.icu_normalizer_core.proofs.Utf16Lemmas.{is_pair, lone_char, utf16_chars-nil, one_unit, pair_step, lone_step}
 use Rattle.icu_normalizer.specs.FormCuts.{IsOwnForm, ReachesBelow}
 use Rattle.icu_normalizer.specs.TextCuts.{IsOwnText, ReachesTo}
-use Rattle.icu_normalizer.specs.Texts.{Text, str_text, utf8_text, utf16_text, encode_utf16_all, AreCharacters, BeginsWith, BeginsDamaged}
+use Rattle.icu_normalizer.specs.Texts.{Text, str_text, utf8_text, utf16_text, encode_utf16_all, AreCharacters, BeginsWith, BeginsDamaged, IsUndamaged}
 use Rattle.icu_normalizer.proofs.CutLemmas.{ArePlain, are_plain, are_scalar, plain_bytes}
 
 -- ---- ASCII at the start
@@ -230,3 +230,8 @@ str_far form bound bytes prefix u far agreed left others c e f low =
 
 pub str_empty : (form : List ℕ → List ℕ) (bytes rest : List ℕ) → IsUtf8 bytes → (rest ≡ []) ↔ IsOwnText encode_utf8_all form (str_text bytes) → (rest ≡ []) ↔ IsOwnForm form (chars bytes)
 str_empty form bytes rest u is = (λ none. (is.0 none).1, λ own. is.1 (encodes-chars bytes u, own))
+
+-- ---- undamaged bytes
+
+pub undamaged_utf8 : (bytes : List ℕ) → IsUndamaged encode_utf8_all (utf8_text bytes) → IsUtf8 bytes
+undamaged_utf8 bytes own = (utf8_chars bytes, (all_scalars (utf8_chars bytes) (utf8_characters bytes), own))

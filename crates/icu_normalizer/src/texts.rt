@@ -8,6 +8,8 @@ ghost use Rattle.std.specs.Prelude.{◌≡◌, ℕ, ◌<◌, ◌≤◌, List, �
 ghost use Rattle.icu_normalizer.specs.TextCuts.{IsBehind};
 ghost use Rattle.icu_normalizer.specs.Texts.{Text as Spelled, IsEncoding, AreCharacters, BeginsWith, BeginsDamaged, IsAtEnd};
 
+pub(crate) use bytes::known as known_text;
+
 /// A text in some encoding, which is read from the front. What is damaged reads as U+FFFD.
 pub(crate) trait Text: Copy {
     ghost spelled: { Self → Spelled };

@@ -1,8 +1,8 @@
 //! Any bytes, read as UTF-8.
 
-ghost use Rattle.std.specs.Prelude.{ℕ, ◌<◌, ◌≤◌, length, slice_index, encode_utf8_all};
+ghost use Rattle.std.specs.Prelude.{◌≡◌, ℕ, ◌<◌, ◌≤◌, length, slice_index, encode_utf8_all};
 ghost use Rattle.icu_normalizer.specs.Encodings.{utf8_encoding};
-ghost use Rattle.icu_normalizer.specs.Texts.{utf8_text};
+ghost use Rattle.icu_normalizer.specs.Texts.{utf8_text, IsUndamaged};
 
 use super::Text;
 use bstr::decode_utf8;
@@ -58,4 +58,13 @@ pub(super) fn plain_bytes(bytes: &[u8]) -> usize
         }
     }
     bytes.len()
+}
+
+/// Bytes that are UTF-8, as text.
+#[inline]
+pub(crate) fn known(bytes: &[u8]) -> &str
+    requires { IsUndamaged encode_utf8_all (utf8_text bytes.now) }
+    ensures { result.now ≡ bytes.now }
+{
+    unsafe { str::from_utf8_unchecked(bytes) }
 }

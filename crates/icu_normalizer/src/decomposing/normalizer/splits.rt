@@ -8,6 +8,7 @@ ghost use Rattle.icu_normalizer.specs.Splits.{IsDecomposed};
 
 use super::super::cuts::{rest_to_change, split};
 use super::DecomposingNormalizerBorrowed;
+use crate::char_sinks::Utf8;
 use std::alloc::{AllocError, Global};
 use std::borrow::CowStr;
 
@@ -45,7 +46,7 @@ impl DecomposingNormalizerBorrowed<'_> {
         }
         let mut normal = String::with_capacity(alloc, text.len().saturating_mul(2))?;
         normal.push_str(prefix)?;
-        match self.write_decomposed(alloc, rest, &mut normal) {
+        match self.write_decomposed::<&str, Utf8, String>(alloc, rest, &mut normal) {
             Ok(()) => Ok(CowStr::Owned(normal)),
             Err(_) => Err(AllocError),
         }
