@@ -6,7 +6,7 @@ use Rattle.std.proofs.Common.{drop-cons, take-append-drop}
 use Rattle.std.specs.Char.{IsScalar}
 use Rattle.std.specs.Option.{MatchOption, unwrap_or}
 use Rattle.icu_normalizer.specs.FormCuts.{IsOwnForm}
-use Rattle.icu_normalizer.specs.TextCuts.{IsBehind, IsOwnText, IsTextCut, IsTextSplit, ReachesTo}
+use Rattle.icu_normalizer.specs.TextCuts.{IsOwnText, IsTextCut, IsTextSplit, ReachesTo}
 use Rattle.icu_normalizer.specs.Texts.{Text, AreCharacters, BeginsDamaged, BeginsWith, IsAtEnd, IsEncoding, IsUndamaged}
 use Rattle.icu_normalizer.proofs.CutLemmas.{ArePlain, are_plain}
 use Rattle.icu_normalizer.proofs.ListLemmas.{split_front}

@@ -1,5 +1,5 @@
 -- Texts that are read from the front.
-use Rattle.std.proofs.Common.{◌≡◌, ℕ, zero, suc, ◌+◌, ◌-◌, ◌*◌, ◌/◌, ◌%◌, ◌<◌, ◌≤◌, ◌^◌, true, false, ◌&&◌, List, [], ◌∷◌, ◌++◌, Option, None, Some, ◌↔◌, length, length-append, length-drop, take, drop, take_all, take-append-drop, get_or, slice_index, chars, encode_utf8, encode_utf8_all, IsUtf8, refl, sym, ap, ap₂, subst, ◌∙◌, arith, append-nil, ⊎_elim}
+use Rattle.std.proofs.Common.{◌≡◌, ℕ, ◌+◌, ◌-◌, ◌/◌, ◌%◌, ◌<◌, ◌≤◌, ◌^◌, true, false, List, [], ◌∷◌, ◌++◌, Option, None, Some, ◌↔◌, length, length-append, length-drop, take, drop, take_all, take-append-drop, get_or, slice_index, chars, encode_utf8, encode_utf8_all, IsUtf8, refl, sym, ap, ap₂, subst, ◌∙◌, arith, append-nil, ⊎_elim}
 use Rattle.std.proofs.Math.Seq.{take-append_seam, drop-append_seam}
 use Rattle.std.proofs.lemmas.Bool.{cases_lt, and_from}
 use Rattle.std.proofs.lemmas.Bool.Decides.{nat_tests}
@@ -7,14 +7,14 @@ use Rattle.std.proofs.lemmas.List.Elements.{recursion_from_All, All-from_recursi
 use Rattle.std.proofs.lemmas.Str.{IsCharBoundary-at_seam, chars-encodes, chars_from_encodes, chars_past_char, encodes-append, encodes-chars, scalars-chars}
 use Rattle.std.specs.Char.{IsScalar}
 use Rattle.std.specs.Char.Escape.{encode_utf16}
-use Rattle.std.specs.Char.Utf16.{is_high_surrogate, is_low_surrogate, surrogate_pair_char}
+use Rattle.std.specs.Char.Utf16.{surrogate_pair_char}
 use Rattle.std.specs.Option.{MatchOption}
 use Rattle.std.specs.Str.{IsCharBoundary}
 use lib.Utf8.{scalar, scalars, scalar_cases, low_scalar}
-use Rattle.bstr.specs.Utf8.{Decoded, decoded, good, or_replacement, lossy_chars}
+use Rattle.bstr.specs.Utf8.{Decoded, decoded, or_replacement, lossy_chars}
 use Rattle.bstr.proofs.lemmas.EncodeLemmas.{decoded-encode, lossy_chars-encode}
 use Rattle.bstr.proofs.lemmas.LossyLemmas.{lossy_chars-front}
-use Rattle.bstr.proofs.lemmas.PieceLemmas.{size-some, size-within, lossy_chars-step}
+use Rattle.bstr.proofs.lemmas.PieceLemmas.{size-some, lossy_chars-step}
 use Rattle.bstr.proofs.lemmas.SoundLemmas.{SpellsChar-decoded}
 use Rattle.icu_normalizer_core.specs.Decoding.{utf8_chars, utf16_chars}
 use Rattle.icu_normalizer_core.proofs.DecodedLemmas.{utf8_scalars, unit_scalars}
@@ -22,7 +22,7 @@ use Rattle.icu_normalizer_core.proofs.TextLemmas.{utf16_text as written_units}
 use Rattle.icu_normalizer_core.proofs.Utf16Lemmas.{is_pair, lone_char, utf16_chars-nil, one_unit, pair_step, lone_step}
 use Rattle.icu_normalizer.specs.FormCuts.{IsOwnForm, ReachesBelow}
 use Rattle.icu_normalizer.specs.TextCuts.{IsOwnText, ReachesTo}
-use Rattle.icu_normalizer.specs.Texts.{Text, str_text, utf8_text, utf16_text, encode_utf16_all, AreCharacters, BeginsWith, BeginsDamaged, IsUndamaged}
+use Rattle.icu_normalizer.specs.Texts.{str_text, utf8_text, utf16_text, encode_utf16_all, AreCharacters, BeginsWith, BeginsDamaged, IsUndamaged}
 use Rattle.icu_normalizer.proofs.CutLemmas.{ArePlain, are_plain, are_scalar, plain_bytes}
 
 -- ---- ASCII at the start

@@ -1,9 +1,9 @@
 -- Texts of which nothing that was read is out of its place.
-use Rattle.std.proofs.Common.{◌≡◌, ℕ, zero, ◌<◌, ◌≤◌, ◌⊎◌, inl, inr, List, [], ◌∷◌, ◌++◌, length, refl, sym, ap, subst, ◌∙◌, arith, append_assoc}
+use Rattle.std.proofs.Common.{◌≡◌, ℕ, ◌<◌, inl, inr, List, [], ◌∷◌, ◌++◌, length, sym, ap, subst, ◌∙◌, arith, append_assoc}
 use Rattle.icu_normalizer_core.specs.Canonical.{Canonical, decomposed}
 use Rattle.icu_normalizer.specs.Forming.{IsForming, AreLowBelow}
 use Rattle.icu_normalizer.specs.Splits.{IsDecomposed, IsInPlace}
-use Rattle.icu_normalizer.specs.TextCuts.{IsTextCut, ReachesTo}
+use Rattle.icu_normalizer.specs.TextCuts.{IsTextCut}
 use Rattle.icu_normalizer.specs.Texts.{Text, AreCharacters, BeginsDamaged, BeginsWith, IsAtEnd, IsEncoding}
 use Rattle.icu_normalizer.proofs.CutLemmas.{decomposed_nothing, plain_low}
 use Rattle.icu_normalizer.proofs.SplitLemmas.{IsWalked, in_place_is_decomposed, starter_before, walked_alone, walked_changes, walked_far, walked_low, walked_mark, walked_none, walked_starter}

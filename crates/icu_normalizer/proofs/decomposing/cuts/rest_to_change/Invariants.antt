@@ -1,4 +1,4 @@
-use Rattle.std.proofs.Common.{ℕ, length}
+use Rattle.std.proofs.Common.{length}
 use Rattle.icu_normalizer.specs.FormData.{form_meaning}
 use Rattle.icu_normalizer.proofs.TextWalkLemmas.{IsWalkedTo}
 use Rattle.icu_normalizer.proofs.decomposing.cuts.rest_to_change.Given as goal

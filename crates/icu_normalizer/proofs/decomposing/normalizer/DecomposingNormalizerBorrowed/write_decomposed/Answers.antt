@@ -1,4 +1,4 @@
-use Rattle.std.proofs.Common.{[], sym, ap, ◌∙◌, append-nil}
+use Rattle.std.proofs.Common.{[], sym, ◌∙◌, append-nil}
 use Rattle.std.proofs.lemmas.Result.{on_ok_weaker, on_err_weaker, err_from_is_err_and}
 use Rattle.std.specs.Prelude.{Err, ⊤}
 use Rattle.icu_normalizer.specs.Normalizers.{normalizer_data}

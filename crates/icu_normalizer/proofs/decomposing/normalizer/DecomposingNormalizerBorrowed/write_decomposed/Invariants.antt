@@ -1,4 +1,4 @@
-use Rattle.std.proofs.Common.{◌≡◌, ℕ, length}
+use Rattle.std.proofs.Common.{◌≡◌, length}
 use Rattle.std.specs.List.{flat_map}
 use Rattle.icu_normalizer_core.specs.Canonical.{decomposed}
 use Rattle.icu_normalizer.specs.Normalizers.{normalizer_data}

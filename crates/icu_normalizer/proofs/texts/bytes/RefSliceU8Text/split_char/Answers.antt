@@ -1,4 +1,4 @@
-use Rattle.std.proofs.Common.{◌≡◌, ◌<◌, ◌≤◌, length, sym, ap, ◌∙◌, arith}
+use Rattle.std.proofs.Common.{◌≡◌, ◌<◌, length, sym, ap, ◌∙◌, arith}
 use Rattle.bstr.specs.Utf8.{decoded, lossy_chars}
 use Rattle.bstr.proofs.lemmas.PieceLemmas.{size-zero, size-some, size-within, lossy_chars-nil}
 use Rattle.icu_normalizer.proofs.TextLemmas.{utf8_first}
