@@ -13,7 +13,7 @@ use Rattle.icu_normalizer.specs.FormCuts.{IsComposed, ReachesBelow, IsFormCut, I
 use Rattle.icu_normalizer.proofs.ComposedCutLemmas.{same_front}
 use Rattle.icu_normalizer.proofs.CutLemmas.{are_scalar}
 use Rattle.icu_normalizer.proofs.FormCutLemmas.{cut_place}
-use Rattle.icu_normalizer.proofs.SkipLemmas.{split_front}
+use Rattle.icu_normalizer.proofs.ListLemmas.{split_front}
 use Rattle.icu_normalizer.proofs.WeightLemmas.{weight, weighs, total_composed}
 
 -- ---- over characters

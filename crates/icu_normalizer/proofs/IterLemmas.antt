@@ -1,9 +1,5 @@
 -- Following an iterator by the words of specs/Iter.antt.
 use Rattle.std.proofs.Common.{◌≡◌, ℕ, List, [], ◌∷◌, Option, Some, None, refl, sym, ap}
-use Rattle.std.proofs.Common.{chars, IsUtf8, ◌∙◌}
-use Rattle.std.proofs.lemmas.Str.{Chars-gives, encodes-chars}
-use Rattle.std.specs.Str.Iter.{chars_rest, chars_steps}
-use Rattle.std.specs.declared.str.Chars.{Chars}
 use Rattle.icu_normalizer.specs.Iter.{Spells, IsFirstOf}
 
 module _ {I : Type 0} (steps : I → Option ℕ → I → Type 0) where
@@ -14,6 +10,3 @@ module _ {I : Type 0} (steps : I → Option ℕ → I → Type 0) where
   pub Spells-end : (s t : I) (cs : List ℕ) → steps s None t → Spells steps s cs → cs ≡ []
   Spells-end s t [] step h = refl
   Spells-end s t (c ∷ cs) step h = absurd (h.0 t step)
-
-pub Spells-chars : (s : Chars) (bs : List ℕ) → IsUtf8 bs → chars_rest s ≡ bs → Spells chars_steps s (chars bs)
-Spells-chars s bs text rest = Chars-gives (chars bs) s (encodes-chars bs text ∙ sym rest)

@@ -13,6 +13,7 @@ pub mod FormCutLemmas
 pub mod FormingLemmas
 pub mod FormLawLemmas
 pub mod IterLemmas
+pub mod ListLemmas
 pub mod MappedLemmas
 pub mod OwnLemmas
 pub mod RunLemmas
@@ -21,5 +22,8 @@ pub mod SkipLemmas
 pub mod SortLemmas
 pub mod SplitLemmas
 pub mod StepLemmas
+pub mod TextCutLemmas
+pub mod TextLemmas
+pub mod TextWalkLemmas
 pub mod WeightLemmas
 pub mod WriterLemmas

@@ -1,37 +1,38 @@
 -- What a sink holds while a text is written to it.
-use Rattle.std.proofs.Common.{◌≡◌, ℕ, List, [], ◌∷◌, ◌++◌, encode_utf8_all, sym, ap, ◌∙◌, append_assoc, append-nil}
+use Rattle.std.proofs.Common.{◌≡◌, ℕ, List, [], ◌∷◌, ◌++◌, sym, ap, ◌∙◌, append_assoc, append-nil}
 use Rattle.std.specs.Prelude.{Result, Ok, Err}
-use Rattle.std.proofs.lemmas.Str.{encodes-append}
 use Rattle.icu_normalizer.specs.declared.sinks.NormError.{NormError}
 use Rattle.icu_normalizer.specs.declared.sinks.NormError.TheVariants.{Sink, Memory}
+use Rattle.icu_normalizer.specs.Texts.{IsEncoding}
 use Rattle.icu_normalizer.specs.Sinks.{AddsPrefix, HasTaken, nothing, more, EndsByFailure}
 
 pub seen_more : (all seen left : List ℕ) (c : ℕ) (rest : List ℕ) → all ≡ seen ++ left → left ≡ c ∷ rest → all ≡ (seen ++ c ∷ []) ++ rest
 seen_more all seen left c rest e f = e ∙ ap (λ l. seen ++ l) f ∙ sym (append_assoc seen (c ∷ []) rest)
 
-pub sink_more : (old mid new seen : List ℕ) (c : ℕ) → mid ≡ old ++ encode_utf8_all seen → new ≡ mid ++ encode_utf8_all (c ∷ []) → new ≡ old ++ encode_utf8_all (seen ++ c ∷ [])
-sink_more old mid new seen c before after =
-    after ∙ ap (λ l. l ++ encode_utf8_all (c ∷ [])) before ∙ append_assoc old (encode_utf8_all seen) (encode_utf8_all (c ∷ []))
-    ∙ ap (λ l. old ++ l) (sym (encodes-append seen (c ∷ [])))
+module _ (encode : List ℕ → List ℕ) (is : IsEncoding encode) where
+  pub sink_more : (old mid new seen : List ℕ) (c : ℕ) → mid ≡ old ++ encode seen → new ≡ mid ++ encode (c ∷ []) → new ≡ old ++ encode (seen ++ c ∷ [])
+  sink_more old mid new seen c before after =
+      after ∙ ap (λ l. l ++ encode (c ∷ [])) before ∙ append_assoc old (encode seen) (encode (c ∷ []))
+      ∙ ap (λ l. old ++ l) (sym (is.append seen (c ∷ [])))
 
-pub sink_all : (old new all seen left : List ℕ) → all ≡ seen ++ left → left ≡ [] → new ≡ old ++ encode_utf8_all seen → new ≡ old ++ encode_utf8_all all
-sink_all old new all seen left e none now =
-    now ∙ ap (λ l. old ++ encode_utf8_all l) (sym (e ∙ ap (λ l. seen ++ l) none ∙ append-nil seen))
+  pub sink_all : (old new all seen left : List ℕ) → all ≡ seen ++ left → left ≡ [] → new ≡ old ++ encode seen → new ≡ old ++ encode all
+  sink_all old new all seen left e none now =
+      now ∙ ap (λ l. old ++ encode l) (sym (e ∙ ap (λ l. seen ++ l) none ∙ append-nil seen))
 
--- no more came
-pub sink_cut : (old new all seen left : List ℕ) → all ≡ seen ++ left → new ≡ old ++ encode_utf8_all seen → AddsPrefix old (encode_utf8_all all) new
-sink_cut old new all seen left e now = (encode_utf8_all seen, encode_utf8_all left, ap encode_utf8_all e ∙ encodes-append seen left, now)
+  -- no more came
+  pub sink_cut : (old new all seen left : List ℕ) → all ≡ seen ++ left → new ≡ old ++ encode seen → AddsPrefix old (encode all) new
+  sink_cut old new all seen left e now = (encode seen, encode left, ap encode e ∙ is.append seen left, now)
 
--- the sink took no more than a part of a character
-pub sink_part : (old mid new all seen left : List ℕ) (c : ℕ) (rest : List ℕ) → all ≡ seen ++ left → left ≡ c ∷ rest → mid ≡ old ++ encode_utf8_all seen → AddsPrefix mid (encode_utf8_all (c ∷ [])) new → AddsPrefix old (encode_utf8_all all) new
-sink_part old mid new all seen left c rest e f before h = (
-  encode_utf8_all seen ++ h.0,
-  h.1 ++ encode_utf8_all rest,
-  ap encode_utf8_all (e ∙ ap (λ l. seen ++ l) f) ∙ encodes-append seen (c ∷ rest)
-      ∙ ap (λ l. encode_utf8_all seen ++ l) (encodes-append (c ∷ []) rest ∙ ap (λ l. l ++ encode_utf8_all rest) h.2 ∙ append_assoc h.0 h.1 (encode_utf8_all rest))
-      ∙ sym (append_assoc (encode_utf8_all seen) h.0 (h.1 ++ encode_utf8_all rest)),
-  h.3 ∙ ap (λ l. l ++ h.0) before ∙ append_assoc old (encode_utf8_all seen) h.0,
-)
+  -- the sink took no more than a part of a character
+  pub sink_part : (old mid new all seen left : List ℕ) (c : ℕ) (rest : List ℕ) → all ≡ seen ++ left → left ≡ c ∷ rest → mid ≡ old ++ encode seen → AddsPrefix mid (encode (c ∷ [])) new → AddsPrefix old (encode all) new
+  sink_part old mid new all seen left c rest e f before h = (
+    encode seen ++ h.0,
+    h.1 ++ encode rest,
+    ap encode (e ∙ ap (λ l. seen ++ l) f) ∙ is.append seen (c ∷ rest)
+        ∙ ap (λ l. encode seen ++ l) (is.append (c ∷ []) rest ∙ ap (λ l. l ++ encode rest) h.2 ∙ append_assoc h.0 h.1 (encode rest))
+        ∙ sym (append_assoc (encode seen) h.0 (h.1 ++ encode rest)),
+    h.3 ∙ ap (λ l. l ++ h.0) before ∙ append_assoc old (encode seen) h.0,
+  )
 
 -- ---- a text in two parts
 

@@ -12,6 +12,7 @@ use Rattle.icu_normalizer.specs.FormCuts.{IsOwnForm, IsComposed, ReachesBelow, I
 use Rattle.icu_normalizer.proofs.ComposedWalkLemmas.{composed_nothing}
 use Rattle.icu_normalizer.proofs.ComposingLemmas.{composing_end, composing_joined, composing_begun, composing_kept, composing_cases, composed_never, never_second, recomposed_nothing, recomposed_begun, recomposed_passed}
 use Rattle.icu_normalizer.proofs.CutLemmas.{IsRead, ArePlain, are_plain, plain_bytes, plain_boundary, one_char, text_chars, front_utf8, rest_chars, read_starter, decomposed_nothing}
+use Rattle.icu_normalizer.proofs.ListLemmas.{split_front}
 use Rattle.icu_normalizer.proofs.StepLemmas.{decomposed_itself}
 
 -- ---- a starter that is no pair's second composes with nothing before it
@@ -157,14 +158,6 @@ module _ (canonical : Canonical) (ok : IsForming canonical) where
       )
 
 -- ---- what is found of the rest is found of the text
-
-pub split_front : (front xs agreed ys : List ℕ) → front ++ xs ≡ agreed ++ ys → length front ≤ length agreed → (more : List ℕ) × (agreed ≡ front ++ more)
-split_front [] xs agreed ys e le = (agreed, refl)
-split_front (f ∷ front) xs [] ys e le = absurd (omega (arith, le))
-split_front (f ∷ front) xs (a ∷ agreed) ys e le =
-    let behind = split_front front xs agreed ys (cc) (omega (arith, le)) in
-    let head : f ≡ a = cc in
-    (behind.0, cc (behind.1, head))
 
 module _ (form : List ℕ → List ℕ) (text rest : List ℕ) (is : IsSkipped form text rest) where
   pub skipped_own : IsOwnForm form (chars rest) → IsOwnForm form (chars text)

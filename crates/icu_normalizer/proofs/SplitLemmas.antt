@@ -188,7 +188,7 @@ module _ (canonical : Canonical) where
   not_mark c zero mark = grind (arith, nat_tests)
 
   -- no starter stands among the marks behind the last one
-  starter_before : (front back xs w : List ℕ) (x : ℕ) → canonical.class x ≡ 0 → front ++ back ≡ xs ++ x ∷ w → list_all (is_mark canonical.class) (drop 1 back) ≡ true → length xs ≤ length front
+  pub starter_before : (front back xs w : List ℕ) (x : ℕ) → canonical.class x ≡ 0 → front ++ back ≡ xs ++ x ∷ w → list_all (is_mark canonical.class) (drop 1 back) ≡ true → length xs ≤ length front
   starter_before front back [] w x zero e marks = omega arith
   starter_before [] back (y ∷ xs) w x zero e marks =
       let behind = ap (λ l. list_all (is_mark canonical.class) (drop 1 l)) (sym e) ∙ marks in

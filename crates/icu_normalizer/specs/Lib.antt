@@ -3,6 +3,7 @@ pub mod Composer
 pub mod Composing
 pub mod Compositions
 pub mod Decompositions
+pub mod Encodings
 pub mod Equivalence
 pub mod FormCuts
 pub mod FormData
@@ -15,7 +16,9 @@ pub mod Readable
 pub mod Run
 pub mod Sinks
 pub mod Splits
+pub mod TextCuts
 pub mod TextForms
+pub mod Texts
 pub mod Uts46
 pub mod Uts46Iter
 pub mod Uts46Loading

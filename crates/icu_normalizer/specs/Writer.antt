@@ -1,5 +1,5 @@
 -- Decomposed text on its way to a sink.
-use Rattle.std.specs.Prelude.{◌≡◌, ℕ, List, ◌++◌, take, encode_utf8_all}
+use Rattle.std.specs.Prelude.{◌≡◌, ℕ, List, ◌++◌, take}
 use Rattle.icu_normalizer_core.specs.Canonical.{Canonical, marks_in_order}
 use Rattle.icu_normalizer.specs.FormData.{form_meaning}
 use Rattle.icu_normalizer.specs.declared.decomposing.writer.Writer.{Writer}
@@ -13,20 +13,20 @@ writer_data writer = form_meaning writer.basis
 abbrev pub held : Writer → List ℕ
 held writer = take writer.count writer.few ++ writer.more.items
 
--- the bytes that are still to be written, where `rest` is still to go in
-unfoldable pub due : Writer → List ℕ → List ℕ
-due writer rest = encode_utf8_all (marks_in_order (writer_data writer).class (held writer ++ rest))
+-- the units that are still to be written, where `rest` is still to go in
+unfoldable pub due : (List ℕ → List ℕ) → Writer → List ℕ → List ℕ
+due encode writer rest = encode (marks_in_order (writer_data writer).class (held writer ++ rest))
 
--- a part of these bytes was added, and `left` is still to be
-pub record AddsFront (old bytes left new : List ℕ) : Type 0 where
+-- a part of these units was added, and `left` is still to be
+pub record AddsFront (old units left new : List ℕ) : Type 0 where
   pub written : List ℕ
-  pub whole : bytes ≡ written ++ left
+  pub whole : units ≡ written ++ left
   pub holds : new ≡ old ++ written
 
 -- `read` went in: of what was due, what the sink held `before` and holds `after` was written
-pub record Writes (old : Writer) (read before after : List ℕ) (new : Writer) : Type 0 where
-  pub at : (rest : List ℕ) → AddsFront before (due old (read ++ rest)) (due new rest) after
+pub record Writes (encode : List ℕ → List ℕ) (old : Writer) (read before after : List ℕ) (new : Writer) : Type 0 where
+  pub at : (rest : List ℕ) → AddsFront before (due encode old (read ++ rest)) (due encode new rest) after
 
 -- the same, but the sink took a part alone
-pub record WritesPart (old : Writer) (read before after : List ℕ) : Type 0 where
-  pub at : (rest : List ℕ) → AddsPrefix before (due old (read ++ rest)) after
+pub record WritesPart (encode : List ℕ → List ℕ) (old : Writer) (read before after : List ℕ) : Type 0 where
+  pub at : (rest : List ℕ) → AddsPrefix before (due encode old (read ++ rest)) after

@@ -17,7 +17,6 @@ mod writer;
 
 use crate::form_data::FormData;
 use crate::run::Run;
-pub(crate) use cuts::plain_len;
 use icu_normalizer_core::canonical::CanonicalBorrowed;
 pub use normalizer::DecomposingNormalizerBorrowed;
 pub use owned::DecomposingNormalizer;

@@ -2,10 +2,12 @@
 //! text in NFD, and `composing::Composition`, those in NFC.
 #![tactic(auto)]
 
+mod char_sinks;
 pub mod composing;
 pub mod decomposing;
 mod form_data;
 pub mod laws;
 mod run;
 pub mod sinks;
+mod texts;
 pub mod uts46;

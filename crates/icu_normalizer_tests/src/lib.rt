@@ -2,4 +2,6 @@
 #![tactic(auto)]
 
 #[cfg(test)]
+mod encodings;
+#[cfg(test)]
 mod forms;

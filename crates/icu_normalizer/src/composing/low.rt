@@ -6,8 +6,8 @@ ghost use Rattle.icu_normalizer.specs.FormData.{form_meaning};
 ghost use Rattle.icu_normalizer_core.specs.Canonical.{composed};
 ghost use Rattle.icu_normalizer.specs.FormCuts.{IsComposed, IsSkipped};
 
-use crate::decomposing::plain_len;
 use crate::form_data::FormData;
+use crate::texts::Text;
 
 /// What is left of a text once characters that nothing composes with and that stay as they stand are passed over, from
 /// the last of them on; `None` where nothing is left, and the text is its own NFC. It takes no memory.
@@ -17,7 +17,7 @@ pub(super) fn skip_low<'t>(basis: FormData<'_>, text: &'t str) -> Option<&'t str
     ensures left { IfSome result (λ rest. 0 < length rest.now) }
 {
     basis.keep_promise();
-    let plain = plain_len(text);
+    let plain = text.plain_len();
     let mut rest = &text[plain.saturating_sub(1)..];
     let mut chars = text[plain..].chars();
     'chars: loop {

@@ -1,48 +1,44 @@
 //! Where a text has to be changed to be in NFD.
 
-ghost use Rattle.std.specs.Prelude.{◌≡◌, ℕ, ◌<◌, ◌≤◌, length, slice_index, IfSome, IfNone, chars};
+ghost use Rattle.icu_normalizer_core.specs.Canonical.{decomposed};
 ghost use Rattle.icu_normalizer.specs.FormData.{form_meaning, low_bound};
-ghost use Rattle.icu_normalizer.specs.Splits.{IsDecomposed, IsCut};
+ghost use Rattle.icu_normalizer.specs.TextCuts.{IsTextCut, IsTextSplit};
 
 use super::places::class_in_place;
 use crate::form_data::FormData;
+use crate::texts::Text;
 
-/// How many ASCII characters a text begins with. Normal forms leave them as they are.
-pub(crate) fn plain_len(text: &str) -> usize
-    ensures within { result ≤ length text.now }
-    ensures plain { (k : ℕ) → k < result → slice_index text.now k < 0x80 }
-{
-    let bytes = text.as_bytes();
-    for (place, byte) in bytes.iter().enumerate() {
-        if *byte >= 0x80 {
-            return place;
-        }
-    }
-    bytes.len()
-}
-
-/// What has to be changed for a text to be in NFD, from the last starter before the first change on; `None` where
-/// nothing has to be changed. It takes no memory.
-pub(super) fn rest_to_change<'t>(basis: FormData<'_>, text: &'t str) -> Option<&'t str>
-    ensures none { IfNone result (IsDecomposed (form_meaning basis.entry) (chars text.now)) }
-    ensures some { IfSome result (λ rest. IsCut (form_meaning basis.entry) (low_bound basis.entry) text.now rest.now) }
+/// What has to be changed for a text to be in NFD, from the last starter before the first change on: nothing where the
+/// text is undamaged and its own NFD. A damaged part is a change. It takes no memory.
+pub(super) fn rest_to_change<T: Text>(basis: FormData<'_>, text: T) -> T
+    ensures { IsTextCut T.encode (decomposed (form_meaning basis.entry)) (low_bound basis.entry) (T.spelled text) (T.spelled result) }
 {
     basis.keep_promise();
-    let plain = plain_len(text);
-    let mut rest = &text[plain.saturating_sub(1)..];
+    text.keep_promise();
+    let plain = text.plain_len();
+    let mut rest = text.behind_plain(plain.saturating_sub(1));
+    let mut ahead = text.behind_plain(plain);
     let mut before = 0;
-    let mut chars = text[plain..].chars();
-    'chars: loop {
-        let here = chars.as_str();
-        let Some(c) = chars.next() else {
-            return None;
+    'chars: while let Some(read) = ahead.split_char() {
+        let first = read.0;
+        let Some(c) = first else {
+            return rest;
         };
         let Some(class) = class_in_place(basis, before, c) else {
-            return Some(rest);
+            return rest;
         };
         if class == 0 {
-            rest = here;
+            rest = ahead;
         }
         before = class;
+        ahead = read.1;
     }
+    ahead
+}
+
+/// A text in two parts: the prefix and the NFD of the rest are together the NFD of the text.
+pub(super) fn split<T: Text>(basis: FormData<'_>, text: T) -> (T, T)
+    ensures { IsTextSplit T.encode (decomposed (form_meaning basis.entry)) (low_bound basis.entry) (T.spelled text) (T.spelled result.0) (T.spelled result.1) }
+{
+    text.split_before(rest_to_change(basis, text))
 }

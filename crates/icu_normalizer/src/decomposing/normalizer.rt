@@ -10,12 +10,16 @@ ghost use Rattle.icu_normalizer.specs.Iter.{Spells};
 ghost use Rattle.icu_normalizer.specs.Readable.{IsReadable};
 ghost use Rattle.icu_normalizer.specs.Sinks.{AddsPrefix, EndsByFailure};
 
+mod encodings;
 mod splits;
+mod written;
 
 use super::Decomposition;
 use super::writer::Writer;
+use crate::char_sinks::{CharSink, Utf8};
 use crate::form_data::FormData;
 use crate::sinks::{NormError, TextSink};
+use crate::texts::Text;
 use icu_normalizer_core::canonical::CanonicalBorrowed;
 use std::alloc::Global;
 
@@ -86,24 +90,27 @@ impl<'d> DecomposingNormalizerBorrowed<'d> {
         if let Err(error) = sink.write_str(prefix) {
             return Err(NormError::Sink(error));
         }
-        self.write_decomposed(alloc, rest, sink)
+        self.write_decomposed::<&str, Utf8, S>(alloc, rest, sink)
     }
 
-    /// The same, character by character.
-    fn write_decomposed<S: TextSink>(
+    /// The same of any text and into any sink, character by character. What is damaged is written as U+FFFD.
+    fn write_decomposed<T: Text, E, S: CharSink<E>>(
         &self,
         alloc: Global,
-        text: &str,
+        text: T,
         sink: &mut S,
     ) -> Result<(), NormError<S::Error>>
-        ensures ok { OnOk result (S.contents sink.new ≡ S.contents sink.old ++ encode_utf8_all (decomposed (normalizer_data self.now) (chars text.now))) }
-        ensures err { OnErr result (AddsPrefix (S.contents sink.old) (encode_utf8_all (decomposed (normalizer_data self.now) (chars text.now))) (S.contents sink.new)) }
+        ensures ok { OnOk result (S.contents sink.new ≡ S.contents sink.old ++ S.encode (decomposed (normalizer_data self.now) (T.spelled text).characters)) }
+        ensures err { OnErr result (AddsPrefix (S.contents sink.old) (S.encode (decomposed (normalizer_data self.now) (T.spelled text).characters)) (S.contents sink.new)) }
         ensures failure { EndsByFailure S.takes S.fails sink.old result sink.new }
     {
         let mut writer = Writer::new(alloc, self.basis);
-        for c in text.chars() {
-            writer.write_decomposed(c, sink)?;
+        let mut ahead = text;
+        'chars: while let Some(read) = ahead.split_char() {
+            let c = read.0.unwrap_or(char::REPLACEMENT_CHARACTER);
+            writer.write_decomposed::<E, S>(c, sink)?;
+            ahead = read.1;
         }
-        writer.flush(sink)
+        writer.flush::<E, S>(sink)
     }
 }

@@ -1,6 +1,6 @@
 //! Decomposed text on its way to a sink.
 
-ghost use Rattle.std.specs.Prelude.{◌≡◌, ◌≢◌, ℕ, ◌<◌, ◌≤◌, [], ◌∷◌, ◌++◌, true, take, length, encode_utf8_all, IfOk, OnOk, OnErr, IsTrue};
+ghost use Rattle.std.specs.Prelude.{◌≡◌, ◌≢◌, ℕ, ◌<◌, ◌≤◌, [], ◌∷◌, ◌++◌, true, take, length, IfOk, OnOk, OnErr, IsTrue};
 ghost use Rattle.std.specs.Char.{IsScalar};
 ghost use Rattle.std.specs.List.{list_all};
 ghost use Rattle.icu_normalizer.specs.FormData.{form_meaning};
@@ -8,9 +8,10 @@ ghost use Rattle.icu_normalizer_core.specs.Canonical.{marks_in_order};
 ghost use Rattle.icu_normalizer.specs.Marks.{is_mark, rises_to};
 ghost use Rattle.icu_normalizer.specs.Sinks.{AddsPrefix, EndsByFailure};
 
+use crate::char_sinks::CharSink;
 use crate::form_data::FormData;
 use crate::run::sort_marks;
-use crate::sinks::{NormError, TextSink};
+use crate::sinks::NormError;
 use icu_normalizer_core::canonical::Reading;
 use smallvec::SmallVec;
 use std::alloc::{AllocError, Global};
@@ -59,68 +60,72 @@ impl<'d> Writer<'d> {
 
     /// Writes the full list of `c`.
     #[inline]
-    pub(super) fn write_decomposed<S: TextSink>(
+    pub(super) fn write_decomposed<E, S: CharSink<E>>(
         &mut self,
         c: char,
         sink: &mut S,
     ) -> Result<(), NormError<S::Error>>
-        ensures ok { OnOk result (Writes self.old ((writer_data self.old).full c) (S.contents sink.old) (S.contents sink.new) self.new) }
-        ensures err { OnErr result (WritesPart self.old ((writer_data self.old).full c) (S.contents sink.old) (S.contents sink.new)) }
+        ensures ok { OnOk result (Writes S.encode self.old ((writer_data self.old).full c) (S.contents sink.old) (S.contents sink.new) self.new) }
+        ensures err { OnErr result (WritesPart S.encode self.old ((writer_data self.old).full c) (S.contents sink.old) (S.contents sink.new)) }
         ensures failure { EndsByFailure S.takes S.fails sink.old result sink.new }
         ensures same { writer_data self.new ≡ writer_data self.old }
     {
         if c < '\u{a0}' {
-            return self.add(c, 0, sink);
+            return self.add::<E, S>(c, 0, sink);
         }
         match self.basis.reading(c) {
-            Reading::Itself(class) => self.add(c, class, sink),
+            Reading::Itself(class) => self.add::<E, S>(c, class, sink),
             Reading::Two(first, second) => {
-                self.write(first, sink)?;
-                self.write(second, sink)
+                self.write::<E, S>(first, sink)?;
+                self.write::<E, S>(second, sink)
             }
-            Reading::Other => self.write_list(c, sink),
+            Reading::Other => self.write_list::<E, S>(c, sink),
         }
     }
 
     /// The same, character by character.
-    fn write_list<S: TextSink>(&mut self, c: char, sink: &mut S) -> Result<(), NormError<S::Error>>
-        ensures ok { OnOk result (Writes self.old ((writer_data self.old).full c) (S.contents sink.old) (S.contents sink.new) self.new) }
-        ensures err { OnErr result (WritesPart self.old ((writer_data self.old).full c) (S.contents sink.old) (S.contents sink.new)) }
+    fn write_list<E, S: CharSink<E>>(
+        &mut self,
+        c: char,
+        sink: &mut S,
+    ) -> Result<(), NormError<S::Error>>
+        ensures ok { OnOk result (Writes S.encode self.old ((writer_data self.old).full c) (S.contents sink.old) (S.contents sink.new) self.new) }
+        ensures err { OnErr result (WritesPart S.encode self.old ((writer_data self.old).full c) (S.contents sink.old) (S.contents sink.new)) }
         ensures failure { EndsByFailure S.takes S.fails sink.old result sink.new }
         ensures same { writer_data self.new ≡ writer_data self.old }
     {
         for d in self.basis.full_list(c) {
-            self.write(d, sink)?;
+            self.write::<E, S>(d, sink)?;
         }
         Ok(())
     }
 
     /// Writes a character, which is its own full list.
     #[inline]
-    fn write<S: TextSink>(&mut self, c: char, sink: &mut S) -> Result<(), NormError<S::Error>>
-        ensures ok { OnOk result (Writes self.old (c ∷ []) (S.contents sink.old) (S.contents sink.new) self.new) }
-        ensures err { OnErr result (WritesPart self.old (c ∷ []) (S.contents sink.old) (S.contents sink.new)) }
+    fn write<E, S: CharSink<E>>(&mut self, c: char, sink: &mut S) -> Result<(), NormError<S::Error>>
+        ensures ok { OnOk result (Writes S.encode self.old (c ∷ []) (S.contents sink.old) (S.contents sink.new) self.new) }
+        ensures err { OnErr result (WritesPart S.encode self.old (c ∷ []) (S.contents sink.old) (S.contents sink.new)) }
         ensures failure { EndsByFailure S.takes S.fails sink.old result sink.new }
         ensures same { writer_data self.new ≡ writer_data self.old }
     {
         if c < '\u{a0}' {
-            return self.add(c, 0, sink);
+            return self.add::<E, S>(c, 0, sink);
         }
         let class = self.basis.class(c);
-        self.add(c, class, sink)
+        self.add::<E, S>(c, class, sink)
     }
 
     /// Writes a character of this class. A mark is held.
     #[inline(always)]
-    fn add<S: TextSink>(
+    fn add<E, S: CharSink<E>>(
         &mut self,
         c: char,
         class: u8,
         sink: &mut S,
     ) -> Result<(), NormError<S::Error>>
         requires { class ≡ (writer_data self.old).class c }
-        ensures ok { OnOk result (Writes self.old (c ∷ []) (S.contents sink.old) (S.contents sink.new) self.new) }
-        ensures err { OnErr result (WritesPart self.old (c ∷ []) (S.contents sink.old) (S.contents sink.new)) }
+        ensures ok { OnOk result (Writes S.encode self.old (c ∷ []) (S.contents sink.old) (S.contents sink.new) self.new) }
+        ensures err { OnErr result (WritesPart S.encode self.old (c ∷ []) (S.contents sink.old) (S.contents sink.new)) }
         ensures failure { EndsByFailure S.takes S.fails sink.old result sink.new }
         ensures same { writer_data self.new ≡ writer_data self.old }
     {
@@ -130,7 +135,7 @@ impl<'d> Writer<'d> {
                 Err(_) => Err(NormError::Memory),
             };
         }
-        self.flush(sink)?;
+        self.flush::<E, S>(sink)?;
         match sink.write_char(c) {
             Ok(()) => Ok(()),
             Err(error) => Err(NormError::Sink(error)),
@@ -183,47 +188,50 @@ impl<'d> Writer<'d> {
 
     /// Writes the marks that are held, as is right before a starter and at the end of the text.
     #[inline(always)]
-    pub(super) fn flush<S: TextSink>(&mut self, sink: &mut S) -> Result<(), NormError<S::Error>>
-        ensures ok { OnOk result (S.contents sink.new ≡ S.contents sink.old ++ due self.old []) }
+    pub(super) fn flush<E, S: CharSink<E>>(
+        &mut self,
+        sink: &mut S,
+    ) -> Result<(), NormError<S::Error>>
+        ensures ok { OnOk result (S.contents sink.new ≡ S.contents sink.old ++ due S.encode self.old []) }
         ensures empty { OnOk result (held self.new ≡ []) }
-        ensures err { OnErr result (AddsPrefix (S.contents sink.old) (due self.old []) (S.contents sink.new)) }
+        ensures err { OnErr result (AddsPrefix (S.contents sink.old) (due S.encode self.old []) (S.contents sink.new)) }
         ensures failure { EndsByFailure S.takes S.fails sink.old result sink.new }
         ensures same { writer_data self.new ≡ writer_data self.old }
     {
         if self.count == 0 {
             return Ok(());
         }
-        self.flush_held(sink)
+        self.flush_held::<E, S>(sink)
     }
 
     /// The same, where there may be some.
     #[inline(never)]
-    fn flush_held<S: TextSink>(&mut self, sink: &mut S) -> Result<(), NormError<S::Error>>
-        ensures ok { OnOk result (S.contents sink.new ≡ S.contents sink.old ++ due self.old []) }
+    fn flush_held<E, S: CharSink<E>>(&mut self, sink: &mut S) -> Result<(), NormError<S::Error>>
+        ensures ok { OnOk result (S.contents sink.new ≡ S.contents sink.old ++ due S.encode self.old []) }
         ensures empty { OnOk result (held self.new ≡ []) }
-        ensures err { OnErr result (AddsPrefix (S.contents sink.old) (due self.old []) (S.contents sink.new)) }
+        ensures err { OnErr result (AddsPrefix (S.contents sink.old) (due S.encode self.old []) (S.contents sink.new)) }
         ensures failure { EndsByFailure S.takes S.fails sink.old result sink.new }
         ensures same { writer_data self.new ≡ writer_data self.old }
     {
-        let written = self.write_marks(sink);
+        let written = self.write_marks::<E, S>(sink);
         self.clear();
         written
     }
 
     /// Writes the marks that are held, in order.
     #[inline]
-    fn write_marks<S: TextSink>(&self, sink: &mut S) -> Result<(), NormError<S::Error>>
-        ensures ok { OnOk result (S.contents sink.new ≡ S.contents sink.old ++ due self.now []) }
-        ensures err { OnErr result (AddsPrefix (S.contents sink.old) (due self.now []) (S.contents sink.new)) }
+    fn write_marks<E, S: CharSink<E>>(&self, sink: &mut S) -> Result<(), NormError<S::Error>>
+        ensures ok { OnOk result (S.contents sink.new ≡ S.contents sink.old ++ due S.encode self.now []) }
+        ensures err { OnErr result (AddsPrefix (S.contents sink.old) (due S.encode self.now []) (S.contents sink.new)) }
         ensures failure { EndsByFailure S.takes S.fails sink.old result sink.new }
     {
         if self.in_order && self.count < FEW {
-            return write_chars(&self.few[..self.count], sink);
+            return write_chars::<E, S>(&self.few[..self.count], sink);
         }
         let Ok(marks) = self.sorted() else {
             return Err(NormError::Memory);
         };
-        write_chars(&marks, sink)
+        write_chars::<E, S>(&marks, sink)
     }
 
     /// The marks that are held, in order.
@@ -254,9 +262,9 @@ impl<'d> Writer<'d> {
 
 /// Writes characters to a sink.
 #[inline]
-fn write_chars<S: TextSink>(chars: &[char], sink: &mut S) -> Result<(), NormError<S::Error>>
-    ensures ok { OnOk result (S.contents sink.new ≡ S.contents sink.old ++ encode_utf8_all chars.now) }
-    ensures err { OnErr result (AddsPrefix (S.contents sink.old) (encode_utf8_all chars.now) (S.contents sink.new)) }
+fn write_chars<E, S: CharSink<E>>(chars: &[char], sink: &mut S) -> Result<(), NormError<S::Error>>
+    ensures ok { OnOk result (S.contents sink.new ≡ S.contents sink.old ++ S.encode chars.now) }
+    ensures err { OnErr result (AddsPrefix (S.contents sink.old) (S.encode chars.now) (S.contents sink.new)) }
     ensures failure { EndsByFailure S.takes S.fails sink.old result sink.new }
 {
     for c in chars {

@@ -6,8 +6,9 @@ ghost use Rattle.icu_normalizer_core.specs.Canonical.{decomposed};
 ghost use Rattle.icu_normalizer.specs.FormCuts.{ReachesBelow};
 ghost use Rattle.icu_normalizer.specs.Splits.{IsDecomposed};
 
-use super::super::cuts::rest_to_change;
+use super::super::cuts::{rest_to_change, split};
 use super::DecomposingNormalizerBorrowed;
+use crate::char_sinks::Utf8;
 use std::alloc::{AllocError, Global};
 use std::borrow::CowStr;
 
@@ -18,7 +19,7 @@ impl DecomposingNormalizerBorrowed<'_> {
     pub fn is_normalized(&self, text: &str) -> bool
         ensures { IsTrue result ↔ IsDecomposed (normalizer_data self.now) (chars text.now) }
     {
-        rest_to_change(self.basis, text).is_none()
+        rest_to_change(self.basis, text).is_empty()
     }
 
     /// A text in two parts: the prefix and the NFD of the rest are together the NFD of the text. The rest is empty
@@ -31,10 +32,7 @@ impl DecomposingNormalizerBorrowed<'_> {
         ensures empty { (result.1.now ≡ []) ↔ IsDecomposed (normalizer_data self.now) (chars text.now) }
         ensures far { ReachesBelow (decomposed (normalizer_data self.now)) (normalizer_bound self.now) (chars text.now) (chars result.0.now) }
     {
-        match rest_to_change(self.basis, text) {
-            None => text.split_at(text.len()),
-            Some(rest) => text.split_at(text.len() - rest.len()),
-        }
+        split(self.basis, text)
     }
 
     /// The NFD of a text, borrowed exactly where the text is its own NFD.
@@ -48,7 +46,7 @@ impl DecomposingNormalizerBorrowed<'_> {
         }
         let mut normal = String::with_capacity(alloc, text.len().saturating_mul(2))?;
         normal.push_str(prefix)?;
-        match self.write_decomposed(alloc, rest, &mut normal) {
+        match self.write_decomposed::<&str, Utf8, String>(alloc, rest, &mut normal) {
             Ok(()) => Ok(CowStr::Owned(normal)),
             Err(_) => Err(AllocError),
         }
