@@ -172,10 +172,10 @@ fn maps_that_break_rules(rt: HostRuntime) {
 /// A builder that was given some canonical mappings, and compatibility mappings of Unicode's data.
 fn given_both(alloc: Global) -> Result<CanonicalDataBuilder, AllocError> {
     let mut builder = given(alloc)?;
-    builder.kmap(alloc, 'ﬅ', &['ſ', 't'])?;
-    builder.kmap(alloc, 'ﬃ', &['f', 'f', 'i'])?;
-    builder.kmap(alloc, 'ſ', &['s'])?;
-    builder.kmap(alloc, 'ẚ', &['á', 'ạ'])?;
+    builder.kmap(alloc, 'ﬅ', 'ſ', &['t'])?;
+    builder.kmap(alloc, 'ﬃ', 'f', &['f', 'i'])?;
+    builder.kmap(alloc, 'ſ', 's', &[])?;
+    builder.kmap(alloc, 'ẚ', 'á', &['ạ'])?;
     Ok(builder)
 }
 
@@ -199,6 +199,21 @@ fn ok_build_nfkd(rt: HostRuntime) -> Result<(), Fail> {
     Ok(())
 }
 
+/// The full list of a ligature that is mapped to two letters.
+fn ligature_list(alloc: Global) -> Result<bool, Fail> {
+    let mut builder = CanonicalDataBuilder::new(alloc);
+    builder.kmap(alloc, 'ﬁ', 'f', &['i'])?;
+    let canonical = builder.build_data(alloc)?;
+    let data = CompatibilityData::try_new(alloc, canonical, builder.build_nfkd(alloc)?)?;
+    Ok(data.as_borrowed().full_list('ﬁ').eq(['f', 'i']))
+}
+
+#[test]
+fn ok_kmap(rt: HostRuntime) -> Result<(), Fail> {
+    assert!(rt; ligature_list(rt.alloc())?);
+    Ok(())
+}
+
 /// Why no compatibility tables are built where a character is mapped besides.
 fn compatibility_refusal(
     alloc: Global,
@@ -206,7 +221,7 @@ fn compatibility_refusal(
     target: char,
 ) -> Result<Option<CanonicalDataBuildError>, AllocError> {
     let mut builder = given_both(alloc)?;
-    builder.kmap(alloc, character, &[target])?;
+    builder.kmap(alloc, character, target, &[])?;
     Ok(builder.build_nfkd(alloc).err())
 }
 

@@ -1,4 +1,4 @@
-//! The canonical data of a records file.
+//! The canonical and the compatibility data of a records file.
 
 use icu_normalizer_core::canonical::CanonicalDataBuilder;
 use icu_normalizer_core_tests::held::{Held, provider_of};
@@ -28,6 +28,24 @@ fn give_mapping(builder: &mut CanonicalDataBuilder, words: &[&str]) -> Option<()
     builder.map(c, first, second, !is_excluded).ok()
 }
 
+/// Gives a builder the compatibility mapping that a line `kmap C D [E..]` states.
+fn give_compatibility(
+    alloc: Global,
+    builder: &mut CanonicalDataBuilder,
+    words: &[&str],
+) -> Option<()> {
+    let [_, c, first, others @ ..] = words else {
+        return None;
+    };
+    let mut behind = Vec::new(alloc);
+    for word in others {
+        behind.push(character(word)?).ok()?;
+    }
+    builder
+        .kmap(alloc, character(c)?, character(first)?, &behind)
+        .ok()
+}
+
 /// Gives a builder what a line says. Lines other than those of classes and mappings are passed over.
 fn give(alloc: Global, builder: &mut CanonicalDataBuilder, line: &str) -> Option<()> {
     let words: Vec<&str> = line.split_ascii_whitespace().collect(alloc).ok()?;
@@ -35,16 +53,18 @@ fn give(alloc: Global, builder: &mut CanonicalDataBuilder, line: &str) -> Option
     match words.first() {
         Some(&"class") => give_class(builder, words),
         Some(&"map") => give_mapping(builder, words),
+        Some(&"kmap") => give_compatibility(alloc, builder, words),
         _ => Some(()),
     }
 }
 
-/// A provider of the canonical data that a records file states.
+/// A provider of the data that a records file states.
 pub fn provider(alloc: Global, records: &str) -> Option<Held<'static>> {
     let mut builder = CanonicalDataBuilder::new(alloc);
     for line in records.lines() {
         give(alloc, &mut builder, line)?;
     }
-    let tables = builder.build(alloc).ok()?;
-    Some(provider_of(tables))
+    let mut held = provider_of(builder.build(alloc).ok()?);
+    held.nfkd = Some(builder.build_nfkd(alloc).ok()?);
+    Some(held)
 }

@@ -2,7 +2,7 @@
 
 use icu_normalizer::composing::{ComposingNormalizer, ComposingNormalizerBorrowed};
 use icu_normalizer::decomposing::{DecomposingNormalizer, DecomposingNormalizerBorrowed};
-use icu_normalizer_core::provider::load_canonical_data;
+use icu_normalizer_core::provider::{load_canonical_data, load_compatibility_data};
 use icu_normalizer_core_tests::held::Held;
 use std::alloc::Global;
 use std::borrow::CowStr;
@@ -126,14 +126,30 @@ pub fn run_form(
             let owned = DecomposingNormalizer::try_new_nfd_unstable(rt.alloc(), provider).ok()?;
             Form::Decomposed(owned.as_borrowed()).act(rt, action, texts, rounds)
         }
+        "nfkc" => {
+            let owned = ComposingNormalizer::try_new_nfkc_unstable(rt.alloc(), provider).ok()?;
+            Form::Composed(owned.as_borrowed()).act(rt, action, texts, rounds)
+        }
+        "nfkd" => {
+            let owned = DecomposingNormalizer::try_new_nfkd_unstable(rt.alloc(), provider).ok()?;
+            Form::Decomposed(owned.as_borrowed()).act(rt, action, texts, rounds)
+        }
         _ => None,
     }
 }
 
-/// Loads and checks the data as many times as asked for, and says how many times.
-pub fn load_all(alloc: Global, provider: &Held<'_>, rounds: u32) -> Option<usize> {
+/// Loads and checks the canonical data as many times as asked for, and says how many times.
+pub fn load_canonical(alloc: Global, provider: &Held<'_>, rounds: u32) -> Option<usize> {
     for _round in 0..rounds {
         let _data = load_canonical_data(alloc, provider).ok()?;
+    }
+    Some(rounds as usize)
+}
+
+/// The same of the compatibility data.
+pub fn load_compatibility(alloc: Global, provider: &Held<'_>, rounds: u32) -> Option<usize> {
+    for _round in 0..rounds {
+        let _data = load_compatibility_data(alloc, provider).ok()?;
     }
     Some(rounds as usize)
 }

@@ -7,7 +7,7 @@
 mod data;
 mod forms;
 
-use forms::{Action, load_all, run_form};
+use forms::{Action, load_canonical, load_compatibility, run_form};
 use icu_normalizer_core_tests::held::Held;
 use std::{env, fs, io};
 
@@ -43,7 +43,10 @@ fn run(
 ) -> Option<usize> {
     let alloc = rt.alloc();
     if task == "try_new" {
-        return load_all(alloc, provider, rounds);
+        return load_canonical(alloc, provider, rounds);
+    }
+    if task == "try_new_k" {
+        return load_compatibility(alloc, provider, rounds);
     }
     let texts: Vec<&str> = texts.lines().collect(alloc).ok()?;
     let (action, form) = action(task);

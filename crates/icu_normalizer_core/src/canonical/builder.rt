@@ -156,16 +156,20 @@ impl CanonicalDataBuilder {
         Ok(())
     }
 
-    /// Gives a character its compatibility mapping, to one character or more (docs/RECORDS.md, `kmap`). Nothing is
-    /// refused here but for want of memory, where nothing changes.
-    pub fn kmap(&mut self, alloc: Global, c: char, mapping: &[char]) -> Result<(), AllocError>
-        requires some { 0 < length mapping.now }
-        requires scalars { All IsScalar mapping.now }
-        ensures compatibilities { OnOk result (IsGivenTo self.old.compatibilities c mapping.now self.new.compatibilities) }
+    /// Gives a character its compatibility mapping, to `first` and the others behind it (docs/RECORDS.md, `kmap`).
+    /// Nothing is refused here but for want of memory, where nothing changes.
+    pub fn kmap(
+        &mut self,
+        alloc: Global,
+        c: char,
+        first: char,
+        others: &[char],
+    ) -> Result<(), AllocError>
+        ensures compatibilities { OnOk result (IsGivenTo self.old.compatibilities c (first ∷ others.now) self.new.compatibilities) }
         ensures canonical { self.new.canonical ≡ self.old.canonical }
         ensures refused { OnErr result (self.new ≡ self.old) }
     {
-        let mapping = Vec::from_slice(alloc, mapping)?;
+        let mapping = listed(alloc, first, others)?;
         self.compatibilities.push(GivenCompatibility {
             character: c,
             mapping,
@@ -245,4 +249,17 @@ impl CanonicalDataBuilder {
             &tables,
         )
     }
+}
+
+/// A list of characters, one or more.
+fn listed(alloc: Global, first: char, others: &[char]) -> Result<Vec<char>, AllocError>
+    ensures items { IfOk result (λ list. list.items ≡ first ∷ others.now) }
+    ensures scalars { IfOk result (λ list. All IsScalar list.items) }
+{
+    let mut list = Vec::new(alloc);
+    list.push(first)?;
+    for c in others {
+        list.push(*c)?;
+    }
+    Ok(list)
 }
