@@ -9,7 +9,6 @@ use icu_normalizer_core_tests::held::{Held, provider_of};
 use icu_normalizer_core_tests::tables::{PAIRS, STEPS, tables};
 use std::alloc::{AllocError, Global};
 use std::borrow::CowStr;
-use std::test::Fail;
 
 /// A text, its NFD and its NFC, as an independent reading of the definitions gives them.
 const ROWS: [(&str, &str, &str); 20] = [
@@ -162,46 +161,42 @@ fn gives_both(alloc: Global, held: &Held<'_>, call: Call) -> bool {
 }
 
 /// The same over the tables of the worked rows.
-fn has_rows(alloc: Global, call: Call) -> Result<bool, Fail> {
-    let held = provider_of(tables(alloc, &[], &STEPS, &PAIRS)?);
-    Ok(gives_both(alloc, &held, call))
+fn has_rows(alloc: Global, call: Call) -> bool {
+    match tables(alloc, &[], &STEPS, &PAIRS) {
+        Some(tables) => gives_both(alloc, &provider_of(tables), call),
+        None => false,
+    }
 }
 
 #[test]
-fn ok_try_new_nfd_unstable(rt: HostRuntime) -> Result<(), Fail> {
-    assert!(rt; has_rows(rt.alloc(), Call::WriteNfd)?);
-    Ok(())
+fn ok_try_new_nfd_unstable(rt: HostRuntime) {
+    assert!(rt; has_rows(rt.alloc(), Call::WriteNfd));
 }
 
 #[test]
-fn ok_try_new_nfc_unstable(rt: HostRuntime) -> Result<(), Fail> {
-    assert!(rt; has_rows(rt.alloc(), Call::WriteNfc)?);
-    Ok(())
+fn ok_try_new_nfc_unstable(rt: HostRuntime) {
+    assert!(rt; has_rows(rt.alloc(), Call::WriteNfc));
 }
 
 #[test]
-fn ok_normalize(rt: HostRuntime) -> Result<(), Fail> {
-    assert!(rt; has_rows(rt.alloc(), Call::Normalize)?);
-    Ok(())
+fn ok_normalize(rt: HostRuntime) {
+    assert!(rt; has_rows(rt.alloc(), Call::Normalize));
 }
 
 #[test]
-fn ok_normalize_to(rt: HostRuntime) -> Result<(), Fail> {
-    assert!(rt; has_rows(rt.alloc(), Call::WriteNfd)?);
-    assert!(rt; has_rows(rt.alloc(), Call::WriteNfc)?);
-    Ok(())
+fn ok_normalize_to(rt: HostRuntime) {
+    assert!(rt; has_rows(rt.alloc(), Call::WriteNfd));
+    assert!(rt; has_rows(rt.alloc(), Call::WriteNfc));
 }
 
 #[test]
-fn ok_is_normalized(rt: HostRuntime) -> Result<(), Fail> {
-    assert!(rt; has_rows(rt.alloc(), Call::IsNormalized)?);
-    Ok(())
+fn ok_is_normalized(rt: HostRuntime) {
+    assert!(rt; has_rows(rt.alloc(), Call::IsNormalized));
 }
 
 #[test]
-fn ok_split_normalized(rt: HostRuntime) -> Result<(), Fail> {
-    assert!(rt; has_rows(rt.alloc(), Call::SplitNormalized)?);
-    Ok(())
+fn ok_split_normalized(rt: HostRuntime) {
+    assert!(rt; has_rows(rt.alloc(), Call::SplitNormalized));
 }
 
 /// The first character of a text's NFD.
@@ -232,9 +227,15 @@ fn both_begin_right(alloc: Global, tables: CanonicalTables<'_>) -> bool {
     }
 }
 
+/// The same over those of the worked rows.
+fn rows_begin_right(alloc: Global) -> bool {
+    match tables(alloc, &[], &STEPS, &PAIRS) {
+        Some(tables) => both_begin_right(alloc, tables),
+        None => false,
+    }
+}
+
 #[test]
-fn ok_next(rt: HostRuntime) -> Result<(), Fail> {
-    let tables = tables(rt.alloc(), &[], &STEPS, &PAIRS)?;
-    assert!(rt; both_begin_right(rt.alloc(), tables));
-    Ok(())
+fn ok_next(rt: HostRuntime) {
+    assert!(rt; rows_begin_right(rt.alloc()));
 }

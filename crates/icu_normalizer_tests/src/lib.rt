@@ -1,7 +1,9 @@
-//! Tests of normal forms, by public calls. They stand here so that the crate below is proved once.
+//! Tests of normal forms and of the mapper of domain names, by public calls. They stand here so that the crate below is proved once.
 #![tactic(auto)]
 
 #[cfg(test)]
 mod encodings;
 #[cfg(test)]
 mod forms;
+#[cfg(test)]
+mod mapper;
