@@ -15,6 +15,7 @@ mod splits;
 use super::Composition;
 use super::cluster_form::ClusterForm;
 use super::clusters::{first_cluster, split_apart};
+use crate::char_sinks::{CharSink, Utf8};
 use crate::form_data::FormData;
 use crate::sinks::{NormError, TextSink};
 use std::alloc::Global;
@@ -99,7 +100,7 @@ impl<'d> ComposingNormalizerBorrowed<'d> {
         let mut left = text;
         while !left.is_empty() {
             let (cluster, rest) = first_cluster(self.basis, left);
-            if let Err(error) = self.write_cluster(&mut form, cluster, sink) {
+            if let Err(error) = self.write_cluster::<Utf8, S>(&mut form, cluster, sink) {
                 return Err(error);
             }
             let (plain, rest) = split_apart(self.basis, rest);
@@ -111,8 +112,8 @@ impl<'d> ComposingNormalizerBorrowed<'d> {
         Ok(())
     }
 
-    /// The same of a cluster, character by character.
-    fn write_cluster<S: TextSink>(
+    /// The same of a cluster and into any sink, character by character.
+    fn write_cluster<E, S: CharSink<E>>(
         &self,
         form: &mut ClusterForm<'_>,
         text: &str,
@@ -120,8 +121,8 @@ impl<'d> ComposingNormalizerBorrowed<'d> {
     ) -> Result<(), NormError<S::Error>>
         requires { form_data form.old ≡ composing_data self.now }
         ensures same { form_data form.new ≡ form_data form.old }
-        ensures ok { OnOk result (S.contents sink.new ≡ S.contents sink.old ++ encode_utf8_all (composed (composing_data self.now) (chars text.now))) }
-        ensures err { OnErr result (AddsPrefix (S.contents sink.old) (encode_utf8_all (composed (composing_data self.now) (chars text.now))) (S.contents sink.new)) }
+        ensures ok { OnOk result (S.contents sink.new ≡ S.contents sink.old ++ S.encode (composed (composing_data self.now) (chars text.now))) }
+        ensures err { OnErr result (AddsPrefix (S.contents sink.old) (S.encode (composed (composing_data self.now) (chars text.now))) (S.contents sink.new)) }
         ensures failure { EndsByFailure S.takes S.fails sink.old result sink.new }
     {
         if form.begin(text).is_err() {

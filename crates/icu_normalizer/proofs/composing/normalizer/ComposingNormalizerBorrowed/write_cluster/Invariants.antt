@@ -1,4 +1,4 @@
-use Rattle.std.proofs.Common.{◌≡◌, ℕ, List, ◌++◌, chars, encode_utf8_all}
+use Rattle.std.proofs.Common.{◌≡◌, ℕ, List, ◌++◌, chars}
 use Rattle.icu_normalizer_core.specs.Canonical.{composed}
 use Rattle.icu_normalizer.specs.ClusterForm.{IsBegun, form_data, form_left, form_size}
 use Rattle.icu_normalizer.specs.Normalizers.{composing_data}
@@ -8,8 +8,8 @@ use Rattle.icu_normalizer.proofs.composing.normalizer.ComposingNormalizerBorrowe
 abbrev pub invariant-chars : goal.invariant-chars
 invariant-chars g l =
     (seen : List ℕ) × (composed (composing_data l.fn.self) (chars l.fn.text) ≡ seen ++ form_left l.form)
-    × (g.S.TextSink.contents l.sink ≡ g.S.TextSink.contents l.fn.sink ++ encode_utf8_all seen)
-    × HasTaken g.S.TextSink.takes l.fn.sink l.sink
+    × (g.S.CharSink.contents l.sink ≡ g.S.CharSink.contents l.fn.sink ++ g.S.CharSink.encode seen)
+    × HasTaken g.S.CharSink.takes l.fn.sink l.sink
     × IsBegun l.form
     × (form_data l.form ≡ form_data l.fn.form)
 
