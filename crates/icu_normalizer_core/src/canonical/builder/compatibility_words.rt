@@ -26,8 +26,8 @@ pub(super) struct CompatibilityWords {
 }
 
 impl Mappings<'_> {
-    /// The word of a character of which steps leave a list: the canonical word, where that states no list and the list is the canonical
-    /// one; else the list's. The only error is want of memory.
+    /// The word of a character of which steps leave a list: the canonical word, where that states no list and the list
+    /// is the canonical one; else the list's. The only error is want of memory.
     fn full_word(self, scalars24: &mut Vec<char>, c: char, left: &Left) -> Result<u32, AllocError>
         requires sound { IsSound self }
         requires starts { StartsLeft (steps_in self) (c ∷ []) left.now }
