@@ -61,8 +61,8 @@ fn words_that_are_refused(rt: HostRuntime) {
     assert_eq!(rt; first_word_judged_otherwise(rt.alloc()), None);
 }
 
-/// The tables of the worked rows with a word of U+FFFD which says that its list has two characters, where one is left: that
-/// which is built in.
+/// The tables of the worked rows with a word of U+FFFD which says that its list has two characters, where one is left:
+/// that which is built in.
 fn cut_tables(alloc: Global) -> Option<CanonicalTables<'static>> {
     let mut cut = tables(alloc, &[(0xfffd, 0x1_0001)], &STEPS, &PAIRS)?;
     cut.scalars24 = PackedVec::from_slice(alloc, &['\u{fffd}']).ok()?;
@@ -153,8 +153,8 @@ fn are_accepted(alloc: Global, words: &[(u32, u32)], steps: &[u32], pairs: &[u64
     is_accepted(alloc, tables(alloc, words, steps, pairs)?)
 }
 
-/// The first bit of a word of which it isn't so that the word is refused when it is inverted, if it is one of the 30 that say
-/// something, and accepted if not.
+/// The first bit of a word of which it isn't so that the word is refused when it is inverted, if it is one of the 30 that
+/// say something, and accepted if not.
 fn first_bit_judged_otherwise(alloc: Global, code_point: u32, word: u32) -> Option<u32> {
     for bit in 0..32u32 {
         let damaged = (code_point, word ^ (1 << bit));

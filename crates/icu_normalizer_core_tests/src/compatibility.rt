@@ -7,8 +7,8 @@ use icu_normalizer_core::compatibility::{CompatibilityBorrowed, CompatibilityDat
 use icu_packed_vector::PackedVec;
 use std::alloc::{AllocError, Global};
 
-/// The words that are added to the canonical ones: a character in place of another, two, three, and eight in `scalars16`, two
-/// in `scalars24`, and the two marks of half width, whose mappings are built in.
+/// The words that are added to the canonical ones: a character in place of another, two, three, and eight in
+/// `scalars16`, two in `scalars24`, and the two marks of half width, whose mappings are built in.
 const ADDED: [(u32, u32); 7] = [
     (0xa0, 0x20),
     (0xfb01, 0x34_8066),

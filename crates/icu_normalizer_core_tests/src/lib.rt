@@ -1,4 +1,5 @@
-//! Tests of characters and their canonical and compatibility data, by public calls. They stand here so that the crate below is proved once.
+//! Tests of characters and their canonical and compatibility data, by public calls. They stand here so that the crate
+//! below is proved once.
 //! `tables` has canonical tables that the tests of crates above use too, and `held` a provider of them.
 #![tactic(auto)]
 

@@ -98,8 +98,8 @@ fn packed(
     })
 }
 
-/// The tables of the worked rows, with other words for some characters, and these mappings and pairs; `None` where memory
-/// is refused.
+/// The tables of the worked rows, with other words for some characters, and these mappings and pairs; `None` where
+/// memory is refused.
 pub fn tables(
     alloc: Global,
     words: &[(u32, u32)],

@@ -1,4 +1,5 @@
-//! Tests of normal forms and of the mapper of domain names, by public calls. They stand here so that the crate below is proved once.
+//! Tests of normal forms and of the mapper of domain names, by public calls. They stand here so that the crate below is
+//! proved once.
 #![tactic(auto)]
 
 #[cfg(test)]
