@@ -3,6 +3,8 @@
 #![tactic(auto)]
 
 #[cfg(test)]
+mod compatibility;
+#[cfg(test)]
 mod encodings;
 #[cfg(test)]
 mod forms;

@@ -28,8 +28,10 @@ const BAD_WORDS: [(u32, u32); 4] = [(0x10_ffff, 4), (0x61, 3), (0xe000, 0xc103),
 
 /// A text, what `map_normalize` gives of it, and what `normalize_validate` does, as an independent reading of the
 /// definitions gives them.
-const ROWS: [(&str, &str, &str); 20] = [
+const ROWS: [(&str, &str, &str); 22] = [
     ("", "", ""),
+    (" ", "\u{fffd}", "\u{fffd}"),
+    ("A\u{ad}\u{301}", "\u{e1}", "a\u{fffd}\u{301}"),
     ("ab", "ab", "ab"),
     ("A\u{ad} b", "a\u{fffd}b", "a\u{fffd}\u{fffd}b"),
     ("\u{ad}\u{ad}", "", "\u{fffd}\u{fffd}"),
