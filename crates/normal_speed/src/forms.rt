@@ -2,7 +2,7 @@
 
 use icu_normalizer::composing::{ComposingNormalizer, ComposingNormalizerBorrowed};
 use icu_normalizer::decomposing::{DecomposingNormalizer, DecomposingNormalizerBorrowed};
-use icu_normalizer_core::provider::{load_canonical_data, load_compatibility_data};
+use icu_normalizer_core::provider::{DataError, load_canonical_data, load_compatibility_data};
 use icu_normalizer_core_tests::held::Held;
 use std::alloc::Global;
 use std::borrow::CowStr;
@@ -108,6 +108,34 @@ impl Form<'_> {
     }
 }
 
+/// Does this with each text, by a normaliser that composes, if it could be made.
+fn run_composed(
+    rt: &HostRuntime,
+    owned: Result<ComposingNormalizer<'_>, DataError>,
+    action: Action,
+    texts: &[&str],
+    rounds: u32,
+) -> Option<usize> {
+    match owned {
+        Ok(owned) => Form::Composed(owned.as_borrowed()).act(rt, action, texts, rounds),
+        Err(_) => None,
+    }
+}
+
+/// The same by one that decomposes.
+fn run_decomposed(
+    rt: &HostRuntime,
+    owned: Result<DecomposingNormalizer<'_>, DataError>,
+    action: Action,
+    texts: &[&str],
+    rounds: u32,
+) -> Option<usize> {
+    match owned {
+        Ok(owned) => Form::Decomposed(owned.as_borrowed()).act(rt, action, texts, rounds),
+        Err(_) => None,
+    }
+}
+
 /// Does this with each text, by the form of this name over the data of a provider; `None` where there is no such form.
 pub fn run_form(
     rt: &HostRuntime,
@@ -117,22 +145,23 @@ pub fn run_form(
     texts: &[&str],
     rounds: u32,
 ) -> Option<usize> {
+    let alloc = rt.alloc();
     match name {
         "nfc" => {
-            let owned = ComposingNormalizer::try_new_nfc_unstable(rt.alloc(), provider).ok()?;
-            Form::Composed(owned.as_borrowed()).act(rt, action, texts, rounds)
-        }
-        "nfd" => {
-            let owned = DecomposingNormalizer::try_new_nfd_unstable(rt.alloc(), provider).ok()?;
-            Form::Decomposed(owned.as_borrowed()).act(rt, action, texts, rounds)
+            let owned = ComposingNormalizer::try_new_nfc_unstable(alloc, provider);
+            run_composed(rt, owned, action, texts, rounds)
         }
         "nfkc" => {
-            let owned = ComposingNormalizer::try_new_nfkc_unstable(rt.alloc(), provider).ok()?;
-            Form::Composed(owned.as_borrowed()).act(rt, action, texts, rounds)
+            let owned = ComposingNormalizer::try_new_nfkc_unstable(alloc, provider);
+            run_composed(rt, owned, action, texts, rounds)
+        }
+        "nfd" => {
+            let owned = DecomposingNormalizer::try_new_nfd_unstable(alloc, provider);
+            run_decomposed(rt, owned, action, texts, rounds)
         }
         "nfkd" => {
-            let owned = DecomposingNormalizer::try_new_nfkd_unstable(rt.alloc(), provider).ok()?;
-            Form::Decomposed(owned.as_borrowed()).act(rt, action, texts, rounds)
+            let owned = DecomposingNormalizer::try_new_nfkd_unstable(alloc, provider);
+            run_decomposed(rt, owned, action, texts, rounds)
         }
         _ => None,
     }
