@@ -15,7 +15,11 @@ const ROWS: [(&str, &str, &str); 8] = [
     ("\u{b2}", "2", "2"),
     ("\u{ff9e}", "\u{3099}", "\u{3099}"),
     ("a\u{301}\u{323}", "\u{1ea1}\u{301}", "a\u{323}\u{301}"),
-    ("\u{1ea1}\u{301}\u{b2}", "\u{1ea1}\u{301}2", "a\u{323}\u{301}2"),
+    (
+        "\u{1ea1}\u{301}\u{b2}",
+        "\u{1ea1}\u{301}2",
+        "a\u{323}\u{301}2",
+    ),
     ("\u{b2}\u{323}\u{302}", "2\u{323}\u{302}", "2\u{323}\u{302}"),
     (
         "\u{ac01}\u{ff9f}",
@@ -116,12 +120,7 @@ fn is_next(given: Result<char, AllocError>, wanted: Option<char>) -> bool {
 }
 
 /// Whether the characters of a text's NFKC are these.
-fn composes(
-    alloc: Global,
-    form: ComposingNormalizerBorrowed<'_>,
-    text: &str,
-    want: &str,
-) -> bool {
+fn composes(alloc: Global, form: ComposingNormalizerBorrowed<'_>, text: &str, want: &str) -> bool {
     let mut wanted = want.chars();
     for given in form.normalize_iter(alloc, text.chars()) {
         if !is_next(given, wanted.next()) {
@@ -166,9 +165,11 @@ fn iterates_decomposed(alloc: Global, held: &Held<'_>) -> bool {
 #[test]
 fn ok_normalize_iter(rt: HostRuntime) {
     let held = provider(rt.alloc());
-    assert!(rt; held.is_some_and(|held| {
-        iterates_composed(rt.alloc(), &held) && iterates_decomposed(rt.alloc(), &held)
-    }));
+    assert!(rt;
+        held.is_some_and(|held| {
+            iterates_composed(rt.alloc(), &held) && iterates_decomposed(rt.alloc(), &held)
+        })
+    );
 }
 
 /// Why there is no normaliser to NFKD over a provider that lacks the compatibility tables.

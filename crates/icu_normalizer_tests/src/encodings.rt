@@ -4,7 +4,6 @@ use icu_normalizer::decomposing::{DecomposingNormalizer, DecomposingNormalizerBo
 use icu_normalizer_core_tests::held::{Held, provider_of};
 use icu_normalizer_core_tests::tables::{PAIRS, STEPS, tables};
 use std::alloc::Global;
-use std::test::Fail;
 
 /// Bytes with a damaged part at either end, and their NFD.
 const BYTES: (&[u8], &str) = (b"\xff\xc3\xa1\xf0\x90", "\u{fffd}a\u{301}\u{fffd}");
@@ -89,43 +88,39 @@ fn gives(alloc: Global, held: &Held<'_>, call: Call) -> bool {
 }
 
 /// The same over the tables of the worked rows.
-fn holds(alloc: Global, call: Call) -> Result<bool, Fail> {
-    let held = provider_of(tables(alloc, &[], &STEPS, &PAIRS)?);
-    Ok(gives(alloc, &held, call))
+fn holds(alloc: Global, call: Call) -> bool {
+    match tables(alloc, &[], &STEPS, &PAIRS) {
+        Some(tables) => gives(alloc, &provider_of(tables), call),
+        None => false,
+    }
 }
 
 #[test]
-fn ok_normalize_utf8(rt: HostRuntime) -> Result<(), Fail> {
-    assert!(rt; holds(rt.alloc(), Call::NormalizeUtf8)?);
-    Ok(())
+fn ok_normalize_utf8(rt: HostRuntime) {
+    assert!(rt; holds(rt.alloc(), Call::NormalizeUtf8));
 }
 
 #[test]
-fn ok_normalize_utf16(rt: HostRuntime) -> Result<(), Fail> {
-    assert!(rt; holds(rt.alloc(), Call::NormalizeUtf16)?);
-    Ok(())
+fn ok_normalize_utf16(rt: HostRuntime) {
+    assert!(rt; holds(rt.alloc(), Call::NormalizeUtf16));
 }
 
 #[test]
-fn ok_normalize_utf8_to(rt: HostRuntime) -> Result<(), Fail> {
-    assert!(rt; holds(rt.alloc(), Call::WriteUtf8)?);
-    Ok(())
+fn ok_normalize_utf8_to(rt: HostRuntime) {
+    assert!(rt; holds(rt.alloc(), Call::WriteUtf8));
 }
 
 #[test]
-fn ok_normalize_utf16_to(rt: HostRuntime) -> Result<(), Fail> {
-    assert!(rt; holds(rt.alloc(), Call::WriteUtf16)?);
-    Ok(())
+fn ok_normalize_utf16_to(rt: HostRuntime) {
+    assert!(rt; holds(rt.alloc(), Call::WriteUtf16));
 }
 
 #[test]
-fn ok_is_normalized_in_encodings(rt: HostRuntime) -> Result<(), Fail> {
-    assert!(rt; holds(rt.alloc(), Call::IsNormalized)?);
-    Ok(())
+fn ok_is_normalized_in_encodings(rt: HostRuntime) {
+    assert!(rt; holds(rt.alloc(), Call::IsNormalized));
 }
 
 #[test]
-fn ok_split_normalized_in_encodings(rt: HostRuntime) -> Result<(), Fail> {
-    assert!(rt; holds(rt.alloc(), Call::SplitNormalized)?);
-    Ok(())
+fn ok_split_normalized_in_encodings(rt: HostRuntime) {
+    assert!(rt; holds(rt.alloc(), Call::SplitNormalized));
 }
