@@ -85,30 +85,12 @@ fn has_decomposed(alloc: Global, held: &Held<'_>) -> bool {
     }
 }
 
-#[test]
-fn ok_try_new_nfkc_unstable(rt: HostRuntime) {
-    let held = provider(rt.alloc());
-    assert!(rt; held.is_some_and(|held| has_composed(rt.alloc(), &held)));
-}
-
-#[test]
-fn ok_try_new_nfkd_unstable(rt: HostRuntime) {
-    let held = provider(rt.alloc());
-    assert!(rt; held.is_some_and(|held| has_decomposed(rt.alloc(), &held)));
-}
-
 /// Whether the NFC of a raised digit is the digit as it stands.
 fn keeps_raised(alloc: Global, held: &Held<'_>) -> bool {
     match ComposingNormalizer::try_new_nfc_unstable(alloc, held) {
         Ok(form) => is_form(form.as_borrowed().normalize(alloc, "\u{b2}"), "\u{b2}"),
         Err(_) => false,
     }
-}
-
-#[test]
-fn raised_digit_stays_canonically(rt: HostRuntime) {
-    let held = provider(rt.alloc());
-    assert!(rt; held.is_some_and(|held| keeps_raised(rt.alloc(), &held)));
 }
 
 /// Whether what an iterator gave is the next character that is wanted.
@@ -162,14 +144,54 @@ fn iterates_decomposed(alloc: Global, held: &Held<'_>) -> bool {
     }
 }
 
+/// What is asked of the data.
+#[derive(Clone, Copy)]
+enum Ask {
+    Composed,
+    Decomposed,
+    Raised,
+    ComposedOneByOne,
+    DecomposedOneByOne,
+}
+
+/// Whether a provider's data answer as they must.
+fn answers(alloc: Global, held: &Held<'_>, ask: Ask) -> bool {
+    match ask {
+        Ask::Composed => has_composed(alloc, held),
+        Ask::Decomposed => has_decomposed(alloc, held),
+        Ask::Raised => keeps_raised(alloc, held),
+        Ask::ComposedOneByOne => iterates_composed(alloc, held),
+        Ask::DecomposedOneByOne => iterates_decomposed(alloc, held),
+    }
+}
+
+/// Whether the data do.
+fn holds(alloc: Global, ask: Ask) -> bool {
+    match provider(alloc) {
+        Some(held) => answers(alloc, &held, ask),
+        None => false,
+    }
+}
+
+#[test]
+fn ok_try_new_nfkc_unstable(rt: HostRuntime) {
+    assert!(rt; holds(rt.alloc(), Ask::Composed));
+}
+
+#[test]
+fn ok_try_new_nfkd_unstable(rt: HostRuntime) {
+    assert!(rt; holds(rt.alloc(), Ask::Decomposed));
+}
+
+#[test]
+fn raised_digit_stays_canonically(rt: HostRuntime) {
+    assert!(rt; holds(rt.alloc(), Ask::Raised));
+}
+
 #[test]
 fn ok_normalize_iter(rt: HostRuntime) {
-    let held = provider(rt.alloc());
-    assert!(rt;
-        held.is_some_and(|held| {
-            iterates_composed(rt.alloc(), &held) && iterates_decomposed(rt.alloc(), &held)
-        })
-    );
+    assert!(rt; holds(rt.alloc(), Ask::ComposedOneByOne));
+    assert!(rt; holds(rt.alloc(), Ask::DecomposedOneByOne));
 }
 
 /// Why there is no normaliser to NFKD over a provider that lacks the compatibility tables.
