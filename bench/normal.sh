@@ -31,10 +31,12 @@ measure() {
 }
 
 for file in names nfc ascii; do
-    for task in nfc nfd is_nfc is_nfd; do
+    for task in nfc nfkc nfd nfkd is_nfc is_nfkc is_nfd is_nfkd; do
         measure "$file" "$task"
     done
 done
-one=$(best ascii try_new 1)
-many=$(best ascii try_new 101)
-awk -v one="$one" -v many="$many" 'BEGIN { printf "%-20s %8.2f ms\n", "try_new", 10 * (many - one) }'
+for task in try_new try_new_k; do
+    one=$(best ascii "$task" 1)
+    many=$(best ascii "$task" 101)
+    awk -v name="$task" -v one="$one" -v many="$many" 'BEGIN { printf "%-20s %8.2f ms\n", name, 10 * (many - one) }'
+done

@@ -28,17 +28,35 @@ const ROWS: [(&str, &str, &str); 8] = [
     ),
 ];
 
-/// A provider of the data.
-fn provider(alloc: Global) -> Option<Held<'static>> {
-    let mut builder = CanonicalDataBuilder::new(alloc);
+/// Gives a builder the data.
+fn give(alloc: Global, builder: &mut CanonicalDataBuilder) -> Option<()> {
     builder.class('\u{302}', 230).ok()?;
     builder.class('\u{323}', 220).ok()?;
     builder.map('\u{e1}', 'a', Some('\u{301}'), true).ok()?;
     builder.map('\u{1ea1}', 'a', Some('\u{323}'), true).ok()?;
-    builder.kmap(alloc, '\u{b2}', '2', &[]).ok()?;
-    let mut held = provider_of(builder.build(alloc).ok()?);
-    held.nfkd = Some(builder.build_nfkd(alloc).ok()?);
-    Some(held)
+    builder.kmap(alloc, '\u{b2}', '2', &[]).ok()
+}
+
+/// A provider of what a builder was given.
+fn built(alloc: Global, builder: &CanonicalDataBuilder) -> Option<Held<'static>> {
+    let nfkd = builder.build_nfkd(alloc).ok()?;
+    match builder.build(alloc) {
+        Ok(tables) => {
+            let mut held = provider_of(tables);
+            held.nfkd = Some(nfkd);
+            Some(held)
+        }
+        Err(_) => None,
+    }
+}
+
+/// A provider of the data.
+fn provider(alloc: Global) -> Option<Held<'static>> {
+    let mut builder = CanonicalDataBuilder::new(alloc);
+    match give(alloc, &mut builder) {
+        Some(()) => built(alloc, &builder),
+        None => None,
+    }
 }
 
 /// Whether a form is this.
