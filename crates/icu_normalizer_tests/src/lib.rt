@@ -3,8 +3,6 @@
 #![tactic(auto)]
 
 #[cfg(test)]
-mod compatibility;
-#[cfg(test)]
 mod encodings;
 #[cfg(test)]
 mod forms;

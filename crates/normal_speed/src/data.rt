@@ -58,32 +58,13 @@ fn give(alloc: Global, builder: &mut CanonicalDataBuilder, line: &str) -> Option
     }
 }
 
-/// Gives a builder what the lines of a records file say.
-fn give_lines(alloc: Global, builder: &mut CanonicalDataBuilder, records: &str) -> Option<()> {
-    for line in records.lines() {
-        give(alloc, builder, line)?;
-    }
-    Some(())
-}
-
-/// A provider of the data that a builder was given.
-fn built(alloc: Global, builder: &CanonicalDataBuilder) -> Option<Held<'static>> {
-    let nfkd = builder.build_nfkd(alloc).ok()?;
-    match builder.build(alloc) {
-        Ok(tables) => {
-            let mut held = provider_of(tables);
-            held.nfkd = Some(nfkd);
-            Some(held)
-        }
-        Err(_) => None,
-    }
-}
-
 /// A provider of the data that a records file states.
 pub fn provider(alloc: Global, records: &str) -> Option<Held<'static>> {
     let mut builder = CanonicalDataBuilder::new(alloc);
-    match give_lines(alloc, &mut builder, records) {
-        Some(()) => built(alloc, &builder),
-        None => None,
+    for line in records.lines() {
+        give(alloc, &mut builder, line)?;
     }
+    let mut held = provider_of(builder.build(alloc).ok()?);
+    held.nfkd = Some(builder.build_nfkd(alloc).ok()?);
+    Some(held)
 }
