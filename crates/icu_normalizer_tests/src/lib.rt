@@ -3,8 +3,6 @@
 #![tactic(auto)]
 
 #[cfg(test)]
-mod encodings;
-#[cfg(test)]
 mod forms;
 #[cfg(test)]
 mod mapper;
