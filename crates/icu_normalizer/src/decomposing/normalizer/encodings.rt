@@ -21,7 +21,7 @@ impl DecomposingNormalizerBorrowed<'_> {
 
     /// Bytes, read as UTF-8, in two parts: the prefix and the NFD of the rest are together the NFD of the text. The
     /// prefix is undamaged. The rest is empty exactly where the text is undamaged and its own NFD. The prefix holds at
-    /// least all that stands before the last character below `normalizer_bound` (U+00C0) at or before the first
+    /// least all that stands before the last character below `normalizer_bound` at or before the first
     /// difference between the text and its NFD, where a damaged part is a difference. It takes no memory.
     pub fn split_normalized_utf8<'t>(&self, text: &'t [u8]) -> (&'t [u8], &'t [u8])
         ensures whole { result.0.now ++ result.1.now ≡ text.now }
@@ -43,7 +43,7 @@ impl DecomposingNormalizerBorrowed<'_> {
 
     /// Units, read as UTF-16, in two parts: the prefix and the NFD of the rest are together the NFD of the text. The
     /// prefix is undamaged. The rest is empty exactly where the text is undamaged and its own NFD. The prefix holds at
-    /// least all that stands before the last character below `normalizer_bound` (U+00C0) at or before the first
+    /// least all that stands before the last character below `normalizer_bound` at or before the first
     /// difference between the text and its NFD, where a damaged part is a difference. It takes no memory.
     pub fn split_normalized_utf16<'t>(&self, text: &'t [u16]) -> (&'t [u16], &'t [u16])
         ensures whole { result.0.now ++ result.1.now ≡ text.now }

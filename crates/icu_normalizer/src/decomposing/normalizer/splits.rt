@@ -24,7 +24,7 @@ impl DecomposingNormalizerBorrowed<'_> {
 
     /// A text in two parts: the prefix and the NFD of the rest are together the NFD of the text. The rest is empty
     /// exactly where the text is its own NFD. The prefix holds at least all that stands before the last character below
-    /// `normalizer_bound` (U+00C0) at or before the first difference between the text and its NFD. It takes no memory.
+    /// `normalizer_bound` at or before the first difference between the text and its NFD. It takes no memory.
     pub fn split_normalized<'t>(&self, text: &'t str) -> (&'t str, &'t str)
         ensures whole { result.0.now ++ result.1.now ≡ text.now }
         ensures normal { chars result.0.now ++ decomposed (normalizer_data self.now) (chars result.1.now) ≡ decomposed (normalizer_data self.now) (chars text.now) }
