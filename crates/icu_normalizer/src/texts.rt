@@ -4,7 +4,7 @@ mod bytes;
 mod known;
 mod units;
 
-ghost use Rattle.std.specs.Prelude.{◌≡◌, ℕ, ◌<◌, ◌≤◌, List, ◌++◌, length, drop, take, slice_index, MatchOption, IfSome, IfNone};
+ghost use Rattle.std.specs.Prelude.{◌≡◌, ◌↔◌, IsTrue, ℕ, ◌<◌, ◌≤◌, List, ◌++◌, length, drop, take, slice_index, MatchOption, IfSome, IfNone};
 ghost use Rattle.icu_normalizer.specs.TextCuts.{IsBehind};
 ghost use Rattle.icu_normalizer.specs.Texts.{Text as Spelled, IsEncoding, AreCharacters, BeginsWith, BeginsDamaged, IsAtEnd};
 
@@ -19,6 +19,10 @@ pub(crate) trait Text: Copy {
     /// How many units it has.
     fn len(self) -> usize
         ensures { result ≡ length (spelled self).units };
+
+    /// Whether nothing is left.
+    fn is_at_end(self) -> bool
+        ensures { IsTrue result ↔ IsAtEnd (spelled self) };
 
     /// How many ASCII characters it begins with.
     fn plain_len(self) -> usize

@@ -1,6 +1,6 @@
 //! Texts in NFC, or in NFKC.
 
-ghost use Rattle.std.specs.Prelude.{◌≡◌, ℕ, ◌*◌, List, ◌++◌, OnOk, OnErr, chars, encode_utf8_all};
+ghost use Rattle.std.specs.Prelude.{◌≡◌, ℕ, ◌*◌, ◌<◌, List, ◌++◌, length, IfOk, OnOk, OnErr, chars, encode_utf8_all};
 ghost use Rattle.std.specs.Iterator.{IsFinite, size};
 ghost use Rattle.icu_normalizer_core.specs.Canonical.{IsCanonical, composed};
 ghost use Rattle.icu_normalizer.specs.Composing.{IsComposable};
@@ -9,15 +9,19 @@ ghost use Rattle.icu_normalizer.specs.Forming.{IsSaidOver};
 ghost use Rattle.icu_normalizer.specs.Iter.{Spells};
 ghost use Rattle.icu_normalizer.specs.Readable.{IsReadable};
 ghost use Rattle.icu_normalizer.specs.Sinks.{AddsPrefix, EndsByFailure};
+ghost use Rattle.icu_normalizer.specs.Texts.{IsAtEnd};
+ghost use Rattle.icu_normalizer.specs.Writer.{AddsFront};
 
+mod encodings;
 mod splits;
 
 use super::Composition;
 use super::cluster_form::ClusterForm;
-use super::clusters::{first_cluster, split_apart};
+use super::cuts::split_low;
 use crate::char_sinks::{CharSink, Utf8};
 use crate::form_data::FormData;
 use crate::sinks::{NormError, TextSink};
+use crate::texts::Text;
 use std::alloc::Global;
 
 /// A normaliser to NFC or NFKC (UAX 15), borrowed. What its calls say of NFC is said of NFKC where it is one to NFKC.
@@ -98,42 +102,44 @@ impl<'d> ComposingNormalizerBorrowed<'d> {
     {
         let mut form = ClusterForm::new(alloc, self.basis);
         let mut left = text;
-        while !left.is_empty() {
-            let (cluster, rest) = first_cluster(self.basis, left);
-            if let Err(error) = self.write_cluster::<Utf8, S>(&mut form, cluster, sink) {
-                return Err(error);
-            }
-            let (plain, rest) = split_apart(self.basis, rest);
+        while !left.is_at_end() {
+            let rest = match self.write_cluster::<&str, Utf8, S>(&mut form, left, sink) {
+                Ok(rest) => rest,
+                Err(error) => return Err(error),
+            };
+            let (plain, behind) = split_low(self.basis, rest);
             if let Err(error) = sink.write_str(plain) {
                 return Err(NormError::Sink(error));
             }
-            left = rest;
+            left = behind;
         }
         Ok(())
     }
 
-    /// The same of a cluster and into any sink, character by character.
-    fn write_cluster<E, S: CharSink<E>>(
+    /// Writes the NFC of the first cluster of a text, character by character, and gives what stands behind it.
+    fn write_cluster<T: Text, E, S: CharSink<E>>(
         &self,
         form: &mut ClusterForm<'_>,
-        text: &str,
+        text: T,
         sink: &mut S,
-    ) -> Result<(), NormError<S::Error>>
-        requires { form_data form.old ≡ composing_data self.now }
+    ) -> Result<T, NormError<S::Error>>
+        requires data { form_data form.old ≡ composing_data self.now }
+        requires some { IsAtEnd (T.spelled text) → ⊥ }
         ensures same { form_data form.new ≡ form_data form.old }
-        ensures ok { OnOk result (S.contents sink.new ≡ S.contents sink.old ++ S.encode (composed (composing_data self.now) (chars text.now))) }
-        ensures err { OnErr result (AddsPrefix (S.contents sink.old) (S.encode (composed (composing_data self.now) (chars text.now))) (S.contents sink.new)) }
+        ensures ok { IfOk result (λ rest. AddsFront (S.contents sink.old) (S.encode (composed (composing_data self.now) (T.spelled text).characters)) (S.encode (composed (composing_data self.now) (T.spelled rest).characters)) (S.contents sink.new)) }
+        ensures fewer { IfOk result (λ rest. length (T.spelled rest).characters < length (T.spelled text).characters) }
+        ensures err { OnErr result (AddsPrefix (S.contents sink.old) (S.encode (composed (composing_data self.now) (T.spelled text).characters)) (S.contents sink.new)) }
         ensures failure { EndsByFailure S.takes S.fails sink.old result sink.new }
     {
-        if form.begin(text).is_err() {
+        let Ok(rest) = form.begin(self.basis, text) else {
             return Err(NormError::Memory);
-        }
+        };
         'chars: loop {
             let Ok(next) = form.next() else {
                 return Err(NormError::Memory);
             };
             let Some(c) = next else {
-                return Ok(());
+                return Ok(rest);
             };
             if let Err(error) = sink.write_char(c) {
                 return Err(NormError::Sink(error));
