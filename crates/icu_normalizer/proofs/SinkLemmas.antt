@@ -56,8 +56,8 @@ joined_back old mid new front back all e first h = (
 )
 
 -- into an empty sink
-pub joined_new : (old mid new front back all : List ℕ) → front ++ back ≡ all → old ≡ [] → mid ≡ old ++ front → new ≡ mid ++ back → new ≡ all
-joined_new old mid new front back all e empty first second = joined_whole old mid new front back all e first second ∙ ap (λ l. l ++ all) empty
+pub filled_new : (old new whole all : List ℕ) → whole ≡ all → old ≡ [] → new ≡ old ++ whole → new ≡ all
+filled_new old new whole all e empty written = written ∙ ap (λ l. l ++ whole) empty ∙ e
 
 -- ---- writes after others
 

@@ -15,9 +15,9 @@ mod splits;
 use super::Composition;
 use super::cluster_form::ClusterForm;
 use super::clusters::{first_cluster, split_apart};
-use crate::char_sinks::{CharSink, Utf8};
 use crate::form_data::FormData;
 use crate::sinks::{NormError, TextSink};
+use crate::texts::WriteTo;
 use std::alloc::Global;
 
 /// A normaliser to NFC or NFKC (UAX 15), borrowed. What its calls say of NFC is said of NFKC where it is one to NFKC.
@@ -100,7 +100,7 @@ impl<'d> ComposingNormalizerBorrowed<'d> {
         let mut left = text;
         while !left.is_empty() {
             let (cluster, rest) = first_cluster(self.basis, left);
-            if let Err(error) = self.write_cluster::<Utf8, S>(&mut form, cluster, sink) {
+            if let Err(error) = self.write_cluster::<&str, S>(&mut form, cluster, sink) {
                 return Err(error);
             }
             let (plain, rest) = split_apart(self.basis, rest);
@@ -113,17 +113,17 @@ impl<'d> ComposingNormalizerBorrowed<'d> {
     }
 
     /// The same of a cluster and into any sink, character by character.
-    fn write_cluster<E, S: CharSink<E>>(
+    fn write_cluster<T: WriteTo<S>, S>(
         &self,
         form: &mut ClusterForm<'_>,
         text: &str,
         sink: &mut S,
-    ) -> Result<(), NormError<S::Error>>
+    ) -> Result<(), NormError<T::Error>>
         requires { form_data form.old ≡ composing_data self.now }
         ensures same { form_data form.new ≡ form_data form.old }
-        ensures ok { OnOk result (S.contents sink.new ≡ S.contents sink.old ++ S.encode (composed (composing_data self.now) (chars text.now))) }
-        ensures err { OnErr result (AddsPrefix (S.contents sink.old) (S.encode (composed (composing_data self.now) (chars text.now))) (S.contents sink.new)) }
-        ensures failure { EndsByFailure S.takes S.fails sink.old result sink.new }
+        ensures ok { OnOk result (T.contents sink.new ≡ T.contents sink.old ++ T.encode (composed (composing_data self.now) (chars text.now))) }
+        ensures err { OnErr result (AddsPrefix (T.contents sink.old) (T.encode (composed (composing_data self.now) (chars text.now))) (T.contents sink.new)) }
+        ensures failure { EndsByFailure T.takes T.fails sink.old result sink.new }
     {
         if form.begin(text).is_err() {
             return Err(NormError::Memory);
@@ -135,7 +135,7 @@ impl<'d> ComposingNormalizerBorrowed<'d> {
             let Some(c) = next else {
                 return Ok(());
             };
-            if let Err(error) = sink.write_char(c) {
+            if let Err(error) = T::write_char(sink, c) {
                 return Err(NormError::Sink(error));
             }
         }

@@ -15,7 +15,7 @@ chars-init g c =
     let begun = ok_unless_err (IsBegun c.begin.new.self) c.begin.result c.if-is_err.ensures.value c.begin.ensures.begun in (
       [],
       sym (left ∙ ap (λ (k : Canonical). composed k (chars c.args.text.now)) c.requires),
-      sym (ap (λ l. g.S.CharSink.contents c.args.sink.now ++ l) g.met.S.CharSink.encoding.nothing ∙ append-nil _),
+      sym (ap (λ l. g.T.WriteTo.contents c.args.sink.now ++ l) g.met.T.Text.encoding.nothing ∙ append-nil _),
       nothing _,
       begun,
       c.begin.ensures.same,
@@ -28,7 +28,7 @@ pub returns-in_default-clause-same : goal.returns-in_default-clause-same
 returns-in_default-clause-same g c = c.in_default.ensures.same ∙ c.chars.invariant.5
 
 pub returns-in_default-clause-err : goal.returns-in_default-clause-err
-returns-in_default-clause-err g c = let now = c.chars.invariant in sink_cut g.S.CharSink.encode g.met.S.CharSink.encoding _ _ _ now.0 (form_left c.chars.form) now.1 now.2
+returns-in_default-clause-err g c = let now = c.chars.invariant in sink_cut g.T.Text.encode g.met.T.Text.encoding _ _ _ now.0 (form_left c.chars.form) now.1 now.2
 
 pub returns-in_default-clause-failure : goal.returns-in_default-clause-failure
 returns-in_default-clause-failure g c = c.chars.invariant.3
@@ -41,7 +41,7 @@ returns-in_default-next-clause-ok g c =
     let now = c.chars.invariant in
     let none = rw c.in_default-next.is at c.in-Ok.ensures.left in
     let done = rw c.in_default-next.is at c.in-Ok.ensures.done in
-    sink_all g.S.CharSink.encode g.met.S.CharSink.encoding _ _ _ now.0 (form_left c.chars.form) now.1 (none ∙ done) now.2
+    sink_all g.T.Text.encode g.met.T.Text.encoding _ _ _ now.0 (form_left c.chars.form) now.1 (none ∙ done) now.2
 
 pub returns-in_default-next-clause-failure : goal.returns-in_default-next-clause-failure
 returns-in_default-next-clause-failure g c = c.chars.invariant.3
@@ -53,7 +53,7 @@ pub returns-in-Err-clause-err : goal.returns-in-Err-clause-err
 returns-in-Err-clause-err g c =
     let now = c.chars.invariant in
     let step = rw c.in-Some.is at c.in-Ok.ensures.left in
-    sink_part g.S.CharSink.encode g.met.S.CharSink.encoding _ _ _ _ now.0 (form_left c.chars.form) _ (form_left c.next.new.self) now.1 step now.2 c.in-Err.ensures.err
+    sink_part g.T.Text.encode g.met.T.Text.encoding _ _ _ _ now.0 (form_left c.chars.form) _ (form_left c.next.new.self) now.1 step now.2 c.in-Err.ensures.err
 
 pub returns-in-Err-clause-failure : goal.returns-in-Err-clause-failure
 returns-in-Err-clause-failure g c = (_, c.chars.invariant.3, c.in-Err.ensures.failed)
@@ -68,7 +68,7 @@ chars-preserved g c =
     let step = rw c.in-Some.is at c.in-Ok.ensures.left in (
       now.0 ++ c.in-Some.c ∷ [],
       seen_more _ now.0 (form_left c.chars.form) _ (form_left c.next.new.self) now.1 step,
-      sink_more g.S.CharSink.encode g.met.S.CharSink.encoding _ _ _ now.0 _ now.2 c.in_default-write_char.ensures.ok,
+      sink_more g.T.Text.encode g.met.T.Text.encoding _ _ _ now.0 _ now.2 c.in_default-write_char.ensures.ok,
       more _ _ _ now.3 c.in_default-write_char.ensures.taken,
       c.in-Ok.ensures.begun,
       c.in-Ok.ensures.same ∙ now.5,
