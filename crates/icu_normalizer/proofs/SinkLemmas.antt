@@ -36,11 +36,6 @@ module _ (encode : List ℕ → List ℕ) (is : IsEncoding encode) where
 
 -- ---- a text in two parts
 
--- both were written
-pub joined_whole : (old mid new front back all : List ℕ) → front ++ back ≡ all → mid ≡ old ++ front → new ≡ mid ++ back → new ≡ old ++ all
-joined_whole old mid new front back all e first second =
-    second ∙ ap (λ l. l ++ back) first ∙ append_assoc old front back ∙ ap (λ l. old ++ l) e
-
 -- the first was not
 pub joined_front : (old new front back all : List ℕ) → front ++ back ≡ all → AddsPrefix old front new → AddsPrefix old all new
 joined_front old new front back all e h =

@@ -1,7 +1,7 @@
 use Rattle.std.proofs.Common.{refl}
-use Rattle.std.proofs.lemmas.Result.{on_ok_weaker, on_err_weaker}
+use Rattle.std.proofs.lemmas.Result.{on_err_weaker}
 use Rattle.icu_normalizer.specs.Sinks.{nothing, more}
-use Rattle.icu_normalizer.proofs.SinkLemmas.{joined_whole, joined_front, joined_back, ends_after}
+use Rattle.icu_normalizer.proofs.SinkLemmas.{joined_front, joined_back, ends_after}
 use Rattle.icu_normalizer.proofs.decomposing.normalizer.DecomposingNormalizerBorrowed.write_parts.Goals as goal
 
 pub returns-in-Err-clause-err : goal.returns-in-Err-clause-err
@@ -9,10 +9,6 @@ returns-in-Err-clause-err g c = joined_front _ _ _ _ _ refl c.in-Err.ensures.err
 
 pub returns-in-Err-clause-failure : goal.returns-in-Err-clause-failure
 returns-in-Err-clause-failure g c = (_, nothing _, c.in-Err.ensures.failed)
-
-pub returns-clause-ok : goal.returns-clause-ok
-returns-clause-ok g c =
-    on_ok_weaker c.write_decomposed.result (λ done. joined_whole _ _ _ _ _ _ refl c.in_default.ensures.ok done) c.write_decomposed.ensures.ok
 
 pub returns-clause-err : goal.returns-clause-err
 returns-clause-err g c =
