@@ -3,12 +3,14 @@
 mod bytes;
 mod known;
 mod units;
+mod writing;
 
 ghost use Rattle.std.specs.Prelude.{◌≡◌, ◌↔◌, IsTrue, ℕ, ◌<◌, ◌≤◌, List, ◌++◌, length, drop, take, slice_index, MatchOption, IfSome, IfNone};
 ghost use Rattle.icu_normalizer.specs.TextCuts.{IsBehind};
 ghost use Rattle.icu_normalizer.specs.Texts.{Text as Spelled, IsEncoding, AreCharacters, BeginsWith, BeginsDamaged, IsAtEnd};
 
 pub(crate) use bytes::known as known_text;
+pub(crate) use writing::WriteTo;
 
 /// A text in some encoding, which is read from the front. What is damaged reads as U+FFFD.
 pub(crate) trait Text: Copy {

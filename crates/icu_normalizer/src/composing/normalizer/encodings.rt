@@ -32,15 +32,14 @@ impl ComposingNormalizerBorrowed<'_> {
         text: &'t [u8],
     ) -> Result<(&'t str, &'t [u8]), AllocError>
         ensures whole { IfOk result (λ parts. parts.0.now ++ parts.1.now ≡ text.now) }
+        ensures undamaged { IfOk result (λ parts. IsUndamaged encode_utf8_all (utf8_text parts.0.now)) }
         ensures normal { IfOk result (λ parts. utf8_chars parts.0.now ++ composed (composing_data self.now) (utf8_chars parts.1.now) ≡ composed (composing_data self.now) (utf8_chars text.now)) }
         ensures bytes { IfOk result (λ parts. parts.0.now ++ encode_utf8_all (composed (composing_data self.now) (utf8_chars parts.1.now)) ≡ encode_utf8_all (composed (composing_data self.now) (utf8_chars text.now))) }
         ensures empty { IfOk result (λ parts. (parts.1.now ≡ []) ↔ IsOwnText encode_utf8_all (composed (composing_data self.now)) (utf8_text text.now)) }
         ensures far { IfOk result (λ parts. ReachesTo encode_utf8_all (composed (composing_data self.now)) 0x300 (utf8_text text.now) (utf8_chars parts.0.now)) }
     {
-        match split(alloc, self.basis, text) {
-            Ok((prefix, rest)) => Ok((known_text(prefix), rest)),
-            Err(error) => Err(error),
-        }
+        let (prefix, rest) = split(alloc, self.basis, text)?;
+        Ok((known_text(prefix), rest))
     }
 
     /// Whether units, read as UTF-16, are undamaged and their own NFC. Memory is taken for long runs of marks alone.
@@ -67,6 +66,7 @@ impl ComposingNormalizerBorrowed<'_> {
         ensures empty { IfOk result (λ parts. (parts.1.now ≡ []) ↔ IsOwnText encode_utf16_all (composed (composing_data self.now)) (utf16_text text.now)) }
         ensures far { IfOk result (λ parts. ReachesTo encode_utf16_all (composed (composing_data self.now)) 0x300 (utf16_text text.now) (utf16_chars parts.0.now)) }
     {
-        split(alloc, self.basis, text)
+        let parts = split(alloc, self.basis, text)?;
+        Ok(parts)
     }
 }

@@ -36,7 +36,8 @@ impl ComposingNormalizerBorrowed<'_> {
         ensures empty { IfOk result (λ parts. (parts.1.now ≡ []) ↔ IsComposed (composing_data self.now) (chars text.now)) }
         ensures far { IfOk result (λ parts. ReachesBelow (composed (composing_data self.now)) 0x300 (chars text.now) (chars parts.0.now)) }
     {
-        split(alloc, self.basis, text)
+        let parts = split(alloc, self.basis, text)?;
+        Ok(parts)
     }
 
     /// The NFC of a text, borrowed exactly where the text is its own NFC.
@@ -48,11 +49,8 @@ impl ComposingNormalizerBorrowed<'_> {
         if rest.is_empty() {
             return Ok(CowStr::Borrowed(text));
         }
-        let mut normal = String::with_capacity(alloc, text.len())?;
-        normal.push_str(prefix)?;
-        match self.write_composed(alloc, rest, &mut normal) {
-            Ok(()) => Ok(CowStr::Owned(normal)),
-            Err(_) => Err(AllocError),
-        }
+        let empty = String::with_capacity(alloc, text.len())?;
+        let form = self.filled::<&str, String>(alloc, (prefix, rest), empty)?;
+        Ok(CowStr::Owned(form))
     }
 }

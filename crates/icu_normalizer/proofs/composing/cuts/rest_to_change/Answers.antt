@@ -33,4 +33,4 @@ returns-in-Ok-Changed g c =
 pub returns : goal.returns
 returns g c =
     passed_all g.T.Text.encode g.met.T.Text.encoding (composed (form_meaning c.args.basis)) _ _ c.loop-basis.invariant.0 0x300 (composed_nothing (form_meaning c.args.basis))
-    (c.is_at_end.ensures.0 search rules)
+    (c.is_at_end.ensures.0 (search rules))

@@ -9,8 +9,8 @@ abbrev pub invariant-chars : goal.invariant-chars
 invariant-chars g l =
     (seen : List ℕ)
     × (composed (composing_data l.fn.self) (g.T.Text.spelled l.fn.text).characters ≡ seen ++ (form_left l.form ++ composed (composing_data l.fn.self) (g.T.Text.spelled l.rest).characters))
-    × (g.S.CharSink.contents l.sink ≡ g.S.CharSink.contents l.fn.sink ++ g.S.CharSink.encode seen)
-    × HasTaken g.S.CharSink.takes l.fn.sink l.sink
+    × (g.T.WriteTo.contents l.sink ≡ g.T.WriteTo.contents l.fn.sink ++ g.T.Text.encode seen)
+    × HasTaken g.T.WriteTo.takes l.fn.sink l.sink
     × IsBegun l.form
     × (form_data l.form ≡ form_data l.fn.form)
 
