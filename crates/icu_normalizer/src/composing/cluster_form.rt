@@ -38,11 +38,7 @@ impl<'d> ClusterForm<'d> {
 
     /// Takes the first cluster of a text: its first character, and those behind it up to the next steady one. What was left
     /// of the cluster before it is dropped. The answer is what stands behind the cluster.
-    pub(super) fn begin<T: Text>(
-        &mut self,
-        basis: FormData<'_>,
-        text: T,
-    ) -> Result<T, AllocError>
+    pub(super) fn begin<T: Text>(&mut self, basis: FormData<'_>, text: T) -> Result<T, AllocError>
         requires data { form_data self.old ≡ form_meaning basis }
         requires some { IsAtEnd (T.spelled text) → ⊥ }
         ensures cluster { IfOk result (λ rest. IsCluster (form_meaning basis.entry) (T.spelled text).characters (form_left self.new) (T.spelled rest).characters) }

@@ -12,6 +12,6 @@ returns-then-is_steady-clause-none g c =
     (first_read g.T.Text.encode (g.T.Text.spelled c.args.text) (g.T.Text.spelled c.in-Some.read.1) c.in-Some.read.0 c.unwrap_or-c.result c.in-Some.ensures.some c.unwrap_or-c.ensures)
     (c.is_steady.ensures c.if-is_steady.true).0
 
-pub returns-else-is_steady-clause-some : goal.returns-clause-some
+pub returns-else-is_steady-clause-some : goal.returns-else-is_steady-clause-some
 returns-else-is_steady-clause-some g c =
     first_read g.T.Text.encode (g.T.Text.spelled c.args.text) (g.T.Text.spelled c.in-Some.read.1) c.in-Some.read.0 c.unwrap_or-c.result c.in-Some.ensures.some c.unwrap_or-c.ensures

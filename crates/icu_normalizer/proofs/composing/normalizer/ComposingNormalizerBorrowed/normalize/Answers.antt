@@ -13,7 +13,7 @@ returns-then-is_empty-clause-normal c =
     form_bytes (composed (composing_data c.args.self.now)) _ c.utf8.text (c.in_ok-prefix.ensures.empty.0 (nil_from_length _ (grind (arith, nat_tests))))
 
 pub filled-requires : goal.filled-requires
-filled-requires c = encodes-chars c.in_ok-prefix.field-0.0.now (search rules)
+filled-requires c = encodes-chars c.in_ok-prefix.prefix.now (search rules)
 
 pub returns-clause-normal : goal.returns-clause-normal
 returns-clause-normal c = filled_new _ _ _ _ c.in_ok-prefix.ensures.bytes c.in_ok-empty.ensures.bytes c.in_ok-form.ensures

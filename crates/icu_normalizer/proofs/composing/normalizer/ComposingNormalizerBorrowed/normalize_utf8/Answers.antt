@@ -17,5 +17,5 @@ returns-then-is_empty-clause-normal c =
 pub returns-clause-normal : goal.returns-clause-normal
 returns-clause-normal c =
     let form = composed (composing_data c.args.self.now) in
-    let bytes = ap (λ l. l ++ encode_utf8_all (form (utf8_chars c.in_ok-prefix.field-0.1.now))) c.as_bytes.ensures.value ∙ c.in_ok-prefix.ensures.bytes in
+    let bytes = ap (λ l. l ++ encode_utf8_all (form (utf8_chars c.in_ok-prefix.rest.now))) c.as_bytes.ensures.value ∙ c.in_ok-prefix.ensures.bytes in
     filled_new _ _ _ _ bytes c.in_ok-empty.ensures.bytes c.in_ok-form.ensures

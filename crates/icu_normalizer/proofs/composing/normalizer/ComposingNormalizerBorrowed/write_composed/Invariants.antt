@@ -6,12 +6,12 @@ use Rattle.icu_normalizer.specs.Sinks.{HasTaken}
 use Rattle.icu_normalizer.specs.Writer.{AddsFront}
 use Rattle.icu_normalizer.proofs.composing.normalizer.ComposingNormalizerBorrowed.write_composed.Given as goal
 
-abbrev pub invariant-loop-self : goal.invariant-loop-self
-invariant-loop-self g l =
+abbrev pub invariant-loop-left : goal.invariant-loop-left
+invariant-loop-left g l =
     AddsFront (g.T.WriteTo.contents l.fn.sink) (g.T.Text.encode (composed (composing_data l.fn.self) (g.T.Text.spelled l.fn.text).characters))
     (g.T.Text.encode (composed (composing_data l.fn.self) (g.T.Text.spelled l.left).characters)) (g.T.WriteTo.contents l.sink)
     × HasTaken g.T.WriteTo.takes l.fn.sink l.sink
     × (form_data l.form ≡ composing_data l.fn.self)
 
-abbrev pub decreases-loop-self : goal.decreases-loop-self
-decreases-loop-self g l = length (g.T.Text.spelled l.left).characters
+abbrev pub decreases-loop-left : goal.decreases-loop-left
+decreases-loop-left g l = length (g.T.Text.spelled l.left).characters
