@@ -4,6 +4,10 @@
 
 ghost use Rattle.std.specs.Prelude.{◌≡◌};
 
+mod bit_field;
+
+pub use bit_field::CollatorOptionsBitField;
+
 /// How many levels of difference a comparison looks at. A strength is above those before it.
 #[derive(Clone, Copy, PartialEq, Eq, PartialOrd, Ord, Debug)]
 pub enum Strength {
