@@ -16,7 +16,7 @@ use Rattle.icu_collator_types.specs.declared.options.CollatorOptions.{CollatorOp
 use Rattle.icu_collator_types.specs.declared.options.CollatorPreferences.{CollatorPreferences}
 use Rattle.icu_collator_types.specs.declared.options.ResolvedCollatorOptions.{ResolvedCollatorOptions}
 use Rattle.icu_collator_types.specs.declared.options.bit_field.Noted.{Noted}
-use Rattle.icu_collator_types.specs.Options.{is_at_least, has_case_level, has_case_first, is_numeric}
+use Rattle.icu_collator_types.specs.Options.{is_at_least, has_case_level, has_case_first}
 
 -- the options of a collator, each with its note
 pub record NotedOptions : Type 0 where
