@@ -1,1 +1,2 @@
+pub mod MergedOptionLemmas
 mod OptionsExamples

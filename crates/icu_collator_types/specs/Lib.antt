@@ -1,1 +1,2 @@
+pub mod NotedOptions
 pub mod Options

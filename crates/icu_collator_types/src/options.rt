@@ -4,6 +4,10 @@
 
 ghost use Rattle.std.specs.Prelude.{◌≡◌};
 
+mod bit_field;
+
+pub use bit_field::CollatorOptionsBitField;
+
 /// How many levels of difference a comparison looks at. A strength is above those before it.
 #[derive(Clone, Copy, PartialEq, Eq, PartialOrd, Ord, Debug)]
 pub enum Strength {
@@ -179,6 +183,7 @@ impl ResolvedCollatorOptions {
     /// and the case level are the caller's where given; case first and numeric ordering are the
     /// preferences' where given. The rest is the file's, and where a file sets nothing of the kind
     /// `Tertiary` and off.
+    #[tactic(auto, using(crate::proofs::MergedOptionLemmas::merged_value, crate::proofs::MergedOptionLemmas::merged_case_level, crate::proofs::MergedOptionLemmas::merged_numeric))]
     pub fn resolve(
         options: &CollatorOptions,
         preferences: &CollatorPreferences<'_>,
@@ -186,18 +191,15 @@ impl ResolvedCollatorOptions {
     ) -> Self
         ensures { result ≡ resolved_options options.now preferences.now settings.now }
     {
-        Self {
-            strength: options.strength.unwrap_or(Strength::Tertiary),
-            alternate_handling: options
-                .alternate_handling
-                .unwrap_or(settings.alternate_handling),
-            case_first: preferences.case_first.unwrap_or(settings.case_first),
-            max_variable: options.max_variable.unwrap_or(settings.max_variable),
-            case_level: options.case_level.unwrap_or(CaseLevel::Off),
-            numeric: preferences
-                .numeric_ordering
-                .unwrap_or(CollationNumericOrdering::False),
-        }
+        let mut merged = CollatorOptionsBitField::from(*options);
+        merged.set_case_first(preferences.case_first);
+        merged.set_numeric_from_enum(preferences.numeric_ordering);
+        let mut defaults = CollatorOptionsBitField::default();
+        defaults.set_alternate_handling(Some(settings.alternate_handling));
+        defaults.set_case_first(Some(settings.case_first));
+        defaults.set_max_variable(Some(settings.max_variable));
+        merged.set_defaults(defaults);
+        Self::from(merged)
     }
 }
 
