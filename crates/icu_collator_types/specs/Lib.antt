@@ -1,1 +1,4 @@
+pub mod ElementBits
+pub mod ElementWords
 pub mod Options
+pub mod TrieValues
