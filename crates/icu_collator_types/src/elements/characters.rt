@@ -1,10 +1,13 @@
 //! Characters as the reading of a text carries them: with their class, and with the word that
 //! canonical tables have for them.
 
-ghost use Rattle.std.specs.Prelude.{◌≡◌, ◌+◌, cond, false};
+ghost use Rattle.std.specs.Prelude.{◌≡◌, ◌+◌, ◌==◌, cond, false};
+ghost use Rattle.std.specs.Option.{unwrap_or};
+ghost use Rattle.icu_codepointtrie.specs.Places.{value_at};
 ghost use Rattle.icu_collator_types.specs.TrieValues.{ccc_from_trie_value, has_ccc, is_special_decomposition};
 
 use super::trie_values::{ccc_from_trie_value, has_ccc, is_special_decomposition};
+use icu_codepointtrie::CodePointTrie;
 
 /// The class that stands for one that isn't known yet.
 const PLACEHOLDER: u8 = 0xff;
@@ -64,6 +67,17 @@ impl CharacterAndClass {
         ensures ccc { result.1 ≡ self.now.ccc }
     {
         (self.character, self.ccc)
+    }
+
+    /// Gives a character whose class isn't known yet the class that the trie's word of it says.
+    pub fn set_ccc_from_trie_if_not_already_set(&mut self, trie: &CodePointTrie<'_, u32>)
+        ensures character { self.new.character ≡ self.old.character }
+        ensures ccc { self.new.ccc ≡ cond (self.old.ccc == 0xff)
+            (ccc_from_trie_value (unwrap_or (value_at trie.now self.old.character) 0)) self.old.ccc }
+    {
+        if self.ccc == PLACEHOLDER {
+            self.ccc = ccc_from_trie_value(trie.get(self.character));
+        }
     }
 }
 

@@ -1,6 +1,8 @@
 //! The calls on words and elements, at words worked by hand.
 
 use super::*;
+use icu_codepointtrie::{CodePointTrieBuilder, TrieType};
+use std::alloc::Global;
 use std::process::Abort;
 
 // Asserts which element a word states by itself.
@@ -27,6 +29,20 @@ fn words_state_elements(rt: HostRuntime) {
     states(&rt, 0xc0, None);
     states(&rt, 0x0000_21c5, None);
     states(&rt, 0x0000_00d1, None);
+    let bytes = [0x05, 0x05, 0x10, 0x2a];
+    assert!(rt; CollationElement32::new_from_ule(bytes) == CollationElement32::new(0x2a10_0505));
+    states(&rt, 1, Some(0x0100));
+    assert!(rt; CollationElement32::default() == CollationElement32::new(1));
+}
+
+#[test]
+fn row_of_a_simple_word(rt: HostRuntime) {
+    if let Some(element) = CollationElement32::new(0x2a10_0505).to_ce_simple_or_long_primary() {
+        assert!(rt; element.primary() == 0x2a10_0000 && element.secondary() == 0x0500);
+        assert!(rt; element.non_primary().tertiary() == 0x0500);
+    } else {
+        assert!(rt; false);
+    }
 }
 
 #[test]
@@ -93,4 +109,24 @@ fn characters_have_classes(rt: HostRuntime) {
     );
     let special = CharacterAndClassAndTrieValue::new_with_trie_val('\u{344}', 0xd9e6);
     assert!(rt; special.character_and_class.ccc() == 0xff && special.character() == '\u{344}');
+}
+
+// Whether a trie that says class 230 of all characters gives it where none is known, and there alone.
+fn trie_gives_class(alloc: Global) -> bool {
+    let Ok(map) = CodePointTrieBuilder::new(alloc, 0xd8e6u32, 0, TrieType::Small) else {
+        return false;
+    };
+    let Ok(trie) = map.build(alloc) else {
+        return false;
+    };
+    let mut unknown = CharacterAndClass::new_with_placeholder('\u{301}');
+    unknown.set_ccc_from_trie_if_not_already_set(&trie);
+    let mut known = CharacterAndClass::new('a', 7);
+    known.set_ccc_from_trie_if_not_already_set(&trie);
+    unknown.character_and_ccc() == ('\u{301}', 230) && known.ccc() == 7
+}
+
+#[test]
+fn tries_give_classes(rt: HostRuntime) {
+    assert!(rt; trie_gives_class(rt.alloc()));
 }
