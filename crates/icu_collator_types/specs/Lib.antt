@@ -1,2 +1,5 @@
+pub mod ElementBits
+pub mod ElementWords
 pub mod NotedOptions
 pub mod Options
+pub mod TrieValues

@@ -1,4 +1,20 @@
-//! Collation elements, unpacked: the weights of UTS 10, one field a weight.
+//! Collation elements: unpacked, one field a weight, and as ICU4X packs them, 64 bits an element
+//! and 32 bits a word of the tables; and characters as the reading of a text carries them.
+
+pub mod characters;
+pub mod element_bits;
+pub mod element_words;
+pub mod non_primaries;
+pub mod quaternaries;
+mod trie_values;
+pub mod word_tags;
+
+pub use characters::{CharacterAndClass, CharacterAndClassAndTrieValue};
+pub use element_bits::CollationElement;
+pub use element_words::CollationElement32;
+pub use non_primaries::NonPrimary;
+pub use quaternaries::AnyQuaternaryAccumulator;
+pub use word_tags::Tag;
 
 /// The common secondary weight, and the common tertiary weight: that of a letter without accent,
 /// and of a letter in its plain form (ICU4X).
@@ -20,3 +36,6 @@ pub struct Element {
     /// The quaternary of the file, 0 to 3.
     pub quaternary: u8,
 }
+
+#[cfg(test)]
+mod tests;

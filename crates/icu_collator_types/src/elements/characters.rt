@@ -1,0 +1,154 @@
+//! Characters as the reading of a text carries them: with their class, and with the word that
+//! canonical tables have for them.
+
+ghost use Rattle.std.specs.Prelude.{◌≡◌, ◌+◌, ◌==◌, cond, false};
+ghost use Rattle.std.specs.Option.{unwrap_or};
+ghost use Rattle.icu_codepointtrie.specs.Places.{value_at};
+ghost use Rattle.icu_collator_types.specs.TrieValues.{ccc_from_trie_value, has_ccc, is_special_decomposition};
+
+use super::trie_values::{ccc_from_trie_value, has_ccc, is_special_decomposition};
+use icu_codepointtrie::CodePointTrie;
+
+/// The class that stands for one that isn't known yet.
+const PLACEHOLDER: u8 = 0xff;
+
+/// A character and its canonical combining class, which may not be known yet.
+#[derive(Clone, Copy, PartialEq, Eq, Debug)]
+pub struct CharacterAndClass {
+    character: char,
+    ccc: u8,
+}
+
+impl CharacterAndClass {
+    /// The character with this class.
+    pub fn new(character: char, ccc: u8) -> Self
+        ensures { result ≡ record { character = character; ccc = ccc } }
+    {
+        CharacterAndClass { character, ccc }
+    }
+
+    /// The character with FF (hex) for its class, which isn't known yet.
+    pub fn new_with_placeholder(character: char) -> Self
+        ensures { result ≡ record { character = character; ccc = 0xff } }
+    {
+        CharacterAndClass {
+            character,
+            ccc: PLACEHOLDER,
+        }
+    }
+
+    /// The character with the class that its word in canonical tables says.
+    pub fn new_with_trie_value(character: char, trie_value: u32) -> Self
+        ensures { result ≡ record { character = character; ccc = ccc_from_trie_value trie_value } }
+    {
+        CharacterAndClass {
+            character,
+            ccc: ccc_from_trie_value(trie_value),
+        }
+    }
+
+    /// The character.
+    pub fn character(&self) -> char
+        ensures { result ≡ self.now.character }
+    {
+        self.character
+    }
+
+    /// The class, FF (hex) where it isn't known yet.
+    pub fn ccc(&self) -> u8
+        ensures { result ≡ self.now.ccc }
+    {
+        self.ccc
+    }
+
+    /// The character and its class.
+    pub fn character_and_ccc(&self) -> (char, u8)
+        ensures character { result.0 ≡ self.now.character }
+        ensures ccc { result.1 ≡ self.now.ccc }
+    {
+        (self.character, self.ccc)
+    }
+
+    /// Gives a character whose class isn't known yet the class that the trie's word of it says.
+    pub fn set_ccc_from_trie_if_not_already_set(&mut self, trie: &CodePointTrie<'_, u32>)
+        ensures character { self.new.character ≡ self.old.character }
+        ensures ccc { self.new.ccc ≡ cond (self.old.ccc == 0xff)
+            (ccc_from_trie_value (unwrap_or (value_at trie.now self.old.character) 0)) self.old.ccc }
+    {
+        if self.ccc == PLACEHOLDER {
+            self.ccc = ccc_from_trie_value(trie.get(self.character));
+        }
+    }
+}
+
+/// A character, its class, and its word in canonical tables.
+#[derive(Clone, Copy, PartialEq, Eq, Debug)]
+pub struct CharacterAndClassAndTrieValue {
+    character_and_class: CharacterAndClass,
+    /// The character's word in canonical tables.
+    pub trie_val: u32,
+}
+
+impl CharacterAndClassAndTrieValue {
+    /// A starter that has no decomposition.
+    pub fn new_with_non_decomposing_starter(character: char) -> Self
+        ensures { result ≡ record { character_and_class = record { character = character; ccc = 0 }; trie_val = 0 } }
+    {
+        CharacterAndClassAndTrieValue {
+            character_and_class: CharacterAndClass::new(character, 0),
+            trie_val: 0,
+        }
+    }
+
+    /// A character of this class that has no decomposition.
+    pub fn new_with_non_zero_ccc(character: char, ccc: u8) -> Self
+        ensures { result ≡ record { character_and_class = record { character = character; ccc = ccc }; trie_val = 0xd800 + ccc } }
+    {
+        CharacterAndClassAndTrieValue {
+            character_and_class: CharacterAndClass::new(character, ccc),
+            trie_val: 0xd800 + ccc as u32,
+        }
+    }
+
+    /// A character with this word, which isn't that of a built-in decomposition.
+    pub fn new_with_non_special_decomposition_trie_val(character: char, trie_val: u32) -> Self
+        requires { is_special_decomposition trie_val ≡ false }
+        ensures { result ≡ record { character_and_class = record { character = character; ccc = ccc_from_trie_value trie_val }; trie_val = trie_val } }
+    {
+        CharacterAndClassAndTrieValue {
+            character_and_class: CharacterAndClass::new_with_trie_value(character, trie_val),
+            trie_val,
+        }
+    }
+
+    /// A character with this word, its class not known yet if the word is that of a built-in
+    /// decomposition.
+    pub fn new_with_trie_val(character: char, trie_val: u32) -> Self
+        ensures character { result.character_and_class.character ≡ character }
+        ensures ccc { result.character_and_class.ccc ≡ cond (is_special_decomposition trie_val) 0xff (ccc_from_trie_value trie_val) }
+        ensures trie_val { result.trie_val ≡ trie_val }
+    {
+        if is_special_decomposition(trie_val) {
+            CharacterAndClassAndTrieValue {
+                character_and_class: CharacterAndClass::new_with_placeholder(character),
+                trie_val,
+            }
+        } else {
+            Self::new_with_non_special_decomposition_trie_val(character, trie_val)
+        }
+    }
+
+    /// Whether the character's decomposition begins with a mark.
+    pub fn decomposition_starts_with_non_starter(&self) -> bool
+        ensures { result ≡ has_ccc self.now.trie_val }
+    {
+        has_ccc(self.trie_val)
+    }
+
+    /// The character.
+    pub fn character(&self) -> char
+        ensures { result ≡ self.now.character_and_class.character }
+    {
+        self.character_and_class.character
+    }
+}
