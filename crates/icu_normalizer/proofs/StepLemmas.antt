@@ -1,5 +1,5 @@
 -- The steps of an iterator of decomposed text.
-use Rattle.std.proofs.Common.{◌≡◌, ℕ, ◌<◌, true, false, List, [], ◌∷◌, ◌++◌, flat_map, Option, Some, None, refl, sym, ap, subst, ◌∙◌, arith}
+use Rattle.std.proofs.Common.{◌≡◌, ℕ, ◌<◌, true, false, List, [], ◌∷◌, ◌++◌, flat_map, Option, Some, None, refl, sym, ap, subst, ◌∙◌}
 use Rattle.icu_normalizer_core.specs.Canonical.{Canonical, marks_in_order, decomposed}
 use Rattle.icu_normalizer_core.proofs.DecomposedLemmas.{order_before}
 use Rattle.icu_normalizer.specs.declared.decomposing.Decomposition.{Decomposition}
