@@ -3,9 +3,9 @@ use Rattle.std.proofs.Common.{◌≡◌, ℕ, List, [], ◌∷◌, ◌++◌, Opt
 use Rattle.icu_normalizer_core.specs.Canonical.{Canonical, recomposed, decomposed, composed}
 use Rattle.icu_normalizer.specs.declared.composing.Composition.{Composition}
 use Rattle.icu_normalizer.specs.Composer.{data_of, coming, IsIdle, KeepsComposed}
-use Rattle.icu_normalizer.specs.Compositions.{ComposesTo, KeepsRecomposed}
+use Rattle.icu_normalizer.specs.Compositions.{ComposesTo}
 use Rattle.icu_normalizer.specs.Decompositions.{DecomposesTo}
-use Rattle.icu_normalizer.specs.Iter.{IsFirstOf}
+use Rattle.icu_normalizer.specs.Iter.{IsFirstOf, KeepsLeft}
 use Rattle.icu_normalizer.proofs.ComposerLemmas.{coming_idle}
 use Rattle.icu_normalizer.proofs.ComposingLemmas.{recomposed_nothing}
 
@@ -22,7 +22,7 @@ module _ {I : Type 0} (steps : I → Option ℕ → I → Type 0) where
   composes_stop s idle h = subst (ComposesTo steps s) (recomposed_nothing (data_of s.composer)) (composes_idle s [] idle h)
 
   -- only the composer changed
-  pub keeps_popped : (old new : Composition I) (written : List ℕ) → new.chars ≡ old.chars → KeepsComposed old.composer [] written new.composer → KeepsRecomposed steps old written new
+  pub keeps_popped : (old new : Composition I) (written : List ℕ) → new.chars ≡ old.chars → KeepsComposed old.composer [] written new.composer → KeepsLeft (ComposesTo steps) old written new
   keeps_popped old new written chars h =
       record {
         at = λ cs left. (
@@ -32,7 +32,7 @@ module _ {I : Type 0} (steps : I → Option ℕ → I → Type 0) where
         );
       }
 
-  pub keeps_pushed : (old new : Composition I) (x : ℕ) (written : List ℕ) → ((ds : List ℕ) → DecomposesTo steps old.chars ds → IsFirstOf (DecomposesTo steps) ds new.chars x) → KeepsComposed old.composer (x ∷ []) written new.composer → KeepsRecomposed steps old written new
+  pub keeps_pushed : (old new : Composition I) (x : ℕ) (written : List ℕ) → ((ds : List ℕ) → DecomposesTo steps old.chars ds → IsFirstOf (DecomposesTo steps) ds new.chars x) → KeepsComposed old.composer (x ∷ []) written new.composer → KeepsLeft (ComposesTo steps) old written new
   keeps_pushed old new x written step h =
       record {
         at = λ cs left.
@@ -47,7 +47,3 @@ module _ {I : Type 0} (steps : I → Option ℕ → I → Type 0) where
   finished old new written step h cs left =
       let end = step left.unread left.source in
       (left.text ∙ ap (coming old.composer) end.0 ∙ h, record { unread = []; source = end.1; text = refl })
-
-  pub keeps_then : (a b c : Composition I) (written : List ℕ) → KeepsRecomposed steps a [] b → KeepsRecomposed steps b written c → KeepsRecomposed steps a written c
-  keeps_then a b c written first second =
-      record { at = λ cs left. let middle = first.at cs left in let last = second.at middle.0 middle.2 in (last.0, middle.1 ∙ last.1, last.2) }

@@ -1,5 +1,5 @@
 -- Each normal form of a normal form is that of the text, by canonical and by compatibility data.
-use Rattle.std.proofs.Common.{◌≡◌, ℕ, ◌<◌, ◌≤◌, ◌⊎◌, inl, inr, ⊎_elim, true, ltb, ◌&&◌, List, [], ◌∷◌, ◌++◌, flat_map, chars, encode_utf8_all, IsUtf8, Some, refl, sym, ap, ap₂, subst, ◌∙◌, arith, append_assoc, append-nil}
+use Rattle.std.proofs.Common.{◌≡◌, ℕ, ◌<◌, ⊎_elim, true, ltb, ◌&&◌, List, [], ◌∷◌, ◌++◌, flat_map, chars, encode_utf8_all, IsUtf8, Some, refl, sym, ap, ap₂, subst, ◌∙◌, arith, append_assoc, append-nil}
 use Rattle.std.proofs.lemmas.Bool.{cases_lt, cond_both, ltb-true, and_parts}
 use Rattle.std.proofs.lemmas.Grind.{flat_map-append}
 use Rattle.std.proofs.lemmas.Str.{encodes-chars}

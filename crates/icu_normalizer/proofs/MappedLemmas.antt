@@ -2,33 +2,30 @@
 use Rattle.std.proofs.Common.{◌≡◌, ℕ, true, false, List, [], ◌∷◌, ◌++◌, Option, Some, None, option_to_list, refl, sym, ap, subst, ◌∙◌}
 use Rattle.std.specs.Iterator.{Count}
 use Rattle.icu_normalizer.specs.declared.uts46.characters.MappedChars.{MappedChars}
-use Rattle.icu_normalizer.specs.Iter.{Spells, SourceSpells}
+use Rattle.icu_normalizer.specs.Iter.{Spells, KeepsLeft}
 use Rattle.icu_normalizer.specs.Uts46.{becomes, mapper_of}
-use Rattle.icu_normalizer.specs.Uts46Iter.{mapped_by, MapsTo, KeepsMapped, MappingSteps}
-use Rattle.icu_normalizer.proofs.IterLemmas.{Spells-next, Spells-end}
+use Rattle.icu_normalizer.specs.Uts46Iter.{mapped_by, MapsTo, MappingSteps}
+use Rattle.icu_normalizer.proofs.IterLemmas.{spells_source, source_done, source_stopped, source_end, source_next, source_same}
 
 module _ {I : Type 0} (steps : I → Option ℕ → I → Type 0) where
-  running : (s : MappedChars I) (cs : List ℕ) → s.done ≡ false → SourceSpells steps s.done s.chars cs → Spells steps s.chars cs
-  running s cs e h = subst (λ b. SourceSpells steps b s.chars cs) e h
-
   pub maps_start : (s : MappedChars I) (cs : List ℕ) → s.done ≡ false → s.list ≡ [] → Spells steps s.chars cs → MapsTo steps s (mapped_by s cs)
   maps_start s cs e empty h =
       record {
         unread = cs;
-        source = subst (λ b. SourceSpells steps b s.chars cs) (sym e) h;
+        source = spells_source steps s.done s.chars cs e h;
         text = ap (λ (l : List ℕ). l ++ mapped_by s cs) (sym empty);
       }
 
-  pub mapped_ended : (old new : MappedChars I) (u : I) → old.done ≡ false → steps old.chars None u → new.done ≡ true → new.list ≡ old.list → KeepsMapped steps old [] new
+  pub mapped_ended : (old new : MappedChars I) (u : I) → old.done ≡ false → steps old.chars None u → new.done ≡ true → new.list ≡ old.list → KeepsLeft (MapsTo steps) old [] new
   mapped_ended old new u before step after list =
       record {
         at = λ cs left.
-            let none = Spells-end steps old.chars u left.unread step (running old left.unread before left.source) in (
+            let none = source_end steps old.done old.chars u left.unread before step left.source in (
               cs,
               refl,
               record {
                 unread = [];
-                source = subst (λ b. SourceSpells steps b new.chars []) (sym after) refl;
+                source = source_stopped steps new.done new.chars after;
                 text = left.text ∙ ap (λ l. old.list ++ mapped_by old l) none ∙ ap (λ (l : List ℕ). l ++ []) (sym list);
               },
             );
@@ -36,16 +33,16 @@ module _ {I : Type 0} (steps : I → Option ℕ → I → Type 0) where
 
   pub mapped_read : (old new : MappedChars I) (x : ℕ) → old.done ≡ false → old.list ≡ [] → steps old.chars (Some x) new.chars → new.done ≡ false
       → new.list ≡ becomes (option_to_list old.ignored) x (mapper_of old.table.now x) → ((text : List ℕ) → mapped_by new text ≡ mapped_by old text)
-      → KeepsMapped steps old [] new
+      → KeepsLeft (MapsTo steps) old [] new
   mapped_read old new x before empty step after list same =
       record {
         at = λ cs left.
-            let next = Spells-next steps old.chars new.chars x left.unread step (running old left.unread before left.source) in (
+            let next = source_next steps old.done new.done old.chars new.chars x left.unread before step after left.source in (
               cs,
               refl,
               record {
                 unread = next.0;
-                source = subst (λ b. SourceSpells steps b new.chars next.0) (sym after) next.2;
+                source = next.2;
                 text =
                     left.text ∙ ap (λ (l : List ℕ). l ++ mapped_by old left.unread) empty ∙ ap (λ (l : List ℕ). mapped_by old l) next.1
                     ∙ ap (λ (l : List ℕ). l ++ mapped_by old next.0) (sym list) ∙ ap (λ (l : List ℕ). new.list ++ l) (sym (same next.0));
@@ -55,37 +52,30 @@ module _ {I : Type 0} (steps : I → Option ℕ → I → Type 0) where
 
   -- only the list changed
   module _ (old new : MappedChars I) (done : new.done ≡ old.done) (chars : new.chars ≡ old.chars) (same : (text : List ℕ) → mapped_by new text ≡ mapped_by old text) where
-    still : (cs : List ℕ) → SourceSpells steps old.done old.chars cs → SourceSpells steps new.done new.chars cs
-    still cs h = subst (λ (it : I). SourceSpells steps new.done it cs) (sym chars) (subst (λ b. SourceSpells steps b old.chars cs) (sym done) h)
-
-    pub mapped_popped : (x : ℕ) → old.list ≡ x ∷ new.list → KeepsMapped steps old (x ∷ []) new
+    pub mapped_popped : (x : ℕ) → old.list ≡ x ∷ new.list → KeepsLeft (MapsTo steps) old (x ∷ []) new
     mapped_popped x h =
         record {
           at = λ cs left. (
             new.list ++ mapped_by new left.unread,
             left.text ∙ ap (λ (l : List ℕ). l ++ mapped_by old left.unread) h ∙ ap (λ (l : List ℕ). x ∷ (new.list ++ l)) (sym (same left.unread)),
-            record { unread = left.unread; source = still left.unread left.source; text = refl },
+            record { unread = left.unread; source = source_same steps old.done new.done old.chars new.chars left.unread done chars left.source; text = refl },
           );
         }
 
-    pub mapped_kept : old.list ≡ new.list → KeepsMapped steps old [] new
+    pub mapped_kept : old.list ≡ new.list → KeepsLeft (MapsTo steps) old [] new
     mapped_kept h =
         record {
           at = λ cs left. (
             new.list ++ mapped_by new left.unread,
             left.text ∙ ap (λ (l : List ℕ). l ++ mapped_by old left.unread) h ∙ ap (λ (l : List ℕ). new.list ++ l) (sym (same left.unread)),
-            record { unread = left.unread; source = still left.unread left.source; text = refl },
+            record { unread = left.unread; source = source_same steps old.done new.done old.chars new.chars left.unread done chars left.source; text = refl },
           );
         }
 
   pub mapped_done : (s : MappedChars I) (cs : List ℕ) → s.done ≡ true → s.list ≡ [] → MapsTo steps s cs → cs ≡ []
   mapped_done s cs e empty h =
-      let none : h.unread ≡ [] = subst (λ b. SourceSpells steps b s.chars h.unread) e h.source in
+      let none = source_done steps s.done s.chars h.unread e h.source in
       h.text ∙ ap (λ l. s.list ++ mapped_by s l) none ∙ ap (λ (l : List ℕ). l ++ []) empty
-
-  pub mapped_then : (a b c : MappedChars I) (written : List ℕ) → KeepsMapped steps a [] b → KeepsMapped steps b written c → KeepsMapped steps a written c
-  mapped_then a b c written first second =
-      record { at = λ cs left. let middle = first.at cs left in let last = second.at middle.0 middle.2 in (last.0, middle.1 ∙ last.1, last.2) }
 
   -- what is still to come is what it gives
   pub maps_spells : (can : I → Type 0) (left : I → Count) (s : MappedChars I) (out : List ℕ) → MapsTo steps s out → Spells (MappingSteps can steps left) s out

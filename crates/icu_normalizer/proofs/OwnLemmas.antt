@@ -1,5 +1,5 @@
 -- The characters of decomposed lists.
-use Rattle.std.proofs.Common.{◌≡◌, ℕ, ltb, ◌&&◌, List, [], ◌∷◌, ◌++◌, flat_map}
+use Rattle.std.proofs.Common.{◌≡◌, ℕ, ltb, ◌&&◌, List, [], ◌∷◌, flat_map}
 use Rattle.std.proofs.lemmas.Bool.{cond_both}
 use Rattle.std.proofs.lemmas.List.Elements.{recursion_from_All, All-weaker, All-contains_itself}
 use Rattle.std.specs.Prelude.{Contains}

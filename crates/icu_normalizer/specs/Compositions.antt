@@ -1,5 +1,5 @@
 -- What is left of an iterator of composed text.
-use Rattle.std.specs.Prelude.{◌≡◌, ℕ, ◌+◌, ◌≤◌, List, ◌++◌, Option, Result}
+use Rattle.std.specs.Prelude.{◌≡◌, ℕ, ◌+◌, ◌≤◌, List, Option, Result}
 use Rattle.std.specs.Iterator.{Count}
 use Rattle.icu_normalizer.specs.declared.composing.Composition.{Composition}
 use Rattle.icu_normalizer.specs.Composer.{coming, waiting}
@@ -19,10 +19,6 @@ CanCompose can left s = CanDecompose can left s.chars
 -- how many characters may still come
 abbrev pub composition_size : {I : Type 0} → (I → Count) → Composition I → ℕ
 composition_size left s = waiting s.composer + decomposition_size left s.chars
-
--- `written` came out
-pub record KeepsRecomposed {I : Type 0} (steps : I → Option ℕ → I → Type 0) (old : Composition I) (written : List ℕ) (new : Composition I) : Type 0 where
-  pub at : (cs : List ℕ) → ComposesTo steps old cs → (rest : List ℕ) × (cs ≡ written ++ rest) × ComposesTo steps new rest
 
 -- a call gave the first character that was left, `None` if none was, and leaves an iterator that may be called again
 pub record CompositionSteps {I E : Type 0} (can : I → Type 0) (steps : I → Option ℕ → I → Type 0) (left : I → Count) (s : Composition I) (r : Option (Result ℕ E)) (t : Composition I) : Type 0 where

@@ -1,9 +1,9 @@
 -- What is left of an iterator of decomposed text.
-use Rattle.std.specs.Prelude.{◌≡◌, ℕ, ◌+◌, ◌*◌, ◌≤◌, List, ◌++◌, flat_map, Option, Result, if◌then◌else◌}
+use Rattle.std.specs.Prelude.{◌≡◌, ℕ, ◌+◌, ◌*◌, ◌≤◌, List, flat_map, Option, Result}
 use Rattle.std.specs.Iterator.{Count}
 use Rattle.icu_normalizer_core.specs.Canonical.{Canonical}
 use Rattle.icu_normalizer.specs.declared.decomposing.Decomposition.{Decomposition}
-use Rattle.icu_normalizer.specs.Iter.{SourceSpells, SourceIsReady, source_size, YieldsFirstOk}
+use Rattle.icu_normalizer.specs.Iter.{SourceSpells, SourceIsReady, source_size, source_calls, YieldsFirstOk}
 use Rattle.icu_normalizer.specs.Run.{reordered, held, data_of}
 
 -- what the data of an iterator say of characters
@@ -26,11 +26,7 @@ decomposition_size left s = held s.run + 8 * source_size left s.done s.chars
 
 -- how often the source may still be called
 abbrev pub pulls_left : {I : Type 0} → (I → Count) → Decomposition I → ℕ
-pulls_left left s = source_size left s.done s.chars + (if s.done then 0 else 1)
-
--- `written` came out
-pub record KeepsDecomposed {I : Type 0} (steps : I → Option ℕ → I → Type 0) (old : Decomposition I) (written : List ℕ) (new : Decomposition I) : Type 0 where
-  pub at : (cs : List ℕ) → DecomposesTo steps old cs → (rest : List ℕ) × (cs ≡ written ++ rest) × DecomposesTo steps new rest
+pulls_left left s = source_calls left s.done s.chars
 
 -- a call gave the first character that was left, `None` if none was, and leaves an iterator that may be called again
 pub record DecompositionSteps {I E : Type 0} (can : I → Type 0) (steps : I → Option ℕ → I → Type 0) (left : I → Count) (s : Decomposition I) (r : Option (Result ℕ E)) (t : Decomposition I) : Type 0 where

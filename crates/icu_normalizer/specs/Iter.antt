@@ -1,5 +1,5 @@
 -- Words for iterators of characters whose source is another iterator.
-use Rattle.std.specs.Prelude.{◌≡◌, ℕ, Bool, true, false, List, [], ◌∷◌, Option, Result, MatchBool, MatchOption, MatchResult, ⊤}
+use Rattle.std.specs.Prelude.{◌≡◌, ℕ, ◌+◌, Bool, true, false, List, [], ◌∷◌, ◌++◌, Option, Result, MatchBool, MatchOption, MatchResult, if◌then◌else◌, ⊤}
 use Rattle.std.specs.Iterator.{Count, IsFinite, size, AlwaysYields}
 
 -- each run of the iterator gives these characters
@@ -16,6 +16,14 @@ SourceIsReady can left done it = MatchBool done ⊤ (can it × IsFinite (left it
 -- how many characters may still come from a source
 abbrev pub source_size : {I : Type 0} → (I → Count) → Bool → I → ℕ
 source_size left done it = elim done [ true ↦ 0 | false ↦ size (left it) ]
+
+-- how often a source may still be called
+abbrev pub source_calls : {I : Type 0} → (I → Count) → Bool → I → ℕ
+source_calls left done it = source_size left done it + (if done then 0 else 1)
+
+-- `written` came out
+pub record KeepsLeft {S : Type 0} (HasLeft : S → List ℕ → Type 0) (old : S) (written : List ℕ) (new : S) : Type 0 where
+  pub at : (cs : List ℕ) → HasLeft old cs → (rest : List ℕ) × (cs ≡ written ++ rest) × HasLeft new rest
 
 -- the first of cs came, and the others are left
 abbrev pub IsFirstOf : {S : Type 0} → (S → List ℕ → Type 0) → List ℕ → S → ℕ → Type 0

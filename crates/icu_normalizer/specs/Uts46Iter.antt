@@ -1,8 +1,8 @@
 -- What is left of the mapped characters of a domain name.
-use Rattle.std.specs.Prelude.{◌≡◌, ℕ, ◌+◌, ◌*◌, ◌≤◌, List, [], ◌++◌, length, option_to_list, Option, MatchOption, if◌then◌else◌}
+use Rattle.std.specs.Prelude.{◌≡◌, ℕ, ◌+◌, ◌*◌, ◌≤◌, List, [], ◌++◌, length, option_to_list, Option, MatchOption}
 use Rattle.std.specs.Iterator.{Count}
 use Rattle.icu_normalizer.specs.declared.uts46.characters.MappedChars.{MappedChars}
-use Rattle.icu_normalizer.specs.Iter.{SourceSpells, SourceIsReady, source_size, IsFirstOf}
+use Rattle.icu_normalizer.specs.Iter.{SourceSpells, SourceIsReady, source_size, source_calls, IsFirstOf}
 use Rattle.icu_normalizer.specs.Uts46.{mapper_of, mapped_with}
 
 -- what characters of the source become
@@ -25,11 +25,7 @@ mapped_size left s = length s.list + 31 * source_size left s.done s.chars
 
 -- how often the source may still be called
 abbrev pub pulls_left : {I : Type 0} → (I → Count) → MappedChars I → ℕ
-pulls_left left s = source_size left s.done s.chars + (if s.done then 0 else 1)
-
--- `written` came out
-pub record KeepsMapped {I : Type 0} (steps : I → Option ℕ → I → Type 0) (old : MappedChars I) (written : List ℕ) (new : MappedChars I) : Type 0 where
-  pub at : (cs : List ℕ) → MapsTo steps old cs → (rest : List ℕ) × (cs ≡ written ++ rest) × MapsTo steps new rest
+pulls_left left s = source_calls left s.done s.chars
 
 -- a call gave the first character that was left, `None` if none was, and leaves an iterator that may be called again
 pub record MappingSteps {I : Type 0} (can : I → Type 0) (steps : I → Option ℕ → I → Type 0) (left : I → Count) (s : MappedChars I) (r : Option ℕ) (t : MappedChars I) : Type 0 where

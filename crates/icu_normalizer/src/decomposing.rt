@@ -5,7 +5,7 @@ ghost use Rattle.std.specs.Iterator.{at_most, IsFinite, size};
 ghost use Rattle.icu_normalizer_core.specs.BorrowedMeaning.{borrowed_meaning};
 ghost use Rattle.icu_normalizer_core.specs.Canonical.{decomposed};
 ghost use Rattle.icu_normalizer.specs.FormData.{form_meaning};
-ghost use Rattle.icu_normalizer.specs.Iter.{Spells};
+ghost use Rattle.icu_normalizer.specs.Iter.{Spells, KeepsLeft};
 ghost use Rattle.icu_normalizer.specs.Readable.{IsReadable};
 ghost use Rattle.icu_normalizer.specs.Run.{pending};
 
@@ -34,7 +34,7 @@ pub struct Decomposition<'d, I> {
 }
 
 impl<'d, I: Iterator<Item = char> + Drop> Decomposition<'d, I> {
-    ghost use Rattle.icu_normalizer.specs.Decompositions.{DecomposesTo, CanDecompose, KeepsDecomposed, canonical_of, decomposition_size, pulls_left};
+    ghost use Rattle.icu_normalizer.specs.Decompositions.{DecomposesTo, CanDecompose, canonical_of, decomposition_size, pulls_left};
 
     /// The decomposed list of the characters that `chars` gives, by canonical data.
     #[inline]
@@ -68,7 +68,7 @@ impl<'d, I: Iterator<Item = char> + Drop> Decomposition<'d, I> {
     fn pull(&mut self) -> Result<Option<char>, AllocError>
         requires running { self.old.done ≡ false }
         requires ready { CanDecompose I.can_next I.remaining self.old }
-        ensures text { IfOk result (λ out. KeepsDecomposed I.next_gives self.old (option_to_list out) self.new) }
+        ensures text { IfOk result (λ out. KeepsLeft (DecomposesTo I.next_gives) self.old (option_to_list out) self.new) }
         ensures ready { OnOk result (CanDecompose I.can_next I.remaining self.new) }
         ensures size { IfOk result (λ out. decomposition_size I.remaining self.new + length (option_to_list out) ≤ decomposition_size I.remaining self.old) }
         ensures nearer { OnOk result (pulls_left I.remaining self.new < pulls_left I.remaining self.old) }

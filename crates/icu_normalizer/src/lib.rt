@@ -10,3 +10,4 @@ mod run;
 pub mod sinks;
 mod texts;
 pub mod uts46;
+mod written;

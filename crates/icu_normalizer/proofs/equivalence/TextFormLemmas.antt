@@ -33,15 +33,19 @@ text_scalars text u = All-from_recursion IsScalar (chars text) (are_scalars (cha
 pub written_chars : (cs : List ℕ) → All IsScalar cs → chars (encode_utf8_all cs) ≡ cs
 written_chars cs s = chars-encodes cs (scalars_are cs (recursion_from_All IsScalar cs s))
 
--- lists of scalar values are the same where their texts are
-same_written : (cs ds : List ℕ) → All IsScalar cs → All IsScalar ds → (cs ≡ ds) ↔ (encode_utf8_all cs ≡ encode_utf8_all ds)
-same_written cs ds s t = (ap encode_utf8_all, λ e. sym (written_chars cs s) ∙ ap chars e ∙ written_chars ds t)
+-- what holds where lists of scalar values are the same holds where their texts are
+where_written : {A : Type 0} (cs ds : List ℕ) → All IsScalar cs → All IsScalar ds → A ↔ (cs ≡ ds) → A ↔ (encode_utf8_all cs ≡ encode_utf8_all ds)
+where_written cs ds s t lists = (λ h. ap encode_utf8_all (lists.0 h), λ e. lists.1 (sym (written_chars cs s) ∙ ap chars e ∙ written_chars ds t))
 
 -- ---- forms of texts
 
 -- a form of a text that was written goes by the list
 pub form_written : (form : List ℕ → List ℕ) (cs ds : List ℕ) → All IsScalar cs → form cs ≡ ds → form (chars (encode_utf8_all cs)) ≡ ds
 form_written form cs ds s e = ap form (written_chars cs s) ∙ e
+
+-- a list that is its own form stays so where it is written and read
+own_written : (form : List ℕ → List ℕ) (cs : List ℕ) → All IsScalar cs → form cs ≡ cs → form (chars (encode_utf8_all cs)) ≡ chars (encode_utf8_all cs)
+own_written form cs s e = form_written form cs cs s e ∙ sym (written_chars cs s)
 
 module _ (canonical : Canonical) (text : List ℕ) (u : IsUtf8 text) where
   read : All IsScalar (chars text)
@@ -58,9 +62,7 @@ module _ (canonical : Canonical) (text : List ℕ) (u : IsUtf8 text) where
     text_decomposed_composed = ap encode_utf8_all (form_written (composed canonical) _ _ decomposed_text_scalars (decomposed_composed canonical (chars text) d read))
 
     pub text_is_decomposed : IsDecomposed canonical (chars (decomposed_text canonical text))
-    text_is_decomposed =
-        form_written (decomposed canonical) _ _ decomposed_text_scalars (decomposed_twice canonical (chars text) d read)
-        ∙ sym (written_chars _ decomposed_text_scalars)
+    text_is_decomposed = own_written (decomposed canonical) _ decomposed_text_scalars (decomposed_twice canonical (chars text) d read)
 
   module _ (d : IsCanonical canonical) where
     pub composed_text_scalars : All IsScalar (composed canonical (chars text))
@@ -73,21 +75,17 @@ module _ (canonical : Canonical) (text : List ℕ) (u : IsUtf8 text) where
     text_composed_decomposed = ap encode_utf8_all (form_written (decomposed canonical) _ _ composed_text_scalars (composed_decomposed canonical (chars text) d read))
 
     pub text_is_composed : IsComposed canonical (chars (composed_text canonical text))
-    text_is_composed =
-        form_written (composed canonical) _ _ composed_text_scalars (composed_twice canonical (chars text) d read)
-        ∙ sym (written_chars _ composed_text_scalars)
+    text_is_composed = own_written (composed canonical) _ composed_text_scalars (composed_twice canonical (chars text) d read)
 
 module _ (canonical : Canonical) (a b : List ℕ) (u : IsUtf8 a) (v : IsUtf8 b) where
   -- equivalent texts are those with one NFD
   pub texts_decomposed_one : IsDecomposing canonical → IsEquivalent canonical (chars a) (chars b) ↔ (decomposed_text canonical a ≡ decomposed_text canonical b)
   texts_decomposed_one d =
-      let lists = one_decomposed canonical (chars a) (chars b) d (text_scalars a u) (text_scalars b v)
-      in let bytes = same_written _ _ (decomposed_text_scalars canonical a u d) (decomposed_text_scalars canonical b v d)
-      in (λ h. bytes.0 (lists.0 h), λ e. lists.1 (bytes.1 e))
+      where_written _ _ (decomposed_text_scalars canonical a u d) (decomposed_text_scalars canonical b v d)
+      (one_decomposed canonical (chars a) (chars b) d (text_scalars a u) (text_scalars b v))
 
   -- equivalent texts are those with one NFC
   pub texts_composed_one : IsCanonical canonical → IsEquivalent canonical (chars a) (chars b) ↔ (composed_text canonical a ≡ composed_text canonical b)
   texts_composed_one d =
-      let lists = composed_one canonical (chars a) (chars b) d (text_scalars a u) (text_scalars b v)
-      in let bytes = same_written _ _ (composed_text_scalars canonical a u d) (composed_text_scalars canonical b v d)
-      in (λ h. bytes.0 (lists.0 h), λ e. lists.1 (bytes.1 e))
+      where_written _ _ (composed_text_scalars canonical a u d) (composed_text_scalars canonical b v d)
+      (composed_one canonical (chars a) (chars b) d (text_scalars a u) (text_scalars b v))

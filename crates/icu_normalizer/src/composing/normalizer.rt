@@ -22,7 +22,8 @@ use super::cuts::{split, split_low};
 use crate::form_data::FormData;
 use crate::sinks::{NormError, TextSink};
 use crate::texts::{Text, WriteTo};
-use std::alloc::{AllocError, Global};
+use crate::written::{WriteForm, write_parts};
+use std::alloc::Global;
 
 /// A normaliser to NFC or NFKC (UAX 15), borrowed. What its calls say of NFC is said of NFKC where it is one to NFKC.
 #[derive(Clone, Copy, Debug)]
@@ -97,71 +98,7 @@ impl<'d> ComposingNormalizerBorrowed<'d> {
         let Ok(parts) = split(alloc, self.basis, text) else {
             return Err(NormError::Memory);
         };
-        self.write_parts::<T, S>(alloc, parts, sink)
-    }
-
-    /// Writes the first of two texts as it stands, which is undamaged, and then the second in NFC.
-    fn write_parts<T: WriteTo<S>, S>(
-        &self,
-        alloc: Global,
-        parts: (T, T),
-        sink: &mut S,
-    ) -> Result<(), NormError<T::Error>>
-        requires { IsUndamaged T.encode (T.spelled parts.0) }
-        ensures ok { OnOk result (T.contents sink.new ≡ T.contents sink.old ++ ((T.spelled parts.0).units ++ T.encode (composed (composing_data self.now) (T.spelled parts.1).characters))) }
-        ensures err { OnErr result (AddsPrefix (T.contents sink.old) ((T.spelled parts.0).units ++ T.encode (composed (composing_data self.now) (T.spelled parts.1).characters)) (T.contents sink.new)) }
-        ensures failure { EndsByFailure T.takes T.fails sink.old result sink.new }
-    {
-        let (prefix, rest) = parts;
-        if let Err(error) = prefix.write_whole(sink) {
-            return Err(NormError::Sink(error));
-        }
-        self.write_composed::<T, S>(alloc, rest, sink)
-    }
-
-    /// The same into a sink that is handed over.
-    fn filled<T: WriteTo<S>, S: Drop>(
-        &self,
-        alloc: Global,
-        parts: (T, T),
-        sink: S,
-    ) -> Result<S, AllocError>
-        requires { IsUndamaged T.encode (T.spelled parts.0) }
-        ensures { IfOk result (λ full. T.contents full ≡ T.contents sink ++ ((T.spelled parts.0).units ++ T.encode (composed (composing_data self.now) (T.spelled parts.1).characters))) }
-    {
-        let mut full = sink;
-        match self.write_parts::<T, S>(alloc, parts, &mut full) {
-            Ok(()) => Ok(full),
-            Err(_) => Err(AllocError),
-        }
-    }
-
-    /// Writes a text in NFC, part by part: what stays as it stands is written as it stands. What is damaged is written as
-    /// U+FFFD.
-    fn write_composed<T: WriteTo<S>, S>(
-        &self,
-        alloc: Global,
-        text: T,
-        sink: &mut S,
-    ) -> Result<(), NormError<T::Error>>
-        ensures ok { OnOk result (T.contents sink.new ≡ T.contents sink.old ++ T.encode (composed (composing_data self.now) (T.spelled text).characters)) }
-        ensures err { OnErr result (AddsPrefix (T.contents sink.old) (T.encode (composed (composing_data self.now) (T.spelled text).characters)) (T.contents sink.new)) }
-        ensures failure { EndsByFailure T.takes T.fails sink.old result sink.new }
-    {
-        let mut form = ClusterForm::new(alloc, self.basis);
-        let mut left = text;
-        while !left.is_at_end() {
-            let rest = match self.write_cluster::<T, S>(&mut form, left, sink) {
-                Ok(rest) => rest,
-                Err(error) => return Err(error),
-            };
-            let (plain, behind) = split_low(self.basis, rest);
-            if let Err(error) = plain.write_whole(sink) {
-                return Err(NormError::Sink(error));
-            }
-            left = behind;
-        }
-        Ok(())
+        write_parts::<Self, T, S>(self, alloc, parts, sink)
     }
 
     /// Writes the NFC of the first cluster of a text, character by character, and gives what stands behind it.
@@ -193,5 +130,35 @@ impl<'d> ComposingNormalizerBorrowed<'d> {
                 return Err(NormError::Sink(error));
             }
         }
+    }
+}
+
+impl<'d> WriteForm for ComposingNormalizerBorrowed<'d> {
+    ghost use Rattle.icu_normalizer.specs.Normalizers.{composing_data};
+
+    ghost form = { λ normalizer. composed (composing_data normalizer) };
+
+    /// Writes a text in NFC, part by part: what stays as it stands is written as it stands. What is damaged is written as
+    /// U+FFFD.
+    fn write_rest<T: WriteTo<S>, S>(
+        &self,
+        alloc: Global,
+        text: T,
+        sink: &mut S,
+    ) -> Result<(), NormError<T::Error>> {
+        let mut form = ClusterForm::new(alloc, self.basis);
+        let mut left = text;
+        while !left.is_at_end() {
+            let rest = match self.write_cluster::<T, S>(&mut form, left, sink) {
+                Ok(rest) => rest,
+                Err(error) => return Err(error),
+            };
+            let (plain, behind) = split_low(self.basis, rest);
+            if let Err(error) = plain.write_whole(sink) {
+                return Err(NormError::Sink(error));
+            }
+            left = behind;
+        }
+        Ok(())
     }
 }

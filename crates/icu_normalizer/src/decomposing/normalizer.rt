@@ -21,8 +21,9 @@ use super::writer::Writer;
 use crate::form_data::FormData;
 use crate::sinks::{NormError, TextSink};
 use crate::texts::WriteTo;
+use crate::written::{WriteForm, write_parts};
 use icu_normalizer_core::canonical::CanonicalBorrowed;
-use std::alloc::{AllocError, Global};
+use std::alloc::Global;
 
 /// A normaliser to NFD or NFKD (UAX 15), borrowed. What its calls say of NFD is said of NFKD where it is one to NFKD.
 #[derive(Clone, Copy, Debug)]
@@ -101,56 +102,22 @@ impl<'d> DecomposingNormalizerBorrowed<'d> {
         ensures err { OnErr result (AddsPrefix (T.contents sink.old) (T.encode (decomposed (normalizer_data self.now) (T.spelled text).characters)) (T.contents sink.new)) }
         ensures failure { EndsByFailure T.takes T.fails sink.old result sink.new }
     {
-        self.write_parts::<T, S>(alloc, split(self.basis, text), sink)
+        write_parts::<Self, T, S>(self, alloc, split(self.basis, text), sink)
     }
+}
 
-    /// Writes the first of two texts as it stands, which is undamaged, and then the second in NFD.
-    fn write_parts<T: WriteTo<S>, S>(
-        &self,
-        alloc: Global,
-        parts: (T, T),
-        sink: &mut S,
-    ) -> Result<(), NormError<T::Error>>
-        requires { IsUndamaged T.encode (T.spelled parts.0) }
-        ensures ok { OnOk result (T.contents sink.new ≡ T.contents sink.old ++ ((T.spelled parts.0).units ++ T.encode (decomposed (normalizer_data self.now) (T.spelled parts.1).characters))) }
-        ensures err { OnErr result (AddsPrefix (T.contents sink.old) ((T.spelled parts.0).units ++ T.encode (decomposed (normalizer_data self.now) (T.spelled parts.1).characters)) (T.contents sink.new)) }
-        ensures failure { EndsByFailure T.takes T.fails sink.old result sink.new }
-    {
-        let (prefix, rest) = parts;
-        if let Err(error) = prefix.write_whole(sink) {
-            return Err(NormError::Sink(error));
-        }
-        self.write_decomposed::<T, S>(alloc, rest, sink)
-    }
+impl<'d> WriteForm for DecomposingNormalizerBorrowed<'d> {
+    ghost use Rattle.icu_normalizer.specs.Normalizers.{normalizer_data};
 
-    /// The same into a sink that is handed over.
-    fn filled<T: WriteTo<S>, S: Drop>(
-        &self,
-        alloc: Global,
-        parts: (T, T),
-        sink: S,
-    ) -> Result<S, AllocError>
-        requires { IsUndamaged T.encode (T.spelled parts.0) }
-        ensures { IfOk result (λ full. T.contents full ≡ T.contents sink ++ ((T.spelled parts.0).units ++ T.encode (decomposed (normalizer_data self.now) (T.spelled parts.1).characters))) }
-    {
-        let mut full = sink;
-        match self.write_parts::<T, S>(alloc, parts, &mut full) {
-            Ok(()) => Ok(full),
-            Err(_) => Err(AllocError),
-        }
-    }
+    ghost form = { λ normalizer. decomposed (normalizer_data normalizer) };
 
     /// Writes a text in NFD, character by character. What is damaged is written as U+FFFD.
-    fn write_decomposed<T: WriteTo<S>, S>(
+    fn write_rest<T: WriteTo<S>, S>(
         &self,
         alloc: Global,
         text: T,
         sink: &mut S,
-    ) -> Result<(), NormError<T::Error>>
-        ensures ok { OnOk result (T.contents sink.new ≡ T.contents sink.old ++ T.encode (decomposed (normalizer_data self.now) (T.spelled text).characters)) }
-        ensures err { OnErr result (AddsPrefix (T.contents sink.old) (T.encode (decomposed (normalizer_data self.now) (T.spelled text).characters)) (T.contents sink.new)) }
-        ensures failure { EndsByFailure T.takes T.fails sink.old result sink.new }
-    {
+    ) -> Result<(), NormError<T::Error>> {
         let mut writer = Writer::new(alloc, self.basis);
         let mut ahead = text;
         'chars: while let Some(read) = ahead.split_char() {

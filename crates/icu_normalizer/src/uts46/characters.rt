@@ -2,7 +2,7 @@
 
 ghost use Rattle.std.specs.Prelude.{◌≡◌, ℕ, ◌*◌, ◌<◌, ◌≤◌, List, [], true, false, option_to_list};
 ghost use Rattle.std.specs.Iterator.{at_most, IsFinite, size};
-ghost use Rattle.icu_normalizer.specs.Iter.{Spells};
+ghost use Rattle.icu_normalizer.specs.Iter.{Spells, KeepsLeft};
 ghost use Rattle.icu_normalizer.specs.Uts46.{mapper_of, mapped_with};
 
 use super::list::MappedList;
@@ -20,7 +20,7 @@ pub(super) struct MappedChars<'d, I> {
 }
 
 impl<'d, I: Iterator<Item = char> + Drop> MappedChars<'d, I> {
-    ghost use Rattle.icu_normalizer.specs.Uts46Iter.{MapsTo, CanMap, KeepsMapped, mapped_size, pulls_left};
+    ghost use Rattle.icu_normalizer.specs.Uts46Iter.{MapsTo, CanMap, mapped_size, pulls_left};
 
     /// What the characters of `chars` become by a table, where an ignored one becomes `ignored`.
     pub(super) fn new(
@@ -46,7 +46,7 @@ impl<'d, I: Iterator<Item = char> + Drop> MappedChars<'d, I> {
         requires running { self.old.done ≡ false }
         requires empty { self.old.list ≡ [] }
         requires ready { CanMap I.can_next I.remaining self.old }
-        ensures text { KeepsMapped I.next_gives self.old [] self.new }
+        ensures text { KeepsLeft (MapsTo I.next_gives) self.old [] self.new }
         ensures ready { CanMap I.can_next I.remaining self.new }
         ensures size { mapped_size I.remaining self.new ≤ mapped_size I.remaining self.old }
         ensures nearer { pulls_left I.remaining self.new < pulls_left I.remaining self.old }

@@ -7,6 +7,7 @@ ghost use Rattle.icu_normalizer.specs.FormCuts.{IsComposed, ReachesBelow};
 
 use super::super::cuts::{rest_to_change, split};
 use super::ComposingNormalizerBorrowed;
+use crate::written::filled;
 use std::alloc::{AllocError, Global};
 use std::borrow::CowStr;
 
@@ -50,7 +51,7 @@ impl ComposingNormalizerBorrowed<'_> {
             return Ok(CowStr::Borrowed(text));
         }
         let empty = String::with_capacity(alloc, text.len())?;
-        let form = self.filled::<&str, String>(alloc, (prefix, rest), empty)?;
+        let form = filled::<Self, &str, String>(self, alloc, (prefix, rest), empty)?;
         Ok(CowStr::Owned(form))
     }
 }

@@ -8,6 +8,7 @@ ghost use Rattle.icu_normalizer.specs.Splits.{IsDecomposed};
 
 use super::super::cuts::{rest_to_change, split};
 use super::DecomposingNormalizerBorrowed;
+use crate::written::filled;
 use std::alloc::{AllocError, Global};
 use std::borrow::CowStr;
 
@@ -44,7 +45,7 @@ impl DecomposingNormalizerBorrowed<'_> {
             return Ok(CowStr::Borrowed(text));
         }
         let empty = String::with_capacity(alloc, text.len().saturating_mul(2))?;
-        let form = self.filled::<&str, String>(alloc, (prefix, rest), empty)?;
+        let form = filled::<Self, &str, String>(self, alloc, (prefix, rest), empty)?;
         Ok(CowStr::Owned(form))
     }
 }

@@ -10,6 +10,7 @@ ghost use Rattle.icu_normalizer.specs.Texts.{utf8_text, utf16_text, encode_utf16
 
 use super::DecomposingNormalizerBorrowed;
 use crate::sinks::{NormError, TextSink, UnitSink};
+use crate::written::filled;
 use std::alloc::{AllocError, Global};
 use std::borrow::{CowSlice, CowStr};
 
@@ -30,7 +31,7 @@ impl DecomposingNormalizerBorrowed<'_> {
             return Ok(CowStr::Borrowed(prefix));
         }
         let empty = String::with_capacity(alloc, text.len().saturating_mul(2))?;
-        let form = self.filled::<&[u8], String>(alloc, (prefix.as_bytes(), rest), empty)?;
+        let form = filled::<Self, &[u8], String>(self, alloc, (prefix.as_bytes(), rest), empty)?;
         Ok(CowStr::Owned(form))
     }
 
@@ -48,7 +49,7 @@ impl DecomposingNormalizerBorrowed<'_> {
             return Ok(CowSlice::Borrowed(prefix));
         }
         let empty = Vec::with_capacity(alloc, text.len())?;
-        let form = self.filled::<&[u16], Vec<u16>>(alloc, (prefix, rest), empty)?;
+        let form = filled::<Self, &[u16], Vec<u16>>(self, alloc, (prefix, rest), empty)?;
         Ok(CowSlice::Owned(form))
     }
 

@@ -1,6 +1,7 @@
 use Rattle.std.proofs.Common.{[], ◌∷◌, subst, ◌∙◌, arith}
 use Rattle.icu_normalizer.specs.Compositions.{ComposesTo}
-use Rattle.icu_normalizer.proofs.CompositionLemmas.{composes_stop, keeps_pushed, finished, keeps_then}
+use Rattle.icu_normalizer.proofs.CompositionLemmas.{composes_stop, keeps_pushed, finished}
+use Rattle.icu_normalizer.proofs.IterLemmas.{keeps_then}
 use Rattle.icu_normalizer.proofs.composing.CompositionIterator.next.Goals as goal
 
 pub returns-in-Err-clause-steps : goal.returns-in-Err-clause-steps
@@ -19,7 +20,7 @@ loop-item-preserved g c =
     let step = rw c.in-Ok.is at c.in-Some-next.ensures.steps in
     let pushed = rw c.in-Ok-None.field-0-is at c.in-Ok-None.ensures in
     let nearer = (c.in-Some-next.ensures.goes.on tt).2 in (
-      keeps_then g.I.Iterator.next_gives _ _ _ _ c.loop-item.invariant.0 (keeps_pushed g.I.Iterator.next_gives _ _ c.in-Ok.c [] step.first.at pushed.output),
+      keeps_then (ComposesTo g.I.Iterator.next_gives) _ _ _ _ c.loop-item.invariant.0 (keeps_pushed g.I.Iterator.next_gives _ _ c.in-Ok.c [] step.first.at pushed.output),
       step.again,
       omega (arith, nearer, pushed.fewer, c.loop-item.invariant.2),
       pushed.composing,
@@ -31,7 +32,7 @@ returns-in-Ok-Some-clause-steps g c =
     let pushed = rw c.in-Ok-Some.field-0-is at c.in-Ok-Some.ensures.output in
     let fewer = rw c.in-Ok-Some.field-0-is at c.in-Ok-Some.ensures.fewer in
     let nearer = (c.in-Some-next.ensures.goes.on tt).2 in
-    let keeps = keeps_then g.I.Iterator.next_gives _ _ _ _ c.loop-item.invariant.0 (keeps_pushed g.I.Iterator.next_gives _ _ c.in-Ok.c _ step.first.at pushed) in
+    let keeps = keeps_then (ComposesTo g.I.Iterator.next_gives) _ _ _ _ c.loop-item.invariant.0 (keeps_pushed g.I.Iterator.next_gives _ _ c.in-Ok.c _ step.first.at pushed) in
     record {
       first = record { at = keeps.at };
       again = step.again;

@@ -1,11 +1,12 @@
 use Rattle.std.proofs.Common.{◌≡◌, ◌≤◌, [], false}
-use Rattle.icu_normalizer.specs.Compositions.{CanCompose, KeepsRecomposed, composition_size}
+use Rattle.icu_normalizer.specs.Compositions.{ComposesTo, CanCompose, composition_size}
 use Rattle.icu_normalizer.specs.Decompositions.{decomposition_size}
+use Rattle.icu_normalizer.specs.Iter.{KeepsLeft}
 use Rattle.icu_normalizer.proofs.composing.CompositionIterator.next.Given as goal
 
 abbrev pub invariant-loop-item : goal.invariant-loop-item
 invariant-loop-item g l =
-    KeepsRecomposed g.I.Iterator.next_gives l.fn.self [] l.self
+    KeepsLeft (ComposesTo g.I.Iterator.next_gives) l.fn.self [] l.self
     × CanCompose g.I.Iterator.can_next g.I.Iterator.remaining l.self
     × (composition_size g.I.Iterator.remaining l.self ≤ composition_size g.I.Iterator.remaining l.fn.self)
     × (l.self.composer.leaving ≡ false)

@@ -1,12 +1,13 @@
 use Rattle.std.proofs.Common.{refl, subst, ◌∙◌, arith}
 use Rattle.icu_normalizer.specs.Decompositions.{DecomposesTo}
-use Rattle.icu_normalizer.proofs.StepLemmas.{decomposes_done, keeps_popped, keeps_trans}
+use Rattle.icu_normalizer.proofs.IterLemmas.{keeps_then}
+use Rattle.icu_normalizer.proofs.StepLemmas.{decomposes_done, keeps_popped}
 use Rattle.icu_normalizer.proofs.decomposing.DecompositionIterator.next.Goals as goal
 
 pub returns-in-Ok-Some-clause-steps : goal.returns-in-Ok-Some-clause-steps
 returns-in-Ok-Some-clause-steps g c =
     let pulled = rw c.in-Ok-Some.field-0-is at c.in-Ok-Some.ensures.text in
-    let keeps = keeps_trans g.I.Iterator.next_gives _ _ _ _ c.loop-self.invariant.0 pulled in
+    let keeps = keeps_then (DecomposesTo g.I.Iterator.next_gives) _ _ _ _ c.loop-self.invariant.0 pulled in
     record {
       first = record { at = keeps.at };
       again = c.in-Ok-Some.ensures.ready;
@@ -15,8 +16,8 @@ returns-in-Ok-Some-clause-steps g c =
 
 pub returns-in-Some-pop-clause-steps : goal.returns-in-Some-pop-clause-steps
 returns-in-Some-pop-clause-steps g c =
-    let pulled = keeps_trans g.I.Iterator.next_gives _ _ _ _ c.loop-self.invariant.0 (rw c.in-Ok-None.field-0-is at c.in-Ok-None.ensures.text) in
-    let keeps = keeps_trans g.I.Iterator.next_gives _ _ _ _ pulled (keeps_popped g.I.Iterator.next_gives _ _ _ c.in-Some-pop.ensures.same refl refl c.in-Some-pop.ensures.some) in
+    let pulled = keeps_then (DecomposesTo g.I.Iterator.next_gives) _ _ _ _ c.loop-self.invariant.0 (rw c.in-Ok-None.field-0-is at c.in-Ok-None.ensures.text) in
+    let keeps = keeps_then (DecomposesTo g.I.Iterator.next_gives) _ _ _ _ pulled (keeps_popped g.I.Iterator.next_gives _ _ _ c.in-Some-pop.ensures.same refl refl c.in-Some-pop.ensures.some) in
     record {
       first = record { at = keeps.at };
       again = c.in-Ok-None.ensures.ready;
@@ -25,8 +26,8 @@ returns-in-Some-pop-clause-steps g c =
 
 pub loop-self-preserved : goal.loop-self-preserved
 loop-self-preserved g c =
-    let pulled = keeps_trans g.I.Iterator.next_gives _ _ _ _ c.loop-self.invariant.0 (rw c.in-Ok-None.field-0-is at c.in-Ok-None.ensures.text) in (
-      keeps_trans g.I.Iterator.next_gives _ _ _ _ pulled (keeps_popped g.I.Iterator.next_gives _ _ _ c.in_default-pop.ensures.same refl refl c.in_default-pop.ensures.none.0),
+    let pulled = keeps_then (DecomposesTo g.I.Iterator.next_gives) _ _ _ _ c.loop-self.invariant.0 (rw c.in-Ok-None.field-0-is at c.in-Ok-None.ensures.text) in (
+      keeps_then (DecomposesTo g.I.Iterator.next_gives) _ _ _ _ pulled (keeps_popped g.I.Iterator.next_gives _ _ _ c.in_default-pop.ensures.same refl refl c.in_default-pop.ensures.none.0),
       c.in-Ok-None.ensures.ready,
       omega (arith, c.in-Ok-None.ensures.size, c.pop-in-loop-self.ensures.held, c.loop-self.invariant.2),
       c.in_default-pop.ensures.none.1,

@@ -1,11 +1,12 @@
 use Rattle.std.proofs.Common.{◌≡◌, ◌≤◌, []}
-use Rattle.icu_normalizer.specs.Decompositions.{CanDecompose, KeepsDecomposed, decomposition_size, pulls_left}
+use Rattle.icu_normalizer.specs.Decompositions.{DecomposesTo, CanDecompose, decomposition_size, pulls_left}
+use Rattle.icu_normalizer.specs.Iter.{KeepsLeft}
 use Rattle.icu_normalizer.specs.Run.{held, pending}
 use Rattle.icu_normalizer.proofs.decomposing.DecompositionIterator.next.Given as goal
 
 abbrev pub invariant-loop-self : goal.invariant-loop-self
 invariant-loop-self g l =
-    KeepsDecomposed g.I.Iterator.next_gives l.fn.self [] l.self
+    KeepsLeft (DecomposesTo g.I.Iterator.next_gives) l.fn.self [] l.self
     × CanDecompose g.I.Iterator.can_next g.I.Iterator.remaining l.self
     × (decomposition_size g.I.Iterator.remaining l.self ≤ decomposition_size g.I.Iterator.remaining l.fn.self)
     × (held l.self.run ≡ pending l.self.run)

@@ -1,12 +1,13 @@
 use Rattle.std.proofs.Common.{length, refl, subst, ap, ◌∙◌, arith}
 use Rattle.icu_normalizer.specs.Uts46Iter.{MapsTo}
-use Rattle.icu_normalizer.proofs.MappedLemmas.{mapped_popped, mapped_then, mapped_done}
+use Rattle.icu_normalizer.proofs.IterLemmas.{keeps_then}
+use Rattle.icu_normalizer.proofs.MappedLemmas.{mapped_popped, mapped_done}
 use Rattle.icu_normalizer.proofs.uts46.characters.MappedCharsIterator.next.Goals as goal
 
 pub returns-in-Some-clause-steps : goal.returns-in-Some-clause-steps
 returns-in-Some-clause-steps g c =
     let popped = mapped_popped g.I.Iterator.next_gives c.loop-self.self _ refl refl (λ text. refl) c.in-Some.c c.in-Some.ensures.steps in
-    let keeps = mapped_then g.I.Iterator.next_gives _ _ _ _ c.loop-self.invariant.0 popped in
+    let keeps = keeps_then (MapsTo g.I.Iterator.next_gives) _ _ _ _ c.loop-self.invariant.0 popped in
     let fewer = ap length c.in-Some.ensures.steps in
     record {
       at = keeps.at;

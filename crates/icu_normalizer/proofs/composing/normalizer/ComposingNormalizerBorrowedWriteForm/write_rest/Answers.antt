@@ -1,4 +1,4 @@
-use Rattle.std.proofs.Common.{rules, [], ◌∷◌, ◌++◌, refl, sym, ap, ◌∙◌, append-nil, arith}
+use Rattle.std.proofs.Common.{rules, [], ◌++◌, refl, sym, ap, ◌∙◌, append-nil, arith}
 use Rattle.std.specs.Prelude.{Err, ⊤}
 use Rattle.icu_normalizer_core.specs.Canonical.{composed}
 use Rattle.icu_normalizer.specs.Normalizers.{composing_data}
@@ -6,7 +6,7 @@ use Rattle.icu_normalizer.specs.Sinks.{nothing, more}
 use Rattle.icu_normalizer.proofs.ComposingLemmas.{composed_nothing}
 use Rattle.icu_normalizer.proofs.SinkLemmas.{joined_front, taken_both, ends_after}
 use Rattle.icu_normalizer.proofs.WriterLemmas.{front_more, front_cut, front_all}
-use Rattle.icu_normalizer.proofs.composing.normalizer.ComposingNormalizerBorrowed.write_composed.Goals as goal
+use Rattle.icu_normalizer.proofs.composing.normalizer.ComposingNormalizerBorrowedWriteForm.write_rest.Goals as goal
 
 pub loop-left-init : goal.loop-left-init
 loop-left-init g c = (record { written = []; whole = refl; holds = sym (append-nil _) }, nothing _, c.new-form.ensures.same)

@@ -4,7 +4,7 @@ use Rattle.icu_normalizer_core.specs.Canonical.{decomposed}
 use Rattle.icu_normalizer.specs.Normalizers.{normalizer_data}
 use Rattle.icu_normalizer.specs.Sinks.{HasTaken}
 use Rattle.icu_normalizer.specs.Writer.{AddsFront, due, writer_data}
-use Rattle.icu_normalizer.proofs.decomposing.normalizer.DecomposingNormalizerBorrowed.write_decomposed.Given as goal
+use Rattle.icu_normalizer.proofs.decomposing.normalizer.DecomposingNormalizerBorrowedWriteForm.write_rest.Given as goal
 
 abbrev pub invariant-chars : goal.invariant-chars
 invariant-chars g l =

@@ -4,7 +4,7 @@ use Rattle.icu_normalizer.specs.ClusterForm.{form_data}
 use Rattle.icu_normalizer.specs.Normalizers.{composing_data}
 use Rattle.icu_normalizer.specs.Sinks.{HasTaken}
 use Rattle.icu_normalizer.specs.Writer.{AddsFront}
-use Rattle.icu_normalizer.proofs.composing.normalizer.ComposingNormalizerBorrowed.write_composed.Given as goal
+use Rattle.icu_normalizer.proofs.composing.normalizer.ComposingNormalizerBorrowedWriteForm.write_rest.Given as goal
 
 abbrev pub invariant-loop-left : goal.invariant-loop-left
 invariant-loop-left g l =

@@ -6,7 +6,7 @@ use Rattle.icu_normalizer.specs.Sinks.{nothing}
 use Rattle.icu_normalizer.proofs.SinkLemmas.{taken_both, ends_after}
 use Rattle.icu_normalizer.proofs.TextCutLemmas.{first_read}
 use Rattle.icu_normalizer.proofs.WriterLemmas.{on_any, front_cut, front_all, text_due, text_more, text_cut, text_read}
-use Rattle.icu_normalizer.proofs.decomposing.normalizer.DecomposingNormalizerBorrowed.write_decomposed.Goals as goal
+use Rattle.icu_normalizer.proofs.decomposing.normalizer.DecomposingNormalizerBorrowedWriteForm.write_rest.Goals as goal
 
 pub chars-init : goal.chars-init
 chars-init g c = (
