@@ -20,7 +20,7 @@ import subprocess
 import sys
 import tempfile
 
-from random_records import RESERVED, random_characters, random_records
+from random_records import RESERVED, pairs_of, random_characters, random_records
 
 ROOT = os.path.dirname(os.path.dirname(os.path.realpath(__file__)))
 PROGRAM = os.path.join(ROOT, 'crates/normal_speed/out/normal_speed')
@@ -169,7 +169,7 @@ def compare_file(folder, source, oracle, count, done):
     said = oracle.read(records)
     with open(os.path.join(folder, 'records'), 'wb') as file:
         file.write(records)
-    characters = [random_characters(source, targets) for _ in range(count)]
+    characters = [random_characters(source, targets, pairs_of(lines)) for _ in range(count)]
     faults = []
     for encoding in encodings(oracle):
         texts = encoding.texts(source, characters)

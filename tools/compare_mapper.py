@@ -14,7 +14,7 @@ import sys
 import tempfile
 
 from compare_forms import load, run
-from random_records import BUILT_IN, any_character, random_characters, random_records, word
+from random_records import BUILT_IN, any_character, pairs_of, random_characters, random_records, word
 
 TEXTS_A_TABLE = 20
 
@@ -43,9 +43,10 @@ def compare_table(folder, source, oracle):
     """Compares the texts of one random table; how many answers were compared, and what differs."""
     lines, targets = random_records(source, oracle.read, lambda said: isinstance(said, oracle.Fault))
     records = oracle.read('\n'.join([*lines, '']).encode())
+    pairs = pairs_of(lines)
     said, others = random_table(source, targets)
     lines += table_lines(said, others)
-    texts = [random_characters(source, [*targets, *said]) for _ in range(TEXTS_A_TABLE)]
+    texts = [random_characters(source, [*targets, *said], pairs) for _ in range(TEXTS_A_TABLE)]
     for name, rows in (('records', lines), ('texts', [''.join(map(chr, text)) for text in texts])):
         with open(os.path.join(folder, name), 'wb') as file:
             file.write(''.join(row + '\n' for row in rows).encode())

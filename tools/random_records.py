@@ -43,7 +43,7 @@ def random_lines(random):
 
 
 def random_records(random, read, is_fault):
-    """Records that a reader takes, and the characters that they speak of. A line that it refuses is left out."""
+    """Records that a reader takes, and characters that they speak of. A line that it refuses is left out."""
     lines, targets = random_lines(random)
     kept = []
     for line in lines:
@@ -52,12 +52,24 @@ def random_records(random, read, is_fault):
     return kept, targets
 
 
-def random_characters(random, targets):
-    """A text: characters of the records, some of them in long runs of marks, built-in ones and any others."""
+def pairs_of(lines):
+    """The two characters of each mapping to two."""
+    said = [line.split() for line in lines if line.startswith('map')]
+    return [(int(words[2], 16), int(words[3], 16)) for words in said if words[3:] and words[3] != 'x']
+
+
+def random_characters(random, targets, pairs):
+    """A text: characters of the records, the two of a mapping with marks between or behind them, some of all these in
+    long runs, built-in characters and any others."""
     text = []
     for _ in range(random.randint(0, 14)):
         kind = random.random()
-        if kind < 0.55:
+        if kind < 0.2 and pairs:
+            first, second = random.choice(pairs)
+            marks = [c for c in targets + MARKS[:6] if c in MARKS]
+            text += [first, *random.choices(marks, k=random.choice([0, 0, 1, 1, 2]))]
+            text += [second, *random.choices(marks, k=random.choice([0, 0, 0, 1]))]
+        elif kind < 0.55:
             text.append(random.choice(targets))
         elif kind < 0.65:
             text.append(random.choice(STARTERS))
