@@ -83,7 +83,7 @@ pub fn split_decomposed<'t>(form: DecomposingNormalizerBorrowed<'_>, text: Text<
         }
         Text::Bytes(text) => {
             let (prefix, rest) = form.split_normalized_utf8(text);
-            Parts::Bytes(prefix, rest)
+            Parts::Bytes(prefix.as_bytes(), rest)
         }
         Text::Units(text) => {
             let (prefix, rest) = form.split_normalized_utf16(text);
@@ -100,7 +100,8 @@ pub fn composed<'t>(
 ) -> Option<Normal<'t>> {
     match text {
         Text::Known(text) => normal_text(form.normalize(alloc, text)),
-        Text::Bytes(_) | Text::Units(_) => None,
+        Text::Bytes(text) => normal_text(form.normalize_utf8(alloc, text)),
+        Text::Units(text) => normal_units(form.normalize_utf16(alloc, text)),
     }
 }
 
@@ -112,7 +113,8 @@ pub fn is_composed(
 ) -> Option<bool> {
     match text {
         Text::Known(text) => form.is_normalized(alloc, text).ok(),
-        Text::Bytes(_) | Text::Units(_) => None,
+        Text::Bytes(text) => form.is_normalized_utf8(alloc, text).ok(),
+        Text::Units(text) => form.is_normalized_utf16(alloc, text).ok(),
     }
 }
 
@@ -127,6 +129,13 @@ pub fn split_composed<'t>(
             let (prefix, rest) = form.split_normalized(alloc, text).ok()?;
             Some(Parts::Known(prefix, rest))
         }
-        Text::Bytes(_) | Text::Units(_) => None,
+        Text::Bytes(text) => {
+            let (prefix, rest) = form.split_normalized_utf8(alloc, text).ok()?;
+            Some(Parts::Bytes(prefix.as_bytes(), rest))
+        }
+        Text::Units(text) => {
+            let (prefix, rest) = form.split_normalized_utf16(alloc, text).ok()?;
+            Some(Parts::Units(prefix, rest))
+        }
     }
 }
