@@ -1,6 +1,7 @@
 #!/usr/bin/env bash
-# Times normal forms by the program of crates/normal_speed on 5 MB of random names of 150 Latin letters and marks, one
-# name a call, on the same names in NFC, and on 5 MB of ASCII in one call; prints a line a measurement: bench/normal.sh.
+# Times normal forms by the program of crates/normal_speed, a line a measurement: bench/normal.sh [FILE:TASK..]
+# The files: names, 5 MB of random names of 150 Latin letters and marks, one name a call; names16, the same in UTF-16;
+# nfc, the names in NFC; ascii, 5 MB of ASCII in one call. The tasks are those of the program. With no word all are timed.
 set -eu
 cd "$(dirname "$(readlink -f "${BASH_SOURCE[0]}")")/.."
 program=crates/normal_speed/out/normal_speed
@@ -11,32 +12,14 @@ trap 'rm -rf "$work"' EXIT
 python3 bench/names.py records >"$work/records"
 python3 bench/names.py texts 5000000 >"$work/names"
 python3 bench/names.py ascii 5000000 >"$work/ascii"
+iconv -f UTF-8 -t UTF-16LE "$work/names" >"$work/names16"
 "$program" "$work/records" "$work/names" show_nfc 1 | head -n -1 >"$work/nfc"
 
-# The user time in seconds of so many rounds of a task on a file, the best of five.
-best() {
-    for _ in 1 2 3 4 5; do
-        (TIMEFORMAT=%U && time "$program" "$work/records" "$work/$1" "$2" "$3" >/dev/null) 2>&1
-    done | sort -n | head -n 1
-}
-
-# Prints how many MB a second a task takes of a file, by the difference of 1 and 21 rounds.
-measure() {
-    local size one many
-    size=$(stat -c %s "$work/$1")
-    one=$(best "$1" "$2" 1)
-    many=$(best "$1" "$2" 21)
-    awk -v name="$1 $2" -v size="$size" -v one="$one" -v many="$many" \
-        'BEGIN { printf "%-20s %8.0f MB a second\n", name, 20 * size / 1e6 / (many - one) }'
-}
-
-for file in names nfc ascii; do
-    for task in nfc nfkc nfd nfkd is_nfc is_nfkc is_nfd is_nfkd; do
-        measure "$file" "$task"
+if [ $# -eq 0 ]; then
+    for form in nfc nfkc nfd nfkd; do
+        set -- "$@" names:"$form" names:"$form"_utf8 names16:"$form"_utf16 names:is_"$form" names:is_"$form"_utf8
+        set -- "$@" names16:is_"$form"_utf16 nfc:"$form" nfc:is_"$form" ascii:"$form" ascii:is_"$form"
     done
-done
-for task in try_new try_new_k; do
-    one=$(best ascii "$task" 1)
-    many=$(best ascii "$task" 101)
-    awk -v name="$task" -v one="$one" -v many="$many" 'BEGIN { printf "%-20s %8.2f ms\n", name, 10 * (many - one) }'
-done
+    set -- "$@" names:try_new names:try_new_k
+fi
+python3 bench/turns.py "$program" "$work" "$@"

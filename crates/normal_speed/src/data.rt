@@ -5,7 +5,7 @@ use icu_normalizer_core_tests::held::{Held, provider_of};
 use std::alloc::Global;
 
 /// The character of a number in hexadecimal digits.
-fn character(word: &str) -> Option<char> {
+pub fn character(word: &str) -> Option<char> {
     char::from_u32(u32::from_str_radix(word, 16).ok()?)
 }
 
@@ -28,6 +28,15 @@ fn give_mapping(builder: &mut CanonicalDataBuilder, words: &[&str]) -> Option<()
     builder.map(c, first, second, !is_excluded).ok()
 }
 
+/// The characters that words are, if each is one.
+fn characters(alloc: Global, words: &[&str]) -> Option<Vec<char>> {
+    let mut list = Vec::new(alloc);
+    for word in words {
+        list.push(character(word)?).ok()?;
+    }
+    Some(list)
+}
+
 /// Gives a builder the compatibility mapping that a line `kmap C D [E..]` states.
 fn give_compatibility(
     alloc: Global,
@@ -37,13 +46,10 @@ fn give_compatibility(
     let [_, c, first, others @ ..] = words else {
         return None;
     };
-    let mut behind = Vec::new(alloc);
-    for word in others {
-        behind.push(character(word)?).ok()?;
-    }
-    builder
-        .kmap(alloc, character(c)?, character(first)?, &behind)
-        .ok()
+    let c = character(c)?;
+    let first = character(first)?;
+    let others = characters(alloc, others)?;
+    builder.kmap(alloc, c, first, &others).ok()
 }
 
 /// Gives a builder what a line says. Lines other than those of classes and mappings are passed over.
@@ -58,13 +64,29 @@ fn give(alloc: Global, builder: &mut CanonicalDataBuilder, line: &str) -> Option
     }
 }
 
-/// A provider of the data that a records file states.
+/// Gives a builder what the lines say.
+fn give_lines(alloc: Global, builder: &mut CanonicalDataBuilder, records: &str) -> Option<()> {
+    for line in records.lines() {
+        give(alloc, builder, line)?;
+    }
+    Some(())
+}
+
+/// A provider of what a builder was given.
+fn provider_of_given(alloc: Global, builder: &CanonicalDataBuilder) -> Option<Held<'static>> {
+    let mut held = match builder.build(alloc) {
+        Ok(tables) => provider_of(tables),
+        Err(_) => return None,
+    };
+    held.nfkd = builder.build_nfkd(alloc).ok();
+    Some(held)
+}
+
+/// A provider of the data that a records file states. It has no compatibility tables where these can't be built.
 pub fn provider(alloc: Global, records: &str) -> Option<Held<'static>> {
     let mut builder = CanonicalDataBuilder::new(alloc);
-    for line in records.lines() {
-        give(alloc, &mut builder, line)?;
+    match give_lines(alloc, &mut builder, records) {
+        Some(()) => provider_of_given(alloc, &builder),
+        None => None,
     }
-    let mut held = provider_of(builder.build(alloc).ok()?);
-    held.nfkd = Some(builder.build_nfkd(alloc).ok()?);
-    Some(held)
 }
