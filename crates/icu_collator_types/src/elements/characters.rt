@@ -84,7 +84,7 @@ impl CharacterAndClass {
 /// A character, its class, and its word in canonical tables.
 #[derive(Clone, Copy, PartialEq, Eq, Debug)]
 pub struct CharacterAndClassAndTrieValue {
-    character_and_class: CharacterAndClass,
+    pub(super) character_and_class: CharacterAndClass,
     /// The character's word in canonical tables.
     pub trie_val: u32,
 }
