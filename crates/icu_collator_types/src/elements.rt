@@ -1,6 +1,7 @@
 //! Collation elements: unpacked, one field a weight, and as ICU4X packs them, 64 bits an element
 //! and 32 bits a word of the tables; and characters as the reading of a text carries them.
 
+pub mod character_words;
 pub mod characters;
 pub mod element_bits;
 pub mod element_words;
@@ -9,7 +10,8 @@ pub mod quaternaries;
 mod trie_values;
 pub mod word_tags;
 
-pub use characters::{CharacterAndClass, CharacterAndClassAndTrieValue};
+pub use character_words::CharacterAndClassAndTrieValue;
+pub use characters::CharacterAndClass;
 pub use element_bits::CollationElement;
 pub use element_words::CollationElement32;
 pub use non_primaries::NonPrimary;

@@ -6,6 +6,9 @@ ghost use Rattle.icu_collator_types.specs.ElementBits.{element_bits, implicit_pr
 use super::non_primaries::NonPrimary;
 use std::marker::Model;
 
+/// The element that ends a text.
+const NO_CE: u64 = 0x1_0100_0100;
+
 /// The common weights below a primary.
 const COMMON_SECONDARY_AND_TERTIARY: u64 = 0x0500_0500;
 
@@ -40,9 +43,7 @@ impl CollationElement {
     pub const fn default() -> Self
         ensures { result ≡ element_bits 1 0x0100 0x0100 }
     {
-        CollationElement {
-            bits: 0x1_0100_0100,
-        }
+        CollationElement { bits: NO_CE }
     }
 
     /// The element with this primary, and common weights at the other levels.
@@ -140,6 +141,6 @@ impl Default for CollationElement {
     fn default() -> Self
         ensures { result ≡ element_bits 1 0x0100 0x0100 }
     {
-        CollationElement::new(0x1_0100_0100)
+        CollationElement::new(NO_CE)
     }
 }

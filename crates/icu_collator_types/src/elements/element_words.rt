@@ -8,6 +8,9 @@ use super::element_bits::CollationElement;
 use super::word_tags::Tag;
 use std::marker::Model;
 
+/// The word of no element.
+const NO_CE32: u32 = 1;
+
 /// The least low byte of a word that isn't the bytes of an element.
 const SPECIAL_CE32_LOW_BYTE: u32 = 0xc0;
 
@@ -52,7 +55,7 @@ impl CollationElement32 {
     pub const fn default() -> Self
         ensures { result ≡ 1 }
     {
-        CollationElement32 { bits: 1 }
+        CollationElement32 { bits: NO_CE32 }
     }
 
     /// The low byte.
@@ -199,6 +202,6 @@ impl Default for CollationElement32 {
     fn default() -> Self
         ensures { result ≡ 1 }
     {
-        CollationElement32::new(1)
+        CollationElement32::new(NO_CE32)
     }
 }

@@ -12,7 +12,10 @@ const CASE_MASK: u32 = 0xc000;
 const TERTIARY_MASK: u32 = 0x3f3f;
 
 /// The two bits of the quaternary.
-const QUATERNARY_MASK: u32 = 0xc0;
+pub(super) const QUATERNARY_MASK: u32 = 0xc0;
+
+/// What the element that ends a text has below its primary.
+const NO_CE_NON_PRIMARY: u32 = 0x0100_0100;
 
 /// The tertiary of the element that ends a text.
 const NO_CE_TERTIARY: u32 = 0x0100;
@@ -44,7 +47,9 @@ impl NonPrimary {
     pub const fn default() -> Self
         ensures { result ≡ 0x0100_0100 }
     {
-        NonPrimary { bits: 0x0100_0100 }
+        NonPrimary {
+            bits: NO_CE_NON_PRIMARY,
+        }
     }
 
     /// All bits.
@@ -128,6 +133,6 @@ impl Default for NonPrimary {
     fn default() -> Self
         ensures { result ≡ 0x0100_0100 }
     {
-        NonPrimary::new(0x0100_0100)
+        NonPrimary::new(NO_CE_NON_PRIMARY)
     }
 }

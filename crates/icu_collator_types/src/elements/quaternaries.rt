@@ -2,11 +2,8 @@
 
 ghost use Rattle.std.specs.Prelude.{◌≡◌, ℕ, not, ◌==◌, bit_and, bit_or};
 
-use super::non_primaries::NonPrimary;
+use super::non_primaries::{NonPrimary, QUATERNARY_MASK};
 use std::marker::Model;
-
-/// The quaternary bits of C0 (hex).
-const QUATERNARY_MASK: u32 = 0xc0;
 
 /// The bits that any of some elements has in its lower half.
 #[derive(Clone, Copy, PartialEq, Eq, Debug)]

@@ -63,6 +63,26 @@ fn special_words_name_places(rt: HostRuntime) {
     assert!(rt; digit.digit() == 9 && digit.index() == 2);
 }
 
+// What a word says by its tag, for which each call's condition is read off the tag.
+fn says(word: CollationElement32) -> usize {
+    match word.tag_checked() {
+        Some(Tag::Expansion32 | Tag::Expansion) => word.len(),
+        Some(Tag::Prefix | Tag::Offset) => word.index(),
+        Some(Tag::Digit) => word.digit() as usize,
+        Some(Tag::Contraction) => word.every_suffix_starts_with_combining() as usize,
+        _ => 100,
+    }
+}
+
+#[test]
+fn conditions_are_read_off_the_tag(rt: HostRuntime) {
+    assert!(rt; says(CollationElement32::new(0x0001_a3c6)) == 3);
+    assert!(rt; says(CollationElement32::new(0x0001_a0ce)) == 13);
+    assert!(rt; says(CollationElement32::new(0x0000_49ca)) == 9);
+    assert!(rt; says(CollationElement32::new(0x0000_02c9)) == 1);
+    assert!(rt; says(CollationElement32::new(0x2a10_0505)) == 100);
+}
+
 #[test]
 fn contractions_have_flags(rt: HostRuntime) {
     let marks = CollationElement32::new(0x06c9);
