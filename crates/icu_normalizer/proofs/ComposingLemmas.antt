@@ -4,7 +4,7 @@ use Rattle.std.proofs.lemmas.Bool.{cond-true, cond-false, cases_lt}
 use Rattle.std.proofs.lemmas.Bool.Decides.{nat_tests}
 use Rattle.std.proofs.lemmas.List.Folds.{list_all-append}
 use Rattle.std.specs.List.{list_all}
-use Rattle.icu_normalizer_core.specs.Canonical.{Canonical, is_starter, composing, recomposed}
+use Rattle.icu_normalizer_core.specs.Canonical.{Canonical, is_starter, composing, recomposed, decomposed, composed, marks_in_order}
 use Rattle.icu_normalizer.specs.Composing.{AreUpTo, composed_with}
 
 seen_from : (highest n : ℕ) → (0 < highest → highest < n) → ((highest == 0) || ltb highest n) ≡ true
@@ -106,3 +106,8 @@ never_second canonical d seconds low a =
 -- so it composes with none before it
 pub composed_low : (canonical : Canonical) (s : ℕ) (ms : List ℕ) (c : ℕ) → ((a b z : ℕ) → canonical.pair a b ≡ Some z → 0x300 ≤ b) → c < 0x300 → composed_with canonical s ms c ≡ None
 composed_low canonical s ms c seconds low = composed_never canonical s ms c (never_second canonical c seconds low s)
+
+-- nothing is its own composed list
+pub composed_nothing : (canonical : Canonical) → composed canonical [] ≡ []
+unfolding composed recomposed decomposed marks_in_order
+composed_nothing canonical = refl

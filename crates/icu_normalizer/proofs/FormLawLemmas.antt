@@ -2,20 +2,24 @@
 use Rattle.std.proofs.Common.{◌≡◌, ℕ, ◌<◌, ◌≤◌, ◌⊎◌, inl, inr, ⊎_elim, true, ltb, ◌&&◌, List, [], ◌∷◌, ◌++◌, flat_map, chars, encode_utf8_all, IsUtf8, Some, refl, sym, ap, ap₂, subst, ◌∙◌, arith, append_assoc, append-nil}
 use Rattle.std.proofs.lemmas.Bool.{cases_lt, cond_both, ltb-true, and_parts}
 use Rattle.std.proofs.lemmas.Grind.{flat_map-append}
+use Rattle.std.proofs.lemmas.Str.{encodes-chars}
 use Rattle.std.proofs.lemmas.List.Elements.{recursion_from_All, All-from_recursion}
 use Rattle.std.specs.Prelude.{◌≢◌, All}
 use Rattle.std.specs.Char.{IsScalar}
 use Rattle.std.specs.List.{AllByRecursion, list_all}
 use Rattle.icu_normalizer_core.specs.Canonical.{Canonical, IsCanonical, put_in_order, marks_in_order, decomposed, composing, recomposed, composed}
+use Rattle.icu_normalizer_core.specs.Decoding.{utf8_chars, utf16_chars}
 use Rattle.icu_normalizer_core.proofs.DecomposedLemmas.{AreScalar, all_append, put_swapped}
+use Rattle.icu_normalizer_core.proofs.TextLemmas.{utf8_text, utf16_text}
 use Rattle.icu_normalizer.specs.Forming.{IsForming, IsSaidOver}
 use Rattle.icu_normalizer.specs.TextForms.{decomposed_text, composed_text}
+use Rattle.icu_normalizer.specs.Texts.{encode_utf16_all}
 use Rattle.icu_normalizer.proofs.CompatibleLemmas.{forming_compatibility}
 use Rattle.icu_normalizer.proofs.ComposingLemmas.{composing_end, composing_cases, recomposed_nothing, recomposed_begun, recomposed_passed, seen_over}
 use Rattle.icu_normalizer.proofs.FormingLemmas.{forming_canonical}
 use Rattle.icu_normalizer.proofs.OwnLemmas.{AreOwn, decomposed_own, decomposed_scalar}
 use Rattle.icu_normalizer.proofs.equivalence.NormalFormLemmas.{recomposed_scalars}
-use Rattle.icu_normalizer.proofs.equivalence.TextFormLemmas.{text_scalars, form_written}
+use Rattle.icu_normalizer.proofs.equivalence.TextFormLemmas.{text_scalars, form_written, written_chars}
 
 -- ---- marks in order
 
@@ -182,3 +186,27 @@ module _ (canonical said : Canonical) (text : List ℕ) (ok : IsCanonical canoni
   pub over_text_composed_twice : composed_text said (composed_text said text) ≡ composed_text said text
   over_text_composed_twice =
       ap encode_utf8_all (form_written (composed said) _ _ (over_composed_scalars canonical said (chars text) ok over read) (over_composed_twice canonical said (chars text) ok over read))
+
+  -- ---- texts in other encodings
+
+  units_form : (form : List ℕ → List ℕ) (units : List ℕ) → All IsScalar (form (chars text)) → utf16_chars units ≡ chars text
+      → utf16_chars (encode_utf16_all (form (utf16_chars units))) ≡ chars (encode_utf8_all (form (chars text)))
+  units_form form units known same =
+      ap (λ cs. utf16_chars (encode_utf16_all (form cs))) same ∙ utf16_text (form (chars text)) known ∙ sym (written_chars (form (chars text)) known)
+
+  pub units_decomposed : (units : List ℕ) → utf16_chars units ≡ chars text → utf16_chars (encode_utf16_all (decomposed said (utf16_chars units))) ≡ chars (decomposed_text said text)
+  units_decomposed units = units_form (decomposed said) units (over_decomposed_scalars canonical said (chars text) ok over read)
+
+  pub units_composed : (units : List ℕ) → utf16_chars units ≡ chars text → utf16_chars (encode_utf16_all (composed said (utf16_chars units))) ≡ chars (composed_text said text)
+  units_composed units = units_form (composed said) units (over_composed_scalars canonical said (chars text) ok over read)
+
+-- bytes that are text
+module _ (said : Canonical) (text : List ℕ) (u : IsUtf8 text) where
+  bytes_read : utf8_chars text ≡ chars text
+  bytes_read = ap utf8_chars (sym (encodes-chars text u)) ∙ utf8_text (chars text) (text_scalars text u)
+
+  pub bytes_decomposed : encode_utf8_all (decomposed said (utf8_chars text)) ≡ decomposed_text said text
+  bytes_decomposed = ap (λ cs. encode_utf8_all (decomposed said cs)) bytes_read
+
+  pub bytes_composed : encode_utf8_all (composed said (utf8_chars text)) ≡ composed_text said text
+  bytes_composed = ap (λ cs. encode_utf8_all (composed said cs)) bytes_read

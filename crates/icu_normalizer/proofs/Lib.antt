@@ -1,4 +1,3 @@
-pub mod ClusterCutLemmas
 pub mod ClusterFormLemmas
 pub mod ClusterLemmas
 pub mod CompatibleLemmas
@@ -16,6 +15,7 @@ pub mod IterLemmas
 pub mod ListLemmas
 pub mod MappedLemmas
 pub mod OwnLemmas
+pub mod PassedLemmas
 pub mod RunLemmas
 pub mod SinkLemmas
 pub mod SkipLemmas

@@ -36,11 +36,6 @@ module _ (encode : List ℕ → List ℕ) (is : IsEncoding encode) where
 
 -- ---- a text in two parts
 
--- both were written
-pub joined_whole : (old mid new front back all : List ℕ) → front ++ back ≡ all → mid ≡ old ++ front → new ≡ mid ++ back → new ≡ old ++ all
-joined_whole old mid new front back all e first second =
-    second ∙ ap (λ l. l ++ back) first ∙ append_assoc old front back ∙ ap (λ l. old ++ l) e
-
 -- the first was not
 pub joined_front : (old new front back all : List ℕ) → front ++ back ≡ all → AddsPrefix old front new → AddsPrefix old all new
 joined_front old new front back all e h =
@@ -56,8 +51,8 @@ joined_back old mid new front back all e first h = (
 )
 
 -- into an empty sink
-pub joined_new : (old mid new front back all : List ℕ) → front ++ back ≡ all → old ≡ [] → mid ≡ old ++ front → new ≡ mid ++ back → new ≡ all
-joined_new old mid new front back all e empty first second = joined_whole old mid new front back all e first second ∙ ap (λ l. l ++ all) empty
+pub filled_new : (old new whole all : List ℕ) → whole ≡ all → old ≡ [] → new ≡ old ++ whole → new ≡ all
+filled_new old new whole all e empty written = written ∙ ap (λ l. l ++ whole) empty ∙ e
 
 -- ---- writes after others
 

@@ -1,19 +1,17 @@
 -- Passing over the front of a text that stays as it stands.
-use Rattle.std.proofs.Common.{◌≡◌, ℕ, zero, suc, ◌-◌, get_or, take, drop, drop-cons, take-append-drop, ap₂, ◌<◌, ◌≤◌, ◌⊎◌, inl, inr, ⊎_elim, List, [], ◌∷◌, ◌++◌, length, length-append, flat_map, chars, encode_utf8, encode_utf8_all, IsUtf8, None, refl, sym, ap, subst, ◌∙◌, arith, append_assoc, append-nil}
+use Rattle.std.proofs.Common.{◌≡◌, ℕ, ap₂, ◌<◌, ◌≤◌, ◌⊎◌, inl, inr, ⊎_elim, List, [], ◌∷◌, ◌++◌, flat_map, None, refl, sym, ap, subst, ◌∙◌, arith, append_assoc, append-nil}
 use Rattle.std.proofs.lemmas.Bool.{cases_lt}
 use Rattle.std.proofs.lemmas.Grind.{flat_map-append}
-use Rattle.std.proofs.lemmas.List.{append_cancel_left}
-use Rattle.std.proofs.lemmas.Str.{chars_past_char, encodes-append, encode_ascii, IsUtf8-append, IsUtf8-drop}
 use Rattle.icu_normalizer_core.specs.Canonical.{Canonical, composing, recomposed, decomposed, composed, marks_in_order}
 use Rattle.icu_normalizer_core.proofs.DecomposedLemmas.{order_before, put_starter}
 use Rattle.icu_normalizer_core.specs.Boundaries.{HasBoundaryBefore, IsSteady}
 use Rattle.icu_normalizer.specs.Forming.{IsForming}
-use Rattle.icu_normalizer.specs.FormCuts.{IsOwnForm, IsComposed, ReachesBelow, IsFormCut, IsSkipped}
-use Rattle.icu_normalizer.proofs.ComposedWalkLemmas.{composed_nothing}
-use Rattle.icu_normalizer.proofs.ComposingLemmas.{composing_end, composing_joined, composing_begun, composing_kept, composing_cases, composed_never, never_second, recomposed_nothing, recomposed_begun, recomposed_passed}
-use Rattle.icu_normalizer.proofs.CutLemmas.{IsRead, ArePlain, are_plain, plain_bytes, plain_boundary, one_char, text_chars, front_utf8, rest_chars, read_starter, decomposed_nothing}
-use Rattle.icu_normalizer.proofs.ListLemmas.{split_front}
+use Rattle.icu_normalizer.specs.TextCuts.{IsPassed}
+use Rattle.icu_normalizer.specs.Texts.{Text, AreCharacters, BeginsWith, IsAtEnd, IsEncoding}
+use Rattle.icu_normalizer.proofs.ComposingLemmas.{composed_nothing, composing_end, composing_joined, composing_begun, composing_kept, composing_cases, composed_never, never_second, recomposed_nothing, recomposed_begun, recomposed_passed}
+use Rattle.icu_normalizer.proofs.CutLemmas.{ArePlain, decomposed_nothing}
 use Rattle.icu_normalizer.proofs.StepLemmas.{decomposed_itself}
+use Rattle.icu_normalizer.proofs.TextCutLemmas.{IsPastPlain, IsReadTo, all_characters, all_units, characters_front, read_first}
 
 -- ---- a starter that is no pair's second composes with nothing before it
 
@@ -42,12 +40,6 @@ module _ (canonical : Canonical) where
       ∙ ap (λ l. l ++ recomposed canonical (d ∷ ys)) (sym (recomposed_begun canonical c cs first)))
       (cases_lt 0 (canonical.class c))
 
--- A text that was passed over to a place: `back` is the last character that was read.
-pub record IsSkipping (canonical : Canonical) (text rest ahead front back : List ℕ) : Type 0 where
-  pub read : IsRead text rest ahead front back
-  pub alone : composed canonical (chars text) ≡ front ++ composed canonical (back ++ chars ahead)
-  pub last : (back ≡ []) ⊎ ((b : ℕ) × (back ≡ b ∷ []) × (composed canonical (b ∷ []) ≡ b ∷ []))
-
 module _ (canonical : Canonical) where
   -- a text is composed in two parts before a character that has a boundary before it
   pub composed_parts : (xs : List ℕ) (c : ℕ) (ys : List ℕ) → HasBoundaryBefore canonical c → composed canonical (xs ++ c ∷ ys) ≡ composed canonical xs ++ composed canonical (c ∷ ys)
@@ -71,11 +63,6 @@ module _ (canonical : Canonical) where
   composed_passed : (b c : ℕ) (ys : List ℕ) → composed canonical (b ∷ []) ≡ b ∷ [] → HasBoundaryBefore canonical c → composed canonical (b ∷ c ∷ ys) ≡ b ∷ composed canonical (c ∷ ys)
   composed_passed b c ys own apart = composed_parts (b ∷ []) c ys apart ∙ ap (λ l. l ++ composed canonical (c ∷ ys)) own
 
-  -- ---- passing over
-
-  pub skipping_none : (text ahead : List ℕ) → ahead ≡ text → IsSkipping canonical text text ahead [] []
-  skipping_none text ahead e = record { read = record { whole = refl; part = sym e }; alone = ap (λ l. composed canonical (chars l)) (sym e); last = inl refl }
-
   passed_last : (back ys : List ℕ) (c : ℕ) → (back ≡ []) ⊎ ((b : ℕ) × (back ≡ b ∷ []) × (composed canonical (b ∷ []) ≡ b ∷ [])) → HasBoundaryBefore canonical c → composed canonical (back ++ c ∷ ys) ≡ back ++ composed canonical (c ∷ ys)
   passed_last back ys c (inl none) apart = ap (λ l. composed canonical (l ++ c ∷ ys)) none ∙ ap (λ l. l ++ composed canonical (c ∷ ys)) (sym none)
   passed_last back ys c (inr some) apart =
@@ -84,31 +71,6 @@ module _ (canonical : Canonical) where
   own_last : (back : List ℕ) → (back ≡ []) ⊎ ((b : ℕ) × (back ≡ b ∷ []) × (composed canonical (b ∷ []) ≡ b ∷ [])) → composed canonical back ≡ back
   own_last back (inl none) = ap (composed canonical) none ∙ composed_nothing canonical ∙ sym none
   own_last back (inr some) = ap (composed canonical) some.1 ∙ some.2 ∙ sym some.1
-
-  pub skipping_more : (text rest ahead next front back : List ℕ) (c : ℕ) → IsSkipping canonical text rest ahead front back → IsUtf8 ahead → ahead ≡ encode_utf8 c ++ next → IsSteady canonical c → IsSkipping canonical text ahead next (front ++ back) (c ∷ [])
-  skipping_more text rest ahead next front back c is v e apart = record {
-    read = read_starter text rest ahead next front back c is.read e;
-    alone =
-        is.alone ∙ ap (λ l. front ++ composed canonical (back ++ l)) (chars_past_char ahead next c v e) ∙ ap (λ l. front ++ l) (passed_last back (chars next) c is.last apart.0)
-        ∙ sym (append_assoc front back (composed canonical (c ∷ chars next)));
-    last = inr (c, refl, apart.1);
-  }
-
-  pub skipped_all : (text rest ahead front back : List ℕ) → IsSkipping canonical text rest ahead front back → IsUtf8 text → IsUtf8 ahead → chars ahead ≡ [] → IsComposed canonical (chars text)
-  skipped_all text rest ahead front back is u v empty =
-      is.alone ∙ ap (λ l. front ++ composed canonical l) (ap (λ l. back ++ l) empty ∙ append-nil back) ∙ ap (λ l. front ++ l) (own_last back is.last ∙ sym (append-nil back) ∙ ap (λ l. back ++ l) (sym empty))
-      ∙ text_chars text rest ahead front back is.read u v
-
-  pub skipped_rest : (text rest ahead front back : List ℕ) → IsSkipping canonical text rest ahead front back → IsUtf8 text → IsUtf8 ahead → IsSkipped (composed canonical) text rest
-  skipped_rest text rest ahead front back is u v =
-      let same = rest_chars text rest ahead front back is.read u v in
-      record {
-        prefix = front;
-        bytes = is.read.whole;
-        readable = front_utf8 text rest ahead front back is.read u v;
-        whole = sym (text_chars text rest ahead front back is.read u v) ∙ ap (λ l. front ++ l) same;
-        alone = is.alone ∙ ap (λ l. front ++ composed canonical l) same;
-      }
 
 -- ---- ASCII at the start
 
@@ -133,57 +95,59 @@ module _ (canonical : Canonical) (ok : IsForming canonical) where
   plain_passed (c ∷ d ∷ cs) x ys plain last =
       composed_passed canonical c d (cs ++ x ∷ ys) (steady_plain c plain.0).1 (steady_plain d plain.1.0).0 ∙ ap (λ l. c ∷ l) (plain_passed (d ∷ cs) x ys plain.1 last)
 
-  pub skipping_begun : (text rest ahead : List ℕ) (n : ℕ) → IsUtf8 text → n ≤ length text → ((k : ℕ) → k < n → get_or text k 0 < 0x80) → rest ≡ drop (n - 1) text → ahead ≡ drop n text
-      → (front : List ℕ) × (back : List ℕ) × IsSkipping canonical text rest ahead front back
-  skipping_begun text rest ahead zero u within plain e f =
-      let start : rest ≡ text = e ∙ ap (λ k. drop k text) (let zero_is : 0 - 1 ≡ 0 = omega arith in zero_is) in
-      ([], [], subst (λ (r : List ℕ). IsSkipping canonical text r ahead [] []) (sym start) (skipping_none canonical text ahead f))
-  skipping_begun text rest ahead (suc m) u within plain e f =
-      let start : rest ≡ drop m text = e ∙ ap (λ k. drop k text) (let one : suc m - 1 ≡ m = omega arith in one) in
-      let x = get_or text m 0 in
-      let last : x < 0x80 = plain m (omega arith) in
-      let front : ArePlain (take m text) = are_plain text m (λ k lt. plain k (omega arith)) in
-      let v : IsUtf8 ahead = subst IsUtf8 (sym f) (IsUtf8-drop text (suc m) u (plain_boundary text (suc m) u within plain)) in
-      let read : IsRead text rest ahead (take m text) (x ∷ []) = record {
-        whole = sym (take-append-drop m text) ∙ ap₂ (λ a b. a ++ b) (sym (plain_bytes (take m text) front)) (sym start);
-        part = start ∙ drop-cons text m 0 (omega arith) ∙ ap₂ (λ a b. a ++ b) (sym (one_char x ∙ encode_ascii x last)) (sym f);
-      } in (
-        take m text,
-        x ∷ [],
-        record {
-          read = read;
-          alone = ap (composed canonical) (sym (text_chars text rest ahead (take m text) (x ∷ []) read u v)) ∙ plain_passed (take m text) x (chars ahead) front last;
-          last = inr (x, refl, (steady_plain x last).1);
-        },
-      )
+-- ---- passing over
 
--- ---- what is found of the rest is found of the text
+-- A text that was passed over to a place: `back` is the last character that was read.
+pub record IsSkipping (encode : List ℕ → List ℕ) (canonical : Canonical) (text rest ahead : Text) : Type 0 where
+  pub front : List ℕ
+  pub back : List ℕ
+  pub read : IsReadTo encode text rest ahead front back
+  pub alone : composed canonical text.characters ≡ front ++ composed canonical (back ++ ahead.characters)
+  pub last : (back ≡ []) ⊎ ((b : ℕ) × (back ≡ b ∷ []) × (composed canonical (b ∷ []) ≡ b ∷ []))
 
-module _ (form : List ℕ → List ℕ) (text rest : List ℕ) (is : IsSkipped form text rest) where
-  pub skipped_own : IsOwnForm form (chars rest) → IsOwnForm form (chars text)
-  skipped_own h = is.alone ∙ ap (λ l. is.prefix ++ l) h ∙ sym is.whole
+module _ (encode : List ℕ → List ℕ) (is : IsEncoding encode) (canonical : Canonical) where
+  pub skip_begun : IsForming canonical → (text rest ahead : Text) → IsPastPlain encode text rest ahead → IsSkipping encode canonical text rest ahead
+  skip_begun ok text rest ahead (inl r) = record { front = []; back = []; read = r; alone = ap (composed canonical) (r.characters ∙ r.characters_ahead); last = inl refl }
+  skip_begun ok text rest ahead (inr p) = record {
+    front = p.0;
+    back = p.1 ∷ [];
+    read = p.4;
+    alone = ap (composed canonical) (p.4.characters ∙ ap (λ l. p.0 ++ l) p.4.characters_ahead) ∙ plain_passed canonical ok p.0 p.1 ahead.characters p.2 p.3;
+    last = inr (p.1, refl, (steady_plain canonical ok p.1 p.3).1);
+  }
 
-  far_behind : (bound : ℕ) (later : List ℕ) → ReachesBelow form bound (chars rest) later → ReachesBelow form bound (chars text) (is.prefix ++ later)
-  far_behind bound later far agreed left others c e f low =
-      ⊎_elim (λ within. omega (arith, within, length-append is.prefix later))
-      (λ past.
-      let parts = split_front is.prefix (chars rest) agreed (c ∷ left) (sym is.whole ∙ e) past in
-      let text_is = append_cancel_left is.prefix (chars rest) (parts.0 ++ c ∷ left) (sym is.whole ∙ e ∙ ap (λ l. l ++ c ∷ left) parts.1 ∙ append_assoc is.prefix parts.0 (c ∷ left)) in
-      let form_is = append_cancel_left is.prefix (form (chars rest)) (parts.0 ++ others) (sym is.alone ∙ f ∙ ap (λ l. l ++ others) parts.1 ∙ append_assoc is.prefix parts.0 others) in
-      let reached = far parts.0 left others c text_is form_is low in
-      omega (arith, reached, length-append is.prefix later, ap length parts.1, length-append is.prefix parts.0))
-      (cases_lt (length agreed) (length is.prefix))
+  module _ (text rest ahead : Text) (s : IsSkipping encode canonical text rest ahead) where
+    pub skip_more : (next : Text) (c : ℕ) → BeginsWith encode ahead c next → IsSteady canonical c → IsSkipping encode canonical text ahead next
+    skip_more next c b apart = record {
+      front = s.front ++ s.back;
+      back = c ∷ [];
+      read = read_first encode is text rest ahead next s.front s.back c s.read b;
+      alone =
+          s.alone ∙ ap (λ l. s.front ++ composed canonical (s.back ++ l)) b.characters ∙ ap (λ l. s.front ++ l) (passed_last canonical s.back next.characters c s.last apart.0)
+          ∙ sym (append_assoc s.front s.back (composed canonical (c ∷ next.characters)));
+      last = inr (c, refl, apart.1);
+    }
 
-  pub skipped_cut : (bound : ℕ) (later : List ℕ) → IsFormCut form bound rest later → IsFormCut form bound text later
-  skipped_cut bound later cut =
-      let encoded = encodes-append is.prefix cut.prefix in
-      record {
-        prefix = is.prefix ++ cut.prefix;
-        bytes =
-            is.bytes ∙ ap (λ l. encode_utf8_all is.prefix ++ l) cut.bytes ∙ sym (append_assoc (encode_utf8_all is.prefix) (encode_utf8_all cut.prefix) later) ∙ ap (λ l. l ++ later) (sym encoded);
-        readable = (subst IsUtf8 (sym encoded) (IsUtf8-append (encode_utf8_all is.prefix) (encode_utf8_all cut.prefix) is.readable cut.readable.0), cut.readable.1);
-        whole = is.whole ∙ ap (λ l. is.prefix ++ l) cut.whole ∙ sym (append_assoc is.prefix cut.prefix (chars later));
-        alone = is.alone ∙ ap (λ l. is.prefix ++ l) cut.alone ∙ sym (append_assoc is.prefix cut.prefix (form (chars later)));
-        far = far_behind bound cut.prefix cut.far;
-        changes = λ h. cut.changes (append_cancel_left is.prefix (form (chars rest)) (chars rest) (sym is.alone ∙ h ∙ is.whole));
+    module _ (scalars : AreCharacters text.characters) where
+      pub skip_rest : IsPassed encode (composed canonical) text rest
+      skip_rest = record {
+        prefix = s.front;
+        behind = record { scalars = characters_front s.front rest.characters (subst AreCharacters s.read.characters scalars); units = s.read.units; characters = s.read.characters };
+        alone = s.alone ∙ ap (λ l. s.front ++ composed canonical l) (sym s.read.characters_ahead);
       }
+
+      pub skip_ended : IsAtEnd ahead → IsPassed encode (composed canonical) text ahead
+      skip_ended end =
+          let whole = all_characters encode is text rest ahead ahead s.front s.back 0 s.read in
+          record {
+            prefix = s.front ++ s.back;
+            behind = record {
+              scalars = characters_front (s.front ++ s.back) ahead.characters (subst AreCharacters whole scalars);
+              units = all_units encode is text rest ahead ahead s.front s.back 0 s.read;
+              characters = whole;
+            };
+            alone =
+                s.alone ∙ ap (λ l. s.front ++ composed canonical (s.back ++ l)) end.1
+                ∙ ap (λ l. s.front ++ l) (ap (composed canonical) (append-nil s.back) ∙ own_last canonical s.back s.last) ∙ sym (append-nil (s.front ++ s.back))
+                ∙ ap (λ l. (s.front ++ s.back) ++ l) (sym (composed_nothing canonical) ∙ ap (composed canonical) (sym end.1));
+          }

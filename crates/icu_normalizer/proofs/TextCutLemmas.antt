@@ -15,6 +15,10 @@ pub characters_front : (xs ys : List ℕ) → AreCharacters (xs ++ ys) → AreCh
 characters_front [] ys h = tt
 characters_front (x ∷ xs) ys h = (h.0, characters_front xs ys h.1)
 
+pub characters_append : (xs ys : List ℕ) → AreCharacters xs → AreCharacters ys → AreCharacters (xs ++ ys)
+characters_append [] ys h k = k
+characters_append (x ∷ xs) ys h k = (h.0, characters_append xs ys h.1 k)
+
 -- ---- what `split_char` gives
 
 module _ (encode : List ℕ → List ℕ) (text rest : Text) (first : Option ℕ) (begins : MatchOption first (BeginsDamaged encode text rest) (λ c. BeginsWith encode text c rest)) where
@@ -159,6 +163,16 @@ module _ (encode : List ℕ → List ℕ) (is : IsEncoding encode) where
 
   -- ---- where a text is cut
 
+  pub cut_here : (form : List ℕ → List ℕ) (bound : ℕ) (text rest : Text) (front : List ℕ) → text.units ≡ encode front ++ rest.units → text.characters ≡ front ++ rest.characters → AreCharacters text.characters
+      → 0 < length rest.units → form text.characters ≡ front ++ form rest.characters → ReachesTo encode form bound text front → (IsOwnText encode form text → ⊥) → IsTextCut encode form bound text rest
+  cut_here form bound text rest front units characters scalars some alone far changes = record {
+    prefix = front;
+    behind = record { scalars = characters_front front rest.characters (subst AreCharacters characters scalars); units = units; characters = characters };
+    alone = alone;
+    far = far;
+    empty = (λ none. absurd (omega (arith, some, ap length none)), λ own. absurd (changes own));
+  }
+
   module _ (form : List ℕ → List ℕ) (bound : ℕ) (text rest ahead : Text) (front back : List ℕ) (r : IsReadTo encode text rest ahead front back) (scalars : AreCharacters text.characters) where
     -- it was read to its end, and is its own form
     pub cut_at_end : IsAtEnd ahead → form [] ≡ [] → IsOwnForm form (front ++ back) → IsTextCut encode form bound text ahead
@@ -181,20 +195,8 @@ module _ (encode : List ℕ → List ℕ) (is : IsEncoding encode) where
         }
 
     pub cut_before : 0 < length ahead.units → form text.characters ≡ front ++ form rest.characters → ReachesTo encode form bound text front → (IsOwnText encode form text → ⊥) → IsTextCut encode form bound text rest
-    cut_before some alone far changes = record {
-      prefix = front;
-      behind = record {
-        scalars = characters_front front rest.characters (subst AreCharacters r.characters scalars);
-        units = r.units;
-        characters = r.characters;
-      };
-      alone = alone;
-      far = far;
-      empty = (
-        λ none. absurd (omega (arith, some, ap length (sym none ∙ r.units_ahead), length-append (encode back) ahead.units)),
-        λ own. absurd (changes own),
-      );
-    }
+    cut_before some =
+        cut_here form bound text rest front r.units r.characters scalars (omega (arith, some, ap length r.units_ahead, length-append (encode back) ahead.units))
 
   pub split_text : (form : List ℕ → List ℕ) (bound : ℕ) (text rest front back : Text) (cut : IsTextCut encode form bound text rest)
       → front.units ≡ encode cut.prefix → front.characters ≡ cut.prefix → back.units ≡ rest.units → back.characters ≡ rest.characters

@@ -4,7 +4,7 @@ use Rattle.std.proofs.Math.Seq.{take-append_seam, drop-append_seam}
 use Rattle.std.proofs.lemmas.Bool.{cases_lt, and_from}
 use Rattle.std.proofs.lemmas.Bool.Decides.{nat_tests}
 use Rattle.std.proofs.lemmas.List.Elements.{recursion_from_All, All-from_recursion}
-use Rattle.std.proofs.lemmas.Str.{IsCharBoundary-at_seam, chars-encodes, chars_from_encodes, chars_past_char, encodes-append, encodes-chars, scalars-chars}
+use Rattle.std.proofs.lemmas.Str.{IsCharBoundary-at_seam, chars-encodes, chars-nil, chars_from_encodes, chars_past_char, encodes-append, encodes-chars, scalars-chars}
 use Rattle.std.specs.Char.{IsScalar}
 use Rattle.std.specs.Char.Escape.{encode_utf16}
 use Rattle.std.specs.Char.Utf16.{surrogate_pair_char}
@@ -22,7 +22,7 @@ use Rattle.icu_normalizer_core.proofs.TextLemmas.{utf16_text as written_units}
 use Rattle.icu_normalizer_core.proofs.Utf16Lemmas.{is_pair, lone_char, utf16_chars-nil, one_unit, pair_step, lone_step}
 use Rattle.icu_normalizer.specs.FormCuts.{IsOwnForm, ReachesBelow}
 use Rattle.icu_normalizer.specs.TextCuts.{IsOwnText, ReachesTo}
-use Rattle.icu_normalizer.specs.Texts.{str_text, utf8_text, utf16_text, encode_utf16_all, AreCharacters, BeginsWith, BeginsDamaged, IsUndamaged}
+use Rattle.icu_normalizer.specs.Texts.{str_text, utf8_text, utf16_text, encode_utf16_all, AreCharacters, BeginsWith, BeginsDamaged, IsAtEnd, IsUndamaged}
 use Rattle.icu_normalizer.proofs.CutLemmas.{ArePlain, are_plain, are_scalar, plain_bytes}
 
 -- ---- ASCII at the start
@@ -84,6 +84,17 @@ utf8_characters bytes = recursion_from_All IsScalar (utf8_chars bytes) (utf8_sca
 
 pub utf16_characters : (units : List ℕ) → ((i : ℕ) → slice_index units i < 2 ^ 16) → AreCharacters (utf16_chars units)
 utf16_characters units small = recursion_from_All IsScalar (utf16_chars units) (unit_scalars units small)
+
+-- ---- nothing is left
+
+pub str_at_end : (bytes : List ℕ) → bytes ≡ [] → IsAtEnd (str_text bytes)
+str_at_end bytes none = (none, ap chars none ∙ chars-nil)
+
+pub utf8_at_end : (bytes : List ℕ) → bytes ≡ [] → IsAtEnd (utf8_text bytes)
+utf8_at_end bytes none = (none, ap utf8_chars none ∙ lossy_chars-encode [] refl)
+
+pub utf16_at_end : (units : List ℕ) → units ≡ [] → IsAtEnd (utf16_text units)
+utf16_at_end units none = (none, ap utf16_chars none ∙ utf16_chars-nil)
 
 -- ---- the first character
 

@@ -1,5 +1,5 @@
 -- Composing a starter with what stands behind it.
-use Rattle.std.specs.Prelude.{◌≡◌, ℕ, ◌<◌, ◌≤◌, ◌==◌, ◌||◌, ltb, cond, List, ◌++◌, Option, Some, None}
+use Rattle.std.specs.Prelude.{◌≡◌, ℕ, ◌<◌, ◌≤◌, ◌==◌, ◌||◌, ltb, cond, List, ◌++◌, length, Option, Some, None}
 use Rattle.std.specs.List.{list_all}
 use Rattle.icu_normalizer_core.specs.Canonical.{Canonical, composed}
 
@@ -21,3 +21,11 @@ IsComposable canonical =
 -- a text before these characters is composed apart from them
 abbrev pub IsComposedApart : Canonical → List ℕ → Type 0
 IsComposedApart canonical ys = (xs : List ℕ) → composed canonical (xs ++ ys) ≡ composed canonical xs ++ composed canonical ys
+
+-- characters in two parts that are composed apart: the first are a cluster, and `form` is its composed list
+pub record IsCluster (canonical : Canonical) (text form rest : List ℕ) : Type 0 where
+  pub cluster : List ℕ
+  pub some : 0 < length cluster
+  pub whole : text ≡ cluster ++ rest
+  pub composes : form ≡ composed canonical cluster
+  pub apart : IsComposedApart canonical rest

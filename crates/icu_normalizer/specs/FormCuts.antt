@@ -1,6 +1,5 @@
--- How far a text is its own normal form, and where it may be cut.
-use Rattle.std.specs.Prelude.{◌≡◌, ℕ, ◌<◌, ◌≤◌, List, ◌∷◌, ◌++◌, length, chars, encode_utf8_all}
-use Rattle.std.specs.Str.{IsUtf8}
+-- How far a text is its own normal form.
+use Rattle.std.specs.Prelude.{◌≡◌, ℕ, ◌<◌, ◌≤◌, List, ◌∷◌, ◌++◌, length}
 use Rattle.icu_normalizer_core.specs.Canonical.{Canonical, composed}
 
 -- the text is its own form
@@ -16,21 +15,3 @@ IsComposed canonical text = IsOwnForm (composed canonical) text
 abbrev pub ReachesBelow : (List ℕ → List ℕ) → ℕ → List ℕ → List ℕ → Type 0
 ReachesBelow form bound text prefix =
     (agreed left others : List ℕ) (c : ℕ) → text ≡ agreed ++ c ∷ left → form text ≡ agreed ++ others → c < bound → length agreed ≤ length prefix
-
--- a text that is not its own form is cut: the form of `rest` is what is left of its form behind the prefix
-pub record IsFormCut (form : List ℕ → List ℕ) (bound : ℕ) (text rest : List ℕ) : Type 0 where
-  pub prefix : List ℕ
-  pub bytes : text ≡ encode_utf8_all prefix ++ rest
-  pub readable : IsUtf8 (encode_utf8_all prefix) × IsUtf8 rest
-  pub whole : chars text ≡ prefix ++ chars rest
-  pub alone : form (chars text) ≡ prefix ++ form (chars rest)
-  pub far : ReachesBelow form bound (chars text) prefix
-  pub changes : IsOwnForm form (chars text) → ⊥
-
--- the form of the text is the prefix that was passed over, and the form of the rest
-pub record IsSkipped (form : List ℕ → List ℕ) (text rest : List ℕ) : Type 0 where
-  pub prefix : List ℕ
-  pub bytes : text ≡ encode_utf8_all prefix ++ rest
-  pub readable : IsUtf8 (encode_utf8_all prefix)
-  pub whole : chars text ≡ prefix ++ chars rest
-  pub alone : form (chars text) ≡ prefix ++ form (chars rest)

@@ -1,4 +1,5 @@
 pub mod ClusterForm
+pub mod Clusters
 pub mod Composer
 pub mod Composing
 pub mod Compositions

@@ -14,6 +14,12 @@ module _ (encode : List ℕ → List ℕ) (form : List ℕ → List ℕ) where
   abbrev pub IsOwnText : Text → Type 0
   IsOwnText text = IsUndamaged encode text × IsOwnForm form text.characters
 
+  -- the form of the text is what was passed over, undamaged, and the form of the rest
+  pub record IsPassed (text rest : Text) : Type 0 where
+    pub prefix : List ℕ
+    pub behind : IsBehind encode text prefix rest
+    pub alone : form text.characters ≡ prefix ++ form rest.characters
+
   module _ (bound : ℕ) where
     -- the prefix holds all that stands before any character below the bound at or before the first place at which the text
     -- and its form differ, or the text is damaged

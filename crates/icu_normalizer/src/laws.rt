@@ -3,14 +3,16 @@
 //! speak of them. That its canonical data are `IsCanonical` a normaliser's `keep_promise` says.
 
 ghost use Rattle.std.specs.Char.{IsScalar};
-ghost use Rattle.std.specs.Prelude.{◌≡◌, ℕ, ◌↔◌, All, List, chars};
+ghost use Rattle.std.specs.Prelude.{◌≡◌, ℕ, ◌↔◌, All, List, chars, encode_utf8_all};
 ghost use Rattle.std.specs.Str.{IsUtf8};
 ghost use Rattle.icu_normalizer_core.specs.Canonical.{Canonical, IsCanonical, IsDecomposing, composed, decomposed};
+ghost use Rattle.icu_normalizer_core.specs.Decoding.{utf8_chars, utf16_chars};
 ghost use Rattle.icu_normalizer.specs.Equivalence.{IsEquivalent};
 ghost use Rattle.icu_normalizer.specs.Forming.{IsSaidOver};
 ghost use Rattle.icu_normalizer.specs.FormCuts.{IsComposed};
 ghost use Rattle.icu_normalizer.specs.Splits.{IsDecomposed};
 ghost use Rattle.icu_normalizer.specs.TextForms.{composed_text, decomposed_text};
+ghost use Rattle.icu_normalizer.specs.Texts.{encode_utf16_all};
 
 /// Two texts of scalar values are canonically equivalent exactly where they have the same
 /// decomposed list (UAX 15). Equivalent means here that mapping characters where they stand and
@@ -105,4 +107,21 @@ pub fn forms_of_texts_by_data_stay()
         → decomposed_text said (composed_text said text) ≡ decomposed_text said text }
     ensures composed_twice { (canonical said : Canonical) (text : List ℕ) → IsCanonical canonical → IsSaidOver canonical said → IsUtf8 text
         → composed_text said (composed_text said text) ≡ composed_text said text }
+{}
+
+/// A text has one form in all encodings: the NFD and the NFC of bytes that are text are those of the text, and of units
+/// that read as the text's characters they read as those of the text do. So it is by canonical and by compatibility
+/// data.
+#[tactic(auto, using(crate::proofs::FormLawLemmas::bytes_decomposed, crate::proofs::FormLawLemmas::bytes_composed, crate::proofs::FormLawLemmas::units_decomposed, crate::proofs::FormLawLemmas::units_composed))]
+pub fn encodings_have_one_form()
+    ensures bytes_decomposed { (said : Canonical) (text : List ℕ) → IsUtf8 text
+        → encode_utf8_all (decomposed said (utf8_chars text)) ≡ decomposed_text said text }
+    ensures bytes_composed { (said : Canonical) (text : List ℕ) → IsUtf8 text
+        → encode_utf8_all (composed said (utf8_chars text)) ≡ composed_text said text }
+    ensures units_decomposed { (canonical said : Canonical) (text units : List ℕ) → IsCanonical canonical → IsSaidOver canonical said → IsUtf8 text
+        → utf16_chars units ≡ chars text
+        → utf16_chars (encode_utf16_all (decomposed said (utf16_chars units))) ≡ chars (decomposed_text said text) }
+    ensures units_composed { (canonical said : Canonical) (text units : List ℕ) → IsCanonical canonical → IsSaidOver canonical said → IsUtf8 text
+        → utf16_chars units ≡ chars text
+        → utf16_chars (encode_utf16_all (composed said (utf16_chars units))) ≡ chars (composed_text said text) }
 {}

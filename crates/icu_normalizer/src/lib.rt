@@ -2,7 +2,6 @@
 //! text in NFD, and `composing::Composition`, those in NFC.
 #![tactic(auto)]
 
-mod char_sinks;
 pub mod composing;
 pub mod decomposing;
 mod form_data;

@@ -3,12 +3,14 @@
 mod bytes;
 mod known;
 mod units;
+mod writing;
 
-ghost use Rattle.std.specs.Prelude.{◌≡◌, ℕ, ◌<◌, ◌≤◌, List, ◌++◌, length, drop, take, slice_index, MatchOption, IfSome, IfNone};
+ghost use Rattle.std.specs.Prelude.{◌≡◌, ◌↔◌, IsTrue, ℕ, ◌<◌, ◌≤◌, List, ◌++◌, length, drop, take, slice_index, MatchOption, IfSome, IfNone};
 ghost use Rattle.icu_normalizer.specs.TextCuts.{IsBehind};
 ghost use Rattle.icu_normalizer.specs.Texts.{Text as Spelled, IsEncoding, AreCharacters, BeginsWith, BeginsDamaged, IsAtEnd};
 
 pub(crate) use bytes::known as known_text;
+pub(crate) use writing::WriteTo;
 
 /// A text in some encoding, which is read from the front. What is damaged reads as U+FFFD.
 pub(crate) trait Text: Copy {
@@ -19,6 +21,10 @@ pub(crate) trait Text: Copy {
     /// How many units it has.
     fn len(self) -> usize
         ensures { result ≡ length (spelled self).units };
+
+    /// Whether nothing is left.
+    fn is_at_end(self) -> bool
+        ensures { IsTrue result ↔ IsAtEnd (spelled self) };
 
     /// How many ASCII characters it begins with.
     fn plain_len(self) -> usize

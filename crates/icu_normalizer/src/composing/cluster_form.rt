@@ -1,14 +1,16 @@
 //! The NFC of clusters, character by character.
 
-ghost use Rattle.std.specs.Prelude.{◌≡◌, ◌+◌, ◌≤◌, [], ◌++◌, length, option_to_list, IfNone, IfOk, OnOk, chars};
+ghost use Rattle.std.specs.Prelude.{◌≡◌, ◌+◌, ◌≤◌, [], ◌++◌, length, option_to_list, IfNone, IfOk, OnOk};
+ghost use Rattle.icu_normalizer.specs.Composing.{IsCluster, IsComposable};
 ghost use Rattle.icu_normalizer.specs.FormData.{form_meaning};
-ghost use Rattle.icu_normalizer_core.specs.Canonical.{composed};
-ghost use Rattle.icu_normalizer.specs.Composing.{IsComposable};
 ghost use Rattle.icu_normalizer.specs.Readable.{IsReadable};
+ghost use Rattle.icu_normalizer.specs.Texts.{IsAtEnd};
 
+use super::clusters::next_of_cluster;
 use super::composer::Composer;
 use crate::form_data::FormData;
 use crate::run::Run;
+use crate::texts::Text;
 use std::alloc::{AllocError, Global};
 
 /// What is left of the NFC of a cluster. It is made once, and takes one cluster after another.
@@ -34,19 +36,29 @@ impl<'d> ClusterForm<'d> {
         }
     }
 
-    /// Takes a cluster; what was left of the one before it is dropped.
-    pub(super) fn begin(&mut self, cluster: &str) -> Result<(), AllocError>
-        ensures left { OnOk result (form_left self.new ≡ composed (form_data self.old) (chars cluster.now)) }
+    /// Takes the first cluster of a text: its first character, and those behind it up to the next steady one. What was left
+    /// of the cluster before it is dropped. The answer is what stands behind the cluster.
+    pub(super) fn begin<T: Text>(&mut self, basis: FormData<'_>, text: T) -> Result<T, AllocError>
+        requires data { form_data self.old ≡ form_meaning basis }
+        requires some { IsAtEnd (T.spelled text) → ⊥ }
+        ensures cluster { IfOk result (λ rest. IsCluster (form_meaning basis.entry) (T.spelled text).characters (form_left self.new) (T.spelled rest).characters) }
         ensures begun { OnOk result (IsBegun self.new) }
         ensures same { form_data self.new ≡ form_data self.old }
     {
         self.run.clear();
         self.composer.clear();
-        let mut chars = cluster.chars();
-        while let Some(c) = chars.next() {
-            self.run.push_decomposed(c)?;
+        let Some(first) = text.split_char() else {
+            return Ok(text);
+        };
+        let c = first.0.unwrap_or(char::REPLACEMENT_CHARACTER);
+        self.run.push_decomposed(c)?;
+        let mut rest = first.1;
+        'chars: while let Some(read) = next_of_cluster(basis, rest) {
+            self.run.push_decomposed(read.0)?;
+            rest = read.1;
         }
-        self.run.finish()
+        self.run.finish()?;
+        Ok(rest)
     }
 
     /// The first character that is left.

@@ -1,45 +1,28 @@
 //! Parts of a text that are composed alone.
 
-ghost use Rattle.std.specs.Prelude.{◌≡◌, ◌<◌, ◌≤◌, ◌++◌, length, chars, encode_utf8_all};
-ghost use Rattle.icu_normalizer.specs.FormData.{form_meaning};
-ghost use Rattle.icu_normalizer_core.specs.Canonical.{composed};
+ghost use Rattle.std.specs.Prelude.{◌≡◌, ◌∷◌, ◌<◌, IfSome, IfNone, length};
 ghost use Rattle.icu_normalizer.specs.Composing.{IsComposedApart};
+ghost use Rattle.icu_normalizer.specs.FormData.{form_meaning};
 
-use super::low::{is_steady, skip_low};
+use super::low::is_steady;
 use crate::form_data::FormData;
+use crate::texts::Text;
 
-/// A text in two parts that are composed alone: the first is its first character and those behind it up to the next
-/// steady one. It takes no memory.
-pub(super) fn first_cluster<'t>(basis: FormData<'_>, text: &'t str) -> (&'t str, &'t str)
-    requires { 0 < length text.now }
-    ensures whole { text.now ≡ result.0.now ++ result.1.now }
-    ensures apart { IsComposedApart (form_meaning basis.entry) (chars result.1.now) }
-    ensures shorter { length result.1.now < length text.now }
+/// The next character of a cluster, and what stands behind it; `None` where the cluster ends, before a steady character
+/// or at the end of the text. What is damaged reads as U+FFFD.
+#[inline]
+pub(super) fn next_of_cluster<T: Text>(basis: FormData<'_>, text: T) -> Option<(char, T)>
+    ensures none { IfNone result (IsComposedApart (form_meaning basis.entry) (T.spelled text).characters) }
+    ensures some { IfSome result (λ read. (T.spelled text).characters ≡ read.0 ∷ (T.spelled read.1).characters) }
 {
     basis.keep_promise();
-    let mut chars = text.chars();
-    let Some(_first) = chars.next() else {
-        return text.split_at(text.len());
+    let Some(read) = text.split_char() else {
+        return None;
     };
-    'chars: loop {
-        let rest = chars.as_str();
-        let Some(c) = chars.next() else {
-            return text.split_at(text.len());
-        };
-        if is_steady(basis, c) {
-            return text.split_at(text.len() - rest.len());
-        }
-    }
-}
-
-/// A text in two parts, the first of which stays as it stands. It takes no memory.
-pub(super) fn split_apart<'t>(basis: FormData<'_>, text: &'t str) -> (&'t str, &'t str)
-    ensures stays { encode_utf8_all (composed (form_meaning basis.entry) (chars text.now)) ≡ result.0.now ++ encode_utf8_all (composed (form_meaning basis.entry) (chars result.1.now)) }
-    ensures shorter { length result.1.now ≤ length text.now }
-{
-    basis.keep_promise();
-    match skip_low(basis, text) {
-        None => text.split_at(text.len()),
-        Some(rest) => text.split_at(text.len() - rest.len()),
+    let c = read.0.unwrap_or(char::REPLACEMENT_CHARACTER);
+    if is_steady(basis, c) {
+        None
+    } else {
+        Some((c, read.1))
     }
 }

@@ -1,78 +1,117 @@
 //! Where a text has to be changed to be in NFC.
 
-ghost use Rattle.std.specs.Prelude.{◌≡◌, ◌<◌, ◌≤◌, MatchOption, IfOk, chars};
-ghost use Rattle.icu_normalizer.specs.FormData.{form_meaning};
+ghost use Rattle.std.specs.Prelude.{◌≡◌, ◌<◌, ◌≤◌, ◌++◌, length, IfOk};
 ghost use Rattle.icu_normalizer_core.specs.Canonical.{composed};
 ghost use Rattle.icu_normalizer.specs.ClusterForm.{form_data};
-ghost use Rattle.icu_normalizer.specs.FormCuts.{IsComposed, IsFormCut};
+ghost use Rattle.icu_normalizer.specs.Clusters.{IsFound};
+ghost use Rattle.icu_normalizer.specs.FormData.{form_meaning};
+ghost use Rattle.icu_normalizer.specs.TextCuts.{IsTextCut, IsTextSplit};
+ghost use Rattle.icu_normalizer.specs.Texts.{IsAtEnd, IsUndamaged};
 
 use super::cluster_form::ClusterForm;
-use super::clusters::first_cluster;
-use super::low::skip_low;
+use super::low::pass_low;
 use crate::form_data::FormData;
+use crate::texts::Text;
 use std::alloc::{AllocError, Global};
 
+/// What is found of the first cluster of a text.
+pub(super) enum Found<T> {
+    /// It is undamaged and its own NFC; this stands behind it.
+    Own(T),
+    /// The text has to be changed from here on, which is the last character below U+0300 at or before the first change.
+    Changed(T),
+}
+
 /// What has to be changed for a text to be in NFC, from the last character below U+0300 at or before the first change
-/// on; `None` where nothing has to be changed.
-pub(super) fn rest_to_change<'t>(
+/// on: nothing where the text is undamaged and its own NFC. A damaged part is a change.
+pub(super) fn rest_to_change<T: Text>(
     alloc: Global,
     basis: FormData<'_>,
-    text: &'t str,
-) -> Result<Option<&'t str>, AllocError>
-    ensures { IfOk result (λ out. MatchOption out (IsComposed (form_meaning basis.entry) (chars text.now)) (λ rest. IsFormCut (composed (form_meaning basis.entry)) 0x300 text.now rest.now)) }
+    text: T,
+) -> Result<T, AllocError>
+    ensures { IfOk result (λ rest. IsTextCut T.encode (composed (form_meaning basis.entry)) 0x300 (T.spelled text) (T.spelled rest)) }
 {
     basis.keep_promise();
     let mut form = ClusterForm::new(alloc, basis);
-    let mut left = text;
-    while let Some(rest) = skip_low(basis, left) {
-        let (cluster, behind) = first_cluster(basis, rest);
-        match rest_to_compose(basis, &mut form, cluster) {
-            Ok(None) => {}
-            Ok(Some(cut)) => return Ok(Some(&rest[cluster.len() - cut.len()..])),
+    let mut left = pass_low(basis, text);
+    while !left.is_at_end() {
+        match read_cluster(basis, &mut form, left) {
+            Ok(Found::Own(rest)) => left = pass_low(basis, rest),
+            Ok(Found::Changed(rest)) => return Ok(rest),
             Err(error) => return Err(error),
         }
-        left = behind;
     }
-    Ok(None)
+    Ok(left)
 }
 
-/// The same of a cluster, character by character.
-fn rest_to_compose<'t>(
+/// A text in two parts: the prefix and the NFC of the rest are together the NFC of the text.
+pub(super) fn split<T: Text>(
+    alloc: Global,
+    basis: FormData<'_>,
+    text: T,
+) -> Result<(T, T), AllocError>
+    ensures { IfOk result (λ parts. IsTextSplit T.encode (composed (form_meaning basis.entry)) 0x300 (T.spelled text) (T.spelled parts.0) (T.spelled parts.1)) }
+{
+    match rest_to_change(alloc, basis, text) {
+        Ok(rest) => Ok(text.split_before(rest)),
+        Err(error) => Err(error),
+    }
+}
+
+/// A text in two parts, of which the first stays as it stands. It takes no memory.
+pub(super) fn split_low<T: Text>(basis: FormData<'_>, text: T) -> (T, T)
+    ensures undamaged { IsUndamaged T.encode (T.spelled result.0) }
+    ensures stays { T.encode (composed (form_meaning basis.entry) (T.spelled text).characters) ≡ (T.spelled result.0).units ++ T.encode (composed (form_meaning basis.entry) (T.spelled result.1).characters) }
+    ensures fewer { length (T.spelled result.1).characters ≤ length (T.spelled text).characters }
+{
+    text.split_before(pass_low(basis, text))
+}
+
+/// Reads the first cluster of a text beside its NFC.
+fn read_cluster<T: Text>(
     basis: FormData<'_>,
     form: &mut ClusterForm<'_>,
-    text: &'t str,
-) -> Result<Option<&'t str>, AllocError>
-    requires { form_data form.old ≡ form_meaning basis }
+    text: T,
+) -> Result<Found<T>, AllocError>
+    requires data { form_data form.old ≡ form_meaning basis }
+    requires some { IsAtEnd (T.spelled text) → ⊥ }
     ensures same { form_data form.new ≡ form_data form.old }
-    ensures cut { IfOk result (λ out. MatchOption out (IsComposed (form_meaning basis.entry) (chars text.now)) (λ rest. IsFormCut (composed (form_meaning basis.entry)) 0x300 text.now rest.now)) }
+    ensures found { IfOk result (λ found. IsFound T.encode (composed (form_meaning basis.entry)) T.spelled (T.spelled text) found) }
 {
     basis.keep_promise();
-    form.begin(text)?;
+    text.keep_promise();
+    let Ok(_behind) = form.begin(basis, text) else {
+        return Err(AllocError);
+    };
     let mut rest = text;
-    let mut chars = text.chars();
+    let mut ahead = text;
     'chars: loop {
-        let here = chars.as_str();
-        let Some(c) = chars.next() else {
-            return match form.next()? {
-                None => Ok(None),
-                Some(_) => Ok(Some(rest)),
-            };
+        let Ok(next) = form.next() else {
+            return Err(AllocError);
         };
-        rest = later_rest(c, here, rest);
-        let Some(composed) = form.next()? else {
-            return Ok(Some(rest));
+        let Some(composed) = next else {
+            return Ok(Found::Own(ahead));
         };
+        let Some(read) = ahead.split_char() else {
+            return Ok(Found::Changed(rest));
+        };
+        let first = read.0;
+        let Some(c) = first else {
+            return Ok(Found::Changed(rest));
+        };
+        rest = later_rest(c, ahead, rest);
         if composed != c {
-            return Ok(Some(rest));
+            return Ok(Found::Changed(rest));
         }
+        ahead = read.1;
     }
 }
 
 /// Where a text may be cut once `c` was read at `here`: a character below U+0300 composes with nothing before it.
 #[inline]
-fn later_rest<'t>(c: char, here: &'t str, rest: &'t str) -> &'t str
-    ensures low { c < 0x300 → result.now ≡ here.now }
-    ensures high { 0x300 ≤ c → result.now ≡ rest.now }
+fn later_rest<T: Text>(c: char, here: T, rest: T) -> T
+    ensures low { c < 0x300 → T.spelled result ≡ T.spelled here }
+    ensures high { 0x300 ≤ c → T.spelled result ≡ T.spelled rest }
 {
     if c < '\u{300}' { here } else { rest }
 }

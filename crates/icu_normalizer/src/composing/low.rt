@@ -1,35 +1,36 @@
 //! Characters that NFC mostly leaves as they stand.
 
-ghost use Rattle.std.specs.Prelude.{◌<◌, IsTrue, IfSome, IfNone, chars, length};
+ghost use Rattle.std.specs.Prelude.{IsTrue};
 ghost use Rattle.icu_normalizer_core.specs.Boundaries.{IsSteady};
-ghost use Rattle.icu_normalizer.specs.FormData.{form_meaning};
 ghost use Rattle.icu_normalizer_core.specs.Canonical.{composed};
-ghost use Rattle.icu_normalizer.specs.FormCuts.{IsComposed, IsSkipped};
+ghost use Rattle.icu_normalizer.specs.FormData.{form_meaning};
+ghost use Rattle.icu_normalizer.specs.TextCuts.{IsPassed};
 
 use crate::form_data::FormData;
 use crate::texts::Text;
 
 /// What is left of a text once characters that nothing composes with and that stay as they stand are passed over, from
-/// the last of them on; `None` where nothing is left, and the text is its own NFC. It takes no memory.
-pub(super) fn skip_low<'t>(basis: FormData<'_>, text: &'t str) -> Option<&'t str>
-    ensures none { IfNone result (IsComposed (form_meaning basis.entry) (chars text.now)) }
-    ensures some { IfSome result (λ rest. IsSkipped (composed (form_meaning basis.entry)) text.now rest.now) }
-    ensures left { IfSome result (λ rest. 0 < length rest.now) }
+/// the last of them on; nothing where they reach to the end. What is damaged is not passed over. It takes no memory.
+pub(super) fn pass_low<T: Text>(basis: FormData<'_>, text: T) -> T
+    ensures { IsPassed T.encode (composed (form_meaning basis.entry)) (T.spelled text) (T.spelled result) }
 {
     basis.keep_promise();
+    text.keep_promise();
     let plain = text.plain_len();
-    let mut rest = &text[plain.saturating_sub(1)..];
-    let mut chars = text[plain..].chars();
-    'chars: loop {
-        let here = chars.as_str();
-        let Some(c) = chars.next() else {
-            return None;
+    let mut rest = text.behind_plain(plain.saturating_sub(1));
+    let mut ahead = text.behind_plain(plain);
+    'chars: while let Some(read) = ahead.split_char() {
+        let first = read.0;
+        let Some(c) = first else {
+            return rest;
         };
         if !is_steady(basis, c) {
-            return Some(rest);
+            return rest;
         }
-        rest = here;
+        rest = ahead;
+        ahead = read.1;
     }
+    ahead
 }
 
 /// Whether a character is known to be its own composed list, and nothing before it composes with it.

@@ -1,6 +1,6 @@
 //! Texts in NFC, or in NFKC.
 
-ghost use Rattle.std.specs.Prelude.{◌≡◌, ℕ, ◌*◌, List, ◌++◌, OnOk, OnErr, chars, encode_utf8_all};
+ghost use Rattle.std.specs.Prelude.{◌≡◌, ℕ, ◌*◌, ◌<◌, List, ◌++◌, length, IfOk, OnOk, OnErr, chars, encode_utf8_all};
 ghost use Rattle.std.specs.Iterator.{IsFinite, size};
 ghost use Rattle.icu_normalizer_core.specs.Canonical.{IsCanonical, composed};
 ghost use Rattle.icu_normalizer.specs.Composing.{IsComposable};
@@ -9,16 +9,20 @@ ghost use Rattle.icu_normalizer.specs.Forming.{IsSaidOver};
 ghost use Rattle.icu_normalizer.specs.Iter.{Spells};
 ghost use Rattle.icu_normalizer.specs.Readable.{IsReadable};
 ghost use Rattle.icu_normalizer.specs.Sinks.{AddsPrefix, EndsByFailure};
+ghost use Rattle.icu_normalizer.specs.Texts.{IsAtEnd, IsUndamaged};
+ghost use Rattle.icu_normalizer.specs.Writer.{AddsFront};
 
+mod encodings;
 mod splits;
+mod written;
 
 use super::Composition;
 use super::cluster_form::ClusterForm;
-use super::clusters::{first_cluster, split_apart};
-use crate::char_sinks::{CharSink, Utf8};
+use super::cuts::{split, split_low};
 use crate::form_data::FormData;
 use crate::sinks::{NormError, TextSink};
-use std::alloc::Global;
+use crate::texts::{Text, WriteTo};
+use std::alloc::{AllocError, Global};
 
 /// A normaliser to NFC or NFKC (UAX 15), borrowed. What its calls say of NFC is said of NFKC where it is one to NFKC.
 #[derive(Clone, Copy, Debug)]
@@ -76,66 +80,116 @@ impl<'d> ComposingNormalizerBorrowed<'d> {
         ensures err { OnErr result (AddsPrefix (S.contents sink.old) (encode_utf8_all (composed (composing_data self.now) (chars text.now))) (S.contents sink.new)) }
         ensures failure { EndsByFailure S.takes S.fails sink.old result sink.new }
     {
-        let Ok((prefix, rest)) = self.split_normalized(alloc, text) else {
-            return Err(NormError::Memory);
-        };
-        if let Err(error) = sink.write_str(prefix) {
-            return Err(NormError::Sink(error));
-        }
-        self.write_composed(alloc, rest, sink)
+        self.write_form::<&str, S>(alloc, text, sink)
     }
 
-    /// The same, part by part: what stays as it stands is written as it stands.
-    fn write_composed<S: TextSink>(
+    /// The same of a text in any encoding. What is damaged is written as U+FFFD.
+    fn write_form<T: WriteTo<S>, S>(
         &self,
         alloc: Global,
-        text: &str,
+        text: T,
         sink: &mut S,
-    ) -> Result<(), NormError<S::Error>>
-        ensures ok { OnOk result (S.contents sink.new ≡ S.contents sink.old ++ encode_utf8_all (composed (composing_data self.now) (chars text.now))) }
-        ensures err { OnErr result (AddsPrefix (S.contents sink.old) (encode_utf8_all (composed (composing_data self.now) (chars text.now))) (S.contents sink.new)) }
-        ensures failure { EndsByFailure S.takes S.fails sink.old result sink.new }
+    ) -> Result<(), NormError<T::Error>>
+        ensures ok { OnOk result (T.contents sink.new ≡ T.contents sink.old ++ T.encode (composed (composing_data self.now) (T.spelled text).characters)) }
+        ensures err { OnErr result (AddsPrefix (T.contents sink.old) (T.encode (composed (composing_data self.now) (T.spelled text).characters)) (T.contents sink.new)) }
+        ensures failure { EndsByFailure T.takes T.fails sink.old result sink.new }
+    {
+        let Ok(parts) = split(alloc, self.basis, text) else {
+            return Err(NormError::Memory);
+        };
+        self.write_parts::<T, S>(alloc, parts, sink)
+    }
+
+    /// Writes the first of two texts as it stands, which is undamaged, and then the second in NFC.
+    fn write_parts<T: WriteTo<S>, S>(
+        &self,
+        alloc: Global,
+        parts: (T, T),
+        sink: &mut S,
+    ) -> Result<(), NormError<T::Error>>
+        requires { IsUndamaged T.encode (T.spelled parts.0) }
+        ensures ok { OnOk result (T.contents sink.new ≡ T.contents sink.old ++ ((T.spelled parts.0).units ++ T.encode (composed (composing_data self.now) (T.spelled parts.1).characters))) }
+        ensures err { OnErr result (AddsPrefix (T.contents sink.old) ((T.spelled parts.0).units ++ T.encode (composed (composing_data self.now) (T.spelled parts.1).characters)) (T.contents sink.new)) }
+        ensures failure { EndsByFailure T.takes T.fails sink.old result sink.new }
+    {
+        let (prefix, rest) = parts;
+        if let Err(error) = prefix.write_whole(sink) {
+            return Err(NormError::Sink(error));
+        }
+        self.write_composed::<T, S>(alloc, rest, sink)
+    }
+
+    /// The same into a sink that is handed over.
+    fn filled<T: WriteTo<S>, S: Drop>(
+        &self,
+        alloc: Global,
+        parts: (T, T),
+        sink: S,
+    ) -> Result<S, AllocError>
+        requires { IsUndamaged T.encode (T.spelled parts.0) }
+        ensures { IfOk result (λ full. T.contents full ≡ T.contents sink ++ ((T.spelled parts.0).units ++ T.encode (composed (composing_data self.now) (T.spelled parts.1).characters))) }
+    {
+        let mut full = sink;
+        match self.write_parts::<T, S>(alloc, parts, &mut full) {
+            Ok(()) => Ok(full),
+            Err(_) => Err(AllocError),
+        }
+    }
+
+    /// Writes a text in NFC, part by part: what stays as it stands is written as it stands. What is damaged is written as
+    /// U+FFFD.
+    fn write_composed<T: WriteTo<S>, S>(
+        &self,
+        alloc: Global,
+        text: T,
+        sink: &mut S,
+    ) -> Result<(), NormError<T::Error>>
+        ensures ok { OnOk result (T.contents sink.new ≡ T.contents sink.old ++ T.encode (composed (composing_data self.now) (T.spelled text).characters)) }
+        ensures err { OnErr result (AddsPrefix (T.contents sink.old) (T.encode (composed (composing_data self.now) (T.spelled text).characters)) (T.contents sink.new)) }
+        ensures failure { EndsByFailure T.takes T.fails sink.old result sink.new }
     {
         let mut form = ClusterForm::new(alloc, self.basis);
         let mut left = text;
-        while !left.is_empty() {
-            let (cluster, rest) = first_cluster(self.basis, left);
-            if let Err(error) = self.write_cluster::<Utf8, S>(&mut form, cluster, sink) {
-                return Err(error);
-            }
-            let (plain, rest) = split_apart(self.basis, rest);
-            if let Err(error) = sink.write_str(plain) {
+        while !left.is_at_end() {
+            let rest = match self.write_cluster::<T, S>(&mut form, left, sink) {
+                Ok(rest) => rest,
+                Err(error) => return Err(error),
+            };
+            let (plain, behind) = split_low(self.basis, rest);
+            if let Err(error) = plain.write_whole(sink) {
                 return Err(NormError::Sink(error));
             }
-            left = rest;
+            left = behind;
         }
         Ok(())
     }
 
-    /// The same of a cluster and into any sink, character by character.
-    fn write_cluster<E, S: CharSink<E>>(
+    /// Writes the NFC of the first cluster of a text, character by character, and gives what stands behind it.
+    fn write_cluster<T: WriteTo<S>, S>(
         &self,
         form: &mut ClusterForm<'_>,
-        text: &str,
+        text: T,
         sink: &mut S,
-    ) -> Result<(), NormError<S::Error>>
-        requires { form_data form.old ≡ composing_data self.now }
+    ) -> Result<T, NormError<T::Error>>
+        requires data { form_data form.old ≡ composing_data self.now }
+        requires some { IsAtEnd (T.spelled text) → ⊥ }
         ensures same { form_data form.new ≡ form_data form.old }
-        ensures ok { OnOk result (S.contents sink.new ≡ S.contents sink.old ++ S.encode (composed (composing_data self.now) (chars text.now))) }
-        ensures err { OnErr result (AddsPrefix (S.contents sink.old) (S.encode (composed (composing_data self.now) (chars text.now))) (S.contents sink.new)) }
-        ensures failure { EndsByFailure S.takes S.fails sink.old result sink.new }
+        ensures ok { IfOk result (λ rest. AddsFront (T.contents sink.old) (T.encode (composed (composing_data self.now) (T.spelled text).characters)) (T.encode (composed (composing_data self.now) (T.spelled rest).characters)) (T.contents sink.new)) }
+        ensures fewer { IfOk result (λ rest. length (T.spelled rest).characters < length (T.spelled text).characters) }
+        ensures err { OnErr result (AddsPrefix (T.contents sink.old) (T.encode (composed (composing_data self.now) (T.spelled text).characters)) (T.contents sink.new)) }
+        ensures failure { EndsByFailure T.takes T.fails sink.old result sink.new }
     {
-        if form.begin(text).is_err() {
+        let Ok(rest) = form.begin(self.basis, text) else {
             return Err(NormError::Memory);
-        }
+        };
         'chars: loop {
             let Ok(next) = form.next() else {
                 return Err(NormError::Memory);
             };
             let Some(c) = next else {
-                return Ok(());
+                return Ok(rest);
             };
-            if let Err(error) = sink.write_char(c) {
+            if let Err(error) = T::write_char(sink, c) {
                 return Err(NormError::Sink(error));
             }
         }

@@ -1,6 +1,6 @@
 //! Texts in NFD, or in NFKD.
 
-ghost use Rattle.std.specs.Prelude.{◌≡◌, ℕ, ◌*◌, List, ◌++◌, OnOk, OnErr, chars, encode_utf8_all};
+ghost use Rattle.std.specs.Prelude.{◌≡◌, ℕ, ◌*◌, List, ◌++◌, IfOk, OnOk, OnErr, chars, encode_utf8_all};
 ghost use Rattle.std.specs.Iterator.{IsFinite, size};
 ghost use Rattle.icu_normalizer_core.specs.BorrowedMeaning.{borrowed_meaning};
 ghost use Rattle.icu_normalizer_core.specs.Canonical.{IsCanonical, decomposed};
@@ -9,19 +9,20 @@ ghost use Rattle.icu_normalizer.specs.Forming.{IsSaidOver};
 ghost use Rattle.icu_normalizer.specs.Iter.{Spells};
 ghost use Rattle.icu_normalizer.specs.Readable.{IsReadable};
 ghost use Rattle.icu_normalizer.specs.Sinks.{AddsPrefix, EndsByFailure};
+ghost use Rattle.icu_normalizer.specs.Texts.{IsUndamaged};
 
 mod encodings;
 mod splits;
 mod written;
 
 use super::Decomposition;
+use super::cuts::split;
 use super::writer::Writer;
-use crate::char_sinks::{CharSink, Utf8};
 use crate::form_data::FormData;
 use crate::sinks::{NormError, TextSink};
-use crate::texts::Text;
+use crate::texts::WriteTo;
 use icu_normalizer_core::canonical::CanonicalBorrowed;
-use std::alloc::Global;
+use std::alloc::{AllocError, Global};
 
 /// A normaliser to NFD or NFKD (UAX 15), borrowed. What its calls say of NFD is said of NFKD where it is one to NFKD.
 #[derive(Clone, Copy, Debug)]
@@ -86,31 +87,77 @@ impl<'d> DecomposingNormalizerBorrowed<'d> {
         ensures err { OnErr result (AddsPrefix (S.contents sink.old) (encode_utf8_all (decomposed (normalizer_data self.now) (chars text.now))) (S.contents sink.new)) }
         ensures failure { EndsByFailure S.takes S.fails sink.old result sink.new }
     {
-        let (prefix, rest) = self.split_normalized(text);
-        if let Err(error) = sink.write_str(prefix) {
-            return Err(NormError::Sink(error));
-        }
-        self.write_decomposed::<&str, Utf8, S>(alloc, rest, sink)
+        self.write_form::<&str, S>(alloc, text, sink)
     }
 
-    /// The same of any text and into any sink, character by character. What is damaged is written as U+FFFD.
-    fn write_decomposed<T: Text, E, S: CharSink<E>>(
+    /// The same of a text in any encoding. What is damaged is written as U+FFFD.
+    fn write_form<T: WriteTo<S>, S>(
         &self,
         alloc: Global,
         text: T,
         sink: &mut S,
-    ) -> Result<(), NormError<S::Error>>
-        ensures ok { OnOk result (S.contents sink.new ≡ S.contents sink.old ++ S.encode (decomposed (normalizer_data self.now) (T.spelled text).characters)) }
-        ensures err { OnErr result (AddsPrefix (S.contents sink.old) (S.encode (decomposed (normalizer_data self.now) (T.spelled text).characters)) (S.contents sink.new)) }
-        ensures failure { EndsByFailure S.takes S.fails sink.old result sink.new }
+    ) -> Result<(), NormError<T::Error>>
+        ensures ok { OnOk result (T.contents sink.new ≡ T.contents sink.old ++ T.encode (decomposed (normalizer_data self.now) (T.spelled text).characters)) }
+        ensures err { OnErr result (AddsPrefix (T.contents sink.old) (T.encode (decomposed (normalizer_data self.now) (T.spelled text).characters)) (T.contents sink.new)) }
+        ensures failure { EndsByFailure T.takes T.fails sink.old result sink.new }
+    {
+        self.write_parts::<T, S>(alloc, split(self.basis, text), sink)
+    }
+
+    /// Writes the first of two texts as it stands, which is undamaged, and then the second in NFD.
+    fn write_parts<T: WriteTo<S>, S>(
+        &self,
+        alloc: Global,
+        parts: (T, T),
+        sink: &mut S,
+    ) -> Result<(), NormError<T::Error>>
+        requires { IsUndamaged T.encode (T.spelled parts.0) }
+        ensures ok { OnOk result (T.contents sink.new ≡ T.contents sink.old ++ ((T.spelled parts.0).units ++ T.encode (decomposed (normalizer_data self.now) (T.spelled parts.1).characters))) }
+        ensures err { OnErr result (AddsPrefix (T.contents sink.old) ((T.spelled parts.0).units ++ T.encode (decomposed (normalizer_data self.now) (T.spelled parts.1).characters)) (T.contents sink.new)) }
+        ensures failure { EndsByFailure T.takes T.fails sink.old result sink.new }
+    {
+        let (prefix, rest) = parts;
+        if let Err(error) = prefix.write_whole(sink) {
+            return Err(NormError::Sink(error));
+        }
+        self.write_decomposed::<T, S>(alloc, rest, sink)
+    }
+
+    /// The same into a sink that is handed over.
+    fn filled<T: WriteTo<S>, S: Drop>(
+        &self,
+        alloc: Global,
+        parts: (T, T),
+        sink: S,
+    ) -> Result<S, AllocError>
+        requires { IsUndamaged T.encode (T.spelled parts.0) }
+        ensures { IfOk result (λ full. T.contents full ≡ T.contents sink ++ ((T.spelled parts.0).units ++ T.encode (decomposed (normalizer_data self.now) (T.spelled parts.1).characters))) }
+    {
+        let mut full = sink;
+        match self.write_parts::<T, S>(alloc, parts, &mut full) {
+            Ok(()) => Ok(full),
+            Err(_) => Err(AllocError),
+        }
+    }
+
+    /// Writes a text in NFD, character by character. What is damaged is written as U+FFFD.
+    fn write_decomposed<T: WriteTo<S>, S>(
+        &self,
+        alloc: Global,
+        text: T,
+        sink: &mut S,
+    ) -> Result<(), NormError<T::Error>>
+        ensures ok { OnOk result (T.contents sink.new ≡ T.contents sink.old ++ T.encode (decomposed (normalizer_data self.now) (T.spelled text).characters)) }
+        ensures err { OnErr result (AddsPrefix (T.contents sink.old) (T.encode (decomposed (normalizer_data self.now) (T.spelled text).characters)) (T.contents sink.new)) }
+        ensures failure { EndsByFailure T.takes T.fails sink.old result sink.new }
     {
         let mut writer = Writer::new(alloc, self.basis);
         let mut ahead = text;
         'chars: while let Some(read) = ahead.split_char() {
             let c = read.0.unwrap_or(char::REPLACEMENT_CHARACTER);
-            writer.write_decomposed::<E, S>(c, sink)?;
+            writer.write_decomposed::<T, S>(c, sink)?;
             ahead = read.1;
         }
-        writer.flush::<E, S>(sink)
+        writer.flush::<T, S>(sink)
     }
 }

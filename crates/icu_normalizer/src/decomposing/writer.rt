@@ -8,10 +8,10 @@ ghost use Rattle.icu_normalizer_core.specs.Canonical.{marks_in_order};
 ghost use Rattle.icu_normalizer.specs.Marks.{is_mark, rises_to};
 ghost use Rattle.icu_normalizer.specs.Sinks.{AddsPrefix, EndsByFailure};
 
-use crate::char_sinks::CharSink;
 use crate::form_data::FormData;
 use crate::run::sort_marks;
 use crate::sinks::NormError;
+use crate::texts::WriteTo;
 use icu_normalizer_core::canonical::Reading;
 use smallvec::SmallVec;
 use std::alloc::{AllocError, Global};
@@ -60,73 +60,73 @@ impl<'d> Writer<'d> {
 
     /// Writes the full list of `c`.
     #[inline]
-    pub(super) fn write_decomposed<E, S: CharSink<E>>(
+    pub(super) fn write_decomposed<T: WriteTo<S>, S>(
         &mut self,
         c: char,
         sink: &mut S,
-    ) -> Result<(), NormError<S::Error>>
-        ensures ok { OnOk result (Writes S.encode self.old ((writer_data self.old).full c) (S.contents sink.old) (S.contents sink.new) self.new) }
-        ensures err { OnErr result (WritesPart S.encode self.old ((writer_data self.old).full c) (S.contents sink.old) (S.contents sink.new)) }
-        ensures failure { EndsByFailure S.takes S.fails sink.old result sink.new }
+    ) -> Result<(), NormError<T::Error>>
+        ensures ok { OnOk result (Writes T.encode self.old ((writer_data self.old).full c) (T.contents sink.old) (T.contents sink.new) self.new) }
+        ensures err { OnErr result (WritesPart T.encode self.old ((writer_data self.old).full c) (T.contents sink.old) (T.contents sink.new)) }
+        ensures failure { EndsByFailure T.takes T.fails sink.old result sink.new }
         ensures same { writer_data self.new ≡ writer_data self.old }
     {
         if c < '\u{a0}' {
-            return self.add::<E, S>(c, 0, sink);
+            return self.add::<T, S>(c, 0, sink);
         }
         match self.basis.reading(c) {
-            Reading::Itself(class) => self.add::<E, S>(c, class, sink),
+            Reading::Itself(class) => self.add::<T, S>(c, class, sink),
             Reading::Two(first, second) => {
-                self.write::<E, S>(first, sink)?;
-                self.write::<E, S>(second, sink)
+                self.write::<T, S>(first, sink)?;
+                self.write::<T, S>(second, sink)
             }
-            Reading::Other => self.write_list::<E, S>(c, sink),
+            Reading::Other => self.write_list::<T, S>(c, sink),
         }
     }
 
     /// The same, character by character.
-    fn write_list<E, S: CharSink<E>>(
+    fn write_list<T: WriteTo<S>, S>(
         &mut self,
         c: char,
         sink: &mut S,
-    ) -> Result<(), NormError<S::Error>>
-        ensures ok { OnOk result (Writes S.encode self.old ((writer_data self.old).full c) (S.contents sink.old) (S.contents sink.new) self.new) }
-        ensures err { OnErr result (WritesPart S.encode self.old ((writer_data self.old).full c) (S.contents sink.old) (S.contents sink.new)) }
-        ensures failure { EndsByFailure S.takes S.fails sink.old result sink.new }
+    ) -> Result<(), NormError<T::Error>>
+        ensures ok { OnOk result (Writes T.encode self.old ((writer_data self.old).full c) (T.contents sink.old) (T.contents sink.new) self.new) }
+        ensures err { OnErr result (WritesPart T.encode self.old ((writer_data self.old).full c) (T.contents sink.old) (T.contents sink.new)) }
+        ensures failure { EndsByFailure T.takes T.fails sink.old result sink.new }
         ensures same { writer_data self.new ≡ writer_data self.old }
     {
         for d in self.basis.full_list(c) {
-            self.write::<E, S>(d, sink)?;
+            self.write::<T, S>(d, sink)?;
         }
         Ok(())
     }
 
     /// Writes a character, which is its own full list.
     #[inline]
-    fn write<E, S: CharSink<E>>(&mut self, c: char, sink: &mut S) -> Result<(), NormError<S::Error>>
-        ensures ok { OnOk result (Writes S.encode self.old (c ∷ []) (S.contents sink.old) (S.contents sink.new) self.new) }
-        ensures err { OnErr result (WritesPart S.encode self.old (c ∷ []) (S.contents sink.old) (S.contents sink.new)) }
-        ensures failure { EndsByFailure S.takes S.fails sink.old result sink.new }
+    fn write<T: WriteTo<S>, S>(&mut self, c: char, sink: &mut S) -> Result<(), NormError<T::Error>>
+        ensures ok { OnOk result (Writes T.encode self.old (c ∷ []) (T.contents sink.old) (T.contents sink.new) self.new) }
+        ensures err { OnErr result (WritesPart T.encode self.old (c ∷ []) (T.contents sink.old) (T.contents sink.new)) }
+        ensures failure { EndsByFailure T.takes T.fails sink.old result sink.new }
         ensures same { writer_data self.new ≡ writer_data self.old }
     {
         if c < '\u{a0}' {
-            return self.add::<E, S>(c, 0, sink);
+            return self.add::<T, S>(c, 0, sink);
         }
         let class = self.basis.class(c);
-        self.add::<E, S>(c, class, sink)
+        self.add::<T, S>(c, class, sink)
     }
 
     /// Writes a character of this class. A mark is held.
     #[inline(always)]
-    fn add<E, S: CharSink<E>>(
+    fn add<T: WriteTo<S>, S>(
         &mut self,
         c: char,
         class: u8,
         sink: &mut S,
-    ) -> Result<(), NormError<S::Error>>
+    ) -> Result<(), NormError<T::Error>>
         requires { class ≡ (writer_data self.old).class c }
-        ensures ok { OnOk result (Writes S.encode self.old (c ∷ []) (S.contents sink.old) (S.contents sink.new) self.new) }
-        ensures err { OnErr result (WritesPart S.encode self.old (c ∷ []) (S.contents sink.old) (S.contents sink.new)) }
-        ensures failure { EndsByFailure S.takes S.fails sink.old result sink.new }
+        ensures ok { OnOk result (Writes T.encode self.old (c ∷ []) (T.contents sink.old) (T.contents sink.new) self.new) }
+        ensures err { OnErr result (WritesPart T.encode self.old (c ∷ []) (T.contents sink.old) (T.contents sink.new)) }
+        ensures failure { EndsByFailure T.takes T.fails sink.old result sink.new }
         ensures same { writer_data self.new ≡ writer_data self.old }
     {
         if class != 0 {
@@ -135,8 +135,8 @@ impl<'d> Writer<'d> {
                 Err(_) => Err(NormError::Memory),
             };
         }
-        self.flush::<E, S>(sink)?;
-        match sink.write_char(c) {
+        self.flush::<T, S>(sink)?;
+        match T::write_char(sink, c) {
             Ok(()) => Ok(()),
             Err(error) => Err(NormError::Sink(error)),
         }
@@ -188,50 +188,50 @@ impl<'d> Writer<'d> {
 
     /// Writes the marks that are held, as is right before a starter and at the end of the text.
     #[inline(always)]
-    pub(super) fn flush<E, S: CharSink<E>>(
+    pub(super) fn flush<T: WriteTo<S>, S>(
         &mut self,
         sink: &mut S,
-    ) -> Result<(), NormError<S::Error>>
-        ensures ok { OnOk result (S.contents sink.new ≡ S.contents sink.old ++ due S.encode self.old []) }
+    ) -> Result<(), NormError<T::Error>>
+        ensures ok { OnOk result (T.contents sink.new ≡ T.contents sink.old ++ due T.encode self.old []) }
         ensures empty { OnOk result (held self.new ≡ []) }
-        ensures err { OnErr result (AddsPrefix (S.contents sink.old) (due S.encode self.old []) (S.contents sink.new)) }
-        ensures failure { EndsByFailure S.takes S.fails sink.old result sink.new }
+        ensures err { OnErr result (AddsPrefix (T.contents sink.old) (due T.encode self.old []) (T.contents sink.new)) }
+        ensures failure { EndsByFailure T.takes T.fails sink.old result sink.new }
         ensures same { writer_data self.new ≡ writer_data self.old }
     {
         if self.count == 0 {
             return Ok(());
         }
-        self.flush_held::<E, S>(sink)
+        self.flush_held::<T, S>(sink)
     }
 
     /// The same, where there may be some.
     #[inline(never)]
-    fn flush_held<E, S: CharSink<E>>(&mut self, sink: &mut S) -> Result<(), NormError<S::Error>>
-        ensures ok { OnOk result (S.contents sink.new ≡ S.contents sink.old ++ due S.encode self.old []) }
+    fn flush_held<T: WriteTo<S>, S>(&mut self, sink: &mut S) -> Result<(), NormError<T::Error>>
+        ensures ok { OnOk result (T.contents sink.new ≡ T.contents sink.old ++ due T.encode self.old []) }
         ensures empty { OnOk result (held self.new ≡ []) }
-        ensures err { OnErr result (AddsPrefix (S.contents sink.old) (due S.encode self.old []) (S.contents sink.new)) }
-        ensures failure { EndsByFailure S.takes S.fails sink.old result sink.new }
+        ensures err { OnErr result (AddsPrefix (T.contents sink.old) (due T.encode self.old []) (T.contents sink.new)) }
+        ensures failure { EndsByFailure T.takes T.fails sink.old result sink.new }
         ensures same { writer_data self.new ≡ writer_data self.old }
     {
-        let written = self.write_marks::<E, S>(sink);
+        let written = self.write_marks::<T, S>(sink);
         self.clear();
         written
     }
 
     /// Writes the marks that are held, in order.
     #[inline]
-    fn write_marks<E, S: CharSink<E>>(&self, sink: &mut S) -> Result<(), NormError<S::Error>>
-        ensures ok { OnOk result (S.contents sink.new ≡ S.contents sink.old ++ due S.encode self.now []) }
-        ensures err { OnErr result (AddsPrefix (S.contents sink.old) (due S.encode self.now []) (S.contents sink.new)) }
-        ensures failure { EndsByFailure S.takes S.fails sink.old result sink.new }
+    fn write_marks<T: WriteTo<S>, S>(&self, sink: &mut S) -> Result<(), NormError<T::Error>>
+        ensures ok { OnOk result (T.contents sink.new ≡ T.contents sink.old ++ due T.encode self.now []) }
+        ensures err { OnErr result (AddsPrefix (T.contents sink.old) (due T.encode self.now []) (T.contents sink.new)) }
+        ensures failure { EndsByFailure T.takes T.fails sink.old result sink.new }
     {
         if self.in_order && self.count < FEW {
-            return write_chars::<E, S>(&self.few[..self.count], sink);
+            return write_chars::<T, S>(&self.few[..self.count], sink);
         }
         let Ok(marks) = self.sorted() else {
             return Err(NormError::Memory);
         };
-        write_chars::<E, S>(&marks, sink)
+        write_chars::<T, S>(&marks, sink)
     }
 
     /// The marks that are held, in order.
@@ -262,13 +262,13 @@ impl<'d> Writer<'d> {
 
 /// Writes characters to a sink.
 #[inline]
-fn write_chars<E, S: CharSink<E>>(chars: &[char], sink: &mut S) -> Result<(), NormError<S::Error>>
-    ensures ok { OnOk result (S.contents sink.new ≡ S.contents sink.old ++ S.encode chars.now) }
-    ensures err { OnErr result (AddsPrefix (S.contents sink.old) (S.encode chars.now) (S.contents sink.new)) }
-    ensures failure { EndsByFailure S.takes S.fails sink.old result sink.new }
+fn write_chars<T: WriteTo<S>, S>(chars: &[char], sink: &mut S) -> Result<(), NormError<T::Error>>
+    ensures ok { OnOk result (T.contents sink.new ≡ T.contents sink.old ++ T.encode chars.now) }
+    ensures err { OnErr result (AddsPrefix (T.contents sink.old) (T.encode chars.now) (T.contents sink.new)) }
+    ensures failure { EndsByFailure T.takes T.fails sink.old result sink.new }
 {
     for c in chars {
-        if let Err(error) = sink.write_char(*c) {
+        if let Err(error) = T::write_char(sink, *c) {
             return Err(NormError::Sink(error));
         }
     }

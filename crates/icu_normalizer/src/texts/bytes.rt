@@ -20,6 +20,11 @@ impl<'t> Text for &'t [u8] {
     }
 
     #[inline]
+    fn is_at_end(self) -> bool {
+        <[u8]>::is_empty(self)
+    }
+
+    #[inline]
     fn plain_len(self) -> usize {
         plain_bytes(self)
     }

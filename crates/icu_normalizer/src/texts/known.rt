@@ -20,6 +20,11 @@ impl<'t> Text for &'t str {
     }
 
     #[inline]
+    fn is_at_end(self) -> bool {
+        str::is_empty(self)
+    }
+
+    #[inline]
     fn plain_len(self) -> usize {
         plain_bytes(self.as_bytes())
     }

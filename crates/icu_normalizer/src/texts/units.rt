@@ -20,6 +20,11 @@ impl<'t> Text for &'t [u16] {
     }
 
     #[inline]
+    fn is_at_end(self) -> bool {
+        <[u16]>::is_empty(self)
+    }
+
+    #[inline]
     fn plain_len(self) -> usize {
         plain_units(self)
     }

@@ -5,7 +5,7 @@ ghost use Rattle.std.specs.Cow.{cow_str_bytes, IsBorrowedStr};
 ghost use Rattle.icu_normalizer_core.specs.Canonical.{composed};
 ghost use Rattle.icu_normalizer.specs.FormCuts.{IsComposed, ReachesBelow};
 
-use super::super::cuts::rest_to_change;
+use super::super::cuts::{rest_to_change, split};
 use super::ComposingNormalizerBorrowed;
 use std::alloc::{AllocError, Global};
 use std::borrow::CowStr;
@@ -18,7 +18,7 @@ impl ComposingNormalizerBorrowed<'_> {
         ensures { IfOk result (λ is. IsTrue is ↔ IsComposed (composing_data self.now) (chars text.now)) }
     {
         let rest = rest_to_change(alloc, self.basis, text)?;
-        Ok(rest.is_none())
+        Ok(rest.is_empty())
     }
 
     /// A text in two parts: the prefix and the NFC of the rest are together the NFC of the text. The rest is empty
@@ -36,14 +36,8 @@ impl ComposingNormalizerBorrowed<'_> {
         ensures empty { IfOk result (λ parts. (parts.1.now ≡ []) ↔ IsComposed (composing_data self.now) (chars text.now)) }
         ensures far { IfOk result (λ parts. ReachesBelow (composed (composing_data self.now)) 0x300 (chars text.now) (chars parts.0.now)) }
     {
-        let rest = match rest_to_change(alloc, self.basis, text) {
-            Ok(rest) => rest,
-            Err(error) => return Err(error),
-        };
-        match rest {
-            None => Ok(text.split_at(text.len())),
-            Some(rest) => Ok(text.split_at(text.len() - rest.len())),
-        }
+        let parts = split(alloc, self.basis, text)?;
+        Ok(parts)
     }
 
     /// The NFC of a text, borrowed exactly where the text is its own NFC.
@@ -55,11 +49,8 @@ impl ComposingNormalizerBorrowed<'_> {
         if rest.is_empty() {
             return Ok(CowStr::Borrowed(text));
         }
-        let mut normal = String::with_capacity(alloc, text.len())?;
-        normal.push_str(prefix)?;
-        match self.write_composed(alloc, rest, &mut normal) {
-            Ok(()) => Ok(CowStr::Owned(normal)),
-            Err(_) => Err(AllocError),
-        }
+        let empty = String::with_capacity(alloc, text.len())?;
+        let form = self.filled::<&str, String>(alloc, (prefix, rest), empty)?;
+        Ok(CowStr::Owned(form))
     }
 }

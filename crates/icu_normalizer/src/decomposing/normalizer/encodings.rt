@@ -8,6 +8,7 @@ ghost use Rattle.icu_normalizer.specs.Texts.{utf8_text, utf16_text, encode_utf16
 
 use super::super::cuts::{rest_to_change, split};
 use super::DecomposingNormalizerBorrowed;
+use crate::texts::known_text;
 
 impl DecomposingNormalizerBorrowed<'_> {
     ghost use Rattle.icu_normalizer.specs.Normalizers.{normalizer_data, normalizer_bound};
@@ -23,7 +24,7 @@ impl DecomposingNormalizerBorrowed<'_> {
     /// prefix is undamaged. The rest is empty exactly where the text is undamaged and its own NFD. The prefix holds at
     /// least all that stands before the last character below `normalizer_bound` at or before the first
     /// difference between the text and its NFD, where a damaged part is a difference. It takes no memory.
-    pub fn split_normalized_utf8<'t>(&self, text: &'t [u8]) -> (&'t [u8], &'t [u8])
+    pub fn split_normalized_utf8<'t>(&self, text: &'t [u8]) -> (&'t str, &'t [u8])
         ensures whole { result.0.now ++ result.1.now ≡ text.now }
         ensures undamaged { IsUndamaged encode_utf8_all (utf8_text result.0.now) }
         ensures normal { utf8_chars result.0.now ++ decomposed (normalizer_data self.now) (utf8_chars result.1.now) ≡ decomposed (normalizer_data self.now) (utf8_chars text.now) }
@@ -31,7 +32,8 @@ impl DecomposingNormalizerBorrowed<'_> {
         ensures empty { (result.1.now ≡ []) ↔ IsOwnText encode_utf8_all (decomposed (normalizer_data self.now)) (utf8_text text.now) }
         ensures far { ReachesTo encode_utf8_all (decomposed (normalizer_data self.now)) (normalizer_bound self.now) (utf8_text text.now) (utf8_chars result.0.now) }
     {
-        split(self.basis, text)
+        let (prefix, rest) = split(self.basis, text);
+        (known_text(prefix), rest)
     }
 
     /// Whether units, read as UTF-16, are undamaged and their own NFD. It takes no memory.

@@ -8,7 +8,6 @@ ghost use Rattle.icu_normalizer.specs.Splits.{IsDecomposed};
 
 use super::super::cuts::{rest_to_change, split};
 use super::DecomposingNormalizerBorrowed;
-use crate::char_sinks::Utf8;
 use std::alloc::{AllocError, Global};
 use std::borrow::CowStr;
 
@@ -44,11 +43,8 @@ impl DecomposingNormalizerBorrowed<'_> {
         if rest.is_empty() {
             return Ok(CowStr::Borrowed(text));
         }
-        let mut normal = String::with_capacity(alloc, text.len().saturating_mul(2))?;
-        normal.push_str(prefix)?;
-        match self.write_decomposed::<&str, Utf8, String>(alloc, rest, &mut normal) {
-            Ok(()) => Ok(CowStr::Owned(normal)),
-            Err(_) => Err(AllocError),
-        }
+        let empty = String::with_capacity(alloc, text.len().saturating_mul(2))?;
+        let form = self.filled::<&str, String>(alloc, (prefix, rest), empty)?;
+        Ok(CowStr::Owned(form))
     }
 }

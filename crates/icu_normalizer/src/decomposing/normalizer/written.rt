@@ -1,6 +1,6 @@
 //! The NFD of bytes and of units. What is damaged reads as U+FFFD.
 
-ghost use Rattle.std.specs.Prelude.{◌≡◌, [], ◌++◌, ◌↔◌, IfOk, OnOk, OnErr, encode_utf8_all};
+ghost use Rattle.std.specs.Prelude.{◌≡◌, ◌++◌, ◌↔◌, IfOk, OnOk, OnErr, encode_utf8_all};
 ghost use Rattle.std.specs.Cow.{cow_str_bytes, cow_slice_items, IsBorrowedStr, IsBorrowedSlice};
 ghost use Rattle.icu_normalizer_core.specs.Canonical.{decomposed};
 ghost use Rattle.icu_normalizer_core.specs.Decoding.{utf8_chars, utf16_chars};
@@ -8,26 +8,13 @@ ghost use Rattle.icu_normalizer.specs.Sinks.{AddsPrefix, EndsByFailure};
 ghost use Rattle.icu_normalizer.specs.TextCuts.{IsOwnText};
 ghost use Rattle.icu_normalizer.specs.Texts.{utf8_text, utf16_text, encode_utf16_all};
 
-use super::super::cuts::split;
 use super::DecomposingNormalizerBorrowed;
-use crate::char_sinks::{Utf8, Utf16};
 use crate::sinks::{NormError, TextSink, UnitSink};
-use crate::texts::known_text;
 use std::alloc::{AllocError, Global};
 use std::borrow::{CowSlice, CowStr};
 
 impl DecomposingNormalizerBorrowed<'_> {
     ghost use Rattle.icu_normalizer.specs.Normalizers.{normalizer_data};
-
-    /// Bytes in two parts: the prefix is text, and with the NFD of the rest it is the NFD of the bytes.
-    fn split_known<'t>(&self, text: &'t [u8]) -> (&'t str, &'t [u8])
-        ensures whole { result.0.now ++ result.1.now ≡ text.now }
-        ensures bytes { result.0.now ++ encode_utf8_all (decomposed (normalizer_data self.now) (utf8_chars result.1.now)) ≡ encode_utf8_all (decomposed (normalizer_data self.now) (utf8_chars text.now)) }
-        ensures empty { (result.1.now ≡ []) ↔ IsOwnText encode_utf8_all (decomposed (normalizer_data self.now)) (utf8_text text.now) }
-    {
-        let (prefix, rest) = split(self.basis, text);
-        (known_text(prefix), rest)
-    }
 
     /// The NFD of bytes, read as UTF-8, borrowed exactly where they are undamaged and their own NFD.
     pub fn normalize_utf8<'t>(
@@ -38,16 +25,13 @@ impl DecomposingNormalizerBorrowed<'_> {
         ensures normal { IfOk result (λ form. cow_str_bytes form ≡ encode_utf8_all (decomposed (normalizer_data self.now) (utf8_chars text.now))) }
         ensures borrowed { IfOk result (λ form. IsBorrowedStr form ↔ IsOwnText encode_utf8_all (decomposed (normalizer_data self.now)) (utf8_text text.now)) }
     {
-        let (prefix, rest) = self.split_known(text);
+        let (prefix, rest) = self.split_normalized_utf8(text);
         if rest.is_empty() {
             return Ok(CowStr::Borrowed(prefix));
         }
-        let mut normal = String::with_capacity(alloc, text.len().saturating_mul(2))?;
-        normal.push_str(prefix)?;
-        match self.write_decomposed::<&[u8], Utf8, String>(alloc, rest, &mut normal) {
-            Ok(()) => Ok(CowStr::Owned(normal)),
-            Err(_) => Err(AllocError),
-        }
+        let empty = String::with_capacity(alloc, text.len().saturating_mul(2))?;
+        let form = self.filled::<&[u8], String>(alloc, (prefix.as_bytes(), rest), empty)?;
+        Ok(CowStr::Owned(form))
     }
 
     /// The NFD of units, read as UTF-16, borrowed exactly where they are undamaged and their own NFD.
@@ -63,12 +47,9 @@ impl DecomposingNormalizerBorrowed<'_> {
         if rest.is_empty() {
             return Ok(CowSlice::Borrowed(prefix));
         }
-        let mut normal = Vec::with_capacity(alloc, text.len())?;
-        normal.extend_from_slice(prefix)?;
-        match self.write_decomposed::<&[u16], Utf16, Vec<u16>>(alloc, rest, &mut normal) {
-            Ok(()) => Ok(CowSlice::Owned(normal)),
-            Err(_) => Err(AllocError),
-        }
+        let empty = Vec::with_capacity(alloc, text.len())?;
+        let form = self.filled::<&[u16], Vec<u16>>(alloc, (prefix, rest), empty)?;
+        Ok(CowSlice::Owned(form))
     }
 
     /// Writes the NFD of bytes, read as UTF-8, to a sink. After an error the sink holds what it held, and a prefix of that
@@ -83,11 +64,7 @@ impl DecomposingNormalizerBorrowed<'_> {
         ensures err { OnErr result (AddsPrefix (S.contents sink.old) (encode_utf8_all (decomposed (normalizer_data self.now) (utf8_chars text.now))) (S.contents sink.new)) }
         ensures failure { EndsByFailure S.takes S.fails sink.old result sink.new }
     {
-        let (prefix, rest) = self.split_known(text);
-        if let Err(error) = sink.write_str(prefix) {
-            return Err(NormError::Sink(error));
-        }
-        self.write_decomposed::<&[u8], Utf8, S>(alloc, rest, sink)
+        self.write_form::<&[u8], S>(alloc, text, sink)
     }
 
     /// Writes the NFD of units, read as UTF-16, to a sink. After an error the sink holds what it held, and a prefix of that
@@ -102,10 +79,6 @@ impl DecomposingNormalizerBorrowed<'_> {
         ensures err { OnErr result (AddsPrefix (S.contents sink.old) (encode_utf16_all (decomposed (normalizer_data self.now) (utf16_chars text.now))) (S.contents sink.new)) }
         ensures failure { EndsByFailure S.takes S.fails sink.old result sink.new }
     {
-        let (prefix, rest) = self.split_normalized_utf16(text);
-        if let Err(error) = sink.write_slice(prefix) {
-            return Err(NormError::Sink(error));
-        }
-        self.write_decomposed::<&[u16], Utf16, S>(alloc, rest, sink)
+        self.write_form::<&[u16], S>(alloc, text, sink)
     }
 }

@@ -5,21 +5,21 @@ use Rattle.icu_normalizer.proofs.SinkLemmas.{sink_more, sink_part}
 use Rattle.icu_normalizer.proofs.decomposing.writer.write_chars.Goals as goal
 
 pub loop-c-init : goal.loop-c-init
-loop-c-init g c = (sym (ap (λ l. g.S.CharSink.contents c.args.sink.now ++ l) g.met.S.CharSink.encoding.nothing ∙ append-nil _), nothing _)
+loop-c-init g c = (sym (ap (λ l. g.T.WriteTo.contents c.args.sink.now ++ l) g.met.T.Text.encoding.nothing ∙ append-nil _), nothing _)
 
 pub returns-in-Err-clause-err : goal.returns-in-Err-clause-err
 returns-in-Err-clause-err g c =
     let chars = c.args.chars.now in
     let k = c.loop-c.c-index in
-    sink_part g.S.CharSink.encode g.met.S.CharSink.encoding _ _ _ chars (take k chars) (drop k chars) c.c-item.result (drop (k + 1) chars) (sym (take-append-drop k chars))
+    sink_part g.T.Text.encode g.met.T.Text.encoding _ _ _ chars (take k chars) (drop k chars) c.c-item.result (drop (k + 1) chars) (sym (take-append-drop k chars))
     (drop_more chars k c.c-item.result c.loop-c-test.true ∙ ap (λ x. x ∷ drop (k + 1) chars) (sym c.c-item.is)) c.loop-c.invariant.0 c.in-Err.ensures.err
 
 pub loop-c-preserved : goal.loop-c-preserved
 loop-c-preserved g c =
     let chars = c.args.chars.now in
     let k = c.loop-c.c-index in (
-      sink_more g.S.CharSink.encode g.met.S.CharSink.encoding _ _ _ (take k chars) c.c-item.result c.loop-c.invariant.0 c.in_default.ensures.ok
-          ∙ ap (λ l. g.S.CharSink.contents c.args.sink.now ++ g.S.CharSink.encode l)
+      sink_more g.T.Text.encode g.met.T.Text.encoding _ _ _ (take k chars) c.c-item.result c.loop-c.invariant.0 c.in_default.ensures.ok
+          ∙ ap (λ l. g.T.WriteTo.contents c.args.sink.now ++ g.T.Text.encode l)
           (sym (take_more chars k c.c-item.result c.loop-c-test.true ∙ ap (λ x. take k chars ++ x ∷ []) (sym c.c-item.is))),
       more _ _ _ c.loop-c.invariant.1 c.in_default.ensures.taken,
     )

@@ -1,4 +1,4 @@
-use Rattle.std.proofs.Common.{◌≡◌, ℕ, List, ◌++◌, chars}
+use Rattle.std.proofs.Common.{◌≡◌, ℕ, List, ◌++◌}
 use Rattle.icu_normalizer_core.specs.Canonical.{composed}
 use Rattle.icu_normalizer.specs.ClusterForm.{IsBegun, form_data, form_left, form_size}
 use Rattle.icu_normalizer.specs.Normalizers.{composing_data}
@@ -7,9 +7,10 @@ use Rattle.icu_normalizer.proofs.composing.normalizer.ComposingNormalizerBorrowe
 
 abbrev pub invariant-chars : goal.invariant-chars
 invariant-chars g l =
-    (seen : List ℕ) × (composed (composing_data l.fn.self) (chars l.fn.text) ≡ seen ++ form_left l.form)
-    × (g.S.CharSink.contents l.sink ≡ g.S.CharSink.contents l.fn.sink ++ g.S.CharSink.encode seen)
-    × HasTaken g.S.CharSink.takes l.fn.sink l.sink
+    (seen : List ℕ)
+    × (composed (composing_data l.fn.self) (g.T.Text.spelled l.fn.text).characters ≡ seen ++ (form_left l.form ++ composed (composing_data l.fn.self) (g.T.Text.spelled l.rest).characters))
+    × (g.T.WriteTo.contents l.sink ≡ g.T.WriteTo.contents l.fn.sink ++ g.T.Text.encode seen)
+    × HasTaken g.T.WriteTo.takes l.fn.sink l.sink
     × IsBegun l.form
     × (form_data l.form ≡ form_data l.fn.form)
 

@@ -1,16 +1,17 @@
-use Rattle.std.proofs.Common.{◌≡◌, length, IsUtf8}
+use Rattle.std.proofs.Common.{◌≡◌, length}
+use Rattle.icu_normalizer_core.specs.Canonical.{composed}
 use Rattle.icu_normalizer.specs.ClusterForm.{form_data}
 use Rattle.icu_normalizer.specs.Normalizers.{composing_data}
 use Rattle.icu_normalizer.specs.Sinks.{HasTaken}
-use Rattle.icu_normalizer.proofs.ClusterLemmas.{IsPartly, form_of}
+use Rattle.icu_normalizer.specs.Writer.{AddsFront}
 use Rattle.icu_normalizer.proofs.composing.normalizer.ComposingNormalizerBorrowed.write_composed.Given as goal
 
 abbrev pub invariant-loop-left : goal.invariant-loop-left
 invariant-loop-left g l =
-    IsPartly (g.S.TextSink.contents l.fn.sink) (form_of (composing_data l.fn.self) l.fn.text) (form_of (composing_data l.fn.self) l.left) (g.S.TextSink.contents l.sink)
-    × IsUtf8 l.left
-    × HasTaken g.S.TextSink.takes l.fn.sink l.sink
+    AddsFront (g.T.WriteTo.contents l.fn.sink) (g.T.Text.encode (composed (composing_data l.fn.self) (g.T.Text.spelled l.fn.text).characters))
+    (g.T.Text.encode (composed (composing_data l.fn.self) (g.T.Text.spelled l.left).characters)) (g.T.WriteTo.contents l.sink)
+    × HasTaken g.T.WriteTo.takes l.fn.sink l.sink
     × (form_data l.form ≡ composing_data l.fn.self)
 
 abbrev pub decreases-loop-left : goal.decreases-loop-left
-decreases-loop-left g l = length l.left
+decreases-loop-left g l = length (g.T.Text.spelled l.left).characters

@@ -10,7 +10,7 @@ use Rattle.icu_normalizer.proofs.decomposing.normalizer.DecomposingNormalizerBor
 
 pub chars-init : goal.chars-init
 chars-init g c = (
-  record { written = []; whole = text_due g.S.CharSink.encode g.met.S.CharSink.encoding c.new-writer.result (normalizer_data c.args.self.now) _ c.new-writer.ensures.same c.new-writer.ensures.empty; holds = sym (append-nil _) },
+  record { written = []; whole = text_due g.T.Text.encode g.met.T.Text.encoding c.new-writer.result (normalizer_data c.args.self.now) _ c.new-writer.ensures.same c.new-writer.ensures.empty; holds = sym (append-nil _) },
   c.new-writer.ensures.same,
   nothing _,
 )
@@ -19,7 +19,7 @@ pub chars-preserved : goal.chars-preserved
 chars-preserved g c =
     let now = c.chars.invariant in
     let next = first_read g.T.Text.encode (g.T.Text.spelled c.chars.ahead) (g.T.Text.spelled c.in-Some.read.1) c.in-Some.read.0 c.unwrap_or-c.result c.in-Some.ensures.some c.unwrap_or-c.ensures in (
-      text_more g.S.CharSink.encode g.met.S.CharSink.encoding _ _ (normalizer_data c.args.self.now) c.unwrap_or-c.result (g.T.Text.spelled c.chars.ahead).characters (g.T.Text.spelled c.in-Some.read.1).characters _ _ _ _ now.1 next now.0 c.in_ok-write_decomposed.ensures.ok,
+      text_more g.T.Text.encode g.met.T.Text.encoding _ _ (normalizer_data c.args.self.now) c.unwrap_or-c.result (g.T.Text.spelled c.chars.ahead).characters (g.T.Text.spelled c.in-Some.read.1).characters _ _ _ _ now.1 next now.0 c.in_ok-write_decomposed.ensures.ok,
       c.in_ok-write_decomposed.ensures.same ∙ now.1,
       taken_both _ _ _ now.2 c.in_ok-write_decomposed.ensures.failure,
     )
@@ -29,26 +29,26 @@ returns-in_err-write_decomposed-clause-err g c =
     let now = c.chars.invariant in
     let next = first_read g.T.Text.encode (g.T.Text.spelled c.chars.ahead) (g.T.Text.spelled c.in-Some.read.1) c.in-Some.read.0 c.unwrap_or-c.result c.in-Some.ensures.some c.unwrap_or-c.ensures in
     on_any c.from_residual.result
-    (text_cut g.S.CharSink.encode g.met.S.CharSink.encoding _ (normalizer_data c.args.self.now) c.unwrap_or-c.result (g.T.Text.spelled c.chars.ahead).characters (g.T.Text.spelled c.in-Some.read.1).characters _ _ _ _ now.1 next now.0 c.in_err-write_decomposed.ensures.err)
+    (text_cut g.T.Text.encode g.met.T.Text.encoding _ (normalizer_data c.args.self.now) c.unwrap_or-c.result (g.T.Text.spelled c.chars.ahead).characters (g.T.Text.spelled c.in-Some.read.1).characters _ _ _ _ now.1 next now.0 c.in_err-write_decomposed.ensures.err)
 
 pub returns-in_err-write_decomposed-clause-failure :
     goal.returns-in_err-write_decomposed-clause-failure
 returns-in_err-write_decomposed-clause-failure g c =
     let e = err_from_is_err_and c.from_residual.result c.from_residual.ensures.1 in
     rw (e.1, e.2)
-    (ends_after {A = ⊤} g.S.CharSink.takes g.S.CharSink.fails _ _ (Err c.in_err-write_decomposed.field-0.0) _ c.chars.invariant.2 c.in_err-write_decomposed.ensures.failure)
+    (ends_after {A = ⊤} g.T.WriteTo.takes g.T.WriteTo.fails _ _ (Err c.in_err-write_decomposed.field-0.0) _ c.chars.invariant.2 c.in_err-write_decomposed.ensures.failure)
 
 pub returns-clause-ok : goal.returns-clause-ok
 returns-clause-ok g c =
     let now = c.chars.invariant in
-    let read = text_read g.S.CharSink.encode g.met.S.CharSink.encoding c.chars.writer (normalizer_data c.args.self.now) (g.T.Text.spelled c.chars.ahead).characters _ _ _ c.in_default.ensures.none.1 now.0 in
+    let read = text_read g.T.Text.encode g.met.T.Text.encoding c.chars.writer (normalizer_data c.args.self.now) (g.T.Text.spelled c.chars.ahead).characters _ _ _ c.in_default.ensures.none.1 now.0 in
     on_ok_weaker c.flush.result (λ done. front_all _ _ _ _ _ read done) c.flush.ensures.ok
 
 pub returns-clause-err : goal.returns-clause-err
 returns-clause-err g c =
     let now = c.chars.invariant in
-    let read = text_read g.S.CharSink.encode g.met.S.CharSink.encoding c.chars.writer (normalizer_data c.args.self.now) (g.T.Text.spelled c.chars.ahead).characters _ _ _ c.in_default.ensures.none.1 now.0 in
+    let read = text_read g.T.Text.encode g.met.T.Text.encoding c.chars.writer (normalizer_data c.args.self.now) (g.T.Text.spelled c.chars.ahead).characters _ _ _ c.in_default.ensures.none.1 now.0 in
     on_err_weaker c.flush.result (λ part. front_cut _ _ _ _ _ read part) c.flush.ensures.err
 
 pub returns-clause-failure : goal.returns-clause-failure
-returns-clause-failure g c = ends_after g.S.CharSink.takes g.S.CharSink.fails _ _ c.flush.result _ c.chars.invariant.2 c.flush.ensures.failure
+returns-clause-failure g c = ends_after g.T.WriteTo.takes g.T.WriteTo.fails _ _ c.flush.result _ c.chars.invariant.2 c.flush.ensures.failure

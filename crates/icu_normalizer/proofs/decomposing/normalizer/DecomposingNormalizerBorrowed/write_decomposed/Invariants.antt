@@ -8,10 +8,10 @@ use Rattle.icu_normalizer.proofs.decomposing.normalizer.DecomposingNormalizerBor
 
 abbrev pub invariant-chars : goal.invariant-chars
 invariant-chars g l =
-    AddsFront (g.S.CharSink.contents l.fn.sink) (g.S.CharSink.encode (decomposed (normalizer_data l.fn.self) (g.T.Text.spelled l.fn.text).characters))
-    (due g.S.CharSink.encode l.writer (flat_map (normalizer_data l.fn.self).full (g.T.Text.spelled l.ahead).characters)) (g.S.CharSink.contents l.sink)
+    AddsFront (g.T.WriteTo.contents l.fn.sink) (g.T.Text.encode (decomposed (normalizer_data l.fn.self) (g.T.Text.spelled l.fn.text).characters))
+    (due g.T.Text.encode l.writer (flat_map (normalizer_data l.fn.self).full (g.T.Text.spelled l.ahead).characters)) (g.T.WriteTo.contents l.sink)
     × (writer_data l.writer ≡ normalizer_data l.fn.self)
-    × HasTaken g.S.CharSink.takes l.fn.sink l.sink
+    × HasTaken g.T.WriteTo.takes l.fn.sink l.sink
 
 abbrev pub decreases-chars : goal.decreases-chars
 decreases-chars g l = length (g.T.Text.spelled l.ahead).units

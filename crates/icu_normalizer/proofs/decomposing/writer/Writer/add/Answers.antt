@@ -4,7 +4,7 @@ use Rattle.icu_normalizer.proofs.WriterLemmas.{on_any, mark_held, starter_writte
 use Rattle.icu_normalizer.proofs.decomposing.writer.Writer.add.Goals as goal
 
 pub returns-in-Ok-clause-ok : goal.returns-in-Ok-clause-ok
-returns-in-Ok-clause-ok g c = mark_held g.S.CharSink.encode g.met.S.CharSink.encoding c.args.self.now c.hold.new.self c.args.c _ c.in-Ok.ensures.same c.in-Ok.ensures.ok
+returns-in-Ok-clause-ok g c = mark_held g.T.Text.encode g.met.T.Text.encoding c.args.self.now c.hold.new.self c.args.c _ c.in-Ok.ensures.same c.in-Ok.ensures.ok
 
 pub returns-in-Ok-clause-failure : goal.returns-in-Ok-clause-failure
 returns-in-Ok-clause-failure g c = nothing _
@@ -14,15 +14,15 @@ returns-in-Err-clause-failure g c = nothing _
 
 pub returns-in_err-flush-clause-err : goal.returns-in_err-flush-clause-err
 returns-in_err-flush-clause-err g c =
-    on_any c.from_residual.result (held_cut g.S.CharSink.encode g.met.S.CharSink.encoding c.args.self.now c.args.c _ _ (omega arith) c.in_err-flush.ensures.err)
+    on_any c.from_residual.result (held_cut g.T.Text.encode g.met.T.Text.encoding c.args.self.now c.args.c _ _ (omega arith) c.in_err-flush.ensures.err)
 
 pub returns-in-Ok-write_char-clause-ok : goal.returns-in-Ok-write_char-clause-ok
 returns-in-Ok-write_char-clause-ok g c =
-    starter_written g.S.CharSink.encode g.met.S.CharSink.encoding c.args.self.now c.flush.new.self c.args.c _ _ _ c.in_ok-flush.ensures.same (omega arith) c.in_ok-flush.ensures.empty c.in_ok-flush.ensures.ok c.in-Ok-write_char.ensures.ok
+    starter_written g.T.Text.encode g.met.T.Text.encoding c.args.self.now c.flush.new.self c.args.c _ _ _ c.in_ok-flush.ensures.same (omega arith) c.in_ok-flush.ensures.empty c.in_ok-flush.ensures.ok c.in-Ok-write_char.ensures.ok
 
 pub returns-in-Ok-write_char-clause-failure : goal.returns-in-Ok-write_char-clause-failure
 returns-in-Ok-write_char-clause-failure g c = more _ _ _ c.in_ok-flush.ensures.failure c.in-Ok-write_char.ensures.taken
 
 pub returns-in-Err-write_char-clause-err : goal.returns-in-Err-write_char-clause-err
 returns-in-Err-write_char-clause-err g c =
-    starter_cut g.S.CharSink.encode g.met.S.CharSink.encoding c.args.self.now c.args.c _ _ _ (omega arith) c.in_ok-flush.ensures.ok c.in-Err-write_char.ensures.err
+    starter_cut g.T.Text.encode g.met.T.Text.encoding c.args.self.now c.args.c _ _ _ (omega arith) c.in_ok-flush.ensures.ok c.in-Err-write_char.ensures.err

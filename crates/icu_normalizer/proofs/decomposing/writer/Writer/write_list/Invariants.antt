@@ -5,7 +5,7 @@ use Rattle.icu_normalizer.proofs.decomposing.writer.Writer.write_list.Given as g
 
 abbrev pub invariant-loop-d : goal.invariant-loop-d
 invariant-loop-d g l =
-    Writes g.S.CharSink.encode l.initial.self l.yielded (g.S.CharSink.contents l.fn.sink) (g.S.CharSink.contents l.sink) l.self
+    Writes g.T.Text.encode l.initial.self l.yielded (g.T.WriteTo.contents l.fn.sink) (g.T.WriteTo.contents l.sink) l.self
     × (writer_data l.self ≡ writer_data l.initial.self)
     × (l.yielded ++ l.d-iterator ≡ (writer_data l.initial.self).full l.fn.c)
-    × HasTaken g.S.CharSink.takes l.fn.sink l.sink
+    × HasTaken g.T.WriteTo.takes l.fn.sink l.sink

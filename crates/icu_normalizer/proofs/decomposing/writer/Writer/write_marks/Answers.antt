@@ -9,24 +9,24 @@ returns-in_default-clause-failure g c = nothing _
 
 pub returns-clause-ok : goal.returns-clause-ok
 returns-clause-ok g c =
-    let sorted = ap g.S.CharSink.encode c.deref.ensures ∙ marks_due g.S.CharSink.encode g.met.S.CharSink.encoding c.args.self.now _ c.in-Ok.ensures in
-    on_ok_weaker c.write_chars-2.result (λ done. done ∙ ap (λ l. g.S.CharSink.contents c.args.sink.now ++ l) sorted) c.write_chars-2.ensures.ok
+    let sorted = ap g.T.Text.encode c.deref.ensures ∙ marks_due g.T.Text.encode g.met.T.Text.encoding c.args.self.now _ c.in-Ok.ensures in
+    on_ok_weaker c.write_chars-2.result (λ done. done ∙ ap (λ l. g.T.WriteTo.contents c.args.sink.now ++ l) sorted) c.write_chars-2.ensures.ok
 
 pub returns-clause-err : goal.returns-clause-err
 returns-clause-err g c =
-    let sorted = ap g.S.CharSink.encode c.deref.ensures ∙ marks_due g.S.CharSink.encode g.met.S.CharSink.encoding c.args.self.now _ c.in-Ok.ensures in
+    let sorted = ap g.T.Text.encode c.deref.ensures ∙ marks_due g.T.Text.encode g.met.T.Text.encoding c.args.self.now _ c.in-Ok.ensures in
     on_err_weaker c.write_chars-2.result
-    (λ part. subst (λ l. AddsPrefix (g.S.CharSink.contents c.args.sink.now) l (g.S.CharSink.contents c.write_chars-2.new.sink)) sorted part)
+    (λ part. subst (λ l. AddsPrefix (g.T.WriteTo.contents c.args.sink.now) l (g.T.WriteTo.contents c.write_chars-2.new.sink)) sorted part)
     c.write_chars-2.ensures.err
 
 pub returns-then-self-lt-FEW-clause-ok : goal.returns-then-self-lt-FEW-clause-ok
 returns-then-self-lt-FEW-clause-ok g c =
-    let sorted = few_due g.S.CharSink.encode g.met.S.CharSink.encoding c.args.self.now _ refl c.if-self.true c.if-self-lt-FEW.true in
-    on_ok_weaker c.write_chars.result (λ done. done ∙ ap (λ l. g.S.CharSink.contents c.args.sink.now ++ l) sorted) c.write_chars.ensures.ok
+    let sorted = few_due g.T.Text.encode g.met.T.Text.encoding c.args.self.now _ refl c.if-self.true c.if-self-lt-FEW.true in
+    on_ok_weaker c.write_chars.result (λ done. done ∙ ap (λ l. g.T.WriteTo.contents c.args.sink.now ++ l) sorted) c.write_chars.ensures.ok
 
 pub returns-then-self-lt-FEW-clause-err : goal.returns-then-self-lt-FEW-clause-err
 returns-then-self-lt-FEW-clause-err g c =
-    let sorted = few_due g.S.CharSink.encode g.met.S.CharSink.encoding c.args.self.now _ refl c.if-self.true c.if-self-lt-FEW.true in
+    let sorted = few_due g.T.Text.encode g.met.T.Text.encoding c.args.self.now _ refl c.if-self.true c.if-self-lt-FEW.true in
     on_err_weaker c.write_chars.result
-    (λ part. subst (λ l. AddsPrefix (g.S.CharSink.contents c.args.sink.now) l (g.S.CharSink.contents c.write_chars.new.sink)) sorted part)
+    (λ part. subst (λ l. AddsPrefix (g.T.WriteTo.contents c.args.sink.now) l (g.T.WriteTo.contents c.write_chars.new.sink)) sorted part)
     c.write_chars.ensures.err
