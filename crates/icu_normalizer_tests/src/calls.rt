@@ -2,6 +2,7 @@
 
 ghost use Rattle.std.specs.Iterator.{IsFinite};
 
+use crate::encoded::{EncodedCall, Encoding, gives_encoded};
 use icu_normalizer::composing::{ComposingNormalizer, ComposingNormalizerBorrowed};
 use icu_normalizer::decomposing::{DecomposingNormalizer, DecomposingNormalizerBorrowed};
 use icu_normalizer_core::provider::DataError;
@@ -30,6 +31,14 @@ pub enum Kind {
     Compatibility,
 }
 
+/// What is asked of normalisers to both forms: that a call gives these texts' forms, or one for an encoding those of its
+/// rows.
+#[derive(Clone, Copy)]
+pub enum Ask<'r> {
+    Texts(Call, &'r [Row]),
+    Encoded(Encoding, EncodedCall),
+}
+
 /// A normaliser to each form, over the same data.
 #[derive(Clone, Copy)]
 struct Normalizers<'d> {
@@ -38,7 +47,7 @@ struct Normalizers<'d> {
 }
 
 /// Whether a form is this.
-pub fn is_form(form: Result<CowStr<'_>, AllocError>, want: &str) -> bool {
+fn is_form(form: Result<CowStr<'_>, AllocError>, want: &str) -> bool {
     match form {
         Ok(form) => form.as_str() == want,
         Err(_) => false,
@@ -118,7 +127,7 @@ fn iterates_composed(
 }
 
 /// Whether a call gives these forms of a text, or knows whether it is in them.
-fn gives(
+fn gives_row(
     alloc: Global,
     normalizers: Normalizers<'_>,
     call: Call,
@@ -153,15 +162,38 @@ fn gives(
 /// Whether it does so of each row.
 fn gives_rows(alloc: Global, normalizers: Normalizers<'_>, call: Call, rows: &[Row]) -> bool {
     for row in rows {
-        if !gives(alloc, normalizers, call, *row) {
+        if !gives_row(alloc, normalizers, call, *row) {
             return false;
         }
     }
     true
 }
 
+/// Whether both normalisers give the forms of all rows in an encoding, or know which are in them.
+fn give_encoded(
+    alloc: Global,
+    normalizers: Normalizers<'_>,
+    encoding: Encoding,
+    call: EncodedCall,
+) -> bool {
+    let Normalizers {
+        decomposing,
+        composing,
+    } = normalizers;
+    gives_encoded(alloc, &decomposing, encoding, call)
+        && gives_encoded(alloc, &composing, encoding, call)
+}
+
+/// Whether they give what is asked for.
+fn give(alloc: Global, normalizers: Normalizers<'_>, ask: Ask<'_>) -> bool {
+    match ask {
+        Ask::Texts(call, rows) => gives_rows(alloc, normalizers, call, rows),
+        Ask::Encoded(encoding, call) => give_encoded(alloc, normalizers, encoding, call),
+    }
+}
+
 /// A normaliser to the decomposed form.
-pub fn decomposing<'t>(
+fn decomposing<'t>(
     alloc: Global,
     held: &'t Held<'_>,
     kind: Kind,
@@ -173,7 +205,7 @@ pub fn decomposing<'t>(
 }
 
 /// One to the composed form.
-pub fn composing<'t>(
+fn composing<'t>(
     alloc: Global,
     held: &'t Held<'_>,
     kind: Kind,
@@ -184,14 +216,13 @@ pub fn composing<'t>(
     }
 }
 
-/// Whether a call does so of each row, by this normaliser and one to the composed form that a provider gives.
-fn gives_composed(
+/// Whether this normaliser, and one to the composed form over a provider's data, give what is asked for.
+fn gives_with_composing(
     alloc: Global,
     held: &Held<'_>,
     decomposing: DecomposingNormalizerBorrowed<'_>,
     kind: Kind,
-    call: Call,
-    rows: &[Row],
+    ask: Ask<'_>,
 ) -> bool {
     match composing(alloc, held, kind) {
         Ok(composing) => {
@@ -200,17 +231,17 @@ fn gives_composed(
                 decomposing,
                 composing,
             };
-            gives_rows(alloc, normalizers, call, rows)
+            give(alloc, normalizers, ask)
         }
         Err(_) => false,
     }
 }
 
-/// The same by normalisers that the provider gives.
-pub fn gives_both(alloc: Global, held: &Held<'_>, kind: Kind, call: Call, rows: &[Row]) -> bool {
+/// Whether normalisers to both forms over a provider's data do.
+pub fn gives(alloc: Global, held: &Held<'_>, kind: Kind, ask: Ask<'_>) -> bool {
     match decomposing(alloc, held, kind) {
         Ok(decomposing) => {
-            gives_composed(alloc, held, decomposing.as_borrowed(), kind, call, rows)
+            gives_with_composing(alloc, held, decomposing.as_borrowed(), kind, ask)
         }
         Err(_) => false,
     }

@@ -1,9 +1,7 @@
 //! NFKD and NFKC of texts, and what stays of them in NFD and NFC.
 
-use crate::calls::{Call, Kind, Row, composing, decomposing, gives_both};
-use crate::given::provider;
-use icu_normalizer_core::provider::{DataError, TableName};
-use icu_normalizer_core_tests::held::{Held, letters};
+use crate::calls::{Ask, Call, Kind, Row};
+use crate::given::gives_given;
 use std::alloc::Global;
 
 /// A text, its NFKD and its NFKC, as an independent reading of the definitions gives them.
@@ -82,64 +80,39 @@ const KEPT: [Row; 10] = [
     ("\u{11099}\u{110ba}", "\u{11099}\u{110ba}", "\u{1109a}"),
 ];
 
-/// Whether a call gives these forms of rows by normalisers over the data.
-fn has_rows(alloc: Global, kind: Kind, call: Call, rows: &[Row]) -> bool {
-    match provider(alloc) {
-        Some(held) => gives_both(alloc, &held, kind, call, rows),
-        None => false,
-    }
+/// Whether a call gives the NFKD and NFKC of each row.
+fn has_rows(alloc: Global, call: Call) -> bool {
+    gives_given(alloc, Kind::Compatibility, Ask::Texts(call, &ROWS))
 }
 
-/// Whether it gives NFKD and NFKC.
-fn has_compatible_rows(alloc: Global, call: Call) -> bool {
-    has_rows(alloc, Kind::Compatibility, call, &ROWS)
+/// Whether one gives the NFD and NFC of each row of what stays.
+fn keeps_rows(alloc: Global, call: Call) -> bool {
+    gives_given(alloc, Kind::Canonical, Ask::Texts(call, &KEPT))
 }
 
 #[test]
 fn ok_try_new_nfkd_unstable(rt: HostRuntime) {
-    assert!(rt; has_compatible_rows(rt.alloc(), Call::WriteDecomposed));
+    assert!(rt; has_rows(rt.alloc(), Call::WriteDecomposed));
 }
 
 #[test]
 fn ok_try_new_nfkc_unstable(rt: HostRuntime) {
-    assert!(rt; has_compatible_rows(rt.alloc(), Call::WriteComposed));
+    assert!(rt; has_rows(rt.alloc(), Call::WriteComposed));
 }
 
 #[test]
 fn compatible_forms(rt: HostRuntime) {
-    assert!(rt; has_compatible_rows(rt.alloc(), Call::Normalize));
-    assert!(rt; has_compatible_rows(rt.alloc(), Call::Iterate));
+    assert!(rt; has_rows(rt.alloc(), Call::Normalize));
+    assert!(rt; has_rows(rt.alloc(), Call::Iterate));
 }
 
 #[test]
 fn compatible_texts(rt: HostRuntime) {
-    assert!(rt; has_compatible_rows(rt.alloc(), Call::IsNormalized));
-    assert!(rt; has_compatible_rows(rt.alloc(), Call::SplitNormalized));
+    assert!(rt; has_rows(rt.alloc(), Call::IsNormalized));
+    assert!(rt; has_rows(rt.alloc(), Call::SplitNormalized));
 }
 
 #[test]
 fn canonical_forms_keep_characters(rt: HostRuntime) {
-    assert!(rt; has_rows(rt.alloc(), Kind::Canonical, Call::Normalize, &KEPT));
-}
-
-/// Why there is no normaliser of either kind.
-const MISSING: Option<DataError> = Some(DataError::Missing(TableName::Nfkd));
-
-/// Whether a provider without compatibility tables gives no normaliser to NFKD, nor to NFKC.
-fn lacks_both(alloc: Global, held: &Held<'_>) -> bool {
-    decomposing(alloc, held, Kind::Compatibility).err() == MISSING
-        && composing(alloc, held, Kind::Compatibility).err() == MISSING
-}
-
-/// Whether that of the worked rows does.
-fn letters_lack_both(alloc: Global) -> bool {
-    match letters(alloc) {
-        Some(held) => lacks_both(alloc, &held),
-        None => false,
-    }
-}
-
-#[test]
-fn compatibility_tables_are_missing(rt: HostRuntime) {
-    assert!(rt; letters_lack_both(rt.alloc()));
+    assert!(rt; keeps_rows(rt.alloc(), Call::Normalize));
 }

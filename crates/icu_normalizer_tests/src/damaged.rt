@@ -6,7 +6,7 @@
 pub type Row<'r, U> = (&'r [U], &'r [U], &'r [U]);
 
 /// Bytes, damaged in each way and not at all.
-pub const BYTES: [Row<'static, u8>; 42] = [
+pub static BYTES: [Row<'static, u8>; 42] = [
     // a byte that may only stand behind others: before a mark, at the end, and between marks
     (
         b"\x80\xcc\xa3\xc3\xa1",
@@ -197,7 +197,7 @@ pub const BYTES: [Row<'static, u8>; 42] = [
 ];
 
 /// Units, damaged in each way and not at all.
-pub const UNITS: [Row<'static, u16>; 27] = [
+pub static UNITS: [Row<'static, u16>; 27] = [
     // a high surrogate: before a mark, at the end, and between marks
     (
         &[0xd800, 0x323, 0xe1],

@@ -1,6 +1,6 @@
 //! Normal forms over the canonical tables of the worked rows.
 
-use crate::calls::{Call, Kind, Row, gives_both};
+use crate::calls::{Ask, Call, Kind, Row, gives};
 use icu_normalizer::composing::Composition;
 use icu_normalizer::decomposing::Decomposition;
 use icu_normalizer_core::canonical::{CanonicalBorrowed, CanonicalData, CanonicalTables};
@@ -48,10 +48,15 @@ const ROWS: [Row; 20] = [
     ("a\u{301}\u{301}", "a\u{301}\u{301}", "\u{e1}\u{301}"),
 ];
 
+/// Whether normalisers over these tables give what is asked for.
+fn gives_over(alloc: Global, tables: CanonicalTables<'_>, ask: Ask<'_>) -> bool {
+    gives(alloc, &provider_of(tables), Kind::Canonical, ask)
+}
+
 /// Whether a call gives these forms of each row by normalisers over the tables of the worked rows.
 fn has_rows(alloc: Global, call: Call) -> bool {
     match tables(alloc, &[], &STEPS, &PAIRS) {
-        Some(tables) => gives_both(alloc, &provider_of(tables), Kind::Canonical, call, &ROWS),
+        Some(tables) => gives_over(alloc, tables, Ask::Texts(call, &ROWS)),
         None => false,
     }
 }

@@ -1,7 +1,10 @@
-//! A provider of canonical and compatibility tables that a builder makes of classes and mappings of Unicode's data.
+//! Canonical and compatibility tables that a builder makes of classes and mappings of Unicode's data, and what
+//! normalisers over them give.
 
-use icu_normalizer_core::canonical::CanonicalDataBuilder;
-use icu_normalizer_core_tests::held::{Held, provider_of};
+use crate::calls::{Ask, Kind, gives};
+use icu_normalizer_core::canonical::{CanonicalDataBuilder, CanonicalTables};
+use icu_normalizer_core::compatibility::NfkdTables;
+use icu_normalizer_core_tests::held::Held;
 use std::alloc::Global;
 
 /// Marks, and their classes.
@@ -81,36 +84,38 @@ fn takes_all(alloc: Global, builder: &mut CanonicalDataBuilder) -> bool {
     takes_classes(builder) && takes_mappings(builder) && takes_compatibilities(alloc, builder)
 }
 
-/// A provider, which comes to hold the compatibility tables of a builder.
-fn with_compatibilities(
-    alloc: Global,
-    builder: &CanonicalDataBuilder,
-    held: Held<'static>,
-) -> Option<Held<'static>> {
-    let mut held = held;
-    match builder.build_nfkd(alloc) {
-        Ok(tables) => {
-            held.nfkd = Some(tables);
-            Some(held)
-        }
-        Err(_) => None,
+/// A provider of these tables.
+fn held_of(tables: CanonicalTables<'static>, nfkd: Option<NfkdTables<'static>>) -> Held<'static> {
+    Held {
+        tables,
+        nfkd,
+        uts46: None,
+        lacks_words: false,
+        lacks_lists: false,
+        lacks_pairs: false,
     }
 }
 
-/// A provider of all tables that a builder makes of what it was given.
+/// A provider of the tables that a builder makes of what it was given.
 fn built(alloc: Global, builder: &CanonicalDataBuilder) -> Option<Held<'static>> {
-    match builder.build(alloc) {
-        Ok(tables) => with_compatibilities(alloc, builder, provider_of(tables)),
-        Err(_) => None,
-    }
+    let tables = builder.build(alloc).ok()?;
+    Some(held_of(tables, builder.build_nfkd(alloc).ok()))
 }
 
 /// A provider of the tables of all that is above; `None` where memory is refused.
-pub fn provider(alloc: Global) -> Option<Held<'static>> {
+fn provider(alloc: Global) -> Option<Held<'static>> {
     let mut builder = CanonicalDataBuilder::new(alloc);
     if takes_all(alloc, &mut builder) {
         built(alloc, &builder)
     } else {
         None
+    }
+}
+
+/// Whether normalisers over all that give what is asked for.
+pub fn gives_given(alloc: Global, kind: Kind, ask: Ask<'_>) -> bool {
+    match provider(alloc) {
+        Some(held) => gives(alloc, &held, kind, ask),
+        None => false,
     }
 }
