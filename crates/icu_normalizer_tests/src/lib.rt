@@ -3,6 +3,18 @@
 #![tactic(auto)]
 
 #[cfg(test)]
+mod calls;
+#[cfg(test)]
+mod compatibility;
+#[cfg(test)]
+mod damaged;
+#[cfg(test)]
+mod encoded;
+#[cfg(test)]
+mod encodings;
+#[cfg(test)]
 mod forms;
+#[cfg(test)]
+mod given;
 #[cfg(test)]
 mod mapper;

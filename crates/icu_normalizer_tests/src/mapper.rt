@@ -1,5 +1,6 @@
 //! The mapper of domain names over the canonical tables of the worked rows, and of a letter with a diaeresis.
 
+use crate::calls::are_chars;
 use icu_codepointtrie::{
     CodePointTrie, CodePointTrieBuilder, CodePointTrieBuilderError, CodePointTrieHeader, TrieType,
 };
@@ -138,34 +139,14 @@ fn provider_of_words(alloc: Global, words: &[(u32, u32)]) -> Option<Held<'static
     provider(alloc, trie(alloc, words)?)
 }
 
-/// Whether what a mapper gave is the next character that is wanted.
-fn is_next(given: Result<char, AllocError>, wanted: Option<char>) -> bool {
-    match given {
-        Ok(c) => wanted == Some(c),
-        Err(_) => false,
-    }
-}
-
 /// Whether `map_normalize` gives this of a text.
 fn maps_to(alloc: Global, mapper: Uts46MapperBorrowed<'_>, text: &str, want: &str) -> bool {
-    let mut wanted = want.chars();
-    for given in mapper.map_normalize(alloc, text.chars()) {
-        if !is_next(given, wanted.next()) {
-            return false;
-        }
-    }
-    wanted.next().is_none()
+    are_chars(mapper.map_normalize(alloc, text.chars()), want)
 }
 
 /// Whether `normalize_validate` does.
 fn validates_to(alloc: Global, mapper: Uts46MapperBorrowed<'_>, text: &str, want: &str) -> bool {
-    let mut wanted = want.chars();
-    for given in mapper.normalize_validate(alloc, text.chars()) {
-        if !is_next(given, wanted.next()) {
-            return false;
-        }
-    }
-    wanted.next().is_none()
+    are_chars(mapper.normalize_validate(alloc, text.chars()), want)
 }
 
 /// A call of a mapper.
