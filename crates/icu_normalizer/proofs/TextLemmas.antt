@@ -1,11 +1,11 @@
 -- Texts that are read from the front.
-use Rattle.std.proofs.Common.{◌≡◌, ℕ, ◌+◌, ◌-◌, ◌/◌, ◌%◌, ◌<◌, ◌≤◌, ◌^◌, true, false, List, [], ◌∷◌, ◌++◌, Option, None, Some, ◌↔◌, length, length-append, length-drop, take, drop, take_all, take-append-drop, get_or, slice_index, chars, encode_utf8, encode_utf8_all, IsUtf8, refl, sym, ap, ap₂, subst, ◌∙◌, arith, append-nil, ⊎_elim}
+use Rattle.std.proofs.Common.{◌≡◌, ℕ, ◌+◌, ◌-◌, ◌*◌, ◌/◌, ◌%◌, ◌<◌, ◌≤◌, ◌^◌, true, false, List, [], ◌∷◌, ◌++◌, Option, None, Some, ◌↔◌, length, length-append, length-drop, take, drop, take_all, take-append-drop, get_or, slice_index, le-ltb, lt-ltb, chars, encode_utf8_all, IsUtf8, refl, sym, ap, ap₂, subst, ◌∙◌, arith, append-nil, ⊎_elim}
 use Rattle.std.proofs.Math.Seq.{take-append_seam, drop-append_seam}
-use Rattle.std.proofs.lemmas.Bool.{cases_lt, and_from}
+use Rattle.std.proofs.lemmas.Bool.{cases_lt, and_from, cond-false, cond-true}
 use Rattle.std.proofs.lemmas.Bool.Decides.{nat_tests}
 use Rattle.std.proofs.lemmas.List.Elements.{recursion_from_All, All-from_recursion}
-use Rattle.std.proofs.lemmas.Str.{IsCharBoundary-at_seam, chars-encodes, chars-nil, chars_from_encodes, chars_past_char, encodes-append, encodes-chars, scalars-chars}
-use Rattle.std.specs.Char.{IsScalar}
+use Rattle.std.proofs.lemmas.Str.{IsCharBoundary-at_seam, chars-encodes, chars-nil, chars_from_encodes, chars_past_char, encode_ascii, encodes-append, encodes-chars, scalars-chars}
+use Rattle.std.specs.Char.{IsScalar, encode_utf8}
 use Rattle.std.specs.Char.Escape.{encode_utf16}
 use Rattle.std.specs.Char.Utf16.{surrogate_pair_char}
 use Rattle.std.specs.Option.{MatchOption}
@@ -131,6 +131,30 @@ utf8_first bytes (Some c) size char is some =
           lossy_chars-step bytes (size-some bytes (λ z. some (is ∙ z))) ∙ ap (λ o. or_replacement o ∷ lossy_chars (drop (decoded bytes).size bytes)) (sym char)
           ∙ ap (λ l. c ∷ lossy_chars l) left;
     }
+
+-- one or two bytes that spell a character
+spelled_first : (bytes rest : List ℕ) (c : ℕ) → IsScalar c → bytes ≡ encode_utf8 c ++ rest → BeginsWith encode_utf8_all (utf8_text bytes) c (utf8_text rest)
+spelled_first bytes rest c known e =
+    let units = e ∙ ap (λ l. l ++ rest) (sym (append-nil (encode_utf8 c))) in
+    record { scalar = known; units = units; characters = ap utf8_chars units ∙ lossy_chars-front (c ∷ []) rest (and_from (scalar c) true known refl) }
+
+pub utf8_one : (bytes rest : List ℕ) (lead c : ℕ) → bytes ≡ lead ∷ rest → lead < 0x80 → c ≡ lead → BeginsWith encode_utf8_all (utf8_text bytes) c (utf8_text rest)
+utf8_one bytes rest lead c e low same =
+    spelled_first bytes rest c (low_scalar c (omega (arith, same))) (e ∙ ap (λ l. l ++ rest) (ap (λ x. x ∷ []) (sym same) ∙ sym (encode_ascii c (omega (arith, same)))))
+
+two_bytes : (lead next c : ℕ) → 0xC2 ≤ lead → lead < 0xE0 → 0x80 ≤ next → next < 0xC0 → c ≡ (lead - 0xC0) * 0x40 + (next - 0x80) → encode_utf8 c ≡ lead ∷ next ∷ []
+unfolding encode_utf8
+two_bytes lead next c a b d f e =
+    let low : 0x80 ≤ c = omega (arith, e) in
+    let high : c < 0x800 = omega (arith, e) in
+    let first : 192 + c / 64 ≡ lead = omega (arith, e) in
+    let second : 128 + c % 64 ≡ next = omega (arith, e) in
+    cond-false _ _ _ (le-ltb c 128 low) ∙ cond-true _ _ _ (lt-ltb c 2048 high) ∙ ap₂ (λ x y. x ∷ y ∷ []) first second
+
+pub utf8_two : (bytes rest behind : List ℕ) (lead next c : ℕ) → bytes ≡ lead ∷ rest → rest ≡ next ∷ behind → 0xC2 ≤ lead → lead < 0xE0 → 0x80 ≤ next → next < 0xC0
+    → c ≡ (lead - 0xC0) * 0x40 + (next - 0x80) → BeginsWith encode_utf8_all (utf8_text bytes) c (utf8_text behind)
+utf8_two bytes rest behind lead next c e f a b d g is =
+    spelled_first bytes behind c (low_scalar c (omega (arith, is, a, b, d, g))) (e ∙ ap (λ l. lead ∷ l) f ∙ ap (λ l. l ++ behind) (sym (two_bytes lead next c a b d g is)))
 
 -- a unit that is a character
 one_long : (c : ℕ) → c < 2 ^ 16 → encode_utf16 c ≡ c ∷ []

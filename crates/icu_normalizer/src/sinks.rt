@@ -100,6 +100,10 @@ impl UnitSink for Vec<u16> {
     }
 
     fn write_char(&mut self, c: char) -> Result<(), AllocError> {
+        if c < '\u{10000}' {
+            self.push(c as u16)?;
+            return Ok(());
+        }
         let mut units = [0; 2];
         let units = c.encode_utf16(&mut units);
         self.extend_from_slice(units)?;

@@ -1,8 +1,8 @@
 //! Any bytes, read as UTF-8.
 
-ghost use Rattle.std.specs.Prelude.{◌≡◌, ℕ, ◌<◌, ◌≤◌, length, slice_index, encode_utf8_all};
+ghost use Rattle.std.specs.Prelude.{◌≡◌, ℕ, ◌<◌, ◌≤◌, IfSome, length, slice_index, encode_utf8_all};
 ghost use Rattle.icu_normalizer.specs.Encodings.{utf8_encoding};
-ghost use Rattle.icu_normalizer.specs.Texts.{utf8_text, IsUndamaged};
+ghost use Rattle.icu_normalizer.specs.Texts.{utf8_text, BeginsWith, IsUndamaged};
 
 use super::Text;
 use bstr::decode_utf8;
@@ -37,8 +37,11 @@ impl<'t> Text for &'t [u8] {
     #[inline]
     fn keep_promise(self) {}
 
-    #[inline]
+    #[inline(always)]
     fn split_char(self) -> Option<(Option<char>, Self)> {
+        if let Some((c, rest)) = short_char(self) {
+            return Some((Some(c), rest));
+        }
         let (first, size) = decode_utf8(self);
         if size == 0 {
             return None;
@@ -50,6 +53,27 @@ impl<'t> Text for &'t [u8] {
     fn split_before(self, rest: Self) -> (Self, Self) {
         self.split_at(Text::len(self) - Text::len(rest))
     }
+}
+
+/// The first character and what stands behind it, where one or two bytes spell it. `None` says nothing.
+#[inline(always)]
+fn short_char(bytes: &[u8]) -> Option<(char, &[u8])>
+    ensures first { IfSome result (λ r. BeginsWith encode_utf8_all (utf8_text bytes.now) r.0 (utf8_text r.1.now)) }
+    ensures fewer { IfSome result (λ r. length r.1.now < length bytes.now) }
+{
+    let (lead, rest) = bytes.split_first()?;
+    if *lead < 0x80 {
+        return Some((*lead as char, rest));
+    }
+    if *lead < 0xC2 || 0xE0 <= *lead {
+        return None;
+    }
+    let (next, behind) = rest.split_first()?;
+    if *next < 0x80 || 0xC0 <= *next {
+        return None;
+    }
+    let code = (*lead as u32 - 0xC0) * 0x40 + (*next as u32 - 0x80);
+    Some((char::from_u32(code)?, behind))
 }
 
 /// How many bytes of ASCII come first.

@@ -37,7 +37,7 @@ impl<'t> Text for &'t str {
     #[inline]
     fn keep_promise(self) {}
 
-    #[inline]
+    #[inline(always)]
     fn split_char(self) -> Option<(Option<char>, Self)> {
         let mut chars = self.chars();
         let c = chars.next()?;

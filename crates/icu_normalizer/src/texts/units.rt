@@ -38,7 +38,7 @@ impl<'t> Text for &'t [u16] {
     #[tactic(auto, using(crate::proofs::TextLemmas::utf16_characters))]
     fn keep_promise(self) {}
 
-    #[inline]
+    #[inline(always)]
     fn split_char(self) -> Option<(Option<char>, Self)> {
         let Some((unit, rest)) = self.split_first() else {
             return None;
