@@ -304,13 +304,28 @@ impl<'a, T: TrieValue> CodePointTrie<'a, T> {
         self.typed_value(self.header.trie_type, code_point)
     }
 
-    /// The value of a character.
-    #[inline]
+    /// The value of a character. What comes below the fast limit is put in place where it is called.
+    #[inline(always)]
     pub fn get(&self, character: char) -> T
         ensures value { Some result ≡ value_at self.now character }
         ensures is_value { T.is_value result }
     {
-        self.get32(character as u32)
+        let code_point = character as u32;
+        if code_point < self.header.trie_type.fast_limit() {
+            self.fast_value(code_point)
+        } else {
+            self.distant_value(code_point)
+        }
+    }
+
+    /// The value of a number from the fast limit on.
+    #[inline(never)]
+    fn distant_value(&self, code_point: u32) -> T
+        requires { fast_limit self.now.header.trie_type ≤ code_point }
+        ensures value { Some result ≡ value_at self.now code_point }
+        ensures is_value { T.is_value result }
+    {
+        self.upper_value(self.header.trie_type, code_point)
     }
 
     /// The number of the value of a number.
