@@ -60,10 +60,10 @@ impl<'d> CanonicalBorrowed<'d> {
         self.checked.is_steady(c)
     }
 
-    /// What one read tells of a character: whether it is its own full list, and of which class, or the two
-    /// characters of its full list; of other characters nothing.
+    /// What one read tells of a character: whether it is its own full list, and of which class, or its full list;
+    /// of some characters nothing.
     #[inline]
-    pub fn reading(&self, c: char) -> Reading
+    pub fn reading(&self, c: char) -> Reading<'d>
         ensures { IsTold (borrowed_meaning self.now) c result }
     {
         read_character(self.checked.tables(), c)
