@@ -6,3 +6,4 @@ pub mod elements;
 pub mod laws;
 pub mod laws_same;
 pub mod laws_texts;
+pub mod tables;
