@@ -7,7 +7,7 @@ use Rattle.icu_normalizer_core.specs.Canonical.{Canonical, is_starter}
 use Rattle.icu_collator_types.specs.declared.elements.Element.{Element}
 use Rattle.icu_collator_types.specs.declared.elements.word_tags.Tag.TheVariants.{Digit, Offset}
 use Rattle.icu_collator_types.specs.ElementWords.{has_tag}
-use Rattle.icu_collator_core.specs.declared.tables.CollationData.{CollationData}
+use Rattle.icu_collator_core.specs.declared.tables.data.CollationData.{CollationData}
 use Rattle.icu_collator_core.specs.declared.tables.CollationTables.{CollationTables}
 use Rattle.icu_collator_core.specs.Weights.{Weights}
 use Rattle.icu_collator_core.specs.Collation.{Collation}

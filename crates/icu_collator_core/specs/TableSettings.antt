@@ -1,6 +1,6 @@
 -- What tables say beside the words of characters: settings, groups, compressible leads, and what primaries stand in the
 -- place of others.
-use Rattle.std.specs.Prelude.{ℕ, ◌+◌, ◌*◌, ◌/◌, ◌%◌, ◌^◌, Bool, false, cond, ◌==◌, ◌||◌, leb, ltb, List, find, length, take, drop, slice_get, Option, Some, None}
+use Rattle.std.specs.Prelude.{ℕ, ◌+◌, ◌*◌, ◌/◌, ◌%◌, ◌^◌, Bool, false, cond, ◌==◌, ◌||◌, leb, ltb, List, find, length, take, slice_get, Option, Some, None}
 use Rattle.icu_normalizer_core.specs.BuiltIn.{is_within}
 use Rattle.icu_collator_types.specs.declared.options.AlternateHandling.{AlternateHandling}
 use Rattle.icu_collator_types.specs.declared.options.AlternateHandling.TheVariants.{NonIgnorable, Shifted}
@@ -9,7 +9,7 @@ use Rattle.icu_collator_types.specs.declared.options.CollationCaseFirst.TheVaria
 use Rattle.icu_collator_types.specs.declared.options.MaxVariable.{MaxVariable}
 use Rattle.icu_collator_types.specs.declared.options.MaxVariable.TheVariants.{Space, Punctuation, Symbol, Currency}
 use Rattle.icu_collator_types.specs.declared.options.FileSettings.{FileSettings}
-use Rattle.icu_collator_core.specs.declared.tables.CollationReordering.{CollationReordering}
+use Rattle.icu_collator_core.specs.declared.tables.reordering.CollationReordering.{CollationReordering}
 use Rattle.icu_collator_core.specs.declared.tables.metadata.CollationMetadata.{CollationMetadata}
 use Rattle.icu_collator_core.specs.Collation.{with_lead}
 
@@ -46,18 +46,19 @@ settings_of metadata =
 abbrev pub groups_of : List ℕ → List ℕ
 groups_of last_primaries = take 4 last_primaries
 
--- whether a lead's bit is set among words of 16 bits, the lowest bit of the first word for lead 00
+-- whether a lead's bit is set in the words behind the four groups, 16 bits each, the lowest bit of the first word for lead 00
 abbrev pub has_lead_bit : List ℕ → ℕ → Bool
-has_lead_bit words lead = elim (slice_get words (lead / 16)) [ Some word ↦ has_bit (lead % 16) word | None ↦ false ]
+has_lead_bit last_primaries lead =
+    elim (slice_get last_primaries (4 + lead / 16)) [ Some word ↦ has_bit (lead % 16) word | None ↦ false ]
 
 -- the leads that are compressible where the tables don't say which
 abbrev pub is_usually_compressible : ℕ → Bool
 is_usually_compressible lead = is_within 0x61 0x80 lead || (lead == 0xfe)
 
--- whether a lead is compressible: 16 words behind the four groups say so, where there are just these
+-- whether a lead is compressible: 16 words behind the four groups say it, where there are just these
 unfoldable pub is_compressible_in : List ℕ → ℕ → Bool
 is_compressible_in last_primaries lead =
-    cond (length last_primaries == 20) (has_lead_bit (drop 4 last_primaries) lead) (is_usually_compressible lead)
+    cond (length last_primaries == 20) (has_lead_bit last_primaries lead) (is_usually_compressible lead)
 
 -- ## Reordering
 
