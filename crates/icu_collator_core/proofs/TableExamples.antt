@@ -22,7 +22,7 @@ use Rattle.icu_collator_core.specs.TableMeaning.{TableWord, collation_of, counti
 use Rattle.icu_collator_core.specs.TableSettings.{is_compressible_in, reordered_by, settings_of}
 
 -- one word that opens what stands between a word and its elements
-unfoldable computing : Unit {0}
+unfoldable pub computing : Unit {0}
 unfolding small_part target_in value_of_key implicit_primary jamo_primary moved_primary special_primary default_primary
     elements_of_word offset_primary word_in_context unprefixed_word lone_word suffix_word prefix_word
     recorded_by ranged_by recorded_in counting_word is_compressible_in reordered_by
