@@ -65,7 +65,7 @@ pub trait CollatorProvider: NormalizerProvider {
         locale: &str,
         collation_type: Option<&str>,
     ) -> Result<CollationData<'_>, DataError>
-        ensures { MemoryAside result (tailoring self.now locale.now (option_copied collation_type)) };
+        ensures { MemoryAside result (tailoring self.now locale.now (option_copied collation_type.entry)) };
 
     /// The secondaries of marks.
     fn load_diacritics(
@@ -74,7 +74,7 @@ pub trait CollatorProvider: NormalizerProvider {
         locale: &str,
         collation_type: Option<&str>,
     ) -> Result<CollationDiacritics<'_>, DataError>
-        ensures { MemoryAside result (diacritics self.now locale.now (option_copied collation_type)) };
+        ensures { MemoryAside result (diacritics self.now locale.now (option_copied collation_type.entry)) };
 
     /// The settings.
     fn load_metadata(
@@ -83,7 +83,7 @@ pub trait CollatorProvider: NormalizerProvider {
         locale: &str,
         collation_type: Option<&str>,
     ) -> Result<CollationMetadata, DataError>
-        ensures { MemoryAside result (metadata self.now locale.now (option_copied collation_type)) };
+        ensures { MemoryAside result (metadata self.now locale.now (option_copied collation_type.entry)) };
 
     /// What primaries stand in the place of others. It is asked for where the metadata say `reordering`.
     fn load_reordering(
@@ -92,5 +92,5 @@ pub trait CollatorProvider: NormalizerProvider {
         locale: &str,
         collation_type: Option<&str>,
     ) -> Result<CollationReordering<'_>, DataError>
-        ensures { MemoryAside result (reordering self.now locale.now (option_copied collation_type)) };
+        ensures { MemoryAside result (reordering self.now locale.now (option_copied collation_type.entry)) };
 }

@@ -52,7 +52,7 @@ pub struct CollationTables<'a> {
 impl<'a> CollationDiacritics<'a> {
     /// The same secondaries: borrowed again, or copied. Fails only when out of memory.
     pub fn clone(&self, alloc: Global) -> Result<CollationDiacritics<'a>, AllocError>
-        ensures { IfOk result (λ diacritics. diacritics ≡ self.now) }
+        ensures { IfOk result (λ copy. copy ≡ self.now) }
     {
         let secondaries = self.secondaries.clone(alloc)?;
         Ok(CollationDiacritics { secondaries })
@@ -62,7 +62,7 @@ impl<'a> CollationDiacritics<'a> {
 impl<'a> CollationJamo<'a> {
     /// The same words: borrowed again, or copied. Fails only when out of memory.
     pub fn clone(&self, alloc: Global) -> Result<CollationJamo<'a>, AllocError>
-        ensures { IfOk result (λ jamo. jamo ≡ self.now) }
+        ensures { IfOk result (λ copy. copy ≡ self.now) }
     {
         let ce32s = self.ce32s.clone(alloc)?;
         Ok(CollationJamo { ce32s })
@@ -72,7 +72,7 @@ impl<'a> CollationJamo<'a> {
 impl<'a> CollationTables<'a> {
     /// The same tables: borrowed lists are borrowed again, others copied. Fails only when out of memory.
     pub fn clone(&self, alloc: Global) -> Result<CollationTables<'a>, AllocError>
-        ensures { IfOk result (λ tables. tables ≡ self.now) }
+        ensures { IfOk result (λ copy. copy ≡ self.now) }
     {
         let root = self.root.clone(alloc)?;
         let tailoring = self.clone_tailoring(alloc)?;
@@ -93,12 +93,12 @@ impl<'a> CollationTables<'a> {
 
     /// The same tailoring, if there is one.
     fn clone_tailoring(&self, alloc: Global) -> Result<Option<CollationData<'a>>, AllocError>
-        ensures { IfOk result (λ tailoring. tailoring ≡ self.now.tailoring) }
+        ensures { IfOk result (λ copy. copy ≡ self.now.tailoring) }
     {
         match &self.tailoring {
-            Some(data) => {
-                let data = data.clone(alloc)?;
-                Ok(Some(data))
+            Some(tailoring) => {
+                let tailoring = tailoring.clone(alloc)?;
+                Ok(Some(tailoring))
             }
             None => Ok(None),
         }
@@ -106,7 +106,7 @@ impl<'a> CollationTables<'a> {
 
     /// The same reordering, if there is one.
     fn clone_reordering(&self, alloc: Global) -> Result<Option<CollationReordering<'a>>, AllocError>
-        ensures { IfOk result (λ reordering. reordering ≡ self.now.reordering) }
+        ensures { IfOk result (λ copy. copy ≡ self.now.reordering) }
     {
         match &self.reordering {
             Some(reordering) => {

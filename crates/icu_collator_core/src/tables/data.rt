@@ -24,7 +24,7 @@ pub struct CollationData<'a> {
 impl<'a> CollationData<'a> {
     /// The same data: borrowed lists are borrowed again, others copied. Fails only when out of memory.
     pub fn clone(&self, alloc: Global) -> Result<CollationData<'a>, AllocError>
-        ensures { IfOk result (λ data. data ≡ self.now) }
+        ensures { IfOk result (λ copy. copy ≡ self.now) }
     {
         let trie = self.trie.clone(alloc)?;
         let ces = self.ces.clone(alloc)?;

@@ -66,7 +66,7 @@ impl<'a> CollationReordering<'a> {
 
     /// The same reordering: borrowed lists are borrowed again, others copied. Fails only when out of memory.
     pub fn clone(&self, alloc: Global) -> Result<CollationReordering<'a>, AllocError>
-        ensures { IfOk result (λ reordering. reordering ≡ self.now) }
+        ensures { IfOk result (λ copy. copy ≡ self.now) }
     {
         let reorder_table = self.reorder_table.clone(alloc)?;
         let reorder_ranges = self.reorder_ranges.clone(alloc)?;

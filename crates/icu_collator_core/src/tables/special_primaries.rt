@@ -40,7 +40,7 @@ impl<'a> CollationSpecialPrimaries<'a> {
 
     /// The same groups and leads: borrowed again, or copied. Fails only when out of memory.
     pub fn clone(&self, alloc: Global) -> Result<CollationSpecialPrimaries<'a>, AllocError>
-        ensures { IfOk result (λ special_primaries. special_primaries ≡ self.now) }
+        ensures { IfOk result (λ copy. copy ≡ self.now) }
     {
         let last_primaries = self.last_primaries.clone(alloc)?;
         Ok(CollationSpecialPrimaries {
