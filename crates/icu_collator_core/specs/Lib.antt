@@ -7,3 +7,6 @@ pub mod WholeNumbers
 pub mod WeightRules
 pub mod SoundElements
 pub mod Sameness
+pub mod Pools
+pub mod TableSettings
+pub mod TableMeaning

@@ -6,3 +6,5 @@ pub mod elements;
 pub mod laws;
 pub mod laws_same;
 pub mod laws_texts;
+pub mod provider;
+pub mod tables;

@@ -1,0 +1,40 @@
+//! The words of characters, and the lists that words name places in.
+
+ghost use Rattle.std.specs.Prelude.{◌≡◌, IfOk};
+
+use icu_codepointtrie::CodePointTrie;
+use icu_packed_vector::PackedVec;
+use std::alloc::{AllocError, Global};
+
+/// The word of each character, and the lists that words name places in. There is one of the root, and one
+/// of a tailoring, which names places in its own lists.
+#[derive(Debug, PartialEq, Drop)]
+pub struct CollationData<'a> {
+    /// The words. In a tailoring the fallback, C0 (hex), is the word of a character that it leaves to the root.
+    pub trie: CodePointTrie<'a, u32>,
+    /// The elements of expansions, 64 bits each, and the primaries of ranges with what moves them.
+    pub ces: PackedVec<'a, u64>,
+    /// The words of expansions, and of digits where numbers aren't compared by value.
+    pub ce32s: PackedVec<'a, u32>,
+    /// Contexts: each a default word in two units, the upper first, and a unit trie of what may stand
+    /// behind a character or before it. A prefix stands there the nearest character first.
+    pub contexts: PackedVec<'a, u16>,
+}
+
+impl<'a> CollationData<'a> {
+    /// The same data: borrowed lists are borrowed again, others copied. Fails only when out of memory.
+    pub fn clone(&self, alloc: Global) -> Result<CollationData<'a>, AllocError>
+        ensures { IfOk result (λ copy. copy ≡ self.now) }
+    {
+        let trie = self.trie.clone(alloc)?;
+        let ces = self.ces.clone(alloc)?;
+        let ce32s = self.ce32s.clone(alloc)?;
+        let contexts = self.contexts.clone(alloc)?;
+        Ok(CollationData {
+            trie,
+            ces,
+            ce32s,
+            contexts,
+        })
+    }
+}
