@@ -23,6 +23,7 @@ pub mod SkipLemmas
 pub mod SortLemmas
 pub mod SplitLemmas
 pub mod StepLemmas
+pub mod StraightLemmas
 pub mod TextCutLemmas
 pub mod TextLemmas
 pub mod TextWalkLemmas

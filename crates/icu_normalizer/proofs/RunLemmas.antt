@@ -19,7 +19,7 @@ module _ (class : ℕ → ℕ) where
   unfolding marks_in_order
   order_nothing = refl
 
-  order_one : (c : ℕ) → marks_in_order class (c ∷ []) ≡ c ∷ []
+  pub order_one : (c : ℕ) → marks_in_order class (c ∷ []) ≡ c ∷ []
   unfolding marks_in_order put_in_order
   order_one c = refl
 

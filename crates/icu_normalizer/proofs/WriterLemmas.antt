@@ -1,5 +1,5 @@
 -- The steps of a writer of decomposed text.
-use Rattle.std.proofs.Common.{◌≡◌, ℕ, List, [], ◌∷◌, ◌++◌, refl, sym, ap, ap₂, ◌∙◌, append_assoc, append-nil, arith, inr, ◌+◌, ◌<◌, ◌≤◌, length, take, set, true, not, ltb, ◌==◌, ◌&&◌}
+use Rattle.std.proofs.Common.{◌≡◌, ℕ, List, [], ◌∷◌, ◌++◌, refl, sym, ap, ap₂, subst, ◌∙◌, append_assoc, append-nil, arith, inr, ◌+◌, ◌<◌, ◌≤◌, length, take, set, true, not, ltb, ◌==◌, ◌&&◌}
 use Rattle.std.proofs.lemmas.Bool.{and_parts, and_from}
 use Rattle.std.proofs.lemmas.Bool.Decides.{nat_tests}
 use Rattle.std.proofs.lemmas.List.{take_more_set}
@@ -178,14 +178,28 @@ module _ (encode : List ℕ → List ℕ) (is : IsEncoding encode) where
       ap (due encode old) (ap (flat_map canonical.full) next ∙ ap (λ (k : Canonical). k.full c ++ flat_map canonical.full rest) (sym same))
 
   pub text_more : (old new : Writer) (canonical : Canonical) (c : ℕ) (cs rest base all mid after : List ℕ) → writer_data old ≡ canonical → cs ≡ c ∷ rest
-      → AddsFront base all (due encode old (flat_map canonical.full cs)) mid → Writes encode old ((writer_data old).full c) mid after new → AddsFront base all (due encode new (flat_map canonical.full rest)) after
+      → AddsFront base all (due encode old (flat_map canonical.full cs)) mid
+      → AddsFront mid (due encode old ((writer_data old).full c ++ flat_map canonical.full rest)) (due encode new (flat_map canonical.full rest)) after
+      → AddsFront base all (due encode new (flat_map canonical.full rest)) after
   text_more old new canonical c cs rest base all mid after same next before step =
-      front_more base all mid _ after _ (front_same base all _ all _ mid refl (text_next old canonical c cs rest same next) before) (step.at (flat_map canonical.full rest))
+      front_more base all mid _ after _ (front_same base all _ all _ mid refl (text_next old canonical c cs rest same next) before) step
 
   pub text_cut : (old : Writer) (canonical : Canonical) (c : ℕ) (cs rest base all mid after : List ℕ) → writer_data old ≡ canonical → cs ≡ c ∷ rest
-      → AddsFront base all (due encode old (flat_map canonical.full cs)) mid → WritesPart encode old ((writer_data old).full c) mid after → AddsPrefix base all after
+      → AddsFront base all (due encode old (flat_map canonical.full cs)) mid
+      → AddsPrefix mid (due encode old ((writer_data old).full c ++ flat_map canonical.full rest)) after → AddsPrefix base all after
   text_cut old canonical c cs rest base all mid after same next before part =
-      front_cut base all mid _ after (front_same base all _ all _ mid refl (text_next old canonical c cs rest same next) before) (part.at (flat_map canonical.full rest))
+      front_cut base all mid _ after (front_same base all _ all _ mid refl (text_next old canonical c cs rest same next) before) part
 
-  pub text_read : (writer : Writer) (canonical : Canonical) (cs base all now : List ℕ) → cs ≡ [] → AddsFront base all (due encode writer (flat_map canonical.full cs)) now → AddsFront base all (due encode writer []) now
-  text_read writer canonical cs base all now none h = front_same base all _ all _ now refl (ap (λ l. due encode writer (flat_map canonical.full l)) none) h
+  -- nothing stands behind the last character
+  pub text_last : (writer : Writer) (canonical : Canonical) (c : ℕ) (cs base all now : List ℕ) → writer_data writer ≡ canonical → cs ≡ []
+      → AddsFront base all (due encode writer (flat_map canonical.full (c ∷ cs))) now → AddsFront base all (due encode writer ((writer_data writer).full c)) now
+  text_last writer canonical c cs base all now same none h =
+      front_same base all _ all _ now refl
+      (ap (due encode writer)
+      (ap (λ l. canonical.full c ++ flat_map canonical.full l) none ∙ append-nil (canonical.full c) ∙ ap (λ (k : Canonical). k.full c) (sym same))) h
+
+  pub writes_end : (old new : Writer) (read before after : List ℕ) → Writes encode old read before after new → AddsFront before (due encode old read) (due encode new []) after
+  writes_end old new read before after h = front_same before _ _ _ _ after (ap (due encode old) (sym (append-nil read))) refl (h.at [])
+
+  pub part_end : (old : Writer) (read before after : List ℕ) → WritesPart encode old read before after → AddsPrefix before (due encode old read) after
+  part_end old read before after h = subst (λ l. AddsPrefix before (due encode old l) after) (append-nil read) (h.at [])

@@ -18,6 +18,7 @@ pub mod Readable
 pub mod Run
 pub mod Sinks
 pub mod Splits
+pub mod Straight
 pub mod TextCuts
 pub mod TextForms
 pub mod Texts

@@ -4,6 +4,7 @@ use Rattle.icu_normalizer_core.specs.Canonical.{Canonical, marks_in_order}
 use Rattle.icu_normalizer.specs.FormData.{form_meaning}
 use Rattle.icu_normalizer.specs.declared.decomposing.writer.Writer.{Writer}
 use Rattle.icu_normalizer.specs.Sinks.{AddsPrefix}
+use Rattle.icu_normalizer.specs.Straight.{BeginsApart}
 
 -- what the data of a writer say of characters
 abbrev pub writer_data : Writer → Canonical
@@ -30,3 +31,10 @@ pub record Writes (encode : List ℕ → List ℕ) (old : Writer) (read before a
 -- the same, but the sink took a part alone
 pub record WritesPart (encode : List ℕ → List ℕ) (old : Writer) (read before after : List ℕ) : Type 0 where
   pub at : (rest : List ℕ) → AddsPrefix before (due encode old (read ++ rest)) after
+
+-- the same of both, where nothing comes behind what was read, or a starter comes first
+pub record WritesApart (encode : List ℕ → List ℕ) (old : Writer) (read before after : List ℕ) (new : Writer) : Type 0 where
+  pub at : (rest : List ℕ) → BeginsApart (writer_data old).class rest → AddsFront before (due encode old (read ++ rest)) (due encode new rest) after
+
+pub record WritesPartApart (encode : List ℕ → List ℕ) (old : Writer) (read before after : List ℕ) : Type 0 where
+  pub at : (rest : List ℕ) → BeginsApart (writer_data old).class rest → AddsPrefix before (due encode old (read ++ rest)) after

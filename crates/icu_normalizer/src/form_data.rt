@@ -59,11 +59,17 @@ impl<'d> FormData<'d> {
         }
     }
 
-    /// Whether one read tells that composing leaves a character alone, whatever stands before it. `false` says nothing.
+    /// Whether it is told at once that composing leaves a character alone, whatever stands before it. `false` says
+    /// nothing.
     #[inline]
+    #[tactic(auto, using(crate::proofs::SkipLemmas::steady_low))]
     pub(crate) fn is_steady(&self, c: char) -> bool
         ensures { IsTrue result → IsSteady (form_meaning self.now) c }
     {
+        self.keep_promise();
+        if c < '\u{a0}' {
+            return true;
+        }
         match self {
             FormData::Canonical(canonical) => canonical.is_steady(c),
             FormData::Compatibility(both) => both.is_steady(c),
@@ -72,7 +78,7 @@ impl<'d> FormData<'d> {
 
     /// What one read tells of a character.
     #[inline]
-    pub(crate) fn reading(&self, c: char) -> Reading
+    pub(crate) fn reading(&self, c: char) -> Reading<'d>
         ensures { IsTold (form_meaning self.now) c result }
     {
         match self {

@@ -1,6 +1,6 @@
 //! Texts in NFD, or in NFKD.
 
-ghost use Rattle.std.specs.Prelude.{◌≡◌, ℕ, ◌*◌, List, ◌++◌, IfOk, OnOk, OnErr, chars, encode_utf8_all};
+ghost use Rattle.std.specs.Prelude.{◌≡◌, ℕ, ◌*◌, ◌<◌, List, ◌∷◌, ◌++◌, length, IfSome, IfNone, IfOk, OnOk, OnErr, chars, encode_utf8_all};
 ghost use Rattle.std.specs.Iterator.{IsFinite, size};
 ghost use Rattle.icu_normalizer_core.specs.BorrowedMeaning.{borrowed_meaning};
 ghost use Rattle.icu_normalizer_core.specs.Canonical.{IsCanonical, decomposed};
@@ -9,7 +9,7 @@ ghost use Rattle.icu_normalizer.specs.Forming.{IsSaidOver};
 ghost use Rattle.icu_normalizer.specs.Iter.{Spells};
 ghost use Rattle.icu_normalizer.specs.Readable.{IsReadable};
 ghost use Rattle.icu_normalizer.specs.Sinks.{AddsPrefix, EndsByFailure};
-ghost use Rattle.icu_normalizer.specs.Texts.{IsUndamaged};
+ghost use Rattle.icu_normalizer.specs.Texts.{IsAtEnd, IsUndamaged};
 
 mod encodings;
 mod splits;
@@ -20,7 +20,7 @@ use super::cuts::split;
 use super::writer::Writer;
 use crate::form_data::FormData;
 use crate::sinks::{NormError, TextSink};
-use crate::texts::WriteTo;
+use crate::texts::{Text, WriteTo};
 use crate::written::{WriteForm, write_parts};
 use icu_normalizer_core::canonical::CanonicalBorrowed;
 use std::alloc::Global;
@@ -111,20 +111,40 @@ impl<'d> WriteForm for DecomposingNormalizerBorrowed<'d> {
 
     ghost form = { λ normalizer. decomposed (normalizer_data normalizer) };
 
-    /// Writes a text in NFD, character by character. What is damaged is written as U+FFFD.
+    /// Writes a text in NFD, character by character. What is damaged is written as U+FFFD. The marks of a letter are
+    /// written with it where the next character is known to begin with a starter.
     fn write_rest<T: WriteTo<S>, S>(
         &self,
         alloc: Global,
         text: T,
         sink: &mut S,
     ) -> Result<(), NormError<T::Error>> {
+        let Some(start) = read(text) else {
+            return Ok(());
+        };
         let mut writer = Writer::new(alloc, self.basis);
-        let mut ahead = text;
-        'chars: while let Some(read) = ahead.split_char() {
-            let c = read.0.unwrap_or(char::REPLACEMENT_CHARACTER);
-            writer.write_decomposed::<T, S>(c, sink)?;
-            ahead = read.1;
+        let mut c = start.0;
+        let mut ahead = start.1;
+        'chars: while let Some(next) = read(ahead) {
+            if self.basis.is_steady(next.0) {
+                writer.write_apart::<T, S>(c, sink)?;
+            } else {
+                writer.write_decomposed::<T, S>(c, sink)?;
+            }
+            c = next.0;
+            ahead = next.1;
         }
-        writer.flush::<T, S>(sink)
+        writer.write_last::<T, S>(c, sink)
     }
+}
+
+/// The first character of a text, and what stands behind it. What is damaged reads as U+FFFD.
+#[inline(always)]
+fn read<T: Text>(text: T) -> Option<(char, T)>
+    ensures none { IfNone result (IsAtEnd (T.spelled text)) }
+    ensures some { IfSome result (λ r. (T.spelled text).characters ≡ r.0 ∷ (T.spelled r.1).characters) }
+    ensures fewer { IfSome result (λ r. length (T.spelled r.1).units < length (T.spelled text).units) }
+{
+    let read = text.split_char()?;
+    Some((read.0.unwrap_or(char::REPLACEMENT_CHARACTER), read.1))
 }

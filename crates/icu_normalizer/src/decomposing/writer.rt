@@ -8,13 +8,16 @@ ghost use Rattle.icu_normalizer_core.specs.Canonical.{marks_in_order};
 ghost use Rattle.icu_normalizer.specs.Marks.{is_mark, rises_to};
 ghost use Rattle.icu_normalizer.specs.Sinks.{AddsPrefix, EndsByFailure};
 
+mod straight;
+
 use crate::form_data::FormData;
 use crate::run::sort_marks;
 use crate::sinks::NormError;
 use crate::texts::WriteTo;
-use icu_normalizer_core::canonical::Reading;
+use icu_normalizer_core::canonical::{FullList, Reading};
 use smallvec::SmallVec;
 use std::alloc::{AllocError, Global};
+use straight::straight_three;
 
 /// How many marks are held without memory.
 const FEW: usize = 4;
@@ -40,7 +43,8 @@ pub(super) struct Writer<'d> {
 
 impl<'d> Writer<'d> {
     ghost use Rattle.icu_normalizer.specs.Readable.{IsReadable};
-    ghost use Rattle.icu_normalizer.specs.Writer.{writer_data, held, due, Writes, WritesPart};
+    ghost use Rattle.icu_normalizer.specs.Straight.{IsStraight};
+    ghost use Rattle.icu_normalizer.specs.Writer.{writer_data, held, due, Writes, WritesPart, WritesApart, WritesPartApart};
 
     /// Nothing is held.
     pub(super) fn new(alloc: Global, basis: FormData<'d>) -> Writer<'d>
@@ -73,31 +77,105 @@ impl<'d> Writer<'d> {
         if c < '\u{a0}' {
             return self.add::<T, S>(c, 0, sink);
         }
-        match self.basis.reading(c) {
+        let basis = self.basis;
+        match basis.reading(c) {
             Reading::Itself(class) => self.add::<T, S>(c, class, sink),
-            Reading::Two(first, second) => {
-                self.write::<T, S>(first, sink)?;
-                self.write::<T, S>(second, sink)
-            }
-            Reading::Other => self.write_list::<T, S>(c, sink),
+            Reading::Two(first, second) => self.write_both::<T, S>(first, second, sink),
+            Reading::Listed(list) => self.write_list::<T, S>(list, sink),
+            Reading::Other => self.write_list::<T, S>(basis.full_list(c), sink),
         }
     }
 
-    /// The same, character by character.
-    fn write_list<T: WriteTo<S>, S>(
+    /// Writes the full list of `c`. Behind `c` nothing stands, or a character whose full list begins with a starter.
+    #[inline(always)]
+    pub(super) fn write_apart<T: WriteTo<S>, S>(
         &mut self,
         c: char,
         sink: &mut S,
     ) -> Result<(), NormError<T::Error>>
-        ensures ok { OnOk result (Writes T.encode self.old ((writer_data self.old).full c) (T.contents sink.old) (T.contents sink.new) self.new) }
-        ensures err { OnErr result (WritesPart T.encode self.old ((writer_data self.old).full c) (T.contents sink.old) (T.contents sink.new)) }
+        ensures ok { OnOk result (WritesApart T.encode self.old ((writer_data self.old).full c) (T.contents sink.old) (T.contents sink.new) self.new) }
+        ensures err { OnErr result (WritesPartApart T.encode self.old ((writer_data self.old).full c) (T.contents sink.old) (T.contents sink.new)) }
         ensures failure { EndsByFailure T.takes T.fails sink.old result sink.new }
         ensures same { writer_data self.new ≡ writer_data self.old }
     {
-        for d in self.basis.full_list(c) {
+        if c < '\u{a0}' {
+            return self.add::<T, S>(c, 0, sink);
+        }
+        match self.basis.reading(c) {
+            Reading::Itself(class) => self.add::<T, S>(c, class, sink),
+            Reading::Two(first, second) => self.write_two::<T, S>(first, second, sink),
+            Reading::Listed(list) => match straight_three(self.basis, list) {
+                Some(three) => self.write_flushed::<T, S>(&three, sink),
+                None => self.write_held::<T, S>(c, sink),
+            },
+            Reading::Other => self.write_held::<T, S>(c, sink),
+        }
+    }
+
+    /// Writes the full list of the last character of a text, and all that is held.
+    #[inline(never)]
+    pub(super) fn write_last<T: WriteTo<S>, S>(
+        &mut self,
+        c: char,
+        sink: &mut S,
+    ) -> Result<(), NormError<T::Error>>
+        ensures ok { OnOk result (T.contents sink.new ≡ T.contents sink.old ++ due T.encode self.old ((writer_data self.old).full c)) }
+        ensures err { OnErr result (AddsPrefix (T.contents sink.old) (due T.encode self.old ((writer_data self.old).full c)) (T.contents sink.new)) }
+        ensures failure { EndsByFailure T.takes T.fails sink.old result sink.new }
+    {
+        self.write_decomposed::<T, S>(c, sink)?;
+        self.flush::<T, S>(sink)
+    }
+
+    /// Writes characters, each its own full list.
+    fn write_list<T: WriteTo<S>, S>(
+        &mut self,
+        list: FullList<'_>,
+        sink: &mut S,
+    ) -> Result<(), NormError<T::Error>>
+        ensures ok { OnOk result (Writes T.encode self.old list.entry (T.contents sink.old) (T.contents sink.new) self.new) }
+        ensures err { OnErr result (WritesPart T.encode self.old list.entry (T.contents sink.old) (T.contents sink.new)) }
+        ensures failure { EndsByFailure T.takes T.fails sink.old result sink.new }
+        ensures same { writer_data self.new ≡ writer_data self.old }
+    {
+        for d in list {
             self.write::<T, S>(d, sink)?;
         }
         Ok(())
+    }
+
+    /// Writes a starter and what is in order behind it. Behind that nothing stands, or a starter.
+    #[inline]
+    fn write_flushed<T: WriteTo<S>, S>(
+        &mut self,
+        list: &[char],
+        sink: &mut S,
+    ) -> Result<(), NormError<T::Error>>
+        requires { IsStraight (writer_data self.old).class list.now }
+        ensures ok { OnOk result (WritesApart T.encode self.old list.now (T.contents sink.old) (T.contents sink.new) self.new) }
+        ensures err { OnErr result (WritesPartApart T.encode self.old list.now (T.contents sink.old) (T.contents sink.new)) }
+        ensures failure { EndsByFailure T.takes T.fails sink.old result sink.new }
+        ensures same { writer_data self.new ≡ writer_data self.old }
+    {
+        self.flush::<T, S>(sink)?;
+        write_chars::<T, S>(list, sink)
+    }
+
+    /// Writes two characters, each its own full list.
+    #[inline]
+    fn write_both<T: WriteTo<S>, S>(
+        &mut self,
+        first: char,
+        second: char,
+        sink: &mut S,
+    ) -> Result<(), NormError<T::Error>>
+        ensures ok { OnOk result (Writes T.encode self.old (first ∷ second ∷ []) (T.contents sink.old) (T.contents sink.new) self.new) }
+        ensures err { OnErr result (WritesPart T.encode self.old (first ∷ second ∷ []) (T.contents sink.old) (T.contents sink.new)) }
+        ensures failure { EndsByFailure T.takes T.fails sink.old result sink.new }
+        ensures same { writer_data self.new ≡ writer_data self.old }
+    {
+        self.write::<T, S>(first, sink)?;
+        self.write::<T, S>(second, sink)
     }
 
     /// Writes a character, which is its own full list.
@@ -188,10 +266,7 @@ impl<'d> Writer<'d> {
 
     /// Writes the marks that are held, as is right before a starter and at the end of the text.
     #[inline(always)]
-    pub(super) fn flush<T: WriteTo<S>, S>(
-        &mut self,
-        sink: &mut S,
-    ) -> Result<(), NormError<T::Error>>
+    fn flush<T: WriteTo<S>, S>(&mut self, sink: &mut S) -> Result<(), NormError<T::Error>>
         ensures ok { OnOk result (T.contents sink.new ≡ T.contents sink.old ++ due T.encode self.old []) }
         ensures empty { OnOk result (held self.new ≡ []) }
         ensures err { OnErr result (AddsPrefix (T.contents sink.old) (due T.encode self.old []) (T.contents sink.new)) }
