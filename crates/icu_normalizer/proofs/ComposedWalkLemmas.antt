@@ -19,7 +19,7 @@ PartAtOnce [] (y ∷ ys) = Unit {0}
 PartAtOnce (x ∷ xs) [] = Unit {0}
 PartAtOnce (x ∷ xs) (y ∷ ys) = x ≡ y → ⊥
 
-never_same : (xs ys : List ℕ) → PartAtOnce xs ys → xs ≡ ys → ⊥
+pub never_same : (xs ys : List ℕ) → PartAtOnce xs ys → xs ≡ ys → ⊥
 never_same [] [] h e = h
 never_same [] (y ∷ ys) h e = cc
 never_same (x ∷ xs) [] h e = cc
@@ -31,7 +31,7 @@ agreed_at_once (x ∷ xs) [] a others more h e f = cc
 agreed_at_once (x ∷ xs) (y ∷ ys) a others more h e f = h (cc)
 
 -- what two lists agree in ends where they part
-agreed_within : (seen xs ys agreed others more : List ℕ) → PartAtOnce xs ys → seen ++ xs ≡ agreed ++ others → seen ++ ys ≡ agreed ++ more → length agreed ≤ length seen
+pub agreed_within : (seen xs ys agreed others more : List ℕ) → PartAtOnce xs ys → seen ++ xs ≡ agreed ++ others → seen ++ ys ≡ agreed ++ more → length agreed ≤ length seen
 agreed_within seen xs ys [] others more h e f = omega arith
 agreed_within [] xs ys (a ∷ agreed) others more h e f = absurd (agreed_at_once xs ys a (agreed ++ others) (agreed ++ more) h e f)
 agreed_within (s ∷ seen) xs ys (a ∷ agreed) others more h e f =

@@ -13,6 +13,7 @@ pub mod FormingLemmas
 pub mod FormLawLemmas
 pub mod IterLemmas
 pub mod ListLemmas
+pub mod LoneMarkLemmas
 pub mod MappedLemmas
 pub mod OwnLemmas
 pub mod PassedLemmas

@@ -3,7 +3,7 @@ use Rattle.std.specs.Prelude.{◌≡◌, ℕ, ◌+◌, List, []}
 use Rattle.icu_normalizer_core.specs.Canonical.{Canonical}
 use Rattle.icu_normalizer.specs.FormData.{form_meaning}
 use Rattle.icu_normalizer.specs.declared.composing.cluster_form.ClusterForm.{ClusterForm}
-use Rattle.icu_normalizer.specs.Composer.{coming, waiting}
+use Rattle.icu_normalizer.specs.Composer.{IsIdle, coming, waiting}
 use Rattle.icu_normalizer.specs.Run.{reordered, held, pending}
 
 -- what its data say of characters
@@ -17,6 +17,10 @@ form_left form = coming form.composer (reordered form.run [])
 -- how many characters it holds
 abbrev pub form_size : ClusterForm → ℕ
 form_size form = waiting form.composer + held form.run
+
+-- no cluster was read
+abbrev pub IsFresh : ClusterForm → Type 0
+IsFresh form = (held form.run ≡ 0) × IsIdle form.composer
 
 -- the cluster was read, and its marks are in order
 abbrev pub IsBegun : ClusterForm → Type 0

@@ -10,6 +10,7 @@ pub mod FormCuts
 pub mod FormData
 pub mod Forming
 pub mod Iter
+pub mod LoneMarks
 pub mod Marks
 pub mod Normalizers
 pub mod NormalizerTables

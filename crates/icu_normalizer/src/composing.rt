@@ -13,6 +13,7 @@ mod cluster_form;
 mod clusters;
 mod composer;
 mod cuts;
+mod lone_mark;
 mod low;
 mod normalizer;
 mod owned;

@@ -13,7 +13,7 @@ use crate::run::Run;
 use crate::texts::Text;
 use std::alloc::{AllocError, Global};
 
-/// What is left of the NFC of a cluster. It is made once, and takes one cluster after another.
+/// What is left of the NFC of a cluster.
 #[derive(Debug, Drop)]
 pub(super) struct ClusterForm<'d> {
     run: Run<'d>,
@@ -22,12 +22,13 @@ pub(super) struct ClusterForm<'d> {
 }
 
 impl<'d> ClusterForm<'d> {
-    ghost use Rattle.icu_normalizer.specs.ClusterForm.{IsBegun, form_data, form_left, form_size};
+    ghost use Rattle.icu_normalizer.specs.ClusterForm.{IsBegun, IsFresh, form_data, form_left, form_size};
 
-    /// Nothing is left.
+    /// No cluster was read yet.
     pub(super) fn new(alloc: Global, basis: FormData<'d>) -> ClusterForm<'d>
         requires readable { IsReadable (form_meaning basis) }
         requires composable { IsComposable (form_meaning basis) }
+        ensures fresh { IsFresh result }
         ensures same { form_data result ≡ form_meaning basis.entry }
     {
         ClusterForm {
@@ -36,17 +37,16 @@ impl<'d> ClusterForm<'d> {
         }
     }
 
-    /// Takes the first cluster of a text: its first character, and those behind it up to the next steady one. What was left
-    /// of the cluster before it is dropped. The answer is what stands behind the cluster.
+    /// Reads the first cluster of a text: its first character, and those behind it up to the next steady one. The answer
+    /// is what stands behind the cluster.
     pub(super) fn begin<T: Text>(&mut self, basis: FormData<'_>, text: T) -> Result<T, AllocError>
+        requires fresh { IsFresh self.old }
         requires data { form_data self.old ≡ form_meaning basis }
         requires some { IsAtEnd (T.spelled text) → ⊥ }
         ensures cluster { IfOk result (λ rest. IsCluster (form_meaning basis.entry) (T.spelled text).characters (form_left self.new) (T.spelled rest).characters) }
         ensures begun { OnOk result (IsBegun self.new) }
         ensures same { form_data self.new ≡ form_data self.old }
     {
-        self.run.clear();
-        self.composer.clear();
         let Some(first) = text.split_char() else {
             return Ok(text);
         };

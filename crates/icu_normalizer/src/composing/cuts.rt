@@ -2,13 +2,13 @@
 
 ghost use Rattle.std.specs.Prelude.{◌≡◌, ◌<◌, ◌≤◌, ◌++◌, length, IfOk};
 ghost use Rattle.icu_normalizer_core.specs.Canonical.{composed};
-ghost use Rattle.icu_normalizer.specs.ClusterForm.{form_data};
 ghost use Rattle.icu_normalizer.specs.Clusters.{IsFound};
 ghost use Rattle.icu_normalizer.specs.FormData.{form_meaning};
 ghost use Rattle.icu_normalizer.specs.TextCuts.{IsTextCut, IsTextSplit};
 ghost use Rattle.icu_normalizer.specs.Texts.{IsAtEnd, IsUndamaged};
 
 use super::cluster_form::ClusterForm;
+use super::lone_mark::{LoneMark, lone_mark};
 use super::low::pass_low;
 use crate::form_data::FormData;
 use crate::texts::Text;
@@ -31,11 +31,9 @@ pub(super) fn rest_to_change<T: Text>(
 ) -> Result<T, AllocError>
     ensures { IfOk result (λ rest. IsTextCut T.encode (composed (form_meaning basis.entry)) 0x300 (T.spelled text) (T.spelled rest)) }
 {
-    basis.keep_promise();
-    let mut form = ClusterForm::new(alloc, basis);
     let mut left = pass_low(basis, text);
-    while !left.is_at_end() {
-        match read_cluster(basis, &mut form, left) {
+    'clusters: while !left.is_at_end() {
+        match first_found(alloc, basis, left) {
             Ok(Found::Own(rest)) => left = pass_low(basis, rest),
             Ok(Found::Changed(rest)) => return Ok(rest),
             Err(error) => return Err(error),
@@ -67,19 +65,34 @@ pub(super) fn split_low<T: Text>(basis: FormData<'_>, text: T) -> (T, T)
     text.split_before(pass_low(basis, text))
 }
 
-/// Reads the first cluster of a text beside its NFC.
+/// What is found of the first cluster of a text. Memory is taken for long runs of marks alone.
+#[inline]
+fn first_found<T: Text>(alloc: Global, basis: FormData<'_>, text: T) -> Result<Found<T>, AllocError>
+    requires { IsAtEnd (T.spelled text) → ⊥ }
+    ensures { IfOk result (λ found. IsFound T.encode (composed (form_meaning basis.entry)) T.spelled (T.spelled text) found) }
+{
+    text.keep_promise();
+    let Some(lone) = lone_mark(basis, text) else {
+        return read_cluster(alloc, basis, text);
+    };
+    match lone.0 {
+        LoneMark::Joined(_) => Ok(Found::Changed(text)),
+        LoneMark::Apart(_, _) => Ok(Found::Own(lone.1)),
+    }
+}
+
+/// The same of any cluster, which is read beside its NFC.
 fn read_cluster<T: Text>(
+    alloc: Global,
     basis: FormData<'_>,
-    form: &mut ClusterForm<'_>,
     text: T,
 ) -> Result<Found<T>, AllocError>
-    requires data { form_data form.old ≡ form_meaning basis }
-    requires some { IsAtEnd (T.spelled text) → ⊥ }
-    ensures same { form_data form.new ≡ form_data form.old }
-    ensures found { IfOk result (λ found. IsFound T.encode (composed (form_meaning basis.entry)) T.spelled (T.spelled text) found) }
+    requires { IsAtEnd (T.spelled text) → ⊥ }
+    ensures { IfOk result (λ found. IsFound T.encode (composed (form_meaning basis.entry)) T.spelled (T.spelled text) found) }
 {
     basis.keep_promise();
     text.keep_promise();
+    let mut form = ClusterForm::new(alloc, basis);
     let Ok(_behind) = form.begin(basis, text) else {
         return Err(AllocError);
     };

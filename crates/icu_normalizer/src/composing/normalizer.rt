@@ -19,6 +19,7 @@ mod written;
 use super::Composition;
 use super::cluster_form::ClusterForm;
 use super::cuts::{split, split_low};
+use super::lone_mark::{lone_mark, write_lone};
 use crate::form_data::FormData;
 use crate::sinks::{NormError, TextSink};
 use crate::texts::{Text, WriteTo};
@@ -34,7 +35,6 @@ pub struct ComposingNormalizerBorrowed<'d> {
 }
 
 impl<'d> ComposingNormalizerBorrowed<'d> {
-    ghost use Rattle.icu_normalizer.specs.ClusterForm.{form_data};
     ghost use Rattle.icu_normalizer.specs.Compositions.{ComposesTo, CanCompose, composition_size};
     ghost use Rattle.icu_normalizer.specs.Normalizers.{composing_data, composing_canonical};
 
@@ -101,21 +101,43 @@ impl<'d> ComposingNormalizerBorrowed<'d> {
         write_parts::<Self, T, S>(self, alloc, parts, sink)
     }
 
-    /// Writes the NFC of the first cluster of a text, character by character, and gives what stands behind it.
-    fn write_cluster<T: WriteTo<S>, S>(
+    /// Writes the NFC of the first cluster of a text, and gives what stands behind it.
+    #[inline]
+    fn write_first<T: WriteTo<S>, S>(
         &self,
-        form: &mut ClusterForm<'_>,
+        alloc: Global,
         text: T,
         sink: &mut S,
     ) -> Result<T, NormError<T::Error>>
-        requires data { form_data form.old ≡ composing_data self.now }
-        requires some { IsAtEnd (T.spelled text) → ⊥ }
-        ensures same { form_data form.new ≡ form_data form.old }
+        requires { IsAtEnd (T.spelled text) → ⊥ }
         ensures ok { IfOk result (λ rest. AddsFront (T.contents sink.old) (T.encode (composed (composing_data self.now) (T.spelled text).characters)) (T.encode (composed (composing_data self.now) (T.spelled rest).characters)) (T.contents sink.new)) }
         ensures fewer { IfOk result (λ rest. length (T.spelled rest).characters < length (T.spelled text).characters) }
         ensures err { OnErr result (AddsPrefix (T.contents sink.old) (T.encode (composed (composing_data self.now) (T.spelled text).characters)) (T.contents sink.new)) }
         ensures failure { EndsByFailure T.takes T.fails sink.old result sink.new }
     {
+        let Some(lone) = lone_mark(self.basis, text) else {
+            return self.write_cluster::<T, S>(alloc, text, sink);
+        };
+        match write_lone::<T, S>(lone.0, sink) {
+            Ok(()) => Ok(lone.1),
+            Err(error) => Err(error),
+        }
+    }
+
+    /// The same of any cluster, character by character.
+    fn write_cluster<T: WriteTo<S>, S>(
+        &self,
+        alloc: Global,
+        text: T,
+        sink: &mut S,
+    ) -> Result<T, NormError<T::Error>>
+        requires { IsAtEnd (T.spelled text) → ⊥ }
+        ensures ok { IfOk result (λ rest. AddsFront (T.contents sink.old) (T.encode (composed (composing_data self.now) (T.spelled text).characters)) (T.encode (composed (composing_data self.now) (T.spelled rest).characters)) (T.contents sink.new)) }
+        ensures fewer { IfOk result (λ rest. length (T.spelled rest).characters < length (T.spelled text).characters) }
+        ensures err { OnErr result (AddsPrefix (T.contents sink.old) (T.encode (composed (composing_data self.now) (T.spelled text).characters)) (T.contents sink.new)) }
+        ensures failure { EndsByFailure T.takes T.fails sink.old result sink.new }
+    {
+        let mut form = ClusterForm::new(alloc, self.basis);
         let Ok(rest) = form.begin(self.basis, text) else {
             return Err(NormError::Memory);
         };
@@ -146,10 +168,9 @@ impl<'d> WriteForm for ComposingNormalizerBorrowed<'d> {
         text: T,
         sink: &mut S,
     ) -> Result<(), NormError<T::Error>> {
-        let mut form = ClusterForm::new(alloc, self.basis);
         let mut left = text;
-        while !left.is_at_end() {
-            let rest = match self.write_cluster::<T, S>(&mut form, left, sink) {
+        'clusters: while !left.is_at_end() {
+            let rest = match self.write_first::<T, S>(alloc, left, sink) {
                 Ok(rest) => rest,
                 Err(error) => return Err(error),
             };

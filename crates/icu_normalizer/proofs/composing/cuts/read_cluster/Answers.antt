@@ -9,48 +9,32 @@ pub chars-init : goal.chars-init
 chars-init g c = (
   beside_begun g.T.Text.encode g.met.T.Text.encoding (form_meaning c.args.basis) (g.T.Text.spelled c.args.text) _ _ c.in-Ok.ensures.cluster,
   c.in-Ok.ensures.begun,
-  c.begin.ensures.same,
 )
 
 pub next-requires : goal.next-requires
 next-requires g c = c.chars.invariant.1
 
-pub returns-in_default-next-clause-same : goal.returns-in_default-next-clause-same
-returns-in_default-next-clause-same g c = c.next.ensures.same ∙ c.chars.invariant.2
-
-pub returns-in_default-next-2-clause-same : goal.returns-in_default-next-2-clause-same
-returns-in_default-next-2-clause-same g c = c.next.ensures.same ∙ c.chars.invariant.2
-
-pub returns-in_default-next-2-clause-found : goal.returns-in_default-next-2-clause-found
-returns-in_default-next-2-clause-found g c =
+pub returns-in_default-next-2 : goal.returns-in_default-next-2
+returns-in_default-next-2 g c =
     let none = rw c.in_default-next-2.is at c.in-Ok-next.ensures.left in
     let done = rw c.in_default-next-2.is at c.in-Ok-next.ensures.done in
     beside_own g.T.Text.encode g.met.T.Text.encoding (form_meaning c.args.basis) _ _ _ (form_left c.chars.form) c.chars.invariant.0 c.keep_promise.ensures.forming c.keep_promise-2.ensures (none ∙ done)
 
-pub returns-in_default-split_char-clause-same : goal.returns-in_default-split_char-clause-same
-returns-in_default-split_char-clause-same g c = c.next.ensures.same ∙ c.chars.invariant.2
-
-pub returns-in_default-split_char-clause-found : goal.returns-in_default-split_char-clause-found
-returns-in_default-split_char-clause-found g c =
+pub returns-in_default-split_char : goal.returns-in_default-split_char
+returns-in_default-split_char g c =
     let step = rw c.in-Some.is at c.in-Ok-next.ensures.left in
     absurd
     (beside_ended g.T.Text.encode g.met.T.Text.encoding (form_meaning c.args.basis) _ _ _ (form_left c.chars.form) c.chars.invariant.0 c.keep_promise.ensures.forming c.keep_promise-2.ensures
     c.in-Some.composed (form_left c.next.new.self) c.in_default-split_char.ensures.none step)
 
-pub returns-in_default-first-clause-same : goal.returns-in_default-first-clause-same
-returns-in_default-first-clause-same g c = c.next.ensures.same ∙ c.chars.invariant.2
-
-pub returns-in_default-first-clause-found : goal.returns-in_default-first-clause-found
-returns-in_default-first-clause-found g c =
+pub returns-in_default-first : goal.returns-in_default-first
+returns-in_default-first g c =
     beside_damaged g.T.Text.encode g.met.T.Text.encoding (form_meaning c.args.basis) _ _ _ (form_left c.chars.form) c.chars.invariant.0 c.keep_promise.ensures.forming c.keep_promise-2.ensures
     _ (let fewer = c.in-Some-split_char.ensures.fewer in omega arith)
     (first_damaged g.T.Text.encode (g.T.Text.spelled c.chars.ahead) (g.T.Text.spelled c.in-Some-split_char.read.1) _ c.in-Some-split_char.ensures.some c.in_default-first.is)
 
-pub returns-then-composed-c-clause-same : goal.returns-then-composed-c-clause-same
-returns-then-composed-c-clause-same g c = c.next.ensures.same ∙ c.chars.invariant.2
-
-pub returns-then-composed-c-clause-found : goal.returns-then-composed-c-clause-found
-returns-then-composed-c-clause-found g c =
+pub returns-then-composed-c : goal.returns-then-composed-c
+returns-then-composed-c g c =
     let begins = first_char g.T.Text.encode (g.T.Text.spelled c.chars.ahead) (g.T.Text.spelled c.in-Some-split_char.read.1) _ c.in-Some-split_char.ensures.some _ c.in-Some-first.is in
     let looked = beside_looked g.T.Text.encode g.met.T.Text.encoding (form_meaning c.args.basis) _ _ _ (form_left c.chars.form) c.chars.invariant.0 (g.T.Text.spelled c.later_rest-rest.result) _ c.in-Some-first.c begins
     (let fewer = c.in-Some-split_char.ensures.fewer in omega arith) c.later_rest-rest.ensures.low c.later_rest-rest.ensures.high in
@@ -70,5 +54,4 @@ chars-preserved g c =
     let left = form_left c.next.new.self in (
       beside_more g.T.Text.encode g.met.T.Text.encoding (form_meaning c.args.basis) _ _ _ (form_left c.chars.form) c.chars.invariant.0 _ _ c.in-Some-first.c left looked (step ∙ ap (λ y. y ∷ left) c.if-composed-c.false),
       c.in-Ok-next.ensures.begun,
-      c.next.ensures.same ∙ c.chars.invariant.2,
     )

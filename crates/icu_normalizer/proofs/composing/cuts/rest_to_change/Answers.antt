@@ -5,32 +5,27 @@ use Rattle.icu_normalizer.proofs.ComposingLemmas.{composed_nothing}
 use Rattle.icu_normalizer.proofs.PassedLemmas.{passed_twice, passed_cut, passed_all}
 use Rattle.icu_normalizer.proofs.composing.cuts.rest_to_change.Goals as goal
 
-pub loop-basis-init : goal.loop-basis-init
-loop-basis-init g c = (c.pass_low-left.ensures, c.new-form.ensures.same)
+pub clusters-init : goal.clusters-init
+clusters-init g c = c.pass_low-left.ensures
 
-pub read_cluster-requires-clause-data : goal.read_cluster-requires-clause-data
-read_cluster-requires-clause-data g c = c.loop-basis.invariant.1
-
-pub loop-basis-smaller : goal.loop-basis-smaller
-loop-basis-smaller g c =
-    let found = rw c.in-Ok-Own.field-0-is at c.in-Ok-Own.ensures.found in
+pub clusters-smaller : goal.clusters-smaller
+clusters-smaller g c =
+    let found = rw c.in-Ok-Own.field-0-is at c.in-Ok-Own.ensures in
     let passed = c.pass_low-left-in-Ok-Own.ensures in
     omega (arith, found.1, ap length passed.behind.characters, length-append passed.prefix (g.T.Text.spelled c.pass_low-left-in-Ok-Own.result).characters)
 
-pub loop-basis-preserved : goal.loop-basis-preserved
-loop-basis-preserved g c =
+pub clusters-preserved : goal.clusters-preserved
+clusters-preserved g c =
     let form = composed (form_meaning c.args.basis) in
-    let found = rw c.in-Ok-Own.field-0-is at c.in-Ok-Own.ensures.found in (
-      passed_twice g.T.Text.encode g.met.T.Text.encoding form _ _ (passed_twice g.T.Text.encode g.met.T.Text.encoding form _ _ c.loop-basis.invariant.0 _ found.0) _ c.pass_low-left-in-Ok-Own.ensures,
-      c.read_cluster.ensures.same ∙ c.loop-basis.invariant.1,
-    )
+    let found = rw c.in-Ok-Own.field-0-is at c.in-Ok-Own.ensures in
+    passed_twice g.T.Text.encode g.met.T.Text.encoding form _ _ (passed_twice g.T.Text.encode g.met.T.Text.encoding form _ _ c.clusters.invariant _ found.0) _ c.pass_low-left-in-Ok-Own.ensures
 
 pub returns-in-Ok-Changed : goal.returns-in-Ok-Changed
 returns-in-Ok-Changed g c =
-    let found = rw c.in-Ok-Changed.field-0-is at c.in-Ok-Changed.ensures.found in
-    passed_cut g.T.Text.encode g.met.T.Text.encoding (composed (form_meaning c.args.basis)) _ _ c.loop-basis.invariant.0 0x300 _ found
+    let found = rw c.in-Ok-Changed.field-0-is at c.in-Ok-Changed.ensures in
+    passed_cut g.T.Text.encode g.met.T.Text.encoding (composed (form_meaning c.args.basis)) _ _ c.clusters.invariant 0x300 _ found
 
 pub returns : goal.returns
 returns g c =
-    passed_all g.T.Text.encode g.met.T.Text.encoding (composed (form_meaning c.args.basis)) _ _ c.loop-basis.invariant.0 0x300 (composed_nothing (form_meaning c.args.basis))
+    passed_all g.T.Text.encode g.met.T.Text.encoding (composed (form_meaning c.args.basis)) _ _ c.clusters.invariant 0x300 (composed_nothing (form_meaning c.args.basis))
     (c.is_at_end.ensures.0 (search rules))

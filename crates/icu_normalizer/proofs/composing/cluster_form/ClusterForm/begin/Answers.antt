@@ -14,20 +14,17 @@ returns-in_default-clause-begun g c = absurd (c.requires.some c.in_default.ensur
 pub returns-in_default-clause-same : goal.returns-in_default-clause-same
 returns-in_default-clause-same g c = absurd (c.requires.some c.in_default.ensures.none)
 
-pub returns-in_err-push_decomposed-clause-same : goal.returns-in_err-push_decomposed-clause-same
-returns-in_err-push_decomposed-clause-same g c = c.clear-2.ensures.same
-
 pub chars-init : goal.chars-init
 chars-init g c =
     let k = form_data c.args.self.now in
     let d = c.unwrap_or-c.result in
-    let same = c.clear.ensures.same ∙ c.args.self.now.same in (
+    let same = c.args.self.now.same in (
       d ∷ [],
       omega arith,
       first_read g.T.Text.encode (g.T.Text.spelled c.args.text) (g.T.Text.spelled c.in-Some.first.1) c.in-Some.first.0 d c.in-Some.ensures.some c.unwrap_or-c.ensures,
-      λ xs. read_more _ _ k (d ∷ xs) _ d xs same c.in_ok-push_decomposed.ensures.ok refl (read_none c.clear.new.self k (d ∷ xs) c.clear.ensures.held same),
-      c.clear-2.ensures.same,
-      c.clear-2.ensures.idle,
+      λ xs. read_more _ _ k (d ∷ xs) _ d xs same c.in_ok-push_decomposed.ensures.ok refl (read_none c.args.self.now.run k (d ∷ xs) c.requires.fresh.0 same),
+      refl,
+      c.requires.fresh.1,
     )
 
 pub returns-in_err-push_decomposed-2-clause-same : goal.returns-in_err-push_decomposed-2-clause-same

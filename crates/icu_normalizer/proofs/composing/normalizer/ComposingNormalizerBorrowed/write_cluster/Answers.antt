@@ -18,14 +18,10 @@ chars-init g c =
       sym (ap (λ l. g.T.WriteTo.contents c.args.sink.now ++ l) g.met.T.Text.encoding.nothing ∙ append-nil _),
       nothing _,
       c.in-Ok.ensures.begun,
-      c.begin.ensures.same,
     )
 
 pub next-requires : goal.next-requires
 next-requires g c = c.chars.invariant.4
-
-pub returns-in_default-next-clause-same : goal.returns-in_default-next-clause-same
-returns-in_default-next-clause-same g c = c.next.ensures.same ∙ c.chars.invariant.5
 
 pub returns-in_default-next-clause-err : goal.returns-in_default-next-clause-err
 returns-in_default-next-clause-err g c =
@@ -34,9 +30,6 @@ returns-in_default-next-clause-err g c =
 
 pub returns-in_default-next-clause-failure : goal.returns-in_default-next-clause-failure
 returns-in_default-next-clause-failure g c = c.chars.invariant.3
-
-pub returns-in_default-next-2-clause-same : goal.returns-in_default-next-2-clause-same
-returns-in_default-next-2-clause-same g c = c.next.ensures.same ∙ c.chars.invariant.5
 
 pub returns-in_default-next-2-clause-ok : goal.returns-in_default-next-2-clause-ok
 returns-in_default-next-2-clause-ok g c =
@@ -57,9 +50,6 @@ returns-in_default-next-2-clause-fewer g c =
 
 pub returns-in_default-next-2-clause-failure : goal.returns-in_default-next-2-clause-failure
 returns-in_default-next-2-clause-failure g c = c.chars.invariant.3
-
-pub returns-in-Err-clause-same : goal.returns-in-Err-clause-same
-returns-in-Err-clause-same g c = c.next.ensures.same ∙ c.chars.invariant.5
 
 pub returns-in-Err-clause-err : goal.returns-in-Err-clause-err
 returns-in-Err-clause-err g c =
@@ -85,5 +75,4 @@ chars-preserved g c =
       sink_more g.T.Text.encode g.met.T.Text.encoding _ _ _ now.0 _ now.2 c.in_default-write_char.ensures.ok,
       more _ _ _ now.3 c.in_default-write_char.ensures.taken,
       c.in-Ok-next.ensures.begun,
-      c.next.ensures.same ∙ now.5,
     )

@@ -1,0 +1,157 @@
+//! Clusters of a character and one mark, which are composed without a list and without memory.
+
+ghost use Rattle.std.specs.Prelude.{◌≡◌, ◌<◌, ◌≤◌, [], ◌∷◌, ◌++◌, length, IfSome, IsTrue, OnOk, OnErr};
+ghost use Rattle.std.specs.List.{AllByRecursion};
+ghost use Rattle.icu_normalizer_core.specs.Canonical.{composing};
+ghost use Rattle.icu_normalizer.specs.FormData.{form_meaning};
+ghost use Rattle.icu_normalizer.specs.LoneMarks.{IsLoneMark, IsMade, IsMark, IsSteadyUpTo, lone_form};
+ghost use Rattle.icu_normalizer.specs.Sinks.{AddsPrefix, EndsByFailure};
+ghost use Rattle.icu_normalizer.specs.Texts.{BeginsWith};
+
+use super::clusters::next_of_cluster;
+use crate::form_data::FormData;
+use crate::sinks::NormError;
+use crate::texts::{Text, WriteTo};
+use icu_normalizer_core::canonical::Reading;
+
+/// What composing makes of a character and the mark behind it.
+#[derive(Clone, Copy, Debug)]
+pub(super) enum LoneMark {
+    /// They compose to this character.
+    Joined(char),
+    /// They stay as they stand.
+    Apart(char, char),
+}
+
+/// What composing makes of the first cluster of a text, and what stands behind it, where the cluster is a steady
+/// character and one mark that belongs behind the marks of that character; `None` of other clusters.
+#[inline]
+pub(super) fn lone_mark<T: Text>(basis: FormData<'_>, text: T) -> Option<(LoneMark, T)>
+    ensures { IfSome result (λ lone. IsLoneMark T.encode (form_meaning basis.entry) (T.spelled text) lone.0 (T.spelled lone.1)) }
+{
+    let Some(letter) = undamaged_char(text) else {
+        return None;
+    };
+    let Some(mark) = undamaged_char(letter.1) else {
+        return None;
+    };
+    let Some(class) = class_of_mark(basis, mark.0) else {
+        return None;
+    };
+    if !is_steady_up_to(basis, letter.0, class) {
+        return None;
+    }
+    match next_of_cluster(basis, mark.1) {
+        Some(_) => None,
+        None => Some((composed_pair(basis, letter.0, mark.0), mark.1)),
+    }
+}
+
+/// The first character of a text and what stands behind it; `None` where there is none, or it is damaged.
+#[inline]
+fn undamaged_char<T: Text>(text: T) -> Option<(char, T)>
+    ensures begins { IfSome result (λ read. BeginsWith T.encode (T.spelled text) read.0 (T.spelled read.1)) }
+    ensures fewer { IfSome result (λ read. length (T.spelled read.1).units < length (T.spelled text).units) }
+{
+    let Some(read) = text.split_char() else {
+        return None;
+    };
+    let first = read.0;
+    let Some(c) = first else {
+        return None;
+    };
+    Some((c, read.1))
+}
+
+/// The class of a mark that is known to be its own full list; `None` of other characters.
+#[inline]
+fn class_of_mark(basis: FormData<'_>, c: char) -> Option<u8>
+    ensures { IfSome result (λ class. IsMark (form_meaning basis.entry) c class) }
+{
+    let Reading::Itself(class) = basis.reading(c) else {
+        return None;
+    };
+    if class == 0 {
+        return None;
+    }
+    Some(class)
+}
+
+/// Whether a character is known to be steady, and of no class above this one in its full list.
+#[inline]
+#[tactic(auto, using(crate::proofs::LoneMarkLemmas::steady_up_to_itself, crate::proofs::LoneMarkLemmas::steady_up_to_two))]
+fn is_steady_up_to(basis: FormData<'_>, c: char, class: u8) -> bool
+    ensures { IsTrue result → IsSteadyUpTo (form_meaning basis.entry) c class }
+{
+    basis.keep_promise();
+    if c < '\u{a0}' {
+        return true;
+    }
+    if !basis.is_steady(c) {
+        return false;
+    }
+    match basis.reading(c) {
+        Reading::Itself(_) => true,
+        Reading::Two(_, second) => basis.class(second) <= class,
+        Reading::Other => has_classes_up_to(basis, c, class),
+    }
+}
+
+/// Whether no class in the full list of a character is above this one.
+fn has_classes_up_to(basis: FormData<'_>, c: char, class: u8) -> bool
+    ensures { IsTrue result → AllByRecursion (λ d. (form_meaning basis.entry).class d ≤ class) ((form_meaning basis.entry).full c) }
+{
+    for d in basis.full_list(c) {
+        if basis.class(d) > class {
+            return false;
+        }
+    }
+    true
+}
+
+/// What composing makes of a character and a mark behind it.
+#[inline]
+fn composed_pair(basis: FormData<'_>, letter: char, mark: char) -> LoneMark
+    requires itself { (form_meaning basis).full mark ≡ mark ∷ [] }
+    requires mark { 0 < (form_meaning basis).class mark }
+    ensures form { lone_form result ≡ composing (form_meaning basis.entry) letter [] (mark ∷ []) }
+    ensures made { IsMade letter mark result }
+{
+    basis.keep_promise();
+    match basis.compose(letter, mark) {
+        Some(composed) => LoneMark::Joined(composed),
+        None => LoneMark::Apart(letter, mark),
+    }
+}
+
+/// Writes what composing makes of such a cluster.
+#[inline]
+pub(super) fn write_lone<T: WriteTo<S>, S>(
+    lone: LoneMark,
+    sink: &mut S,
+) -> Result<(), NormError<T::Error>>
+    ensures ok { OnOk result (T.contents sink.new ≡ T.contents sink.old ++ T.encode (lone_form lone)) }
+    ensures err { OnErr result (AddsPrefix (T.contents sink.old) (T.encode (lone_form lone)) (T.contents sink.new)) }
+    ensures failure { EndsByFailure T.takes T.fails sink.old result sink.new }
+{
+    match lone {
+        LoneMark::Joined(c) => write_char::<T, S>(c, sink),
+        LoneMark::Apart(letter, mark) => match write_char::<T, S>(letter, sink) {
+            Ok(()) => write_char::<T, S>(mark, sink),
+            Err(error) => Err(error),
+        },
+    }
+}
+
+/// Writes a character.
+#[inline]
+fn write_char<T: WriteTo<S>, S>(c: char, sink: &mut S) -> Result<(), NormError<T::Error>>
+    ensures ok { OnOk result (T.contents sink.new ≡ T.contents sink.old ++ T.encode (c ∷ [])) }
+    ensures err { OnErr result (AddsPrefix (T.contents sink.old) (T.encode (c ∷ [])) (T.contents sink.new)) }
+    ensures failure { EndsByFailure T.takes T.fails sink.old result sink.new }
+{
+    match T::write_char(sink, c) {
+        Ok(()) => Ok(()),
+        Err(error) => Err(NormError::Sink(error)),
+    }
+}
