@@ -67,11 +67,7 @@ pub(super) fn split_low<T: Text>(basis: FormData<'_>, text: T) -> (T, T)
 
 /// What is found of the first cluster of a text. Memory is taken for long runs of marks alone.
 #[inline]
-fn first_found<T: Text>(
-    alloc: Global,
-    basis: FormData<'_>,
-    text: T,
-) -> Result<Found<T>, AllocError>
+fn first_found<T: Text>(alloc: Global, basis: FormData<'_>, text: T) -> Result<Found<T>, AllocError>
     requires { IsAtEnd (T.spelled text) → ⊥ }
     ensures { IfOk result (λ found. IsFound T.encode (composed (form_meaning basis.entry)) T.spelled (T.spelled text) found) }
 {
@@ -80,8 +76,9 @@ fn first_found<T: Text>(
         return read_cluster(alloc, basis, text);
     };
     match lone.0 {
-        LoneMark::Joined(_) => Ok(Found::Changed(text)),
         LoneMark::Apart(_, _) => Ok(Found::Own(lone.1)),
+        LoneMark::Joined(_) => Ok(Found::Changed(text)),
+        LoneMark::Changed(_, _) => Ok(Found::Changed(text)),
     }
 }
 
