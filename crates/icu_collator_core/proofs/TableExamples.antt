@@ -1,10 +1,9 @@
 -- Words of each form and what they say, a small collation in tables, and settings.
-use Rattle.std.proofs.Common.{◌≡◌, ℕ, ◌||◌, Bool, cond, ◌==◌, true, false, List, [], ◌∷◌, ◌++◌, map, replicate, Option, None, Some, refl}
+use Rattle.std.proofs.Common.{◌≡◌, ℕ, ◌||◌, cond, ◌==◌, true, false, List, [], ◌∷◌, ◌++◌, map, replicate, Option, None, Some, refl}
 use Rattle.std.specs.List.{range_with_len}
 use Rattle.icu_char16trie.specs.Cursors.{value_of_key}
 use Rattle.icu_char16trie.specs.UnitSteps.{small_part, target_in}
 use Rattle.icu_codepointtrie.specs.Places.{TrieTables}
-use Rattle.icu_codepointtrie.specs.declared.trie.CodePointTrieHeader.{CodePointTrieHeader}
 use Rattle.icu_codepointtrie.specs.declared.trie.TrieType.TheVariants.{Small}
 use Rattle.icu_normalizer_core.specs.Canonical.{Canonical}
 use Rattle.icu_collator_types.specs.declared.elements.Element.{Element}
@@ -37,7 +36,7 @@ few = record {
   ces = 0x2a10_0000_0500_0500 ∷ 0x8800_8540 ∷ 0xe002_0200_004e_0001 ∷ [];
   ce32s = 0x2a10_0505 ∷ 0x8800_05c2 ∷ 0 ∷ 0x2b40_0505 ∷ [];
   contexts = 0x2a10 ∷ 0x0505 ∷ 0x30 ∷ 0x62 ∷ 0xffff ∷ 0x2a60 ∷ 0x0505
-    ∷ 0 ∷ 0xc9 ∷ 0x31 ∷ 0x62 ∷ 0x61 ∷ 0xffff ∷ 0x2a70 ∷ 0x0505 ∷ [];
+      ∷ 0 ∷ 0xc9 ∷ 0x31 ∷ 0x62 ∷ 0x61 ∷ 0xffff ∷ 0x2a70 ∷ 0x0505 ∷ [];
 }
 
 abbrev entry : ℕ → TableWord

@@ -60,8 +60,8 @@ counting_word canonical tables c =
     in let jamo : TableWord = record { word = slice_index tables.jamo.ce32s (c - 0x1100); pools = pools }
     in let other = cond (is_jamo c) jamo (tailored_word tables c)
     in elim (diacritic canonical tables.diacritics.secondaries c) [
-      Some secondary ↦ record { word = secondary_word secondary; pools = pools }
-    | None ↦ other
+      | Some secondary ↦ record { word = secondary_word secondary; pools = pools }
+      | None ↦ other
     ]
 
 -- ## What it says

@@ -84,8 +84,8 @@ without_byte reordering p =
 unfoldable pub reordered_by : CollationReordering → ℕ → ℕ
 reordered_by reordering p =
     elim (slice_get reordering.reorder_table (p / 2 ^ 24)) [
-      Some byte ↦ cond (byte == 0) (without_byte reordering p) (led_by byte p)
-    | None ↦ p
+      | Some byte ↦ cond (byte == 0) (without_byte reordering p) (led_by byte p)
+      | None ↦ p
     ]
 
 -- the same where tables may have no reordering
