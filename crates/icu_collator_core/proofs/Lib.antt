@@ -1,5 +1,7 @@
 pub mod numbers
 pub mod readings
 pub mod weights
+pub mod checks
 pub mod NumberExamples
 mod TableExamples
+mod TableFaultExamples
