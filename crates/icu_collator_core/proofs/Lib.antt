@@ -5,3 +5,4 @@ pub mod checks
 pub mod NumberExamples
 mod TableExamples
 mod TableFaultExamples
+mod ContextExamples

@@ -13,3 +13,4 @@ pub mod TableMeaning
 pub mod WordForms
 pub mod WordPlaces
 pub mod TableFaults
+pub mod ContextRules
