@@ -10,3 +10,7 @@ pub mod Sameness
 pub mod Pools
 pub mod TableSettings
 pub mod TableMeaning
+pub mod WordForms
+pub mod WordPlaces
+pub mod TableFaults
+pub mod ContextRules
