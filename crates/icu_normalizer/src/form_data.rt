@@ -78,7 +78,7 @@ impl<'d> FormData<'d> {
 
     /// What one read tells of a character.
     #[inline]
-    pub(crate) fn reading(&self, c: char) -> Reading<'d>
+    pub(crate) fn reading(&self, c: char) -> Reading
         ensures { IsTold (form_meaning self.now) c result }
     {
         match self {

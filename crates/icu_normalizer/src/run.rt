@@ -9,7 +9,7 @@ ghost use Rattle.icu_normalizer_core.specs.Canonical.{marks_in_order};
 ghost use Rattle.icu_normalizer.specs.Marks.{is_mark};
 
 use crate::form_data::FormData;
-use icu_normalizer_core::canonical::{FullList, Reading};
+use icu_normalizer_core::canonical::Reading;
 use smallvec::SmallVec;
 use std::alloc::{AllocError, Global};
 
@@ -115,26 +115,24 @@ impl<'d> Run<'d> {
         if c < '\u{a0}' {
             return self.add(c, 0);
         }
-        let basis = self.basis;
-        match basis.reading(c) {
+        match self.basis.reading(c) {
             Reading::Itself(class) => self.add(c, class),
             Reading::Two(first, second) => {
                 self.push(first)?;
                 self.push(second)
             }
-            Reading::Listed(list) => self.push_list(list),
-            Reading::Other => self.push_list(basis.full_list(c)),
+            Reading::Three(_, _, _) => self.push_list(c),
+            Reading::Other => self.push_list(c),
         }
     }
 
-    /// Adds at most eight characters, each its own full list.
-    fn push_list(&mut self, list: FullList<'_>) -> Result<(), AllocError>
-        requires { length list ≤ 8 }
-        ensures ok { OnOk result (KeepsOutput self.old list.entry [] self.new) }
+    /// The same, character by character.
+    fn push_list(&mut self, c: char) -> Result<(), AllocError>
+        ensures ok { OnOk result (KeepsOutput self.old ((data_of self.old).full c) [] self.new) }
         ensures held { held self.new ≤ held self.old + 8 }
         ensures same { data_of self.new ≡ data_of self.old }
     {
-        for d in list {
+        for d in self.basis.full_list(c) {
             self.push(d)?;
         }
         Ok(())

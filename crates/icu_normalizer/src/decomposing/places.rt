@@ -6,7 +6,7 @@ ghost use Rattle.icu_normalizer.specs.Readable.{IsReadable};
 ghost use Rattle.icu_normalizer.specs.Splits.{IsInPlace};
 
 use crate::form_data::FormData;
-use icu_normalizer_core::canonical::{FullList, Reading};
+use icu_normalizer_core::canonical::Reading;
 
 /// The class of a character that is in its place behind one of class `before`: it stands for itself, and if it is a
 /// mark, then its class is not below `before`. `None` for any other.
@@ -23,8 +23,8 @@ pub(super) fn class_in_place(basis: FormData<'_>, before: u8, c: char) -> Option
     let class = match basis.reading(c) {
         Reading::Itself(class) => class,
         Reading::Two(_, _) => return None,
-        Reading::Listed(list) => own_class(basis, c, list)?,
-        Reading::Other => own_class(basis, c, basis.full_list(c))?,
+        Reading::Three(_, _, _) => return None,
+        Reading::Other => own_class(basis, c)?,
     };
     if class == 0 || before <= class {
         Some(class)
@@ -33,14 +33,13 @@ pub(super) fn class_in_place(basis: FormData<'_>, before: u8, c: char) -> Option
     }
 }
 
-/// The class of a character that is its own full list, which is given.
-fn own_class(basis: FormData<'_>, c: char, full_list: FullList<'_>) -> Option<u8>
-    requires { (form_meaning basis).full c ≡ full_list }
+/// The class of a character that is its own full list.
+fn own_class(basis: FormData<'_>, c: char) -> Option<u8>
     ensures class { IfSome result (λ class. class ≡ (form_meaning basis.entry).class c) }
     ensures some { IfSome result (λ _. (form_meaning basis.entry).full c ≡ c ∷ []) }
     ensures none { IfNone result ((form_meaning basis.entry).full c ≡ c ∷ [] → ⊥) }
 {
-    let mut list = full_list;
+    let mut list = basis.full_list(c);
     let first = list.next()?;
     if first == c && list.next().is_none() {
         Some(basis.class(c))

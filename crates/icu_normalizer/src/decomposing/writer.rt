@@ -14,10 +14,10 @@ use crate::form_data::FormData;
 use crate::run::sort_marks;
 use crate::sinks::NormError;
 use crate::texts::WriteTo;
-use icu_normalizer_core::canonical::{FullList, Reading};
+use icu_normalizer_core::canonical::Reading;
 use smallvec::SmallVec;
 use std::alloc::{AllocError, Global};
-use straight::straight_three;
+use straight::is_straight;
 
 /// How many marks are held without memory.
 const FEW: usize = 4;
@@ -77,12 +77,11 @@ impl<'d> Writer<'d> {
         if c < '\u{a0}' {
             return self.add::<T, S>(c, 0, sink);
         }
-        let basis = self.basis;
-        match basis.reading(c) {
+        match self.basis.reading(c) {
             Reading::Itself(class) => self.add::<T, S>(c, class, sink),
             Reading::Two(first, second) => self.write_both::<T, S>(first, second, sink),
-            Reading::Listed(list) => self.write_list::<T, S>(list, sink),
-            Reading::Other => self.write_list::<T, S>(basis.full_list(c), sink),
+            Reading::Three(_, _, _) => self.write_list::<T, S>(c, sink),
+            Reading::Other => self.write_list::<T, S>(c, sink),
         }
     }
 
@@ -104,11 +103,14 @@ impl<'d> Writer<'d> {
         match self.basis.reading(c) {
             Reading::Itself(class) => self.add::<T, S>(c, class, sink),
             Reading::Two(first, second) => self.write_two::<T, S>(first, second, sink),
-            Reading::Listed(list) => match straight_three(self.basis, list) {
-                Some(three) => self.write_flushed::<T, S>(&three, sink),
-                None => self.write_held::<T, S>(c, sink),
-            },
-            Reading::Other => self.write_held::<T, S>(c, sink),
+            Reading::Three(first, second, third) => {
+                if is_straight(self.basis, first, second, third) {
+                    self.write_flushed::<T, S>(&[first, second, third], sink)
+                } else {
+                    self.write_list::<T, S>(c, sink)
+                }
+            }
+            Reading::Other => self.write_list::<T, S>(c, sink),
         }
     }
 
@@ -127,18 +129,19 @@ impl<'d> Writer<'d> {
         self.flush::<T, S>(sink)
     }
 
-    /// Writes characters, each its own full list.
+    /// Writes the full list of `c`, character by character.
+    #[inline(never)]
     fn write_list<T: WriteTo<S>, S>(
         &mut self,
-        list: FullList<'_>,
+        c: char,
         sink: &mut S,
     ) -> Result<(), NormError<T::Error>>
-        ensures ok { OnOk result (Writes T.encode self.old list.entry (T.contents sink.old) (T.contents sink.new) self.new) }
-        ensures err { OnErr result (WritesPart T.encode self.old list.entry (T.contents sink.old) (T.contents sink.new)) }
+        ensures ok { OnOk result (Writes T.encode self.old ((writer_data self.old).full c) (T.contents sink.old) (T.contents sink.new) self.new) }
+        ensures err { OnErr result (WritesPart T.encode self.old ((writer_data self.old).full c) (T.contents sink.old) (T.contents sink.new)) }
         ensures failure { EndsByFailure T.takes T.fails sink.old result sink.new }
         ensures same { writer_data self.new ≡ writer_data self.old }
     {
-        for d in list {
+        for d in self.basis.full_list(c) {
             self.write::<T, S>(d, sink)?;
         }
         Ok(())

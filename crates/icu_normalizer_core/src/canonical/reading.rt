@@ -1,42 +1,43 @@
 //! What one read of canonical data tells of a character.
 
-ghost use Rattle.std.specs.Prelude.{All};
+ghost use Rattle.std.specs.Prelude.{◌≡◌, [], ◌∷◌, true, All, IfSome};
 ghost use Rattle.std.specs.Char.{IsScalar};
 ghost use Rattle.icu_normalizer_core.specs.CanonicalMeaning.{meaning};
+ghost use Rattle.icu_normalizer_core.specs.CanonicalWords.{is_list_word, list_at};
 ghost use Rattle.icu_normalizer_core.specs.Readings.{IsTold, IsToldBy};
 ghost use Rattle.icu_normalizer_core.specs.Words.{full_in, word_lists};
 
-use super::full_list::{FullList, character, listed};
+use super::full_list::{character, listed};
 use super::tables::CanonicalTables;
 use super::words::{Words, is_list_word, is_mark_word, is_pair_word};
 
 /// What one read of canonical data tells of a character.
-#[derive(Debug, Drop)]
-pub enum Reading<'d> {
+#[derive(Clone, Copy, Debug)]
+pub enum Reading {
     /// It is its own full list, and has this class.
     Itself(u8),
     /// Its full list has these two characters.
     Two(char, char),
-    /// This is its full list.
-    Listed(FullList<'d>),
+    /// Its full list has these three characters.
+    Three(char, char, char),
     /// Nothing: its class and its full list have to be asked for.
     Other,
 }
 
-/// What the character's word alone tells.
+/// What the character's word tells.
 #[inline]
-pub(super) fn read_character<'d>(tables: &'d CanonicalTables<'d>, c: char) -> Reading<'d>
+pub(super) fn read_character(tables: &CanonicalTables<'_>, c: char) -> Reading
     requires { All IsScalar ((meaning tables.now).full c) }
     ensures { IsTold (meaning tables.now) c result }
 {
     tables.words().reading(c)
 }
 
-impl<'t> Words<'t> {
-    /// What the character's word alone tells.
-    #[inline]
+impl Words<'_> {
+    /// What the character's word tells, with a list of three that it names a place of.
+    #[inline(always)]
     #[tactic(auto, unfolding(crate::specs::CanonicalWords::class_of_word, crate::specs::CanonicalWords::full_of_word))]
-    pub(crate) fn reading(self, c: char) -> Reading<'t>
+    pub(crate) fn reading(self, c: char) -> Reading
         requires { All IsScalar (full_in (word_lists self) c) }
         ensures { IsToldBy (word_lists self.entry) c result }
     {
@@ -48,9 +49,30 @@ impl<'t> Words<'t> {
         } else if is_mark_word(word) {
             Reading::Itself((word - 0xd800) as u8)
         } else if is_list_word(word) {
-            Reading::Listed(listed(self, word))
+            match three_listed(self, word) {
+                Some((first, second, third)) => Reading::Three(first, second, third),
+                None => Reading::Other,
+            }
         } else {
             Reading::Other
         }
+    }
+}
+
+/// The three characters of the list that a word names a place of, `None` of a list of any other length.
+#[inline(never)]
+fn three_listed(words: Words<'_>, word: u32) -> Option<(char, char, char)>
+    requires word { is_list_word word ≡ true }
+    requires scalars { All IsScalar (list_at words.scalars16.now words.scalars24.now word) }
+    ensures { IfSome result (λ three. list_at words.entry.scalars16.now words.entry.scalars24.now word ≡ three.0 ∷ three.1 ∷ three.2 ∷ []) }
+{
+    let mut list = listed(words, word);
+    let first = list.next()?;
+    let second = list.next()?;
+    let third = list.next()?;
+    if list.next().is_none() {
+        Some((first, second, third))
+    } else {
+        None
     }
 }

@@ -64,10 +64,10 @@ impl<'d> CompatibilityBorrowed<'d> {
         self.checked.is_steady(c)
     }
 
-    /// What one read tells of a character: whether it is its own full list, and of which class, or its full list;
-    /// of some characters nothing.
+    /// What one read tells of a character: whether it is its own full list, and of which class, or its full list of
+    /// two or three characters; of other characters nothing.
     #[inline]
-    pub fn reading(&self, c: char) -> Reading<'d>
+    pub fn reading(&self, c: char) -> Reading
         ensures { IsTold (borrowed_compatibility self.now) c result }
     {
         self.checked.tables().words().reading(c)

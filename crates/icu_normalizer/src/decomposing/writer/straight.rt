@@ -1,6 +1,6 @@
 //! Full lists that go to a sink at once: a starter, with its marks in order behind it.
 
-ghost use Rattle.std.specs.Prelude.{◌≡◌, [], ◌∷◌, ◌++◌, IfSome, OnOk, OnErr, IsTrue};
+ghost use Rattle.std.specs.Prelude.{◌≡◌, [], ◌∷◌, ◌++◌, OnOk, OnErr, IsTrue};
 ghost use Rattle.icu_normalizer_core.specs.Canonical.{marks_in_order};
 ghost use Rattle.icu_normalizer.specs.FormData.{form_meaning};
 ghost use Rattle.icu_normalizer.specs.Sinks.{AddsPrefix, EndsByFailure};
@@ -10,10 +10,9 @@ use super::Writer;
 use crate::form_data::FormData;
 use crate::sinks::NormError;
 use crate::texts::WriteTo;
-use icu_normalizer_core::canonical::FullList;
 
 impl<'d> Writer<'d> {
-    ghost use Rattle.icu_normalizer.specs.Writer.{writer_data, Writes, WritesPart, WritesApart, WritesPartApart};
+    ghost use Rattle.icu_normalizer.specs.Writer.{writer_data, WritesApart, WritesPartApart};
 
     /// Writes two characters, each its own full list. Behind them nothing stands, or a starter.
     #[inline(always)]
@@ -33,22 +32,6 @@ impl<'d> Writer<'d> {
         }
         self.flush::<T, S>(sink)?;
         put_two::<T, S>(first, second, sink)
-    }
-
-    /// Writes the full list of a character, whose marks may have to be held.
-    #[inline(never)]
-    pub(super) fn write_held<T: WriteTo<S>, S>(
-        &mut self,
-        c: char,
-        sink: &mut S,
-    ) -> Result<(), NormError<T::Error>>
-        ensures ok { OnOk result (Writes T.encode self.old ((writer_data self.old).full c) (T.contents sink.old) (T.contents sink.new) self.new) }
-        ensures err { OnErr result (WritesPart T.encode self.old ((writer_data self.old).full c) (T.contents sink.old) (T.contents sink.new)) }
-        ensures failure { EndsByFailure T.takes T.fails sink.old result sink.new }
-        ensures same { writer_data self.new ≡ writer_data self.old }
-    {
-        let basis = self.basis;
-        self.write_list::<T, S>(basis.full_list(c), sink)
     }
 }
 
@@ -70,21 +53,12 @@ fn is_in_order(basis: FormData<'_>, first: char, second: char) -> bool
     class == 0 || basis.class(first) <= class
 }
 
-/// The characters of a list, if it has three, begins with a starter and is in order behind it. Others may give `None`.
+/// Whether the first of three characters is known to be a starter, and the others to be in order.
 #[inline]
-pub(super) fn straight_three(basis: FormData<'_>, list: FullList<'_>) -> Option<[char; 3]>
-    ensures whole { IfSome result (λ three. three ≡ list.entry) }
-    ensures straight { IfSome result (λ three. IsStraight (form_meaning basis.entry).class three) }
+pub(super) fn is_straight(basis: FormData<'_>, first: char, second: char, third: char) -> bool
+    ensures { IsTrue result → IsStraight (form_meaning basis.entry).class (first ∷ second ∷ third ∷ []) }
 {
-    let mut left = list;
-    let first = left.next()?;
-    let second = left.next()?;
-    let third = left.next()?;
-    if left.next().is_none() && is_starter(basis, first) && is_in_order(basis, second, third) {
-        Some([first, second, third])
-    } else {
-        None
-    }
+    is_starter(basis, first) && is_in_order(basis, second, third)
 }
 
 /// Writes two characters to a sink.

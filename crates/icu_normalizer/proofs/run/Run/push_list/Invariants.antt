@@ -7,4 +7,4 @@ invariant-loop-d l =
     KeepsOutput l.initial.self l.yielded [] l.self
     × (held l.self ≤ held l.initial.self + length l.yielded)
     × (data_of l.self ≡ data_of l.initial.self)
-    × (l.yielded ++ l.d-iterator ≡ l.fn.list)
+    × (l.yielded ++ l.d-iterator ≡ (data_of l.initial.self).full l.fn.c)

@@ -8,7 +8,7 @@ use Rattle.icu_normalizer.proofs.WriterLemmas.{on_any, writes_nothing, writes_bo
 use Rattle.icu_normalizer.proofs.decomposing.writer.Writer.write_list.Goals as goal
 
 pub loop-d-init : goal.loop-d-init
-loop-d-init g c = (writes_nothing g.T.Text.encode g.met.T.Text.encoding _ _, refl, c.into_iter-d-iterator.ensures.into_iter_gives, nothing _)
+loop-d-init g c = (writes_nothing g.T.Text.encode g.met.T.Text.encoding _ _, refl, c.into_iter-d-iterator.ensures.into_iter_gives ∙ c.full_list-d-items.ensures, nothing _)
 
 pub loop-d-preserved : goal.loop-d-preserved
 loop-d-preserved g c =
