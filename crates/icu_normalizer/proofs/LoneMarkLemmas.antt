@@ -65,9 +65,6 @@ module _ (canonical : Canonical) where
       let starter : canonical.class first ≡ 0 = ap canonical.class same ∙ steady.0.3 in
       (steady, subst (AllByRecursion (λ d. canonical.class d ≤ class)) (sym two) (omega arith, (le, tt)))
 
-  pub steady_up_to_listed : (c : ℕ) (list : List ℕ) (class : ℕ) → canonical.full c ≡ list → IsSteady canonical c → AllByRecursion (λ d. canonical.class d ≤ class) list → IsSteadyUpTo canonical c class
-  steady_up_to_listed c list class listed steady all = (steady, subst (AllByRecursion (λ d. canonical.class d ≤ class)) (sym listed) all)
-
   -- ---- composing on
 
   composing_some : (s : ℕ) (ms cs : List ℕ) → 1 ≤ length (composing canonical s ms cs)

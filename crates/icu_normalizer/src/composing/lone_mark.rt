@@ -12,7 +12,7 @@ use super::clusters::next_of_cluster;
 use crate::form_data::FormData;
 use crate::sinks::NormError;
 use crate::texts::{Text, WriteTo};
-use icu_normalizer_core::canonical::{FullList, Reading};
+use icu_normalizer_core::canonical::Reading;
 
 /// What composing makes of a character and the mark behind it.
 #[derive(Clone, Copy, Debug)]
@@ -81,7 +81,7 @@ fn class_of_mark(basis: FormData<'_>, c: char) -> Option<u8>
 
 /// Whether a character is known to be steady, and of no class above this one in its full list.
 #[inline]
-#[tactic(auto, using(crate::proofs::LoneMarkLemmas::steady_up_to_itself, crate::proofs::LoneMarkLemmas::steady_up_to_two, crate::proofs::LoneMarkLemmas::steady_up_to_listed))]
+#[tactic(auto, using(crate::proofs::LoneMarkLemmas::steady_up_to_itself, crate::proofs::LoneMarkLemmas::steady_up_to_two))]
 fn is_steady_up_to(basis: FormData<'_>, c: char, class: u8) -> bool
     ensures { IsTrue result → IsSteadyUpTo (form_meaning basis.entry) c class }
 {
@@ -95,16 +95,15 @@ fn is_steady_up_to(basis: FormData<'_>, c: char, class: u8) -> bool
     match basis.reading(c) {
         Reading::Itself(_) => true,
         Reading::Two(_, second) => basis.class(second) <= class,
-        Reading::Listed(list) => has_classes_up_to(basis, list, class),
-        Reading::Other => has_classes_up_to(basis, basis.full_list(c), class),
+        Reading::Three(_, _, _) | Reading::Other => has_classes_up_to(basis, c, class),
     }
 }
 
-/// Whether no class of these characters is above this one.
-fn has_classes_up_to(basis: FormData<'_>, list: FullList<'_>, class: u8) -> bool
-    ensures { IsTrue result → AllByRecursion (λ d. (form_meaning basis.entry).class d ≤ class) list.entry }
+/// Whether no class in the full list of a character is above this one.
+fn has_classes_up_to(basis: FormData<'_>, c: char, class: u8) -> bool
+    ensures { IsTrue result → AllByRecursion (λ d. (form_meaning basis.entry).class d ≤ class) ((form_meaning basis.entry).full c) }
 {
-    for d in list {
+    for d in basis.full_list(c) {
         if basis.class(d) > class {
             return false;
         }

@@ -6,4 +6,4 @@ use Rattle.icu_normalizer.proofs.composing.lone_mark.has_classes_up_to.Given as 
 abbrev pub invariant-loop-d : goal.invariant-loop-d
 invariant-loop-d l =
     AllByRecursion (λ d. (form_meaning l.fn.basis).class d ≤ l.fn.class) l.yielded
-    × (l.yielded ++ l.d-iterator ≡ l.fn.list)
+    × (l.yielded ++ l.d-iterator ≡ (form_meaning l.fn.basis).full l.fn.c)
