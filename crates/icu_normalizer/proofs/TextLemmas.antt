@@ -1,7 +1,7 @@
 -- Texts that are read from the front.
 use Rattle.std.proofs.Common.{◌≡◌, ℕ, ◌+◌, ◌-◌, ◌*◌, ◌/◌, ◌%◌, ◌<◌, ◌≤◌, ◌^◌, true, false, List, [], ◌∷◌, ◌++◌, Option, None, Some, ◌↔◌, length, length-append, length-drop, take, drop, take_all, take-append-drop, get_or, slice_index, le-ltb, lt-ltb, chars, encode_utf8_all, IsUtf8, refl, sym, ap, ap₂, subst, ◌∙◌, arith, append-nil, ⊎_elim}
 use Rattle.std.proofs.Math.Seq.{take-append_seam, drop-append_seam}
-use Rattle.std.proofs.lemmas.Bool.{cases_lt, and_from, cond-false, cond-true}
+use Rattle.std.proofs.lemmas.Bool.{cases_Bool, cases_lt, and_from, cond-false, cond-true}
 use Rattle.std.proofs.lemmas.Bool.Decides.{nat_tests}
 use Rattle.std.proofs.lemmas.List.Elements.{recursion_from_All, All-from_recursion}
 use Rattle.std.proofs.lemmas.Str.{IsCharBoundary-at_seam, chars-encodes, chars-nil, chars_from_encodes, chars_past_char, encode_ascii, encodes-append, encodes-chars, scalars-chars}
@@ -229,6 +229,55 @@ utf16_none units rest u e small not alone = record {
   characters = ap utf16_chars e ∙ lone_read u rest alone ∙ ap (λ x. x ∷ utf16_chars rest) (lone_damaged u (surrogate u small not));
 }
 
+-- ---- the first pair of surrogates
+
+lone_small : (u : ℕ) → u < 2 ^ 16 → lone_char u < 0x1_0000
+lone_small u small = grind (arith, nat_tests)
+
+-- a pair comes first, and reads as its character
+pair_read : (units : List ℕ) (high low : ℕ) (more : List ℕ) → units ≡ high ∷ low ∷ more → is_pair high low ≡ true → utf16_chars units ≡ surrogate_pair_char high low ∷ utf16_chars more
+pair_read units high low more e joined = ap utf16_chars e ∙ pair_step high low more joined
+
+-- no pair comes first where nothing does
+pub no_pair : (units : List ℕ) (high low : ℕ) (more : List ℕ) → utf16_chars units ≡ [] → units ≡ high ∷ low ∷ more → is_pair high low ≡ false
+no_pair units high low more none e = ⊎_elim
+    (λ joined.
+    let both : [] ≡ surrogate_pair_char high low ∷ utf16_chars more = sym none ∙ pair_read units high low more e joined in
+    cc)
+    (λ alone. alone)
+    (cases_Bool (is_pair high low))
+
+-- nor where a character of one unit does
+pub first_small : (units left : List ℕ) (c high low : ℕ) (more : List ℕ) → utf16_chars units ≡ c ∷ left → c < 0x1_0000 → units ≡ high ∷ low ∷ more → is_pair high low ≡ false
+first_small units left c high low more read small e = ⊎_elim
+    (λ joined.
+    let both : c ∷ left ≡ surrogate_pair_char high low ∷ utf16_chars more = sym read ∙ pair_read units high low more e joined in
+    let same : c ≡ surrogate_pair_char high low = cc in
+    absurd (omega (arith, same)))
+    (λ alone. alone)
+    (cases_Bool (is_pair high low))
+
+-- a character of two units comes of a pair
+pub first_large : (units left : List ℕ) (c : ℕ) → ((i : ℕ) → slice_index units i < 2 ^ 16) → utf16_chars units ≡ c ∷ left → 0x1_0000 ≤ c
+    → (high : ℕ) × (low : ℕ) × (units ≡ high ∷ low ∷ take (length units - 2) (drop 2 units)) × (is_pair high low ≡ true) × (c ≡ surrogate_pair_char high low)
+first_large [] left c fits read large =
+    let both : [] ≡ c ∷ left = sym utf16_chars-nil ∙ read in
+    cc
+first_large (u ∷ []) left c fits read large =
+    let both : lone_char u ∷ [] ≡ c ∷ left = sym (one_unit u) ∙ read in
+    let same : lone_char u ≡ c = cc in
+    absurd (omega (arith, same, lone_small u (fits 0)))
+first_large (u ∷ v ∷ us) left c fits read large = ⊎_elim
+    (λ joined.
+    let both : c ∷ left ≡ surrogate_pair_char u v ∷ utf16_chars us = sym read ∙ pair_step u v us joined in
+    let same : c ≡ surrogate_pair_char u v = cc in
+    (u, v, ap (λ l. u ∷ v ∷ l) (sym (part 2 (u ∷ v ∷ us))), joined, same))
+    (λ alone.
+    let both : lone_char u ∷ utf16_chars (v ∷ us) ≡ c ∷ left = sym (lone_step u v us alone) ∙ read in
+    let same : lone_char u ≡ c = cc in
+    absurd (omega (arith, same, lone_small u (fits 0))))
+    (cases_Bool (is_pair u v))
+
 -- ---- the parts of a text that is cut
 
 module _ (text front rest : List ℕ) (whole : text ≡ front ++ rest) where
@@ -270,3 +319,15 @@ str_empty form bytes rest u is = (λ none. (is.0 none).1, λ own. is.1 (encodes-
 
 pub undamaged_utf8 : (bytes : List ℕ) → IsUndamaged encode_utf8_all (utf8_text bytes) → IsUtf8 bytes
 undamaged_utf8 bytes own = (utf8_chars bytes, (all_scalars (utf8_chars bytes) (utf8_characters bytes), own))
+
+pub utf8_same : (bytes : List ℕ) → IsUtf8 bytes → chars bytes ≡ utf8_chars bytes
+utf8_same bytes u = sym (utf8_reads (chars bytes) (str_characters bytes u)) ∙ ap utf8_chars (encodes-chars bytes u)
+
+pub utf8_undamaged : (bytes : List ℕ) → IsUtf8 bytes → IsUndamaged encode_utf8_all (utf8_text bytes)
+utf8_undamaged bytes u = ap encode_utf8_all (sym (utf8_same bytes u)) ∙ encodes-chars bytes u
+
+-- they are their own form where the text is
+pub valid_own : (form : List ℕ → List ℕ) (bytes text : List ℕ) → IsUndamaged encode_utf8_all (utf8_text bytes) → chars text ≡ utf8_chars bytes
+    → IsOwnForm form (chars text) ↔ IsOwnText encode_utf8_all form (utf8_text bytes)
+valid_own form bytes text undamaged read =
+    (λ own. (undamaged, ap form (sym read) ∙ own ∙ read), λ own. ap form read ∙ own.1 ∙ sym read)

@@ -34,6 +34,11 @@ abbrev pub tables_of : OwnedData → NormalizerTables
 tables_of (OfCanonical canonical) = record { canonical = canonical; nfkd = None }
 tables_of (OfBoth both) = record { canonical = both.canonical; nfkd = Some both.nfkd }
 
+-- the tables of data that were loaded
+abbrev pub loaded_tables : Result OwnedData DataError → Result NormalizerTables DataError
+loaded_tables (Ok held) = Ok (tables_of held)
+loaded_tables (Err refusal) = Err refusal
+
 -- a normaliser of canonical tables alone: the refusal of a load, else the first fault, else the tables; unless memory
 -- was refused
 abbrev pub IsMadeOfCanonical : Result NormalizerTables DataError → Result CanonicalTables DataError → Type 0

@@ -23,8 +23,8 @@ use super::lone_mark::{lone_mark, write_lone};
 use crate::form_data::FormData;
 use crate::sinks::{NormError, TextSink};
 use crate::texts::{Text, WriteTo};
-use crate::written::{WriteForm, write_parts};
-use std::alloc::Global;
+use crate::written::{WriteForm, write_form};
+use std::alloc::{AllocError, Global};
 
 /// A normaliser to NFC or NFKC (UAX 15), borrowed. What its calls say of NFC is said of NFKC where it is one to NFKC.
 #[derive(Clone, Copy, Debug)]
@@ -81,24 +81,7 @@ impl<'d> ComposingNormalizerBorrowed<'d> {
         ensures err { OnErr result (AddsPrefix (S.contents sink.old) (encode_utf8_all (composed (composing_data self.now) (chars text.now))) (S.contents sink.new)) }
         ensures failure { EndsByFailure S.takes S.fails sink.old result sink.new }
     {
-        self.write_form::<&str, S>(alloc, text, sink)
-    }
-
-    /// The same of a text in any encoding. What is damaged is written as U+FFFD.
-    fn write_form<T: WriteTo<S>, S>(
-        &self,
-        alloc: Global,
-        text: T,
-        sink: &mut S,
-    ) -> Result<(), NormError<T::Error>>
-        ensures ok { OnOk result (T.contents sink.new ≡ T.contents sink.old ++ T.encode (composed (composing_data self.now) (T.spelled text).characters)) }
-        ensures err { OnErr result (AddsPrefix (T.contents sink.old) (T.encode (composed (composing_data self.now) (T.spelled text).characters)) (T.contents sink.new)) }
-        ensures failure { EndsByFailure T.takes T.fails sink.old result sink.new }
-    {
-        let Ok(parts) = split(alloc, self.basis, text) else {
-            return Err(NormError::Memory);
-        };
-        write_parts::<Self, T, S>(self, alloc, parts, sink)
+        write_form::<Self, &str, S>(self, alloc, text, sink)
     }
 
     /// Writes the NFC of the first cluster of a text, and gives what stands behind it.
@@ -159,6 +142,17 @@ impl<'d> WriteForm for ComposingNormalizerBorrowed<'d> {
     ghost use Rattle.icu_normalizer.specs.Normalizers.{composing_data};
 
     ghost form = { λ normalizer. composed (composing_data normalizer) };
+
+    ghost bound = { λ _. 0x300 };
+
+    fn split<T: Text>(&self, alloc: Global, text: T) -> Result<(T, T), AllocError> {
+        split(alloc, self.basis, text)
+    }
+
+    /// Most texts have no more units in NFC than they have.
+    fn first_room(text: usize, _rest: usize) -> usize {
+        text
+    }
 
     /// Writes a text in NFC, part by part: what stays as it stands is written as it stands. What is damaged is written as
     /// U+FFFD.

@@ -8,9 +8,7 @@ ghost use Rattle.icu_normalizer.specs.NormalizerTables.{tables_meaning, IsMadeOf
 
 use super::ComposingNormalizerBorrowed;
 use crate::form_data::OwnedData;
-use icu_normalizer_core::provider::{
-    DataError, NormalizerProvider, load_canonical_data, load_compatibility_data,
-};
+use icu_normalizer_core::provider::{DataError, NormalizerProvider};
 use std::alloc::Global;
 use std::marker::Model;
 
@@ -40,10 +38,8 @@ impl<'a> ComposingNormalizer<'a> {
     ) -> Result<ComposingNormalizer<'a>, DataError>
         ensures { IsMadeOfCanonical result (loaded (P.nfd provider.now) (P.nfd_tables provider.now) (P.pairs provider.now)) }
     {
-        let canonical = load_canonical_data(alloc, provider)?;
-        Ok(ComposingNormalizer {
-            data: OwnedData::Canonical(canonical),
-        })
+        let data = OwnedData::load_canonical(alloc, provider)?;
+        Ok(ComposingNormalizer { data })
     }
 
     /// A normaliser to NFKC over a provider's tables. The answer is the first refusal, if there is one: of `load_nfd`,
@@ -58,10 +54,8 @@ impl<'a> ComposingNormalizer<'a> {
             (loaded (P.nfd provider.now) (P.nfd_tables provider.now) (P.pairs provider.now))
             (loaded_words (P.nfkd provider.now) (P.nfkd_tables provider.now))) }
     {
-        let both = load_compatibility_data(alloc, provider)?;
-        Ok(ComposingNormalizer {
-            data: OwnedData::Compatibility(both),
-        })
+        let data = OwnedData::load_compatibility(alloc, provider)?;
+        Ok(ComposingNormalizer { data })
     }
 
     /// The same, borrowed: that has the calls.

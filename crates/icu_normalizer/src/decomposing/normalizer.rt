@@ -9,7 +9,7 @@ ghost use Rattle.icu_normalizer.specs.Forming.{IsSaidOver};
 ghost use Rattle.icu_normalizer.specs.Iter.{Spells};
 ghost use Rattle.icu_normalizer.specs.Readable.{IsReadable};
 ghost use Rattle.icu_normalizer.specs.Sinks.{AddsPrefix, EndsByFailure};
-ghost use Rattle.icu_normalizer.specs.Texts.{IsAtEnd, IsUndamaged};
+ghost use Rattle.icu_normalizer.specs.Texts.{IsAtEnd};
 
 mod encodings;
 mod splits;
@@ -21,9 +21,9 @@ use super::writer::Writer;
 use crate::form_data::FormData;
 use crate::sinks::{NormError, TextSink};
 use crate::texts::{Text, WriteTo};
-use crate::written::{WriteForm, write_parts};
+use crate::written::{WriteForm, write_form};
 use icu_normalizer_core::canonical::CanonicalBorrowed;
-use std::alloc::Global;
+use std::alloc::{AllocError, Global};
 
 /// A normaliser to NFD or NFKD (UAX 15), borrowed. What its calls say of NFD is said of NFKD where it is one to NFKD.
 #[derive(Clone, Copy, Debug)]
@@ -88,28 +88,25 @@ impl<'d> DecomposingNormalizerBorrowed<'d> {
         ensures err { OnErr result (AddsPrefix (S.contents sink.old) (encode_utf8_all (decomposed (normalizer_data self.now) (chars text.now))) (S.contents sink.new)) }
         ensures failure { EndsByFailure S.takes S.fails sink.old result sink.new }
     {
-        self.write_form::<&str, S>(alloc, text, sink)
-    }
-
-    /// The same of a text in any encoding. What is damaged is written as U+FFFD.
-    fn write_form<T: WriteTo<S>, S>(
-        &self,
-        alloc: Global,
-        text: T,
-        sink: &mut S,
-    ) -> Result<(), NormError<T::Error>>
-        ensures ok { OnOk result (T.contents sink.new ≡ T.contents sink.old ++ T.encode (decomposed (normalizer_data self.now) (T.spelled text).characters)) }
-        ensures err { OnErr result (AddsPrefix (T.contents sink.old) (T.encode (decomposed (normalizer_data self.now) (T.spelled text).characters)) (T.contents sink.new)) }
-        ensures failure { EndsByFailure T.takes T.fails sink.old result sink.new }
-    {
-        write_parts::<Self, T, S>(self, alloc, split(self.basis, text), sink)
+        write_form::<Self, &str, S>(self, alloc, text, sink)
     }
 }
 
 impl<'d> WriteForm for DecomposingNormalizerBorrowed<'d> {
-    ghost use Rattle.icu_normalizer.specs.Normalizers.{normalizer_data};
+    ghost use Rattle.icu_normalizer.specs.Normalizers.{normalizer_data, normalizer_bound};
 
     ghost form = { λ normalizer. decomposed (normalizer_data normalizer) };
+
+    ghost bound = { normalizer_bound };
+
+    fn split<T: Text>(&self, _alloc: Global, text: T) -> Result<(T, T), AllocError> {
+        Ok(split(self.basis, text))
+    }
+
+    /// What has to be changed grows by about half.
+    fn first_room(text: usize, rest: usize) -> usize {
+        text.saturating_add(rest).saturating_add(rest / 2)
+    }
 
     /// Writes a text in NFD, character by character. What is damaged is written as U+FFFD. The marks of a letter are
     /// written with it where the next character is known to begin with a starter.

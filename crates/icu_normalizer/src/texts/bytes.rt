@@ -1,11 +1,13 @@
 //! Any bytes, read as UTF-8.
 
-ghost use Rattle.std.specs.Prelude.{◌≡◌, ℕ, ◌<◌, ◌≤◌, IfSome, length, slice_index, encode_utf8_all};
+ghost use Rattle.std.specs.Prelude.{◌≡◌, ℕ, ◌<◌, ◌≤◌, IfSome, IfNone, length, slice_index, chars, encode_utf8_all};
+ghost use Rattle.icu_normalizer_core.specs.Decoding.{utf8_chars};
 ghost use Rattle.icu_normalizer.specs.Encodings.{utf8_encoding};
 ghost use Rattle.icu_normalizer.specs.Texts.{utf8_text, BeginsWith, IsUndamaged};
 
 use super::Text;
 use bstr::decode_utf8;
+use simdutf8::basic::from_utf8;
 
 impl<'t> Text for &'t [u8] {
     ghost spelled = { λ text. utf8_text text.now };
@@ -96,4 +98,18 @@ pub(crate) fn known(bytes: &[u8]) -> &str
     ensures { result.now ≡ bytes.now }
 {
     unsafe { str::from_utf8_unchecked(bytes) }
+}
+
+/// Bytes as text; `None` where they are damaged.
+#[inline]
+pub(crate) fn valid(bytes: &[u8]) -> Option<&str>
+    ensures same { IfSome result (λ text. text.now ≡ bytes.now) }
+    ensures read { IfSome result (λ text. chars text.now ≡ utf8_chars bytes.now) }
+    ensures undamaged { IfSome result (λ _. IsUndamaged encode_utf8_all (utf8_text bytes.now)) }
+    ensures damaged { IfNone result (IsUndamaged encode_utf8_all (utf8_text bytes.now) → ⊥) }
+{
+    match from_utf8(bytes) {
+        Ok(text) => Some(text),
+        Err(_) => None,
+    }
 }

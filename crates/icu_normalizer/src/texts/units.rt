@@ -6,6 +6,7 @@ ghost use Rattle.icu_normalizer.specs.Encodings.{utf16_encoding};
 ghost use Rattle.icu_normalizer.specs.Texts.{utf16_text, encode_utf16_all};
 
 use super::Text;
+use icu_normalizer_core::decoding::decode_utf16;
 
 impl<'t> Text for &'t [u16] {
     ghost spelled = { λ text. utf16_text text.now };
@@ -46,7 +47,7 @@ impl<'t> Text for &'t [u16] {
         if let Some(c) = char::from_u32(*unit as u32) {
             return Some((Some(c), rest));
         }
-        match pair_behind(*unit, rest) {
+        match first_pair(self) {
             Some((c, behind)) => Some((Some(c), behind)),
             None => Some((None, rest)),
         }
@@ -58,16 +59,15 @@ impl<'t> Text for &'t [u16] {
     }
 }
 
-/// The character of a surrogate and the half of a pair that stands behind it, and what stands behind both.
-fn pair_behind(high: u16, rest: &[u16]) -> Option<(char, &[u16])>
-    ensures { MatchOption result ((low : ℕ) (more : List ℕ) → rest.now ≡ low ∷ more → (is_high_surrogate high && is_low_surrogate low) ≡ false) (λ r. (low : ℕ) × (rest.now ≡ low ∷ r.1.now) × ((is_high_surrogate high && is_low_surrogate low) ≡ true) × (r.0 ≡ surrogate_pair_char high low)) }
+/// The character of a pair of surrogates that comes first, and what stands behind both. `None` where none does.
+fn first_pair(units: &[u16]) -> Option<(char, &[u16])>
+    ensures { MatchOption result ((high low : ℕ) (more : List ℕ) → units.now ≡ high ∷ low ∷ more → (is_high_surrogate high && is_low_surrogate low) ≡ false) (λ r. (high : ℕ) × (low : ℕ) × (units.now ≡ high ∷ low ∷ r.1.now) × ((is_high_surrogate high && is_low_surrogate low) ≡ true) × (r.0 ≡ surrogate_pair_char high low)) }
 {
-    let (low, behind) = rest.split_first()?;
-    if is_pair(high, *low) {
-        Some((pair_char(high, *low), behind))
-    } else {
-        None
+    let first = decode_utf16(units).next()?;
+    if first < '\u{10000}' {
+        return None;
     }
+    Some((first, &units[2..]))
 }
 
 /// How many units of ASCII come first.
@@ -81,22 +81,4 @@ fn plain_units(units: &[u16]) -> usize
         }
     }
     units.len()
-}
-
-/// Whether the two units are the halves of a surrogate pair.
-#[inline]
-fn is_pair(high: u16, low: u16) -> bool
-    ensures { result ≡ (is_high_surrogate high && is_low_surrogate low) }
-{
-    0xD800 <= high && high < 0xDC00 && 0xDC00 <= low && low < 0xE000
-}
-
-/// The character of a surrogate pair, from U+10000 on.
-#[inline]
-fn pair_char(high: u16, low: u16) -> char
-    requires { (is_high_surrogate high && is_low_surrogate low) ≡ true }
-    ensures { result ≡ surrogate_pair_char high low }
-{
-    let code = 0x1_0000 + (high as u32 - 0xD800) * 0x400 + (low as u32 - 0xDC00);
-    char::from_u32(code).unwrap()
 }

@@ -1,11 +1,12 @@
 //! Texts on their way to sinks, in their own encoding.
 
-ghost use Rattle.std.specs.Prelude.{◌≡◌, ℕ, List, [], ◌∷◌, ◌++◌, OnOk, OnErr, IfErr, encode_utf8_all};
+ghost use Rattle.std.specs.Prelude.{◌≡◌, ℕ, List, [], ◌∷◌, ◌++◌, IfOk, OnOk, OnErr, IfErr, encode_utf8_all, string_bytes};
 ghost use Rattle.icu_normalizer.specs.Sinks.{AddsPrefix};
 ghost use Rattle.icu_normalizer.specs.Texts.{IsUndamaged, encode_utf16_all};
 
 use super::{Text, known_text};
 use crate::sinks::{TextSink, UnitSink};
+use std::alloc::{AllocError, Global};
 
 /// A text that can be written to a sink `S`, which holds characters in the encoding of the text.
 ///
@@ -34,6 +35,13 @@ pub(crate) trait WriteTo<S>: Text {
         ensures err { OnErr result (AddsPrefix (contents sink.old) (Self.spelled self).units (contents sink.new)) }
         ensures taken { OnOk result (takes sink.old sink.new) }
         ensures failed { IfErr result (λ error. fails sink.old error sink.new) };
+}
+
+/// A text whose form can be held in an `S`.
+pub(crate) trait HoldIn<S>: WriteTo<S> {
+    /// One that holds nothing, with room for so many units.
+    fn empty(alloc: Global, room: usize) -> Result<S, AllocError>
+        ensures { IfOk result (λ sink. Self.contents sink ≡ []) };
 }
 
 impl<'t, S: TextSink> WriteTo<S> for &'t str {
@@ -108,5 +116,32 @@ impl<'t, S: UnitSink> WriteTo<S> for &'t [u16] {
     #[inline]
     fn write_whole(self, sink: &mut S) -> Result<(), S::Error> {
         sink.write_slice(self)
+    }
+}
+
+impl<'t> HoldIn<String> for &'t str {
+    #[inline]
+    fn empty(alloc: Global, room: usize) -> Result<String, AllocError>
+        ensures { IfOk result (λ sink. string_bytes sink ≡ []) }
+    {
+        String::with_capacity(alloc, room)
+    }
+}
+
+impl<'t> HoldIn<String> for &'t [u8] {
+    #[inline]
+    fn empty(alloc: Global, room: usize) -> Result<String, AllocError>
+        ensures { IfOk result (λ sink. string_bytes sink ≡ []) }
+    {
+        String::with_capacity(alloc, room)
+    }
+}
+
+impl<'t> HoldIn<Vec<u16>> for &'t [u16] {
+    #[inline]
+    fn empty(alloc: Global, room: usize) -> Result<Vec<u16>, AllocError>
+        ensures { IfOk result (λ sink. sink.items ≡ []) }
+    {
+        Vec::with_capacity(alloc, room)
     }
 }

@@ -6,9 +6,9 @@ ghost use Rattle.icu_normalizer_core.specs.Decoding.{utf8_chars, utf16_chars};
 ghost use Rattle.icu_normalizer.specs.TextCuts.{IsOwnText, ReachesTo};
 ghost use Rattle.icu_normalizer.specs.Texts.{utf8_text, utf16_text, encode_utf16_all, IsUndamaged};
 
-use super::super::cuts::{rest_to_change, split};
+use super::super::cuts::split;
 use super::ComposingNormalizerBorrowed;
-use crate::texts::known_text;
+use crate::texts::{known_text, valid_text};
 use std::alloc::{AllocError, Global};
 
 impl ComposingNormalizerBorrowed<'_> {
@@ -18,8 +18,10 @@ impl ComposingNormalizerBorrowed<'_> {
     pub fn is_normalized_utf8(&self, alloc: Global, text: &[u8]) -> Result<bool, AllocError>
         ensures { IfOk result (λ is. IsTrue is ↔ IsOwnText encode_utf8_all (composed (composing_data self.now)) (utf8_text text.now)) }
     {
-        let rest = rest_to_change(alloc, self.basis, text)?;
-        Ok(rest.is_empty())
+        match valid_text(text) {
+            Some(valid) => self.is_own(alloc, valid),
+            None => Ok(false),
+        }
     }
 
     /// Bytes, read as UTF-8, in two parts: the prefix and the NFC of the rest are together the NFC of the text. The
@@ -46,8 +48,7 @@ impl ComposingNormalizerBorrowed<'_> {
     pub fn is_normalized_utf16(&self, alloc: Global, text: &[u16]) -> Result<bool, AllocError>
         ensures { IfOk result (λ is. IsTrue is ↔ IsOwnText encode_utf16_all (composed (composing_data self.now)) (utf16_text text.now)) }
     {
-        let rest = rest_to_change(alloc, self.basis, text)?;
-        Ok(rest.is_empty())
+        self.is_own(alloc, text)
     }
 
     /// Units, read as UTF-16, in two parts: the prefix and the NFC of the rest are together the NFC of the text. The

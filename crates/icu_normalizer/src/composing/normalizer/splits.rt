@@ -4,10 +4,12 @@ ghost use Rattle.std.specs.Prelude.{◌≡◌, [], ◌++◌, ◌↔◌, IsTrue, 
 ghost use Rattle.std.specs.Cow.{cow_str_bytes, IsBorrowedStr};
 ghost use Rattle.icu_normalizer_core.specs.Canonical.{composed};
 ghost use Rattle.icu_normalizer.specs.FormCuts.{IsComposed, ReachesBelow};
+ghost use Rattle.icu_normalizer.specs.TextCuts.{IsOwnText};
 
 use super::super::cuts::{rest_to_change, split};
 use super::ComposingNormalizerBorrowed;
-use crate::written::filled;
+use crate::texts::Text;
+use crate::written::normal_text;
 use std::alloc::{AllocError, Global};
 use std::borrow::CowStr;
 
@@ -18,8 +20,15 @@ impl ComposingNormalizerBorrowed<'_> {
     pub fn is_normalized(&self, alloc: Global, text: &str) -> Result<bool, AllocError>
         ensures { IfOk result (λ is. IsTrue is ↔ IsComposed (composing_data self.now) (chars text.now)) }
     {
+        self.is_own(alloc, text)
+    }
+
+    /// Whether a text in any encoding is undamaged and its own NFC.
+    pub(super) fn is_own<T: Text>(&self, alloc: Global, text: T) -> Result<bool, AllocError>
+        ensures { IfOk result (λ is. IsTrue is ↔ IsOwnText T.encode (composed (composing_data self.now)) (T.spelled text)) }
+    {
         let rest = rest_to_change(alloc, self.basis, text)?;
-        Ok(rest.is_empty())
+        Ok(rest.len() == 0)
     }
 
     /// A text in two parts: the prefix and the NFC of the rest are together the NFC of the text. The rest is empty
@@ -46,12 +55,6 @@ impl ComposingNormalizerBorrowed<'_> {
         ensures normal { IfOk result (λ form. cow_str_bytes form ≡ encode_utf8_all (composed (composing_data self.now) (chars text.now))) }
         ensures borrowed { IfOk result (λ form. IsBorrowedStr form ↔ IsComposed (composing_data self.now) (chars text.now)) }
     {
-        let (prefix, rest) = self.split_normalized(alloc, text)?;
-        if rest.is_empty() {
-            return Ok(CowStr::Borrowed(text));
-        }
-        let empty = String::with_capacity(alloc, text.len())?;
-        let form = filled::<Self, &str, String>(self, alloc, (prefix, rest), empty)?;
-        Ok(CowStr::Owned(form))
+        normal_text::<Self>(self, alloc, text)
     }
 }

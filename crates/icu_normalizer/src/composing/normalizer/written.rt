@@ -10,7 +10,7 @@ ghost use Rattle.icu_normalizer.specs.Texts.{utf8_text, utf16_text, encode_utf16
 
 use super::ComposingNormalizerBorrowed;
 use crate::sinks::{NormError, TextSink, UnitSink};
-use crate::written::filled;
+use crate::written::{normal_bytes, normal_units, write_bytes, write_form};
 use std::alloc::{AllocError, Global};
 use std::borrow::{CowSlice, CowStr};
 
@@ -26,13 +26,7 @@ impl ComposingNormalizerBorrowed<'_> {
         ensures normal { IfOk result (λ form. cow_str_bytes form ≡ encode_utf8_all (composed (composing_data self.now) (utf8_chars text.now))) }
         ensures borrowed { IfOk result (λ form. IsBorrowedStr form ↔ IsOwnText encode_utf8_all (composed (composing_data self.now)) (utf8_text text.now)) }
     {
-        let (prefix, rest) = self.split_normalized_utf8(alloc, text)?;
-        if rest.is_empty() {
-            return Ok(CowStr::Borrowed(prefix));
-        }
-        let empty = String::with_capacity(alloc, text.len())?;
-        let form = filled::<Self, &[u8], String>(self, alloc, (prefix.as_bytes(), rest), empty)?;
-        Ok(CowStr::Owned(form))
+        normal_bytes::<Self>(self, alloc, text)
     }
 
     /// The NFC of units, read as UTF-16, borrowed exactly where they are undamaged and their own NFC.
@@ -44,13 +38,7 @@ impl ComposingNormalizerBorrowed<'_> {
         ensures normal { IfOk result (λ form. cow_slice_items form ≡ encode_utf16_all (composed (composing_data self.now) (utf16_chars text.now))) }
         ensures borrowed { IfOk result (λ form. IsBorrowedSlice form ↔ IsOwnText encode_utf16_all (composed (composing_data self.now)) (utf16_text text.now)) }
     {
-        let (prefix, rest) = self.split_normalized_utf16(alloc, text)?;
-        if rest.is_empty() {
-            return Ok(CowSlice::Borrowed(prefix));
-        }
-        let empty = Vec::with_capacity(alloc, text.len())?;
-        let form = filled::<Self, &[u16], Vec<u16>>(self, alloc, (prefix, rest), empty)?;
-        Ok(CowSlice::Owned(form))
+        normal_units::<Self>(self, alloc, text)
     }
 
     /// Writes the NFC of bytes, read as UTF-8, to a sink. After an error the sink holds what it held, and a prefix of that
@@ -65,7 +53,7 @@ impl ComposingNormalizerBorrowed<'_> {
         ensures err { OnErr result (AddsPrefix (S.contents sink.old) (encode_utf8_all (composed (composing_data self.now) (utf8_chars text.now))) (S.contents sink.new)) }
         ensures failure { EndsByFailure S.takes S.fails sink.old result sink.new }
     {
-        self.write_form::<&[u8], S>(alloc, text, sink)
+        write_bytes::<Self, S>(self, alloc, text, sink)
     }
 
     /// Writes the NFC of units, read as UTF-16, to a sink. After an error the sink holds what it held, and a prefix of that
@@ -80,6 +68,6 @@ impl ComposingNormalizerBorrowed<'_> {
         ensures err { OnErr result (AddsPrefix (S.contents sink.old) (encode_utf16_all (composed (composing_data self.now) (utf16_chars text.now))) (S.contents sink.new)) }
         ensures failure { EndsByFailure S.takes S.fails sink.old result sink.new }
     {
-        self.write_form::<&[u16], S>(alloc, text, sink)
+        write_form::<Self, &[u16], S>(self, alloc, text, sink)
     }
 }

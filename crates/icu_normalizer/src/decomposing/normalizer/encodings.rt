@@ -6,9 +6,9 @@ ghost use Rattle.icu_normalizer_core.specs.Decoding.{utf8_chars, utf16_chars};
 ghost use Rattle.icu_normalizer.specs.TextCuts.{IsOwnText, ReachesTo};
 ghost use Rattle.icu_normalizer.specs.Texts.{utf8_text, utf16_text, encode_utf16_all, IsUndamaged};
 
-use super::super::cuts::{rest_to_change, split};
+use super::super::cuts::split;
 use super::DecomposingNormalizerBorrowed;
-use crate::texts::known_text;
+use crate::texts::{known_text, valid_text};
 
 impl DecomposingNormalizerBorrowed<'_> {
     ghost use Rattle.icu_normalizer.specs.Normalizers.{normalizer_data, normalizer_bound};
@@ -17,7 +17,10 @@ impl DecomposingNormalizerBorrowed<'_> {
     pub fn is_normalized_utf8(&self, text: &[u8]) -> bool
         ensures { IsTrue result ↔ IsOwnText encode_utf8_all (decomposed (normalizer_data self.now)) (utf8_text text.now) }
     {
-        rest_to_change(self.basis, text).is_empty()
+        match valid_text(text) {
+            Some(valid) => self.is_own(valid),
+            None => false,
+        }
     }
 
     /// Bytes, read as UTF-8, in two parts: the prefix and the NFD of the rest are together the NFD of the text. The
@@ -40,7 +43,7 @@ impl DecomposingNormalizerBorrowed<'_> {
     pub fn is_normalized_utf16(&self, text: &[u16]) -> bool
         ensures { IsTrue result ↔ IsOwnText encode_utf16_all (decomposed (normalizer_data self.now)) (utf16_text text.now) }
     {
-        rest_to_change(self.basis, text).is_empty()
+        self.is_own(text)
     }
 
     /// Units, read as UTF-16, in two parts: the prefix and the NFD of the rest are together the NFD of the text. The

@@ -5,10 +5,12 @@ ghost use Rattle.std.specs.Cow.{cow_str_bytes, IsBorrowedStr};
 ghost use Rattle.icu_normalizer_core.specs.Canonical.{decomposed};
 ghost use Rattle.icu_normalizer.specs.FormCuts.{ReachesBelow};
 ghost use Rattle.icu_normalizer.specs.Splits.{IsDecomposed};
+ghost use Rattle.icu_normalizer.specs.TextCuts.{IsOwnText};
 
 use super::super::cuts::{rest_to_change, split};
 use super::DecomposingNormalizerBorrowed;
-use crate::written::filled;
+use crate::texts::Text;
+use crate::written::normal_text;
 use std::alloc::{AllocError, Global};
 use std::borrow::CowStr;
 
@@ -19,7 +21,14 @@ impl DecomposingNormalizerBorrowed<'_> {
     pub fn is_normalized(&self, text: &str) -> bool
         ensures { IsTrue result ↔ IsDecomposed (normalizer_data self.now) (chars text.now) }
     {
-        rest_to_change(self.basis, text).is_empty()
+        self.is_own(text)
+    }
+
+    /// Whether a text in any encoding is undamaged and its own NFD.
+    pub(super) fn is_own<T: Text>(&self, text: T) -> bool
+        ensures { IsTrue result ↔ IsOwnText T.encode (decomposed (normalizer_data self.now)) (T.spelled text) }
+    {
+        rest_to_change(self.basis, text).len() == 0
     }
 
     /// A text in two parts: the prefix and the NFD of the rest are together the NFD of the text. The rest is empty
@@ -40,12 +49,6 @@ impl DecomposingNormalizerBorrowed<'_> {
         ensures normal { IfOk result (λ form. cow_str_bytes form ≡ encode_utf8_all (decomposed (normalizer_data self.now) (chars text.now))) }
         ensures borrowed { IfOk result (λ form. IsBorrowedStr form ↔ IsDecomposed (normalizer_data self.now) (chars text.now)) }
     {
-        let (prefix, rest) = self.split_normalized(text);
-        if rest.is_empty() {
-            return Ok(CowStr::Borrowed(text));
-        }
-        let empty = String::with_capacity(alloc, text.len().saturating_mul(2))?;
-        let form = filled::<Self, &str, String>(self, alloc, (prefix, rest), empty)?;
-        Ok(CowStr::Owned(form))
+        normal_text::<Self>(self, alloc, text)
     }
 }

@@ -1,14 +1,6 @@
-use Rattle.std.proofs.Common.{arith}
-use Rattle.std.proofs.lemmas.Bool.Decides.{nat_tests}
-use Rattle.std.proofs.lemmas.List.{nil_from_length}
-use Rattle.icu_normalizer_core.specs.Canonical.{decomposed}
-use Rattle.icu_normalizer.specs.Normalizers.{normalizer_data}
-use Rattle.icu_normalizer.proofs.TextLemmas.{str_empty}
+use Rattle.std.proofs.lemmas.Str.{encodes-chars}
 use Rattle.icu_normalizer.proofs.decomposing.normalizer.DecomposingNormalizerBorrowed.is_normalized.Goals as goal
 
 pub returns : goal.returns
 returns c =
-    let empty = str_empty (decomposed (normalizer_data c.args.self.now)) c.args.text.now _ c.utf8.text c.rest_to_change.ensures.empty in (
-      λ yes. empty.0 (nil_from_length _ (grind (arith, nat_tests))),
-      λ own. let none = empty.1 own in grind (arith, nat_tests),
-    )
+    let is = c.is_own.ensures in (λ yes. (is.0 yes).1, λ own. is.1 (encodes-chars c.args.text.now c.utf8.text, own))
