@@ -4,7 +4,7 @@ use Rattle.std.specs.List.{AllByRecursion}
 use Rattle.icu_normalizer_core.specs.Boundaries.{IsSteady}
 use Rattle.icu_normalizer_core.specs.Canonical.{Canonical, composed}
 use Rattle.icu_normalizer.specs.declared.composing.lone_mark.LoneMark.{LoneMark}
-use Rattle.icu_normalizer.specs.declared.composing.lone_mark.LoneMark.TheVariants.{Joined, Apart}
+use Rattle.icu_normalizer.specs.declared.composing.lone_mark.LoneMark.TheVariants.{Joined, Apart, Changed}
 use Rattle.icu_normalizer.specs.Composing.{IsComposedApart}
 use Rattle.icu_normalizer.specs.Texts.{Text, BeginsWith}
 
@@ -20,11 +20,13 @@ IsSteadyUpTo canonical c class = IsSteady canonical c × AllByRecursion (λ d. c
 abbrev pub lone_form : LoneMark → List ℕ
 lone_form (Joined c) = c ∷ []
 lone_form (Apart letter mark) = letter ∷ mark ∷ []
+lone_form (Changed first second) = first ∷ second ∷ []
 
--- it makes another character of the two, or leaves both
+-- it leaves both, or begins with another character
 abbrev pub IsMade : ℕ → ℕ → LoneMark → Type 0
 IsMade letter mark (Joined c) = c ≢ letter
 IsMade letter mark (Apart first second) = (first ≡ letter) × (second ≡ mark)
+IsMade letter mark (Changed first second) = first ≢ letter
 
 -- a text is a character and a mark, undamaged, and then the rest, apart from which the two are composed
 pub record IsLoneMark (encode : List ℕ → List ℕ) (canonical : Canonical) (text : Text) (lone : LoneMark) (rest : Text) : Type 0 where

@@ -76,8 +76,9 @@ fn first_found<T: Text>(alloc: Global, basis: FormData<'_>, text: T) -> Result<F
         return read_cluster(alloc, basis, text);
     };
     match lone.0 {
-        LoneMark::Joined(_) => Ok(Found::Changed(text)),
         LoneMark::Apart(_, _) => Ok(Found::Own(lone.1)),
+        LoneMark::Joined(_) => Ok(Found::Changed(text)),
+        LoneMark::Changed(_, _) => Ok(Found::Changed(text)),
     }
 }
 

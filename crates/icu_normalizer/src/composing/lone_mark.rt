@@ -2,7 +2,7 @@
 
 ghost use Rattle.std.specs.Prelude.{◌≡◌, ◌<◌, ◌≤◌, [], ◌∷◌, ◌++◌, length, IfSome, IsTrue, OnOk, OnErr};
 ghost use Rattle.std.specs.List.{AllByRecursion};
-ghost use Rattle.icu_normalizer_core.specs.Canonical.{composing};
+ghost use Rattle.icu_normalizer_core.specs.Canonical.{composed, composing};
 ghost use Rattle.icu_normalizer.specs.FormData.{form_meaning};
 ghost use Rattle.icu_normalizer.specs.LoneMarks.{IsLoneMark, IsMade, IsMark, IsSteadyUpTo, lone_form};
 ghost use Rattle.icu_normalizer.specs.Sinks.{AddsPrefix, EndsByFailure};
@@ -21,10 +21,12 @@ pub(super) enum LoneMark {
     Joined(char),
     /// They stay as they stand.
     Apart(char, char),
+    /// They become these two.
+    Changed(char, char),
 }
 
 /// What composing makes of the first cluster of a text, and what stands behind it, where the cluster is a steady
-/// character and one mark that belongs behind the marks of that character; `None` of other clusters.
+/// character and one mark and that is known; `None` says nothing.
 #[inline]
 pub(super) fn lone_mark<T: Text>(basis: FormData<'_>, text: T) -> Option<(LoneMark, T)>
     ensures { IfSome result (λ lone. IsLoneMark T.encode (form_meaning basis.entry) (T.spelled text) lone.0 (T.spelled lone.1)) }
@@ -38,12 +40,12 @@ pub(super) fn lone_mark<T: Text>(basis: FormData<'_>, text: T) -> Option<(LoneMa
     let Some(class) = class_of_mark(basis, mark.0) else {
         return None;
     };
-    if !is_steady_up_to(basis, letter.0, class) {
+    if let Some(_) = next_of_cluster(basis, mark.1) {
         return None;
     }
-    match next_of_cluster(basis, mark.1) {
-        Some(_) => None,
-        None => Some((composed_pair(basis, letter.0, mark.0), mark.1)),
+    match composed_lone(basis, letter.0, mark.0, class) {
+        Some(lone) => Some((lone, mark.1)),
+        None => None,
     }
 }
 
@@ -109,6 +111,45 @@ fn has_classes_up_to(basis: FormData<'_>, c: char, class: u8) -> bool
     true
 }
 
+/// What composing makes of a character and a mark of this class behind it, if that is known.
+#[inline]
+fn composed_lone(basis: FormData<'_>, letter: char, mark: char, class: u8) -> Option<LoneMark>
+    requires { IsMark (form_meaning basis) mark class }
+    ensures form { IfSome result (λ lone. composed (form_meaning basis.entry) (letter ∷ mark ∷ []) ≡ lone_form lone) }
+    ensures made { IfSome result (λ lone. IsMade letter mark lone) }
+{
+    if is_steady_up_to(basis, letter, class) {
+        Some(composed_pair(basis, letter, mark))
+    } else {
+        composed_below(basis, letter, mark, class)
+    }
+}
+
+/// The same where the full list of the character is known to be a starter and a mark of a higher class.
+fn composed_below(basis: FormData<'_>, letter: char, mark: char, class: u8) -> Option<LoneMark>
+    requires { IsMark (form_meaning basis) mark class }
+    ensures form { IfSome result (λ lone. composed (form_meaning basis.entry) (letter ∷ mark ∷ []) ≡ lone_form lone) }
+    ensures made { IfSome result (λ lone. IsMade letter mark lone) }
+{
+    basis.keep_promise();
+    if !basis.is_steady(letter) {
+        return None;
+    }
+    let Reading::Two(first, second) = basis.reading(letter) else {
+        return None;
+    };
+    if basis.class(second) <= class {
+        return None;
+    }
+    let Some(starter) = basis.compose(first, mark) else {
+        return Some(LoneMark::Apart(letter, mark));
+    };
+    match basis.compose(starter, second) {
+        Some(composed) => Some(LoneMark::Joined(composed)),
+        None => Some(LoneMark::Changed(starter, second)),
+    }
+}
+
 /// What composing makes of a character and a mark behind it.
 #[inline]
 fn composed_pair(basis: FormData<'_>, letter: char, mark: char) -> LoneMark
@@ -136,10 +177,25 @@ pub(super) fn write_lone<T: WriteTo<S>, S>(
 {
     match lone {
         LoneMark::Joined(c) => write_char::<T, S>(c, sink),
-        LoneMark::Apart(letter, mark) => match write_char::<T, S>(letter, sink) {
-            Ok(()) => write_char::<T, S>(mark, sink),
-            Err(error) => Err(error),
-        },
+        LoneMark::Apart(letter, mark) => write_both::<T, S>(letter, mark, sink),
+        LoneMark::Changed(first, second) => write_both::<T, S>(first, second, sink),
+    }
+}
+
+/// Writes two characters.
+#[inline]
+fn write_both<T: WriteTo<S>, S>(
+    first: char,
+    second: char,
+    sink: &mut S,
+) -> Result<(), NormError<T::Error>>
+    ensures ok { OnOk result (T.contents sink.new ≡ T.contents sink.old ++ T.encode (first ∷ second ∷ [])) }
+    ensures err { OnErr result (AddsPrefix (T.contents sink.old) (T.encode (first ∷ second ∷ [])) (T.contents sink.new)) }
+    ensures failure { EndsByFailure T.takes T.fails sink.old result sink.new }
+{
+    match write_char::<T, S>(first, sink) {
+        Ok(()) => write_char::<T, S>(second, sink),
+        Err(error) => Err(error),
     }
 }
 

@@ -1,4 +1,4 @@
-use Rattle.std.proofs.Common.{rules, length, length-append, ap, ◌∙◌, arith}
+use Rattle.std.proofs.Common.{rules, length, length-append, ap, arith}
 use Rattle.icu_normalizer_core.specs.Canonical.{composed}
 use Rattle.icu_normalizer.specs.FormData.{form_meaning}
 use Rattle.icu_normalizer.proofs.ComposingLemmas.{composed_nothing}

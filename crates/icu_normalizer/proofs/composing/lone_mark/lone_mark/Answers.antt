@@ -1,11 +1,8 @@
-use Rattle.std.proofs.Common.{sym, ◌∙◌, arith}
-use Rattle.icu_normalizer.specs.FormData.{form_meaning}
-use Rattle.icu_normalizer.proofs.LoneMarkLemmas.{composed_lone}
+use Rattle.std.proofs.Common.{arith}
 use Rattle.icu_normalizer.proofs.composing.lone_mark.lone_mark.Goals as goal
 
-pub returns-in-None : goal.returns-in-None
-returns-in-None g c =
-    let class = c.in-Some-class_of_mark.ensures in
+pub returns-in-Some-composed_lone : goal.returns-in-Some-composed_lone
+returns-in-Some-composed_lone g c =
     record {
       letter = c.in-Some.letter.0;
       mark = c.in-Some-undamaged_char.mark.0;
@@ -13,9 +10,7 @@ returns-in-None g c =
       first = c.in-Some.ensures.begins;
       second = c.in-Some-undamaged_char.ensures.begins;
       some = let fewer = c.in-Some.ensures.fewer in omega arith;
-      apart = c.in-None.ensures.none;
-      composes =
-          composed_lone (form_meaning c.args.basis) c.in-Some.letter.0 c.in-Some-undamaged_char.mark.0 c.in-Some-class_of_mark.class class.0 class.1 (c.is_steady_up_to.ensures c.if-not-is_steady_up_to.false)
-          ∙ sym c.composed_pair.ensures.form;
-      made = c.composed_pair.ensures.made;
+      apart = c.in_default-next_of_cluster.ensures.none;
+      composes = c.in-Some-composed_lone.ensures.form;
+      made = c.in-Some-composed_lone.ensures.made;
     }
