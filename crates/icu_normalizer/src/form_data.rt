@@ -77,7 +77,7 @@ impl<'d> FormData<'d> {
     }
 
     /// What one read tells of a character.
-    #[inline]
+    #[inline(always)]
     pub(crate) fn reading(&self, c: char) -> Reading
         ensures { IsTold (form_meaning self.now) c result }
     {

@@ -62,7 +62,7 @@ impl<'d> CanonicalBorrowed<'d> {
 
     /// What one read tells of a character: whether it is its own full list, and of which class, or its full list of
     /// two or three characters; of other characters nothing.
-    #[inline]
+    #[inline(always)]
     pub fn reading(&self, c: char) -> Reading
         ensures { IsTold (borrowed_meaning self.now) c result }
     {

@@ -25,7 +25,7 @@ pub enum Reading {
 }
 
 /// What the character's word tells.
-#[inline]
+#[inline(always)]
 pub(super) fn read_character(tables: &CanonicalTables<'_>, c: char) -> Reading
     requires { All IsScalar ((meaning tables.now).full c) }
     ensures { IsTold (meaning tables.now) c result }

@@ -66,7 +66,7 @@ impl<'d> CompatibilityBorrowed<'d> {
 
     /// What one read tells of a character: whether it is its own full list, and of which class, or its full list of
     /// two or three characters; of other characters nothing.
-    #[inline]
+    #[inline(always)]
     pub fn reading(&self, c: char) -> Reading
         ensures { IsTold (borrowed_compatibility self.now) c result }
     {
