@@ -4,7 +4,7 @@ use Rattle.std.specs.Fmt.{digits}
 use Rattle.icu_normalizer_core.specs.declared.canonical.tables.CanonicalFault.{CanonicalFault}
 use Rattle.icu_normalizer_core.specs.declared.canonical.tables.CanonicalFault.TheVariants.{BadValue, BadList, Loop, BuiltIn, BadPair}
 use Rattle.icu_normalizer_core.specs.declared.provider.error.TableName.{TableName}
-use Rattle.icu_normalizer_core.specs.declared.provider.error.TableName.TheVariants.{Nfd, NfdTables, Nfkd, NfkdTables, Pairs, Uts46}
+use Rattle.icu_normalizer_core.specs.declared.provider.error.TableName.TheVariants.{Nfd, NfdTables, Nfkd, NfkdTables, Pairs, Uts46, Root, Jamo, SpecialPrimaries, Tailoring, Diacritics, Metadata, Reordering}
 use Rattle.icu_normalizer_core.specs.declared.provider.error.DataError.{DataError}
 use Rattle.icu_normalizer_core.specs.declared.provider.error.DataError.TheVariants.{Missing, Invalid, Canonical, Memory}
 
@@ -15,6 +15,13 @@ table_text Nfkd = codes "nfkd"
 table_text NfkdTables = codes "nfkd_tables"
 table_text Pairs = codes "pairs"
 table_text Uts46 = codes "uts46"
+table_text Root = codes "root"
+table_text Jamo = codes "jamo"
+table_text SpecialPrimaries = codes "special_primaries"
+table_text Tailoring = codes "tailoring"
+table_text Diacritics = codes "diacritics"
+table_text Metadata = codes "metadata"
+table_text Reordering = codes "reordering"
 
 -- the kind of a fault, and its character's code in hexadecimal digits
 abbrev pub fault_text : CanonicalFault → List ℕ

@@ -5,7 +5,7 @@ use std::alloc::AllocError;
 use std::error::Error;
 use std::fmt;
 
-/// The name of what one call of a provider loads. Collation's tables, once they are loaded too, get their names here.
+/// The name of what one call of a provider loads, of canonical data or, in the crates above, of a collation.
 #[derive(Clone, Copy, Debug, PartialEq, Eq)]
 pub enum TableName {
     /// What `load_nfd` gives: the canonical words.
@@ -20,6 +20,20 @@ pub enum TableName {
     Pairs,
     /// What `load_uts46` gives: what the mapper of domain names does.
     Uts46,
+    /// What `load_root` gives: the collation data of all characters.
+    Root,
+    /// What `load_jamo` gives: the words of Hangul jamo.
+    Jamo,
+    /// What `load_special_primaries` gives: groups, compressible leads, and the lead of numbers.
+    SpecialPrimaries,
+    /// What `load_tailoring` gives: collation data that count before the root's.
+    Tailoring,
+    /// What `load_diacritics` gives: the secondaries of marks.
+    Diacritics,
+    /// What `load_metadata` gives: the settings of a collation.
+    Metadata,
+    /// What `load_reordering` gives: what primaries stand in the place of others.
+    Reordering,
 }
 
 impl TableName {
@@ -37,6 +51,13 @@ impl TableName {
             TableName::NfkdTables => "nfkd_tables",
             TableName::Pairs => "pairs",
             TableName::Uts46 => "uts46",
+            TableName::Root => "root",
+            TableName::Jamo => "jamo",
+            TableName::SpecialPrimaries => "special_primaries",
+            TableName::Tailoring => "tailoring",
+            TableName::Diacritics => "diacritics",
+            TableName::Metadata => "metadata",
+            TableName::Reordering => "reordering",
         }
     }
 }
