@@ -49,7 +49,7 @@ impl<'d> FormData<'d> {
     }
 
     /// The canonical combining class of a character; a starter has 0.
-    #[inline]
+    #[inline(always)]
     pub(crate) fn class(&self, c: char) -> u8
         ensures { result ≡ (form_meaning self.now).class c }
     {

@@ -1,5 +1,5 @@
 -- Parts of a list of characters, and the full lists of words.
-use Rattle.std.proofs.Common.{◌≡◌, ◌≢◌, ℕ, suc, ◌+◌, ◌-◌, ◌<◌, ◌≤◌, ⊎_elim, ◌==◌, List, [], ◌∷◌, length, drop, slice_index, Option, None, Some, true, refl, sym, subst, ◌∙◌, arith, drop-cons, add-one}
+use Rattle.std.proofs.Common.{◌≡◌, ◌≢◌, ℕ, suc, ◌+◌, ◌-◌, ◌<◌, ◌≤◌, ⊎_elim, ◌==◌, List, [], ◌∷◌, length, drop, slice_index, Option, None, Some, true, refl, sym, subst, ap, ◌∙◌, arith, drop-cons, add-one}
 use Rattle.std.specs.List.{All}
 use Rattle.std.specs.Option.{unwrap_or}
 use Rattle.std.specs.Char.{IsScalar}
@@ -28,6 +28,17 @@ part_behind items next end part other =
       inside = part.inside;
       scalars = All-tail IsScalar (slice_index items next) (items_at items (next + 1) (end - (next + 1))) (subst (All IsScalar) (items_first items next end h part.inside) part.scalars);
     }
+
+first_item : (items : List ℕ) (place count : ℕ) → place < length items → items_at items place (suc count) ≡ slice_index items place ∷ items_at items (place + 1) count
+first_item items place count inside = rw (drop-cons items place 0 inside, add-one) refl
+
+pub three_items : (items : List ℕ) (place : ℕ) → place + 3 ≤ length items
+    → items_at items place 3 ≡ slice_index items place ∷ slice_index items (place + 1) ∷ slice_index items (place + 2) ∷ []
+three_items items place inside =
+    let next : place + 1 + 1 ≡ place + 2 = omega arith in
+    let last : items_at items (place + 1 + 1) 1 ≡ slice_index items (place + 2) ∷ [] = rw next (first_item items (place + 2) 0 (omega arith)) in
+    first_item items place 2 (omega arith)
+    ∙ ap (λ (l : List ℕ). slice_index items place ∷ l) (first_item items (place + 1) 1 (omega arith) ∙ ap (λ (l : List ℕ). slice_index items (place + 1) ∷ l) last)
 
 -- the list of a word, in either place
 pub listed_in_16 : (s16 s24 : List ℕ) (word : ℕ) → list_offset word < length s16

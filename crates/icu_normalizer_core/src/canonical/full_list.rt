@@ -145,7 +145,7 @@ fn singled<'d>(words: Words<'d>, c: char) -> FullList<'d>
 
 /// The list that a word names a place of.
 #[tactic(auto, unfolding(crate::specs::CanonicalWords::list_at))]
-pub(super) fn listed<'d>(words: Words<'d>, word: u32) -> FullList<'d>
+fn listed<'d>(words: Words<'d>, word: u32) -> FullList<'d>
     requires word { is_list_word word ≡ true }
     requires scalars { All IsScalar (list_at words.scalars16.now words.scalars24.now word) }
     ensures { result ≡ list_at words.entry.scalars16.now words.entry.scalars24.now word }

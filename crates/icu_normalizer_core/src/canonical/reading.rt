@@ -1,13 +1,12 @@
 //! What one read of canonical data tells of a character.
 
-ghost use Rattle.std.specs.Prelude.{◌≡◌, [], ◌∷◌, true, All, IfSome};
-ghost use Rattle.std.specs.Char.{IsScalar};
+ghost use Rattle.std.specs.Prelude.{◌≡◌, [], ◌∷◌, true, IfSome};
 ghost use Rattle.icu_normalizer_core.specs.CanonicalMeaning.{meaning};
 ghost use Rattle.icu_normalizer_core.specs.CanonicalWords.{is_list_word, list_at};
 ghost use Rattle.icu_normalizer_core.specs.Readings.{IsTold, IsToldBy};
-ghost use Rattle.icu_normalizer_core.specs.Words.{full_in, word_lists};
+ghost use Rattle.icu_normalizer_core.specs.Words.{word_lists};
 
-use super::full_list::{character, listed};
+use super::full_list::character;
 use super::tables::CanonicalTables;
 use super::words::{Words, is_list_word, is_mark_word, is_pair_word};
 
@@ -27,7 +26,6 @@ pub enum Reading {
 /// What the character's word tells.
 #[inline(always)]
 pub(super) fn read_character(tables: &CanonicalTables<'_>, c: char) -> Reading
-    requires { All IsScalar ((meaning tables.now).full c) }
     ensures { IsTold (meaning tables.now) c result }
 {
     tables.words().reading(c)
@@ -38,7 +36,6 @@ impl Words<'_> {
     #[inline(always)]
     #[tactic(auto, unfolding(crate::specs::CanonicalWords::class_of_word, crate::specs::CanonicalWords::full_of_word))]
     pub(crate) fn reading(self, c: char) -> Reading
-        requires { All IsScalar (full_in (word_lists self) c) }
         ensures { IsToldBy (word_lists self.entry) c result }
     {
         let word = self.word(c);
@@ -59,20 +56,24 @@ impl Words<'_> {
     }
 }
 
-/// The three characters of the list that a word names a place of, `None` of a list of any other length.
-#[inline(never)]
+/// The three characters of the list that a word names a place of, `None` of a list of any other length, and of one in
+/// `scalars16`.
+#[inline]
 fn three_listed(words: Words<'_>, word: u32) -> Option<(char, char, char)>
-    requires word { is_list_word word ≡ true }
-    requires scalars { All IsScalar (list_at words.scalars16.now words.scalars24.now word) }
+    requires { is_list_word word ≡ true }
     ensures { IfSome result (λ three. list_at words.entry.scalars16.now words.entry.scalars24.now word ≡ three.0 ∷ three.1 ∷ three.2 ∷ []) }
 {
-    let mut list = listed(words, word);
-    let first = list.next()?;
-    let second = list.next()?;
-    let third = list.next()?;
-    if list.next().is_none() {
-        Some((first, second, third))
-    } else {
-        None
+    let offset = (word / 0x1_0000) as usize - 1;
+    let in_16 = words.scalars16.len();
+    if word % 16 != 2 || offset < in_16 {
+        return None;
     }
+    let place = offset - in_16;
+    if words.scalars24.len() < place + 3 {
+        return None;
+    }
+    let first = words.scalars24.at(place);
+    let second = words.scalars24.at(place + 1);
+    let third = words.scalars24.at(place + 2);
+    Some((first, second, third))
 }
