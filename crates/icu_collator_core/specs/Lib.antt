@@ -10,3 +10,6 @@ pub mod Sameness
 pub mod Pools
 pub mod TableSettings
 pub mod TableMeaning
+pub mod WeightFaults
+pub mod ReorderingTests
+pub mod SpelledTests

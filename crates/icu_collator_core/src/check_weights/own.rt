@@ -1,0 +1,30 @@
+//! The elements that characters have by themselves.
+
+ghost use Rattle.std.specs.Prelude.{◌≡◌};
+ghost use Rattle.icu_collator_core.specs.TableMeaning.{own_primary};
+ghost use Rattle.icu_collator_core.specs.WeightFaults.{is_primary_element};
+
+use crate::elements::{special_primary, unranged_primary};
+use icu_collator_types::elements::{COMMON_WEIGHT, Element};
+
+/// The primary of a character by itself, in no range: special, a jamo's, or implicit.
+pub(super) fn own_primary(c: u32) -> u32
+    ensures { result ≡ own_primary c }
+{
+    match special_primary(c) {
+        Some(primary) => primary,
+        None => unranged_primary(c),
+    }
+}
+
+/// Whether an element is this primary with common weights on the other levels.
+#[tactic(auto, unfolding(crate::specs::WeightFaults::is_primary_element))]
+pub(super) fn is_primary_element(primary: u32, element: Element) -> bool
+    ensures { result ≡ is_primary_element primary element }
+{
+    element.primary == primary
+        && element.secondary == COMMON_WEIGHT
+        && element.case == 0
+        && element.tertiary == COMMON_WEIGHT
+        && element.quaternary == 0
+}
