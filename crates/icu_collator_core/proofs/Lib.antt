@@ -1,5 +1,8 @@
 pub mod numbers
 pub mod readings
 pub mod weights
+pub mod checks
 pub mod NumberExamples
 mod TableExamples
+mod TableFaultExamples
+mod ContextExamples

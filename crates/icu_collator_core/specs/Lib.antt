@@ -10,6 +10,10 @@ pub mod Sameness
 pub mod Pools
 pub mod TableSettings
 pub mod TableMeaning
+pub mod WordForms
+pub mod WordPlaces
+pub mod TableFaults
+pub mod ContextRules
 pub mod WeightFaults
 pub mod ReorderingTests
 pub mod SpelledTests

@@ -2,6 +2,7 @@
 //! `specs`; of the code, begin with `elements::primary_element`, the element of a primary weight.
 #![tactic(auto)]
 
+pub mod check;
 mod check_weights;
 pub mod elements;
 pub mod laws;

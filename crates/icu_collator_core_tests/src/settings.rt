@@ -1,5 +1,6 @@
 //! What the bits of metadata say, which leads are compressible, and what stands in the place of primaries.
 
+use crate::tables::reordering;
 use icu_collator_core::tables::{
     CollationMetadata, CollationReordering, CollationSpecialPrimaries,
 };
@@ -74,28 +75,29 @@ const WITH_LEADS: [u16; 20] = [
     0x300, 0x300, 0x300, 0x300, 0, 0, 0x400, 0, 0, 0, 0, 0, 0, 0, 0, 0, 0, 0, 0, 0x4000,
 ];
 
+/// Four groups alone.
+const WITHOUT_LEADS: [u16; 4] = [0x300; 4];
+
+/// Leads, and whether they are compressible by the bits above.
+const LEADS: [(u8, bool); 4] = [(0x2a, true), (0x2b, false), (0x61, false), (0xfe, true)];
+
+/// Leads, and whether they usually are.
+const USUAL_LEADS: [(u8, bool); 5] = [
+    (0x60, false),
+    (0x61, true),
+    (0x80, true),
+    (0x81, false),
+    (0xfe, true),
+];
+
 #[test]
 fn compressible_leads(rt: HostRuntime) {
-    let few = [0x300, 0x300, 0x300, 0x300];
-    assert!(rt; are_compressible(rt.alloc(), &few, &[(0x60, false), (0x61, true), (0x80, true), (0x81, false), (0xfe, true)]));
-    assert!(rt; are_compressible(rt.alloc(), &WITH_LEADS, &[(0x2a, true), (0x2b, false), (0x61, false), (0xfe, true)]));
+    assert!(rt; are_compressible(rt.alloc(), &WITH_LEADS, &LEADS));
+    assert!(rt; are_compressible(rt.alloc(), &WITHOUT_LEADS, &USUAL_LEADS));
 }
 
-/// Whether primaries stand in each other's place, where the lead 2A becomes 2B, and 2C is cut (hex).
-fn are_reordered(alloc: Global, primaries: &[(u32, u32)]) -> bool {
-    let mut table = [0; 256];
-    table[0x2a] = 0x2b;
-    let (Ok(reorder_table), Ok(reorder_ranges)) = (
-        PackedVec::from_slice(alloc, &table),
-        PackedVec::from_slice(alloc, &[0x2c80_0001, 0x2d00_00ff]),
-    ) else {
-        return false;
-    };
-    let reordering = CollationReordering {
-        min_high_no_reorder: 0x2d00_0000,
-        reorder_table,
-        reorder_ranges,
-    };
+/// Whether primaries stand in the place of others.
+fn are_reordered(reordering: &CollationReordering<'_>, primaries: &[(u32, u32)]) -> bool {
     for (primary, expected) in primaries {
         if reordering.reorder(*primary) != *expected {
             return false;
@@ -104,15 +106,25 @@ fn are_reordered(alloc: Global, primaries: &[(u32, u32)]) -> bool {
     true
 }
 
+/// Primaries, and what stands in their place where the lead 2A becomes 2B, and 2C is cut (hex).
+const REORDERED: [(u32, u32); 6] = [
+    (0x2a10_2030, 0x2b10_2030),
+    (0x2c10_0000, 0x2d10_0000),
+    (0x2c80_0000, 0x2b80_0000),
+    (0x2d00_0000, 0x2d00_0000),
+    (1, 1),
+    (0, 0),
+];
+
+/// Whether these do.
+fn all_are_reordered(alloc: Global) -> bool {
+    match reordering(alloc) {
+        Some(reordering) => are_reordered(&reordering, &REORDERED),
+        None => false,
+    }
+}
+
 #[test]
 fn reordered_primaries(rt: HostRuntime) {
-    let primaries = [
-        (0x2a10_2030, 0x2b10_2030),
-        (0x2c10_0000, 0x2d10_0000),
-        (0x2c80_0000, 0x2b80_0000),
-        (0x2d00_0000, 0x2d00_0000),
-        (1, 1),
-        (0, 0),
-    ];
-    assert!(rt; are_reordered(rt.alloc(), &primaries));
+    assert!(rt; all_are_reordered(rt.alloc()));
 }

@@ -2,7 +2,7 @@
 
 use icu_codepointtrie::{CodePointTrie, CodePointTrieBuilder, CodePointTrieBuilderError, TrieType};
 use icu_collator_core::tables::{
-    CollationData, CollationDiacritics, CollationJamo, CollationMetadata,
+    CollationData, CollationDiacritics, CollationJamo, CollationMetadata, CollationReordering,
     CollationSpecialPrimaries, CollationTables,
 };
 use icu_packed_vector::PackedVec;
@@ -123,4 +123,17 @@ pub fn letters(alloc: Global) -> Option<CollationTables<'static>> {
     let trie = trie(alloc, &WORDS, IMPLICIT)?;
     let root = data(alloc, trie, &[], &[], &[])?;
     tables(alloc, root, None)
+}
+
+/// A reordering by which the lead 2A becomes 2B, and 2C is cut (hex); `None` where memory is refused.
+pub fn reordering(alloc: Global) -> Option<CollationReordering<'static>> {
+    let mut table = [0; 256];
+    table[0x2a] = 0x2b;
+    let reorder_table = PackedVec::from_slice(alloc, &table).ok()?;
+    let reorder_ranges = PackedVec::from_slice(alloc, &[0x2c80_0001, 0x2d00_00ff]).ok()?;
+    Some(CollationReordering {
+        min_high_no_reorder: 0x2d00_0000,
+        reorder_table,
+        reorder_ranges,
+    })
 }

@@ -1,0 +1,6 @@
+use Rattle.std.proofs.Common.{ℕ, ◌<◌}
+use Rattle.std.specs.Char.{IsScalar}
+use Rattle.icu_collator_core.proofs.check.characters.first_refused_in.Given as goal
+
+abbrev pub invariant-loop-code : goal.invariant-loop-code
+invariant-loop-code g l = (d : ℕ) → IsScalar d → d < l.code → g.T.CharacterTest.Passes l.test l.layer l.source d

@@ -1,0 +1,3 @@
+-- The check of tables: contexts, lists and tests one after another.
+pub mod ListLemmas
+pub mod TestLemmas

@@ -1,0 +1,73 @@
+//! The fields of words, and what stands at places of lists.
+
+ghost use Rattle.std.specs.Prelude.{◌≡◌, ◌^◌, ◌<◌, slice_index};
+ghost use Rattle.icu_collator_types.specs.ElementWords.{has_tag, is_special};
+ghost use Rattle.icu_collator_core.specs.Pools.{digit_value, index_of, length_of};
+ghost use Rattle.icu_collator_core.specs.WordForms.{has_form};
+
+use icu_collator_types::elements::Tag;
+use icu_packed_vector::PackedVec;
+
+/// Whether a word is more than the bytes of an element.
+pub(super) fn is_special(word: u32) -> bool
+    ensures { result ≡ is_special word }
+{
+    word & 0xff >= 0xc0
+}
+
+/// Whether a word has a tag.
+pub(super) fn has_tag(word: u32, tag: Tag) -> bool
+    ensures { result ≡ has_tag tag word }
+{
+    is_special(word) && word & 0xf == tag as u32
+}
+
+/// Whether a word has a tag, and its low byte is the tag's alone.
+pub(super) fn has_form(word: u32, tag: Tag) -> bool
+    ensures { result ≡ has_form tag word }
+{
+    word & 0xff <= 0xcf && has_tag(word, tag)
+}
+
+/// The place that a word names.
+pub(super) fn index_of(word: u32) -> usize
+    ensures index { result ≡ index_of word }
+    ensures bound { result < 2 ^ 19 }
+{
+    (word >> 13) as usize
+}
+
+/// The length of the list that an expansion names.
+pub(super) fn length_of(word: u32) -> usize
+    ensures length { result ≡ length_of word }
+    ensures bound { result < 2 ^ 5 }
+{
+    ((word >> 8) & 0x1f) as usize
+}
+
+/// The value of a digit.
+pub(super) fn digit_value(word: u32) -> u32
+    ensures { result ≡ digit_value word }
+{
+    (word >> 8) & 0xf
+}
+
+/// The word at a place of a list, 0 past the end.
+pub(super) fn word_at(ce32s: &PackedVec<'_, u32>, place: usize) -> u32
+    ensures { result ≡ slice_index ce32s.now place }
+{
+    match ce32s.get(place) {
+        Some(word) => word,
+        None => 0,
+    }
+}
+
+/// The unit at a place of a list, 0 past the end.
+pub(super) fn unit_at(contexts: &PackedVec<'_, u16>, place: usize) -> u16
+    ensures { result ≡ slice_index contexts.now place }
+{
+    match contexts.get(place) {
+        Some(unit) => unit,
+        None => 0,
+    }
+}
