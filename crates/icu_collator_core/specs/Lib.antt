@@ -17,3 +17,4 @@ pub mod ContextRules
 pub mod WeightFaults
 pub mod ReorderingTests
 pub mod SpelledTests
+pub mod WordWeights

@@ -17,3 +17,4 @@ pub(crate) use diacritics::are_sound_diacritics;
 pub(crate) use jamo::jamo_fault;
 pub(crate) use reordering::has_sound_reordering;
 pub(crate) use special_primaries::are_sound_special_primaries;
+pub(crate) use words::is_sound_word;

@@ -97,7 +97,7 @@ fn entry_at(ces: &PackedVec<'_, u64>, place: usize) -> u64
 
 /// Whether what a word says of a character by itself keeps the rules.
 #[tactic(auto, unfolding(crate::specs::Pools::elements_of_word, crate::specs::WeightFaults::is_sound_word))]
-pub(super) fn is_sound_word(
+pub(crate) fn is_sound_word(
     special: &CollationSpecialPrimaries<'_>,
     source: &CollationData<'_>,
     c: u32,
