@@ -6,3 +6,4 @@ pub mod NumberExamples
 mod TableExamples
 mod TableFaultExamples
 mod ContextExamples
+mod WeightFaultExamples

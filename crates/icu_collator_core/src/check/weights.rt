@@ -62,7 +62,12 @@ impl<'d, 'a> EntryTest for SoundWords<'d, 'a> {
     ghost test = { λ words. by_word (is_sound_word words.special.now (pools_of words.source.now) words.c) };
 
     fn passes(&self, _key: &[u16], value: i32) -> bool {
-        is_sound_word(self.special, self.source, self.c as u32, value.cast_unsigned())
+        is_sound_word(
+            self.special,
+            self.source,
+            self.c as u32,
+            value.cast_unsigned(),
+        )
     }
 }
 

@@ -13,14 +13,14 @@ pub returns-then-not-suffixes : goal.returns-then-not-suffixes
 returns-then-not-suffixes c =
     let pools = pools_of c.args.source.now in
     let told = subst (λ word. IsTrue c.in_ok-suffixes.suffixes ↔ (IsTrue (has_tag Contraction word) → ValuesPass pools (is_sound_word c.args.special.now pools c.args.c) word))
-        c.unprefixed_word-unprefixed.ensures c.in_ok-suffixes.ensures in
+    c.unprefixed_word-unprefixed.ensures c.in_ok-suffixes.ensures in
     refuted (λ all. no_is c.in_ok-suffixes.suffixes c.if-not-suffixes.true told all.1)
 
 pub returns : goal.returns
 returns c =
     let pools = pools_of c.args.source.now in
     let told = subst (λ word. IsTrue c.in_ok-suffixes.suffixes ↔ (IsTrue (has_tag Contraction word) → ValuesPass pools (is_sound_word c.args.special.now pools c.args.c) word))
-        c.unprefixed_word-unprefixed.ensures c.in_ok-suffixes.ensures in
+    c.unprefixed_word-unprefixed.ensures c.in_ok-suffixes.ensures in
     after_test_and_yes (is_sound_word c.args.special.now pools c.args.c (lone_word pools c.args.word)) c.in_ok-suffixes.suffixes c.in_ok-prefixes.prefixes
     (ap (λ word. is_sound_word c.args.special.now pools c.args.c word) (sym c.lone_word-lone.ensures) ∙ sym c.is_sound_word.ensures ∙ c.if-not-is_sound_word.false)
     c.if-not-suffixes.false told c.in_ok-prefixes.ensures
