@@ -206,7 +206,7 @@ tests_keep_apart reordering steady apart p q ltp ltq = (there, back)
 pub tests_keep_others : (reordering : CollationReordering) → AreSteadyHalves reordering → KeepsOthers reordering
 tests_keep_others reordering steady p lt other =
     let half : p / 2 ^ 16 < 2 ^ 16 = omega (arith, lt)
-    in let keeps : keeps_other reordering (p / 2 ^ 16) ≡ true = (and_parts _ _ (steady (p / 2 ^ 16) half)).1
+    in let keeps : keeps_other reordering (p / 2 ^ 16) ≡ true = (and_parts (has_one_lead reordering (p / 2 ^ 16)) _ (steady (p / 2 ^ 16) half)).1
     in let lead : p / 2 ^ 16 / 2 ^ 8 ≡ p / 2 ^ 24 = omega arith
     in let own = by_lead (or_cases _ _ keeps) lead
     in whole (reordered_by reordering p) (one_lead reordering steady p lt ∙ own ∙ lead) (rest_stays reordering p)
