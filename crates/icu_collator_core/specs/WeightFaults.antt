@@ -1,5 +1,5 @@
 -- What the tables of a collation are refused for by their weights: one predicate for each fault.
-use Rattle.std.specs.Prelude.{◌≡◌, ◌≢◌, ℕ, ◌+◌, ◌-◌, ◌*◌, ◌/◌, ◌%◌, ◌^◌, ◌<◌, ◌↔◌, ◌⊎◌, Bool, true, false, cond, not, ◌==◌, ◌&&◌, ◌||◌, leb, ltb, min, List, [], ◌∷◌, length, slice_index, Some, None, IfSome}
+use Rattle.std.specs.Prelude.{◌≡◌, ◌≢◌, ℕ, ◌+◌, ◌-◌, ◌*◌, ◌/◌, ◌%◌, ◌^◌, ◌<◌, ◌↔◌, ◌⊎◌, Bool, true, false, cond, not, ◌==◌, ◌&&◌, ◌||◌, leb, ltb, min, List, [], ◌∷◌, length, slice_index, Option, Some, None, IfSome}
 use Rattle.std.specs.List.{list_all}
 use Rattle.icu_normalizer_core.specs.BuiltIn.{is_within}
 use Rattle.icu_collator_types.specs.declared.elements.Element.{Element}
@@ -37,16 +37,21 @@ is_sound_spelled special_primaries e = leb e.case 2 && is_sound_element (leads_o
 unfoldable pub is_primary_element : ℕ → Element → Bool
 is_primary_element p e = is_primary_alone p (e ∷ [])
 
--- whether elements are the one that a character has by itself
-abbrev pub is_own_alone : ℕ → List Element → Bool
-is_own_alone c [] = false
-is_own_alone c (e ∷ []) = is_primary_element (own_primary c) e
-is_own_alone c (e ∷ f ∷ es) = false
+-- whether an element is the one that a character has by itself, by its primary there; in a context no element is that
+abbrev pub is_own_element : Option ℕ → Element → Bool
+is_own_element None e = false
+is_own_element (Some p) e = is_primary_element p e
 
--- the same of the elements of a character, or they are the one that it has by itself
-abbrev pub are_sound_spelled : CollationSpecialPrimaries → ℕ → List Element → Bool
-are_sound_spelled special_primaries c es =
-    is_own_alone c es || list_all (is_sound_spelled special_primaries) es
+-- whether elements are that one
+abbrev pub is_own_alone : Option ℕ → List Element → Bool
+is_own_alone own [] = false
+is_own_alone own (e ∷ []) = is_own_element own e
+is_own_alone own (e ∷ f ∷ es) = false
+
+-- whether elements keep V1 to V4, or are the one that the character has by itself
+abbrev pub are_sound_spelled : CollationSpecialPrimaries → Option ℕ → List Element → Bool
+are_sound_spelled special_primaries own es =
+    is_own_alone own es || list_all (is_sound_spelled special_primaries) es
 
 -- ## Words
 
@@ -68,11 +73,19 @@ is_sound_offset special_primaries bits c =
     && keeps_lead (bits / 2 ^ 7 % 2 == 1) (bits / 2 ^ 32) (moved_by bits c)
     && is_sound_ranged (leads_of special_primaries) (offset_primary bits c)
 
--- whether what a word says of a character by itself keeps the rules
-unfoldable pub is_sound_word : CollationSpecialPrimaries → Pools → ℕ → ℕ → Bool
-is_sound_word special_primaries pools c word =
+-- whether what a word says of a character keeps the rules, or is the element that the character has by itself
+unfoldable pub is_sound_word : CollationSpecialPrimaries → Pools → Option ℕ → ℕ → ℕ → Bool
+is_sound_word special_primaries pools own c word =
     cond (has_tag Offset word) (is_sound_offset special_primaries (slice_index pools.ces (index_of word)) c)
-    (elim (elements_of_word pools word) [ Some es ↦ are_sound_spelled special_primaries c es | None ↦ true ])
+    (elim (elements_of_word pools word) [ Some es ↦ are_sound_spelled special_primaries own es | None ↦ true ])
+
+-- the same where nothing stands before or behind the character: it may have its own element
+abbrev pub is_sound_lone_word : CollationSpecialPrimaries → Pools → ℕ → ℕ → Bool
+is_sound_lone_word special_primaries pools c word = is_sound_word special_primaries pools (Some (own_primary c)) c word
+
+-- the same in a context, where that element counts as a record
+abbrev pub is_sound_in_context : CollationSpecialPrimaries → Pools → ℕ → ℕ → Bool
+is_sound_in_context special_primaries pools c word = is_sound_word special_primaries pools None c word
 
 -- ## Diacritics: more than 79 secondaries, fewer where they are the root's, or one that breaks V3
 
@@ -134,7 +147,7 @@ pub record AreSoundSpecialPrimaries (special_primaries : CollationSpecialPrimari
 unfoldable pub is_sound_jamo : CollationTables → ℕ → Bool
 is_sound_jamo tables place =
     elim (stated_element (slice_index tables.jamo.ce32s place)) [
-      | Some e ↦ are_sound_spelled tables.special_primaries (0x1100 + place) (e ∷ [])
+      | Some e ↦ are_sound_spelled tables.special_primaries (Some (own_primary (0x1100 + place))) (e ∷ [])
       | None ↦ false
     ]
 

@@ -15,6 +15,7 @@ mod words;
 
 pub(crate) use diacritics::are_sound_diacritics;
 pub(crate) use jamo::jamo_fault;
+pub(crate) use own::own_primary;
 pub(crate) use reordering::has_sound_reordering;
 pub(crate) use special_primaries::are_sound_special_primaries;
 pub(crate) use words::is_sound_word;

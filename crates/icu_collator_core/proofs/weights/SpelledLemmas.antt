@@ -1,5 +1,5 @@
 -- The elements that a word spells, read one after another, pass just where they keep the rules together.
-use Rattle.std.proofs.Common.{◌≡◌, ℕ, ◌+◌, ◌<◌, ◌≤◌, ◌⊎◌, inl, inr, Bool, true, false, List, [], ◌∷◌, length, take, drop, Some, None, refl, sym, ◌∙◌, ap, arith}
+use Rattle.std.proofs.Common.{◌≡◌, ℕ, ◌+◌, ◌<◌, ◌≤◌, ◌⊎◌, inl, inr, Bool, true, false, List, [], ◌∷◌, length, take, drop, Option, Some, None, refl, sym, ◌∙◌, ap, arith}
 use Rattle.std.proofs.lemmas.List.{length-drop, get_or-drop, take_all}
 use Rattle.std.proofs.lemmas.Bool.{cases_lt}
 use Rattle.std.proofs.lemmas.List.Folds.{fold-map}
@@ -11,8 +11,7 @@ use Rattle.icu_collator_types.specs.declared.elements.Element.{Element}
 use Rattle.icu_collator_core.specs.declared.check_weights.spelled.Spelled.{Spelled}
 use Rattle.icu_collator_core.specs.declared.tables.special_primaries.CollationSpecialPrimaries.{CollationSpecialPrimaries}
 use Rattle.icu_collator_core.specs.Pools.{element_of, stated_element}
-use Rattle.icu_collator_core.specs.TableMeaning.{own_primary}
-use Rattle.icu_collator_core.specs.WeightFaults.{are_sound_spelled, is_own_alone, is_primary_element, is_sound_spelled}
+use Rattle.icu_collator_core.specs.WeightFaults.{are_sound_spelled, is_own_alone, is_own_element, is_sound_spelled}
 use Rattle.icu_collator_core.specs.SpelledTests.{if_any, nothing_read, passes, with_bits, with_element, with_word}
 
 and_true : (b : Bool) → (b && true) ≡ b
@@ -23,51 +22,51 @@ and_assoc : (a b c : Bool) → ((a && b) && c) ≡ (a && (b && c))
 and_assoc true b c = refl
 and_assoc false b c = refl
 
-sound_read : (special : CollationSpecialPrimaries) (c : ℕ) (es : List Element) (seen : Spelled)
-    → (fold (with_element special c) seen es).is_sound ≡ (seen.is_sound && list_all (is_sound_spelled special) es)
-sound_read special c [] seen = sym (and_true seen.is_sound)
-sound_read special c (e ∷ es) seen =
-    sound_read special c es (with_element special c seen e) ∙ and_assoc seen.is_sound (is_sound_spelled special e) (list_all (is_sound_spelled special) es)
+sound_read : (special : CollationSpecialPrimaries) (own : Option ℕ) (es : List Element) (seen : Spelled)
+    → (fold (with_element special own) seen es).is_sound ≡ (seen.is_sound && list_all (is_sound_spelled special) es)
+sound_read special own [] seen = sym (and_true seen.is_sound)
+sound_read special own (e ∷ es) seen =
+    sound_read special own es (with_element special own seen e) ∙ and_assoc seen.is_sound (is_sound_spelled special e) (list_all (is_sound_spelled special) es)
 
 -- behind an element there is none that is alone
-more_read : (special : CollationSpecialPrimaries) (c : ℕ) (e : Element) (es : List Element) (seen : Spelled) → seen.is_empty ≡ false
-    → (fold (with_element special c) seen (e ∷ es)).is_own ≡ false
-more_read special c e [] seen h = ap (λ b. b && is_primary_element (own_primary c) e) h
-more_read special c e (f ∷ es) seen h = more_read special c f es (with_element special c seen e) refl
+more_read : (special : CollationSpecialPrimaries) (own : Option ℕ) (e : Element) (es : List Element) (seen : Spelled) → seen.is_empty ≡ false
+    → (fold (with_element special own) seen (e ∷ es)).is_own ≡ false
+more_read special own e [] seen h = ap (λ b. b && is_own_element own e) h
+more_read special own e (f ∷ es) seen h = more_read special own f es (with_element special own seen e) refl
 
-own_read : (special : CollationSpecialPrimaries) (c : ℕ) (es : List Element)
-    → (fold (with_element special c) nothing_read es).is_own ≡ is_own_alone c es
-own_read special c [] = refl
-own_read special c (e ∷ []) = refl
-own_read special c (e ∷ f ∷ es) = more_read special c f es (with_element special c nothing_read e) refl
+own_read : (special : CollationSpecialPrimaries) (own : Option ℕ) (es : List Element)
+    → (fold (with_element special own) nothing_read es).is_own ≡ is_own_alone own es
+own_read special own [] = refl
+own_read special own (e ∷ []) = refl
+own_read special own (e ∷ f ∷ es) = more_read special own f es (with_element special own nothing_read e) refl
 
-pub all_read : (special : CollationSpecialPrimaries) (c : ℕ) (es : List Element)
-    → passes (fold (with_element special c) nothing_read es) ≡ are_sound_spelled special c es
-all_read special c es =
-    ap (λ b. b || (fold (with_element special c) nothing_read es).is_sound) (own_read special c es)
-    ∙ ap (λ b. is_own_alone c es || b) (sound_read special c es nothing_read)
+pub all_read : (special : CollationSpecialPrimaries) (own : Option ℕ) (es : List Element)
+    → passes (fold (with_element special own) nothing_read es) ≡ are_sound_spelled special own es
+all_read special own es =
+    ap (λ b. b || (fold (with_element special own) nothing_read es).is_sound) (own_read special own es)
+    ∙ ap (λ b. is_own_alone own es || b) (sound_read special own es nothing_read)
 
 -- ---- Words and elements of 64 bits
 
-fold_filtered : (special : CollationSpecialPrimaries) (c : ℕ) (words : List ℕ) (seen : Spelled)
-    → fold (with_word special c) seen words ≡ fold (with_element special c) seen (filter_map stated_element words)
-fold_filtered special c [] seen = refl
-fold_filtered special c (word ∷ words) seen =
-    elim (stated_element word) as (λ o. fold (with_word special c) (elim o [ Some e ↦ with_element special c seen e | None ↦ seen ]) words
-    ≡ fold (with_element special c) seen (cons_option o (filter_map stated_element words))) [
-      | Some e ↦ fold_filtered special c words (with_element special c seen e)
-      | None ↦ fold_filtered special c words seen
+fold_filtered : (special : CollationSpecialPrimaries) (own : Option ℕ) (words : List ℕ) (seen : Spelled)
+    → fold (with_word special own) seen words ≡ fold (with_element special own) seen (filter_map stated_element words)
+fold_filtered special own [] seen = refl
+fold_filtered special own (word ∷ words) seen =
+    elim (stated_element word) as (λ o. fold (with_word special own) (elim o [ Some e ↦ with_element special own seen e | None ↦ seen ]) words
+    ≡ fold (with_element special own) seen (cons_option o (filter_map stated_element words))) [
+      | Some e ↦ fold_filtered special own words (with_element special own seen e)
+      | None ↦ fold_filtered special own words seen
     ]
 
-pub words_read : (special : CollationSpecialPrimaries) (c : ℕ) (words : List ℕ)
-    → passes (fold (with_word special c) nothing_read words) ≡ are_sound_spelled special c (filter_map stated_element words)
-words_read special c words =
-    ap (λ seen. passes seen) (fold_filtered special c words nothing_read) ∙ all_read special c (filter_map stated_element words)
+pub words_read : (special : CollationSpecialPrimaries) (own : Option ℕ) (words : List ℕ)
+    → passes (fold (with_word special own) nothing_read words) ≡ are_sound_spelled special own (filter_map stated_element words)
+words_read special own words =
+    ap (λ seen. passes seen) (fold_filtered special own words nothing_read) ∙ all_read special own (filter_map stated_element words)
 
-pub elements_read : (special : CollationSpecialPrimaries) (c : ℕ) (items : List ℕ)
-    → passes (fold (with_bits special c) nothing_read items) ≡ are_sound_spelled special c (map element_of items)
-elements_read special c items =
-    ap (λ seen. passes seen) (sym (fold-map (with_element special c) element_of nothing_read items)) ∙ all_read special c (map element_of items)
+pub elements_read : (special : CollationSpecialPrimaries) (own : Option ℕ) (items : List ℕ)
+    → passes (fold (with_bits special own) nothing_read items) ≡ are_sound_spelled special own (map element_of items)
+elements_read special own items =
+    ap (λ seen. passes seen) (sym (fold-map (with_element special own) element_of nothing_read items)) ∙ all_read special own (map element_of items)
 
 -- one more number of a part of a list was read, if there was one
 pub one_more : (step : Spelled → ℕ → Spelled) (seen : Spelled) (xs : List ℕ) (place i : ℕ)

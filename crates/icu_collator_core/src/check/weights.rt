@@ -5,7 +5,7 @@ ghost use Rattle.icu_collator_types.specs.ElementWords.{has_tag};
 ghost use Rattle.icu_collator_core.specs.Pools.{lone_word, unprefixed_word};
 ghost use Rattle.icu_collator_core.specs.TableFaults.{NoneOffendsIn, IsFirstOffender};
 ghost use Rattle.icu_collator_core.specs.TableMeaning.{pools_of};
-ghost use Rattle.icu_collator_core.specs.WeightFaults.{is_sound_word};
+ghost use Rattle.icu_collator_core.specs.WeightFaults.{is_sound_in_context};
 ghost use Rattle.icu_collator_core.specs.WordForms.{ValuesPass};
 ghost use Rattle.icu_collator_core.specs.WordWeights.{HasSoundWords, OffendsWeight};
 
@@ -13,7 +13,7 @@ use super::characters::{CharacterTest, first_refused};
 use super::contexts::{default_of, entries_pass};
 use super::fields::{has_tag, index_of, word_at};
 use super::layers::Layer;
-use crate::check_weights::is_sound_word;
+use crate::check_weights::{is_sound_word, own_primary};
 use crate::tables::{CollationData, CollationSpecialPrimaries, CollationTables};
 use icu_char16trie::EntryTest;
 use icu_collator_types::elements::Tag;
@@ -46,7 +46,7 @@ fn lone_word(source: &CollationData<'_>, word: u32) -> u32
     }
 }
 
-/// The test for words that spell what keeps the rules.
+/// The test for words of contexts that spell what keeps the rules.
 #[derive(Drop)]
 struct SoundWords<'d, 'a> {
     special: &'d CollationSpecialPrimaries<'a>,
@@ -56,15 +56,16 @@ struct SoundWords<'d, 'a> {
 
 impl<'d, 'a> EntryTest for SoundWords<'d, 'a> {
     ghost use Rattle.icu_collator_core.specs.TableMeaning.{pools_of};
-    ghost use Rattle.icu_collator_core.specs.WeightFaults.{is_sound_word};
+    ghost use Rattle.icu_collator_core.specs.WeightFaults.{is_sound_in_context};
     ghost use Rattle.icu_collator_core.specs.WordForms.{by_word};
 
-    ghost test = { λ words. by_word (is_sound_word words.special.now (pools_of words.source.now) words.c) };
+    ghost test = { λ words. by_word (is_sound_in_context words.special.now (pools_of words.source.now) words.c) };
 
     fn passes(&self, _key: &[u16], value: i32) -> bool {
         is_sound_word(
             self.special,
             self.source,
+            None,
             self.c as u32,
             value.cast_unsigned(),
         )
@@ -79,7 +80,7 @@ fn are_sound_values(
     c: char,
     word: u32,
 ) -> Result<bool, AllocError>
-    ensures { IfOk result (λ all. IsTrue all ↔ ValuesPass (pools_of source.now) (is_sound_word special.now (pools_of source.now) c) word) }
+    ensures { IfOk result (λ all. IsTrue all ↔ ValuesPass (pools_of source.now) (is_sound_in_context special.now (pools_of source.now) c) word) }
 {
     let test = SoundWords { special, source, c };
     let all = entries_pass(alloc, &source.contexts, index_of(word), &test)?;
@@ -95,7 +96,7 @@ fn are_sound_where(
     tag: Tag,
     word: u32,
 ) -> Result<bool, AllocError>
-    ensures { IfOk result (λ yes. IsTrue yes ↔ (IsTrue (has_tag tag word) → ValuesPass (pools_of source.now) (is_sound_word special.now (pools_of source.now) c) word)) }
+    ensures { IfOk result (λ yes. IsTrue yes ↔ (IsTrue (has_tag tag word) → ValuesPass (pools_of source.now) (is_sound_in_context special.now (pools_of source.now) c) word)) }
 {
     if !has_tag(word, tag) {
         return Ok(true);
@@ -115,7 +116,8 @@ fn has_sound_words(
     ensures { IfOk result (λ yes. IsTrue yes ↔ HasSoundWords special.now (pools_of source.now) c word) }
 {
     let lone = lone_word(source, word);
-    if !is_sound_word(special, source, c as u32, lone) {
+    let own = Some(own_primary(c as u32));
+    if !is_sound_word(special, source, own, c as u32, lone) {
         return Ok(false);
     }
     let unprefixed = unprefixed_word(source, word);

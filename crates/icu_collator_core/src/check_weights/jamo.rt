@@ -4,6 +4,7 @@ ghost use Rattle.std.specs.Prelude.{◌≡◌, ◌<◌, MatchOption, length};
 ghost use Rattle.icu_collator_core.specs.WeightFaults.{AreSoundJamo, IsJamoFault, is_sound_jamo, jamo_count};
 
 use super::elements::stated_element;
+use super::own::own_primary;
 use super::spelled::is_sound_lone;
 use crate::tables::CollationTables;
 
@@ -20,7 +21,8 @@ fn is_sound_jamo(tables: &CollationTables<'_>, place: usize) -> bool
     let Some(element) = stated_element(tables.jamo.ce32s.at(place)) else {
         return false;
     };
-    is_sound_lone(&tables.special_primaries, 0x1100 + place as u32, element)
+    let own = own_primary(0x1100 + place as u32);
+    is_sound_lone(&tables.special_primaries, Some(own), element)
 }
 
 /// The least place of a jamo whose word states no sound element, `None` where there is none. Of a table that

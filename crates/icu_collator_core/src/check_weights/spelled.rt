@@ -5,12 +5,13 @@ ghost use Rattle.icu_collator_core.specs.SpelledTests.{if_any, nothing_read, pas
 ghost use Rattle.icu_collator_core.specs.WeightFaults.{are_sound_spelled};
 
 use super::elements::{element_of, stated_element};
-use super::own::{is_primary_element, own_primary};
+use super::own::is_own_element;
 use super::rules::is_sound_spelled;
 use crate::tables::CollationSpecialPrimaries;
 use icu_collator_types::elements::Element;
 
-/// What is known of the elements that were read.
+/// What is known of the elements that were read, with the primary that the character has by itself where that one
+/// may stand.
 #[derive(Clone, Copy, Debug)]
 pub(super) struct Spelled {
     /// There was none.
@@ -37,14 +38,14 @@ impl Spelled {
     pub(super) fn with(
         self,
         special: &CollationSpecialPrimaries<'_>,
-        c: u32,
+        own: Option<u32>,
         element: Element,
     ) -> Self
-        ensures { result ≡ with_element special.now c self element }
+        ensures { result ≡ with_element special.now own self element }
     {
         Spelled {
             is_empty: false,
-            is_own: self.is_empty && is_primary_element(own_primary(c), element),
+            is_own: self.is_empty && is_own_element(own, element),
             is_sound: self.is_sound && is_sound_spelled(special, element),
         }
     }
@@ -53,16 +54,16 @@ impl Spelled {
     pub(super) fn with_word(
         self,
         special: &CollationSpecialPrimaries<'_>,
-        c: u32,
+        own: Option<u32>,
         word: Option<u32>,
     ) -> Self
-        ensures { result ≡ if_any (with_word special.now c) self word }
+        ensures { result ≡ if_any (with_word special.now own) self word }
     {
         let Some(word) = word else {
             return self;
         };
         match stated_element(word) {
-            Some(element) => self.with(special, c, element),
+            Some(element) => self.with(special, own, element),
             None => self,
         }
     }
@@ -71,13 +72,13 @@ impl Spelled {
     pub(super) fn with_bits(
         self,
         special: &CollationSpecialPrimaries<'_>,
-        c: u32,
+        own: Option<u32>,
         bits: Option<u64>,
     ) -> Self
-        ensures { result ≡ if_any (with_bits special.now c) self bits }
+        ensures { result ≡ if_any (with_bits special.now own) self bits }
     {
         match bits {
-            Some(bits) => self.with(special, c, element_of(bits)),
+            Some(bits) => self.with(special, own, element_of(bits)),
             None => self,
         }
     }
@@ -93,10 +94,10 @@ impl Spelled {
 /// Whether an element of a character keeps the rules, or is the one that the character has by itself.
 pub(super) fn is_sound_lone(
     special: &CollationSpecialPrimaries<'_>,
-    c: u32,
+    own: Option<u32>,
     element: Element,
 ) -> bool
-    ensures { result ≡ are_sound_spelled special.now c (element ∷ []) }
+    ensures { result ≡ are_sound_spelled special.now own (element ∷ []) }
 {
-    is_primary_element(own_primary(c), element) || is_sound_spelled(special, element)
+    is_own_element(own, element) || is_sound_spelled(special, element)
 }

@@ -1,4 +1,4 @@
-//! Whether what a word says of a character by itself keeps the rules.
+//! Whether what a word says of a character keeps the rules.
 
 ghost use Rattle.std.specs.Prelude.{◌≡◌, ◌+◌, ◌<◌, ◌/◌, ◌%◌, ◌^◌, ◌∷◌, [], Some, None, true, filter_map, map, option_map, slice_index};
 ghost use Rattle.icu_normalizer_core.specs.CanonicalWords.{items_at};
@@ -37,50 +37,54 @@ fn length_of(word: u32) -> usize
     ((word >> 8) & 0x1f) as usize
 }
 
-/// Whether the words of an expansion state elements of a character that keep the rules.
+/// Whether the words of an expansion state elements that keep the rules, or the one that the character has by itself.
 #[tactic(auto, using(crate::proofs::weights::SpelledLemmas::words_read))]
 fn are_sound_words(
     special: &CollationSpecialPrimaries<'_>,
     ce32s: &PackedVec<'_, u32>,
-    c: u32,
+    own: Option<u32>,
     place: usize,
     count: usize,
 ) -> bool
     requires { place + count < 2 ^ 32 }
-    ensures { result ≡ are_sound_spelled special.now c (filter_map stated_element (items_at ce32s.now place count)) }
+    ensures { result ≡ are_sound_spelled special.now own (filter_map stated_element (items_at ce32s.now place count)) }
 {
     let mut seen = Spelled::new();
     for i in 0..count {
-        seen = seen.with_word(special, c, ce32s.get(place + i));
+        seen = seen.with_word(special, own, ce32s.get(place + i));
     }
     seen.passes()
 }
 
-/// Whether the elements of an expansion are those of a character that keep the rules.
+/// Whether the elements of an expansion keep the rules, or are the one that the character has by itself.
 #[tactic(auto, using(crate::proofs::weights::SpelledLemmas::elements_read))]
 fn are_sound_elements(
     special: &CollationSpecialPrimaries<'_>,
     ces: &PackedVec<'_, u64>,
-    c: u32,
+    own: Option<u32>,
     place: usize,
     count: usize,
 ) -> bool
     requires { place + count < 2 ^ 32 }
-    ensures { result ≡ are_sound_spelled special.now c (map element_of (items_at ces.now place count)) }
+    ensures { result ≡ are_sound_spelled special.now own (map element_of (items_at ces.now place count)) }
 {
     let mut seen = Spelled::new();
     for i in 0..count {
-        seen = seen.with_bits(special, c, ces.get(place + i));
+        seen = seen.with_bits(special, own, ces.get(place + i));
     }
     seen.passes()
 }
 
-/// Whether the element that a word states of a character keeps the rules, if it states one.
-fn is_sound_stated(special: &CollationSpecialPrimaries<'_>, c: u32, word: u32) -> bool
-    ensures { result ≡ elim (option_map (λ e. e ∷ []) (stated_element word)) [ Some es ↦ are_sound_spelled special.now c es | None ↦ true ] }
+/// The same of the element that a word states, if it states one.
+fn is_sound_stated(
+    special: &CollationSpecialPrimaries<'_>,
+    own: Option<u32>,
+    word: u32,
+) -> bool
+    ensures { result ≡ elim (option_map (λ e. e ∷ []) (stated_element word)) [ Some es ↦ are_sound_spelled special.now own es | None ↦ true ] }
 {
     match stated_element(word) {
-        Some(element) => is_sound_lone(special, c, element),
+        Some(element) => is_sound_lone(special, own, element),
         None => true,
     }
 }
@@ -95,25 +99,26 @@ fn entry_at(ces: &PackedVec<'_, u64>, place: usize) -> u64
     }
 }
 
-/// Whether what a word says of a character by itself keeps the rules.
+/// Whether what a word says of a character keeps the rules, or is the element that the character has by itself.
 #[tactic(auto, unfolding(crate::specs::Pools::elements_of_word, crate::specs::WeightFaults::is_sound_word))]
 pub(crate) fn is_sound_word(
     special: &CollationSpecialPrimaries<'_>,
     source: &CollationData<'_>,
+    own: Option<u32>,
     c: u32,
     word: u32,
 ) -> bool
     requires { c < 0x110000 }
-    ensures { result ≡ is_sound_word special.now (pools_of source.now) c word }
+    ensures { result ≡ is_sound_word special.now (pools_of source.now) own c word }
 {
     let place = index_of(word);
     if has_tag(word, Tag::Offset) {
         is_sound_offset(special, entry_at(&source.ces, place), c)
     } else if has_tag(word, Tag::Expansion32) {
-        are_sound_words(special, &source.ce32s, c, place, length_of(word))
+        are_sound_words(special, &source.ce32s, own, place, length_of(word))
     } else if has_tag(word, Tag::Expansion) {
-        are_sound_elements(special, &source.ces, c, place, length_of(word))
+        are_sound_elements(special, &source.ces, own, place, length_of(word))
     } else {
-        is_sound_stated(special, c, word)
+        is_sound_stated(special, own, word)
     }
 }
