@@ -1,8 +1,7 @@
 //! Whether what a word says of a character keeps the rules.
 
-ghost use Rattle.std.specs.Prelude.{◌≡◌, ◌+◌, ◌<◌, ◌/◌, ◌%◌, ◌^◌, ◌∷◌, [], Some, None, true, filter_map, map, option_map, slice_index};
+ghost use Rattle.std.specs.Prelude.{◌≡◌, ◌+◌, ◌<◌, ◌^◌, ◌∷◌, [], Some, None, true, filter_map, map, option_map, slice_index};
 ghost use Rattle.icu_normalizer_core.specs.CanonicalWords.{items_at};
-ghost use Rattle.icu_collator_types.specs.ElementWords.{has_tag};
 ghost use Rattle.icu_collator_core.specs.Pools.{element_of, stated_element};
 ghost use Rattle.icu_collator_core.specs.TableMeaning.{pools_of};
 ghost use Rattle.icu_collator_core.specs.WeightFaults.{are_sound_spelled, is_sound_word};
@@ -10,32 +9,10 @@ ghost use Rattle.icu_collator_core.specs.WeightFaults.{are_sound_spelled, is_sou
 use super::elements::stated_element;
 use super::offsets::is_sound_offset;
 use super::spelled::{Spelled, is_sound_lone};
+use crate::check::fields::{has_tag, index_of, length_of};
 use crate::tables::{CollationData, CollationSpecialPrimaries};
 use icu_collator_types::elements::Tag;
 use icu_packed_vector::PackedVec;
-
-/// Whether a word has a tag.
-fn has_tag(word: u32, tag: Tag) -> bool
-    ensures { result ≡ has_tag tag word }
-{
-    word & 0xff >= 0xc0 && word & 0xf == tag as u32
-}
-
-/// The place that a word names.
-fn index_of(word: u32) -> usize
-    ensures place { result ≡ word / 2 ^ 13 }
-    ensures bound { result < 2 ^ 19 }
-{
-    (word >> 13) as usize
-}
-
-/// The length of the list that an expansion names.
-fn length_of(word: u32) -> usize
-    ensures length { result ≡ word / 2 ^ 8 % 2 ^ 5 }
-    ensures bound { result < 32 }
-{
-    ((word >> 8) & 0x1f) as usize
-}
 
 /// Whether the words of an expansion state elements that keep the rules, or the one that the character has by itself.
 #[tactic(auto, using(crate::proofs::weights::SpelledLemmas::words_read))]
