@@ -7,3 +7,4 @@ mod TableExamples
 mod TableFaultExamples
 mod ContextExamples
 mod WeightFaultExamples
+mod PrefixFaultExamples

@@ -18,3 +18,4 @@ pub mod WeightFaults
 pub mod ReorderingTests
 pub mod SpelledTests
 pub mod WordWeights
+pub mod PrefixFaults
