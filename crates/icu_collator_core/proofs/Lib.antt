@@ -6,3 +6,5 @@ pub mod NumberExamples
 mod TableExamples
 mod TableFaultExamples
 mod ContextExamples
+mod WeightFaultExamples
+mod PrefixFaultExamples

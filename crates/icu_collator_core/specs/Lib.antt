@@ -14,3 +14,8 @@ pub mod WordForms
 pub mod WordPlaces
 pub mod TableFaults
 pub mod ContextRules
+pub mod WeightFaults
+pub mod ReorderingTests
+pub mod SpelledTests
+pub mod WordWeights
+pub mod PrefixFaults

@@ -6,6 +6,7 @@ pub(crate) mod fields;
 pub(crate) mod forms;
 pub(crate) mod layers;
 pub(crate) mod places;
+pub(crate) mod weights;
 
 use std::error::Error;
 use std::fmt;

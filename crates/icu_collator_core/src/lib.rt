@@ -3,6 +3,7 @@
 #![tactic(auto)]
 
 pub mod check;
+mod check_weights;
 pub mod elements;
 pub mod laws;
 pub mod laws_same;

@@ -16,7 +16,7 @@ pub(super) fn is_special(word: u32) -> bool
 }
 
 /// Whether a word has a tag.
-pub(super) fn has_tag(word: u32, tag: Tag) -> bool
+pub(crate) fn has_tag(word: u32, tag: Tag) -> bool
     ensures { result ≡ has_tag tag word }
 {
     is_special(word) && word & 0xf == tag as u32
@@ -30,7 +30,7 @@ pub(super) fn has_form(word: u32, tag: Tag) -> bool
 }
 
 /// The place that a word names.
-pub(super) fn index_of(word: u32) -> usize
+pub(crate) fn index_of(word: u32) -> usize
     ensures index { result ≡ index_of word }
     ensures bound { result < 2 ^ 19 }
 {
@@ -38,7 +38,7 @@ pub(super) fn index_of(word: u32) -> usize
 }
 
 /// The length of the list that an expansion names.
-pub(super) fn length_of(word: u32) -> usize
+pub(crate) fn length_of(word: u32) -> usize
     ensures length { result ≡ length_of word }
     ensures bound { result < 2 ^ 5 }
 {

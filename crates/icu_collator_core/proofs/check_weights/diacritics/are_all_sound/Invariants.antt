@@ -1,0 +1,7 @@
+use Rattle.std.proofs.Common.{◌≡◌, true, take}
+use Rattle.std.specs.List.{list_all}
+use Rattle.icu_collator_core.specs.WeightFaults.{is_sound_diacritic}
+use Rattle.icu_collator_core.proofs.check_weights.diacritics.are_all_sound.Given as goal
+
+abbrev pub invariant-loop-place : goal.invariant-loop-place
+invariant-loop-place l = list_all is_sound_diacritic (take l.place l.secondaries) ≡ true

@@ -1,0 +1,169 @@
+//! Words of characters that spell what breaks a rule on weights.
+
+ghost use Rattle.std.specs.Prelude.{◌≡◌, ◌↔◌, IsTrue, IfOk, MatchOption};
+ghost use Rattle.icu_collator_types.specs.ElementWords.{has_tag};
+ghost use Rattle.icu_collator_core.specs.Pools.{lone_word, unprefixed_word};
+ghost use Rattle.icu_collator_core.specs.TableFaults.{NoneOffendsIn, IsFirstOffender};
+ghost use Rattle.icu_collator_core.specs.TableMeaning.{pools_of};
+ghost use Rattle.icu_collator_core.specs.WeightFaults.{is_sound_in_context};
+ghost use Rattle.icu_collator_core.specs.WordForms.{ValuesPass};
+ghost use Rattle.icu_collator_core.specs.WordWeights.{HasSoundWords, OffendsWeight};
+
+use super::characters::{CharacterTest, first_refused};
+use super::contexts::{default_of, entries_pass};
+use super::fields::{has_tag, index_of, word_at};
+use super::layers::Layer;
+use crate::check_weights::{is_sound_word, own_primary};
+use crate::tables::{CollationData, CollationSpecialPrimaries, CollationTables};
+use icu_char16trie::EntryTest;
+use icu_collator_types::elements::Tag;
+use std::alloc::{AllocError, Global};
+
+/// The word where no prefix counts.
+#[tactic(auto, unfolding(crate::specs::Pools::unprefixed_word))]
+fn unprefixed_word(source: &CollationData<'_>, word: u32) -> u32
+    ensures { result ≡ unprefixed_word (pools_of source.now) word }
+{
+    if has_tag(word, Tag::Prefix) {
+        default_of(source, word)
+    } else {
+        word
+    }
+}
+
+/// The word where nothing stands before or behind, and not read as a digit.
+#[tactic(auto, unfolding(crate::specs::Pools::lone_word))]
+fn lone_word(source: &CollationData<'_>, word: u32) -> u32
+    ensures { result ≡ lone_word (pools_of source.now) word }
+{
+    let unprefixed = unprefixed_word(source, word);
+    if has_tag(unprefixed, Tag::Contraction) {
+        default_of(source, unprefixed)
+    } else if has_tag(unprefixed, Tag::Digit) {
+        word_at(&source.ce32s, index_of(unprefixed))
+    } else {
+        unprefixed
+    }
+}
+
+/// The test for words of contexts that spell what keeps the rules.
+#[derive(Drop)]
+struct SoundWords<'d, 'a> {
+    special: &'d CollationSpecialPrimaries<'a>,
+    source: &'d CollationData<'a>,
+    c: char,
+}
+
+impl<'d, 'a> EntryTest for SoundWords<'d, 'a> {
+    ghost use Rattle.icu_collator_core.specs.TableMeaning.{pools_of};
+    ghost use Rattle.icu_collator_core.specs.WeightFaults.{is_sound_in_context};
+    ghost use Rattle.icu_collator_core.specs.WordForms.{by_word};
+
+    ghost test = { λ words. by_word (is_sound_in_context words.special.now (pools_of words.source.now) words.c) };
+
+    fn passes(&self, _key: &[u16], value: i32) -> bool {
+        is_sound_word(
+            self.special,
+            self.source,
+            None,
+            self.c as u32,
+            value.cast_unsigned(),
+        )
+    }
+}
+
+/// Whether the values of the context that a word names are such words.
+fn are_sound_values(
+    alloc: Global,
+    special: &CollationSpecialPrimaries<'_>,
+    source: &CollationData<'_>,
+    c: char,
+    word: u32,
+) -> Result<bool, AllocError>
+    ensures { IfOk result (λ all. IsTrue all ↔ ValuesPass (pools_of source.now) (is_sound_in_context special.now (pools_of source.now) c) word) }
+{
+    let test = SoundWords { special, source, c };
+    let all = entries_pass(alloc, &source.contexts, index_of(word), &test)?;
+    Ok(all)
+}
+
+/// The same where the word has a tag.
+fn are_sound_where(
+    alloc: Global,
+    special: &CollationSpecialPrimaries<'_>,
+    source: &CollationData<'_>,
+    c: char,
+    tag: Tag,
+    word: u32,
+) -> Result<bool, AllocError>
+    ensures { IfOk result (λ yes. IsTrue yes ↔ (IsTrue (has_tag tag word) → ValuesPass (pools_of source.now) (is_sound_in_context special.now (pools_of source.now) c) word)) }
+{
+    if !has_tag(word, tag) {
+        return Ok(true);
+    }
+    let all = are_sound_values(alloc, special, source, c, word)?;
+    Ok(all)
+}
+
+/// Whether the word of a character and those in its contexts spell what keeps the rules.
+fn has_sound_words(
+    alloc: Global,
+    special: &CollationSpecialPrimaries<'_>,
+    source: &CollationData<'_>,
+    c: char,
+    word: u32,
+) -> Result<bool, AllocError>
+    ensures { IfOk result (λ yes. IsTrue yes ↔ HasSoundWords special.now (pools_of source.now) c word) }
+{
+    let lone = lone_word(source, word);
+    let own = Some(own_primary(c as u32));
+    if !is_sound_word(special, source, own, c as u32, lone) {
+        return Ok(false);
+    }
+    let unprefixed = unprefixed_word(source, word);
+    let suffixes = are_sound_where(alloc, special, source, c, Tag::Contraction, unprefixed)?;
+    if !suffixes {
+        return Ok(false);
+    }
+    let prefixes = are_sound_where(alloc, special, source, c, Tag::Prefix, word)?;
+    Ok(prefixes)
+}
+
+/// The test for characters whose words spell what keeps the rules.
+#[derive(Drop)]
+struct WeightTest<'d, 'a> {
+    special: &'d CollationSpecialPrimaries<'a>,
+}
+
+impl<'d, 'a> CharacterTest for WeightTest<'d, 'a> {
+    ghost use Rattle.icu_collator_core.specs.WordWeights.{HasWeights};
+
+    ghost Passes = { λ weights layer source c. HasWeights weights.special.now layer source c };
+
+    fn passes(
+        &self,
+        alloc: Global,
+        _layer: Layer,
+        source: &CollationData<'_>,
+        c: char,
+    ) -> Result<bool, AllocError> {
+        let word = source.trie.get(c);
+        let yes = has_sound_words(alloc, self.special, source, c, word)?;
+        Ok(yes)
+    }
+}
+
+/// The first character with a word that spells what breaks a rule on weights, `None` where there is none. Fails
+/// only when out of memory.
+pub(crate) fn first_weight_fault(
+    alloc: Global,
+    tables: &CollationTables<'_>,
+) -> Result<Option<char>, AllocError>
+    ensures { IfOk result (λ found. MatchOption found (NoneOffendsIn tables.now (OffendsWeight tables.now.special_primaries)) (IsFirstOffender tables.now (OffendsWeight tables.now.special_primaries))) }
+{
+    let test = WeightTest {
+        special: &tables.special_primaries,
+    };
+    let found = first_refused(alloc, tables, &test)?;
+    Ok(found)
+}

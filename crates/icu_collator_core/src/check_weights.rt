@@ -1,0 +1,21 @@
+//! The check of weights: for each fault of tables by their weights a function that decides it
+//! (`specs/WeightFaults.antt`).
+
+mod diacritics;
+mod elements;
+mod jamo;
+mod noted;
+mod offsets;
+mod own;
+mod reordering;
+mod rules;
+mod special_primaries;
+mod spelled;
+mod words;
+
+pub(crate) use diacritics::are_sound_diacritics;
+pub(crate) use jamo::jamo_fault;
+pub(crate) use own::own_primary;
+pub(crate) use reordering::has_sound_reordering;
+pub(crate) use special_primaries::are_sound_special_primaries;
+pub(crate) use words::is_sound_word;
