@@ -1,3 +1,4 @@
 -- The check of tables: contexts, lists and tests one after another.
+pub mod KeyLemmas
 pub mod ListLemmas
 pub mod TestLemmas

@@ -14,3 +14,4 @@ pub mod WordForms
 pub mod WordPlaces
 pub mod TableFaults
 pub mod ContextRules
+pub mod KeyTexts

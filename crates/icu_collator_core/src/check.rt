@@ -4,8 +4,10 @@ pub(crate) mod characters;
 pub(crate) mod contexts;
 pub(crate) mod fields;
 pub(crate) mod forms;
+pub(crate) mod keys;
 pub(crate) mod layers;
 pub(crate) mod places;
+pub(crate) mod texts;
 
 use std::error::Error;
 use std::fmt;
