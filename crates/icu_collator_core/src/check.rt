@@ -6,6 +6,7 @@ pub(crate) mod fields;
 pub(crate) mod forms;
 pub(crate) mod keys;
 pub(crate) mod layers;
+pub(crate) mod marks;
 pub(crate) mod places;
 pub(crate) mod texts;
 
