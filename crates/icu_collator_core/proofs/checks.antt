@@ -3,3 +3,4 @@ pub mod KeyLemmas
 pub mod ListLemmas
 pub mod MarkLemmas
 pub mod TestLemmas
+pub mod WalkLemmas

@@ -9,6 +9,7 @@ pub(crate) mod layers;
 pub(crate) mod marks;
 pub(crate) mod places;
 pub(crate) mod texts;
+pub(crate) mod walks;
 
 use std::error::Error;
 use std::fmt;

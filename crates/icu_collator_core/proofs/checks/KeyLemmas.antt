@@ -127,7 +127,7 @@ spelled : (c : ℕ) (rest : Option (List ℕ)) (cs : List ℕ) → option_map (�
 spelled c None cs e = absurd (none-some cs e)
 spelled c (Some xs) cs e = subst (λ ys. 0 < length ys) (ap (λ o. unwrap_or o []) e) (omega arith)
 
-branched : (b d : Bool) (x y : Option (List ℕ)) (cs : List ℕ) → cond b (cond d x None) y ≡ Some cs → (x ≡ Some cs) ⊎ (y ≡ Some cs)
+pub branched : (b d : Bool) (x y : Option (List ℕ)) (cs : List ℕ) → cond b (cond d x None) y ≡ Some cs → (x ≡ Some cs) ⊎ (y ≡ Some cs)
 branched true true x y cs e = inl e
 branched true false x y cs e = absurd (none-some cs e)
 branched false d x y cs e = inr e
