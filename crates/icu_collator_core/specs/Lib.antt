@@ -19,3 +19,4 @@ pub mod ReorderingTests
 pub mod SpelledTests
 pub mod WordWeights
 pub mod PrefixFaults
+pub mod KeyTexts

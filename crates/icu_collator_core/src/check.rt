@@ -4,8 +4,12 @@ pub(crate) mod characters;
 pub(crate) mod contexts;
 pub(crate) mod fields;
 pub(crate) mod forms;
+pub(crate) mod keys;
 pub(crate) mod layers;
+pub(crate) mod marks;
 pub(crate) mod places;
+pub(crate) mod texts;
+pub(crate) mod walks;
 pub(crate) mod weights;
 
 use std::error::Error;

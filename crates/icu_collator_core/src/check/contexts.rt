@@ -27,7 +27,10 @@ pub(super) fn default_of(source: &CollationData<'_>, word: u32) -> u32
 }
 
 /// The units of the trie of the context at a place, and all behind it; `None` past the end.
-fn trie_of<'c>(contexts: &'c PackedVec<'_, u16>, place: usize) -> Option<PackedVec<'c, u16>>
+pub(super) fn trie_of<'c>(
+    contexts: &'c PackedVec<'_, u16>,
+    place: usize,
+) -> Option<PackedVec<'c, u16>>
     requires { place < 2 ^ 32 }
     ensures { MatchOption result (trie_of contexts.now place ≡ []) (λ units. units ≡ trie_of contexts.now place) }
 {
