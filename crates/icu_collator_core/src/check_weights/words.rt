@@ -53,11 +53,7 @@ fn are_sound_elements(
 }
 
 /// The same of the element that a word states, if it states one.
-fn is_sound_stated(
-    special: &CollationSpecialPrimaries<'_>,
-    own: Option<u32>,
-    word: u32,
-) -> bool
+fn is_sound_stated(special: &CollationSpecialPrimaries<'_>, own: Option<u32>, word: u32) -> bool
     ensures { result ≡ elim (option_map (λ e. e ∷ []) (stated_element word)) [ Some es ↦ are_sound_spelled special.now own es | None ↦ true ] }
 {
     match stated_element(word) {
