@@ -53,11 +53,7 @@ fn are_sound_elements(
 }
 
 /// The same of the element that a word states, if it states one.
-fn is_sound_stated(
-    special: &CollationSpecialPrimaries<'_>,
-    own: Option<u32>,
-    word: u32,
-) -> bool
+fn is_sound_stated(special: &CollationSpecialPrimaries<'_>, own: Option<u32>, word: u32) -> bool
     ensures { result ≡ elim (option_map (λ e. e ∷ []) (stated_element word)) [ Some es ↦ are_sound_spelled special.now own es | None ↦ true ] }
 {
     match stated_element(word) {
@@ -76,7 +72,8 @@ fn entry_at(ces: &PackedVec<'_, u64>, place: usize) -> u64
     }
 }
 
-/// Whether what a word says of a character keeps the rules, or is the element that the character has by itself.
+/// Whether what a word says of a character keeps the rules, or is the element that the character has by itself; the
+/// primary of that one is given where it may stand.
 #[tactic(auto, unfolding(crate::specs::Pools::elements_of_word, crate::specs::WeightFaults::is_sound_word))]
 pub(crate) fn is_sound_word(
     special: &CollationSpecialPrimaries<'_>,
