@@ -29,8 +29,7 @@ fn is_primary_element(primary: u32, element: Element) -> bool
         && element.quaternary == 0
 }
 
-/// Whether an element is the one that a character has by itself, by its primary there; where there is none, no element
-/// is.
+/// Whether an element is the one that a character has by itself, by its primary; `None` where that may not stand.
 pub(super) fn is_own_element(own: Option<u32>, element: Element) -> bool
     ensures { result ≡ is_own_element own element }
 {

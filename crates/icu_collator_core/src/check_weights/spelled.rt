@@ -10,8 +10,7 @@ use super::rules::is_sound_spelled;
 use crate::tables::CollationSpecialPrimaries;
 use icu_collator_types::elements::Element;
 
-/// What is known of the elements that were read, with the primary that the character has by itself where that one
-/// may stand.
+/// What is known of the elements that were read.
 #[derive(Clone, Copy, Debug)]
 pub(super) struct Spelled {
     /// There was none.

@@ -72,7 +72,8 @@ fn entry_at(ces: &PackedVec<'_, u64>, place: usize) -> u64
     }
 }
 
-/// Whether what a word says of a character keeps the rules, or is the element that the character has by itself.
+/// Whether what a word says of a character keeps the rules, or is the element that the character has by itself; the
+/// primary of that one is given where it may stand.
 #[tactic(auto, unfolding(crate::specs::Pools::elements_of_word, crate::specs::WeightFaults::is_sound_word))]
 pub(crate) fn is_sound_word(
     special: &CollationSpecialPrimaries<'_>,
