@@ -8,6 +8,7 @@ pub(crate) mod keys;
 pub(crate) mod layers;
 pub(crate) mod marks;
 pub(crate) mod places;
+pub(crate) mod suffixes;
 pub(crate) mod texts;
 pub(crate) mod walks;
 pub(crate) mod weights;
