@@ -1,5 +1,5 @@
-mod Cursors
+pub mod Cursors
 mod Grammar
-mod Reading
+pub mod Reading
 mod Pairs
 pub mod Writing

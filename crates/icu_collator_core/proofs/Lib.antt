@@ -2,6 +2,8 @@ pub mod numbers
 pub mod readings
 pub mod weights
 pub mod checks
+pub mod meaning
+pub mod lookups
 pub mod NumberExamples
 mod TableExamples
 mod TableFaultExamples

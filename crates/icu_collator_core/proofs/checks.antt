@@ -1,6 +1,9 @@
 -- The check of tables: contexts, lists and tests one after another.
+pub mod ContextLemmas
 pub mod KeyLemmas
+pub mod FlagLemmas
 pub mod ListLemmas
+pub mod LookupLemmas
 pub mod MarkLemmas
 pub mod TestLemmas
 pub mod WalkLemmas

@@ -97,11 +97,10 @@ KeysPass passes units =
     IsUnitTrie units × ((key : List ℕ) (number : ℤ) → MapsKey units (at_node 0) key number
     → (cs : List ℕ) × (characters_of_units key ≡ Some cs) × IsTrue (passes cs))
 
--- some key of a unit trie is characters that pass a test
+-- Some key of a unit trie is characters that pass a test: it is not so that none is. Of units that keep the grammar, with
+-- keys of whole characters, that is: some key passes.
 abbrev pub SomeKeyPasses : (List ℕ → Bool) → List ℕ → Type 0
-SomeKeyPasses passes units =
-    (key : List ℕ) × (number : ℤ) × (cs : List ℕ)
-    × MapsKey units (at_node 0) key number × (characters_of_units key ≡ Some cs) × IsTrue (passes cs)
+SomeKeyPasses passes units = KeysPass (λ cs. not (passes cs)) units → ⊥
 
 -- the flags of a contraction
 abbrev pub has_flag : ℕ → ℕ → Bool

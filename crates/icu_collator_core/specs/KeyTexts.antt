@@ -1,8 +1,7 @@
 -- The characters that keys of contexts spell, of which at most seven are read.
-use Rattle.std.specs.Prelude.{◌≡◌, ℕ, ℤ, ◌+◌, ◌<◌, ◌≤◌, Bool, false, cond, ◌&&◌, leb, ltb, List, ◌∷◌, length, take, drop, Some, None, option_map}
-use Rattle.icu_normalizer_core.specs.Canonical.{Canonical}
+use Rattle.std.specs.Prelude.{◌≡◌, ℕ, ℤ, ◌+◌, ◌<◌, ◌≤◌, Bool, false, cond, ltb, List, ◌∷◌, length, take, drop, Some, None, option_map}
 use Rattle.icu_collator_core.specs.declared.check.texts.KeyText.{KeyText}
-use Rattle.icu_collator_core.specs.ContextRules.{characters_of_units, has_marks_last, longest_suffix}
+use Rattle.icu_collator_core.specs.ContextRules.{characters_of_units, longest_suffix}
 
 -- the characters of a text that was read
 abbrev pub text_items : KeyText → List ℕ
@@ -25,7 +24,3 @@ HasNoText key = (cs : List ℕ) → characters_of_units key ≡ Some cs → long
 -- a test of the characters of keys; a key that is not whole characters fails
 abbrev pub by_text : (List ℕ → Bool) → List ℕ → ℤ → Bool
 by_text passes key number = elim (characters_of_units key) [ Some cs ↦ passes cs | None ↦ false ]
-
--- at most seven characters, in which, behind a character, only marks stand after a mark
-abbrev pub is_ordered_suffix : Canonical → ℕ → List ℕ → Bool
-is_ordered_suffix canonical c suffix = leb (length suffix) longest_suffix && has_marks_last canonical (c ∷ suffix)

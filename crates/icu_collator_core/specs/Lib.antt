@@ -20,3 +20,7 @@ pub mod SpelledTests
 pub mod WordWeights
 pub mod PrefixFaults
 pub mod KeyTexts
+pub mod ContextFaults
+pub mod Acceptance
+pub mod ReadWords
+pub mod ReadTexts

@@ -63,12 +63,9 @@ IsRangedIn source p =
 abbrev pub IsRanged : CollationTables → ℕ → Type 0
 IsRanged tables p = IsRangedIn tables.root p ⊎ MatchOption tables.tailoring ⊥ (λ source. IsRangedIn source p)
 
--- ## The fault
+-- ## The rule
 
 -- no weight's bytes begin another's on its level, and a lead of ranges has no primaries but of three bytes
 pub record AreWeightsApart (tables : CollationTables) : Type 0 where
   pub apart : AreApart (IsSpelled tables)
   pub beside : (p : ℕ) (e : Element) → IsRanged tables p → IsSpelled tables e → is_beside_ranged p e ≡ true
-
-abbrev pub OffendsPrefix : CollationTables → Type 0
-OffendsPrefix tables = AreWeightsApart tables → ⊥

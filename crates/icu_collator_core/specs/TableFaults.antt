@@ -3,7 +3,8 @@
 use Rattle.std.specs.Prelude.{ℕ, ◌⊎◌, true, List, ◌++◌, codes, IsTrue, IfSome, MatchOption}
 use Rattle.std.specs.Fmt.{decimal, digits}
 use Rattle.icu_codepointtrie.specs.Places.{has_cell}
-use Rattle.icu_normalizer_core.specs.CanonicalFaults.{NoneOffends, IsLeastOffender}
+use Rattle.std.specs.Char.{IsScalar}
+use Rattle.icu_normalizer_core.specs.CanonicalFaults.{IsLeastOffender}
 use Rattle.icu_collator_core.specs.declared.check.TableFault.{TableFault}
 use Rattle.icu_collator_core.specs.declared.check.TableFault.TheVariants.{Trie, Word, Index, Context, Weight, PrefixOfWeight, Diacritics, Jamo, Reordering, SpecialPrimaries, Memory}
 use Rattle.icu_collator_core.specs.declared.check.layers.Layer.{Layer}
@@ -28,34 +29,33 @@ fault_text Reordering = codes "bad reordering"
 fault_text SpecialPrimaries = codes "bad special primaries"
 fault_text Memory = codes "out of memory"
 
--- no character offends, in the root or in the tailoring
-abbrev pub NoneOffendsIn : CollationTables → (Layer → CollationData → ℕ → Type 0) → Type 0
-NoneOffendsIn tables Offends =
-    NoneOffends (Offends Root tables.root) × IfSome tables.tailoring (λ source. NoneOffends (Offends Tailoring source))
+-- every character passes
+abbrev pub AllPass : (ℕ → Type 0) → Type 0
+AllPass Passes = (c : ℕ) → IsScalar c → Passes c
 
--- the least character that offends in the root, or, where none does there, in the tailoring
-abbrev pub IsFirstOffender : CollationTables → (Layer → CollationData → ℕ → Type 0) → ℕ → Type 0
-IsFirstOffender tables Offends c =
-    IsLeastOffender (Offends Root tables.root) c
-    ⊎ (NoneOffends (Offends Root tables.root) × MatchOption tables.tailoring ⊥ (λ source. IsLeastOffender (Offends Tailoring source) c))
+-- the least character that doesn't
+abbrev pub IsLeastRefused : (ℕ → Type 0) → ℕ → Type 0
+IsLeastRefused Passes c = IsLeastOffender (λ d. Passes d → ⊥) c
 
--- no word
+-- every character passes, in the root and in the tailoring
+abbrev pub AllPassIn : CollationTables → (Layer → CollationData → ℕ → Type 0) → Type 0
+AllPassIn tables Passes =
+    AllPass (Passes Root tables.root) × IfSome tables.tailoring (λ source. AllPass (Passes Tailoring source))
+
+-- the least character that doesn't pass in the root, or, where all do there, in the tailoring
+abbrev pub IsFirstRefused : CollationTables → (Layer → CollationData → ℕ → Type 0) → ℕ → Type 0
+IsFirstRefused tables Passes c =
+    IsLeastRefused (Passes Root tables.root) c
+    ⊎ (AllPass (Passes Root tables.root) × MatchOption tables.tailoring ⊥ (λ source. IsLeastRefused (Passes Tailoring source) c))
+
+-- there is a word
 abbrev pub HasCell : Layer → CollationData → ℕ → Type 0
 HasCell layer source c = IsTrue (has_cell source.trie c)
 
-abbrev pub OffendsTrie : Layer → CollationData → ℕ → Type 0
-OffendsTrie layer source c = HasCell layer source c → ⊥
-
--- a word of none of the forms
+-- the word has one of the forms
 abbrev pub HasWord : Layer → CollationData → ℕ → Type 0
 HasWord layer source c = IsTrue (keeps_special c (word_at source c)) × IsWord layer (pools_of source) (word_at source c)
 
-abbrev pub OffendsWord : Layer → CollationData → ℕ → Type 0
-OffendsWord layer source c = HasWord layer source c → ⊥
-
--- a place outside the lists
+-- what the word names is in the lists
 abbrev pub HasPlaces : Layer → CollationData → ℕ → Type 0
 HasPlaces layer source c = IsInside (pools_of source) (word_at source c)
-
-abbrev pub OffendsIndex : Layer → CollationData → ℕ → Type 0
-OffendsIndex layer source c = HasPlaces layer source c → ⊥

@@ -21,6 +21,3 @@ HasSoundWords special_primaries pools c word =
 -- the words that data have for a character do
 abbrev pub HasWeights : CollationSpecialPrimaries → Layer → CollationData → ℕ → Type 0
 HasWeights special_primaries layer source c = HasSoundWords special_primaries (pools_of source) c (word_at source c)
-
-abbrev pub OffendsWeight : CollationSpecialPrimaries → Layer → CollationData → ℕ → Type 0
-OffendsWeight special_primaries layer source c = HasWeights special_primaries layer source c → ⊥

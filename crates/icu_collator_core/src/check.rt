@@ -1,18 +1,24 @@
 //! The check of collation tables: a function for each kind of fault.
 
 pub(crate) mod characters;
+pub(crate) mod context_rules;
 pub(crate) mod contexts;
+pub(crate) mod digits;
 pub(crate) mod fields;
+pub(crate) mod flags;
 pub(crate) mod forms;
 pub(crate) mod keys;
 pub(crate) mod layers;
 pub(crate) mod marks;
 pub(crate) mod places;
+pub(crate) mod prefixes;
+pub(crate) mod records;
 pub(crate) mod suffixes;
 pub(crate) mod texts;
 pub(crate) mod walks;
 pub(crate) mod weights;
 
+use std::alloc::AllocError;
 use std::error::Error;
 use std::fmt;
 
@@ -69,3 +75,14 @@ impl fmt::Display for TableFault {
 }
 
 impl Error for TableFault {}
+
+impl From<AllocError> for TableFault {
+    ghost use Rattle.std.specs.Prelude.{◌≡◌};
+    ghost use Rattle.icu_collator_core.specs.declared.check.TableFault.TheVariants.{Memory};
+
+    ghost from_gives = { λ _ error. error ≡ Memory };
+
+    fn from(_: AllocError) -> TableFault {
+        TableFault::Memory
+    }
+}

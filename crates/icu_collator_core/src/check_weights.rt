@@ -2,20 +2,20 @@
 //! (`specs/WeightFaults.antt`).
 
 mod diacritics;
-mod elements;
+pub(crate) mod elements;
 mod jamo;
 mod noted;
-mod offsets;
+pub(crate) mod offsets;
 mod own;
 mod reordering;
 mod rules;
 mod special_primaries;
 mod spelled;
-mod words;
+pub(crate) mod words;
 
 pub(crate) use diacritics::are_sound_diacritics;
 pub(crate) use jamo::jamo_fault;
 pub(crate) use own::own_primary;
 pub(crate) use reordering::has_sound_reordering;
 pub(crate) use special_primaries::are_sound_special_primaries;
-pub(crate) use words::is_sound_word;
+pub(crate) use words::{has_other_elements, is_sound_word};

@@ -7,6 +7,8 @@ mod check_weights;
 pub mod elements;
 pub mod laws;
 pub mod laws_same;
+pub mod laws_tables;
 pub mod laws_texts;
 pub mod provider;
+mod reading;
 pub mod tables;

@@ -14,10 +14,10 @@ use Rattle.icu_collator_core.specs.ReorderingTests.{AreAllApart, AreAlike, AreSt
 led_rest : (lead p : ℕ) → led_by lead p % 2 ^ 24 ≡ p % 2 ^ 24
 led_rest lead p = omega arith
 
-led_lead : (lead p : ℕ) → led_by lead p / 2 ^ 24 ≡ lead
+pub led_lead : (lead p : ℕ) → led_by lead p / 2 ^ 24 ≡ lead
 led_lead lead p = omega arith
 
-rest_stays : (reordering : CollationReordering) (p : ℕ) → reordered_by reordering p % 2 ^ 24 ≡ p % 2 ^ 24
+pub rest_stays : (reordering : CollationReordering) (p : ℕ) → reordered_by reordering p % 2 ^ 24 ≡ p % 2 ^ 24
 unfolding reordered_by
 rest_stays reordering p =
     elim (slice_get reordering.reorder_table (p / 2 ^ 24)) as (λ o. elim o [ Some byte ↦ cond (byte == 0) (without_byte reordering p) (led_by byte p) | None ↦ p ] % 2 ^ 24 ≡ p % 2 ^ 24) [

@@ -11,7 +11,8 @@ use Rattle.icu_collator_types.specs.declared.elements.Element.{Element}
 use Rattle.icu_collator_core.specs.declared.check_weights.spelled.Spelled.{Spelled}
 use Rattle.icu_collator_core.specs.declared.tables.special_primaries.CollationSpecialPrimaries.{CollationSpecialPrimaries}
 use Rattle.icu_collator_core.specs.Pools.{element_of, stated_element}
-use Rattle.icu_collator_core.specs.WeightFaults.{are_sound_spelled, is_own_alone, is_own_element, is_sound_spelled}
+use Rattle.icu_collator_core.specs.WeightFaults.{are_sound_spelled, is_own_alone, is_own_element, is_primary_element, is_sound_spelled}
+use Rattle.icu_collator_core.specs.TableMeaning.{is_primary_alone}
 use Rattle.icu_collator_core.specs.SpelledTests.{if_any, nothing_read, passes, with_bits, with_element, with_word}
 
 and_true : (b : Bool) → (b && true) ≡ b
@@ -67,6 +68,26 @@ pub elements_read : (special : CollationSpecialPrimaries) (own : Option ℕ) (it
     → passes (fold (with_bits special own) nothing_read items) ≡ are_sound_spelled special own (map element_of items)
 elements_read special own items =
     ap (λ seen. passes seen) (sym (fold-map (with_element special own) element_of nothing_read items)) ∙ all_read special own (map element_of items)
+
+-- ---- The one element that the character has by itself
+
+own_alone : (p : ℕ) (es : List Element) → is_own_alone (Some p) es ≡ is_primary_alone p es
+unfolding is_primary_element
+own_alone p [] = refl
+own_alone p (e ∷ []) = refl
+own_alone p (e ∷ f ∷ es) = refl
+
+pub own_word_read : (special : CollationSpecialPrimaries) (p : ℕ) (words : List ℕ)
+    → (fold (with_word special (Some p)) nothing_read words).is_own ≡ is_primary_alone p (filter_map stated_element words)
+own_word_read special p words =
+    ap (λ seen. seen.is_own) (fold_filtered special (Some p) words nothing_read)
+    ∙ own_read special (Some p) (filter_map stated_element words) ∙ own_alone p (filter_map stated_element words)
+
+pub own_elements_read : (special : CollationSpecialPrimaries) (p : ℕ) (items : List ℕ)
+    → (fold (with_bits special (Some p)) nothing_read items).is_own ≡ is_primary_alone p (map element_of items)
+own_elements_read special p items =
+    ap (λ seen. seen.is_own) (sym (fold-map (with_element special (Some p)) element_of nothing_read items))
+    ∙ own_read special (Some p) (map element_of items) ∙ own_alone p (map element_of items)
 
 -- one more number of a part of a list was read, if there was one
 pub one_more : (step : Spelled → ℕ → Spelled) (seen : Spelled) (xs : List ℕ) (place i : ℕ)

@@ -2,8 +2,7 @@
 
 ghost use Rattle.std.specs.Prelude.{◌≡◌, IfOk, MatchOption};
 ghost use Rattle.std.specs.Char.{IsScalar};
-ghost use Rattle.icu_normalizer_core.specs.CanonicalFaults.{NoneOffends, IsLeastOffender};
-ghost use Rattle.icu_collator_core.specs.TableFaults.{NoneOffendsIn, IsFirstOffender, OffendsTrie};
+ghost use Rattle.icu_collator_core.specs.TableFaults.{AllPass, AllPassIn, HasCell, IsFirstRefused, IsLeastRefused};
 
 use super::layers::Layer;
 use crate::tables::{CollationData, CollationTables};
@@ -56,8 +55,8 @@ fn first_refused_in<T: CharacterTest>(
     test: &T,
 ) -> Result<Option<char>, AllocError>
     ensures { IfOk result (λ found. MatchOption found
-        (NoneOffends (λ c. T.Passes test.now layer source.now c → ⊥))
-        (IsLeastOffender (λ c. T.Passes test.now layer source.now c → ⊥))) }
+        (AllPass (T.Passes test.now layer source.now))
+        (IsLeastRefused (T.Passes test.now layer source.now))) }
 {
     for code in 0..0x11_0000u32 {
         let found = refused_at(alloc, layer, source, code, test)?;
@@ -75,8 +74,8 @@ pub(crate) fn first_refused<T: CharacterTest>(
     test: &T,
 ) -> Result<Option<char>, AllocError>
     ensures { IfOk result (λ found. MatchOption found
-        (NoneOffendsIn tables.now (λ layer source c. T.Passes test.now layer source c → ⊥))
-        (IsFirstOffender tables.now (λ layer source c. T.Passes test.now layer source c → ⊥))) }
+        (AllPassIn tables.now (T.Passes test.now))
+        (IsFirstRefused tables.now (T.Passes test.now))) }
 {
     if let Some(c) = first_refused_in(alloc, Layer::Root, &tables.root, test)? {
         return Ok(Some(c));
@@ -115,7 +114,7 @@ pub(crate) fn first_trie_fault(
     alloc: Global,
     tables: &CollationTables<'_>,
 ) -> Result<Option<char>, AllocError>
-    ensures { IfOk result (λ found. MatchOption found (NoneOffendsIn tables.now OffendsTrie) (IsFirstOffender tables.now OffendsTrie)) }
+    ensures { IfOk result (λ found. MatchOption found (AllPassIn tables.now HasCell) (IsFirstRefused tables.now HasCell)) }
 {
     let test = CellTest;
     let found = first_refused(alloc, tables, &test)?;

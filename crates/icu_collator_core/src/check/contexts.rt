@@ -20,14 +20,14 @@ fn default_word(contexts: &PackedVec<'_, u16>, place: usize) -> u32
 }
 
 /// The default of the context that a word names.
-pub(super) fn default_of(source: &CollationData<'_>, word: u32) -> u32
+pub(crate) fn default_of(source: &CollationData<'_>, word: u32) -> u32
     ensures { result ≡ default_of (pools_of source.now) word }
 {
     default_word(&source.contexts, index_of(word))
 }
 
 /// The units of the trie of the context at a place, and all behind it; `None` past the end.
-pub(super) fn trie_of<'c>(
+pub(crate) fn trie_of<'c>(
     contexts: &'c PackedVec<'_, u16>,
     place: usize,
 ) -> Option<PackedVec<'c, u16>>

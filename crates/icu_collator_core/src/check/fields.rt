@@ -46,14 +46,14 @@ pub(crate) fn length_of(word: u32) -> usize
 }
 
 /// The value of a digit.
-pub(super) fn digit_value(word: u32) -> u32
+pub(crate) fn digit_value(word: u32) -> u32
     ensures { result ≡ digit_value word }
 {
     (word >> 8) & 0xf
 }
 
 /// The word at a place of a list, 0 past the end.
-pub(super) fn word_at(ce32s: &PackedVec<'_, u32>, place: usize) -> u32
+pub(crate) fn word_at(ce32s: &PackedVec<'_, u32>, place: usize) -> u32
     ensures { result ≡ slice_index ce32s.now place }
 {
     match ce32s.get(place) {

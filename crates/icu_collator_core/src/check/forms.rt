@@ -3,7 +3,7 @@
 ghost use Rattle.std.specs.Prelude.{◌≡◌, ◌+◌, ◌^◌, ◌<◌, ◌↔◌, IsTrue, IfOk, MatchOption};
 ghost use Rattle.std.specs.List.{list_all};
 ghost use Rattle.icu_normalizer_core.specs.CanonicalWords.{items_at};
-ghost use Rattle.icu_collator_core.specs.TableFaults.{NoneOffendsIn, IsFirstOffender, OffendsWord};
+ghost use Rattle.icu_collator_core.specs.TableFaults.{AllPassIn, HasWord, IsFirstRefused};
 ghost use Rattle.icu_collator_core.specs.TableMeaning.{pools_of};
 ghost use Rattle.icu_collator_core.specs.WordForms.{states_element, is_list_of_words, is_other_own, is_own_word, is_digit_word, is_fallback, ValuesPass, IsContraction, IsUnprefixed, IsPrefixed, IsWord, states_primary, keeps_special};
 
@@ -232,7 +232,7 @@ pub(crate) fn first_word_fault(
     alloc: Global,
     tables: &CollationTables<'_>,
 ) -> Result<Option<char>, AllocError>
-    ensures { IfOk result (λ found. MatchOption found (NoneOffendsIn tables.now OffendsWord) (IsFirstOffender tables.now OffendsWord)) }
+    ensures { IfOk result (λ found. MatchOption found (AllPassIn tables.now HasWord) (IsFirstRefused tables.now HasWord)) }
 {
     let test = WordTest;
     let found = first_refused(alloc, tables, &test)?;

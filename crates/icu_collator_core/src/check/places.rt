@@ -1,7 +1,7 @@
 //! Words of characters that name what is not in the lists.
 
 ghost use Rattle.std.specs.Prelude.{◌≡◌, ◌↔◌, IsTrue, IfOk, MatchOption};
-ghost use Rattle.icu_collator_core.specs.TableFaults.{NoneOffendsIn, IsFirstOffender, OffendsIndex};
+ghost use Rattle.icu_collator_core.specs.TableFaults.{AllPassIn, HasPlaces, IsFirstRefused};
 ghost use Rattle.icu_collator_core.specs.TableMeaning.{pools_of};
 ghost use Rattle.icu_collator_core.specs.WordForms.{ValuesPass};
 ghost use Rattle.icu_collator_core.specs.WordPlaces.{has_list, has_items, has_digit_word, has_context, IsContractionInside, IsUnprefixedInside, IsPrefixInside, IsInside};
@@ -179,7 +179,7 @@ pub(crate) fn first_index_fault(
     alloc: Global,
     tables: &CollationTables<'_>,
 ) -> Result<Option<char>, AllocError>
-    ensures { IfOk result (λ found. MatchOption found (NoneOffendsIn tables.now OffendsIndex) (IsFirstOffender tables.now OffendsIndex)) }
+    ensures { IfOk result (λ found. MatchOption found (AllPassIn tables.now HasPlaces) (IsFirstRefused tables.now HasPlaces)) }
 {
     let test = PlaceTest;
     let found = first_refused(alloc, tables, &test)?;

@@ -1,55 +1,60 @@
-//! Texts that stand behind a character: where their marks stand.
+//! Texts that stand behind a character.
 
 ghost use Rattle.std.specs.Prelude.{◌≡◌, ◌^◌, ◌<◌, ◌↔◌, IsTrue, IfOk};
 ghost use Rattle.icu_normalizer_core.specs.BorrowedMeaning.{borrowed_meaning};
-ghost use Rattle.icu_collator_core.specs.ContextRules.{KeysPass};
-ghost use Rattle.icu_collator_core.specs.KeyTexts.{is_ordered_suffix};
+ghost use Rattle.icu_collator_core.specs.ContextFaults.{entry_in};
+ghost use Rattle.icu_collator_core.specs.ContextRules.{KeysPass, is_suffix};
 ghost use Rattle.icu_collator_core.specs.Pools.{trie_of};
 
-use super::marks::has_marks_last;
+use super::records::is_suffix;
 use super::texts::KeyText;
 use super::walks::{TextTest, keys_pass};
+use crate::tables::CollationData;
 use icu_normalizer_core::canonical::CanonicalBorrowed;
-use icu_packed_vector::PackedVec;
 use std::alloc::{AllocError, Global};
 
-/// The test for suffixes in which only marks stand after a mark.
+/// The test for suffixes of a character.
 #[derive(Drop)]
-struct OrderedSuffix<'d> {
+struct SuffixTest<'d, 'a> {
     canonical: CanonicalBorrowed<'d>,
+    source: &'d CollationData<'a>,
     character: char,
+    word: u32,
 }
 
-impl<'d> TextTest for OrderedSuffix<'d> {
+impl<'d, 'a> TextTest for SuffixTest<'d, 'a> {
     ghost use Rattle.std.proofs.Common.{rules};
     ghost use Rattle.icu_normalizer_core.specs.BorrowedMeaning.{borrowed_meaning};
-    ghost use Rattle.icu_collator_core.specs.KeyTexts.{is_ordered_suffix};
+    ghost use Rattle.icu_collator_core.specs.ContextFaults.{entry_in};
+    ghost use Rattle.icu_collator_core.specs.ContextRules.{is_suffix};
 
-    ghost test = { λ suffix. is_ordered_suffix (borrowed_meaning suffix.canonical) suffix.character };
+    ghost test = { λ suffixes. is_suffix (borrowed_meaning suffixes.canonical) (entry_in suffixes.source.now suffixes.word) suffixes.character };
 
     fn passes(&self, text: &KeyText) -> bool {
-        text.count <= 7 && has_marks_last(self.canonical, self.character, text)
+        is_suffix(self.canonical, self.source, self.character, self.word, text)
     }
 
-    ghost short = { λ suffix cs e. Prim.search rules };
+    ghost short = { λ suffixes cs e. Prim.search rules };
 }
 
-/// Whether all keys of the context at a place are suffixes of a character, at most seven characters each, in which only
-/// marks stand after a mark. Fails only when out of memory.
-pub(super) fn are_suffixes_ordered(
+/// Whether all keys of the context at a place are suffixes of a character, by its word. Fails only when out of memory.
+pub(super) fn are_suffixes(
     alloc: Global,
-    contexts: &PackedVec<'_, u16>,
-    place: usize,
     canonical: CanonicalBorrowed<'_>,
+    source: &CollationData<'_>,
     c: char,
+    word: u32,
+    place: usize,
 ) -> Result<bool, AllocError>
     requires { place < 2 ^ 32 }
-    ensures { IfOk result (λ all. IsTrue all ↔ KeysPass (is_ordered_suffix (borrowed_meaning canonical.entry) c) (trie_of contexts.now place)) }
+    ensures { IfOk result (λ all. IsTrue all ↔ KeysPass (is_suffix (borrowed_meaning canonical.entry) (entry_in source.now word) c) (trie_of source.now.contexts place)) }
 {
-    let test = OrderedSuffix {
+    let test = SuffixTest {
         canonical,
+        source,
         character: c,
+        word,
     };
-    let all = keys_pass(alloc, contexts, place, &test)?;
+    let all = keys_pass(alloc, &source.contexts, place, &test)?;
     Ok(all)
 }

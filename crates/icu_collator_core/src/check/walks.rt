@@ -50,7 +50,7 @@ impl<'t, T: TextTest> EntryTest for KeyTest<'t, T> {
 }
 
 /// The units of the trie of the context at a place, and all behind it.
-fn units_of<'c>(contexts: &'c PackedVec<'_, u16>, place: usize) -> PackedVec<'c, u16>
+pub(crate) fn units_of<'c>(contexts: &'c PackedVec<'_, u16>, place: usize) -> PackedVec<'c, u16>
     requires { place < 2 ^ 32 }
     ensures { result ≡ trie_of contexts.now place }
 {

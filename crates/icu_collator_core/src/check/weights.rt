@@ -3,11 +3,11 @@
 ghost use Rattle.std.specs.Prelude.{◌≡◌, ◌↔◌, IsTrue, IfOk, MatchOption};
 ghost use Rattle.icu_collator_types.specs.ElementWords.{has_tag};
 ghost use Rattle.icu_collator_core.specs.Pools.{lone_word, unprefixed_word};
-ghost use Rattle.icu_collator_core.specs.TableFaults.{NoneOffendsIn, IsFirstOffender};
+ghost use Rattle.icu_collator_core.specs.TableFaults.{AllPassIn, IsFirstRefused};
 ghost use Rattle.icu_collator_core.specs.TableMeaning.{pools_of};
 ghost use Rattle.icu_collator_core.specs.WeightFaults.{is_sound_in_context};
 ghost use Rattle.icu_collator_core.specs.WordForms.{ValuesPass};
-ghost use Rattle.icu_collator_core.specs.WordWeights.{HasSoundWords, OffendsWeight};
+ghost use Rattle.icu_collator_core.specs.WordWeights.{HasSoundWords, HasWeights};
 
 use super::characters::{CharacterTest, first_refused};
 use super::contexts::{default_of, entries_pass};
@@ -21,7 +21,7 @@ use std::alloc::{AllocError, Global};
 
 /// The word where no prefix counts.
 #[tactic(auto, unfolding(crate::specs::Pools::unprefixed_word))]
-fn unprefixed_word(source: &CollationData<'_>, word: u32) -> u32
+pub(crate) fn unprefixed_word(source: &CollationData<'_>, word: u32) -> u32
     ensures { result ≡ unprefixed_word (pools_of source.now) word }
 {
     if has_tag(word, Tag::Prefix) {
@@ -33,7 +33,7 @@ fn unprefixed_word(source: &CollationData<'_>, word: u32) -> u32
 
 /// The word where nothing stands before or behind, and not read as a digit.
 #[tactic(auto, unfolding(crate::specs::Pools::lone_word))]
-fn lone_word(source: &CollationData<'_>, word: u32) -> u32
+pub(crate) fn lone_word(source: &CollationData<'_>, word: u32) -> u32
     ensures { result ≡ lone_word (pools_of source.now) word }
 {
     let unprefixed = unprefixed_word(source, word);
@@ -159,7 +159,7 @@ pub(crate) fn first_weight_fault(
     alloc: Global,
     tables: &CollationTables<'_>,
 ) -> Result<Option<char>, AllocError>
-    ensures { IfOk result (λ found. MatchOption found (NoneOffendsIn tables.now (OffendsWeight tables.now.special_primaries)) (IsFirstOffender tables.now (OffendsWeight tables.now.special_primaries))) }
+    ensures { IfOk result (λ found. MatchOption found (AllPassIn tables.now (HasWeights tables.now.special_primaries)) (IsFirstRefused tables.now (HasWeights tables.now.special_primaries))) }
 {
     let test = WeightTest {
         special: &tables.special_primaries,

@@ -77,7 +77,7 @@ fn moved_by(bits: u64, c: u32) -> u32
 
 /// The primary of a character in a range, by the range's entry.
 #[tactic(auto, unfolding(crate::specs::Pools::offset_primary))]
-fn offset_primary(bits: u64, c: u32) -> u32
+pub(crate) fn offset_primary(bits: u64, c: u32) -> u32
     requires { c < 0x110000 }
     ensures { result ≡ offset_primary bits c }
 {

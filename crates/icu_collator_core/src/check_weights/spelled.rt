@@ -82,6 +82,13 @@ impl Spelled {
         }
     }
 
+    /// Whether there was one element, which the character has by itself.
+    pub(super) fn is_own(self) -> bool
+        ensures { result ≡ self.is_own }
+    {
+        self.is_own
+    }
+
     /// Whether the elements keep the rules, or are the one that the character has by itself.
     pub(super) fn passes(self) -> bool
         ensures { result ≡ passes self }

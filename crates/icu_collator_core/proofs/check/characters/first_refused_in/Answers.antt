@@ -25,6 +25,6 @@ loop-code-preserved g c =
     c.in_ok-found.found c.in_default.is c.in_ok-found.ensures)
 
 pub returns : goal.returns
-returns g c = λ d scalar refused.
+returns g c = λ d scalar.
     let bound : d < 0x110000 = scalar_below d scalar in
-    refused (c.loop-code.invariant d scalar (let end = c.loop-code-test.false in omega arith))
+    c.loop-code.invariant d scalar (let end = c.loop-code-test.false in omega arith)

@@ -2,7 +2,7 @@ use Rattle.std.proofs.Common.{◌∙◌, ap, take, drop}
 use Rattle.std.specs.Prelude.{fold}
 use Rattle.icu_collator_core.specs.SpelledTests.{if_any, nothing_read, with_bits}
 use Rattle.icu_collator_core.proofs.weights.SpelledLemmas.{one_more}
-use Rattle.icu_collator_core.proofs.check_weights.words.are_sound_elements.Goals as goal
+use Rattle.icu_collator_core.proofs.check_weights.words.read_elements.Goals as goal
 
 pub loop-i-preserved : goal.loop-i-preserved
 loop-i-preserved c =

@@ -1,0 +1,122 @@
+//! What the flags of a contraction say of its suffixes.
+
+ghost use Rattle.std.specs.Prelude.{◌≡◌, ◌^◌, ◌<◌, ◌↔◌, ◌&&◌, IsTrue, IfOk};
+ghost use Rattle.icu_normalizer_core.specs.BorrowedMeaning.{borrowed_meaning};
+ghost use Rattle.icu_collator_core.specs.ContextFaults.{agree, answer, is_short, short_answer};
+ghost use Rattle.icu_collator_core.specs.ContextRules.{AreFlagsTrue, KeysPass, has_flag};
+ghost use Rattle.icu_collator_core.specs.KeyTexts.{text_items};
+ghost use Rattle.icu_collator_core.specs.Pools.{trie_of};
+
+use super::marks::{begins_with_mark, ends_in_mark, holds_starter};
+use super::texts::KeyText;
+use super::walks::{TextTest, keys_pass};
+use icu_normalizer_core::canonical::CanonicalBorrowed;
+use icu_packed_vector::PackedVec;
+use std::alloc::{AllocError, Global};
+
+/// What is asked of each suffix.
+#[derive(Clone, Copy, Debug, PartialEq, Eq)]
+pub(super) enum Question {
+    /// Whether it begins with a mark.
+    BeginsWithMark,
+    /// Whether it doesn't end in one.
+    EndsInNoMark,
+    /// Whether there is no starter in it.
+    HoldsNoStarter,
+}
+
+/// The answer for a suffix.
+fn answer(canonical: CanonicalBorrowed<'_>, question: Question, text: &KeyText) -> bool
+    ensures { result ≡ answer (borrowed_meaning canonical.entry) question (text_items text.now) }
+{
+    match question {
+        Question::BeginsWithMark => begins_with_mark(canonical, text),
+        Question::EndsInNoMark => !ends_in_mark(canonical, text),
+        Question::HoldsNoStarter => !holds_starter(canonical, text),
+    }
+}
+
+/// The test for suffixes of which a question is answered yes.
+#[derive(Drop)]
+struct AnswerTest<'d> {
+    canonical: CanonicalBorrowed<'d>,
+    question: Question,
+}
+
+impl<'d> TextTest for AnswerTest<'d> {
+    ghost use Rattle.std.proofs.Common.{rules};
+    ghost use Rattle.icu_normalizer_core.specs.BorrowedMeaning.{borrowed_meaning};
+    ghost use Rattle.icu_collator_core.specs.ContextFaults.{short_answer};
+
+    ghost test = { λ asked. short_answer (borrowed_meaning asked.canonical) asked.question };
+
+    fn passes(&self, text: &KeyText) -> bool {
+        text.count <= 7 && answer(self.canonical, self.question, text)
+    }
+
+    ghost short = { λ asked cs e. Prim.search rules };
+}
+
+/// Whether a question is answered yes of all suffixes in the context at a place, which are no longer than seven
+/// characters. Fails only when out of memory.
+fn is_answered(
+    alloc: Global,
+    canonical: CanonicalBorrowed<'_>,
+    contexts: &PackedVec<'_, u16>,
+    place: usize,
+    question: Question,
+) -> Result<bool, AllocError>
+    requires { place < 2 ^ 32 }
+    ensures { IfOk result (λ all. IsTrue all ↔ KeysPass (short_answer (borrowed_meaning canonical.entry) question) (trie_of contexts.now place)) }
+{
+    let test = AnswerTest {
+        canonical,
+        question,
+    };
+    let all = keys_pass(alloc, contexts, place, &test)?;
+    Ok(all)
+}
+
+/// Whether a word has the flag of this bit.
+fn has_flag(word: u32, place: u32) -> bool
+    requires { place < 32 }
+    ensures { result ≡ has_flag place word }
+{
+    (word >> place) & 1 == 1
+}
+
+/// Whether a flag is set just where something is so.
+fn agree(flag: bool, fact: bool) -> bool
+    ensures { result ≡ agree flag fact }
+{
+    if flag { fact } else { !fact }
+}
+
+/// Whether the flags of a word are set just where all suffixes begin with a mark, one ends in one, and one holds a starter.
+fn are_flags_set(word: u32, all_begin: bool, one_ends: bool, one_holds: bool) -> bool
+    ensures { result ≡ (agree (has_flag 9 word) all_begin && (agree (has_flag 10 word) one_ends && agree (has_flag 11 word) one_holds)) }
+{
+    agree(has_flag(word, 9), all_begin)
+        && agree(has_flag(word, 10), one_ends)
+        && agree(has_flag(word, 11), one_holds)
+}
+
+/// Whether the flags of a contraction are true of the context at a place, where no suffix is too long. Fails only when
+/// out of memory.
+pub(super) fn are_flags_true(
+    alloc: Global,
+    canonical: CanonicalBorrowed<'_>,
+    contexts: &PackedVec<'_, u16>,
+    place: usize,
+    word: u32,
+) -> Result<bool, AllocError>
+    requires place { place < 2 ^ 32 }
+    requires short { KeysPass is_short (trie_of contexts.now place) }
+    ensures { IfOk result (λ yes. IsTrue yes ↔ AreFlagsTrue (borrowed_meaning canonical.entry) word (trie_of contexts.now place)) }
+{
+    let all_begin = is_answered(alloc, canonical, contexts, place, Question::BeginsWithMark)?;
+    let none_ends = is_answered(alloc, canonical, contexts, place, Question::EndsInNoMark)?;
+    let none_holds = is_answered(alloc, canonical, contexts, place, Question::HoldsNoStarter)?;
+    let yes = are_flags_set(word, all_begin, !none_ends, !none_holds);
+    Ok(yes)
+}
