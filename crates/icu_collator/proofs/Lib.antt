@@ -4,3 +4,4 @@ pub mod numbers
 pub mod readings
 pub mod orders
 pub mod equivalence
+pub mod tables

@@ -8,3 +8,4 @@ pub mod SoundCollation
 pub mod NumbersInTexts
 pub mod LevelOrders
 pub mod Sameness
+pub mod WholeLeads

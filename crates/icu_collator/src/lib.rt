@@ -6,3 +6,4 @@ pub mod laws;
 pub mod laws_keys;
 pub mod laws_levels;
 pub mod laws_same;
+pub mod laws_tables;

@@ -4,6 +4,7 @@ pub mod weights
 pub mod checks
 pub mod meaning
 pub mod lookups
+pub mod apart
 pub mod NumberExamples
 mod TableExamples
 mod TableFaultExamples

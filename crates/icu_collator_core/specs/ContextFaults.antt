@@ -35,30 +35,31 @@ answer canonical BeginsWithMark suffix = begins_with_mark canonical suffix
 answer canonical EndsInNoMark suffix = not (ends_in_mark canonical suffix)
 answer canonical HoldsNoStarter suffix = not (holds_starter canonical suffix)
 
--- a suffix that is no longer than it may be, and that besides
+-- a suffix that is no longer than it may be
 abbrev pub is_short : List ℕ → Bool
 is_short suffix = leb (length suffix) longest_suffix
 
+-- the same asked of such suffixes alone; a longer one fails
 abbrev pub short_answer : Canonical → Question → List ℕ → Bool
 short_answer canonical question suffix = is_short suffix && answer canonical question suffix
 
--- a flag is set just where something is so
+-- a flag is set just where a fact holds
 abbrev pub agree : Bool → Bool → Bool
 agree flag fact = cond flag fact (not fact)
 
 -- ## The rules, one after another
 
--- a digit may be one
+-- the word of a digit stands on a character that may be one
 abbrev pub keeps_digit_rule : Canonical → TableWord → ℕ → Bool
 keeps_digit_rule canonical entry c = not (has_tag Digit entry.word) || may_be_digit canonical entry c
 
--- a character with prefixes may have them, and all are prefixes
+-- a character with prefixes may have them, and all keys of their context are prefixes
 abbrev pub KeepsPrefixRules : Canonical → (ℕ → Option ℕ) → TableWord → ℕ → Type 0
 KeepsPrefixRules canonical digit entry c =
     IsTrue (has_tag Prefix entry.word)
     → IsTrue (may_have_prefix canonical digit entry c) × KeysPass (is_prefix canonical digit) (units_named entry entry.word)
 
--- all that stand behind a character are suffixes, and a word's flags are true of them
+-- all keys of a contraction are suffixes of the character, and its flags are true of them
 abbrev pub KeepsSuffixRules : Canonical → TableWord → ℕ → ℕ → Type 0
 KeepsSuffixRules canonical entry c word =
     IsTrue (has_tag Contraction word)

@@ -19,6 +19,7 @@ pub mod ReorderingTests
 pub mod SpelledTests
 pub mod WordWeights
 pub mod PrefixFaults
+pub mod WeightLists
 pub mod KeyTexts
 pub mod ContextFaults
 pub mod Acceptance

@@ -1,8 +1,10 @@
 -- Recorded texts that begin with a character, by what stands behind it.
-use Rattle.std.specs.Prelude.{ℕ, ◌+◌, cond, ltb, List, length, take, reverse, flat_map, Option, Some, None, option_map}
+use Rattle.std.specs.Prelude.{◌≡◌, ℕ, ◌+◌, cond, ltb, List, length, take, reverse, flat_map, Option, Some, None, option_map}
 use Rattle.std.specs.Int.{cast_unsigned, w32}
 use Rattle.std.specs.Option.{is_some, option_and_then, unwrap_or}
-use Rattle.icu_char16trie.specs.Cursors.{units_of, value_of_key}
+use Rattle.icu_char16trie.specs.Cursors.{cursor_state, cursor_units, follow, units_of, value_of_key}
+use Rattle.icu_char16trie.specs.UnitSteps.{start}
+use Rattle.icu_char16trie.specs.declared.Char16TrieIterator.{Char16TrieIterator}
 use Rattle.icu_collator_core.specs.declared.reading.suffixes.LongerText.{LongerText}
 use Rattle.icu_collator_core.specs.Elements.{at_greatest, longest_prefix}
 use Rattle.icu_collator_types.specs.declared.elements.word_tags.Tag.TheVariants.{Contraction, Prefix}
@@ -50,3 +52,16 @@ characters_before list place = take longest_prefix (reverse (take place list))
 unfoldable pub prefixed_by : TableWord → List ℕ → Option LongerText
 prefixed_by entry before =
     cond (has_tag Prefix entry.word) (longest_text entry.pools (trie_of entry.pools.contexts (index_of entry.word)) before) None
+
+-- the units of what may stand behind the character of a word
+abbrev pub suffix_units : TableWord → List ℕ
+suffix_units entry = trie_of entry.pools.contexts (index_of (unprefixed_word entry.pools entry.word))
+
+-- a cursor stands behind these characters
+pub record IsAtText (trie suffix : List ℕ) (cursor : Char16TrieIterator) : Type 0 where
+  pub reads : cursor_units cursor ≡ trie
+  pub stands : cursor_state cursor ≡ follow trie (start trie) (flat_map units_of suffix)
+
+-- a word that has elements
+unfoldable pub if_recorded : Pools → Option ℕ → Option ℕ
+if_recorded pools word = option_and_then (λ w. cond (is_some (elements_of_word pools w)) (Some w) None) word

@@ -7,6 +7,7 @@ use Rattle.icu_collator_types.specs.declared.elements.Element.{Element}
 use Rattle.icu_collator_core.specs.declared.reading.words.CountingWord.{CountingWord}
 use Rattle.icu_collator_core.specs.Weights.{Weights}
 use Rattle.icu_collator_core.specs.Defaults.{implicit_primary, jamo_primary, primary_element, special_primary}
+use Rattle.icu_collator_core.specs.Pools.{elements_of_word}
 use Rattle.icu_collator_core.specs.TableMeaning.{TableWord, digit_by, pools_of, ranged_by, recorded_by}
 
 -- a word with the lists of its data
@@ -28,3 +29,7 @@ default_by entry c =
 -- the elements of a character with nothing before or behind it
 unfoldable pub elements_alone_by : TableWord → ℕ → List Element
 elements_alone_by entry c = unwrap_or (recorded_by entry c [] []) (default_by entry c ∷ [])
+
+-- the elements of a word; where it has none, the character's own
+abbrev pub elements_spelled_by : TableWord → ℕ → ℕ → List Element
+elements_spelled_by entry c word = unwrap_or (elements_of_word entry.pools word) (default_by entry c ∷ [])

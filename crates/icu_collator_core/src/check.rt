@@ -1,9 +1,11 @@
 //! The check of collation tables: a function for each kind of fault.
 
+pub(crate) mod apart;
 pub(crate) mod characters;
 pub(crate) mod context_rules;
 pub(crate) mod contexts;
 pub(crate) mod digits;
+pub(crate) mod faults;
 pub(crate) mod fields;
 pub(crate) mod flags;
 pub(crate) mod forms;

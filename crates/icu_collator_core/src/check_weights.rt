@@ -2,7 +2,7 @@
 //! (`specs/WeightFaults.antt`).
 
 mod diacritics;
-pub(crate) mod elements;
+mod elements;
 mod jamo;
 mod noted;
 pub(crate) mod offsets;
@@ -11,11 +11,12 @@ mod reordering;
 mod rules;
 mod special_primaries;
 mod spelled;
-pub(crate) mod words;
+mod words;
 
 pub(crate) use diacritics::are_sound_diacritics;
+pub(crate) use elements::{element_of, stated_element};
 pub(crate) use jamo::jamo_fault;
 pub(crate) use own::own_primary;
 pub(crate) use reordering::has_sound_reordering;
 pub(crate) use special_primaries::are_sound_special_primaries;
-pub(crate) use words::{has_other_elements, is_sound_word};
+pub(crate) use words::{entry_at, has_other_elements, is_sound_word};

@@ -4,6 +4,7 @@
 
 pub mod check;
 mod check_weights;
+pub mod checked;
 pub mod elements;
 pub mod laws;
 pub mod laws_same;

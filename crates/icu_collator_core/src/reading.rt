@@ -2,6 +2,7 @@
 
 pub(crate) mod alone;
 pub(crate) mod elements;
+pub(crate) mod marks;
 pub(crate) mod prefixes;
 pub(crate) mod suffixes;
 pub(crate) mod words;

@@ -5,5 +5,11 @@
 #[cfg(test)]
 mod copies;
 #[cfg(test)]
+mod judged;
+#[cfg(test)]
+mod other_refusals;
+#[cfg(test)]
+mod refusals;
+#[cfg(test)]
 mod settings;
 pub mod tables;

@@ -5,6 +5,7 @@ use icu_collator_core::tables::{
     CollationData, CollationDiacritics, CollationJamo, CollationMetadata, CollationReordering,
     CollationSpecialPrimaries, CollationTables,
 };
+use icu_normalizer_core::canonical::{CanonicalData, CanonicalDataBuilder};
 use icu_packed_vector::PackedVec;
 use std::alloc::{AllocError, Global};
 
@@ -52,9 +53,29 @@ pub fn trie(
     words: &[(u32, u32)],
     other: u32,
 ) -> Option<CodePointTrie<'static, u32>> {
+    changed_trie(alloc, words, &[], other)
+}
+
+/// The same, with other words in the place of some.
+pub fn changed_trie(
+    alloc: Global,
+    words: &[(u32, u32)],
+    changes: &[(u32, u32)],
+    other: u32,
+) -> Option<CodePointTrie<'static, u32>> {
     let mut map = CodePointTrieBuilder::new(alloc, other, other, TrieType::Fast).ok()?;
     set_words(&mut map, words).ok()?;
+    set_words(&mut map, changes).ok()?;
     map.build(alloc).ok()
+}
+
+/// Canonical data in which the three marks have their classes; `None` where memory is refused.
+pub fn canonical(alloc: Global) -> Option<CanonicalData<'static>> {
+    let mut builder = CanonicalDataBuilder::new(alloc);
+    builder.class('\u{301}', 230).ok()?;
+    builder.class('\u{302}', 230).ok()?;
+    builder.class('\u{323}', 220).ok()?;
+    builder.build_data(alloc).ok()
 }
 
 /// Data of these words and lists; `None` where memory is refused.

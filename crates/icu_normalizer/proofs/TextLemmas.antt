@@ -132,7 +132,7 @@ utf8_first bytes (Some c) size char is some =
           ∙ ap (λ l. c ∷ lossy_chars l) left;
     }
 
--- one or two bytes that spell a character
+-- one, two or three bytes that spell a character
 spelled_first : (bytes rest : List ℕ) (c : ℕ) → IsScalar c → bytes ≡ encode_utf8 c ++ rest → BeginsWith encode_utf8_all (utf8_text bytes) c (utf8_text rest)
 spelled_first bytes rest c known e =
     let units = e ∙ ap (λ l. l ++ rest) (sym (append-nil (encode_utf8 c))) in
@@ -155,6 +155,27 @@ pub utf8_two : (bytes rest behind : List ℕ) (lead next c : ℕ) → bytes ≡ 
     → c ≡ (lead - 0xC0) * 0x40 + (next - 0x80) → BeginsWith encode_utf8_all (utf8_text bytes) c (utf8_text behind)
 utf8_two bytes rest behind lead next c e f a b d g is =
     spelled_first bytes behind c (low_scalar c (omega (arith, is, a, b, d, g))) (e ∙ ap (λ l. lead ∷ l) f ∙ ap (λ l. l ++ behind) (sym (two_bytes lead next c a b d g is)))
+
+three_bytes : (lead next last c : ℕ) → 0xE1 ≤ lead → lead < 0xED → 0x80 ≤ next → next < 0xC0 → 0x80 ≤ last → last < 0xC0
+    → c ≡ ((lead - 0xE0) * 0x40 + (next - 0x80)) * 0x40 + (last - 0x80) → encode_utf8 c ≡ lead ∷ next ∷ last ∷ []
+unfolding encode_utf8
+three_bytes lead next last c a b d f g h e =
+    let front = (lead - 0xE0) * 0x40 + (next - 0x80) in
+    let low : 0x1000 ≤ c = omega (arith, e) in
+    let high : c < 0x1_0000 = omega (arith, e) in
+    let over : c / 64 ≡ front = omega (arith, e) in
+    let first : 224 + c / 4096 ≡ lead = omega (arith, e) in
+    let second : 128 + c / 64 % 64 ≡ next = omega (arith, over) in
+    let third : 128 + c % 64 ≡ last = omega (arith, e) in
+    cond-false _ _ _ (le-ltb c 128 (omega arith)) ∙ cond-false _ _ _ (le-ltb c 2048 (omega arith)) ∙ cond-true _ _ _ (lt-ltb c 65536 high)
+    ∙ ap₂ (λ x y. x ∷ y) first (ap₂ (λ x y. x ∷ y ∷ []) second third)
+
+pub utf8_three : (bytes rest behind after : List ℕ) (lead next last c : ℕ) → bytes ≡ lead ∷ rest → rest ≡ next ∷ behind → behind ≡ last ∷ after → 0xE1 ≤ lead → lead < 0xED
+    → 0x80 ≤ next → next < 0xC0 → 0x80 ≤ last → last < 0xC0 → c ≡ ((lead - 0xE0) * 0x40 + (next - 0x80)) * 0x40 + (last - 0x80)
+    → BeginsWith encode_utf8_all (utf8_text bytes) c (utf8_text after)
+utf8_three bytes rest behind after lead next last c e f k a b d g h i is =
+    spelled_first bytes after c (low_scalar c (omega (arith, is, a, b, d, g, h, i)))
+    (e ∙ ap (λ l. lead ∷ l) (f ∙ ap (λ l. next ∷ l) k) ∙ ap (λ l. l ++ after) (sym (three_bytes lead next last c a b d g h i is)))
 
 -- a unit that is a character
 one_long : (c : ℕ) → c < 2 ^ 16 → encode_utf16 c ≡ c ∷ []

@@ -62,14 +62,9 @@ impl<'d> FormData<'d> {
     /// Whether it is told at once that composing leaves a character alone, whatever stands before it. `false` says
     /// nothing.
     #[inline]
-    #[tactic(auto, using(crate::proofs::SkipLemmas::steady_low))]
     pub(crate) fn is_steady(&self, c: char) -> bool
         ensures { IsTrue result → IsSteady (form_meaning self.now) c }
     {
-        self.keep_promise();
-        if c < '\u{a0}' {
-            return true;
-        }
         match self {
             FormData::Canonical(canonical) => canonical.is_steady(c),
             FormData::Compatibility(both) => both.is_steady(c),

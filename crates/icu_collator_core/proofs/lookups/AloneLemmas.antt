@@ -9,10 +9,11 @@ use Rattle.icu_collator_types.specs.declared.elements.Element.{Element}
 use Rattle.icu_collator_types.specs.declared.elements.word_tags.Tag.TheVariants.{Offset}
 use Rattle.icu_collator_types.specs.ElementWords.{has_tag}
 use Rattle.icu_normalizer_core.specs.BuiltIn.{is_jamo}
-use Rattle.icu_collator_core.specs.Defaults.{implicit_primary, jamo_primary, primary_element, special_primary}
+use Rattle.icu_collator_core.specs.Defaults.{default_elements, default_primary, implicit_primary, jamo_primary, primary_element, special_primary}
 use Rattle.icu_collator_core.specs.Pools.{Pools, elements_of_word, index_of, lone_word, offset_primary}
 use Rattle.icu_collator_core.specs.TableMeaning.{TableWord, is_primary_alone, own_primary, ranged_by, recorded_by, unless_own}
-use Rattle.icu_collator_core.specs.ReadWords.{default_by, elements_alone_by}
+use Rattle.icu_collator_core.specs.ReadWords.{AreSaidBy, default_by, elements_alone_by, elements_spelled_by}
+use Rattle.icu_collator_core.specs.Weights.{Weights}
 
 -- the word of a range spells no elements
 offset_spells_none : (pools : Pools) (word : ℕ) → has_tag Offset word ≡ true → elements_of_word pools word ≡ None
@@ -57,22 +58,40 @@ module _ (entry : TableWord) (c : ℕ) where
   unfolding elements_alone_by recorded_by
   alone_default e = ap (λ o. unwrap_or (option_and_then (unless_own c) o) (default_by entry c ∷ [])) (sym e)
 
-  -- the elements that were appended, by what was found
-  pub alone_pushed : (found : Bool) (before after : List Element) → found ≡ is_some spelled
-      → after ≡ before ++ unwrap_or spelled [] → found ≡ true → after ≡ before ++ elements_alone_by entry c
-  alone_pushed found before after says added is = by_spelled spelled refl
+  -- the elements of the character alone are those that its lone word spells
+  pub alone_spelled : elements_spelled_by entry c (lone_word entry.pools entry.word) ≡ elements_alone_by entry c
+  alone_spelled = by_spelled spelled refl
     where
-      by_spelled : (o : Option (List Element)) → spelled ≡ o → after ≡ before ++ elements_alone_by entry c
-      by_spelled (Some es) e = added ∙ ap (λ o. before ++ unwrap_or o []) e ∙ ap (λ l. before ++ l) (alone_found es e)
-      by_spelled None e = absurd (true≢false (sym is ∙ says ∙ ap (λ o. is_some o) e))
+      by_spelled : (o : Option (List Element)) → spelled ≡ o → unwrap_or spelled (default_by entry c ∷ []) ≡ elements_alone_by entry c
+      by_spelled (Some es) e = ap (λ o. unwrap_or o (default_by entry c ∷ [])) e ∙ alone_found es e
+      by_spelled None e = ap (λ o. unwrap_or o (default_by entry c ∷ [])) e ∙ alone_default e
 
-  pub alone_pushed_default : (found : Bool) (before between after : List Element) → found ≡ is_some spelled
-      → between ≡ before ++ unwrap_or spelled [] → found ≡ false → after ≡ between ++ default_by entry c ∷ [] → after ≡ before ++ elements_alone_by entry c
-  alone_pushed_default found before between after says added is more = by_spelled spelled refl
+  module _ (weights : Weights) (said : AreSaidBy weights entry c) where
+    pub default_said : default_by entry c ∷ [] ≡ default_elements weights c
+    unfolding default_by default_primary
+    default_said =
+        ap (λ r. primary_element (unwrap_or (special_primary c) (unwrap_or r (cond (is_jamo c) (jamo_primary c) (implicit_primary c)))) ∷ []) (sym said.ranged)
+
+    pub alone_said : elements_alone_by entry c ≡ unwrap_or (weights.recorded [] (c ∷ [])) (default_elements weights c)
+    unfolding elements_alone_by
+    alone_said =
+        ap (λ o. unwrap_or o (default_by entry c ∷ [])) (sym (said.recorded [] [] refl refl))
+        ∙ ap (λ es. unwrap_or (weights.recorded [] (c ∷ [])) es) default_said
+
+-- the elements that were appended, by whether some were found
+module _ (own : Element) (found : Bool) (spelled : Option (List Element)) (before : List Element) where
+  pub pushed_found : (after : List Element) → found ≡ is_some spelled → after ≡ before ++ unwrap_or spelled [] → found ≡ true
+      → after ≡ before ++ unwrap_or spelled (own ∷ [])
+  pushed_found after says added is = by_spelled spelled says added
     where
-      by_spelled : (o : Option (List Element)) → spelled ≡ o → after ≡ before ++ elements_alone_by entry c
-      by_spelled (Some es) e = absurd (true≢false (sym (says ∙ ap (λ o. is_some o) e) ∙ is))
-      by_spelled None e =
-          more
-          ∙ ap (λ l. l ++ default_by entry c ∷ []) (added ∙ ap (λ o. before ++ unwrap_or o []) e ∙ append-nil before)
-          ∙ ap (λ l. before ++ l) (alone_default e)
+      by_spelled : (o : Option (List Element)) → found ≡ is_some o → after ≡ before ++ unwrap_or o [] → after ≡ before ++ unwrap_or o (own ∷ [])
+      by_spelled (Some es) e h = h
+      by_spelled None e h = absurd (true≢false (sym is ∙ e))
+
+  pub pushed_own : (between after : List Element) → found ≡ is_some spelled → between ≡ before ++ unwrap_or spelled [] → found ≡ false
+      → after ≡ between ++ own ∷ [] → after ≡ before ++ unwrap_or spelled (own ∷ [])
+  pushed_own between after says added is more = by_spelled spelled says added
+    where
+      by_spelled : (o : Option (List Element)) → found ≡ is_some o → between ≡ before ++ unwrap_or o [] → after ≡ before ++ unwrap_or o (own ∷ [])
+      by_spelled (Some es) e h = absurd (true≢false (sym e ∙ is))
+      by_spelled None e h = more ∙ ap (λ l. l ++ own ∷ []) (h ∙ append-nil before)

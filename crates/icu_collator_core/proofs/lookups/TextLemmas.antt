@@ -41,7 +41,7 @@ greatest_past f m (suc n) le none = elim (cases_eq m (suc n)) [
 
 -- ---- Cursors
 
-follow_after : (units : List ℕ) (state : State) (xs ys : List ℕ) → follow units state (xs ++ ys) ≡ follow units (follow units state xs) ys
+pub follow_after : (units : List ℕ) (state : State) (xs ys : List ℕ) → follow units state (xs ++ ys) ≡ follow units (follow units state xs) ys
 follow_after units state [] ys = refl
 follow_after units state (x ∷ xs) ys = follow_after units (state_of (step units state x)) xs ys
 
@@ -50,7 +50,7 @@ answer_more units state [] y ys = refl
 answer_more units state (x ∷ []) y ys = refl
 answer_more units state (x ∷ next ∷ xs) y ys = answer_more units (state_of (step units state x)) (next ∷ xs) y ys
 
-answer_after : (units : List ℕ) (state : State) (xs ys : List ℕ) → 0 < length ys → answer_to units state (xs ++ ys) ≡ answer_to units (follow units state xs) ys
+pub answer_after : (units : List ℕ) (state : State) (xs ys : List ℕ) → 0 < length ys → answer_to units state (xs ++ ys) ≡ answer_to units (follow units state xs) ys
 answer_after units state xs [] some = absurd (omega (arith, some))
 answer_after units state xs (y ∷ ys) some = answer_more units state xs y ys
 
@@ -63,7 +63,7 @@ units_one : (b : Bool) (single high low : ℕ) → 0 < length (if b then single 
 units_one true single high low = omega arith
 units_one false single high low = omega arith
 
-units_some : (c : ℕ) → 0 < length (units_of c)
+pub units_some : (c : ℕ) → 0 < length (units_of c)
 units_some c = units_one (ltb c 0x10000) c (0xd800 + (c - 0x10000) / 0x400) (0xdc00 + c % 0x400)
 
 -- ---- Texts

@@ -6,11 +6,11 @@ use Rattle.icu_collator_core.specs.Numbers.{without_last_zeros}
 use Rattle.icu_collator_core.specs.WeightRules.{are_inner_bytes, is_empty, primary_rest}
 
 -- a number before what is left of others
-before_left : ℕ → List ℕ → List ℕ
+unfoldable pub before_left : ℕ → List ℕ → List ℕ
 before_left p [] = cond (p == 0) [] (p ∷ [])
 before_left p (q ∷ qs) = p ∷ q ∷ qs
 
-left_of_cons : (p : ℕ) (ps : List ℕ) → without_last_zeros (p ∷ ps) ≡ before_left p (without_last_zeros ps)
+pub left_of_cons : (p : ℕ) (ps : List ℕ) → without_last_zeros (p ∷ ps) ≡ before_left p (without_last_zeros ps)
 unfolding without_last_zeros before_left
 left_of_cons p ps =
     elim (without_last_zeros ps) as (λ r. elim r [ [] ↦ cond (p == 0) [] (p ∷ []) | q ∷ qs ↦ p ∷ q ∷ qs ] ≡ before_left p r) [ [] ↦ refl | q ∷ qs ↦ refl ]
@@ -29,7 +29,7 @@ last_kept p ps h e = before_none p ps h ∙ cond-false (p == 0) [] (p ∷ []) e
 last_gone : (p : ℕ) (ps : List ℕ) → without_last_zeros ps ≡ [] → (p == 0) ≡ true → without_last_zeros (p ∷ ps) ≡ []
 last_gone p ps h e = before_none p ps h ∙ cond-true (p == 0) [] (p ∷ []) e
 
-nothing : without_last_zeros [] ≡ []
+pub nothing : without_last_zeros [] ≡ []
 unfolding without_last_zeros
 nothing = refl
 

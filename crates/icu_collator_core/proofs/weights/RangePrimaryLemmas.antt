@@ -75,7 +75,7 @@ range_primary_sound weights range c h = at _ _
         (omega (arith, bounds.1, third)) (omega (arith, bounds.1, third)) (omega (arith, third)) (omega arith)
         both.0 both.1 bounds.0 (omega arith) (spread_room k n)
 
-moved_lead : (compressible : Bool) (primary by : ℕ) → moved_primary compressible primary by / 2 ^ 24 ≡ primary / 2 ^ 24
+pub moved_lead : (compressible : Bool) (primary by : ℕ) → moved_primary compressible primary by / 2 ^ 24 ≡ primary / 2 ^ 24
 unfolding moved_primary
 moved_lead compressible primary by = at _ _
   where

@@ -57,8 +57,8 @@ impl<'d> TextTest for AnswerTest<'d> {
     ghost short = { λ asked cs e. Prim.search rules };
 }
 
-/// Whether a question is answered yes of all suffixes in the context at a place, which are no longer than seven
-/// characters. Fails only when out of memory.
+/// Whether the units of the context at a place keep the grammar of unit tries, and all its keys are characters, at most
+/// seven, of which a question is answered yes. Fails only when out of memory.
 fn is_answered(
     alloc: Global,
     canonical: CanonicalBorrowed<'_>,
@@ -85,7 +85,7 @@ fn has_flag(word: u32, place: u32) -> bool
     (word >> place) & 1 == 1
 }
 
-/// Whether a flag is set just where something is so.
+/// Whether a flag is set just where a fact holds.
 fn agree(flag: bool, fact: bool) -> bool
     ensures { result ≡ agree flag fact }
 {

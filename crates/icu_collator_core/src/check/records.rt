@@ -1,6 +1,6 @@
 //! What the words of characters record: of the character alone, and with suffixes.
 
-ghost use Rattle.std.specs.Prelude.{◌≡◌, ◌≤◌, ◌^◌, ◌<◌, [], is_some, take, flat_map};
+ghost use Rattle.std.specs.Prelude.{◌≡◌, ◌≤◌, ◌^◌, ◌<◌, ℕ, [], is_some, take, flat_map};
 ghost use Rattle.icu_char16trie.specs.Cursors.{answer_to, units_of};
 ghost use Rattle.icu_char16trie.specs.UnitSteps.{start};
 ghost use Rattle.icu_normalizer_core.specs.BorrowedMeaning.{borrowed_meaning};
@@ -78,39 +78,32 @@ fn suffix_word(source: &CollationData<'_>, word: u32, text: &KeyText, count: usi
     }
 }
 
-/// Whether a character is recorded with the first characters of a text behind it, by its word.
-fn is_recorded_with(
-    source: &CollationData<'_>,
-    c: char,
-    word: u32,
-    text: &KeyText,
-    count: usize,
-) -> bool
+/// Whether a character of this word is recorded with the first characters of a text behind it.
+fn is_recorded_with(source: &CollationData<'_>, word: u32, text: &KeyText, count: usize) -> bool
     requires some { 0 < count }
     requires count { count ≤ text.now.count }
-    ensures { result ≡ is_some (recorded_by (entry_in source.now word) c [] (take count (text_items text.now))) }
+    ensures { (c : ℕ) → result ≡ is_some (recorded_by (entry_in source.now word) c [] (take count (text_items text.now))) }
 {
-    let _character = c;
     match suffix_word(source, word, text, count) {
         Some(found) => has_elements(source, found),
         None => false,
     }
 }
 
-/// Whether a text over two characters that ends in a mark is recorded without it; true of other texts.
+/// Whether a character of this word is recorded with a text behind it but for its last mark, where it has two characters
+/// or more and ends in one; true of other texts.
 fn is_recorded_shorter(
     canonical: CanonicalBorrowed<'_>,
     source: &CollationData<'_>,
-    c: char,
     word: u32,
     text: &KeyText,
 ) -> bool
-    ensures { result ≡ is_recorded_shorter (borrowed_meaning canonical.entry) (entry_in source.now word) c (text_items text.now) }
+    ensures { (c : ℕ) → result ≡ is_recorded_shorter (borrowed_meaning canonical.entry) (entry_in source.now word) c (text_items text.now) }
 {
     if text.count <= 1 || !ends_in_mark(canonical, text) {
         return true;
     }
-    is_recorded_with(source, c, word, text, text.count - 1)
+    is_recorded_with(source, word, text, text.count - 1)
 }
 
 /// Whether a text may stand behind a character, by the word of that.
@@ -125,5 +118,5 @@ pub(super) fn is_suffix(
 {
     text.count <= 7
         && has_marks_last(canonical, c, text)
-        && is_recorded_shorter(canonical, source, c, word, text)
+        && is_recorded_shorter(canonical, source, word, text)
 }

@@ -1,15 +1,19 @@
 //! What the word of a character says of it with nothing before or behind.
 
-ghost use Rattle.std.specs.Prelude.{◌≡◌, ◌++◌, OnOk};
-ghost use Rattle.icu_collator_core.specs.ReadWords.{default_by, elements_alone_by, table_word};
-ghost use Rattle.icu_collator_core.specs.TableMeaning.{digit_by, ranged_by};
+ghost use Rattle.std.specs.Prelude.{◌≡◌, ◌++◌, ◌∷◌, [], OnOk};
+ghost use Rattle.std.specs.Option.{unwrap_or};
+ghost use Rattle.icu_collator_core.specs.Defaults.{default_elements};
+ghost use Rattle.icu_collator_core.specs.Pools.{elements_of_word};
+ghost use Rattle.icu_collator_core.specs.Weights.{Weights};
+ghost use Rattle.icu_collator_core.specs.ReadWords.{AreSaidBy, default_by, elements_alone_by, elements_spelled_by, table_word};
+ghost use Rattle.icu_collator_core.specs.TableMeaning.{digit_by, pools_of, ranged_by};
 
 use super::elements::push_elements;
 use super::words::CountingWord;
 use crate::check::fields::{digit_value, has_tag, index_of};
 use crate::check::weights::lone_word;
+use crate::check_weights::entry_at;
 use crate::check_weights::offsets::offset_primary;
-use crate::check_weights::words::entry_at;
 use crate::elements::{primary_element, special_primary, unranged_primary};
 use icu_collator_types::elements::{Element, Tag};
 use std::alloc::AllocError;
@@ -43,7 +47,7 @@ impl CountingWord<'_> {
     /// The element of a character by itself: special, in a range, a jamo, or implicit.
     #[tactic(auto, unfolding(crate::specs::ReadWords::default_by))]
     pub(crate) fn default_element(self, c: char) -> Element
-        ensures { result ≡ default_by (table_word self.entry) c }
+        ensures element { result ≡ default_by (table_word self.entry) c }
     {
         let primary = match special_primary(c as u32) {
             Some(primary) => primary,
@@ -55,15 +59,33 @@ impl CountingWord<'_> {
         primary_element(primary)
     }
 
-    /// Appends the elements of a character with nothing before or behind it. Fails only when out of memory.
-    pub(crate) fn push_alone(self, c: char, elements: &mut Vec<Element>) -> Result<(), AllocError>
-        ensures { OnOk result (elements.new.items ≡ elements.old.items ++ elements_alone_by (table_word self.entry) c) }
+    /// Appends the elements of a word, that of a text or of a character behind a prefix; where it has none, the element
+    /// of the character by itself. Fails only when out of memory.
+    pub(crate) fn push_spelled(
+        self,
+        c: char,
+        word: u32,
+        elements: &mut Vec<Element>,
+    ) -> Result<(), AllocError>
+        ensures elements { OnOk result (elements.new.items ≡ elements.old.items ++ elements_spelled_by (table_word self.entry) c word) }
+        ensures said { OnOk result ((weights : Weights) → AreSaidBy weights (table_word self.entry) c
+            → elements.new.items ≡ elements.old.items ++ unwrap_or (elements_of_word (pools_of self.entry.source.now) word) (default_elements weights c)) }
     {
-        let lone = lone_word(self.source, self.word);
-        let found = push_elements(self.source, lone, elements)?;
+        let found = push_elements(self.source, word, elements)?;
         if !found {
             elements.push(self.default_element(c))?;
         }
+        Ok(())
+    }
+
+    /// Appends the elements of a character with nothing before or behind it. Fails only when out of memory.
+    pub(crate) fn push_alone(self, c: char, elements: &mut Vec<Element>) -> Result<(), AllocError>
+        ensures elements { OnOk result (elements.new.items ≡ elements.old.items ++ elements_alone_by (table_word self.entry) c) }
+        ensures said { OnOk result ((weights : Weights) → AreSaidBy weights (table_word self.entry) c
+            → elements.new.items ≡ elements.old.items ++ unwrap_or (weights.recorded [] (c ∷ [])) (default_elements weights c)) }
+    {
+        let lone = lone_word(self.source, self.word);
+        self.push_spelled(c, lone, elements)?;
         Ok(())
     }
 }

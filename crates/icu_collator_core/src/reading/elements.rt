@@ -7,7 +7,7 @@ ghost use Rattle.icu_collator_core.specs.Pools.{element_of, elements_of_word, st
 ghost use Rattle.icu_collator_core.specs.TableMeaning.{pools_of};
 
 use crate::check::fields::{has_tag, index_of, length_of};
-use crate::check_weights::elements::{element_of, stated_element};
+use crate::check_weights::{element_of, stated_element};
 use crate::tables::CollationData;
 use icu_collator_types::elements::{Element, Tag};
 use icu_packed_vector::PackedVec;

@@ -4,7 +4,6 @@ ghost use Rattle.std.specs.Prelude.{◌≡◌, ◌∷◌, ◌<◌, IfSome, IfNon
 ghost use Rattle.icu_normalizer.specs.Composing.{IsComposedApart};
 ghost use Rattle.icu_normalizer.specs.FormData.{form_meaning};
 
-use super::low::is_steady;
 use crate::form_data::FormData;
 use crate::texts::Text;
 
@@ -20,7 +19,7 @@ pub(super) fn next_of_cluster<T: Text>(basis: FormData<'_>, text: T) -> Option<(
         return None;
     };
     let c = read.0.unwrap_or(char::REPLACEMENT_CHARACTER);
-    if is_steady(basis, c) {
+    if basis.is_steady(c) {
         None
     } else {
         Some((c, read.1))

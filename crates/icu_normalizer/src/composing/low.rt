@@ -1,7 +1,5 @@
 //! Characters that NFC mostly leaves as they stand.
 
-ghost use Rattle.std.specs.Prelude.{IsTrue};
-ghost use Rattle.icu_normalizer_core.specs.Boundaries.{IsSteady};
 ghost use Rattle.icu_normalizer_core.specs.Canonical.{composed};
 ghost use Rattle.icu_normalizer.specs.FormData.{form_meaning};
 ghost use Rattle.icu_normalizer.specs.TextCuts.{IsPassed};
@@ -24,21 +22,11 @@ pub(super) fn pass_low<T: Text>(basis: FormData<'_>, text: T) -> T
         let Some(c) = first else {
             return rest;
         };
-        if !is_steady(basis, c) {
+        if !basis.is_steady(c) {
             return rest;
         }
         rest = ahead;
         ahead = read.1;
     }
     ahead
-}
-
-/// Whether a character is known to be its own composed list, and nothing before it composes with it.
-#[inline]
-#[tactic(auto, using(crate::proofs::SkipLemmas::steady_low))]
-pub(super) fn is_steady(basis: FormData<'_>, c: char) -> bool
-    ensures { IsTrue result → IsSteady (form_meaning basis.entry) c }
-{
-    basis.keep_promise();
-    c < '\u{a0}' || basis.is_steady(c)
 }

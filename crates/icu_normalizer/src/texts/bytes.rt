@@ -57,7 +57,8 @@ impl<'t> Text for &'t [u8] {
     }
 }
 
-/// The first character and what stands behind it, where one or two bytes spell it. `None` says nothing.
+/// The first character and what stands behind it, where one or two bytes spell it, or three with a lead from E1 to EC
+/// (hex). `None` says nothing.
 #[inline(always)]
 fn short_char(bytes: &[u8]) -> Option<(char, &[u8])>
     ensures first { IfSome result (λ r. BeginsWith encode_utf8_all (utf8_text bytes.now) r.0 (utf8_text r.1.now)) }
@@ -67,15 +68,24 @@ fn short_char(bytes: &[u8]) -> Option<(char, &[u8])>
     if *lead < 0x80 {
         return Some((*lead as char, rest));
     }
-    if *lead < 0xC2 || 0xE0 <= *lead {
+    if *lead < 0xC2 || 0xED <= *lead || *lead == 0xE0 {
         return None;
     }
     let (next, behind) = rest.split_first()?;
     if *next < 0x80 || 0xC0 <= *next {
         return None;
     }
-    let code = (*lead as u32 - 0xC0) * 0x40 + (*next as u32 - 0x80);
-    Some((char::from_u32(code)?, behind))
+    if *lead < 0xE0 {
+        let code = (*lead as u32 - 0xC0) * 0x40 + (*next as u32 - 0x80);
+        return Some((char::from_u32(code)?, behind));
+    }
+    let (last, after) = behind.split_first()?;
+    if *last < 0x80 || 0xC0 <= *last {
+        return None;
+    }
+    let front = (*lead as u32 - 0xE0) * 0x40 + (*next as u32 - 0x80);
+    let code = front * 0x40 + (*last as u32 - 0x80);
+    Some((char::from_u32(code)?, after))
 }
 
 /// How many bytes of ASCII come first.

@@ -8,9 +8,12 @@ ghost use Rattle.icu_normalizer.specs.TextCuts.{IsOwnText};
 ghost use Rattle.icu_normalizer.specs.Texts.{utf8_text, utf16_text, encode_utf16_all};
 
 use super::{WriteForm, write_parts};
-use crate::texts::{HoldIn, valid_text};
+use crate::texts::{HoldIn, known_text, valid_text};
 use std::alloc::{AllocError, Global};
 use std::borrow::{CowSlice, CowStr};
+
+/// From so many bytes on it pays to ask first whether they are UTF-8.
+const LONG: usize = 64;
 
 /// The form of a text, borrowed exactly where the text is its own form.
 pub(crate) fn normal_text<'t, F: WriteForm>(
@@ -36,11 +39,15 @@ pub(crate) fn normal_bytes<'t, F: WriteForm>(
     ensures normal { IfOk result (λ form. cow_str_bytes form ≡ encode_utf8_all (F.form normalizer.now (utf8_chars text.now))) }
     ensures borrowed { IfOk result (λ form. IsBorrowedStr form ↔ IsOwnText encode_utf8_all (F.form normalizer.now) (utf8_text text.now)) }
 {
-    if let Some(valid) = valid_text(text) {
-        return normal_text::<F>(normalizer, alloc, valid);
+    if text.len() >= LONG {
+        if let Some(valid) = valid_text(text) {
+            return normal_text::<F>(normalizer, alloc, valid);
+        }
     }
-    let form = held::<F, &[u8], String>(normalizer, alloc, text)?;
-    Ok(CowStr::Owned(form.unwrap()))
+    let Some(form) = held::<F, &[u8], String>(normalizer, alloc, text)? else {
+        return Ok(CowStr::Borrowed(known_text(text)));
+    };
+    Ok(CowStr::Owned(form))
 }
 
 /// The form of units, read as UTF-16, borrowed exactly where they are undamaged and their own form.

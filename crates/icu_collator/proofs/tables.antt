@@ -1,0 +1,3 @@
+-- What accepted tables mean.
+pub mod WholeLeadLemmas
+pub mod AcceptedSettingLemmas

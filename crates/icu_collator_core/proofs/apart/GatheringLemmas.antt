@@ -1,0 +1,98 @@
+-- What is gathered at the places of lists.
+use Rattle.std.proofs.Common.{◌≡◌, ◌↔◌, ℕ, ℤ, ◌-◌, ◌^◌, ◌<◌, Vec, Global, List, length, get_or, map, slice_index, refl, sym, ap, ◌∙◌, subst, arith}
+use Rattle.std.specs.Char.{IsScalar}
+use Rattle.std.specs.Int.{cast_unsigned, w32}
+use Rattle.std.specs.List.{Contains}
+use Rattle.std.proofs.lemmas.List.{get_or_default}
+use Rattle.icu_char16trie.specs.UnitGrammar.{IsListing, IsUnitTrie, IsWithin}
+use Rattle.icu_char16trie.specs.UnitMaps.{MapsKey, at_node}
+use Rattle.icu_normalizer_core.proofs.ScalarLemmas.{scalar_below}
+use Rattle.icu_collator_core.specs.Pools.{Pools, index_of, trie_of}
+use Rattle.icu_collator_core.specs.PrefixFaults.{HasValue}
+use Rattle.icu_collator_core.proofs.apart.GrowthLemmas.{UpTo, item_at}
+use Rattle.icu_collator_core.proofs.apart.LevelLemmas.{from_mapped, mapped_in}
+
+-- ---- Entries of unit tries
+
+abbrev pub Entry : Type 0
+Entry = Vec ℕ Global × ℤ
+
+abbrev pub EntryAt : List Entry → ℕ → ℕ → Type 0
+EntryAt list k word = (entry : Entry) × ((d : Entry) → get_or list k d ≡ entry) × (cast_unsigned w32 entry.1 ≡ word)
+
+abbrev pub HasEntry : List Entry → ℕ → Type 0
+HasEntry list word = (entry : Entry) × Contains list entry × (cast_unsigned w32 entry.1 ≡ word)
+
+-- the entry that was read is the one at the place
+pub entry_read : (list : List Entry) (k : ℕ) (entry : Entry) → k < length list → entry ≡ get_or list k entry
+    → (word : ℕ) → (word ≡ cast_unsigned w32 entry.1) ↔ EntryAt list k word
+entry_read list k entry lt e word = (
+  λ same. (entry, (λ d. get_or_default list k d entry lt ∙ sym e), sym same),
+  λ w. sym w.2 ∙ ap (λ (one : Entry). cast_unsigned w32 one.1) (sym (w.1 entry) ∙ sym e),
+)
+
+pub all_entries : (list : List Entry) (n : ℕ) → length list ≡ n → (word : ℕ) → UpTo (EntryAt list) n word ↔ HasEntry list word
+all_entries list n many word = (
+  λ w. (w.2.0, (w.0, (let lt = w.1 in omega (arith, many, lt)), w.2.1 w.2.0), w.2.2),
+  λ h. let found = item_at list h.1.0 h.1.1 in
+      (h.1.0, (let lt = h.1.1 in omega (arith, many, lt)), (h.0, (λ d. found.1 d ∙ sym (found.1 h.0) ∙ h.1.2), h.2)),
+)
+
+abbrev units_and_value : Entry → List ℕ × ℤ
+units_and_value entry = (entry.0.items, entry.1)
+
+-- 2 ^ 64 - 1 limits no key
+abbrev most : ℕ
+most = 2 ^ 64 - 1
+
+pub values_read : (pools : Pools) (word : ℕ) (units : List ℕ) (list : List Entry) → units ≡ trie_of pools.contexts (index_of word)
+    → IsListing units most (map units_and_value list) → (value : ℕ) → HasEntry list value ↔ HasValue pools word value
+values_read pools word units list same listing value = (
+  λ h. (
+    h.0.0.items,
+    h.0.1,
+    (subst IsUnitTrie same listing.trie, subst (λ units. IsWithin units most) same listing.bound),
+    subst (λ units. MapsKey units (at_node 0) h.0.0.items h.0.1) same
+        ((listing.entries h.0.0.items h.0.1).0 (mapped_in units_and_value list h.0 h.1)),
+    h.2,
+  ),
+  λ v.
+      let found = from_mapped units_and_value list (v.0, v.1)
+      ((listing.entries v.0 v.1).1 (subst (λ units. MapsKey units (at_node 0) v.0 v.1) (sym same) v.3)) in
+      (found.0, found.1, ap (λ (pair : List ℕ × ℤ). cast_unsigned w32 pair.1) found.2 ∙ v.4),
+)
+
+pub no_values : (pools : Pools) (word : ℕ) (units : List ℕ) → units ≡ trie_of pools.contexts (index_of word)
+    → (IsUnitTrie units → IsWithin units most → ⊥) → (value : ℕ) → HasValue pools word value → ⊥
+no_values pools word units same broken value v =
+    broken (subst IsUnitTrie (sym same) v.2.0) (subst (λ units. IsWithin units most) (sym same) v.2.1)
+
+-- ---- Numbers of lists
+
+-- what the numbers of a list give
+abbrev pub FromPlaces : {X : Type 0} → (ℕ → X → Type 0) → List ℕ → ℕ → X → Type 0
+FromPlaces Gives xs = UpTo (λ k x. Gives (slice_index xs k) x)
+
+module _ {X : Type 0} (Gives : ℕ → X → Type 0) (xs : List ℕ) (n : ℕ) (many : length xs ≡ n) (x : X) where
+  pub from_all_places : FromPlaces Gives xs n x ↔ ((y : ℕ) × Contains xs y × Gives y x)
+  from_all_places = (
+    λ w.
+        let lt : w.0 < length xs = let l = w.1 in omega (arith, many, l) in
+        (slice_index xs w.0, (w.0, lt, get_or_default xs w.0 (slice_index xs w.0) 0 lt), w.2),
+    λ h.
+        let lt = h.1.1 in
+        (h.1.0, omega (arith, many, lt), subst (λ y. Gives y x) (sym h.1.2 ∙ get_or_default xs h.1.0 h.0 0 lt) h.2),
+  )
+
+-- ---- Characters
+
+-- all characters are below the end of the codes
+pub all_codes : (P : ℕ → ℕ → Type 0) → ((c word : ℕ) → P c word → IsScalar c) → (word : ℕ) → UpTo P 0x11_0000 word ↔ ((c : ℕ) × P c word)
+all_codes P scalar word = (λ w. (w.0, w.2), λ h. (h.0, scalar_below h.0 (scalar h.0 word h.1), h.1))
+
+pub from_own_places : (xs : List ℕ) (n : ℕ) → length xs ≡ n → (x : ℕ) → FromPlaces (λ y x. x ≡ y) xs n x ↔ Contains xs x
+from_own_places xs n many x =
+    let told = from_all_places (λ y x. x ≡ y) xs n many x in (
+      λ w. let h = told.0 w in subst (λ y. Contains xs y) (sym h.2) h.1,
+      λ h. told.1 (x, h, refl),
+    )

@@ -1,0 +1,7 @@
+use Rattle.std.proofs.Common.{◌≡◌, true, take}
+use Rattle.std.specs.List.{list_all}
+use Rattle.icu_collator_core.specs.WeightLists.{is_beside_lead}
+use Rattle.icu_collator_core.proofs.check.apart.leads.are_beside_lead.Given as goal
+
+abbrev pub invariant-loop-place : goal.invariant-loop-place
+invariant-loop-place l = list_all (is_beside_lead l.lead) (take l.place l.elements) ≡ true

@@ -1,0 +1,6 @@
+use Rattle.std.proofs.Common.{◌≡◌, map, take}
+use Rattle.icu_collator_core.specs.WeightLists.{weight_on}
+use Rattle.icu_collator_core.proofs.check.apart.levels.weights_on.Given as goal
+
+abbrev pub invariant-loop-place : goal.invariant-loop-place
+invariant-loop-place l = l.weights.items ≡ map (weight_on l.level) (take l.place l.elements)

@@ -1,0 +1,96 @@
+//! The weights of a level, in order, and whether one begins another.
+
+ghost use Rattle.std.specs.Prelude.{◌≡◌, ◌↔◌, ◌&&◌, map, IsTrue, IfOk, true};
+ghost use Rattle.std.specs.List.{Contains};
+ghost use Rattle.icu_collator_types.specs.declared.elements.Element.{Element};
+ghost use Rattle.icu_collator_core.specs.WeightLists.{are_steps_apart, begins, weight_on};
+ghost use Rattle.icu_collator_core.specs.WeightRules.{are_apart, are_apart_elements, primary_bytes};
+
+use icu_collator_types::elements::Element;
+use std::alloc::{AllocError, Global};
+
+/// A level on which weights keep apart.
+#[derive(Clone, Copy, Debug)]
+pub(super) enum Level {
+    /// The first.
+    Primary,
+    /// The second.
+    Secondary,
+    /// The third.
+    Tertiary,
+}
+
+/// The weight of an element on a level, its lead in the uppermost byte.
+fn weight_on(level: Level, element: Element) -> u32
+    ensures { result ≡ weight_on level element }
+{
+    match level {
+        Level::Primary => element.primary,
+        Level::Secondary => element.secondary as u32 * 0x1_0000,
+        Level::Tertiary => element.tertiary as u32 * 0x1_0000,
+    }
+}
+
+/// The weights of elements on a level.
+fn weights_on(alloc: Global, level: Level, elements: &[Element]) -> Result<Vec<u32>, AllocError>
+    ensures { IfOk result (λ weights. weights.items ≡ map (weight_on level) elements.now) }
+{
+    let mut weights = Vec::new(alloc);
+    for place in 0..elements.len() {
+        weights.push(weight_on(level, elements[place]))?;
+    }
+    Ok(weights)
+}
+
+/// Whether the bytes of a weight begin those of a higher one.
+fn begins(weight: u32, higher: u32) -> bool
+    ensures { result ≡ begins weight higher }
+{
+    let room = higher.saturating_sub(weight);
+    weight != 0
+        && (weight < higher
+            && ((weight % 0x100_0000 == 0 && room < 0x100_0000)
+                || ((weight % 0x1_0000 == 0 && room < 0x1_0000)
+                    || (weight % 0x100 == 0 && room < 0x100))))
+}
+
+/// Whether none of weights begins the next one.
+fn are_steps_apart(weights: &[u32]) -> bool
+    ensures { result ≡ are_steps_apart 0 weights.now }
+{
+    let mut before = 0;
+    for place in 0..weights.len() {
+        let weight = weights[place];
+        if begins(before, weight) {
+            return false;
+        }
+        before = weight;
+    }
+    true
+}
+
+/// Whether no weight of elements begins another one on a level. Fails only when out of memory.
+fn are_apart_on(alloc: Global, level: Level, elements: &[Element]) -> Result<bool, AllocError>
+    ensures { IfOk result (λ yes. IsTrue yes ↔ ((d e : Element) → Contains elements.now d → Contains elements.now e → are_apart primary_bytes (weight_on level d) (weight_on level e) ≡ true)) }
+{
+    let mut weights = weights_on(alloc, level, elements)?;
+    weights.sort()?;
+    Ok(are_steps_apart(weights.as_slice()))
+}
+
+/// Whether three answers are all yes.
+fn are_all(primaries: bool, secondaries: bool, tertiaries: bool) -> bool
+    ensures { result ≡ (primaries && secondaries && tertiaries) }
+{
+    primaries && secondaries && tertiaries
+}
+
+/// Whether no weight of elements begins another one on its level. Fails only when out of memory.
+pub(super) fn are_apart(alloc: Global, elements: &[Element]) -> Result<bool, AllocError>
+    ensures { IfOk result (λ yes. IsTrue yes ↔ ((d e : Element) → Contains elements.now d → Contains elements.now e → are_apart_elements d e ≡ true)) }
+{
+    let primaries = are_apart_on(alloc, Level::Primary, elements)?;
+    let secondaries = are_apart_on(alloc, Level::Secondary, elements)?;
+    let tertiaries = are_apart_on(alloc, Level::Tertiary, elements)?;
+    Ok(are_all(primaries, secondaries, tertiaries))
+}

@@ -1,0 +1,157 @@
+//! The words of all characters, with those in their contexts, in a list.
+
+ghost use Rattle.std.specs.Prelude.{◌≡◌, ℕ, ℤ, IsTrue, IfOk, OnOk, Vec};
+ghost use Rattle.std.specs.Global.{Global};
+ghost use Rattle.std.specs.Int.{cast_unsigned, w32};
+ghost use Rattle.std.specs.List.{Contains};
+ghost use Rattle.icu_collator_types.specs.ElementWords.{has_tag};
+ghost use Rattle.icu_collator_core.specs.PrefixFaults.{HasValue, IsAmong, IsWordIn};
+ghost use Rattle.icu_collator_core.specs.TableMeaning.{pools_of, secondary_word};
+ghost use Rattle.icu_collator_core.specs.WeightLists.{Grows, IsDiacriticWord, IsWordOf, Lists};
+
+use crate::check::fields::{has_tag, index_of};
+use crate::check::walks::units_of;
+use crate::check::weights::{lone_word, unprefixed_word};
+use crate::tables::{CollationData, CollationTables};
+use icu_char16trie::{ReadUnitsError, read_units};
+use icu_collator_types::elements::Tag;
+use std::alloc::{AllocError, Global};
+
+/// One word more, unless the last one is the same.
+pub(super) fn gather_word(words: &mut Vec<u32>, word: u32) -> Result<(), AllocError>
+    ensures { OnOk result (Grows (λ one. one ≡ word) words.old.items words.new.items) }
+{
+    let count = words.len();
+    if count > 0 && words[count - 1] == word {
+        return Ok(());
+    }
+    words.push(word)?;
+    Ok(())
+}
+
+/// The values of a list of keys, as words.
+fn gather_listed(words: &mut Vec<u32>, list: &Vec<(Vec<u16>, i32)>) -> Result<(), AllocError>
+    ensures { OnOk result (Grows (λ word. (entry : Vec ℕ Global × ℤ) × Contains list.now.items entry × (cast_unsigned w32 entry.1 ≡ word)) words.old.items words.new.items) }
+{
+    for place in 0..list.len() {
+        let value = list[place].1;
+        gather_word(words, value.cast_unsigned())?;
+    }
+    Ok(())
+}
+
+/// The values of the context that a word names. Where its units break the grammar of unit tries, there are none.
+fn gather_values(
+    alloc: Global,
+    words: &mut Vec<u32>,
+    source: &CollationData<'_>,
+    word: u32,
+) -> Result<(), AllocError>
+    ensures { OnOk result (Grows (HasValue (pools_of source.now) word) words.old.items words.new.items) }
+{
+    let units = units_of(&source.contexts, index_of(word));
+    match read_units(alloc, &units, usize::MAX) {
+        Ok(list) => {
+            gather_listed(words, &list)?;
+            Ok(())
+        }
+        Err(ReadUnitsError::BadUnits(_)) => Ok(()),
+        Err(ReadUnitsError::Memory) => Err(AllocError),
+    }
+}
+
+/// The same where the word has a tag.
+fn gather_where(
+    alloc: Global,
+    words: &mut Vec<u32>,
+    source: &CollationData<'_>,
+    tag: Tag,
+    word: u32,
+) -> Result<(), AllocError>
+    ensures { OnOk result (Grows (λ one. IsTrue (has_tag tag word) × HasValue (pools_of source.now) word one) words.old.items words.new.items) }
+{
+    if !has_tag(word, tag) {
+        return Ok(());
+    }
+    gather_values(alloc, words, source, word)?;
+    Ok(())
+}
+
+/// The word of a character by itself, and those in its contexts.
+fn gather_among(
+    alloc: Global,
+    words: &mut Vec<u32>,
+    source: &CollationData<'_>,
+    word: u32,
+) -> Result<(), AllocError>
+    ensures { OnOk result (Grows (IsAmong (pools_of source.now) word) words.old.items words.new.items) }
+{
+    let lone = lone_word(source, word);
+    let unprefixed = unprefixed_word(source, word);
+    gather_word(words, lone)?;
+    gather_where(alloc, words, source, Tag::Contraction, unprefixed)?;
+    gather_where(alloc, words, source, Tag::Prefix, word)?;
+    Ok(())
+}
+
+/// The words of the character of a code, if it is one.
+fn gather_at(
+    alloc: Global,
+    words: &mut Vec<u32>,
+    source: &CollationData<'_>,
+    code: u32,
+) -> Result<(), AllocError>
+    ensures { OnOk result (Grows (IsWordIn source.now code) words.old.items words.new.items) }
+{
+    let Some(c) = char::from_u32(code) else {
+        return Ok(());
+    };
+    gather_among(alloc, words, source, source.trie.get(c))?;
+    Ok(())
+}
+
+/// The words of all characters.
+pub(super) fn words_of(alloc: Global, source: &CollationData<'_>) -> Result<Vec<u32>, AllocError>
+    ensures { IfOk result (λ words. Lists (IsWordOf source.now) words.items) }
+{
+    let mut words = Vec::new(alloc);
+    for code in 0..0x11_0000u32 {
+        gather_at(alloc, &mut words, source, code)?;
+    }
+    Ok(words)
+}
+
+/// The word of an element with this secondary, the common tertiary and no primary.
+fn secondary_word(secondary: u16) -> u32
+    ensures { result ≡ secondary_word secondary }
+{
+    secondary as u32 * 0x1_0000 + 0x05c2
+}
+
+/// The words of marks by the table of diacritics.
+pub(super) fn gather_diacritics(
+    words: &mut Vec<u32>,
+    tables: &CollationTables<'_>,
+) -> Result<(), AllocError>
+    ensures { OnOk result (Grows (IsDiacriticWord tables.now) words.old.items words.new.items) }
+{
+    let secondaries = &tables.diacritics.secondaries;
+    for place in 0..secondaries.len() {
+        gather_word(words, secondary_word(secondaries.at(place)))?;
+    }
+    Ok(())
+}
+
+/// The words of jamo.
+pub(super) fn gather_jamo(
+    words: &mut Vec<u32>,
+    tables: &CollationTables<'_>,
+) -> Result<(), AllocError>
+    ensures { OnOk result (Grows (Contains tables.now.jamo.ce32s) words.old.items words.new.items) }
+{
+    let ce32s = &tables.jamo.ce32s;
+    for place in 0..ce32s.len() {
+        gather_word(words, ce32s.at(place))?;
+    }
+    Ok(())
+}
