@@ -6,4 +6,5 @@ pub mod ListLemmas
 pub mod LookupLemmas
 pub mod MarkLemmas
 pub mod TestLemmas
+pub mod UnrecordedLemmas
 pub mod WalkLemmas

@@ -2,3 +2,5 @@ pub mod DigitLemmas
 pub mod DigitPairLemmas
 pub mod NumberBytesLemmas
 pub mod NumberOrderLemmas
+pub mod NumberPartLemmas
+pub mod PairPlaceLemmas

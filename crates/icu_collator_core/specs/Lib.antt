@@ -1,6 +1,7 @@
 pub mod Weights
 pub mod Defaults
 pub mod Numbers
+pub mod NumberBytes
 pub mod Elements
 pub mod Collation
 pub mod WholeNumbers
@@ -12,6 +13,7 @@ pub mod TableSettings
 pub mod TableMeaning
 pub mod WordForms
 pub mod WordPlaces
+pub mod UnrecordedWords
 pub mod TableFaults
 pub mod ContextRules
 pub mod WeightFaults
@@ -25,3 +27,8 @@ pub mod ContextFaults
 pub mod Acceptance
 pub mod ReadWords
 pub mod ReadTexts
+pub mod ElementLists
+pub mod MovedMarks
+pub mod PlainWords
+pub mod AlikeLists
+pub mod JoinedTexts

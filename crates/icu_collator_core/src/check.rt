@@ -15,6 +15,7 @@ pub(crate) mod marks;
 pub(crate) mod places;
 pub(crate) mod prefixes;
 pub(crate) mod records;
+pub(crate) mod runs;
 pub(crate) mod suffixes;
 pub(crate) mod texts;
 pub(crate) mod walks;

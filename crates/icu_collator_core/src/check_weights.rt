@@ -14,7 +14,6 @@ mod spelled;
 mod words;
 
 pub(crate) use diacritics::are_sound_diacritics;
-pub(crate) use elements::{element_of, stated_element};
 pub(crate) use jamo::jamo_fault;
 pub(crate) use own::own_primary;
 pub(crate) use reordering::has_sound_reordering;

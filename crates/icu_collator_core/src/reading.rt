@@ -2,7 +2,10 @@
 
 pub(crate) mod alone;
 pub(crate) mod elements;
+pub(crate) mod joining;
 pub(crate) mod marks;
+pub(crate) mod numbers;
+pub(crate) mod plain;
 pub(crate) mod prefixes;
 pub(crate) mod suffixes;
 pub(crate) mod words;

@@ -3,12 +3,12 @@ use Rattle.std.proofs.Common.{◌≡◌, ℕ, false, List, [], ◌∷◌, ◌++�
 use Rattle.std.specs.Prelude.{Result, Ok, Err, OnOk}
 use Rattle.std.specs.Result.{is_err}
 use Rattle.icu_normalizer_core.specs.Canonical.{Canonical, marks_in_order, decomposed, recomposed, composed}
+use Rattle.icu_normalizer_core.specs.declared.decomposition.run.Run.{Run}
+use Rattle.icu_normalizer_core.specs.Run.{reordered, held, KeepsOutput, data_of as run_data}
+use Rattle.icu_normalizer_core.proofs.RunLemmas.{order_nothing, reordered_empty}
 use Rattle.icu_normalizer.specs.declared.composing.composer.Composer.{Composer}
-use Rattle.icu_normalizer.specs.declared.run.Run.{Run}
 use Rattle.icu_normalizer.specs.Composer.{coming, IsIdle, KeepsComposed, data_of as composer_data}
-use Rattle.icu_normalizer.specs.Run.{reordered, held, KeepsOutput, data_of as run_data}
 use Rattle.icu_normalizer.proofs.ComposerLemmas.{coming_idle}
-use Rattle.icu_normalizer.proofs.RunLemmas.{order_nothing, reordered_empty}
 
 -- nothing was read
 pub read_none : (run : Run) (k : Canonical) (cs : List ℕ) → held run ≡ 0 → run_data run ≡ k → reordered run (flat_map k.full cs) ≡ decomposed k cs

@@ -3,8 +3,8 @@ use Rattle.std.proofs.Common.{◌≡◌, ℕ, ◌+◌, ◌<◌, ◌≤◌, ◌�
 use Rattle.std.proofs.lemmas.Bool.{cases_lt, cases_eq}
 use Rattle.std.proofs.lemmas.List.{append_cancel_left, append_cancel_right, get_or_append_left, get_or_at, get_or_past, get_or_push}
 use Rattle.icu_normalizer_core.specs.Canonical.{Canonical, composed}
+use Rattle.icu_normalizer_core.specs.Forming.{IsForming}
 use Rattle.icu_normalizer.specs.Composing.{IsCluster, IsComposedApart}
-use Rattle.icu_normalizer.specs.Forming.{IsForming}
 use Rattle.icu_normalizer.specs.FormCuts.{IsComposed}
 use Rattle.icu_normalizer.specs.TextCuts.{IsPassed, IsTextCut}
 use Rattle.icu_normalizer.specs.Texts.{Text, AreCharacters, BeginsDamaged, BeginsWith, IsAtEnd, IsEncoding}

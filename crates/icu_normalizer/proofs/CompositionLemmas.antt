@@ -1,11 +1,11 @@
 -- The steps of an iterator of composed text.
 use Rattle.std.proofs.Common.{◌≡◌, ℕ, List, [], ◌∷◌, ◌++◌, Option, refl, sym, ap, subst, ◌∙◌}
 use Rattle.icu_normalizer_core.specs.Canonical.{Canonical, recomposed, decomposed, composed}
+use Rattle.icu_normalizer_core.specs.Decompositions.{DecomposesTo}
+use Rattle.icu_normalizer_core.specs.Iter.{IsFirstOf, KeepsLeft}
 use Rattle.icu_normalizer.specs.declared.composing.Composition.{Composition}
 use Rattle.icu_normalizer.specs.Composer.{data_of, coming, IsIdle, KeepsComposed}
 use Rattle.icu_normalizer.specs.Compositions.{ComposesTo}
-use Rattle.icu_normalizer.specs.Decompositions.{DecomposesTo}
-use Rattle.icu_normalizer.specs.Iter.{IsFirstOf, KeepsLeft}
 use Rattle.icu_normalizer.proofs.ComposerLemmas.{coming_idle}
 use Rattle.icu_normalizer.proofs.ComposingLemmas.{recomposed_nothing}
 

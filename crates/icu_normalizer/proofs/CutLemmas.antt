@@ -6,9 +6,9 @@ use Rattle.std.specs.Str.{IsCharBoundary}
 use Rattle.std.proofs.lemmas.Str.{IsCharBoundary-start, IsCharBoundary-after_ascii, encode_ascii}
 use lib.Utf8.{scalar, scalars}
 use Rattle.icu_normalizer_core.specs.Canonical.{Canonical, decomposed}
+use Rattle.icu_normalizer_core.specs.Forming.{IsForming}
+use Rattle.icu_normalizer_core.specs.Readable.{IsReadable}
 use Rattle.icu_normalizer_core.proofs.DecomposedLemmas.{AreScalar}
-use Rattle.icu_normalizer.specs.Forming.{IsForming}
-use Rattle.icu_normalizer.specs.Readable.{IsReadable}
 use Rattle.icu_normalizer.proofs.SplitLemmas.{in_place_is_decomposed}
 
 -- the data of a normal form can be read fast

@@ -9,14 +9,14 @@ use Rattle.std.specs.Char.{IsScalar}
 use Rattle.std.specs.List.{AllByRecursion, list_all}
 use Rattle.icu_normalizer_core.specs.Canonical.{Canonical, IsCanonical, put_in_order, marks_in_order, decomposed, composing, recomposed, composed}
 use Rattle.icu_normalizer_core.specs.Decoding.{utf8_chars, utf16_chars}
+use Rattle.icu_normalizer_core.specs.Forming.{IsForming, IsSaidOver}
 use Rattle.icu_normalizer_core.proofs.DecomposedLemmas.{AreScalar, all_append, put_swapped}
 use Rattle.icu_normalizer_core.proofs.TextLemmas.{utf8_text, utf16_text}
-use Rattle.icu_normalizer.specs.Forming.{IsForming, IsSaidOver}
+use Rattle.icu_normalizer_core.proofs.CompatibleLemmas.{forming_compatibility}
+use Rattle.icu_normalizer_core.proofs.FormingLemmas.{forming_canonical}
 use Rattle.icu_normalizer.specs.TextForms.{decomposed_text, composed_text}
 use Rattle.icu_normalizer.specs.Texts.{encode_utf16_all}
-use Rattle.icu_normalizer.proofs.CompatibleLemmas.{forming_compatibility}
 use Rattle.icu_normalizer.proofs.ComposingLemmas.{composing_end, composing_cases, recomposed_nothing, recomposed_begun, recomposed_passed, seen_over}
-use Rattle.icu_normalizer.proofs.FormingLemmas.{forming_canonical}
 use Rattle.icu_normalizer.proofs.OwnLemmas.{AreOwn, decomposed_own, decomposed_scalar}
 use Rattle.icu_normalizer.proofs.equivalence.NormalFormLemmas.{recomposed_scalars}
 use Rattle.icu_normalizer.proofs.equivalence.TextFormLemmas.{text_scalars, form_written, written_chars}

@@ -1,6 +1,5 @@
 pub mod ClusterFormLemmas
 pub mod ClusterLemmas
-pub mod CompatibleLemmas
 pub mod ComposedCutLemmas
 pub mod ComposedWalkLemmas
 pub mod ComposerLemmas
@@ -9,20 +8,15 @@ pub mod CompositionLemmas
 pub mod CutLemmas
 pub mod equivalence
 pub mod FormCutLemmas
-pub mod FormingLemmas
 pub mod FormLawLemmas
-pub mod IterLemmas
 pub mod ListLemmas
 pub mod LoneMarkLemmas
 pub mod MappedLemmas
 pub mod OwnLemmas
 pub mod PassedLemmas
-pub mod RunLemmas
 pub mod SinkLemmas
 pub mod SkipLemmas
-pub mod SortLemmas
 pub mod SplitLemmas
-pub mod StepLemmas
 pub mod StraightLemmas
 pub mod TextCutLemmas
 pub mod TextLemmas

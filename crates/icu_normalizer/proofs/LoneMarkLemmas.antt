@@ -4,10 +4,11 @@ use Rattle.std.proofs.lemmas.Bool.Decides.{nat_tests}
 use Rattle.std.specs.List.{AllByRecursion}
 use Rattle.icu_normalizer_core.specs.Boundaries.{IsSteady}
 use Rattle.icu_normalizer_core.specs.Canonical.{Canonical, put_in_order, marks_in_order, composing, recomposed, decomposed, composed}
+use Rattle.icu_normalizer_core.specs.Forming.{IsForming}
 use Rattle.icu_normalizer_core.proofs.DecomposedLemmas.{put_starter}
+use Rattle.icu_normalizer_core.proofs.RunLemmas.{order_nothing}
 use Rattle.icu_normalizer.specs.declared.composing.lone_mark.LoneMark.{LoneMark}
 use Rattle.icu_normalizer.specs.declared.composing.lone_mark.LoneMark.TheVariants.{Apart}
-use Rattle.icu_normalizer.specs.Forming.{IsForming}
 use Rattle.icu_normalizer.specs.LoneMarks.{IsLoneMark, IsSteadyUpTo, lone_form}
 use Rattle.icu_normalizer.specs.Sinks.{AddsPrefix}
 use Rattle.icu_normalizer.specs.TextCuts.{IsPassed, IsTextCut}
@@ -15,7 +16,6 @@ use Rattle.icu_normalizer.specs.Texts.{Text, AreCharacters, IsEncoding}
 use Rattle.icu_normalizer.specs.Writer.{AddsFront}
 use Rattle.icu_normalizer.proofs.ComposedWalkLemmas.{PartAtOnce, agreed_within, never_same}
 use Rattle.icu_normalizer.proofs.ComposingLemmas.{AreUpTo-none, AreUpTo-push, composing_end, composing_joined, composing_kept, composing_cases, composed_over, composed_never, recomposed_begun}
-use Rattle.icu_normalizer.proofs.RunLemmas.{order_nothing}
 use Rattle.icu_normalizer.proofs.SinkLemmas.{joined_front}
 use Rattle.icu_normalizer.proofs.SkipLemmas.{steady_low}
 use Rattle.icu_normalizer.proofs.TextCutLemmas.{cut_here}

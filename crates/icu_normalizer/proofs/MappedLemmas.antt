@@ -1,11 +1,11 @@
 -- The steps of an iterator of mapped characters.
 use Rattle.std.proofs.Common.{◌≡◌, ℕ, true, false, List, [], ◌∷◌, ◌++◌, Option, Some, None, option_to_list, refl, sym, ap, subst, ◌∙◌}
 use Rattle.std.specs.Iterator.{Count}
+use Rattle.icu_normalizer_core.specs.Iter.{Spells, KeepsLeft}
+use Rattle.icu_normalizer_core.proofs.IterLemmas.{spells_source, source_done, source_stopped, source_end, source_next, source_same}
 use Rattle.icu_normalizer.specs.declared.uts46.characters.MappedChars.{MappedChars}
-use Rattle.icu_normalizer.specs.Iter.{Spells, KeepsLeft}
 use Rattle.icu_normalizer.specs.Uts46.{becomes, mapper_of}
 use Rattle.icu_normalizer.specs.Uts46Iter.{mapped_by, MapsTo, MappingSteps}
-use Rattle.icu_normalizer.proofs.IterLemmas.{spells_source, source_done, source_stopped, source_end, source_next, source_same}
 
 module _ {I : Type 0} (steps : I → Option ℕ → I → Type 0) where
   pub maps_start : (s : MappedChars I) (cs : List ℕ) → s.done ≡ false → s.list ≡ [] → Spells steps s.chars cs → MapsTo steps s (mapped_by s cs)

@@ -6,8 +6,8 @@ use Rattle.std.specs.Prelude.{Contains}
 use Rattle.std.specs.Char.{IsScalar}
 use Rattle.std.specs.List.{AllByRecursion}
 use Rattle.icu_normalizer_core.specs.Canonical.{Canonical, put_in_order, marks_in_order, decomposed}
+use Rattle.icu_normalizer_core.specs.Forming.{IsForming}
 use Rattle.icu_normalizer_core.proofs.DecomposedLemmas.{AreScalar, all_append}
-use Rattle.icu_normalizer.specs.Forming.{IsForming}
 
 -- each character is its own full list
 abbrev pub AreOwn : Canonical → List ℕ → Type 0

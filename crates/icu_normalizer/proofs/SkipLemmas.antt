@@ -3,14 +3,14 @@ use Rattle.std.proofs.Common.{◌≡◌, ℕ, ◌<◌, ◌≤◌, ◌⊎◌, inl
 use Rattle.std.proofs.lemmas.Bool.{cases_lt}
 use Rattle.std.proofs.lemmas.Grind.{flat_map-append}
 use Rattle.icu_normalizer_core.specs.Canonical.{Canonical, composing, recomposed, decomposed, composed, marks_in_order}
-use Rattle.icu_normalizer_core.proofs.DecomposedLemmas.{order_before, put_starter}
 use Rattle.icu_normalizer_core.specs.Boundaries.{HasBoundaryBefore, IsSteady}
-use Rattle.icu_normalizer.specs.Forming.{IsForming}
+use Rattle.icu_normalizer_core.specs.Forming.{IsForming}
+use Rattle.icu_normalizer_core.proofs.DecomposedLemmas.{order_before, put_starter}
+use Rattle.icu_normalizer_core.proofs.StepLemmas.{decomposed_itself}
 use Rattle.icu_normalizer.specs.TextCuts.{IsPassed}
 use Rattle.icu_normalizer.specs.Texts.{Text, AreCharacters, BeginsWith, IsAtEnd, IsEncoding}
 use Rattle.icu_normalizer.proofs.ComposingLemmas.{composed_nothing, composing_end, composing_joined, composing_begun, composing_kept, composing_cases, composed_never, never_second, recomposed_nothing, recomposed_begun, recomposed_passed}
 use Rattle.icu_normalizer.proofs.CutLemmas.{ArePlain, decomposed_nothing}
-use Rattle.icu_normalizer.proofs.StepLemmas.{decomposed_itself}
 use Rattle.icu_normalizer.proofs.TextCutLemmas.{IsPastPlain, IsReadTo, all_characters, all_units, characters_front, read_first}
 
 -- ---- a starter that is no pair's second composes with nothing before it

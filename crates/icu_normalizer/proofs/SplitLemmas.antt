@@ -6,13 +6,13 @@ use Rattle.std.proofs.lemmas.Grind.{flat_map-append}
 use Rattle.std.proofs.lemmas.List.Folds.{list_all-append}
 use Rattle.std.specs.List.{AllByRecursion, list_all}
 use Rattle.icu_normalizer_core.specs.Canonical.{Canonical, put_in_order, marks_in_order, decomposed}
+use Rattle.icu_normalizer_core.specs.Forming.{IsForming, AreLowBelow}
+use Rattle.icu_normalizer_core.specs.Marks.{is_mark}
 use Rattle.icu_normalizer_core.proofs.DecomposedLemmas.{AreScalar, order_before}
-use Rattle.icu_normalizer.specs.Forming.{IsForming, AreLowBelow}
+use Rattle.icu_normalizer_core.proofs.StepLemmas.{decomposed_itself}
 use Rattle.icu_normalizer.specs.FormCuts.{ReachesBelow}
-use Rattle.icu_normalizer.specs.Marks.{is_mark}
 use Rattle.icu_normalizer.specs.Splits.{IsDecomposed, IsInPlace}
 use Rattle.icu_normalizer.proofs.OwnLemmas.{AreOwn, decomposed_own}
-use Rattle.icu_normalizer.proofs.StepLemmas.{decomposed_itself}
 
 -- ---- putting one character in order
 

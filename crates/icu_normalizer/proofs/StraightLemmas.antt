@@ -3,12 +3,12 @@ use Rattle.std.proofs.Common.{◌≡◌, ℕ, ◌≤◌, ◌⊎◌, inl, inr, Li
 use Rattle.icu_normalizer_core.specs.Boundaries.{HasBoundaryBefore}
 use Rattle.icu_normalizer_core.specs.Canonical.{Canonical, put_in_order, marks_in_order}
 use Rattle.icu_normalizer_core.proofs.DecomposedLemmas.{order_before}
+use Rattle.icu_normalizer_core.proofs.RunLemmas.{order_nothing, order_one}
 use Rattle.icu_normalizer.specs.declared.decomposing.writer.Writer.{Writer}
 use Rattle.icu_normalizer.specs.Sinks.{AddsPrefix}
 use Rattle.icu_normalizer.specs.Straight.{BeginsWithStarter, BeginsApart, IsStraight}
 use Rattle.icu_normalizer.specs.Texts.{IsEncoding}
 use Rattle.icu_normalizer.specs.Writer.{writer_data, held, due, Writes, WritesPart, WritesApart, WritesPartApart}
-use Rattle.icu_normalizer.proofs.RunLemmas.{order_nothing, order_one}
 use Rattle.icu_normalizer.proofs.SinkLemmas.{joined_front, joined_back}
 use Rattle.icu_normalizer.proofs.SplitLemmas.{put_stays}
 use Rattle.icu_normalizer.proofs.WriterLemmas.{nothing_held}

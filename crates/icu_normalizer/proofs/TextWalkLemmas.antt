@@ -1,7 +1,7 @@
 -- Texts of which nothing that was read is out of its place.
 use Rattle.std.proofs.Common.{◌≡◌, ℕ, ◌<◌, inl, inr, List, [], ◌∷◌, ◌++◌, length, sym, ap, subst, ◌∙◌, arith, append_assoc}
 use Rattle.icu_normalizer_core.specs.Canonical.{Canonical, decomposed}
-use Rattle.icu_normalizer.specs.Forming.{IsForming, AreLowBelow}
+use Rattle.icu_normalizer_core.specs.Forming.{IsForming, AreLowBelow}
 use Rattle.icu_normalizer.specs.Splits.{IsDecomposed, IsInPlace}
 use Rattle.icu_normalizer.specs.TextCuts.{IsTextCut}
 use Rattle.icu_normalizer.specs.Texts.{Text, AreCharacters, BeginsDamaged, BeginsWith, IsAtEnd, IsEncoding}

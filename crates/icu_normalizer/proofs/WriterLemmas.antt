@@ -6,13 +6,14 @@ use Rattle.std.proofs.lemmas.List.{take_more_set}
 use Rattle.std.specs.List.{list_all, flat_map}
 use Rattle.std.specs.Prelude.{Result, Ok, Err, OnErr}
 use Rattle.icu_normalizer_core.specs.Canonical.{Canonical, put_in_order, marks_in_order, decomposed}
+use Rattle.icu_normalizer_core.specs.Marks.{is_mark}
 use Rattle.icu_normalizer_core.proofs.DecomposedLemmas.{order_before}
+use Rattle.icu_normalizer_core.proofs.RunLemmas.{order_nothing, all_pushed, mark_from}
 use Rattle.icu_normalizer.specs.declared.decomposing.writer.Writer.{Writer}
-use Rattle.icu_normalizer.specs.Marks.{is_mark, rises_to}
+use Rattle.icu_normalizer.specs.Marks.{rises_to}
 use Rattle.icu_normalizer.specs.Sinks.{AddsPrefix}
 use Rattle.icu_normalizer.specs.Texts.{IsEncoding}
 use Rattle.icu_normalizer.specs.Writer.{writer_data, held, due, AddsFront, Writes, WritesPart}
-use Rattle.icu_normalizer.proofs.RunLemmas.{order_nothing, all_pushed, mark_from}
 use Rattle.icu_normalizer.proofs.SinkLemmas.{joined_front, joined_back}
 use Rattle.icu_normalizer.proofs.SplitLemmas.{put_stays}
 

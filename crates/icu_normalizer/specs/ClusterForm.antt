@@ -1,10 +1,10 @@
 -- What is left of the composed list of a cluster.
 use Rattle.std.specs.Prelude.{◌≡◌, ℕ, ◌+◌, List, []}
 use Rattle.icu_normalizer_core.specs.Canonical.{Canonical}
-use Rattle.icu_normalizer.specs.FormData.{form_meaning}
+use Rattle.icu_normalizer_core.specs.FormData.{form_meaning}
+use Rattle.icu_normalizer_core.specs.Run.{reordered, held, pending}
 use Rattle.icu_normalizer.specs.declared.composing.cluster_form.ClusterForm.{ClusterForm}
 use Rattle.icu_normalizer.specs.Composer.{IsIdle, coming, waiting}
-use Rattle.icu_normalizer.specs.Run.{reordered, held, pending}
 
 -- what its data say of characters
 abbrev pub form_data : ClusterForm → Canonical

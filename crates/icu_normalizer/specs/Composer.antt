@@ -2,7 +2,7 @@
 use Rattle.std.specs.Prelude.{◌≡◌, ℕ, ◌+◌, ◌-◌, false, List, [], ◌++◌, length, drop, Option, Some, None, option_to_list, if◌then◌else◌}
 use Rattle.smallvec.specs.SmallVec.{small_vec_len}
 use Rattle.icu_normalizer_core.specs.Canonical.{Canonical, composing, recomposed}
-use Rattle.icu_normalizer.specs.FormData.{form_meaning}
+use Rattle.icu_normalizer_core.specs.FormData.{form_meaning}
 use Rattle.icu_normalizer.specs.declared.composing.composer.Composer.{Composer}
 
 -- what the data of a composer say of characters

@@ -1,10 +1,10 @@
 -- What is left of an iterator of composed text.
 use Rattle.std.specs.Prelude.{◌≡◌, ℕ, ◌+◌, ◌≤◌, List, Option, Result}
 use Rattle.std.specs.Iterator.{Count}
+use Rattle.icu_normalizer_core.specs.Decompositions.{DecomposesTo, CanDecompose, decomposition_size}
+use Rattle.icu_normalizer_core.specs.Iter.{YieldsFirstOk}
 use Rattle.icu_normalizer.specs.declared.composing.Composition.{Composition}
 use Rattle.icu_normalizer.specs.Composer.{coming, waiting}
-use Rattle.icu_normalizer.specs.Decompositions.{DecomposesTo, CanDecompose, decomposition_size}
-use Rattle.icu_normalizer.specs.Iter.{YieldsFirstOk}
 
 -- these characters are still to come, unless memory runs out
 pub record ComposesTo {I : Type 0} (steps : I → Option ℕ → I → Type 0) (s : Composition I) (out : List ℕ) : Type 0 where

@@ -8,8 +8,8 @@ use Rattle.icu_normalizer_core.specs.CanonicalMeaning.{meaning}
 use Rattle.icu_normalizer_core.specs.CompatibilityLoading.{BothCheckedMemoryAside}
 use Rattle.icu_normalizer_core.specs.CompatibilityMeaning.{CompatibilityTables, compatibility_meaning}
 use Rattle.icu_normalizer_core.specs.Loading.{CheckedMemoryAside}
-use Rattle.icu_normalizer.specs.declared.form_data.owned.OwnedData.{OwnedData}
-use Rattle.icu_normalizer.specs.declared.form_data.owned.OwnedData.TheVariants.{Canonical as OfCanonical, Compatibility as OfBoth}
+use Rattle.icu_normalizer.specs.declared.owned_data.OwnedData.{OwnedData}
+use Rattle.icu_normalizer.specs.declared.owned_data.OwnedData.TheVariants.{Canonical as OfCanonical, Compatibility as OfBoth}
 
 -- canonical tables, and the compatibility tables of a normaliser to NFKD or NFKC
 pub record NormalizerTables : Type 0 where

@@ -1,7 +1,7 @@
 -- The data of normalisers.
 use Rattle.std.specs.Prelude.{ℕ}
 use Rattle.icu_normalizer_core.specs.Canonical.{Canonical}
-use Rattle.icu_normalizer.specs.FormData.{form_meaning, form_canonical, low_bound}
+use Rattle.icu_normalizer_core.specs.FormData.{form_meaning, form_canonical, low_bound}
 use Rattle.icu_normalizer.specs.declared.composing.normalizer.ComposingNormalizerBorrowed.{ComposingNormalizerBorrowed}
 use Rattle.icu_normalizer.specs.declared.decomposing.normalizer.DecomposingNormalizerBorrowed.{DecomposingNormalizerBorrowed}
 

@@ -3,10 +3,10 @@ use Rattle.std.specs.Prelude.{ℕ, ◌≤◌, List, Option, Result}
 use Rattle.std.specs.Iterator.{Count, at_most}
 use Rattle.icu_normalizer_core.specs.Canonical.{Canonical}
 use Rattle.icu_normalizer_core.specs.CanonicalMeaning.{meaning}
+use Rattle.icu_normalizer_core.specs.Iter.{YieldsFirstOk}
 use Rattle.icu_normalizer.specs.declared.uts46.borrowed.Uts46MapperBorrowed.{Uts46MapperBorrowed}
 use Rattle.icu_normalizer.specs.declared.uts46.iter.Uts46Iter.{Uts46Iter}
 use Rattle.icu_normalizer.specs.Compositions.{ComposesTo, CanCompose, composition_size}
-use Rattle.icu_normalizer.specs.Iter.{YieldsFirstOk}
 use Rattle.icu_normalizer.specs.Uts46.{Mapping, mapper_of}
 use Rattle.icu_normalizer.specs.Uts46Iter.{MappingSteps, CanMap, mapped_size}
 use Rattle.icu_normalizer.specs.Uts46Loading.{MapperTables}

@@ -1,7 +1,7 @@
 -- Decomposed text on its way to a sink.
 use Rattle.std.specs.Prelude.{◌≡◌, ℕ, List, ◌++◌, take}
 use Rattle.icu_normalizer_core.specs.Canonical.{Canonical, marks_in_order}
-use Rattle.icu_normalizer.specs.FormData.{form_meaning}
+use Rattle.icu_normalizer_core.specs.FormData.{form_meaning}
 use Rattle.icu_normalizer.specs.declared.decomposing.writer.Writer.{Writer}
 use Rattle.icu_normalizer.specs.Sinks.{AddsPrefix}
 use Rattle.icu_normalizer.specs.Straight.{BeginsApart}

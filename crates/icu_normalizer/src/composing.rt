@@ -4,10 +4,10 @@ ghost use Rattle.std.specs.Prelude.{◌≡◌, ℕ, ◌*◌, List};
 ghost use Rattle.std.specs.Iterator.{at_most, IsFinite, size};
 ghost use Rattle.icu_normalizer_core.specs.BorrowedMeaning.{borrowed_meaning};
 ghost use Rattle.icu_normalizer_core.specs.Canonical.{composed};
+ghost use Rattle.icu_normalizer_core.specs.FormData.{form_meaning};
+ghost use Rattle.icu_normalizer_core.specs.Iter.{Spells};
+ghost use Rattle.icu_normalizer_core.specs.Readable.{IsReadable};
 ghost use Rattle.icu_normalizer.specs.Composing.{IsComposable};
-ghost use Rattle.icu_normalizer.specs.FormData.{form_meaning};
-ghost use Rattle.icu_normalizer.specs.Iter.{Spells};
-ghost use Rattle.icu_normalizer.specs.Readable.{IsReadable};
 
 mod cluster_form;
 mod clusters;
@@ -19,9 +19,9 @@ mod normalizer;
 mod owned;
 
 use crate::decomposing::Decomposition;
-use crate::form_data::FormData;
 use composer::Composer;
 use icu_normalizer_core::canonical::CanonicalBorrowed;
+use icu_normalizer_core::decomposition::FormData;
 pub use normalizer::ComposingNormalizerBorrowed;
 pub use owned::ComposingNormalizer;
 use std::alloc::{AllocError, Global};

@@ -7,8 +7,8 @@ ghost use Rattle.std.specs.Prelude.{◌≡◌, ℕ, ◌↔◌, All, List, chars,
 ghost use Rattle.std.specs.Str.{IsUtf8};
 ghost use Rattle.icu_normalizer_core.specs.Canonical.{Canonical, IsCanonical, IsDecomposing, composed, decomposed};
 ghost use Rattle.icu_normalizer_core.specs.Decoding.{utf8_chars, utf16_chars};
+ghost use Rattle.icu_normalizer_core.specs.Forming.{IsSaidOver};
 ghost use Rattle.icu_normalizer.specs.Equivalence.{IsEquivalent};
-ghost use Rattle.icu_normalizer.specs.Forming.{IsSaidOver};
 ghost use Rattle.icu_normalizer.specs.FormCuts.{IsComposed};
 ghost use Rattle.icu_normalizer.specs.Splits.{IsDecomposed};
 ghost use Rattle.icu_normalizer.specs.TextForms.{composed_text, decomposed_text};

@@ -4,9 +4,8 @@
 
 pub mod composing;
 pub mod decomposing;
-mod form_data;
 pub mod laws;
-mod run;
+mod owned_data;
 pub mod sinks;
 mod texts;
 pub mod uts46;

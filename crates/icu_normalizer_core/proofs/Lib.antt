@@ -8,6 +8,7 @@ pub mod builder
 pub mod BuiltInFacts
 pub mod BuiltInTestLemmas
 pub mod CompatibilityWalkLemmas
+pub mod CompatibleLemmas
 pub mod CompositionLemmas
 pub mod DecodedLemmas
 pub mod DecodingComputing
@@ -15,8 +16,10 @@ pub mod DecomposedLemmas
 pub mod EndingLemmas
 pub mod FaultLemmas
 pub mod FixedListLemmas
+pub mod FormingLemmas
 pub mod FullListLemmas
 pub mod FullStartLemmas
+pub mod IterLemmas
 pub mod JoinedStartLemmas
 pub mod LeftLemmas
 pub mod MarkLemmas
@@ -24,11 +27,14 @@ pub mod OffenderLemmas
 pub mod PairLemmas
 pub mod PairTestLemmas
 pub mod ReadingLemmas
+pub mod RunLemmas
 pub mod ScalarLemmas
 pub mod SettledLemmas
 pub mod SettlingLemmas
+pub mod SortLemmas
 pub mod SteadyCompatibilityLemmas
 pub mod SteadyLemmas
+pub mod StepLemmas
 pub mod TableComputing
 pub mod TableMeanings
 pub mod TextLemmas

@@ -12,6 +12,7 @@ pub mod CanonicalMeaning
 pub mod CanonicalRefusals
 pub mod CanonicalWords
 pub mod CharacterWords
+pub mod Classes
 pub mod Compatibility
 pub mod CompatibilityFaults
 pub mod CompatibilityLoading
@@ -20,10 +21,14 @@ pub mod CompatibilityMeaning
 pub mod CompatibilityWalks
 pub mod DataErrors
 pub mod Decoding
+pub mod Decompositions
+pub mod FormData
+pub mod Forming
 pub mod FullLists
 pub mod GivenCompatibilities
 pub mod GivenMaps
 pub mod InOrder
+pub mod Iter
 pub mod ListWords
 pub mod Loading
 pub mod MapNumbers
@@ -32,7 +37,9 @@ pub mod PairTests
 pub mod Plain
 pub mod Properties
 pub mod PropertyMeanings
+pub mod Readable
 pub mod Readings
+pub mod Run
 pub mod Sameness
 pub mod Settled
 pub mod SettledMappings

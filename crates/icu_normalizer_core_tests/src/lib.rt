@@ -8,6 +8,8 @@ mod builder;
 #[cfg(test)]
 mod canonical;
 #[cfg(test)]
+mod classed;
+#[cfg(test)]
 mod compatibility;
 #[cfg(test)]
 mod decoding;

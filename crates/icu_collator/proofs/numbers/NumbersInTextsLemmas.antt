@@ -25,9 +25,10 @@ use Rattle.icu_collator.specs.Order.{levels_order, collation_order}
 use Rattle.icu_collator.specs.NumbersInTexts.{AreNumbersTogether, AreDigitsApart, IsRunOfDigits, IsNumberBetween, is_digit, begins_with_digit, ends_with_digit, digits_of, run_value, no_number_is_variable}
 use Rattle.icu_collator.proofs.numbers.DecomposedDigitsLemmas.{decomposed_run}
 use Rattle.icu_collator.proofs.numbers.NumberLevelLemmas.{different_numbers, same_elements}
-use Rattle.icu_collator.proofs.readings.BeforeDigitLemmas.{reading_is, EndsPlain}
+use Rattle.icu_collator.proofs.readings.BeforeDigitLemmas.{EndsPlain}
 use Rattle.icu_collator.proofs.readings.SplitAtDigitLemmas.{any_count, split_at_digit}
-use Rattle.icu_collator.proofs.readings.AfterNumberLemmas.{AgreeToDigit, count_of, taken_of, placed_alike, elements_alike}
+use Rattle.icu_collator.proofs.readings.AfterNumberLemmas.{AgreeToDigit, placed_alike}
+use Rattle.icu_collator_core.proofs.readings.AlikeLemmas.{reading_is, count_of, taken_of, elements_alike}
 
 -- what stands directly before what follows these characters
 abbrev after : List ℕ → List ℕ → List ℕ

@@ -5,39 +5,11 @@ use Rattle.std.specs.Option.{unwrap_or, is_some}
 use Rattle.std.proofs.lemmas.Bool.{cond_both, cases_lt, eq-eqb, false_from_ne_true, or_right, or_left}
 use Rattle.std.proofs.lemmas.List.{take-append-le, map-append}
 use Rattle.icu_normalizer_core.specs.Canonical.{Canonical}
-use Rattle.icu_collator_types.specs.declared.elements.Element.{Element}
 use Rattle.icu_collator_core.specs.Collation.{Collation}
 use Rattle.icu_collator_core.specs.Weights.{Weights}
-use Rattle.icu_collator_core.specs.Defaults.{special_primary, primary_element}
-use Rattle.icu_collator_core.specs.Elements.{Placed, Reading, Joining, characters_of, at_greatest, recorded_length, match_length, prefix_match, joining, text_reading, number_reading, is_before_accent, reading}
+use Rattle.icu_collator_core.specs.Elements.{Placed, Joining, characters_of, at_greatest, recorded_length, match_length, joining}
+use Rattle.icu_collator_core.proofs.readings.AlikeLemmas.{two_ways}
 use Rattle.icu_collator.specs.NumbersInTexts.{AreDigitsApart, is_digit, holds_digit, ends_with_digit}
-
--- The choice among the kinds of reading.
-abbrev pub chosen : Option ℕ → (ℕ → Reading) → Bool → Reading → Bool → Reading → Option (List Element) → (List Element → Reading) → Reading → Reading
-chosen special of_special is_number number is_dropped dropped prefixed of_prefix text =
-    let undotted = cond is_dropped dropped (elim prefixed [ Some es ↦ of_prefix es | None ↦ text ])
-    in elim special [ Some s ↦ of_special s | None ↦ cond is_number number undotted ]
-
-pub reading_is : (canonical : Canonical) (weights : Weights) (numeric : Bool) (p : Placed) (ps : List Placed)
-    → reading canonical weights numeric p ps
-    ≡ chosen (special_primary p.character) (λ s. record { elements = primary_element s ∷ []; left = ps })
-    (numeric && is_some (weights.digit p.character)) (number_reading weights (p ∷ ps))
-    (weights.dot_above && (p.character == 0x307) && is_before_accent ps) (record { elements = []; left = ps })
-    (prefix_match weights p) (λ es. record { elements = es; left = ps })
-    (text_reading canonical weights p.character (p ∷ ps))
-unfolding reading
-reading_is canonical weights numeric p ps = refl
-
--- two choices by the same tests are as what is chosen from
-pub chosen_alike : (Q : Reading → Reading → Type 0) (o : Option ℕ) (f f' : ℕ → Reading) (a : Bool) (n n' : Reading) (b : Bool) (d d' : Reading)
-    (m : Option (List Element)) (g g' : List Element → Reading) (t t' : Reading)
-    → ((s : ℕ) → Q (f s) (f' s)) → (a ≡ true → Q n n') → Q d d' → ((es : List Element) → Q (g es) (g' es)) → Q t t'
-    → Q (chosen o f a n b d m g t) (chosen o f' a n' b d' m g' t')
-chosen_alike Q (Some s) f f' a n n' b d d' m g g' t t' h i j k l = h s
-chosen_alike Q None f f' true n n' b d d' m g g' t t' h i j k l = i refl
-chosen_alike Q None f f' false n n' true d d' m g g' t t' h i j k l = j
-chosen_alike Q None f f' false n n' false d d' (Some es) g g' t t' h i j k l = k es
-chosen_alike Q None f f' false n n' false d d' None g g' t t' h i j k l = l
 
 -- characters that don't end in a digit
 abbrev pub EndsPlain : Weights → List Placed → Type 0
@@ -62,12 +34,6 @@ append_plain weights (p ∷ r ∷ rs) qs h g = append_plain weights (r ∷ rs) q
 pub record JoinsAlike (behind : List Placed) (whole front : Joining) : Type 0 where
   pub text : whole.text ≡ front.text
   pub left : whole.left ≡ front.left ++ behind
-
-two_ways : (b c : Bool) (x y z x' y' z' : Joining) (Q : Joining → Joining → Type 0) → Q x x' → Q y y' → Q z z'
-    → Q (cond b x (cond c y z)) (cond b x' (cond c y' z'))
-two_ways true c x y z x' y' z' Q h i j = h
-two_ways false true x y z x' y' z' Q h i j = i
-two_ways false false x y z x' y' z' Q h i j = j
 
 pub joining_apart : (canonical : Canonical) (weights : Weights) (text : List ℕ) (between ms : List Placed) (q : Placed) (qs : List Placed)
     → canonical.class q.character ≡ 0

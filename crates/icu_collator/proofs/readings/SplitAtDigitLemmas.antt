@@ -13,8 +13,9 @@ use Rattle.icu_collator_core.specs.Weights.{Weights}
 use Rattle.icu_collator_core.specs.Defaults.{special_primary, primary_element, default_elements}
 use Rattle.icu_collator_core.specs.Numbers.{number_elements}
 use Rattle.icu_collator_core.specs.Elements.{Placed, Reading, characters_of, match_length, prefix_match, text_match, text_reading, digit_count, number_reading, is_before_accent, reading, elements_within}
+use Rattle.icu_collator_core.proofs.readings.AlikeLemmas.{chosen_alike, reading_is}
 use Rattle.icu_collator.specs.NumbersInTexts.{AreDigitsApart, is_digit}
-use Rattle.icu_collator.proofs.readings.BeforeDigitLemmas.{chosen_alike, reading_is, EndsPlain, tail_plain, drop_plain, JoinsAlike, joining_apart, joining_plain, joining_shrinks, characters_append, match_filled, match_within, match_kept}
+use Rattle.icu_collator.proofs.readings.BeforeDigitLemmas.{EndsPlain, tail_plain, drop_plain, JoinsAlike, joining_apart, joining_plain, joining_shrinks, characters_append, match_filled, match_within, match_kept}
 
 -- a reading of a list, and that of its front: what stands after the front is left
 record ReadsApart (weights : Weights) (behind : List Placed) (whole front : Reading) : Type 0 where

@@ -83,19 +83,30 @@ module _ {X : Type 0} where
   pub grown_up_to_none : (P : ℕ → X → Type 0) (xs : List X) → Grows (UpTo P 0) xs xs
   grown_up_to_none P xs = grown_by_none (UpTo P 0) xs (λ x w. absurd (omega (arith, w.1)))
 
-  last_or_before : (P : ℕ → X → Type 0) (i : ℕ) (x : X) → (UpTo P i x ⊎ P i x) ↔ UpTo P (i + 1) x
-  last_or_before P i x = (
-    λ s. ⊎_elim (λ w. (w.0, (let lt = w.1 in omega arith), w.2)) (λ p. (i, omega arith, p)) s,
+  -- between two numbers nothing comes that the first doesn't give
+  abbrev pub GivesNoMore : (ℕ → X → Type 0) → ℕ → ℕ → Type 0
+  GivesNoMore P i j = (k : ℕ) (x : X) → i < k → k < j → P k x → P i x
+
+  last_or_before : (P : ℕ → X → Type 0) (i j : ℕ) → i < j → GivesNoMore P i j → (x : X) → (UpTo P i x ⊎ P i x) ↔ UpTo P j x
+  last_or_before P i j less no_more x = (
+    λ s. ⊎_elim (λ w. (w.0, (let lt = w.1 in omega (arith, lt, less)), w.2)) (λ p. (i, less, p)) s,
     λ w. ⊎_elim
         (λ (lt : w.0 < i). inl (w.0, lt, w.2))
-        (λ (ge : i ≤ w.0). inr (subst (λ k. P k x) (let lt = w.1 in omega (arith, lt, ge)) w.2))
+        (λ (ge : i ≤ w.0). inr (⊎_elim
+        (λ (gt : i < w.0). no_more w.0 x gt w.1 w.2)
+        (λ (le : w.0 ≤ i). subst (λ k. P k x) (omega (arith, le, ge)) w.2)
+        (cases_lt i w.0)))
         (cases_lt w.0 i),
   )
 
+  pub grown_up_to_later : (P : ℕ → X → Type 0) (i j : ℕ) → i < j → GivesNoMore P i j → (xs ys zs : List X)
+      → Grows (UpTo P i) xs ys → Grows (P i) ys zs → Grows (UpTo P j) xs zs
+  grown_up_to_later P i j less no_more xs ys zs g h =
+      grown_same (λ x. UpTo P i x ⊎ P i x) (UpTo P j) xs zs (last_or_before P i j less no_more) (grown_twice (UpTo P i) (P i) xs ys zs g h)
+
   pub grown_up_to_next : (P : ℕ → X → Type 0) (i : ℕ) (xs ys zs : List X) → Grows (UpTo P i) xs ys → Grows (P i) ys zs
       → Grows (UpTo P (i + 1)) xs zs
-  grown_up_to_next P i xs ys zs g h =
-      grown_same (λ x. UpTo P i x ⊎ P i x) (UpTo P (i + 1)) xs zs (last_or_before P i) (grown_twice (UpTo P i) (P i) xs ys zs g h)
+  grown_up_to_next P i = grown_up_to_later P i (i + 1) (omega arith) (λ k x gt lt. absurd (omega (arith, gt, lt)))
 
   pub grown_where : (A : Type 0) (P : X → Type 0) (xs ys : List X) → A → Grows P xs ys → Grows (λ x. A × P x) xs ys
   grown_where A P xs ys a g = grown_same P (λ x. A × P x) xs ys (λ x. (λ p. (a, p), λ w. w.1)) g

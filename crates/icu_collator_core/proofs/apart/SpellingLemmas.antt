@@ -1,56 +1,14 @@
 -- The elements that words spell and the leads that they give, gathered; and what is decided of them.
-use Rattle.std.proofs.Common.{◌≡◌, ◌↔◌, ◌⊎◌, inl, inr, ⊎_elim, ℕ, ◌+◌, ◌/◌, ◌^◌, ◌<◌, ◌≤◌, Bool, true, List, [], ◌∷◌, ◌++◌, length, take, drop, map, slice_get, Option, Some, None, MatchOption, filter_map, option_to_list, IsTrue, refl, sym, ap, ◌∙◌, subst, arith, append_assoc, append-nil, unwrap_or}
+use Rattle.std.proofs.Common.{◌≡◌, ◌↔◌, ◌⊎◌, inl, inr, ⊎_elim, ℕ, ◌/◌, ◌^◌, Bool, true, List, [], ◌∷◌, Option, Some, None, MatchOption, IsTrue, refl, sym, ◌∙◌, subst, arith, unwrap_or}
 use Rattle.std.specs.List.{Contains, list_all}
-use Rattle.std.proofs.lemmas.Bool.{and_from, and_parts, cases_lt}
-use Rattle.std.proofs.lemmas.List.{get_or-drop, length-drop, map-append, take_all, take_more}
-use Rattle.std.proofs.lemmas.List.Elements.{filter_map-append}
-use Rattle.std.proofs.lemmas.Option.{slice_get-get_or, slice_get_past}
+use Rattle.std.proofs.lemmas.Bool.{and_from, and_parts}
 use Rattle.icu_collator_core.specs.Pools.{offset_primary}
 use Rattle.icu_collator_core.proofs.apart.GrowthLemmas.{first_in, first_or_later, later_in, none_in}
 use Rattle.icu_collator_core.proofs.weights.RangePrimaryLemmas.{moved_lead}
 
--- ---- Parts of lists
-
--- one number more of a part, if there is one
-part_more : (xs : List ℕ) (place i : ℕ) → take (i + 1) (drop place xs) ≡ take i (drop place xs) ++ option_to_list (slice_get xs (place + i))
-part_more xs place i = by_place (cases_lt (place + i) (length xs))
-  where
-    by_place : (place + i < length xs) ⊎ (length xs ≤ place + i)
-        → take (i + 1) (drop place xs) ≡ take i (drop place xs) ++ option_to_list (slice_get xs (place + i))
-    by_place (inl lt) =
-        let inside : i < length (drop place xs) = let count = length-drop place xs in omega (arith, count, lt)
-        in take_more (drop place xs) i 0 inside
-        ∙ ap (λ n. take i (drop place xs) ++ n ∷ []) (get_or-drop place xs i 0)
-        ∙ ap (λ o. take i (drop place xs) ++ option_to_list o) (sym (slice_get-get_or xs (place + i) 0 lt))
-    by_place (inr ge) =
-        let few : length (drop place xs) ≤ i = let count = length-drop place xs in omega (arith, count, ge)
-        in take_all (i + 1) (drop place xs) (omega (arith, few)) ∙ sym (take_all i (drop place xs) few)
-        ∙ sym (append-nil (take i (drop place xs)))
-        ∙ ap (λ o. take i (drop place xs) ++ option_to_list o) (sym (slice_get_past xs (place + i) ge))
+-- ---- What words give
 
 module _ {X : Type 0} where
-  pub filtered_more : (f : ℕ → Option X) (xs : List ℕ) (place i : ℕ) (found : Option ℕ) (old now new : List X) → found ≡ slice_get xs (place + i)
-      → now ≡ old ++ filter_map f (take i (drop place xs)) → new ≡ now ++ filter_map f (option_to_list found)
-      → new ≡ old ++ filter_map f (take (i + 1) (drop place xs))
-  filtered_more f xs place i found old now new read so_far next =
-      next ∙ ap (λ o. now ++ filter_map f (option_to_list o)) read
-      ∙ ap (λ ys. ys ++ filter_map f (option_to_list (slice_get xs (place + i)))) so_far
-      ∙ append_assoc old (filter_map f (take i (drop place xs))) (filter_map f (option_to_list (slice_get xs (place + i))))
-      ∙ ap (λ ys. old ++ ys)
-      (sym (filter_map-append f (take i (drop place xs)) (option_to_list (slice_get xs (place + i))))
-      ∙ ap (filter_map f) (sym (part_more xs place i)))
-
-  pub mapped_more : (f : ℕ → X) (xs : List ℕ) (place i : ℕ) (found : Option ℕ) (old now new : List X) → found ≡ slice_get xs (place + i)
-      → now ≡ old ++ map f (take i (drop place xs)) → new ≡ now ++ map f (option_to_list found)
-      → new ≡ old ++ map f (take (i + 1) (drop place xs))
-  mapped_more f xs place i found old now new read so_far next =
-      next ∙ ap (λ o. now ++ map f (option_to_list o)) read
-      ∙ ap (λ ys. ys ++ map f (option_to_list (slice_get xs (place + i)))) so_far
-      ∙ append_assoc old (map f (take i (drop place xs))) (map f (option_to_list (slice_get xs (place + i))))
-      ∙ ap (λ ys. old ++ ys)
-      (sym (map-append f (take i (drop place xs)) (option_to_list (slice_get xs (place + i))))
-      ∙ ap (map f) (sym (part_more xs place i)))
-
   -- items of a list that may be missing
   pub optional : (o : Option (List X)) (x : X) → Contains (unwrap_or o []) x ↔ ((xs : List X) × (o ≡ Some xs) × Contains xs x)
   optional (Some ys) x = (λ h. (ys, refl, h), λ w. subst (λ o. Contains (unwrap_or o []) x) (sym w.1) w.2)

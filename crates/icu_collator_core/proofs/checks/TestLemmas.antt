@@ -1,5 +1,5 @@
 -- Tests one after another: what the answer of the last says of all, where those before it said yes or no.
-use Rattle.std.proofs.Common.{◌≡◌, ◌↔◌, ℕ, ℤ, ◌+◌, ◌-◌, ◌^◌, ◌<◌, ◌≤◌, Bool, true, false, ◌&&◌, ◌||◌, List, Option, Some, None, refl, ◌∙◌, sym, subst, arith, ◌⊎◌, inr, ⊎_elim}
+use Rattle.std.proofs.Common.{◌≡◌, ◌↔◌, ℕ, ℤ, ◌-◌, ◌^◌, ◌<◌, ◌≤◌, Bool, true, false, ◌&&◌, ◌||◌, List, Option, Some, None, refl, ◌∙◌, sym, subst, arith, ◌⊎◌, inr, ⊎_elim}
 use Rattle.std.specs.Bool.{IsTrue}
 use Rattle.std.specs.Char.{IsScalar}
 use Rattle.std.specs.Option.{MatchOption}
@@ -73,15 +73,18 @@ no_entries passes units others same broken =
 
 -- ---- Characters in order
 
--- what holds of the characters below a code, and of its own, holds of those below the next
-pub below_next : (P : ℕ → Type 0) (code : ℕ) → ((d : ℕ) → IsScalar d → d < code → P d) → (IsScalar code → P code)
-    → (d : ℕ) → IsScalar d → d < code + 1 → P d
-below_next P code before here d scalar less =
+-- what holds of the characters below a code, of its own, and of those up to a later one, holds of all below that
+pub below_later : (P : ℕ → Type 0) (code later : ℕ) → ((d : ℕ) → IsScalar d → d < code → P d) → (IsScalar code → P code)
+    → ((d : ℕ) → code < d → d < later → P d) → (d : ℕ) → IsScalar d → d < later → P d
+below_later P code later before here between d scalar less =
     ⊎_elim
     (λ (lower : d < code). before d scalar lower)
-    (λ (upper : code ≤ d).
-    let same : code ≡ d = omega (arith, less, upper) in
+    (λ (upper : code ≤ d). ⊎_elim
+    (λ (above : code < d). between d above less)
+    (λ (within : d ≤ code).
+    let same : code ≡ d = omega (arith, within, upper) in
     subst P same (here (subst IsScalar (sym same) scalar)))
+    (cases_lt code d))
     (cases_lt d code)
 
 pub found_none : (P : Type 0) (Q : ℕ → Type 0) (found : Option ℕ) → found ≡ None → MatchOption found P Q → P

@@ -25,7 +25,7 @@ use Rattle.icu_collator_core.proofs.lookups.TextLemmas.{HasRead, greatest_past, 
 
 -- ---- Characters before a place
 
-scalars_join : (xs ys : List ℕ) → scalars xs ≡ true → scalars ys ≡ true → scalars (xs ++ ys) ≡ true
+pub scalars_join : (xs ys : List ℕ) → scalars xs ≡ true → scalars ys ≡ true → scalars (xs ++ ys) ≡ true
 scalars_join [] ys e f = f
 scalars_join (x ∷ xs) ys e f =
     let parts = and_parts (scalar x) (scalars xs) e in
@@ -91,7 +91,7 @@ greatest_given {A} {B} f h g (suc m) same some =
         ∙ before
 
 -- the record of a character behind others
-recorded_before : (entry : TableWord) (c : ℕ) (before : List ℕ) → 0 < length before
+pub recorded_before : (entry : TableWord) (c : ℕ) (before : List ℕ) → 0 < length before
     → recorded_by entry c (reverse before) []
     ≡ option_and_then (elements_of_word entry.pools) (cond (has_tag Prefix entry.word) (word_by (trie_of entry.pools.contexts (index_of entry.word)) before) None)
 unfolding recorded_by prefix_word word_in_context

@@ -1,12 +1,11 @@
 -- What accepted tables say of weights keeps the rules.
-use Rattle.std.proofs.Common.{◌≡◌, ℕ, ◌-◌, inl, inr, Bool, true, false, cond, List, [], ◌∷◌, Option, Some, None, refl, sym, subst}
-use Rattle.std.specs.Prelude.{◌==◌, ◌&&◌, leb, not, slice_get, slice_index, IfSome, MatchOption}
+use Rattle.std.proofs.Common.{◌≡◌, ℕ, ◌-◌, inl, inr, true, List, [], ◌∷◌, Option, Some, sym, subst}
+use Rattle.std.specs.Prelude.{◌&&◌, leb, not, slice_get, MatchOption}
 use Rattle.std.specs.Char.{IsScalar}
 use Rattle.std.specs.List.{Contains, list_all}
-use Rattle.std.proofs.lemmas.Bool.{and_parts, cond_both}
+use Rattle.std.proofs.lemmas.Bool.{and_parts}
 use Rattle.std.proofs.lemmas.Option.{get_or_from_slice_get, none-some, slice_get_within}
 use lib.Utf8.{scalar, scalars}
-use Rattle.icu_normalizer_core.specs.BuiltIn.{is_jamo}
 use Rattle.icu_normalizer_core.specs.Canonical.{Canonical, is_starter}
 use Rattle.icu_collator_types.specs.declared.elements.Element.{Element}
 use Rattle.icu_collator_core.specs.declared.check.layers.Layer.TheVariants.{Root, Tailoring}
@@ -14,9 +13,10 @@ use Rattle.icu_collator_core.specs.declared.tables.CollationTables.{CollationTab
 use Rattle.icu_collator_core.specs.declared.tables.data.CollationData.{CollationData}
 use Rattle.icu_collator_core.specs.Acceptance.{IsAccepted}
 use Rattle.icu_collator_core.specs.PrefixFaults.{IsRangedIn, IsSpelledIn}
-use Rattle.icu_collator_core.specs.TableMeaning.{TableWord, counting_word, diacritic, digit_by, fallback, pools_of, ranged_by, recorded_by, recorded_in, secondary_word, tailored_word, weights_of, word_at, word_in}
+use Rattle.icu_collator_core.specs.TableMeaning.{TableWord, counting_word, diacritic, digit_by, ranged_by, recorded_by, recorded_in, weights_of, word_in}
 use Rattle.icu_collator_core.specs.WeightFaults.{is_diacritic_count, is_sound_diacritic}
-use Rattle.icu_collator_core.specs.WeightRules.{AreApart, AreSoundWeights, IsRecorded, are_apart_elements, has_widths, is_beside_ranged, is_sound_element, is_sound_ranged}
+use Rattle.icu_collator_core.specs.WeightRules.{AreApart, AreSoundWeights, IsRecorded, has_widths, is_beside_ranged, is_sound_element, is_sound_ranged}
+use Rattle.icu_collator_core.proofs.meaning.CountingWordLemmas.{counting_holds, in_some, mark_word}
 use Rattle.icu_collator_core.proofs.meaning.GoodWordLemmas.{IsGoodRanged, IsGoodWord, KeepsRules, asked, source_good}
 use Rattle.icu_collator_core.proofs.meaning.StatedWordLemmas.{jamo_good, mark_good}
 use Rattle.icu_collator_core.proofs.meaning.WordElementLemmas.{spelled_sound, widths}
@@ -24,10 +24,6 @@ use Rattle.icu_collator_core.proofs.meaning.WordElementLemmas.{spelled_sound, wi
 -- what a list has at a place
 at_place : (xs : List ℕ) (k x : ℕ) → slice_get xs k ≡ Some x → Contains xs x
 at_place xs k x h = (k, slice_get_within xs k x h, get_or_from_slice_get xs k x x h)
-
--- what is so of the tailoring, if there is one
-in_some : (o : Option CollationData) (source : CollationData) (P : CollationData → Type 0) → o ≡ Some source → IfSome o P → P source
-in_some o source P e h = subst (λ o. IfSome o P) e h
 
 of_some : (o : Option CollationData) (source : CollationData) (P : CollationData → Type 0) → o ≡ Some source → P source → MatchOption o ⊥ P
 of_some o source P e h = subst (λ o. MatchOption o ⊥ P) (sym e) h
@@ -51,37 +47,15 @@ module _ (canonical : Canonical) (tables : CollationTables) (accepted : IsAccept
       ((in_some tables.tailoring source _ is accepted.characters.contexts.1) c scalar)
       ((in_some tables.tailoring source _ is accepted.characters.words.1) c scalar)
 
-  tailored_keeps : (c : ℕ) → IsScalar c → Keeps c (tailored_word tables c)
-  tailored_keeps c scalar = at tables.tailoring refl
-    where
-      at : (o : Option CollationData) → tables.tailoring ≡ o
-          → Keeps c (elim o as (λ _. TableWord) [ Some tailoring ↦ cond (word_at tailoring c == fallback) (word_in tables.root c) (word_in tailoring c) | None ↦ word_in tables.root c ])
-      at None is = root_keeps c scalar
-      at (Some source) is =
-          cond_both (word_at source c == fallback) (word_in tables.root c) (word_in source c) (Keeps c)
-          (λ left. root_keeps c scalar) (λ own. tailoring_keeps c source scalar is)
-
-  marked : (c s : ℕ) → diacritic canonical tables.diacritics.secondaries c ≡ Some s → IsGoodWord tables c (record { word = secondary_word s; pools = pools_of tables.root })
+  marked : (c s : ℕ) → diacritic canonical tables.diacritics.secondaries c ≡ Some s → Keeps c (mark_word tables s)
   marked c s h =
       mark_good tables c s (and_parts (is_diacritic_count tables.metadata _) (list_all is_sound_diacritic tables.diacritics.secondaries) accepted.diacritics).1
       (at_place tables.diacritics.secondaries (c - 0x300) s (asked (leb 0x300 c && not (is_starter canonical c)) _ s h).1)
 
-  abbrev jamo_word : ℕ → TableWord
-  jamo_word c = record { word = slice_index tables.jamo.ce32s (c - 0x1100); pools = pools_of tables.root }
-
   counting_keeps : (c : ℕ) → IsScalar c → Keeps c (counting_word canonical tables c)
-  unfolding counting_word
-  counting_keeps c scalar = at (diacritic canonical tables.diacritics.secondaries c) refl
-    where
-      at : (o : Option ℕ) → diacritic canonical tables.diacritics.secondaries c ≡ o
-          → Keeps c (elim o as (λ _. TableWord) [
-            | Some secondary ↦ record { word = secondary_word secondary; pools = pools_of tables.root }
-            | None ↦ cond (is_jamo c) (jamo_word c) (tailored_word tables c)
-          ])
-      at (Some s) is = marked c s is
-      at None is =
-          cond_both (is_jamo c) (jamo_word c) (tailored_word tables c) (Keeps c)
-          (λ yes. jamo_good tables c accepted.jamo yes) (λ no. tailored_keeps c scalar)
+  counting_keeps c scalar =
+      counting_holds canonical tables c (Keeps c) (root_keeps c scalar) (λ source is. tailoring_keeps c source scalar is)
+      (marked c) (λ yes. jamo_good tables c accepted.jamo yes)
 
   -- ---- What is recorded
 

@@ -196,3 +196,10 @@ module _ (tables : CollationTables) (c : ℕ) (jamo : AreSoundJamo tables) (is :
           stated_good tables (pools_of tables.root) word e stated c h
           (λ f spells.
           inr (inr (word, Contains-get_or tables.jamo.ce32s (c - 0x1100) 0 (subst (λ (n : ℕ). c - 0x1100 < n) (sym jamo.count) inside), spells)))
+
+  pub jamo_unprefixed : has_tag Prefix word ≡ false
+  jamo_unprefixed = at (stated_element word) refl told
+    where
+      at : (o : Option Element) → stated_element word ≡ o → Told c o → has_tag Prefix word ≡ false
+      at None stated h = absurd (false≢true h)
+      at (Some e) stated h = stated_tag word e stated Prefix (omega arith)

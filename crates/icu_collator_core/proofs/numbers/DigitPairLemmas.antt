@@ -25,7 +25,7 @@ pairs_below (x ∷ []) h = let first = h.0 in (omega arith, tt)
 pairs_below (x ∷ d ∷ xs) h = let first = h.0 in let second = h.1.0 in (omega arith, pairs_below xs h.1.1)
 
 -- a pair before those that are left when the zeros at the end are gone
-abbrev before_left : ℕ → List ℕ → List ℕ
+abbrev pub before_left : ℕ → List ℕ → List ℕ
 before_left p s = elim s [ [] ↦ cond (p == 0) [] (p ∷ []) | q ∷ qs ↦ p ∷ q ∷ qs ]
 
 abbrev IsFilled : List ℕ → Type 0

@@ -2,18 +2,12 @@
 use Rattle.std.proofs.Common.{◌≡◌, ℕ, ◌+◌, ◌-◌, ◌*◌, ◌/◌, ◌%◌, ◌<◌, ◌≤◌, Bool, true, false, cond, ◌==◌, ltb, List, [], ◌∷◌, length, refl, sym, ap, subst, ◌∙◌, ◌⊎◌, inl, inr, arith}
 use Rattle.std.proofs.lemmas.Bool.{cond_both, eqb-true, eqb-false, cases_lt}
 use Rattle.std.proofs.lemmas.Bool.Decides.{nat_tests}
-use Rattle.icu_collator_core.specs.Numbers.{value_of, pairs_of, without_last_zeros, pair_bytes, elements_of_bytes, long_number, number_part}
+use Rattle.icu_collator_core.specs.Numbers.{value_of, pairs_of, elements_of_bytes, long_number, number_part}
+use Rattle.icu_collator_core.specs.NumberBytes.{evened, long_bytes}
 use Rattle.icu_collator_core.proofs.numbers.DigitLemmas.{AreBelow, AreDigits, AreSignificant, DiffersBelow, IsBelow, below_lower}
 use Rattle.icu_collator_core.proofs.numbers.DigitPairLemmas.{IsLed, pairs_differ, pairs_below, bytes_differ, bytes_below}
 
--- digits with a zero before them where their number is odd
-evened : List ℕ → List ℕ
-evened ds = cond ((length ds % 2) == 0) ds (0 ∷ ds)
-
--- the bytes after the lead, of a number of many digits and of any
-long_bytes : List ℕ → List ℕ
-long_bytes ds = (128 + (length ds + 1) / 2) ∷ pair_bytes (without_last_zeros (pairs_of (evened ds)))
-
+-- the bytes after the lead, of a number of few digits and of any
 two_bytes : ℕ → List ℕ
 two_bytes w = (76 + w / 254) ∷ (2 + w % 254) ∷ []
 

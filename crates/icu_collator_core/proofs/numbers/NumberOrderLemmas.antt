@@ -1,5 +1,5 @@
 -- The elements of numbers order as the values do.
-use Rattle.std.proofs.Common.{◌≡◌, ℕ, zero, suc, ◌<◌, ◌≤◌, List, [], ◌∷◌, ◌++◌, length, refl, sym, ap, subst, ◌∙◌, inl, inr, arith}
+use Rattle.std.proofs.Common.{◌≡◌, ℕ, ◌<◌, ◌≤◌, List, [], ◌∷◌, ◌++◌, length, refl, sym, ap, subst, ◌∙◌, inl, inr, arith}
 use Rattle.std.proofs.lemmas.Bool.Decides.{nat_tests}
 use Rattle.std.proofs.lemmas.Cmp.{nat_list_cmp_total, tied_itself}
 use Rattle.std.proofs.lemmas.List.{append-nil, take_all, drop_all, map-append}
@@ -13,6 +13,7 @@ use Rattle.icu_collator_types.specs.declared.elements.Element.{Element}
 use Rattle.icu_collator_core.specs.Numbers.{value_of, significant, elements_of_bytes, number_part, number_parts, number_elements}
 use Rattle.icu_collator_core.specs.WholeNumbers.{IsWholeNumber, primaries_of}
 use Rattle.icu_collator_core.proofs.numbers.DigitLemmas.{AreBelow, AreDigits, AreSignificant, DiffersBelow, below_lower, below_cases, significant_value, significant_digits, significant_is}
+use Rattle.icu_collator_core.proofs.numbers.NumberPartLemmas.{parts_of_none}
 use Rattle.icu_collator_core.proofs.numbers.NumberBytesLemmas.{number_bytes, part_is_bytes, bytes_in_order, number_bytes_below}
 
 -- primaries of bytes differ where the bytes do
@@ -63,11 +64,6 @@ counted (d ∷ ds) h =
       is = significant_is d ds;
       short = h.short;
     }
-
-parts_of_none : (parts lead : ℕ) → number_parts parts lead [] ≡ []
-unfolding number_parts
-parts_of_none zero lead = refl
-parts_of_none (suc parts) lead = refl
 
 -- a number that is read whole has the elements of its bytes
 pub whole_elements : (lead : ℕ) (ds : List ℕ) → IsWholeNumber ds → number_elements lead ds ≡ elements_of_bytes lead (number_bytes (significant ds))

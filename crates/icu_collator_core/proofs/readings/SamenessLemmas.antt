@@ -51,7 +51,7 @@ characters_scalar (p ∷ ps) h = (h.0.character, characters_scalar ps h.1)
 
 -- ---- what is found and counted by equal tests
 
-at_greatest_same : {A : Type 0} (f g : ℕ → Option A) (n : ℕ) → ((k : ℕ) → f k ≡ g k) → at_greatest f n ≡ at_greatest g n
+pub at_greatest_same : {A : Type 0} (f g : ℕ → Option A) (n : ℕ) → ((k : ℕ) → f k ≡ g k) → at_greatest f n ≡ at_greatest g n
 unfolding at_greatest
 at_greatest_same f g zero h = h zero
 at_greatest_same {A} f g (suc n) h =

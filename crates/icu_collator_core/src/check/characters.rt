@@ -10,7 +10,7 @@ use std::alloc::{AllocError, Global};
 
 /// A test of the word of a character.
 pub(crate) trait CharacterTest {
-    ghost use Rattle.std.specs.Prelude.{ℕ, IsTrue, IfOk, ◌↔◌};
+    ghost use Rattle.std.specs.Prelude.{ℕ, IsTrue, IfOk, ◌↔◌, ◌<◌, ◌≤◌};
     ghost use Rattle.icu_collator_core.specs.declared.check.layers.Layer.{Layer};
     ghost use Rattle.icu_collator_core.specs.declared.tables.data.CollationData.{CollationData};
 
@@ -26,6 +26,13 @@ pub(crate) trait CharacterTest {
         c: char,
     ) -> Result<bool, AllocError>
         ensures { IfOk result (λ yes. IsTrue yes ↔ Passes self.now layer source.now c) };
+
+    /// Where a walk over all codes goes on behind this one: the words of those before it pass.
+    fn next_code(&self, layer: Layer, source: &CollationData<'_>, code: u32) -> u32
+        requires { code < 0x11_0000 }
+        ensures onward { code < result }
+        ensures bound { result ≤ 0x11_0000 }
+        ensures passed { (c : ℕ) → code < c → c < result → Passes self.now layer source.now c };
 }
 
 /// The character of a code, if it is one of which a test says no.
@@ -58,11 +65,13 @@ fn first_refused_in<T: CharacterTest>(
         (AllPass (T.Passes test.now layer source.now))
         (IsLeastRefused (T.Passes test.now layer source.now))) }
 {
-    for code in 0..0x11_0000u32 {
+    let mut code = 0;
+    while code < 0x11_0000 {
         let found = refused_at(alloc, layer, source, code, test)?;
         if let Some(c) = found {
             return Ok(Some(c));
         }
+        code = test.next_code(layer, source, code);
     }
     Ok(None)
 }
@@ -106,6 +115,14 @@ impl CharacterTest for CellTest {
         c: char,
     ) -> Result<bool, AllocError> {
         Ok(source.trie.has_cell(c as u32))
+    }
+
+    fn next_code(&self, _layer: Layer, source: &CollationData<'_>, code: u32) -> u32 {
+        if code >= source.trie.tail_start() && source.trie.has_cell(code) {
+            0x11_0000
+        } else {
+            code + 1
+        }
     }
 }
 

@@ -14,6 +14,7 @@ use super::flags::are_flags_true;
 use super::layers::Layer;
 use super::prefixes::are_prefixes;
 use super::records::is_recorded_alone;
+use super::runs::behind_unrecorded;
 use super::suffixes::are_suffixes;
 use super::weights::unprefixed_word;
 use crate::tables::{CollationData, CollationTables};
@@ -157,6 +158,10 @@ impl<'d, 'a> CharacterTest for ContextTest<'d, 'a> {
         let word = source.trie.get(c);
         let yes = keeps_context_rules(alloc, self.canonical, self.tables, source, c, word)?;
         Ok(yes)
+    }
+
+    fn next_code(&self, layer: Layer, source: &CollationData<'_>, code: u32) -> u32 {
+        behind_unrecorded(layer, source, code)
     }
 }
 

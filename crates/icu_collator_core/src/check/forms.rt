@@ -11,6 +11,7 @@ use super::characters::{CharacterTest, first_refused};
 use super::contexts::{default_of, entries_pass};
 use super::fields::{digit_value, has_form, index_of, is_special, length_of, word_at};
 use super::layers::Layer;
+use super::runs::behind_unrecorded;
 use crate::elements::special_primary;
 use crate::tables::{CollationData, CollationTables};
 use icu_char16trie::EntryTest;
@@ -83,7 +84,7 @@ fn is_digit_word(source: &CollationData<'_>, word: u32) -> bool
 }
 
 /// Whether a word leaves the character to the root.
-fn is_fallback(layer: Layer, word: u32) -> bool
+pub(super) fn is_fallback(layer: Layer, word: u32) -> bool
     ensures { result ≡ is_fallback layer word }
 {
     match layer {
@@ -224,6 +225,10 @@ impl CharacterTest for WordTest {
         }
         let yes = is_word(alloc, layer, source, word)?;
         Ok(yes)
+    }
+
+    fn next_code(&self, layer: Layer, source: &CollationData<'_>, code: u32) -> u32 {
+        behind_unrecorded(layer, source, code)
     }
 }
 

@@ -10,6 +10,7 @@ use super::characters::{CharacterTest, first_refused};
 use super::contexts::{default_of, entries_pass};
 use super::fields::{has_tag, index_of, length_of, word_at};
 use super::layers::Layer;
+use super::runs::behind_unrecorded;
 use crate::tables::{CollationData, CollationTables};
 use icu_char16trie::EntryTest;
 use icu_collator_types::elements::Tag;
@@ -170,6 +171,10 @@ impl CharacterTest for PlaceTest {
         let word = source.trie.get(c);
         let yes = is_inside(alloc, source, word)?;
         Ok(yes)
+    }
+
+    fn next_code(&self, layer: Layer, source: &CollationData<'_>, code: u32) -> u32 {
+        behind_unrecorded(layer, source, code)
     }
 }
 

@@ -13,6 +13,7 @@ use super::characters::{CharacterTest, first_refused};
 use super::contexts::{default_of, entries_pass};
 use super::fields::{has_tag, index_of, word_at};
 use super::layers::Layer;
+use super::runs::behind_unrecorded;
 use crate::check_weights::{is_sound_word, own_primary};
 use crate::tables::{CollationData, CollationSpecialPrimaries, CollationTables};
 use icu_char16trie::EntryTest;
@@ -150,6 +151,10 @@ impl<'d, 'a> CharacterTest for WeightTest<'d, 'a> {
         let word = source.trie.get(c);
         let yes = has_sound_words(alloc, self.special, source, c, word)?;
         Ok(yes)
+    }
+
+    fn next_code(&self, layer: Layer, source: &CollationData<'_>, code: u32) -> u32 {
+        behind_unrecorded(layer, source, code)
     }
 }
 

@@ -6,7 +6,7 @@ ghost use Rattle.icu_collator_core.specs.Pools.{element_of, stated_element};
 use icu_collator_types::elements::{CollationElement, CollationElement32, Element};
 
 /// An element of 64 bits, unpacked.
-pub(crate) fn element_of(bits: u64) -> Element
+pub(super) fn element_of(bits: u64) -> Element
     ensures { result ≡ element_of bits }
 {
     let upper = (bits >> 8) & 0x3f;
@@ -27,7 +27,7 @@ fn bits_of(element: CollationElement) -> u64
 }
 
 /// The element that a word states by itself, if it states one.
-pub(crate) fn stated_element(word: u32) -> Option<Element>
+pub(super) fn stated_element(word: u32) -> Option<Element>
     ensures { result ≡ stated_element word }
 {
     if word == 0 {

@@ -1,9 +1,10 @@
 //! What the word of a character says of it with nothing before or behind.
 
-ghost use Rattle.std.specs.Prelude.{◌≡◌, ◌++◌, ◌∷◌, [], OnOk};
+ghost use Rattle.std.specs.Prelude.{◌≡◌, ◌∷◌, [], OnOk};
 ghost use Rattle.std.specs.Option.{unwrap_or};
 ghost use Rattle.icu_collator_core.specs.Defaults.{default_elements};
-ghost use Rattle.icu_collator_core.specs.Pools.{elements_of_word};
+ghost use Rattle.icu_collator_core.specs.ElementLists.{AddsElements};
+ghost use Rattle.icu_collator_core.specs.Pools.{element_of, elements_of_word};
 ghost use Rattle.icu_collator_core.specs.Weights.{Weights};
 ghost use Rattle.icu_collator_core.specs.ReadWords.{AreSaidBy, default_by, elements_alone_by, elements_spelled_by, table_word};
 ghost use Rattle.icu_collator_core.specs.TableMeaning.{digit_by, pools_of, ranged_by};
@@ -14,8 +15,9 @@ use crate::check::fields::{digit_value, has_tag, index_of};
 use crate::check::weights::lone_word;
 use crate::check_weights::entry_at;
 use crate::check_weights::offsets::offset_primary;
-use crate::elements::{primary_element, special_primary, unranged_primary};
-use icu_collator_types::elements::{Element, Tag};
+use crate::elements::{special_primary, unranged_primary};
+use icu_collator_types::elements::{CollationElement, Tag};
+use smallvec::SmallVec;
 use std::alloc::AllocError;
 
 impl CountingWord<'_> {
@@ -46,8 +48,8 @@ impl CountingWord<'_> {
 
     /// The element of a character by itself: special, in a range, a jamo, or implicit.
     #[tactic(auto, unfolding(crate::specs::ReadWords::default_by))]
-    pub(crate) fn default_element(self, c: char) -> Element
-        ensures element { result ≡ default_by (table_word self.entry) c }
+    pub(crate) fn default_element(self, c: char) -> CollationElement
+        ensures element { element_of result ≡ default_by (table_word self.entry) c }
     {
         let primary = match special_primary(c as u32) {
             Some(primary) => primary,
@@ -56,7 +58,7 @@ impl CountingWord<'_> {
                 None => unranged_primary(c as u32),
             },
         };
-        primary_element(primary)
+        CollationElement::new_from_primary(primary)
     }
 
     /// Appends the elements of a word, that of a text or of a character behind a prefix; where it has none, the element
@@ -65,11 +67,11 @@ impl CountingWord<'_> {
         self,
         c: char,
         word: u32,
-        elements: &mut Vec<Element>,
+        elements: &mut SmallVec<CollationElement, 32>,
     ) -> Result<(), AllocError>
-        ensures elements { OnOk result (elements.new.items ≡ elements.old.items ++ elements_spelled_by (table_word self.entry) c word) }
+        ensures elements { OnOk result (AddsElements elements.old.items (elements_spelled_by (table_word self.entry) c word) elements.new.items) }
         ensures said { OnOk result ((weights : Weights) → AreSaidBy weights (table_word self.entry) c
-            → elements.new.items ≡ elements.old.items ++ unwrap_or (elements_of_word (pools_of self.entry.source.now) word) (default_elements weights c)) }
+            → AddsElements elements.old.items (unwrap_or (elements_of_word (pools_of self.entry.source.now) word) (default_elements weights c)) elements.new.items) }
     {
         let found = push_elements(self.source, word, elements)?;
         if !found {
@@ -79,10 +81,14 @@ impl CountingWord<'_> {
     }
 
     /// Appends the elements of a character with nothing before or behind it. Fails only when out of memory.
-    pub(crate) fn push_alone(self, c: char, elements: &mut Vec<Element>) -> Result<(), AllocError>
-        ensures elements { OnOk result (elements.new.items ≡ elements.old.items ++ elements_alone_by (table_word self.entry) c) }
+    pub(crate) fn push_alone(
+        self,
+        c: char,
+        elements: &mut SmallVec<CollationElement, 32>,
+    ) -> Result<(), AllocError>
+        ensures elements { OnOk result (AddsElements elements.old.items (elements_alone_by (table_word self.entry) c) elements.new.items) }
         ensures said { OnOk result ((weights : Weights) → AreSaidBy weights (table_word self.entry) c
-            → elements.new.items ≡ elements.old.items ++ unwrap_or (weights.recorded [] (c ∷ [])) (default_elements weights c)) }
+            → AddsElements elements.old.items (unwrap_or (weights.recorded [] (c ∷ [])) (default_elements weights c)) elements.new.items) }
     {
         let lone = lone_word(self.source, self.word);
         self.push_spelled(c, lone, elements)?;

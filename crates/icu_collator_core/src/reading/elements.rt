@@ -1,24 +1,38 @@
 //! The elements of words, appended to a list.
 
-ghost use Rattle.std.specs.Prelude.{◌≡◌, ◌+◌, ◌<◌, ◌^◌, ◌++◌, [], IfOk, OnOk, filter_map, map, is_some, slice_get};
+ghost use Rattle.std.specs.Prelude.{◌≡◌, ◌+◌, ◌<◌, ◌^◌, ◌∷◌, [], Some, IfOk, IfSome, OnOk, filter_map, map, is_some, option_map, slice_get};
 ghost use Rattle.std.specs.Option.{option_and_then, option_to_list, unwrap_or};
 ghost use Rattle.icu_normalizer_core.specs.CanonicalWords.{items_at};
-ghost use Rattle.icu_collator_core.specs.Pools.{element_of, elements_of_word, stated_element};
+ghost use Rattle.icu_collator_core.specs.ElementLists.{AddsElements};
+ghost use Rattle.icu_collator_core.specs.Pools.{Pools, element_of, elements_of_word, stated_element};
 ghost use Rattle.icu_collator_core.specs.TableMeaning.{pools_of};
 
 use crate::check::fields::{has_tag, index_of, length_of};
-use crate::check_weights::{element_of, stated_element};
 use crate::tables::CollationData;
-use icu_collator_types::elements::{Element, Tag};
+use icu_collator_types::elements::{CollationElement, CollationElement32, Tag};
 use icu_packed_vector::PackedVec;
+use smallvec::SmallVec;
 use std::alloc::AllocError;
 
+/// The element that a word states by itself, if it states one.
+#[inline]
+pub(crate) fn stated_by(word: u32) -> Option<CollationElement>
+    ensures stated { option_map element_of result ≡ stated_element word }
+    ensures elements { IfSome result (λ bits. (pools : Pools) → elements_of_word pools word ≡ Some (element_of bits ∷ [])) }
+{
+    if word == 0 {
+        None
+    } else {
+        CollationElement32::new(word).to_ce_self_contained()
+    }
+}
+
 /// The element that the word at a place states, if there is a word that states one.
-fn stated_at(ce32s: &PackedVec<'_, u32>, place: usize) -> Option<Element>
-    ensures { result ≡ option_and_then stated_element (slice_get ce32s.now place) }
+fn stated_at(ce32s: &PackedVec<'_, u32>, place: usize) -> Option<CollationElement>
+    ensures { option_map element_of result ≡ option_and_then stated_element (slice_get ce32s.now place) }
 {
     match ce32s.get(place) {
-        Some(word) => stated_element(word),
+        Some(word) => stated_by(word),
         None => None,
     }
 }
@@ -28,10 +42,10 @@ fn push_stated(
     ce32s: &PackedVec<'_, u32>,
     place: usize,
     count: usize,
-    elements: &mut Vec<Element>,
+    elements: &mut SmallVec<CollationElement, 32>,
 ) -> Result<(), AllocError>
     requires { place + count < 2 ^ 32 }
-    ensures { OnOk result (elements.new.items ≡ elements.old.items ++ filter_map stated_element (items_at ce32s.now place count)) }
+    ensures { OnOk result (AddsElements elements.old.items (filter_map stated_element (items_at ce32s.now place count)) elements.new.items) }
 {
     for i in 0..count {
         if let Some(element) = stated_at(ce32s, place + i) {
@@ -46,25 +60,25 @@ fn push_unpacked(
     ces: &PackedVec<'_, u64>,
     place: usize,
     count: usize,
-    elements: &mut Vec<Element>,
+    elements: &mut SmallVec<CollationElement, 32>,
 ) -> Result<(), AllocError>
     requires { place + count < 2 ^ 32 }
-    ensures { OnOk result (elements.new.items ≡ elements.old.items ++ map element_of (items_at ces.now place count)) }
+    ensures { OnOk result (AddsElements elements.old.items (map element_of (items_at ces.now place count)) elements.new.items) }
 {
     for i in 0..count {
         if let Some(bits) = ces.get(place + i) {
-            elements.push(element_of(bits))?;
+            elements.push(CollationElement::new(bits))?;
         }
     }
     Ok(())
 }
 
 /// Appends the element that a word states, and says whether it states one. Fails only when out of memory.
-fn push_one(word: u32, elements: &mut Vec<Element>) -> Result<bool, AllocError>
+fn push_one(word: u32, elements: &mut SmallVec<CollationElement, 32>) -> Result<bool, AllocError>
     ensures found { IfOk result (λ found. found ≡ is_some (stated_element word)) }
-    ensures elements { OnOk result (elements.new.items ≡ elements.old.items ++ option_to_list (stated_element word)) }
+    ensures elements { OnOk result (AddsElements elements.old.items (option_to_list (stated_element word)) elements.new.items) }
 {
-    match stated_element(word) {
+    match stated_by(word) {
         Some(element) => {
             elements.push(element)?;
             Ok(true)
@@ -81,7 +95,7 @@ pub(crate) fn has_elements(source: &CollationData<'_>, word: u32) -> bool
     word == 0
         || has_tag(word, Tag::Expansion32)
         || has_tag(word, Tag::Expansion)
-        || stated_element(word).is_some()
+        || stated_by(word).is_some()
 }
 
 /// Appends the elements of a word that needs no look at other characters, and says whether it is one; of another
@@ -90,10 +104,10 @@ pub(crate) fn has_elements(source: &CollationData<'_>, word: u32) -> bool
 pub(crate) fn push_elements(
     source: &CollationData<'_>,
     word: u32,
-    elements: &mut Vec<Element>,
+    elements: &mut SmallVec<CollationElement, 32>,
 ) -> Result<bool, AllocError>
     ensures found { IfOk result (λ found. found ≡ is_some (elements_of_word (pools_of source.now) word)) }
-    ensures elements { OnOk result (elements.new.items ≡ elements.old.items ++ unwrap_or (elements_of_word (pools_of source.now) word) []) }
+    ensures elements { OnOk result (AddsElements elements.old.items (unwrap_or (elements_of_word (pools_of source.now) word) []) elements.new.items) }
 {
     if word == 0 {
         return Ok(true);

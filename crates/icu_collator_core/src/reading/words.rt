@@ -68,7 +68,7 @@ fn diacritic(
 }
 
 /// The word of an element with this secondary, the common tertiary and no primary.
-fn secondary_word(secondary: u16) -> u32
+pub(crate) fn secondary_word(secondary: u16) -> u32
     ensures { result ≡ secondary_word secondary }
 {
     ((secondary as u32) << 16) + 0x05c2

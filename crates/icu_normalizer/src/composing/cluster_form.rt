@@ -1,16 +1,15 @@
 //! The NFC of clusters, character by character.
 
 ghost use Rattle.std.specs.Prelude.{◌≡◌, ◌+◌, ◌≤◌, [], ◌++◌, length, option_to_list, IfNone, IfOk, OnOk};
+ghost use Rattle.icu_normalizer_core.specs.FormData.{form_meaning};
+ghost use Rattle.icu_normalizer_core.specs.Readable.{IsReadable};
 ghost use Rattle.icu_normalizer.specs.Composing.{IsCluster, IsComposable};
-ghost use Rattle.icu_normalizer.specs.FormData.{form_meaning};
-ghost use Rattle.icu_normalizer.specs.Readable.{IsReadable};
 ghost use Rattle.icu_normalizer.specs.Texts.{IsAtEnd};
 
 use super::clusters::next_of_cluster;
 use super::composer::Composer;
-use crate::form_data::FormData;
-use crate::run::Run;
 use crate::texts::Text;
+use icu_normalizer_core::decomposition::{FormData, Run};
 use std::alloc::{AllocError, Global};
 
 /// What is left of the NFC of a cluster.

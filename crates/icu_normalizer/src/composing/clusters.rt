@@ -1,11 +1,11 @@
 //! Parts of a text that are composed alone.
 
 ghost use Rattle.std.specs.Prelude.{◌≡◌, ◌∷◌, ◌<◌, IfSome, IfNone, length};
+ghost use Rattle.icu_normalizer_core.specs.FormData.{form_meaning};
 ghost use Rattle.icu_normalizer.specs.Composing.{IsComposedApart};
-ghost use Rattle.icu_normalizer.specs.FormData.{form_meaning};
 
-use crate::form_data::FormData;
 use crate::texts::Text;
+use icu_normalizer_core::decomposition::FormData;
 
 /// The next character of a cluster, and what stands behind it; `None` where the cluster ends, before a steady character
 /// or at the end of the text. What is damaged reads as U+FFFD.

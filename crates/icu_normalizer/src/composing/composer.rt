@@ -1,10 +1,10 @@
 //! Composing decomposed characters: the last starter, and the marks behind it that did not compose.
 
 ghost use Rattle.std.specs.Prelude.{◌≡◌, ℕ, ◌+◌, ◌≤◌, List, [], ◌∷◌, ◌++◌, false, length, None, option_to_list, IfNone, IfOk};
-ghost use Rattle.icu_normalizer.specs.FormData.{form_meaning};
+ghost use Rattle.icu_normalizer_core.specs.FormData.{form_meaning};
 ghost use Rattle.icu_normalizer.specs.Composing.{AreUpTo, IsComposable, composed_with};
 
-use crate::form_data::FormData;
+use icu_normalizer_core::decomposition::FormData;
 use smallvec::SmallVec;
 use std::alloc::{AllocError, Global};
 

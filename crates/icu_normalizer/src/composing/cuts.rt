@@ -2,16 +2,16 @@
 
 ghost use Rattle.std.specs.Prelude.{◌≡◌, ◌<◌, ◌≤◌, ◌++◌, length, IfOk};
 ghost use Rattle.icu_normalizer_core.specs.Canonical.{composed};
+ghost use Rattle.icu_normalizer_core.specs.FormData.{form_meaning};
 ghost use Rattle.icu_normalizer.specs.Clusters.{IsFound};
-ghost use Rattle.icu_normalizer.specs.FormData.{form_meaning};
 ghost use Rattle.icu_normalizer.specs.TextCuts.{IsTextCut, IsTextSplit};
 ghost use Rattle.icu_normalizer.specs.Texts.{IsAtEnd, IsUndamaged};
 
 use super::cluster_form::ClusterForm;
 use super::lone_mark::{LoneMark, lone_mark};
 use super::low::pass_low;
-use crate::form_data::FormData;
 use crate::texts::Text;
+use icu_normalizer_core::decomposition::FormData;
 use std::alloc::{AllocError, Global};
 
 /// What is found of the first cluster of a text.

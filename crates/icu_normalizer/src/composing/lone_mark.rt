@@ -3,16 +3,16 @@
 ghost use Rattle.std.specs.Prelude.{◌≡◌, ◌<◌, ◌≤◌, [], ◌∷◌, ◌++◌, length, IfSome, IsTrue, OnOk, OnErr};
 ghost use Rattle.std.specs.List.{AllByRecursion};
 ghost use Rattle.icu_normalizer_core.specs.Canonical.{composed, composing};
-ghost use Rattle.icu_normalizer.specs.FormData.{form_meaning};
+ghost use Rattle.icu_normalizer_core.specs.FormData.{form_meaning};
 ghost use Rattle.icu_normalizer.specs.LoneMarks.{IsLoneMark, IsMade, IsMark, IsSteadyUpTo, lone_form};
 ghost use Rattle.icu_normalizer.specs.Sinks.{AddsPrefix, EndsByFailure};
 ghost use Rattle.icu_normalizer.specs.Texts.{BeginsWith};
 
 use super::clusters::next_of_cluster;
-use crate::form_data::FormData;
 use crate::sinks::NormError;
 use crate::texts::{Text, WriteTo};
 use icu_normalizer_core::canonical::Reading;
+use icu_normalizer_core::decomposition::FormData;
 
 /// What composing makes of a character and the mark behind it.
 #[derive(Clone, Copy, Debug)]

@@ -1,11 +1,11 @@
 //! Characters that NFC mostly leaves as they stand.
 
 ghost use Rattle.icu_normalizer_core.specs.Canonical.{composed};
-ghost use Rattle.icu_normalizer.specs.FormData.{form_meaning};
+ghost use Rattle.icu_normalizer_core.specs.FormData.{form_meaning};
 ghost use Rattle.icu_normalizer.specs.TextCuts.{IsPassed};
 
-use crate::form_data::FormData;
 use crate::texts::Text;
+use icu_normalizer_core::decomposition::FormData;
 
 /// What is left of a text once characters that nothing composes with and that stay as they stand are passed over, from
 /// the last of them on; nothing where they reach to the end. What is damaged is not passed over. It takes no memory.

@@ -3,11 +3,11 @@
 ghost use Rattle.std.specs.Prelude.{◌≡◌, ℕ, ◌*◌, ◌<◌, List, ◌++◌, length, IfOk, OnOk, OnErr, chars, encode_utf8_all};
 ghost use Rattle.std.specs.Iterator.{IsFinite, size};
 ghost use Rattle.icu_normalizer_core.specs.Canonical.{IsCanonical, composed};
+ghost use Rattle.icu_normalizer_core.specs.FormData.{form_meaning};
+ghost use Rattle.icu_normalizer_core.specs.Forming.{IsSaidOver};
+ghost use Rattle.icu_normalizer_core.specs.Iter.{Spells};
+ghost use Rattle.icu_normalizer_core.specs.Readable.{IsReadable};
 ghost use Rattle.icu_normalizer.specs.Composing.{IsComposable};
-ghost use Rattle.icu_normalizer.specs.FormData.{form_meaning};
-ghost use Rattle.icu_normalizer.specs.Forming.{IsSaidOver};
-ghost use Rattle.icu_normalizer.specs.Iter.{Spells};
-ghost use Rattle.icu_normalizer.specs.Readable.{IsReadable};
 ghost use Rattle.icu_normalizer.specs.Sinks.{AddsPrefix, EndsByFailure};
 ghost use Rattle.icu_normalizer.specs.Texts.{IsAtEnd, IsUndamaged};
 ghost use Rattle.icu_normalizer.specs.Writer.{AddsFront};
@@ -20,10 +20,10 @@ use super::Composition;
 use super::cluster_form::ClusterForm;
 use super::cuts::{split, split_low};
 use super::lone_mark::{lone_mark, write_lone};
-use crate::form_data::FormData;
 use crate::sinks::{NormError, TextSink};
 use crate::texts::{Text, WriteTo};
 use crate::written::{WriteForm, write_form};
+use icu_normalizer_core::decomposition::FormData;
 use std::alloc::{AllocError, Global};
 
 /// A normaliser to NFC or NFKC (UAX 15), borrowed. What its calls say of NFC is said of NFKC where it is one to NFKC.

@@ -1,12 +1,12 @@
 //! Where a text has to be changed to be in NFD.
 
 ghost use Rattle.icu_normalizer_core.specs.Canonical.{decomposed};
-ghost use Rattle.icu_normalizer.specs.FormData.{form_meaning, low_bound};
+ghost use Rattle.icu_normalizer_core.specs.FormData.{form_meaning, low_bound};
 ghost use Rattle.icu_normalizer.specs.TextCuts.{IsTextCut, IsTextSplit};
 
 use super::places::class_in_place;
-use crate::form_data::FormData;
 use crate::texts::Text;
+use icu_normalizer_core::decomposition::FormData;
 
 /// What has to be changed for a text to be in NFD, from the last starter before the first change on: nothing where the
 /// text is undamaged and its own NFD. A damaged part is a change. It takes no memory.

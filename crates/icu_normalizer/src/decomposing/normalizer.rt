@@ -4,10 +4,10 @@ ghost use Rattle.std.specs.Prelude.{◌≡◌, ℕ, ◌*◌, ◌<◌, List, ◌�
 ghost use Rattle.std.specs.Iterator.{IsFinite, size};
 ghost use Rattle.icu_normalizer_core.specs.BorrowedMeaning.{borrowed_meaning};
 ghost use Rattle.icu_normalizer_core.specs.Canonical.{IsCanonical, decomposed};
-ghost use Rattle.icu_normalizer.specs.FormData.{form_meaning};
-ghost use Rattle.icu_normalizer.specs.Forming.{IsSaidOver};
-ghost use Rattle.icu_normalizer.specs.Iter.{Spells};
-ghost use Rattle.icu_normalizer.specs.Readable.{IsReadable};
+ghost use Rattle.icu_normalizer_core.specs.FormData.{form_meaning};
+ghost use Rattle.icu_normalizer_core.specs.Forming.{IsSaidOver};
+ghost use Rattle.icu_normalizer_core.specs.Iter.{Spells};
+ghost use Rattle.icu_normalizer_core.specs.Readable.{IsReadable};
 ghost use Rattle.icu_normalizer.specs.Sinks.{AddsPrefix, EndsByFailure};
 ghost use Rattle.icu_normalizer.specs.Texts.{IsAtEnd};
 
@@ -18,11 +18,11 @@ mod written;
 use super::Decomposition;
 use super::cuts::split;
 use super::writer::Writer;
-use crate::form_data::FormData;
 use crate::sinks::{NormError, TextSink};
 use crate::texts::{Text, WriteTo};
 use crate::written::{WriteForm, write_form};
 use icu_normalizer_core::canonical::CanonicalBorrowed;
+use icu_normalizer_core::decomposition::FormData;
 use std::alloc::{AllocError, Global};
 
 /// A normaliser to NFD or NFKD (UAX 15), borrowed. What its calls say of NFD is said of NFKD where it is one to NFKD.
@@ -33,7 +33,7 @@ pub struct DecomposingNormalizerBorrowed<'d> {
 }
 
 impl<'d> DecomposingNormalizerBorrowed<'d> {
-    ghost use Rattle.icu_normalizer.specs.Decompositions.{DecomposesTo, CanDecompose, decomposition_size};
+    ghost use Rattle.icu_normalizer_core.specs.Decompositions.{DecomposesTo, CanDecompose, decomposition_size};
     ghost use Rattle.icu_normalizer.specs.Normalizers.{normalizer_data, normalizer_canonical, normalizer_bound};
 
     /// A normaliser to NFD, over canonical data. It takes no memory.

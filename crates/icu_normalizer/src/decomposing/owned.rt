@@ -7,7 +7,7 @@ ghost use Rattle.icu_normalizer_core.specs.Loading.{loaded};
 ghost use Rattle.icu_normalizer.specs.NormalizerTables.{tables_meaning, tables_bound, IsMadeOfCanonical, IsMadeOfBoth};
 
 use super::DecomposingNormalizerBorrowed;
-use crate::form_data::OwnedData;
+use crate::owned_data::OwnedData;
 use icu_normalizer_core::provider::{DataError, NormalizerProvider};
 use std::alloc::Global;
 use std::marker::Model;

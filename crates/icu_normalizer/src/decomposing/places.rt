@@ -1,12 +1,12 @@
 //! Characters that NFD leaves in their place.
 
 ghost use Rattle.std.specs.Prelude.{◌≡◌, [], ◌∷◌, ◌↔◌, IsTrue, IfSome, IfNone};
-ghost use Rattle.icu_normalizer.specs.FormData.{form_meaning};
-ghost use Rattle.icu_normalizer.specs.Readable.{IsReadable};
+ghost use Rattle.icu_normalizer_core.specs.FormData.{form_meaning};
+ghost use Rattle.icu_normalizer_core.specs.Readable.{IsReadable};
 ghost use Rattle.icu_normalizer.specs.Splits.{IsInPlace};
 
-use crate::form_data::FormData;
 use icu_normalizer_core::canonical::Reading;
+use icu_normalizer_core::decomposition::FormData;
 
 /// The class of a character that is in its place behind one of class `before`: it stands for itself, and if it is a
 /// mark, then its class is not below `before`. `None` for any other.

@@ -3,18 +3,18 @@
 ghost use Rattle.std.specs.Prelude.{◌≡◌, ◌≢◌, ℕ, ◌<◌, ◌≤◌, [], ◌∷◌, ◌++◌, true, take, length, IfOk, OnOk, OnErr, IsTrue};
 ghost use Rattle.std.specs.Char.{IsScalar};
 ghost use Rattle.std.specs.List.{list_all};
-ghost use Rattle.icu_normalizer.specs.FormData.{form_meaning};
+ghost use Rattle.icu_normalizer_core.specs.FormData.{form_meaning};
 ghost use Rattle.icu_normalizer_core.specs.Canonical.{marks_in_order};
-ghost use Rattle.icu_normalizer.specs.Marks.{is_mark, rises_to};
+ghost use Rattle.icu_normalizer_core.specs.Marks.{is_mark};
+ghost use Rattle.icu_normalizer.specs.Marks.{rises_to};
 ghost use Rattle.icu_normalizer.specs.Sinks.{AddsPrefix, EndsByFailure};
 
 mod straight;
 
-use crate::form_data::FormData;
-use crate::run::sort_marks;
 use crate::sinks::NormError;
 use crate::texts::WriteTo;
 use icu_normalizer_core::canonical::Reading;
+use icu_normalizer_core::decomposition::{FormData, sort_marks};
 use smallvec::SmallVec;
 use std::alloc::{AllocError, Global};
 use straight::is_straight;
@@ -42,7 +42,7 @@ pub(super) struct Writer<'d> {
 }
 
 impl<'d> Writer<'d> {
-    ghost use Rattle.icu_normalizer.specs.Readable.{IsReadable};
+    ghost use Rattle.icu_normalizer_core.specs.Readable.{IsReadable};
     ghost use Rattle.icu_normalizer.specs.Straight.{IsStraight};
     ghost use Rattle.icu_normalizer.specs.Writer.{writer_data, held, due, Writes, WritesPart, WritesApart, WritesPartApart};
 

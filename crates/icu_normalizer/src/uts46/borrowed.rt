@@ -3,7 +3,7 @@
 ghost use Rattle.std.specs.Prelude.{◌≡◌, ℕ, ◌*◌, List, option_to_list};
 ghost use Rattle.std.specs.Iterator.{IsFinite, size};
 ghost use Rattle.icu_normalizer_core.specs.Canonical.{composed};
-ghost use Rattle.icu_normalizer.specs.Iter.{Spells};
+ghost use Rattle.icu_normalizer_core.specs.Iter.{Spells};
 ghost use Rattle.icu_normalizer.specs.Uts46.{mapped, validated, mapped_with};
 ghost use Rattle.icu_normalizer.specs.Uts46Texts.{mapper_data, mapper_table, Gives, CanGive, uts46_size};
 

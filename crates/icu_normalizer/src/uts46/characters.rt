@@ -2,7 +2,7 @@
 
 ghost use Rattle.std.specs.Prelude.{◌≡◌, ℕ, ◌*◌, ◌<◌, ◌≤◌, List, [], true, false, option_to_list};
 ghost use Rattle.std.specs.Iterator.{at_most, IsFinite, size};
-ghost use Rattle.icu_normalizer.specs.Iter.{Spells, KeepsLeft};
+ghost use Rattle.icu_normalizer_core.specs.Iter.{Spells, KeepsLeft};
 ghost use Rattle.icu_normalizer.specs.Uts46.{mapper_of, mapped_with};
 
 use super::list::MappedList;

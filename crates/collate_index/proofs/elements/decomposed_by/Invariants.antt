@@ -3,7 +3,7 @@ use Rattle.std.specs.Iterator.{YieldsFirst}
 use Rattle.icu_normalizer_core.specs.BorrowedMeaning.{borrowed_meaning}
 use Rattle.icu_normalizer_core.specs.Canonical.{decomposed}
 use Rattle.icu_normalizer_core.specs.Decoding.{utf8_chars}
-use Rattle.icu_normalizer.specs.Decompositions.{DecomposesTo}
+use Rattle.icu_normalizer_core.specs.Decompositions.{DecomposesTo}
 use Rattle.collate_index.proofs.elements.decomposed_by.Given as goal
 
 abbrev pub invariant-loop-item : goal.invariant-loop-item

@@ -1,6 +1,7 @@
 //! All that tables spell, and whether it keeps apart.
 
 ghost use Rattle.std.specs.Prelude.{◌↔◌, IsTrue, IfOk, OnOk};
+ghost use Rattle.icu_collator_core.specs.ElementLists.{unpacked};
 ghost use Rattle.icu_collator_core.specs.PrefixFaults.{AreWeightsApart, IsSpelled, IsSpelledIn};
 ghost use Rattle.icu_collator_core.specs.WeightLists.{Grows, IsLeadOf, IsLeadOfTailoring, IsRangedLead, IsSpelledByTables, IsSpelledByTailoring, Lists};
 
@@ -9,13 +10,14 @@ use super::leads::{are_beside, gather_leads};
 use super::levels::are_apart;
 use super::words::{gather_diacritics, gather_jamo, words_of};
 use crate::tables::{CollationData, CollationTables};
-use icu_collator_types::elements::Element;
+use icu_collator_types::elements::CollationElement;
+use smallvec::SmallVec;
 use std::alloc::{AllocError, Global};
 
 /// The elements that tables spell, and the leads of ranges.
 #[derive(Drop)]
 struct Gathered {
-    elements: Vec<Element>,
+    elements: SmallVec<CollationElement, 32>,
     leads: Vec<u32>,
 }
 
@@ -25,7 +27,7 @@ fn gather_data(
     gathered: &mut Gathered,
     source: &CollationData<'_>,
 ) -> Result<(), AllocError>
-    ensures elements { OnOk result (Grows (IsSpelledIn source.now) gathered.old.elements.items gathered.new.elements.items) }
+    ensures elements { OnOk result (Grows (IsSpelledIn source.now) (unpacked gathered.old.elements.items) (unpacked gathered.new.elements.items)) }
     ensures leads { OnOk result (Grows (IsLeadOf source.now) gathered.old.leads.items gathered.new.leads.items) }
 {
     let words = words_of(alloc, source)?;
@@ -40,7 +42,7 @@ fn gather_tailoring(
     gathered: &mut Gathered,
     tables: &CollationTables<'_>,
 ) -> Result<(), AllocError>
-    ensures elements { OnOk result (Grows (IsSpelledByTailoring tables.now) gathered.old.elements.items gathered.new.elements.items) }
+    ensures elements { OnOk result (Grows (IsSpelledByTailoring tables.now) (unpacked gathered.old.elements.items) (unpacked gathered.new.elements.items)) }
     ensures leads { OnOk result (Grows (IsLeadOfTailoring tables.now) gathered.old.leads.items gathered.new.leads.items) }
 {
     let Some(source) = &tables.tailoring else {
@@ -53,10 +55,10 @@ fn gather_tailoring(
 /// What the table of diacritics and that of jamo spell.
 fn gather_fixed(
     alloc: Global,
-    elements: &mut Vec<Element>,
+    elements: &mut SmallVec<CollationElement, 32>,
     tables: &CollationTables<'_>,
 ) -> Result<(), AllocError>
-    ensures { OnOk result (Grows (IsSpelledByTables tables.now) elements.old.items elements.new.items) }
+    ensures { OnOk result (Grows (IsSpelledByTables tables.now) (unpacked elements.old.items) (unpacked elements.new.items)) }
 {
     let mut words = Vec::new(alloc);
     gather_diacritics(&mut words, tables)?;
@@ -67,10 +69,10 @@ fn gather_fixed(
 
 /// All that tables spell.
 fn gather(alloc: Global, tables: &CollationTables<'_>) -> Result<Gathered, AllocError>
-    ensures elements { IfOk result (λ gathered. Lists (IsSpelled tables.now) gathered.elements.items) }
+    ensures elements { IfOk result (λ gathered. Lists (IsSpelled tables.now) (unpacked gathered.elements.items)) }
     ensures leads { IfOk result (λ gathered. Lists (IsRangedLead tables.now) gathered.leads.items) }
 {
-    let elements = Vec::new(alloc);
+    let elements = SmallVec::new(alloc);
     let leads = Vec::new(alloc);
     let mut gathered = Gathered { elements, leads };
     gather_data(alloc, &mut gathered, &tables.root)?;

@@ -2,13 +2,15 @@
 
 ghost use Rattle.std.specs.Prelude.{◌≡◌, OnOk};
 ghost use Rattle.std.specs.List.{list_all};
+ghost use Rattle.icu_collator_core.specs.ElementLists.{unpacked};
+ghost use Rattle.icu_collator_core.specs.Pools.{element_of};
 ghost use Rattle.icu_collator_core.specs.WeightLists.{Grows, HasLead, HaveLead, is_beside_lead};
 
 use super::words::gather_word;
 use crate::check::fields::{has_tag, index_of};
 use crate::check_weights::entry_at;
 use crate::tables::CollationData;
-use icu_collator_types::elements::{Element, Tag};
+use icu_collator_types::elements::{CollationElement, Tag};
 use std::alloc::AllocError;
 
 /// The lead of the primaries that a word gives, if it is one of a range.
@@ -42,16 +44,16 @@ pub(super) fn gather_leads(
 }
 
 /// Whether the primary of an element has another lead, or three bytes.
-fn is_beside_lead(lead: u32, element: Element) -> bool
-    ensures { result ≡ is_beside_lead lead element }
+fn is_beside_lead(lead: u32, element: CollationElement) -> bool
+    ensures { result ≡ is_beside_lead lead (element_of element) }
 {
-    let primary = element.primary;
+    let primary = element.primary();
     primary >> 24 != lead || (primary & 0xff == 0 && (primary >> 8) & 0xff != 0)
 }
 
 /// Whether the primaries of all elements have.
-fn are_beside_lead(lead: u32, elements: &[Element]) -> bool
-    ensures { result ≡ list_all (is_beside_lead lead) elements.now }
+fn are_beside_lead(lead: u32, elements: &[CollationElement]) -> bool
+    ensures { result ≡ list_all (is_beside_lead lead) (unpacked elements.now) }
 {
     for place in 0..elements.len() {
         if !is_beside_lead(lead, elements[place]) {
@@ -62,8 +64,8 @@ fn are_beside_lead(lead: u32, elements: &[Element]) -> bool
 }
 
 /// Whether they have for each lead.
-pub(super) fn are_beside(leads: &[u32], elements: &[Element]) -> bool
-    ensures { result ≡ list_all (λ lead. list_all (is_beside_lead lead) elements.now) leads.now }
+pub(super) fn are_beside(leads: &[u32], elements: &[CollationElement]) -> bool
+    ensures { result ≡ list_all (λ lead. list_all (is_beside_lead lead) (unpacked elements.now)) leads.now }
 {
     for place in 0..leads.len() {
         if !are_beside_lead(leads[place], elements) {

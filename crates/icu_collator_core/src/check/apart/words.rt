@@ -1,17 +1,20 @@
 //! The words of all characters, with those in their contexts, in a list.
 
-ghost use Rattle.std.specs.Prelude.{◌≡◌, ℕ, ℤ, IsTrue, IfOk, OnOk, Vec};
+ghost use Rattle.std.specs.Prelude.{◌≡◌, ◌<◌, ◌≤◌, ℕ, ℤ, IsTrue, IfOk, OnOk, Vec};
+ghost use Rattle.std.specs.Char.{IsScalar};
 ghost use Rattle.std.specs.Global.{Global};
 ghost use Rattle.std.specs.Int.{cast_unsigned, w32};
 ghost use Rattle.std.specs.List.{Contains};
 ghost use Rattle.icu_collator_types.specs.ElementWords.{has_tag};
 ghost use Rattle.icu_collator_core.specs.PrefixFaults.{HasValue, IsAmong, IsWordIn};
-ghost use Rattle.icu_collator_core.specs.TableMeaning.{pools_of, secondary_word};
+ghost use Rattle.icu_collator_core.specs.TableMeaning.{pools_of, word_at};
 ghost use Rattle.icu_collator_core.specs.WeightLists.{Grows, IsDiacriticWord, IsWordOf, Lists};
 
 use crate::check::fields::{has_tag, index_of};
+use crate::check::runs::behind_run;
 use crate::check::walks::units_of;
 use crate::check::weights::{lone_word, unprefixed_word};
+use crate::reading::words::secondary_word;
 use crate::tables::{CollationData, CollationTables};
 use icu_char16trie::{ReadUnitsError, read_units};
 use icu_collator_types::elements::Tag;
@@ -110,22 +113,31 @@ fn gather_at(
     Ok(())
 }
 
+/// Where a walk over all codes goes on behind this one: where it is a character, behind those that have its word.
+fn next_code(source: &CollationData<'_>, code: u32) -> u32
+    requires { code < 0x11_0000 }
+    ensures onward { code < result }
+    ensures bound { result ≤ 0x11_0000 }
+    ensures gathered { (c : ℕ) → code < c → c < result → IsScalar code × (word_at source.now c ≡ word_at source.now code) }
+{
+    if char::from_u32(code).is_some() {
+        behind_run(source, code)
+    } else {
+        code + 1
+    }
+}
+
 /// The words of all characters.
 pub(super) fn words_of(alloc: Global, source: &CollationData<'_>) -> Result<Vec<u32>, AllocError>
     ensures { IfOk result (λ words. Lists (IsWordOf source.now) words.items) }
 {
     let mut words = Vec::new(alloc);
-    for code in 0..0x11_0000u32 {
+    let mut code = 0;
+    while code < 0x11_0000 {
         gather_at(alloc, &mut words, source, code)?;
+        code = next_code(source, code);
     }
     Ok(words)
-}
-
-/// The word of an element with this secondary, the common tertiary and no primary.
-fn secondary_word(secondary: u16) -> u32
-    ensures { result ≡ secondary_word secondary }
-{
-    secondary as u32 * 0x1_0000 + 0x05c2
 }
 
 /// The words of marks by the table of diacritics.

@@ -2,14 +2,14 @@
 
 ghost use Rattle.std.specs.Prelude.{◌≡◌, [], ◌∷◌, ◌++◌, OnOk, OnErr, IsTrue};
 ghost use Rattle.icu_normalizer_core.specs.Canonical.{marks_in_order};
-ghost use Rattle.icu_normalizer.specs.FormData.{form_meaning};
+ghost use Rattle.icu_normalizer_core.specs.FormData.{form_meaning};
 ghost use Rattle.icu_normalizer.specs.Sinks.{AddsPrefix, EndsByFailure};
 ghost use Rattle.icu_normalizer.specs.Straight.{IsStraight};
 
 use super::Writer;
-use crate::form_data::FormData;
 use crate::sinks::NormError;
 use crate::texts::WriteTo;
+use icu_normalizer_core::decomposition::FormData;
 
 impl<'d> Writer<'d> {
     ghost use Rattle.icu_normalizer.specs.Writer.{writer_data, WritesApart, WritesPartApart};

@@ -1,7 +1,7 @@
 use Rattle.std.proofs.Common.{[], ◌∷◌, subst, ◌∙◌, arith}
+use Rattle.icu_normalizer_core.proofs.IterLemmas.{keeps_then}
 use Rattle.icu_normalizer.specs.Compositions.{ComposesTo}
 use Rattle.icu_normalizer.proofs.CompositionLemmas.{composes_stop, keeps_pushed, finished}
-use Rattle.icu_normalizer.proofs.IterLemmas.{keeps_then}
 use Rattle.icu_normalizer.proofs.composing.CompositionIterator.next.Goals as goal
 
 pub returns-in-Err-clause-steps : goal.returns-in-Err-clause-steps

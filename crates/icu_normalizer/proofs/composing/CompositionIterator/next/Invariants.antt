@@ -1,7 +1,7 @@
 use Rattle.std.proofs.Common.{◌≡◌, ◌≤◌, [], false}
+use Rattle.icu_normalizer_core.specs.Decompositions.{decomposition_size}
+use Rattle.icu_normalizer_core.specs.Iter.{KeepsLeft}
 use Rattle.icu_normalizer.specs.Compositions.{ComposesTo, CanCompose, composition_size}
-use Rattle.icu_normalizer.specs.Decompositions.{decomposition_size}
-use Rattle.icu_normalizer.specs.Iter.{KeepsLeft}
 use Rattle.icu_normalizer.proofs.composing.CompositionIterator.next.Given as goal
 
 abbrev pub invariant-loop-item : goal.invariant-loop-item

@@ -1,4 +1,4 @@
-use Rattle.icu_normalizer.specs.FormData.{form_meaning}
+use Rattle.icu_normalizer_core.specs.FormData.{form_meaning}
 use Rattle.icu_normalizer.proofs.ClusterLemmas.{apart_nothing, apart_first}
 use Rattle.icu_normalizer.proofs.TextCutLemmas.{first_read}
 use Rattle.icu_normalizer.proofs.composing.clusters.next_of_cluster.Goals as goal

@@ -1,6 +1,6 @@
 use Rattle.std.proofs.Common.{length}
 use Rattle.icu_normalizer_core.specs.Canonical.{composed}
-use Rattle.icu_normalizer.specs.FormData.{form_meaning}
+use Rattle.icu_normalizer_core.specs.FormData.{form_meaning}
 use Rattle.icu_normalizer.specs.TextCuts.{IsPassed}
 use Rattle.icu_normalizer.proofs.composing.cuts.rest_to_change.Given as goal
 

@@ -1,6 +1,6 @@
 use Rattle.std.proofs.Common.{◌++◌, length, length-append, sym, ap, ap₂, ◌∙◌, arith}
 use Rattle.icu_normalizer_core.specs.Canonical.{composed}
-use Rattle.icu_normalizer.specs.FormData.{form_meaning}
+use Rattle.icu_normalizer_core.specs.FormData.{form_meaning}
 use Rattle.icu_normalizer.proofs.composing.cuts.split_low.Goals as goal
 
 pub split_before-requires : goal.split_before-requires

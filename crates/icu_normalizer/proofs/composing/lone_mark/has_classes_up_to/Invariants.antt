@@ -1,6 +1,6 @@
 use Rattle.std.proofs.Common.{◌≡◌, ◌≤◌, ◌++◌}
 use Rattle.std.specs.List.{AllByRecursion}
-use Rattle.icu_normalizer.specs.FormData.{form_meaning}
+use Rattle.icu_normalizer_core.specs.FormData.{form_meaning}
 use Rattle.icu_normalizer.proofs.composing.lone_mark.has_classes_up_to.Given as goal
 
 abbrev pub invariant-loop-d : goal.invariant-loop-d

@@ -1,4 +1,4 @@
-use Rattle.icu_normalizer.specs.FormData.{form_meaning}
+use Rattle.icu_normalizer_core.specs.FormData.{form_meaning}
 use Rattle.icu_normalizer.proofs.LoneMarkLemmas.{steady_up_to_low}
 use Rattle.icu_normalizer.proofs.composing.lone_mark.is_steady_up_to.Goals as goal
 

@@ -1,5 +1,5 @@
 use Rattle.std.proofs.Common.{◌++◌, take, drop, ap, ◌∙◌}
-use Rattle.icu_normalizer.specs.FormData.{form_meaning}
+use Rattle.icu_normalizer_core.specs.FormData.{form_meaning}
 use Rattle.icu_normalizer.proofs.SkipLemmas.{skip_begun, skip_more, skip_rest, skip_ended}
 use Rattle.icu_normalizer.proofs.TextCutLemmas.{first_char, past_plain}
 use Rattle.icu_normalizer.proofs.composing.low.pass_low.Goals as goal

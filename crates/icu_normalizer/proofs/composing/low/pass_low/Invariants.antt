@@ -1,5 +1,5 @@
 use Rattle.std.proofs.Common.{length}
-use Rattle.icu_normalizer.specs.FormData.{form_meaning}
+use Rattle.icu_normalizer_core.specs.FormData.{form_meaning}
 use Rattle.icu_normalizer.proofs.SkipLemmas.{IsSkipping}
 use Rattle.icu_normalizer.proofs.composing.low.pass_low.Given as goal
 

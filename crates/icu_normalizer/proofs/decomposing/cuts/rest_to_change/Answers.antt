@@ -1,5 +1,5 @@
 use Rattle.std.proofs.Common.{◌++◌, take, drop, ap, ◌∙◌, arith}
-use Rattle.icu_normalizer.specs.FormData.{form_meaning, low_bound}
+use Rattle.icu_normalizer_core.specs.FormData.{form_meaning, low_bound}
 use Rattle.icu_normalizer.proofs.CutLemmas.{readable}
 use Rattle.icu_normalizer.proofs.TextCutLemmas.{first_char, first_damaged, past_plain}
 use Rattle.icu_normalizer.proofs.TextWalkLemmas.{walk_begun, walk_starter, walk_mark, walk_ended, walk_out, walk_damaged}

@@ -1,5 +1,5 @@
 use Rattle.std.proofs.Common.{length}
-use Rattle.icu_normalizer.specs.FormData.{form_meaning}
+use Rattle.icu_normalizer_core.specs.FormData.{form_meaning}
 use Rattle.icu_normalizer.proofs.TextWalkLemmas.{IsWalkedTo}
 use Rattle.icu_normalizer.proofs.decomposing.cuts.rest_to_change.Given as goal
 

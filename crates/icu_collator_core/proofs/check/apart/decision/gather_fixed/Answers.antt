@@ -1,5 +1,6 @@
 use Rattle.std.proofs.Common.{subst}
 use Rattle.std.specs.List.{Contains}
+use Rattle.icu_collator_core.specs.ElementLists.{unpacked}
 use Rattle.icu_collator_core.specs.PrefixFaults.{Spells}
 use Rattle.icu_collator_core.specs.TableMeaning.{pools_of, secondary_word}
 use Rattle.icu_collator_core.specs.WeightLists.{AreSpelling, Grows, IsDiacriticWord, IsSpelledByTables}
@@ -13,8 +14,8 @@ returns c =
     let pools = pools_of tables.root in
     let marks = c.gather_diacritics.new.words.items in
     let words = c.gather_jamo.new.words.items in
-    let before = c.args.elements.now.items in
-    let after = c.gather_spelled.new.elements.items in
+    let before = unpacked c.args.elements.now.items in
+    let after = unpacked c.gather_spelled.new.elements.items in
     let of_marks = listed (IsDiacriticWord tables) marks
     (subst (λ items. Grows (IsDiacriticWord tables) items marks) c.new-words.ensures.items c.in_ok-gather_diacritics.ensures) in
     let told = listed_more (IsDiacriticWord tables) (Contains tables.jamo.ce32s) marks words of_marks c.in_ok-gather_jamo.ensures in

@@ -1,4 +1,5 @@
 use Rattle.std.proofs.Common.{◌≡◌, Some, rules}
+use Rattle.icu_collator_core.specs.ElementLists.{unpacked}
 use Rattle.icu_collator_core.specs.PrefixFaults.{IsSpelledIn}
 use Rattle.icu_collator_core.specs.WeightLists.{IsLeadOf, IsLeadOfTailoring, IsSpelledByTailoring}
 use Rattle.icu_collator_core.proofs.apart.GrowthLemmas.{grown_same}
@@ -10,7 +11,7 @@ returns-clause-elements c =
     let tables = c.args.tables.now in
     let source = c.in-Some.source in
     let is : tables.tailoring ≡ Some source = search rules in
-    grown_same (IsSpelledIn source) (IsSpelledByTailoring tables) c.args.gathered.now.elements.items c.gather_data.new.gathered.elements.items
+    grown_same (IsSpelledIn source) (IsSpelledByTailoring tables) (unpacked c.args.gathered.now.elements.items) (unpacked c.gather_data.new.gathered.elements.items)
     (λ e. there_is (λ one. IsSpelledIn one e) tables.tailoring source is) c.in_ok-gather_data.ensures.elements
 
 pub returns-clause-leads : goal.returns-clause-leads

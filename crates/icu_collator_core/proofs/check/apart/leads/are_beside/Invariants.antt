@@ -1,7 +1,8 @@
 use Rattle.std.proofs.Common.{◌≡◌, true, take}
 use Rattle.std.specs.List.{list_all}
+use Rattle.icu_collator_core.specs.ElementLists.{unpacked}
 use Rattle.icu_collator_core.specs.WeightLists.{is_beside_lead}
 use Rattle.icu_collator_core.proofs.check.apart.leads.are_beside.Given as goal
 
 abbrev pub invariant-loop-place : goal.invariant-loop-place
-invariant-loop-place l = list_all (λ lead. list_all (is_beside_lead lead) l.elements) (take l.place l.leads) ≡ true
+invariant-loop-place l = list_all (λ lead. list_all (is_beside_lead lead) (unpacked l.elements)) (take l.place l.leads) ≡ true

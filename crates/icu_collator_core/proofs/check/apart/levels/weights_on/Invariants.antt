@@ -1,6 +1,7 @@
 use Rattle.std.proofs.Common.{◌≡◌, map, take}
+use Rattle.icu_collator_core.specs.Pools.{element_of}
 use Rattle.icu_collator_core.specs.WeightLists.{weight_on}
 use Rattle.icu_collator_core.proofs.check.apart.levels.weights_on.Given as goal
 
 abbrev pub invariant-loop-place : goal.invariant-loop-place
-invariant-loop-place l = l.weights.items ≡ map (weight_on l.level) (take l.place l.elements)
+invariant-loop-place l = l.weights.items ≡ map (λ bits. weight_on l.level (element_of bits)) (take l.place l.elements)

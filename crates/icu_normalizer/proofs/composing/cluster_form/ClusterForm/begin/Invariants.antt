@@ -1,8 +1,8 @@
 use Rattle.std.proofs.Common.{◌≡◌, ℕ, ◌<◌, List, ◌++◌, length, flat_map}
 use Rattle.icu_normalizer_core.specs.Canonical.{decomposed}
+use Rattle.icu_normalizer_core.specs.Run.{reordered}
 use Rattle.icu_normalizer.specs.ClusterForm.{form_data}
 use Rattle.icu_normalizer.specs.Composer.{IsIdle}
-use Rattle.icu_normalizer.specs.Run.{reordered}
 use Rattle.icu_normalizer.proofs.composing.cluster_form.ClusterForm.begin.Given as goal
 
 abbrev pub invariant-chars : goal.invariant-chars

@@ -1,5 +1,5 @@
 use Rattle.std.proofs.Common.{◌≡◌, [], ◌∙◌, arith}
-use Rattle.icu_normalizer.specs.Run.{held, reordered}
+use Rattle.icu_normalizer_core.specs.Run.{held, reordered}
 use Rattle.icu_normalizer.proofs.ClusterFormLemmas.{left_pushed, left_ended, left_done}
 use Rattle.icu_normalizer.proofs.composing.cluster_form.ClusterForm.next.Goals as goal
 

@@ -1,6 +1,6 @@
 use Rattle.std.proofs.Common.{◌≡◌, ◌≤◌, false}
+use Rattle.icu_normalizer_core.specs.Run.{held}
 use Rattle.icu_normalizer.specs.ClusterForm.{IsBegun, form_data, form_left, form_size}
-use Rattle.icu_normalizer.specs.Run.{held}
 use Rattle.icu_normalizer.proofs.composing.cluster_form.ClusterForm.next.Given as goal
 
 abbrev pub invariant-loop-c : goal.invariant-loop-c

@@ -1,5 +1,5 @@
 use Rattle.std.proofs.Common.{[], ◌∷◌}
-use Rattle.icu_normalizer.specs.FormData.{form_meaning}
+use Rattle.icu_normalizer_core.specs.FormData.{form_meaning}
 use Rattle.icu_normalizer.proofs.StraightLemmas.{behind_straight}
 use Rattle.icu_normalizer.proofs.decomposing.writer.straight.is_straight.Goals as goal
 

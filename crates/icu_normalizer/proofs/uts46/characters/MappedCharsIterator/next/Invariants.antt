@@ -1,5 +1,5 @@
 use Rattle.std.proofs.Common.{◌≤◌, []}
-use Rattle.icu_normalizer.specs.Iter.{KeepsLeft}
+use Rattle.icu_normalizer_core.specs.Iter.{KeepsLeft}
 use Rattle.icu_normalizer.specs.Uts46Iter.{MapsTo, CanMap, mapped_size, pulls_left}
 use Rattle.icu_normalizer.proofs.uts46.characters.MappedCharsIterator.next.Given as goal
 

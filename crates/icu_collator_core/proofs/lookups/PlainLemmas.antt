@@ -1,0 +1,96 @@
+-- A character whose word states an element is read alone.
+use Rattle.std.proofs.Common.{◌≡◌, ℕ, ◌<◌, Bool, true, false, ltb, leb, ◌&&◌, cond, List, [], ◌∷◌, length, take, reverse, Option, Some, None, refl, sym, ◌∙◌, ap, arith}
+use Rattle.std.proofs.lemmas.Bool.{and_parts, cond-false, leb-true, ltb-true}
+use Rattle.std.proofs.lemmas.List.{length-take-le}
+use Rattle.std.specs.Prelude.{◌==◌, IfSome, option_map}
+use Rattle.std.specs.Option.{option_and_then, unwrap_or}
+use lib.Utf8.{scalars}
+use Rattle.icu_collator_types.specs.declared.elements.Element.{Element}
+use Rattle.icu_collator_types.specs.declared.elements.word_tags.Tag.TheVariants.{Contraction, Digit, Prefix}
+use Rattle.icu_collator_types.specs.ElementWords.{has_tag, self_contained}
+use Rattle.icu_collator_core.specs.Defaults.{default_elements}
+use Rattle.icu_collator_core.specs.Elements.{Placed, at_greatest, behind_prefix, longest_prefix, prefix_match}
+use Rattle.icu_collator_core.specs.PlainWords.{IsReadAlone}
+use Rattle.icu_collator_core.specs.Pools.{Pools, element_of, elements_of_word, stated_element, unprefixed_word}
+use Rattle.icu_collator_core.specs.ReadWords.{AreSaidBy, default_by, elements_spelled_by}
+use Rattle.icu_collator_core.specs.TableMeaning.{TableWord}
+use Rattle.icu_collator_core.specs.Weights.{Weights}
+use Rattle.icu_collator_core.proofs.lookups.AloneLemmas.{alone_said, alone_spelled}
+use Rattle.icu_collator_core.proofs.lookups.MatchLemmas.{recorded_behind, scalars_front}
+use Rattle.icu_collator_core.proofs.lookups.PrefixLemmas.{recorded_before, scalars_back}
+use Rattle.icu_collator_core.proofs.lookups.TextLemmas.{greatest_past}
+use Rattle.icu_collator_core.proofs.meaning.WordTagLemmas.{lone_same, stated_elements, stated_tag, unprefixed_same}
+
+-- the element of a word that states one is all that the word spells
+pub contained_spelled : (word : ℕ) (bits : Option ℕ) → (word == 0) ≡ false → bits ≡ self_contained word
+    → IfSome bits (λ b. (pools : Pools) → elements_of_word pools word ≡ Some (element_of b ∷ []))
+contained_spelled word None some e = tt
+contained_spelled word (Some b) some e =
+    λ pools. stated_elements pools word (element_of b) (cond-false (word == 0) _ _ some ∙ ap (option_map element_of) (sym e))
+
+module _ (entry : TableWord) (e : Element) (stated : stated_element entry.word ≡ Some e) where
+  no_prefix : has_tag Prefix entry.word ≡ false
+  no_prefix = stated_tag entry.word e stated Prefix (omega arith)
+
+  no_contraction : has_tag Contraction entry.word ≡ false
+  no_contraction = stated_tag entry.word e stated Contraction (omega arith)
+
+  no_digit : has_tag Digit entry.word ≡ false
+  no_digit = stated_tag entry.word e stated Digit (omega arith)
+
+  module _ (weights : Weights) (c : ℕ) (said : AreSaidBy weights entry c) where
+    none_behind : (d : ℕ) (ds : List ℕ) → scalars (d ∷ ds) ≡ true → weights.recorded [] (c ∷ d ∷ ds) ≡ None
+    none_behind d ds ok =
+        said.recorded [] (d ∷ ds) refl ok
+        ∙ recorded_behind entry c (d ∷ ds) (omega arith)
+        ∙ ap (option_and_then (elements_of_word entry.pools))
+        (cond-false (has_tag Contraction (unprefixed_word entry.pools entry.word)) _ _ (ap (has_tag Contraction) (unprefixed_same entry.pools entry.word no_prefix) ∙ no_contraction))
+
+    none_at : (before : List ℕ) → scalars before ≡ true → 0 < length before → weights.recorded (reverse before) (c ∷ []) ≡ None
+    none_at before ok some =
+        said.recorded (reverse before) [] (scalars_back before ok) refl
+        ∙ recorded_before entry c before some
+        ∙ ap (option_and_then (elements_of_word entry.pools)) (cond-false (has_tag Prefix entry.word) _ _ no_prefix)
+
+    none_of_length : (p : Placed) → p.character ≡ c → scalars p.before ≡ true → (n : ℕ) → behind_prefix weights p n ≡ None
+    none_of_length p is ok n = by_length (ltb 0 n && leb n (length p.before)) refl
+      where
+        by_length : (b : Bool) → (ltb 0 n && leb n (length p.before)) ≡ b
+            → cond b (weights.recorded (reverse (take n p.before)) (p.character ∷ [])) None ≡ None
+        by_length false inside = refl
+        by_length true inside =
+            let parts = and_parts (ltb 0 n) (leb n (length p.before)) inside in
+            let above = ltb-true 0 n parts.0 in
+            let count = length-take-le n p.before (leb-true n (length p.before) parts.1) in
+            ap (λ d. weights.recorded (reverse (take n p.before)) (d ∷ [])) is
+            ∙ none_at (take n p.before) (scalars_front n p.before ok) (omega (arith, above, count))
+
+    none_before : (p : Placed) → p.character ≡ c → scalars p.before ≡ true → prefix_match weights p ≡ None
+    unfolding at_greatest
+    none_before p is ok =
+        greatest_past (behind_prefix weights p) 0 longest_prefix (omega arith) (λ n above within. none_of_length p is ok n)
+        ∙ none_of_length p is ok 0
+
+    one_alone : unwrap_or (weights.recorded [] (c ∷ [])) (default_elements weights c) ≡ e ∷ []
+    one_alone =
+        sym (alone_said entry c weights said)
+        ∙ sym (alone_spelled entry c)
+        ∙ ap (elements_spelled_by entry c) (lone_same entry.pools entry.word no_prefix no_contraction no_digit)
+        ∙ ap (λ o. unwrap_or o (default_by entry c ∷ [])) (stated_elements entry.pools entry.word e stated)
+
+-- a word that states an element says nothing else
+read_alone : (entry : TableWord) (bits : ℕ) → stated_element entry.word ≡ Some (element_of bits)
+    → (weights : Weights) (c : ℕ) → AreSaidBy weights entry c → IsReadAlone weights c bits
+read_alone entry bits stated weights c said =
+    let e = element_of bits in
+    record {
+      digit = said.digit ∙ cond-false (has_tag Digit entry.word) _ _ (no_digit entry e stated);
+      before = none_before entry e stated weights c said;
+      behind = none_behind entry e stated weights c said;
+      elements = one_alone entry e stated weights c said;
+    }
+
+pub read_alone_if_stated : (entry : TableWord) (bits : Option ℕ) → option_map element_of bits ≡ stated_element entry.word
+    → IfSome bits (λ b. (weights : Weights) (c : ℕ) → AreSaidBy weights entry c → IsReadAlone weights c b)
+read_alone_if_stated entry None e = tt
+read_alone_if_stated entry (Some b) e = read_alone entry b (sym e)

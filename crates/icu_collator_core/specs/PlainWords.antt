@@ -1,0 +1,15 @@
+-- Characters that are read alone, whatever stands before or behind them.
+use Rattle.std.specs.Prelude.{◌≡◌, ℕ, true, List, [], ◌∷◌, None}
+use Rattle.std.specs.Option.{unwrap_or}
+use lib.Utf8.{scalars}
+use Rattle.icu_collator_core.specs.Defaults.{default_elements}
+use Rattle.icu_collator_core.specs.Elements.{Placed, prefix_match}
+use Rattle.icu_collator_core.specs.Pools.{element_of}
+use Rattle.icu_collator_core.specs.Weights.{Weights}
+
+-- a character is no digit, no prefix and no longer text is recorded with it, and it has one element, these 64 bits
+pub record IsReadAlone (weights : Weights) (c bits : ℕ) : Type 0 where
+  pub digit : weights.digit c ≡ None
+  pub before : (p : Placed) → p.character ≡ c → scalars p.before ≡ true → prefix_match weights p ≡ None
+  pub behind : (d : ℕ) (ds : List ℕ) → scalars (d ∷ ds) ≡ true → weights.recorded [] (c ∷ d ∷ ds) ≡ None
+  pub elements : unwrap_or (weights.recorded [] (c ∷ [])) (default_elements weights c) ≡ element_of bits ∷ []

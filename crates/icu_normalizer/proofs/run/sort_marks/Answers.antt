@@ -1,7 +1,0 @@
-use Rattle.std.proofs.Common.{arith}
-use Rattle.icu_normalizer.proofs.RunLemmas.{short_is_sorted}
-use Rattle.icu_normalizer.proofs.run.sort_marks.Goals as goal
-
-pub returns-then-len-from-le1-clause-ok : goal.returns-then-len-from-le1-clause-ok
-returns-then-len-from-le1-clause-ok c =
-    short_is_sorted _ _ c.args.from (omega arith)

@@ -1,0 +1,67 @@
+//! The data that normalisers hold.
+
+ghost use Rattle.std.specs.Prelude.{◌≡◌};
+ghost use Rattle.icu_normalizer_core.specs.CanonicalMeaning.{meaning};
+ghost use Rattle.icu_normalizer_core.specs.CompatibilityLoading.{loaded_both, loaded_words};
+ghost use Rattle.icu_normalizer_core.specs.Loading.{loaded};
+ghost use Rattle.icu_normalizer_core.specs.FormData.{form_meaning, form_canonical, low_bound};
+ghost use Rattle.icu_normalizer.specs.NormalizerTables.{tables_of, tables_meaning, tables_bound, loaded_tables, IsMadeOfCanonical, IsMadeOfBoth};
+
+use icu_normalizer_core::canonical::CanonicalData;
+use icu_normalizer_core::compatibility::CompatibilityData;
+use icu_normalizer_core::decomposition::FormData;
+use icu_normalizer_core::provider::{
+    DataError, NormalizerProvider, load_canonical_data, load_compatibility_data,
+};
+use std::alloc::Global;
+
+/// What a normal form is made by, held.
+#[derive(Debug, Drop)]
+pub(crate) enum OwnedData<'a> {
+    /// Canonical data: NFD and NFC.
+    Canonical(CanonicalData<'a>),
+    /// Compatibility data: NFKD and NFKC.
+    Compatibility(CompatibilityData<'a>),
+}
+
+impl<'a> OwnedData<'a> {
+    /// Canonical data of a provider's tables. The answer is the first refusal, if there is one: of `load_nfd`, of
+    /// `load_nfd_tables`, of `load_pairs`, then of `CanonicalData::try_new`.
+    pub(crate) fn load_canonical<P: NormalizerProvider>(
+        alloc: Global,
+        provider: &'a P,
+    ) -> Result<OwnedData<'a>, DataError>
+        ensures { IsMadeOfCanonical (loaded_tables result) (loaded (P.nfd provider.now) (P.nfd_tables provider.now) (P.pairs provider.now)) }
+    {
+        let canonical = load_canonical_data(alloc, provider)?;
+        Ok(OwnedData::Canonical(canonical))
+    }
+
+    /// Compatibility data of a provider's tables. The answer is the first refusal, if there is one: of `load_nfd`, of
+    /// `load_nfd_tables`, of `load_pairs`, of `load_nfkd`, of `load_nfkd_tables`, then of `CanonicalData::try_new`,
+    /// then of `CompatibilityData::try_new`.
+    pub(crate) fn load_compatibility<P: NormalizerProvider>(
+        alloc: Global,
+        provider: &'a P,
+    ) -> Result<OwnedData<'a>, DataError>
+        ensures { IsMadeOfBoth (loaded_tables result)
+            (loaded_both
+            (loaded (P.nfd provider.now) (P.nfd_tables provider.now) (P.pairs provider.now))
+            (loaded_words (P.nfkd provider.now) (P.nfkd_tables provider.now))) }
+    {
+        let both = load_compatibility_data(alloc, provider)?;
+        Ok(OwnedData::Compatibility(both))
+    }
+
+    /// The same, borrowed.
+    pub(crate) fn as_form_data(&self) -> FormData<'_>
+        ensures said { form_meaning result ≡ tables_meaning (tables_of self.now) }
+        ensures canonical { form_canonical result ≡ meaning (tables_of self.now).canonical }
+        ensures bound { low_bound result ≡ tables_bound (tables_of self.now) }
+    {
+        match self {
+            OwnedData::Canonical(canonical) => FormData::Canonical(canonical.as_borrowed()),
+            OwnedData::Compatibility(both) => FormData::Compatibility(both.as_borrowed()),
+        }
+    }
+}

@@ -1,0 +1,46 @@
+use Rattle.std.proofs.Common.{◌∷◌, refl, sym, ap, ◌∙◌}
+use Rattle.icu_normalizer_core.specs.BorrowedMeaning.{borrowed_meaning}
+use Rattle.icu_normalizer_core.specs.Classes.{with_classes}
+use Rattle.icu_normalizer_core.proofs.decomposition.classed.ClassedIterator.next.Goals as goal
+
+pub returns-in-Some-Ok-clause-steps : goal.returns-in-Some-Ok-clause-steps
+returns-in-Some-Ok-clause-steps g c =
+    let canonical = borrowed_meaning c.args.self.now.canonical in
+    let step = rw c.in-Some-Ok.field-0-is at c.in-Some-Ok.ensures.steps in
+    record {
+      first = record {
+        at = λ cs left.
+            let next = step.first.at left.unread left.source in (
+              with_classes canonical next.0,
+              left.text ∙ ap (with_classes canonical) next.1 ∙ ap (λ k. (c.in-Some-Ok.c, k) ∷ with_classes canonical next.0) (sym c.class.ensures),
+              record { unread = next.0; source = next.2; text = refl },
+            );
+      };
+      again = step.again;
+      size = step.size;
+    }
+
+pub returns-in-Some-Err-clause-steps : goal.returns-in-Some-Err-clause-steps
+returns-in-Some-Err-clause-steps g c =
+    let step = rw c.in-Some-Err.field-0-is at c.in-Some-Err.ensures.steps in
+    record {
+      first = record { at = λ cs left. record { unread = _; source = step.first.at left.unread left.source; text = refl } };
+      again = step.again;
+      size = step.size;
+    }
+
+pub returns-in-None-clause-steps : goal.returns-in-None-clause-steps
+returns-in-None-clause-steps g c =
+    let canonical = borrowed_meaning c.args.self.now.canonical in
+    let step = c.in-None.ensures.steps in
+    record {
+      first = record {
+        at = λ cs left.
+            let none = step.first.at left.unread left.source in (
+              left.text ∙ ap (with_classes canonical) none.0,
+              record { unread = _; source = none.1; text = refl },
+            );
+      };
+      again = step.again;
+      size = step.size;
+    }
