@@ -1,5 +1,5 @@
 -- Weights that keep apart, and some that don't.
-use Rattle.std.proofs.Common.{◌≡◌, ℕ, true, false, [], ◌∷◌, refl}
+use Rattle.std.proofs.Common.{◌≡◌, ℕ, true, false, refl}
 use Rattle.icu_collator_types.specs.declared.elements.Element.{Element}
 use Rattle.icu_collator_core.specs.Numbers.{without_last_zeros}
 use Rattle.icu_collator_core.specs.WeightRules.{are_apart_elements, is_beside_ranged, is_proper_beginning}

@@ -1,5 +1,11 @@
 pub mod AlikeLemmas
+pub mod CaseLemmas
+pub mod CountLemmas
+pub mod DigitRunLemmas
 pub mod MovedMarkLemmas
+pub mod ReaderLemmas
 pub mod ReadingLeftLemmas
 pub mod SamenessLemmas
 pub mod SoundElementsLemmas
+pub mod StepLemmas
+pub mod UpcomingLemmas

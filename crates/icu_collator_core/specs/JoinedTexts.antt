@@ -49,6 +49,7 @@ pub record HaveMoved (class : ℕ → ℕ) (start : ℕ) (old : List ℕ) (place
   pub inside : place ≤ length new
   pub same_length : length new ≡ length old
   pub moved : moves_marks class old new ≡ true
+  pub kept : scalars old ≡ true → scalars new ≡ true
   pub rest : drop place new ≡ drop place old
   pub marks : list_all (λ b. not (class b == 0)) (drop text.next (take place new)) ≡ true
   pub highest : (k : ℕ) → 0 < k → list_all (λ b. ltb (class b) k) (drop text.next (take place new)) ≡ ltb text.highest k

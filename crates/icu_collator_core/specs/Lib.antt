@@ -32,3 +32,9 @@ pub mod MovedMarks
 pub mod PlainWords
 pub mod AlikeLists
 pub mod JoinedTexts
+pub mod ReadSteps
+pub mod ReadSources
+pub mod Readers
+pub mod DigitRuns
+pub mod Upcoming
+pub mod ElementTexts

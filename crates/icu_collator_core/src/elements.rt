@@ -5,6 +5,10 @@ ghost use Rattle.std.specs.Prelude.{◌≡◌, cond};
 ghost use Rattle.icu_normalizer_core.specs.BuiltIn.{is_jamo};
 ghost use Rattle.icu_collator_core.specs.Defaults.{implicit_primary, jamo_primary, primary_element, special_primary};
 
+mod collation_elements;
+mod upcoming;
+
+pub use collation_elements::CollationElements;
 use icu_collator_types::elements::{COMMON_WEIGHT, Element};
 use icu_normalizer_core::built_in::is_jamo;
 

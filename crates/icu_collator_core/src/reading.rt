@@ -1,11 +1,15 @@
 //! The reading of a text's elements: the word of a character, and what stands with it in the tables.
 
 pub(crate) mod alone;
+pub(crate) mod digits;
 pub(crate) mod elements;
 pub(crate) mod joining;
 pub(crate) mod marks;
+pub(crate) mod next;
 pub(crate) mod numbers;
 pub(crate) mod plain;
 pub(crate) mod prefixes;
+pub(crate) mod reader;
+pub(crate) mod steps;
 pub(crate) mod suffixes;
 pub(crate) mod words;

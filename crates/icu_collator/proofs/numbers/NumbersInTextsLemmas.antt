@@ -26,7 +26,8 @@ use Rattle.icu_collator.specs.NumbersInTexts.{AreNumbersTogether, AreDigitsApart
 use Rattle.icu_collator.proofs.numbers.DecomposedDigitsLemmas.{decomposed_run}
 use Rattle.icu_collator.proofs.numbers.NumberLevelLemmas.{different_numbers, same_elements}
 use Rattle.icu_collator.proofs.readings.BeforeDigitLemmas.{EndsPlain}
-use Rattle.icu_collator.proofs.readings.SplitAtDigitLemmas.{any_count, split_at_digit}
+use Rattle.icu_collator_core.proofs.readings.CountLemmas.{any_count}
+use Rattle.icu_collator.proofs.readings.SplitAtDigitLemmas.{split_at_digit}
 use Rattle.icu_collator.proofs.readings.AfterNumberLemmas.{AgreeToDigit, placed_alike}
 use Rattle.icu_collator_core.proofs.readings.AlikeLemmas.{reading_is, count_of, taken_of, elements_alike}
 

@@ -71,21 +71,6 @@ joining_plain collation text between (m ∷ ms) d h g =
     (λ _. joining_plain collation text (between ++ m ∷ []) ms d
     (append_plain collation.weights between (m ∷ []) h (mark_plain collation m.character d n)) (tail_plain collation.weights m ms g)))
 
-pub joining_shrinks : (canonical : Canonical) (weights : Weights) (text : List ℕ) (between ms : List Placed)
-    → length (joining canonical weights text between ms).left ≤ length between + length ms
-unfolding joining
-joining_shrinks canonical weights text between [] = omega arith
-joining_shrinks canonical weights text between (m ∷ ms) =
-    let longer = text ++ m.character ∷ []
-    in let joined = joining_shrinks canonical weights longer between ms
-    in let stays = joining_shrinks canonical weights text (between ++ m ∷ []) ms
-    in let P : Joining → Type 0 = λ j. length j.left ≤ length between + suc (length ms)
-    in cond_both (canonical.class m.character == 0) _ _ P
-    (λ _. omega (arith, length-append between (m ∷ ms)))
-    (λ _. cond_both (list_all (λ b. ltb (canonical.class b.character) (canonical.class m.character)) between && is_some (weights.recorded [] longer)) _ _ P
-    (λ _. omega arith)
-    (λ _. omega (arith, length-append between (m ∷ []))))
-
 -- the characters of two lists of placed characters, one after the other
 pub characters_append : (ps qs : List Placed) → characters_of (ps ++ qs) ≡ characters_of ps ++ characters_of qs
 characters_append ps qs = map-append (λ p. p.character) ps qs
@@ -106,31 +91,6 @@ greatest_same : (f g : ℕ → Option ℕ) (n : ℕ) → ((k : ℕ) → k ≤ n 
 unfolding at_greatest
 greatest_same f g zero h = h zero (omega arith)
 greatest_same f g (suc n) h = cc (h (suc n) (omega arith), greatest_same f g n (λ k l. h k (omega arith)))
-
--- the longest recorded text is not longer than the list, and not empty
-one_length : (b : Bool) (n : ℕ) (o : Option ℕ) → 0 < unwrap_or o 1 → (unwrap_or o 1 ≤ n) ⊎ (unwrap_or o 1 ≡ 1)
-    → (0 < unwrap_or (elim (cond b (Some (suc n)) None) as (λ _. Option ℕ) [ Some x ↦ Some x | None ↦ o ]) 1)
-    × ((unwrap_or (elim (cond b (Some (suc n)) None) as (λ _. Option ℕ) [ Some x ↦ Some x | None ↦ o ]) 1 ≤ suc n)
-    ⊎ (unwrap_or (elim (cond b (Some (suc n)) None) as (λ _. Option ℕ) [ Some x ↦ Some x | None ↦ o ]) 1 ≡ 1))
-one_length true n o h g = (omega arith, inl (omega arith))
-one_length false n o h (inl g) = (h, inl (omega arith))
-one_length false n o h (inr g) = (h, inr g)
-
-length_bounds : (weights : Weights) (list : List ℕ) (n : ℕ)
-    → (0 < unwrap_or (at_greatest (recorded_length weights list) n) 1)
-    × ((unwrap_or (at_greatest (recorded_length weights list) n) 1 ≤ n) ⊎ (unwrap_or (at_greatest (recorded_length weights list) n) 1 ≡ 1))
-unfolding at_greatest
-length_bounds weights list zero = (omega arith, inr refl)
-length_bounds weights list (suc n) =
-    let rest = length_bounds weights list n
-    in one_length (ltb 0 (suc n) && is_some (weights.recorded [] (take (suc n) list))) n (at_greatest (recorded_length weights list) n) rest.0 rest.1
-
-pub match_filled : (weights : Weights) (list : List ℕ) → 0 < match_length weights list
-match_filled weights list = (length_bounds weights list (length list)).0
-
-pub match_within : (weights : Weights) (c : ℕ) (cs : List ℕ) → match_length weights (c ∷ cs) ≤ length (c ∷ cs)
-match_within weights c cs =
-    elim (length_bounds weights (c ∷ cs) (length (c ∷ cs))).1 [ inl h ↦ h | inr e ↦ omega arith ]
 
 -- no recorded text reaches to a digit
 taken_holds : (weights : Weights) (xs ys : List ℕ) (d n : ℕ) → is_digit weights d ≡ true → length xs < n

@@ -15,7 +15,8 @@ use Rattle.icu_collator_core.specs.Numbers.{number_elements}
 use Rattle.icu_collator_core.specs.Elements.{Placed, Reading, characters_of, match_length, prefix_match, text_match, text_reading, digit_count, number_reading, is_before_accent, reading, elements_within}
 use Rattle.icu_collator_core.proofs.readings.AlikeLemmas.{chosen_alike, reading_is}
 use Rattle.icu_collator.specs.NumbersInTexts.{AreDigitsApart, is_digit}
-use Rattle.icu_collator.proofs.readings.BeforeDigitLemmas.{EndsPlain, tail_plain, drop_plain, JoinsAlike, joining_apart, joining_plain, joining_shrinks, characters_append, match_filled, match_within, match_kept}
+use Rattle.icu_collator_core.proofs.readings.CountLemmas.{any_count, match_filled, match_within, reading_shrinks}
+use Rattle.icu_collator.proofs.readings.BeforeDigitLemmas.{EndsPlain, tail_plain, drop_plain, JoinsAlike, joining_apart, joining_plain, characters_append, match_kept}
 
 -- a reading of a list, and that of its front: what stands after the front is left
 record ReadsApart (weights : Weights) (behind : List Placed) (whole front : Reading) : Type 0 where
@@ -141,51 +142,6 @@ reading_apart collation numeric p ps q qs a d h e =
     (record { elements = refl; left = refl; ends = rest })
     (λ es. record { elements = refl; left = refl; ends = rest })
     (text_apart collation p.character p ps q qs a h e)))
-
--- a reading leaves less
-number_shrinks : (numeric : Bool) (weights : Weights) (p : Placed) (ps : List Placed) → (numeric && is_some (weights.digit p.character)) ≡ true
-    → length (number_reading weights (p ∷ ps)).left ≤ length ps
-unfolding number_reading
-number_shrinks numeric weights p ps h =
-    let both = and_parts numeric (is_some (weights.digit p.character)) h
-    in let k = prefix_len (λ r. is_some (weights.digit r.character)) ps
-    in rw both.1 (omega (arith, length-drop (1 + k) (p ∷ ps)))
-
-text_shrinks : (canonical : Canonical) (weights : Weights) (c : ℕ) (p : Placed) (ps : List Placed)
-    → length (text_reading canonical weights c (p ∷ ps)).left ≤ length ps
-unfolding text_reading text_match
-text_shrinks canonical weights c p ps =
-    let list = characters_of (p ∷ ps)
-    in let n = match_length weights list
-    in let filled = match_filled weights list
-    in let shrinks = joining_shrinks canonical weights (take n list) [] (drop n (p ∷ ps))
-    in omega (arith, length-drop n (p ∷ ps))
-
-reading_shrinks : (canonical : Canonical) (weights : Weights) (numeric : Bool) (p : Placed) (ps : List Placed)
-    → length (reading canonical weights numeric p ps).left ≤ length ps
-reading_shrinks canonical weights numeric p ps =
-    let same : length ps ≤ length ps = omega arith
-    in rw (reading_is canonical weights numeric p ps)
-    (chosen_alike (λ (r s : Reading). length r.left ≤ length ps) (special_primary p.character) _ (λ s. record { elements = primary_element s ∷ []; left = ps })
-    (numeric && is_some (weights.digit p.character)) _ (number_reading weights (p ∷ ps))
-    (weights.dot_above && (p.character == 0x307) && is_before_accent ps) _ (record { elements = []; left = ps }) (prefix_match weights p)
-    _ (λ es. record { elements = es; left = ps }) _ (text_reading canonical weights p.character (p ∷ ps))
-    (λ s. same) (number_shrinks numeric weights p ps) same (λ es. same) (text_shrinks canonical weights p.character p ps))
-
--- more readings than are needed give the same
-pub any_count : (canonical : Canonical) (weights : Weights) (numeric : Bool) (n m : ℕ) (ps : List Placed) → length ps ≤ n → length ps ≤ m
-    → elements_within n canonical weights numeric ps ≡ elements_within m canonical weights numeric ps
-unfolding elements_within
-any_count canonical weights numeric zero zero ps h g = refl
-any_count canonical weights numeric zero (suc m) [] h g = refl
-any_count canonical weights numeric zero (suc m) (p ∷ ps) h g = absurd (omega arith)
-any_count canonical weights numeric (suc n) zero [] h g = refl
-any_count canonical weights numeric (suc n) zero (p ∷ ps) h g = absurd (omega arith)
-any_count canonical weights numeric (suc n) (suc m) [] h g = refl
-any_count canonical weights numeric (suc n) (suc m) (p ∷ ps) h g =
-    let first = reading canonical weights numeric p ps
-    in let shrinks = reading_shrinks canonical weights numeric p ps
-    in ap (λ (w : List Element). first.elements ++ w) (any_count canonical weights numeric n m first.left (omega arith) (omega arith))
 
 nothing_within : (canonical : Canonical) (weights : Weights) (numeric : Bool) (n : ℕ) → elements_within n canonical weights numeric [] ≡ []
 unfolding elements_within

@@ -19,7 +19,7 @@ use Rattle.icu_collator_core.proofs.lookups.OpenTextLemmas.{joining_ends, joinin
 use Rattle.icu_collator_core.proofs.lookups.PlacedLemmas.{characters_placed}
 use Rattle.icu_collator_core.proofs.readings.MovedMarkLemmas.{moved_alike, moved_itself}
 
-characters_left : (place : ℕ) (old : List ℕ) → characters_of (drop place (placed old)) ≡ drop place old
+pub characters_left : (place : ℕ) (old : List ℕ) → characters_of (drop place (placed old)) ≡ drop place old
 characters_left place old = sym (drop-map (λ p. p.character) place (placed old)) ∙ ap (drop place) (characters_placed [] old)
 
 -- the match is what marks join, from behind the longest recorded text

@@ -21,7 +21,7 @@ use Rattle.icu_collator_core.proofs.readings.AlikeLemmas.{append_alike}
 use Rattle.icu_collator_core.proofs.readings.MovedMarkLemmas.{marks_alike, moved_alike}
 
 -- behind the last character nothing is left
-placed_end : (place : ℕ) (old : List ℕ) → place ≡ length old → drop place (placed old) ≡ []
+pub placed_end : (place : ℕ) (old : List ℕ) → place ≡ length old → drop place (placed old) ≡ []
 unfolding placed_behind
 placed_end place old e =
     placed_drop place old (omega (arith, e)) ∙ ap (placed_behind (characters_before old place)) (drop_all place old (omega (arith, e)))

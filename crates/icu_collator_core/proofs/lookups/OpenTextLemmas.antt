@@ -17,9 +17,10 @@ use Rattle.icu_collator_core.specs.Pools.{Pools, elements_of_word}
 use Rattle.icu_collator_core.specs.ReadTexts.{IsAtText, characters_before, if_recorded, suffix_units, word_by}
 use Rattle.icu_collator_core.specs.TableMeaning.{TableWord, recorded_by}
 use Rattle.icu_collator_core.specs.Weights.{Weights}
-use Rattle.icu_collator_core.proofs.lookups.MatchLemmas.{recorded_behind}
+use Rattle.icu_collator_core.proofs.lookups.MatchLemmas.{recorded_behind, scalars_front}
 use Rattle.icu_collator_core.proofs.lookups.MovedLemmas.{brought_between, brought_length, brought_moves, brought_rest, is_mark, moves_then}
 use Rattle.icu_collator_core.proofs.lookups.PlacedLemmas.{placed_drop}
+use Rattle.icu_collator_core.proofs.lookups.PrefixLemmas.{scalars_join}
 use Rattle.icu_collator_core.proofs.readings.MovedMarkLemmas.{moved_itself}
 
 pub scalars_behind : (n : ℕ) (cs : List ℕ) → scalars cs ≡ true → scalars (drop n cs) ≡ true
@@ -96,6 +97,18 @@ record_joined entry c suffix m word suffixed e =
 
 -- ---- A mark that was read
 
+-- a list of characters stays one
+brought_kept : (list : List ℕ) (from place : ℕ) → place < length list → scalars list ≡ true → scalars (brought_forward list from place) ≡ true
+brought_kept list from place inside ok =
+    let here = slice_index list place in
+    let between = drop from (take place list) in
+    let rest = drop (place + 1) list in
+    let split = and_parts (scalar here) (scalars rest) (ap scalars (sym (drop_more list place 0 inside)) ∙ scalars_behind place list ok) in
+    scalars_join (take from list ++ here ∷ between) rest
+    (scalars_join (take from list) (here ∷ between) (scalars_front from list ok)
+    (and_from (scalar here) (scalars between) split.0 (scalars_behind from (take place list) (scalars_front place list ok))))
+    split.1
+
 -- the highest class of two
 pub highest_first : (a b k : ℕ) → b ≤ a → (ltb a k && (ltb b k && true)) ≡ ltb a k
 highest_first a b k le =
@@ -142,6 +155,7 @@ module _ (class : ℕ → ℕ) (start : ℕ) (old : List ℕ) (place : ℕ) (new
         within = omega (arith, within);
         inside = omega (arith, count, inside);
         same_length = count ∙ at.same_length;
+        kept = λ ok. brought_kept new text.next place inside (at.kept ok);
         moved = moves_then class old new (brought_forward new text.next place) at.moved (brought_moves new text.next place within inside class at.marks is);
         rest = brought_rest new text.next place within inside ∙ rest_behind;
         marks = ap (list_all (is_mark class)) behind ∙ at.marks;
@@ -160,6 +174,7 @@ module _ (class : ℕ → ℕ) (start : ℕ) (old : List ℕ) (place : ℕ) (new
         inside = omega (arith, inside);
         same_length = at.same_length;
         moved = at.moved;
+        kept = at.kept;
         rest = rest_behind;
         marks =
             ap (list_all (is_mark class)) more_between ∙ list_all-append (is_mark class) left_between (mark ∷ [])
@@ -183,6 +198,7 @@ nothing_moved class old text inside none =
       inside = inside;
       same_length = refl;
       moved = moved_itself class old;
+      kept = λ ok. ok;
       rest = refl;
       marks = ap (list_all (is_mark class)) (none_between text.next old);
       highest = λ k some. ap (list_all (λ b. ltb (class b) k)) (none_between text.next old) ∙ sym (lt-ltb text.highest k (omega (arith, none, some)));

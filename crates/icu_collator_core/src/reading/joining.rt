@@ -142,6 +142,7 @@ fn join_marks(
     requires inside { first.next ≤ length list.old }
     requires none { first.highest ≡ 0 }
     ensures moved { moves_marks (borrowed_meaning canonical.entry).class list.old list.new ≡ true }
+    ensures kept { scalars list.old ≡ true → scalars list.new ≡ true }
     ensures begins { first.entry.next ≤ result.next }
     ensures within { result.next ≤ length list.old }
     ensures found { (weights : Weights) (c : ℕ) (suffix : List ℕ) → AreSaidBy weights (table_word entry.entry) c → has_suffixes (table_word entry.entry) ≡ true
@@ -171,6 +172,7 @@ fn found_match(
     requires { place < length list.old }
     ensures found { IsTextMatch (borrowed_meaning canonical.entry) (table_word entry.entry) place list.old result list.new }
     ensures moved { moves_marks (borrowed_meaning canonical.entry).class list.old list.new ≡ true }
+    ensures kept { scalars list.old ≡ true → scalars list.new ≡ true }
     ensures begins { place < result.next }
     ensures within { result.next ≤ length list.old }
 {
@@ -196,6 +198,7 @@ pub(crate) fn text_match(
     requires { place < small_vec_len list.old }
     ensures found { IsTextMatch (borrowed_meaning canonical.entry) (table_word entry.entry) place list.old.items result list.new.items }
     ensures moved { moves_marks (borrowed_meaning canonical.entry).class list.old.items list.new.items ≡ true }
+    ensures kept { scalars list.old.items ≡ true → scalars list.new.items ≡ true }
     ensures same_length { small_vec_len list.new ≡ small_vec_len list.old }
     ensures begins { place < result.next }
     ensures within { result.next ≤ small_vec_len list.old }

@@ -1,11 +1,13 @@
 //! The word that counts for a character.
 
-ghost use Rattle.std.specs.Prelude.{◌≡◌};
+ghost use Rattle.std.specs.Prelude.{◌≡◌, ℕ, Option};
 ghost use Rattle.icu_normalizer_core.specs.BorrowedMeaning.{borrowed_meaning};
+ghost use Rattle.icu_collator_core.specs.ReadSources.{weights_by};
 ghost use Rattle.icu_collator_core.specs.ReadWords.{AreSaidBy, table_word};
 ghost use Rattle.icu_collator_core.specs.TableMeaning.{counting_word, diacritic, secondary_word, tailored_word, weights_of, word_in};
 
 use crate::check::fields::word_at;
+use crate::checked::CheckedTables;
 use crate::tables::{CollationData, CollationTables};
 use icu_normalizer_core::built_in::is_jamo;
 use icu_normalizer_core::canonical::CanonicalBorrowed;
@@ -110,4 +112,12 @@ pub(crate) fn counting_word<'t>(
     ensures said { AreSaidBy (weights_of (borrowed_meaning canonical.entry) tables.now) (table_word result) c }
 {
     found_word(canonical, tables, c)
+}
+
+/// The word that counts for a character by checked tables, by which their weights say all that they say of it, whatever
+/// lead byte numbers have.
+pub(crate) fn checked_word<'t>(checked: &'t CheckedTables<'_>, c: char) -> CountingWord<'t>
+    ensures { (numeric : Option ℕ) → AreSaidBy (weights_by numeric checked.now) (table_word result) c }
+{
+    counting_word(checked.canonical(), checked.tables(), c)
 }

@@ -1,5 +1,6 @@
 use Rattle.std.proofs.Common.{◌≡◌, ◌<◌, ◌∷◌, ◌∙◌, [], ap, sym, subst, arith, drop, length}
 use Rattle.std.proofs.lemmas.Bool.{OnFalse_at, OnTrue_at}
+use lib.Utf8.{scalars}
 use Rattle.icu_normalizer_core.specs.BorrowedMeaning.{borrowed_meaning}
 use Rattle.icu_collator_core.specs.declared.reading.joining.OpenText.{OpenText}
 use Rattle.icu_collator_core.specs.declared.reading.joining.TextMatch.{TextMatch}
@@ -75,3 +76,12 @@ returns-clause-found c = λ weights d suffix said suffixed stands word spelled o
     subst (λ r. IsFoundAs canonical weights (pools_of c.args.entry.source.now) d found r list) (sym c.found-2.ensures)
     (found_at_end canonical weights entry d suffix first.next old place list text invariant.moved
     (invariant.joined weights d suffix said suffixed stands word spelled ok) over)
+
+pub returns-then-not-meets_mark-clause-kept : goal.returns-then-not-meets_mark-clause-kept
+returns-then-not-meets_mark-clause-kept c = λ ok.
+    let list = c.loop-place.list in
+    let kept = OnFalse_at {P = (c.meets_mark.new.self ≡ c.loop-place.text) × (c.meets_mark.new.list ≡ list)} c.if-not-meets_mark.true c.meets_mark.ensures.kept in
+    ap scalars kept.1 ∙ c.loop-place.invariant.moved.kept ok
+
+pub returns-clause-kept : goal.returns-clause-kept
+returns-clause-kept c = c.loop-place.invariant.moved.kept

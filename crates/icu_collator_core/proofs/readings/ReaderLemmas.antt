@@ -1,0 +1,58 @@
+-- What a text that is being read has left, by its list and what is ready.
+use Rattle.std.proofs.Common.{◌≡◌, ℕ, suc, ◌+◌, ◌<◌, ◌≤◌, Bool, List, [], ◌∷◌, ◌++◌, length, take, drop, refl, sym, ◌∙◌, ap, arith, inl, inr}
+use Rattle.std.specs.Prelude.{slice_index}
+use Rattle.std.proofs.lemmas.Bool.{cases_lt}
+use Rattle.std.proofs.lemmas.List.{drop-map, drop_all, drop_more}
+use Rattle.icu_normalizer_core.specs.Canonical.{Canonical}
+use Rattle.icu_collator_types.specs.declared.elements.Element.{Element}
+use Rattle.icu_collator_core.specs.ElementLists.{unpacked}
+use Rattle.icu_collator_core.specs.Elements.{elements_of_list, elements_within, longest_prefix, placed, placed_behind}
+use Rattle.icu_collator_core.specs.Pools.{element_of}
+use Rattle.icu_collator_core.specs.ReadSteps.{IsRead, elements_from}
+use Rattle.icu_collator_core.specs.Weights.{Weights}
+use Rattle.icu_collator_core.proofs.lookups.JoinedTextLemmas.{placed_end}
+use Rattle.icu_collator_core.proofs.readings.StepLemmas.{nothing_from}
+
+pub below : (n m : ℕ) → n ≤ m → (n ≡ m → ⊥) → n < m
+below n m le differ = elim (cases_lt n m) [ inl lt ↦ lt | inr past ↦ absurd (differ (omega (arith, le, past))) ]
+
+placed_count : (before list : List ℕ) → length (placed_behind before list) ≡ length list
+unfolding placed_behind
+placed_count before [] = refl
+placed_count before (c ∷ cs) = ap (λ n. suc n) (placed_count (take longest_prefix (c ∷ before)) cs)
+
+all_given : (ready : List ℕ) (given : ℕ) → given ≡ length ready → drop given (unpacked ready) ≡ []
+all_given ready given e = drop-map element_of given ready ∙ ap (λ items. unpacked items) (drop_all given ready (omega (arith, e)))
+
+-- the element that is given, and the others that are ready
+pub given_then : (ready : List ℕ) (given bits : ℕ) (behind : List Element) → given < length ready → bits ≡ slice_index ready given
+    → drop given (unpacked ready) ++ behind ≡ element_of bits ∷ (drop (given + 1) (unpacked ready) ++ behind)
+given_then ready given bits behind inside is =
+    ap (λ (es : List Element). es ++ behind)
+    (drop-map element_of given ready
+    ∙ ap (λ items. unpacked items) (drop_more ready given 0 inside ∙ ap (λ b. b ∷ drop (given + 1) ready) (sym is))
+    ∙ ap (λ (es : List Element). element_of bits ∷ es) (sym (drop-map element_of (given + 1) ready)))
+
+module _ (canonical : Canonical) (weights : Weights) (numeric : Bool) where
+  pub nothing_left : (ready : List ℕ) (given : ℕ) (list : List ℕ) (place : ℕ) → given ≡ length ready → place ≡ length list
+      → drop given (unpacked ready) ++ elements_from canonical weights numeric list place ≡ []
+  nothing_left ready given list place e f =
+      ap (λ (es : List Element). es ++ elements_from canonical weights numeric list place) (all_given ready given e)
+      ∙ nothing_from canonical weights numeric list place (placed_end place list f)
+
+  -- a list of which nothing was read
+  pub whole_left : (ready list : List ℕ) → ready ≡ []
+      → drop 0 (unpacked ready) ++ elements_from canonical weights numeric list 0 ≡ elements_of_list canonical weights numeric list
+  whole_left ready list e =
+      ap (λ items. unpacked items ++ elements_from canonical weights numeric list 0) e
+      ∙ ap (λ n. elements_within n canonical weights numeric (placed list)) (placed_count [] list)
+
+  -- what was read stands in front of what is left
+  pub read_left : (before : List ℕ) (given : ℕ) (ready old : List ℕ) (place : ℕ) (new : List ℕ) (next : ℕ) (after : List ℕ) → given ≡ length before → ready ≡ []
+      → IsRead canonical weights numeric old place (unpacked ready) new next (unpacked after)
+      → drop 0 (unpacked after) ++ elements_from canonical weights numeric new next
+      ≡ drop given (unpacked before) ++ elements_from canonical weights numeric old place
+  read_left before given ready old place new next after e none h =
+      h
+      ∙ ap (λ items. unpacked items ++ elements_from canonical weights numeric old place) none
+      ∙ ap (λ (es : List Element). es ++ elements_from canonical weights numeric old place) (sym (all_given before given e))

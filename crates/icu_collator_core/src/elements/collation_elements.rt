@@ -1,0 +1,143 @@
+//! The collation elements of a text.
+
+ghost use Rattle.std.specs.Prelude.{◌≡◌, ◌++◌, ◌∷◌, ℕ, List, [], true, IfOk, MatchOption, OnErr, OnOk};
+ghost use Rattle.std.specs.Iterator.{IsFinite};
+ghost use lib.Utf8.{scalar, scalars};
+ghost use Rattle.icu_normalizer_core.specs.BorrowedMeaning.{borrowed_meaning};
+ghost use Rattle.icu_normalizer_core.specs.Canonical.{decomposed};
+ghost use Rattle.icu_normalizer_core.specs.Iter.{IsFirstOf, Spells};
+
+use super::upcoming::Upcoming;
+use crate::checked::CheckedTables;
+use crate::reading::reader::Reader;
+use icu_collator_types::elements::CollationElement;
+use icu_normalizer_core::canonical::CanonicalBorrowed;
+use icu_normalizer_core::decomposition::Decomposition;
+use smallvec::SmallVec;
+use std::alloc::{AllocError, Global};
+
+/// Appends a character. Fails only when out of memory.
+fn push_character(list: &mut SmallVec<char, 64>, c: char) -> Result<(), AllocError>
+    ensures items { OnOk result (list.new.items ≡ list.old.items ++ c ∷ []) }
+    ensures character { scalar c ≡ true }
+{
+    list.push(c)?;
+    Ok(())
+}
+
+/// The decomposed list of the characters that an iterator gives. Fails only when out of memory.
+fn decomposed_list<I: Iterator<Item = char> + Drop>(
+    alloc: Global,
+    canonical: CanonicalBorrowed<'_>,
+    chars: I,
+) -> Result<SmallVec<char, 64>, AllocError>
+    requires can { I.can_next chars }
+    requires finite { IsFinite (I.remaining chars) }
+    ensures list { IfOk result (λ list. (cs : List ℕ) → Spells I.next_gives chars cs → list.items ≡ decomposed (borrowed_meaning canonical.entry) cs) }
+    ensures characters { IfOk result (λ list. scalars list.items ≡ true) }
+{
+    let mut list = SmallVec::new(alloc);
+    for item in Decomposition::new(alloc, canonical, chars) {
+        push_character(&mut list, item?)?;
+    }
+    Ok(list)
+}
+
+/// The collation elements of a text (UTS 10): `new`, then what is wanted of `iter_next_before_init` and
+/// `prepend_upcoming_before_init`, then `init` once, and `next` as often as wanted.
+///
+/// The text is the characters that were put before, the last one first, and then those that the iterator still gives. It
+/// is decomposed (UAX 15) and read by the tables. Texts of at most 64 characters with at most 32 elements of a character
+/// take no memory, unless many marks or digits stand together.
+#[derive(Debug, Drop)]
+pub struct CollationElements<'t, 'a, I> {
+    source: Option<Upcoming<I>>,
+    reader: Reader<'t, 'a>,
+}
+
+impl<'t, 'a, I: Iterator<Item = char> + Drop> CollationElements<'t, 'a, I> {
+    ghost use Rattle.icu_collator_core.specs.ElementTexts.{CanBegin, GivesElement, IsBefore, KeepsTables, elements_to_come, numbers_of, tables_of, text_elements};
+
+    /// The elements of the characters of an iterator, by these tables. Where a lead byte is given, digits that stand
+    /// together are read as a number, whose primaries have this lead byte. No memory is taken.
+    pub fn new(
+        alloc: Global,
+        chars: I,
+        checked: &'t CheckedTables<'a>,
+        numeric_primary: Option<u8>,
+    ) -> CollationElements<'t, 'a, I>
+        ensures before { (cs : List ℕ) → Spells I.next_gives chars cs → IsBefore I.next_gives result [] cs }
+        ensures ready { I.can_next chars → IsFinite (I.remaining chars) → CanBegin I.can_next I.remaining result }
+        ensures tables { tables_of result ≡ checked.now }
+        ensures numbers { numbers_of result ≡ numeric_primary }
+    {
+        CollationElements {
+            source: Some(Upcoming::new(alloc, chars)),
+            reader: Reader::new(alloc, checked, numeric_primary),
+        }
+    }
+
+    /// Takes the next character of the iterator, before `init`: it is no more part of the text.
+    pub fn iter_next_before_init(&mut self) -> Option<char>
+        requires ready { CanBegin I.can_next I.remaining self.old }
+        ensures first { (before rest : List ℕ) → IsBefore I.next_gives self.old before rest
+            → MatchOption result ((rest ≡ []) × IsBefore I.next_gives self.new before []) (IsFirstOf (λ s cs. IsBefore I.next_gives s before cs) rest self.new) }
+        ensures ready { CanBegin I.can_next I.remaining self.new }
+        ensures tables { KeepsTables self.old self.new }
+    {
+        match &mut self.source {
+            Some(source) => source.pull(),
+            None => None,
+        }
+    }
+
+    /// Puts a character before all that is to be read, before `init`. Where memory lacks, nothing changes.
+    pub fn prepend_upcoming_before_init(&mut self, c: char) -> Result<(), AllocError>
+        ensures before { (before rest : List ℕ) → IsBefore I.next_gives self.old before rest → OnOk result (IsBefore I.next_gives self.new (c ∷ before) rest) }
+        ensures kept { (before rest : List ℕ) → IsBefore I.next_gives self.old before rest → OnErr result (IsBefore I.next_gives self.new before rest) }
+        ensures ready { CanBegin I.can_next I.remaining self.old → CanBegin I.can_next I.remaining self.new }
+        ensures tables { KeepsTables self.old self.new }
+    {
+        match &mut self.source {
+            Some(source) => source.put_before(c),
+            None => Ok(()),
+        }
+    }
+
+    /// Decomposes the text. Fails only when out of memory, and then no element is to come.
+    pub fn init(&mut self) -> Result<(), AllocError>
+        requires ready { CanBegin I.can_next I.remaining self.old }
+        ensures elements { (before rest : List ℕ) → IsBefore I.next_gives self.old before rest
+            → OnOk result (elements_to_come self.new ≡ text_elements (tables_of self.old) (numbers_of self.old) (before ++ rest)) }
+        ensures none { OnErr result (elements_to_come self.new ≡ []) }
+        ensures tables { KeepsTables self.old self.new }
+    {
+        let Some(source) = self.source.take() else {
+            return Ok(());
+        };
+        let canonical = self.reader.checked().canonical();
+        match decomposed_list(source.allocator(), canonical, source) {
+            Ok(list) => {
+                self.reader.take(list);
+                Ok(())
+            }
+            Err(error) => {
+                self.reader.stop();
+                Err(error)
+            }
+        }
+    }
+
+    /// The next element, after `init`; behind the last, and after want of memory, the element that ends a text,
+    /// `CollationElement::default()`, for ever. Fails only when out of memory.
+    pub fn next(&mut self) -> Result<CollationElement, AllocError>
+        ensures first { IfOk result (λ bits. GivesElement (elements_to_come self.old) bits (elements_to_come self.new)) }
+        ensures none { OnErr result (elements_to_come self.new ≡ []) }
+        ensures tables { KeepsTables self.old self.new }
+    {
+        match self.reader.next()? {
+            Some(element) => Ok(element),
+            None => Ok(CollationElement::default()),
+        }
+    }
+}
