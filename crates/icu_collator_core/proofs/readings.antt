@@ -1,4 +1,5 @@
 pub mod AlikeLemmas
+pub mod AloneReadLemmas
 pub mod CaseLemmas
 pub mod CountLemmas
 pub mod DigitRunLemmas

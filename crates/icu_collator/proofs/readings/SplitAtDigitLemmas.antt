@@ -1,8 +1,7 @@
 -- The elements of a list with a digit in it: those of what stands before, and those of what stands from there on.
-use Rattle.std.proofs.Common.{◌≡◌, ℕ, zero, suc, ◌+◌, ◌≤◌, ◌==◌, Bool, true, false, cond, not, ◌&&◌, ◌||◌, List, [], ◌∷◌, ◌++◌, length, take, drop, refl, sym, ap, ◌∙◌, arith, append_assoc, length-append, length-drop, filter_map}
-use Rattle.std.specs.List.{prefix_len}
+use Rattle.std.proofs.Common.{◌≡◌, ℕ, zero, suc, ◌+◌, ◌≤◌, ◌==◌, Bool, true, false, cond, not, ◌&&◌, ◌||◌, List, [], ◌∷◌, ◌++◌, length, take, drop, refl, sym, ap, ◌∙◌, arith, append_assoc, length-append, filter_map}
 use Rattle.std.specs.Option.{unwrap_or, is_some}
-use Rattle.std.proofs.lemmas.Bool.{and_parts, eqb-true, false_from_ne_true, or_from}
+use Rattle.std.proofs.lemmas.Bool.{eqb-true, false_from_ne_true, or_from}
 use Rattle.std.proofs.lemmas.List.{take-append-le, drop-append-le, length-map}
 use Rattle.std.proofs.lemmas.List.Sums.{prefix_len-le-length}
 use Rattle.icu_normalizer_core.specs.BuiltIn.{built_in_class}
@@ -10,12 +9,12 @@ use Rattle.icu_normalizer_core.specs.Canonical.{Canonical, IsDecomposing}
 use Rattle.icu_collator_types.specs.declared.elements.Element.{Element}
 use Rattle.icu_collator_core.specs.Collation.{Collation}
 use Rattle.icu_collator_core.specs.Weights.{Weights}
-use Rattle.icu_collator_core.specs.Defaults.{special_primary, primary_element, default_elements}
+use Rattle.icu_collator_core.specs.Defaults.{special_primary, default_elements}
 use Rattle.icu_collator_core.specs.Numbers.{number_elements}
 use Rattle.icu_collator_core.specs.Elements.{Placed, Reading, characters_of, match_length, prefix_match, text_match, text_reading, digit_count, number_reading, is_before_accent, reading, elements_within}
 use Rattle.icu_collator_core.proofs.readings.AlikeLemmas.{chosen_alike, reading_is}
 use Rattle.icu_collator.specs.NumbersInTexts.{AreDigitsApart, is_digit}
-use Rattle.icu_collator_core.proofs.readings.CountLemmas.{any_count, match_filled, match_within, reading_shrinks}
+use Rattle.icu_collator_core.proofs.readings.CountLemmas.{any_count, match_within, reading_shrinks}
 use Rattle.icu_collator.proofs.readings.BeforeDigitLemmas.{EndsPlain, tail_plain, drop_plain, JoinsAlike, joining_apart, joining_plain, characters_append, match_kept}
 
 -- a reading of a list, and that of its front: what stands after the front is left

@@ -1,17 +1,27 @@
 -- What a text that is being read has left, by its list and what is ready.
-use Rattle.std.proofs.Common.{◌≡◌, ℕ, suc, ◌+◌, ◌<◌, ◌≤◌, Bool, List, [], ◌∷◌, ◌++◌, length, take, drop, refl, sym, ◌∙◌, ap, arith, inl, inr}
+use Rattle.std.proofs.Common.{◌≡◌, ℕ, suc, ◌+◌, ◌<◌, ◌≤◌, ◌==◌, Bool, true, false, List, [], ◌∷◌, ◌++◌, length, take, drop, reverse, refl, sym, ◌∙◌, ap, arith, inl, inr, None}
 use Rattle.std.specs.Prelude.{slice_index}
 use Rattle.std.proofs.lemmas.Bool.{cases_lt}
+use lib.Utf8.{scalars}
 use Rattle.std.proofs.lemmas.List.{drop-map, drop_all, drop_more}
 use Rattle.icu_normalizer_core.specs.Canonical.{Canonical}
 use Rattle.icu_collator_types.specs.declared.elements.Element.{Element}
 use Rattle.icu_collator_core.specs.ElementLists.{unpacked}
-use Rattle.icu_collator_core.specs.Elements.{elements_of_list, elements_within, longest_prefix, placed, placed_behind}
+use Rattle.icu_collator_core.specs.Elements.{characters_of, elements_of_list, elements_within, longest_prefix, placed, placed_behind}
 use Rattle.icu_collator_core.specs.Pools.{element_of}
-use Rattle.icu_collator_core.specs.ReadSteps.{IsRead, elements_from}
+use Rattle.icu_collator_core.specs.PlainWords.{IsReadAlone}
+use Rattle.icu_collator_core.specs.Defaults.{special_primary}
+use Rattle.icu_collator_core.specs.MovedMarks.{KnowNoMarksBefore}
+use Rattle.icu_collator_core.specs.ReadSteps.{IsRead, elements_from, placed_at}
+use Rattle.icu_collator_core.specs.ReadTexts.{characters_before}
 use Rattle.icu_collator_core.specs.Weights.{Weights}
 use Rattle.icu_collator_core.proofs.lookups.JoinedTextLemmas.{placed_end}
-use Rattle.icu_collator_core.proofs.readings.StepLemmas.{nothing_from}
+use Rattle.icu_collator_core.proofs.lookups.FoundTextLemmas.{characters_left}
+use Rattle.icu_collator_core.proofs.lookups.MatchLemmas.{scalars_front}
+use Rattle.icu_collator_core.proofs.lookups.OpenTextLemmas.{scalars_behind}
+use Rattle.icu_collator_core.proofs.lookups.PrefixLemmas.{scalars_back}
+use Rattle.icu_collator_core.proofs.readings.AloneReadLemmas.{alone_read}
+use Rattle.icu_collator_core.proofs.readings.StepLemmas.{alike_self, left_from, nothing_from, read_from}
 
 pub below : (n m : ℕ) → n ≤ m → (n ≡ m → ⊥) → n < m
 below n m le differ = elim (cases_lt n m) [ inl lt ↦ lt | inr past ↦ absurd (differ (omega (arith, le, past))) ]
@@ -21,7 +31,7 @@ unfolding placed_behind
 placed_count before [] = refl
 placed_count before (c ∷ cs) = ap (λ n. suc n) (placed_count (take longest_prefix (c ∷ before)) cs)
 
-all_given : (ready : List ℕ) (given : ℕ) → given ≡ length ready → drop given (unpacked ready) ≡ []
+pub all_given : (ready : List ℕ) (given : ℕ) → given ≡ length ready → drop given (unpacked ready) ≡ []
 all_given ready given e = drop-map element_of given ready ∙ ap (λ items. unpacked items) (drop_all given ready (omega (arith, e)))
 
 -- the element that is given, and the others that are ready
@@ -56,3 +66,18 @@ module _ (canonical : Canonical) (weights : Weights) (numeric : Bool) where
       h
       ∙ ap (λ items. unpacked items ++ elements_from canonical weights numeric old place) none
       ∙ ap (λ (es : List Element). es ++ elements_from canonical weights numeric old place) (sym (all_given before given e))
+
+  -- a character that is read alone gives its element, and is read
+  pub alone_left : (list : List ℕ) (place c bits : ℕ) → place < length list → c ≡ slice_index list place → scalars list ≡ true
+      → KnowNoMarksBefore canonical.class weights → IsReadAlone weights c bits → special_primary c ≡ None → (c == 0x307) ≡ false
+      → elements_from canonical weights numeric list place ≡ element_of bits ∷ elements_from canonical weights numeric list (place + 1)
+  alone_left list place c bits inside is ok known alone ordinary undotted =
+      let here = left_from list place c inside is in
+      let p = placed_at list place c in
+      let ps = drop (place + 1) (placed list) in
+      let before : scalars (characters_before list place) ≡ true = scalars_front longest_prefix (reverse (take place list)) (scalars_back (take place list) (scalars_front place list ok)) in
+      let behind : scalars (characters_of ps) ≡ true = ap scalars (characters_left (place + 1) list) ∙ scalars_behind (place + 1) list ok in
+      sym
+      (read_from canonical weights numeric list place c [] list (place + 1) (bits ∷ []) (record { elements = element_of bits ∷ []; left = ps }) (omega (arith, inside)) here known
+      (alone_read canonical weights c bits alone numeric p ps refl before behind ordinary undotted)
+      (record { elements = refl; left = λ _. alike_self weights ps }))

@@ -6,7 +6,7 @@ ghost use Rattle.smallvec.specs.SmallVec.{small_vec_len};
 ghost use Rattle.icu_collator_core.specs.Defaults.{special_primary};
 ghost use Rattle.icu_collator_core.specs.ElementLists.{unpacked};
 ghost use Rattle.icu_collator_core.specs.Elements.{is_before_accent, placed};
-ghost use Rattle.icu_collator_core.specs.ReadSources.{canonical_by, weights_by};
+ghost use Rattle.icu_collator_core.specs.ReadSources.{IsAloneAnywhere, canonical_by, weights_by};
 ghost use Rattle.icu_collator_core.specs.ReadSteps.{IsRead};
 ghost use Rattle.icu_collator_core.specs.ReadWords.{AreSaidBy, table_word};
 ghost use Rattle.icu_collator_core.specs.TableMeaning.{digit_by};
@@ -59,6 +59,18 @@ fn number_lead(entry: CountingWord<'_>, numeric: Option<u8>) -> Option<u8>
     } else {
         None
     }
+}
+
+/// The element of a character, if nothing that stands before or behind it changes it.
+#[inline]
+pub(crate) fn alone_at(checked: &CheckedTables<'_>, c: char) -> Option<CollationElement>
+    ensures { IfSome result (λ bits. IsAloneAnywhere checked.now c bits) }
+{
+    if c == '\u{307}' || special_primary(c as u32).is_some() {
+        return None;
+    }
+    let element = checked_word(checked, c).alone_element()?;
+    Some(element)
 }
 
 /// Reads a character that is neither special nor a digit that counts. Fails only when out of memory.

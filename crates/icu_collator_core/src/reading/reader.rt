@@ -1,13 +1,13 @@
 //! A text that is being read: its decomposed list, and the elements that are ready.
 
-ghost use Rattle.std.specs.Prelude.{◌≡◌, ◌-◌, ◌<◌, ◌≤◌, ◌∷◌, [], true, MatchOption, IfOk, OnOk, OnErr, is_some};
+ghost use Rattle.std.specs.Prelude.{◌≡◌, ◌-◌, ◌<◌, ◌≤◌, ◌∷◌, [], true, MatchOption, IfNone, IfOk, IfSome, OnOk, OnErr, is_some};
 ghost use lib.Utf8.{scalars};
 ghost use Rattle.smallvec.specs.SmallVec.{small_vec_len};
 ghost use Rattle.icu_collator_core.specs.Elements.{elements_of_list};
 ghost use Rattle.icu_collator_core.specs.Pools.{element_of};
 ghost use Rattle.icu_collator_core.specs.ReadSources.{canonical_by, weights_by};
 
-use super::next::read_next;
+use super::next::{alone_at, read_next};
 use crate::checked::CheckedTables;
 use icu_collator_types::elements::CollationElement;
 use smallvec::SmallVec;
@@ -125,12 +125,31 @@ impl<'t, 'a> Reader<'t, 'a> {
         Some(element)
     }
 
+    /// The element of the next character, where no other is ready and nothing that stands before or behind the character
+    /// changes it; `None` otherwise, and then nothing changes. It spares most characters the reading of what stands around.
+    fn next_alone(&mut self) -> Option<CollationElement>
+        ensures same { ReadsOn self.old self.new }
+        ensures left { IfSome result (λ bits. elements_left self.old ≡ element_of bits ∷ elements_left self.new) }
+        ensures none { IfNone result (elements_left self.new ≡ elements_left self.old) }
+    {
+        if self.given != self.ready.len() || self.place >= self.list.len() {
+            return None;
+        }
+        self.checked.keep_promise();
+        let element = alone_at(self.checked, self.list[self.place])?;
+        self.place += 1;
+        Some(element)
+    }
+
     /// The next element; `None` where none is left. Fails only when out of memory, and then nothing is left.
     pub(crate) fn next(&mut self) -> Result<Option<CollationElement>, AllocError>
         ensures same { ReadsOn self.old self.new }
         ensures left { IfOk result (λ next. MatchOption next ((elements_left self.old ≡ []) × (elements_left self.new ≡ [])) (λ bits. elements_left self.old ≡ element_of bits ∷ elements_left self.new)) }
         ensures none { OnErr result (elements_left self.new ≡ []) }
     {
+        if let Some(element) = self.next_alone() {
+            return Ok(Some(element));
+        }
         if let Err(error) = self.fill() {
             self.stop();
             return Err(error);
