@@ -5,3 +5,5 @@ pub mod readings
 pub mod orders
 pub mod equivalence
 pub mod tables
+pub mod SinkLemmas
+pub mod MakingLemmas

@@ -9,3 +9,7 @@ pub mod NumbersInTexts
 pub mod LevelOrders
 pub mod Sameness
 pub mod WholeLeads
+pub mod Sinks
+pub mod Loading
+pub mod CollatorErrors
+pub mod Collators
