@@ -47,8 +47,9 @@ fn decomposed_list<I: Iterator<Item = char> + Drop>(
 /// `prepend_upcoming_before_init`, then `init` once, and `next` as often as wanted.
 ///
 /// The text is the characters that were put before, the last one first, and then those that the iterator still gives. It
-/// is decomposed (UAX 15) and read by the tables. Texts of at most 64 characters with at most 32 elements of a character
-/// take no memory, unless many marks or digits stand together.
+/// is decomposed (UAX 15) and read by the tables. No memory is meant to be taken where the decomposed list has at most 64
+/// characters, four at most were put before, and no reading has more than 32 elements, unless many marks or digits stand
+/// together.
 #[derive(Debug, Drop)]
 pub struct CollationElements<'t, 'a, I> {
     source: Option<Upcoming<I>>,
