@@ -1,4 +1,4 @@
-"""Random weights over random classes and mappings, and random texts over them, for compare_elements.py."""
+"""Random weights over random classes and mappings, and random texts over them, for compare_elements.py and compare_orders.py."""
 
 LETTERS = [*range(0x61, 0x7B), 0x391, 0x3B1, 0x5D0, 0x915, 0x3046, 0x4E00, 0x10400, 0x1F600]
 MARKS = [*range(0x300, 0x318), 0x323, 0x328, 0x345, 0x350, 0x93C, 0xF71, 0xF72, 0xF74, 0x3099, 0x309A, 0x1D165]

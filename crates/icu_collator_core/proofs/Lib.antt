@@ -5,6 +5,7 @@ pub mod checks
 pub mod meaning
 pub mod lookups
 pub mod apart
+pub mod unsafety
 pub mod NumberExamples
 mod TableExamples
 mod TableFaultExamples

@@ -38,3 +38,5 @@ pub mod Readers
 pub mod DigitRuns
 pub mod Upcoming
 pub mod ElementTexts
+pub mod UnsafeCharacters
+pub mod TiedWords

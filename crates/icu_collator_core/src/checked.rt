@@ -1,13 +1,20 @@
 //! Collation data: tables that were checked, with the canonical data that they are read with.
 
-ghost use Rattle.std.specs.Prelude.{◌≡◌, MatchResult};
-ghost use Rattle.icu_normalizer_core.specs.BorrowedMeaning.{borrowed_tables};
+ghost use Rattle.std.specs.Prelude.{◌≡◌, ◌↔◌, [], ◌∷◌, ℕ, List, IfSome, IsTrue, MatchOption, MatchResult};
+ghost use Rattle.icu_normalizer_core.specs.BorrowedMeaning.{borrowed_meaning, borrowed_tables};
 ghost use Rattle.icu_normalizer_core.specs.CanonicalMeaning.{meaning};
 ghost use Rattle.icu_collator_core.specs.Acceptance.{IsAccepted, IsRefusal};
+ghost use Rattle.icu_collator_core.specs.ReadSources.{IsAloneAnywhere};
+ghost use Rattle.icu_collator_core.specs.TableMeaning.{weights_of};
+ghost use Rattle.icu_collator_core.specs.TiedWords.{AreTied};
+ghost use Rattle.icu_collator_core.specs.UnsafeCharacters.{IsUnsafe, IsUnsafeItself};
 
 use crate::check::TableFault;
 use crate::check::faults::judge;
+use crate::reading::next::alone_at;
 use crate::tables::CollationTables;
+use crate::tied::{holds, tied_characters};
+use icu_collator_types::elements::CollationElement;
 use icu_normalizer_core::canonical::{CanonicalBorrowed, CanonicalData};
 use std::alloc::Global;
 use std::marker::Model;
@@ -17,17 +24,44 @@ use std::marker::Model;
 pub struct CheckedTables<'a> {
     canonical: CanonicalData<'a>,
     tables: CollationTables<'a>,
+    /// The characters that are tied to what stands before them.
+    tied: Vec<u32>,
 }
 
 impl<'a> Model for CheckedTables<'a> {
     ghost use Rattle.icu_normalizer_core.specs.CanonicalMeaning.{meaning};
     ghost use Rattle.icu_collator_core.specs.Acceptance.{CollationSource, IsAccepted};
+    ghost use Rattle.icu_collator_core.specs.TableMeaning.{weights_of};
+    ghost use Rattle.icu_collator_core.specs.TiedWords.{AreTied};
 
     ghost Value = { CollationSource };
 
     ghost view = { λ inside. record { canonical = inside.canonical; tables = inside.tables } };
 
-    ghost invariant = { λ inside. IsAccepted (meaning inside.canonical) inside.tables };
+    ghost invariant = { λ inside. IsAccepted (meaning inside.canonical) inside.tables × AreTied (weights_of (meaning inside.canonical) inside.tables) inside.tied.items };
+}
+
+/// The characters that tables tie, where they pass every check; else what they are refused for.
+fn judge_tied(
+    alloc: Global,
+    canonical: CanonicalBorrowed<'_>,
+    tables: &CollationTables<'_>,
+) -> Result<Vec<u32>, TableFault>
+    ensures { MatchResult result
+        (λ tied. IsAccepted (borrowed_meaning canonical.entry) tables.now × AreTied (weights_of (borrowed_meaning canonical.entry) tables.now) tied.items)
+        (IsRefusal (borrowed_meaning canonical.entry) tables.now) }
+{
+    judge(alloc, canonical, tables)?;
+    let characters = tied_characters(alloc, canonical, tables)?;
+    Ok(characters)
+}
+
+/// The first character of a full list.
+fn first_of_full(canonical: CanonicalBorrowed<'_>, c: char) -> Option<char>
+    ensures { MatchOption result ((borrowed_meaning canonical.entry).full c ≡ []) (λ first. (rest : List ℕ) × ((borrowed_meaning canonical.entry).full c ≡ first ∷ rest)) }
+{
+    let mut list = canonical.full_list(c);
+    list.next()
 }
 
 impl<'a> CheckedTables<'a> {
@@ -42,8 +76,12 @@ impl<'a> CheckedTables<'a> {
             (λ checked. (checked ≡ record { canonical = canonical.entry; tables = tables.entry }) × IsAccepted (meaning canonical.entry) tables.entry)
             (IsRefusal (meaning canonical.entry) tables.entry) }
     {
-        match judge(alloc, canonical.as_borrowed(), &tables) {
-            Ok(()) => Ok(CheckedTables { canonical, tables }),
+        match judge_tied(alloc, canonical.as_borrowed(), &tables) {
+            Ok(tied) => Ok(CheckedTables {
+                canonical,
+                tables,
+                tied,
+            }),
             Err(fault) => Err(fault),
         }
     }
@@ -69,5 +107,38 @@ impl<'a> CheckedTables<'a> {
         ensures { IsAccepted (meaning self.now.canonical) self.now.tables }
     {
         let _tables = &self.tables;
+    }
+
+    /// The element of a character that is read by itself, whatever stands before and behind it; `None` for one that isn't,
+    /// and for some that are. No memory is taken.
+    pub fn alone_element(&self, c: char) -> Option<CollationElement>
+        ensures { IfSome result (λ bits. IsAloneAnywhere self.now c bits) }
+    {
+        let element = alone_at(self, c)?;
+        Some(element)
+    }
+
+    /// Whether no reading of a text may begin at a character: it is a mark, stands second or later in a recorded text or
+    /// has a recorded prefix, or its full list begins with such a character. No memory is taken.
+    pub fn is_unsafe(&self, c: char) -> bool
+        ensures { IsTrue result ↔ IsUnsafe (meaning self.now.canonical) (weights_of (meaning self.now.canonical) self.now.tables) c }
+    {
+        if self.is_unsafe_itself(c) {
+            return true;
+        }
+        match first_of_full(self.canonical(), c) {
+            Some(first) => self.is_unsafe_itself(first),
+            None => false,
+        }
+    }
+
+    /// Whether a character is a mark, or tied to what stands before it.
+    fn is_unsafe_itself(&self, c: char) -> bool
+        ensures { IsTrue result ↔ IsUnsafeItself (meaning self.now.canonical) (weights_of (meaning self.now.canonical) self.now.tables) c }
+    {
+        if !self.canonical().is_starter(c) {
+            return true;
+        }
+        holds(self.tied.as_slice(), c)
     }
 }

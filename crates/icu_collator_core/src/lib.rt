@@ -13,3 +13,4 @@ pub mod laws_texts;
 pub mod provider;
 mod reading;
 pub mod tables;
+mod tied;

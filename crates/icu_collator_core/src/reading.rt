@@ -10,6 +10,7 @@ pub(crate) mod numbers;
 pub(crate) mod plain;
 pub(crate) mod prefixes;
 pub(crate) mod reader;
+pub(crate) mod runs;
 pub(crate) mod steps;
 pub(crate) mod suffixes;
 pub(crate) mod words;

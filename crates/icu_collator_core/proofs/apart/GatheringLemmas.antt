@@ -38,11 +38,11 @@ all_entries list n many word = (
       (h.1.0, (let lt = h.1.1 in omega (arith, many, lt)), (h.0, (λ d. found.1 d ∙ sym (found.1 h.0) ∙ h.1.2), h.2)),
 )
 
-abbrev units_and_value : Entry → List ℕ × ℤ
+abbrev pub units_and_value : Entry → List ℕ × ℤ
 units_and_value entry = (entry.0.items, entry.1)
 
 -- 2 ^ 64 - 1 limits no key
-abbrev most : ℕ
+abbrev pub most : ℕ
 most = 2 ^ 64 - 1
 
 pub values_read : (pools : Pools) (word : ℕ) (units : List ℕ) (list : List Entry) → units ≡ trie_of pools.contexts (index_of word)

@@ -16,7 +16,7 @@ use Rattle.icu_collator_core.specs.ReadWords.{AreSaidBy, default_by, elements_al
 use Rattle.icu_collator_core.specs.Weights.{Weights}
 
 -- the word of a range spells no elements
-offset_spells_none : (pools : Pools) (word : ℕ) → has_tag Offset word ≡ true → elements_of_word pools word ≡ None
+pub offset_spells_none : (pools : Pools) (word : ℕ) → has_tag Offset word ≡ true → elements_of_word pools word ≡ None
 unfolding elements_of_word
 offset_spells_none pools word h = grind (arith, nat_tests)
 

@@ -1,13 +1,15 @@
 -- A character whose word states an element is read alone.
-use Rattle.std.proofs.Common.{◌≡◌, ℕ, ◌<◌, Bool, true, false, ltb, leb, ◌&&◌, cond, List, [], ◌∷◌, length, take, reverse, Option, Some, None, refl, sym, ◌∙◌, ap, arith}
-use Rattle.std.proofs.lemmas.Bool.{and_parts, cond-false, leb-true, ltb-true}
+use Rattle.std.proofs.Common.{◌≡◌, ℕ, ◌<◌, Bool, true, false, ltb, leb, ◌&&◌, ◌||◌, cond, List, [], ◌∷◌, length, take, reverse, Option, Some, None, refl, sym, ◌∙◌, ap, arith, ⊎_elim}
+use Rattle.std.proofs.lemmas.Bool.{and_parts, cond-false, leb-true, ltb-true, or_cases}
+use Rattle.std.proofs.lemmas.Bool.Decides.{nat_tests}
 use Rattle.std.proofs.lemmas.List.{length-take-le}
 use Rattle.std.specs.Prelude.{◌==◌, IfSome, option_map}
 use Rattle.std.specs.Option.{option_and_then, unwrap_or}
 use lib.Utf8.{scalars}
 use Rattle.icu_collator_types.specs.declared.elements.Element.{Element}
-use Rattle.icu_collator_types.specs.declared.elements.word_tags.Tag.TheVariants.{Contraction, Digit, Prefix}
-use Rattle.icu_collator_types.specs.ElementWords.{has_tag, self_contained}
+use Rattle.icu_collator_types.specs.declared.elements.word_tags.Tag.{Tag}
+use Rattle.icu_collator_types.specs.declared.elements.word_tags.Tag.TheVariants.{Contraction, Digit, Implicit, Offset, Prefix}
+use Rattle.icu_collator_types.specs.ElementWords.{has_tag, self_contained, tag_number}
 use Rattle.icu_collator_core.specs.Defaults.{default_elements}
 use Rattle.icu_collator_core.specs.Elements.{Placed, at_greatest, behind_prefix, longest_prefix, prefix_match}
 use Rattle.icu_collator_core.specs.PlainWords.{IsReadAlone}
@@ -15,11 +17,11 @@ use Rattle.icu_collator_core.specs.Pools.{Pools, element_of, elements_of_word, s
 use Rattle.icu_collator_core.specs.ReadWords.{AreSaidBy, default_by, elements_spelled_by}
 use Rattle.icu_collator_core.specs.TableMeaning.{TableWord}
 use Rattle.icu_collator_core.specs.Weights.{Weights}
-use Rattle.icu_collator_core.proofs.lookups.AloneLemmas.{alone_said, alone_spelled}
+use Rattle.icu_collator_core.proofs.lookups.AloneLemmas.{alone_said, alone_spelled, offset_spells_none}
 use Rattle.icu_collator_core.proofs.lookups.MatchLemmas.{recorded_behind, scalars_front}
 use Rattle.icu_collator_core.proofs.lookups.PrefixLemmas.{recorded_before, scalars_back}
 use Rattle.icu_collator_core.proofs.lookups.TextLemmas.{greatest_past}
-use Rattle.icu_collator_core.proofs.meaning.WordTagLemmas.{lone_same, stated_elements, stated_tag, unprefixed_same}
+use Rattle.icu_collator_core.proofs.meaning.WordTagLemmas.{lone_same, other_tag, stated_elements, stated_tag, unprefixed_same}
 
 -- the element of a word that states one is all that the word spells
 pub contained_spelled : (word : ℕ) (bits : Option ℕ) → (word == 0) ≡ false → bits ≡ self_contained word
@@ -28,16 +30,7 @@ contained_spelled word None some e = tt
 contained_spelled word (Some b) some e =
     λ pools. stated_elements pools word (element_of b) (cond-false (word == 0) _ _ some ∙ ap (option_map element_of) (sym e))
 
-module _ (entry : TableWord) (e : Element) (stated : stated_element entry.word ≡ Some e) where
-  no_prefix : has_tag Prefix entry.word ≡ false
-  no_prefix = stated_tag entry.word e stated Prefix (omega arith)
-
-  no_contraction : has_tag Contraction entry.word ≡ false
-  no_contraction = stated_tag entry.word e stated Contraction (omega arith)
-
-  no_digit : has_tag Digit entry.word ≡ false
-  no_digit = stated_tag entry.word e stated Digit (omega arith)
-
+module _ (entry : TableWord) (no_prefix : has_tag Prefix entry.word ≡ false) (no_contraction : has_tag Contraction entry.word ≡ false) (no_digit : has_tag Digit entry.word ≡ false) where
   module _ (weights : Weights) (c : ℕ) (said : AreSaidBy weights entry c) where
     none_behind : (d : ℕ) (ds : List ℕ) → scalars (d ∷ ds) ≡ true → weights.recorded [] (c ∷ d ∷ ds) ≡ None
     none_behind d ds ok =
@@ -71,26 +64,54 @@ module _ (entry : TableWord) (e : Element) (stated : stated_element entry.word �
         greatest_past (behind_prefix weights p) 0 longest_prefix (omega arith) (λ n above within. none_of_length p is ok n)
         ∙ none_of_length p is ok 0
 
-    one_alone : unwrap_or (weights.recorded [] (c ∷ [])) (default_elements weights c) ≡ e ∷ []
-    one_alone =
+    one_alone : (e : Element) → elements_spelled_by entry c entry.word ≡ e ∷ [] → unwrap_or (weights.recorded [] (c ∷ [])) (default_elements weights c) ≡ e ∷ []
+    one_alone e spelled =
         sym (alone_said entry c weights said)
         ∙ sym (alone_spelled entry c)
         ∙ ap (elements_spelled_by entry c) (lone_same entry.pools entry.word no_prefix no_contraction no_digit)
-        ∙ ap (λ o. unwrap_or o (default_by entry c ∷ [])) (stated_elements entry.pools entry.word e stated)
+        ∙ spelled
+
+    -- a word that names no context and is no digit's says nothing but the elements that it spells
+    read_without : (bits : ℕ) → elements_spelled_by entry c entry.word ≡ element_of bits ∷ [] → IsReadAlone weights c bits
+    read_without bits spelled =
+        record {
+          digit = said.digit ∙ cond-false (has_tag Digit entry.word) _ _ no_digit;
+          before = none_before;
+          behind = none_behind;
+          elements = one_alone (element_of bits) spelled;
+        }
 
 -- a word that states an element says nothing else
 read_alone : (entry : TableWord) (bits : ℕ) → stated_element entry.word ≡ Some (element_of bits)
     → (weights : Weights) (c : ℕ) → AreSaidBy weights entry c → IsReadAlone weights c bits
 read_alone entry bits stated weights c said =
     let e = element_of bits in
-    record {
-      digit = said.digit ∙ cond-false (has_tag Digit entry.word) _ _ (no_digit entry e stated);
-      before = none_before entry e stated weights c said;
-      behind = none_behind entry e stated weights c said;
-      elements = one_alone entry e stated weights c said;
-    }
+    read_without entry (stated_tag entry.word e stated Prefix (omega arith)) (stated_tag entry.word e stated Contraction (omega arith))
+    (stated_tag entry.word e stated Digit (omega arith)) weights c said bits
+    (ap (λ o. unwrap_or o (default_by entry c ∷ [])) (stated_elements entry.pools entry.word e stated))
 
 pub read_alone_if_stated : (entry : TableWord) (bits : Option ℕ) → option_map element_of bits ≡ stated_element entry.word
     → IfSome bits (λ b. (weights : Weights) (c : ℕ) → AreSaidBy weights entry c → IsReadAlone weights c b)
 read_alone_if_stated entry None e = tt
 read_alone_if_stated entry (Some b) e = read_alone entry b (sym e)
+
+-- a word that leaves its character to a range or to its code point says nothing else
+read_own : (entry : TableWord) (tag : Tag) → 10 < tag_number tag → has_tag tag entry.word ≡ true → elements_of_word entry.pools entry.word ≡ None
+    → (bits c : ℕ) → element_of bits ≡ default_by entry c → (weights : Weights) → AreSaidBy weights entry c → IsReadAlone weights c bits
+read_own entry tag above has none bits c own weights said =
+    read_without entry (other_tag Prefix tag entry.word has (λ same. omega (arith, same, above))) (other_tag Contraction tag entry.word has (λ same. omega (arith, same, above)))
+    (other_tag Digit tag entry.word has (λ same. omega (arith, same, above))) weights c said bits
+    (ap (λ o. unwrap_or o (default_by entry c ∷ [])) none ∙ ap (λ e. e ∷ []) (sym own))
+
+-- such a word has no elements
+left_spells_none : (pools : Pools) (word : ℕ) → has_tag Implicit word ≡ true → elements_of_word pools word ≡ None
+unfolding elements_of_word
+left_spells_none pools word h = grind (arith, nat_tests)
+
+pub read_own_if_left : (entry : TableWord) → (has_tag Implicit entry.word || has_tag Offset entry.word) ≡ true
+    → (bits c : ℕ) → element_of bits ≡ default_by entry c → (weights : Weights) → AreSaidBy weights entry c → IsReadAlone weights c bits
+read_own_if_left entry left bits c own weights said =
+    ⊎_elim
+    (λ (has : has_tag Implicit entry.word ≡ true). read_own entry Implicit (omega arith) has (left_spells_none entry.pools entry.word has) bits c own weights said)
+    (λ (has : has_tag Offset entry.word ≡ true). read_own entry Offset (omega arith) has (offset_spells_none entry.pools entry.word has) bits c own weights said)
+    (or_cases _ _ left)

@@ -24,16 +24,16 @@ no_half c s =
     (λ (high : (0xe000 ≤ c) × (c < 0x110000)). let above = high.0 in and_right (leb 0xd800 c) (leb c 0xdfff) (lt-leb c 0xdfff (omega (arith, above))))
     (scalar_cases c s)
 
-abbrev upper : ℕ → ℕ
+abbrev pub upper : ℕ → ℕ
 upper c = 0xd800 + (c - 0x10000) / 0x400
 
-abbrev lower : ℕ → ℕ
+abbrev pub lower : ℕ → ℕ
 lower c = 0xdc00 + c % 0x400
 
-one_unit : (c : ℕ) → c < 0x10000 → units_of c ≡ c ∷ []
+pub one_unit : (c : ℕ) → c < 0x10000 → units_of c ≡ c ∷ []
 one_unit c less = ap (λ (b : Bool). cond b (c ∷ []) (upper c ∷ lower c ∷ [])) (lt-ltb c 0x10000 less)
 
-two_halves : (c : ℕ) → 0x10000 ≤ c → units_of c ≡ upper c ∷ lower c ∷ []
+pub two_halves : (c : ℕ) → 0x10000 ≤ c → units_of c ≡ upper c ∷ lower c ∷ []
 two_halves c more = ap (λ (b : Bool). cond b (c ∷ []) (upper c ∷ lower c ∷ [])) (le-ltb c 0x10000 more)
 
 halves_read : (c : ℕ) (rest : List ℕ) → 0x10000 ≤ c → c < 0x110000

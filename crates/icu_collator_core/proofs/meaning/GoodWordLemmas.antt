@@ -58,7 +58,7 @@ unless_own_some c fs es h = at (is_primary_alone (own_primary c) fs) refl h
 suffix_short : (canonical : Canonical) (entry : TableWord) (c : ℕ) → AreShort (is_suffix canonical entry c)
 suffix_short canonical entry c cs h = leb-true (length cs) 7 (and_parts (leb (length cs) 7) _ h).0
 
-prefix_short : (canonical : Canonical) (digit : ℕ → Option ℕ) → AreShort (is_prefix canonical digit)
+pub prefix_short : (canonical : Canonical) (digit : ℕ → Option ℕ) → AreShort (is_prefix canonical digit)
 prefix_short canonical digit cs h = let three = leb-true (length cs) 3 (and_parts (leb (length cs) 3) _ h).0 in omega (arith, three)
 
 -- ---- The word that data have for a character

@@ -10,7 +10,8 @@ use Rattle.std.proofs.lemmas.Option.{cond_some, none-some, option_and_then_some,
 use Rattle.icu_normalizer_core.specs.BuiltIn.{is_jamo, is_within}
 use Rattle.icu_collator_types.specs.declared.elements.Element.{Element}
 use Rattle.icu_collator_types.specs.declared.elements.word_tags.Tag.TheVariants.{Contraction, Digit, LongSecondary, Offset, Prefix}
-use Rattle.icu_collator_types.specs.ElementWords.{has_tag, self_contained, simple_or_long_primary}
+use Rattle.icu_collator_types.specs.declared.elements.word_tags.Tag.{Tag}
+use Rattle.icu_collator_types.specs.ElementWords.{has_tag, self_contained, simple_or_long_primary, tag_number}
 use Rattle.icu_collator_core.specs.declared.tables.CollationTables.{CollationTables}
 use Rattle.icu_collator_core.specs.Pools.{Pools, digit_value, element_of, elements_of_word, index_of, lone_word, offset_primary, prefix_word, stated_element, suffix_word, unprefixed_word}
 use Rattle.icu_collator_core.specs.PrefixFaults.{IsSpelled, Spells}
@@ -197,9 +198,13 @@ module _ (tables : CollationTables) (c : ℕ) (jamo : AreSoundJamo tables) (is :
           (λ f spells.
           inr (inr (word, Contains-get_or tables.jamo.ce32s (c - 0x1100) 0 (subst (λ (n : ℕ). c - 0x1100 < n) (sym jamo.count) inside), spells)))
 
-  pub jamo_unprefixed : has_tag Prefix word ≡ false
-  jamo_unprefixed = at (stated_element word) refl told
+  -- the word states an element, so that it has none of the later tags
+  pub jamo_untagged : (tag : Tag) → 2 < tag_number tag → has_tag tag word ≡ false
+  jamo_untagged tag more = at (stated_element word) refl told
     where
-      at : (o : Option Element) → stated_element word ≡ o → Told c o → has_tag Prefix word ≡ false
+      at : (o : Option Element) → stated_element word ≡ o → Told c o → has_tag tag word ≡ false
       at None stated h = absurd (false≢true h)
-      at (Some e) stated h = stated_tag word e stated Prefix (omega arith)
+      at (Some e) stated h = stated_tag word e stated tag more
+
+  pub jamo_unprefixed : has_tag Prefix word ≡ false
+  jamo_unprefixed = jamo_untagged Prefix (omega arith)

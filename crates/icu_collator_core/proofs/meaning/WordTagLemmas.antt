@@ -22,7 +22,7 @@ of_tag tag word h = eqb-true (word % 2 ^ 4) (tag_number tag) (and_parts (is_spec
 pub no_tag : (tag : Tag) (word : ℕ) → word % 2 ^ 4 ≢ tag_number tag → has_tag tag word ≡ false
 no_tag tag word differs = and_right (is_special word) (word % 2 ^ 4 == tag_number tag) (ne_eqb (word % 2 ^ 4) (tag_number tag) differs)
 
-other_tag : (tag other : Tag) (word : ℕ) → has_tag other word ≡ true → tag_number tag ≢ tag_number other → has_tag tag word ≡ false
+pub other_tag : (tag other : Tag) (word : ℕ) → has_tag other word ≡ true → tag_number tag ≢ tag_number other → has_tag tag word ≡ false
 other_tag tag other word h differs = no_tag tag word (λ same. differs (sym same ∙ of_tag other word h))
 
 of_form : (tag : Tag) (word : ℕ) → has_form tag word ≡ true → has_tag tag word ≡ true

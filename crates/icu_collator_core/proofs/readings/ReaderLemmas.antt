@@ -1,5 +1,5 @@
 -- What a text that is being read has left, by its list and what is ready.
-use Rattle.std.proofs.Common.{◌≡◌, ℕ, suc, ◌+◌, ◌<◌, ◌≤◌, ◌==◌, Bool, true, false, List, [], ◌∷◌, ◌++◌, length, take, drop, reverse, refl, sym, ◌∙◌, ap, arith, inl, inr, None}
+use Rattle.std.proofs.Common.{◌≡◌, ℕ, suc, ◌+◌, ◌<◌, ◌≤◌, ◌==◌, Bool, true, false, List, [], ◌∷◌, ◌++◌, length, take, drop, reverse, refl, sym, ◌∙◌, ap, append_assoc, arith, inl, inr, None}
 use Rattle.std.specs.Prelude.{slice_index}
 use Rattle.std.proofs.lemmas.Bool.{cases_lt}
 use lib.Utf8.{scalars}
@@ -19,6 +19,7 @@ use Rattle.icu_collator_core.proofs.lookups.JoinedTextLemmas.{placed_end}
 use Rattle.icu_collator_core.proofs.lookups.FoundTextLemmas.{characters_left}
 use Rattle.icu_collator_core.proofs.lookups.MatchLemmas.{scalars_front}
 use Rattle.icu_collator_core.proofs.lookups.OpenTextLemmas.{scalars_behind}
+use Rattle.icu_collator_core.proofs.lookups.PackedLemmas.{unpacked_more}
 use Rattle.icu_collator_core.proofs.lookups.PrefixLemmas.{scalars_back}
 use Rattle.icu_collator_core.proofs.readings.AloneReadLemmas.{alone_read}
 use Rattle.icu_collator_core.proofs.readings.StepLemmas.{alike_self, left_from, nothing_from, read_from}
@@ -81,3 +82,14 @@ module _ (canonical : Canonical) (weights : Weights) (numeric : Bool) where
       (read_from canonical weights numeric list place c [] list (place + 1) (bits ∷ []) (record { elements = element_of bits ∷ []; left = ps }) (omega (arith, inside)) here known
       (alone_read canonical weights c bits alone numeric p ps refl before behind ordinary undotted)
       (record { elements = refl; left = λ _. alike_self weights ps }))
+
+  -- a character that is read alone is read where its element is appended
+  pub alone_is_read : (list : List ℕ) (place c bits : ℕ) (ready after : List ℕ) → after ≡ ready ++ bits ∷ []
+      → place < length list → c ≡ slice_index list place → scalars list ≡ true
+      → KnowNoMarksBefore canonical.class weights → IsReadAlone weights c bits → special_primary c ≡ None → (c == 0x307) ≡ false
+      → IsRead canonical weights numeric list place (unpacked ready) list (place + 1) (unpacked after)
+  alone_is_read list place c bits ready after e inside is ok known alone ordinary undotted =
+      let behind = elements_from canonical weights numeric list (place + 1) in
+      ap (λ (es : List Element). es ++ behind) (unpacked_more ready after bits e)
+      ∙ append_assoc (unpacked ready) (element_of bits ∷ []) behind
+      ∙ ap (λ (es : List Element). unpacked ready ++ es) (sym (alone_left list place c bits inside is ok known alone ordinary undotted))

@@ -80,7 +80,7 @@ fn character_at(key: &[u16], place: usize) -> Option<char>
 }
 
 /// The characters of a key, `None` where it isn't whole characters or has more than seven.
-pub(super) fn text_of(key: &[u16]) -> Option<KeyText>
+pub(crate) fn text_of(key: &[u16]) -> Option<KeyText>
     ensures { MatchOption result (HasNoText key.now) (λ text. characters_of_units key.now ≡ Some (text_items text)) }
 {
     let mut text = KeyText::none();

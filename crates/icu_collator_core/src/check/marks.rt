@@ -11,7 +11,7 @@ use icu_normalizer_core::canonical::CanonicalBorrowed;
 
 impl KeyText {
     /// The character at a place.
-    pub(super) fn at(&self, place: usize) -> char
+    pub(crate) fn at(&self, place: usize) -> char
         requires { place < self.now.count }
         ensures { result ≡ slice_index (text_items self.now) place }
     {

@@ -5,9 +5,9 @@ ghost use Rattle.std.specs.Char.{IsScalar};
 
 /// At most seven characters.
 #[derive(Clone, Copy, Debug)]
-pub(super) struct KeyText {
+pub(crate) struct KeyText {
     pub(super) characters: [u32; 7],
-    pub(super) count: usize,
+    pub(crate) count: usize,
     ghost fits: { count ≤ 7 },
     ghost scalars: { All IsScalar (take count characters) },
 }

@@ -1,47 +1,15 @@
 //! The collation elements of a text.
 
-ghost use Rattle.std.specs.Prelude.{◌≡◌, ◌++◌, ◌∷◌, ℕ, List, [], true, IfOk, MatchOption, OnErr, OnOk};
+ghost use Rattle.std.specs.Prelude.{◌≡◌, ◌++◌, ◌∷◌, ℕ, List, [], IfOk, MatchOption, OnErr, OnOk};
 ghost use Rattle.std.specs.Iterator.{IsFinite};
-ghost use lib.Utf8.{scalar, scalars};
-ghost use Rattle.icu_normalizer_core.specs.BorrowedMeaning.{borrowed_meaning};
-ghost use Rattle.icu_normalizer_core.specs.Canonical.{decomposed};
 ghost use Rattle.icu_normalizer_core.specs.Iter.{IsFirstOf, Spells};
 
+use super::texts::decomposed_list;
 use super::upcoming::Upcoming;
 use crate::checked::CheckedTables;
 use crate::reading::reader::Reader;
 use icu_collator_types::elements::CollationElement;
-use icu_normalizer_core::canonical::CanonicalBorrowed;
-use icu_normalizer_core::decomposition::Decomposition;
-use smallvec::SmallVec;
 use std::alloc::{AllocError, Global};
-
-/// Appends a character. Fails only when out of memory.
-fn push_character(list: &mut SmallVec<char, 64>, c: char) -> Result<(), AllocError>
-    ensures items { OnOk result (list.new.items ≡ list.old.items ++ c ∷ []) }
-    ensures character { scalar c ≡ true }
-{
-    list.push(c)?;
-    Ok(())
-}
-
-/// The decomposed list of the characters that an iterator gives. Fails only when out of memory.
-fn decomposed_list<I: Iterator<Item = char> + Drop>(
-    alloc: Global,
-    canonical: CanonicalBorrowed<'_>,
-    chars: I,
-) -> Result<SmallVec<char, 64>, AllocError>
-    requires can { I.can_next chars }
-    requires finite { IsFinite (I.remaining chars) }
-    ensures list { IfOk result (λ list. (cs : List ℕ) → Spells I.next_gives chars cs → list.items ≡ decomposed (borrowed_meaning canonical.entry) cs) }
-    ensures characters { IfOk result (λ list. scalars list.items ≡ true) }
-{
-    let mut list = SmallVec::new(alloc);
-    for item in Decomposition::new(alloc, canonical, chars) {
-        push_character(&mut list, item?)?;
-    }
-    Ok(list)
-}
 
 /// The collation elements of a text (UTS 10): `new`, then what is wanted of `iter_next_before_init` and
 /// `prepend_upcoming_before_init`, then `init` once, and `next` as often as wanted.

@@ -69,7 +69,7 @@ pub(crate) fn alone_at(checked: &CheckedTables<'_>, c: char) -> Option<Collation
     if c == '\u{307}' || special_primary(c as u32).is_some() {
         return None;
     }
-    let element = checked_word(checked, c).alone_element()?;
+    let element = checked_word(checked, c).alone_element(c)?;
     Some(element)
 }
 

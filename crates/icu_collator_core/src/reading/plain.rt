@@ -1,21 +1,46 @@
 //! Characters that are read alone, whatever stands before or behind them.
 
-ghost use Rattle.std.specs.Prelude.{ℕ, IfSome};
+ghost use Rattle.std.specs.Prelude.{◌≡◌, ◌||◌, IfSome};
+ghost use Rattle.icu_collator_types.specs.ElementWords.{has_tag};
+ghost use Rattle.icu_collator_types.specs.declared.elements.word_tags.Tag.TheVariants.{Implicit, Offset};
 ghost use Rattle.icu_collator_core.specs.PlainWords.{IsReadAlone};
 ghost use Rattle.icu_collator_core.specs.ReadWords.{AreSaidBy, table_word};
 ghost use Rattle.icu_collator_core.specs.Weights.{Weights};
 
 use super::elements::stated_by;
 use super::words::CountingWord;
-use icu_collator_types::elements::CollationElement;
+use crate::check::fields::has_tag;
+use icu_collator_types::elements::{CollationElement, Tag};
 
 impl CountingWord<'_> {
-    /// The element of a character whose word states one: nothing that stands before or behind it changes it. `None`
-    /// of a word that states none.
-    #[inline]
-    pub(crate) fn alone_element(self) -> Option<CollationElement>
-        ensures { IfSome result (λ bits. (weights : Weights) (c : ℕ) → AreSaidBy weights (table_word self.entry) c → IsReadAlone weights c bits) }
+    /// Whether a word leaves its characters to a range or to their code points.
+    fn is_left(self) -> bool
+        ensures { result ≡ (has_tag Implicit self.entry.word || has_tag Offset self.entry.word) }
     {
-        stated_by(self.word)
+        has_tag(self.word, Tag::Implicit) || has_tag(self.word, Tag::Offset)
+    }
+
+    /// The element of a character that its word leaves to a range or to its code point: nothing that stands before or
+    /// behind it changes it. `None` of another word.
+    fn own_element(self, c: char) -> Option<CollationElement>
+        ensures { IfSome result (λ bits. (weights : Weights) → AreSaidBy weights (table_word self.entry) c → IsReadAlone weights c bits) }
+    {
+        if self.is_left() {
+            Some(self.default_element(c))
+        } else {
+            None
+        }
+    }
+
+    /// The element of a character whose word states one, or leaves it to a range or to its code point: nothing that stands
+    /// before or behind it changes it. `None` of another word.
+    #[inline]
+    pub(crate) fn alone_element(self, c: char) -> Option<CollationElement>
+        ensures { IfSome result (λ bits. (weights : Weights) → AreSaidBy weights (table_word self.entry) c → IsReadAlone weights c bits) }
+    {
+        match stated_by(self.word) {
+            Some(element) => Some(element),
+            None => self.own_element(c),
+        }
     }
 }

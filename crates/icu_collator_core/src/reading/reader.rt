@@ -1,13 +1,13 @@
 //! A text that is being read: its decomposed list, and the elements that are ready.
 
-ghost use Rattle.std.specs.Prelude.{◌≡◌, ◌-◌, ◌<◌, ◌≤◌, ◌∷◌, [], true, MatchOption, IfNone, IfOk, IfSome, OnOk, OnErr, is_some};
+ghost use Rattle.std.specs.Prelude.{◌≡◌, ◌-◌, ◌<◌, ◌≤◌, ◌∷◌, [], true, MatchOption, IfOk, OnOk, OnErr, is_some};
 ghost use lib.Utf8.{scalars};
 ghost use Rattle.smallvec.specs.SmallVec.{small_vec_len};
 ghost use Rattle.icu_collator_core.specs.Elements.{elements_of_list};
 ghost use Rattle.icu_collator_core.specs.Pools.{element_of};
 ghost use Rattle.icu_collator_core.specs.ReadSources.{canonical_by, weights_by};
 
-use super::next::{alone_at, read_next};
+use super::runs::read_run;
 use crate::checked::CheckedTables;
 use icu_collator_types::elements::CollationElement;
 use smallvec::SmallVec;
@@ -79,7 +79,7 @@ impl<'t, 'a> Reader<'t, 'a> {
         self.place = self.list.len();
     }
 
-    /// Reads the next character, where all elements that were ready are given. Fails only when out of memory.
+    /// Reads the next characters, where all elements that were ready are given. Fails only when out of memory.
     fn read(&mut self) -> Result<(), AllocError>
         requires more { self.old.place < small_vec_len self.old.list }
         requires given { self.old.given ≡ small_vec_len self.old.ready }
@@ -89,7 +89,7 @@ impl<'t, 'a> Reader<'t, 'a> {
     {
         self.given = 0;
         self.ready.clear();
-        self.place = read_next(
+        self.place = read_run(
             self.checked,
             self.numeric,
             &mut self.list,
@@ -112,6 +112,7 @@ impl<'t, 'a> Reader<'t, 'a> {
     }
 
     /// Gives the first element that is ready; `None` where the text has ended.
+    #[inline]
     fn give(&mut self) -> Option<CollationElement>
         requires { self.old.given ≡ small_vec_len self.old.ready → self.old.place ≡ small_vec_len self.old.list }
         ensures same { ReadsOn self.old self.new }
@@ -125,30 +126,15 @@ impl<'t, 'a> Reader<'t, 'a> {
         Some(element)
     }
 
-    /// The element of the next character, where no other is ready and nothing that stands before or behind the character
-    /// changes it; `None` otherwise, and then nothing changes. It spares most characters the reading of what stands around.
-    fn next_alone(&mut self) -> Option<CollationElement>
-        ensures same { ReadsOn self.old self.new }
-        ensures left { IfSome result (λ bits. elements_left self.old ≡ element_of bits ∷ elements_left self.new) }
-        ensures none { IfNone result (elements_left self.new ≡ elements_left self.old) }
-    {
-        if self.given != self.ready.len() || self.place >= self.list.len() {
-            return None;
-        }
-        self.checked.keep_promise();
-        let element = alone_at(self.checked, self.list[self.place])?;
-        self.place += 1;
-        Some(element)
-    }
-
     /// The next element; `None` where none is left. Fails only when out of memory, and then nothing is left.
+    #[inline]
     pub(crate) fn next(&mut self) -> Result<Option<CollationElement>, AllocError>
         ensures same { ReadsOn self.old self.new }
         ensures left { IfOk result (λ next. MatchOption next ((elements_left self.old ≡ []) × (elements_left self.new ≡ [])) (λ bits. elements_left self.old ≡ element_of bits ∷ elements_left self.new)) }
         ensures none { OnErr result (elements_left self.new ≡ []) }
     {
-        if let Some(element) = self.next_alone() {
-            return Ok(Some(element));
+        if self.given < self.ready.len() {
+            return Ok(self.give());
         }
         if let Err(error) = self.fill() {
             self.stop();

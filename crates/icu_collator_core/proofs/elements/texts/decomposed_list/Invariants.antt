@@ -4,7 +4,7 @@ use Rattle.icu_normalizer_core.specs.BorrowedMeaning.{borrowed_meaning}
 use Rattle.icu_normalizer_core.specs.Canonical.{decomposed}
 use Rattle.icu_normalizer_core.specs.Decompositions.{DecomposesTo}
 use Rattle.icu_normalizer_core.specs.Iter.{Spells}
-use Rattle.icu_collator_core.proofs.elements.collation_elements.decomposed_list.Given as goal
+use Rattle.icu_collator_core.proofs.elements.texts.decomposed_list.Given as goal
 
 abbrev pub invariant-loop-item : goal.invariant-loop-item
 invariant-loop-item g l =

@@ -2,7 +2,7 @@ use Rattle.std.proofs.Common.{◌∷◌, ◌++◌, [], true, refl, sym, ◌∙�
 use Rattle.std.proofs.lemmas.Bool.{and_from}
 use lib.Utf8.{scalar, scalars}
 use Rattle.icu_collator_core.proofs.lookups.PrefixLemmas.{scalars_join}
-use Rattle.icu_collator_core.proofs.elements.collation_elements.decomposed_list.Goals as goal
+use Rattle.icu_collator_core.proofs.elements.texts.decomposed_list.Goals as goal
 
 pub loop-item-preserved : goal.loop-item-preserved
 loop-item-preserved g c =
