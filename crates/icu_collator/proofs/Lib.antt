@@ -2,8 +2,11 @@ pub mod keys
 pub mod places
 pub mod numbers
 pub mod readings
+pub mod boundaries
 pub mod orders
 pub mod equivalence
 pub mod tables
+pub mod lists
 pub mod SinkLemmas
 pub mod MakingLemmas
+pub mod key_writing

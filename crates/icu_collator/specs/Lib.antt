@@ -6,6 +6,9 @@ pub mod KeyBytes
 pub mod Settings
 pub mod SoundCollation
 pub mod NumbersInTexts
+pub mod Boundaries
+pub mod Fronts
+pub mod NextCharacters
 pub mod LevelOrders
 pub mod Sameness
 pub mod WholeLeads
@@ -13,3 +16,7 @@ pub mod Sinks
 pub mod Loading
 pub mod CollatorErrors
 pub mod Collators
+pub mod KeyCodes
+pub mod LevelLists
+pub mod TextsRead
+pub mod ReadingPlaces

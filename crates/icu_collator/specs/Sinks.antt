@@ -1,6 +1,8 @@
 -- What sinks of keys hold, and what writing a key to one gives.
 use Rattle.std.specs.Prelude.{◌≡◌, ℕ, ◌<◌, ◌≤◌, ◌^◌, ◌-◌, min, List, ◌++◌, length, take, drop}
 use Rattle.std.specs.Borrow.{MutBor}
+use Rattle.icu_collator.specs.declared.sinks.KeyError.{KeyError}
+use Rattle.icu_collator.specs.declared.sinks.KeyError.TheVariants.{Sink, Memory}
 use Rattle.icu_collator.specs.declared.sinks.TooSmall.{TooSmall}
 
 -- the greatest count
@@ -37,3 +39,8 @@ pub record PassesSlice (first : MutBor (List ℕ)) (bytes : List ℕ) (now : Mut
   pub passes : length first.now < length bytes
   pub contents : now.now ≡ take (length first.now) bytes
   pub counted_all : error.length ≡ counted bytes
+
+-- a key that wasn't written: the sink took no more, or memory was refused, and then the sink is as it was
+abbrev pub IsRefusedKey : {S E : Type 0} → (S → List ℕ → S → E → Type 0) → S → List ℕ → S → KeyError E → Type 0
+IsRefusedKey failed old key new (Sink error) = failed old key new error
+IsRefusedKey failed old key new Memory = new ≡ old

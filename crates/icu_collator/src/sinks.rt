@@ -20,7 +20,7 @@ pub trait CollationKeySink {
     type Error: Drop;
 
     /// What the sink remembers from one piece of a key to the next.
-    type State: Drop;
+    type State: Default + Drop;
 
     /// What the sink answers when it has a key.
     type Output;
@@ -60,6 +60,9 @@ pub trait CollationKeySink {
             → IfOk result (λ output. has_written first key self.new output) }
         ensures err { (first : Self) (key : List ℕ) → has_taken first key self.old state
             → IfErr result (λ error. has_failed first key self.new error) };
+
+    /// A key begins in the default state.
+    ghost starts: { (state : Self.State) → Self.State.is_default state → is_start state };
 
     /// Before the first piece nothing was taken.
     ghost begins: { (sink : Self) (state : Self.State) → is_start state → has_taken sink [] sink state };

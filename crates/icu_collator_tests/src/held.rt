@@ -4,12 +4,14 @@ ghost use Rattle.std.specs.Prelude.{true, false, Some, None, Ok, Err};
 ghost use Rattle.icu_normalizer_core.specs.declared.provider.error.DataError.TheVariants.{Missing};
 ghost use Rattle.icu_normalizer_core.specs.declared.provider.error.TableName.TheVariants.{Nfkd, NfkdTables, Uts46, Root, Jamo, Reordering, Tailoring};
 
-use icu_codepointtrie::CodePointTrie;
+use icu_codepointtrie::{CodePointTrie, TrieType};
 use icu_collator_core::provider::CollatorProvider;
 use icu_collator_core::tables::{
     CollationData, CollationDiacritics, CollationJamo, CollationMetadata, CollationReordering,
     CollationSpecialPrimaries, CollationTables,
 };
+use icu_collator_core_tests::lines::read_lines;
+use icu_collator_core_tests::packed::packed_tables;
 use icu_normalizer_core::canonical::CanonicalTables;
 use icu_normalizer_core::provider::{
     DataError, NfdLists, NfkdLists, NormalizerProvider, TableName, Uts46Tables,
@@ -168,4 +170,19 @@ impl CollatorProvider for HeldCollation<'_> {
             }
         }
     }
+}
+
+/// A provider of the tables that lines of a records file say; `None` where a line says nothing that is known, or memory is
+/// refused.
+pub fn held_tables(alloc: Global, lines: &str) -> Option<HeldCollation<'static>> {
+    let set = read_lines(alloc, lines)?;
+    let canonical = set.canonical.build(alloc).ok()?;
+    let data = set.canonical.build_data(alloc).ok()?;
+    let tables = packed_tables(alloc, &set, data.as_borrowed(), TrieType::Small)?;
+    Some(HeldCollation {
+        canonical,
+        tables,
+        lacks_root: false,
+        lacks_jamo: false,
+    })
 }

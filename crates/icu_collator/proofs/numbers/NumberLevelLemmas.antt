@@ -80,14 +80,14 @@ moved_number collation lead ds t h =
     (moved_bytes collation lead (number_bytes (significant ds)) t (number_bytes_below (significant ds) g.digits g.is g.short))
 
 -- whether elements after these stand after a variable one
-unfoldable behind_after : Collation → ResolvedCollatorOptions → Bool → List Element → Bool
+unfoldable pub behind_after : Collation → ResolvedCollatorOptions → Bool → List Element → Bool
 behind_after collation options is_behind [] = is_behind
 behind_after collation options is_behind (e ∷ es) =
     let shifted = behind_after collation options true es
     in let other = behind_after collation options false es
     in cond (is_variable collation options e) shifted (cond (is_behind && (e.primary == 0)) shifted other)
 
-counted_append : (collation : Collation) (options : ResolvedCollatorOptions) (b : Bool) (xs ys : List Element)
+pub counted_append : (collation : Collation) (options : ResolvedCollatorOptions) (b : Bool) (xs ys : List Element)
     → counted_behind collation options b (xs ++ ys)
     ≡ counted_behind collation options b xs ++ counted_behind collation options (behind_after collation options b xs) ys
 unfolding counted_behind behind_after
@@ -131,7 +131,7 @@ number_counted collation options lead b (e ∷ es) ys h l n =
     in rw (plain, skipped) (rw filled (ap (λ (w : List ℕ). collation.reordered e.primary ∷ w) (rest ∙ ap (λ (w : List Counted). map collation.reordered (primaries_of es) ++ filter_map (primary_at collation) w) same)))
 
 -- a difference at the first level decides
-first_decides : (options : ResolvedCollatorOptions) (a b : Levels) (o : Ordering) → list_order (λ w. w) a.primaries b.primaries ≡ o → o ≢ Equal
+pub first_decides : (options : ResolvedCollatorOptions) (a b : Levels) (o : Ordering) → list_order (λ w. w) a.primaries b.primaries ≡ o → o ≢ Equal
     → levels_order options a b ≡ o
 unfolding levels_order
 first_decides options a b Less e n = rw e refl
@@ -157,7 +157,7 @@ primaries_split collation options xs es ys list h l n =
 unequal_values : (m n : ℕ) → m ≢ n → nat_cmp m n ≢ Equal
 unequal_values m n h = λ e. h (grind (arith, nat_tests))
 
-decided : (o p : Ordering) → o ≢ Equal → ordering_then o p ≡ o
+pub decided : (o p : Ordering) → o ≢ Equal → ordering_then o p ≡ o
 decided Less p n = refl
 decided Equal p n = absurd (n refl)
 decided Greater p n = refl

@@ -32,21 +32,21 @@ use Rattle.icu_collator.proofs.readings.AfterNumberLemmas.{AgreeToDigit, placed_
 use Rattle.icu_collator_core.proofs.readings.AlikeLemmas.{reading_is, count_of, taken_of, elements_alike}
 
 -- what stands directly before what follows these characters
-abbrev after : List ℕ → List ℕ → List ℕ
+abbrev pub after : List ℕ → List ℕ → List ℕ
 after before [] = before
 after before (c ∷ cs) = after (take 3 (c ∷ before)) cs
 
-placed_append : (before xs ys : List ℕ) → placed_behind before (xs ++ ys) ≡ placed_behind before xs ++ placed_behind (after before xs) ys
+pub placed_append : (before xs ys : List ℕ) → placed_behind before (xs ++ ys) ≡ placed_behind before xs ++ placed_behind (after before xs) ys
 unfolding placed_behind
 placed_append before [] ys = refl
 placed_append before (x ∷ xs) ys = ap (λ (w : List Placed). record { character = x; before = before } ∷ w) (placed_append (take 3 (x ∷ before)) xs ys)
 
-characters_placed : (before xs : List ℕ) → characters_of (placed_behind before xs) ≡ xs
+pub characters_placed : (before xs : List ℕ) → characters_of (placed_behind before xs) ≡ xs
 unfolding placed_behind
 characters_placed before [] = refl
 characters_placed before (x ∷ xs) = ap (λ (w : List ℕ). x ∷ w) (characters_placed (take 3 (x ∷ before)) xs)
 
-length_placed : (before xs : List ℕ) → length (placed_behind before xs) ≡ length xs
+pub length_placed : (before xs : List ℕ) → length (placed_behind before xs) ≡ length xs
 unfolding placed_behind
 length_placed before [] = refl
 length_placed before (x ∷ xs) = ap suc (length_placed (take 3 (x ∷ before)) xs)

@@ -76,7 +76,7 @@ pub characters_append : (ps qs : List Placed) → characters_of (ps ++ qs) ≡ c
 characters_append ps qs = map-append (λ p. p.character) ps qs
 
 -- what is found at no number above m is found up to m
-greatest_below : (found : ℕ → Option ℕ) (m n : ℕ) → m ≤ n → ((k : ℕ) → m < k → found k ≡ None) → at_greatest found n ≡ at_greatest found m
+pub greatest_below : (found : ℕ → Option ℕ) (m n : ℕ) → m ≤ n → ((k : ℕ) → m < k → found k ≡ None) → at_greatest found n ≡ at_greatest found m
 unfolding at_greatest
 greatest_below found m zero h none = let same : m ≡ 0 = omega arith in ap (at_greatest found) (sym same)
 greatest_below found m (suc n) h none =
@@ -87,7 +87,7 @@ greatest_below found m (suc n) h none =
           ∙ greatest_below found m n below none
     ]
 
-greatest_same : (f g : ℕ → Option ℕ) (n : ℕ) → ((k : ℕ) → k ≤ n → f k ≡ g k) → at_greatest f n ≡ at_greatest g n
+pub greatest_same : (f g : ℕ → Option ℕ) (n : ℕ) → ((k : ℕ) → k ≤ n → f k ≡ g k) → at_greatest f n ≡ at_greatest g n
 unfolding at_greatest
 greatest_same f g zero h = h zero (omega arith)
 greatest_same f g (suc n) h = cc (h (suc n) (omega arith), greatest_same f g n (λ k l. h k (omega arith)))
@@ -106,7 +106,7 @@ taken_long xs ys c d (suc zero) l = absurd (omega arith)
 taken_long [] ys c d (suc (suc n)) l = omega arith
 taken_long (x ∷ xs) ys c d (suc (suc n)) l = omega arith
 
-none_where : (b c : Bool) (n : ℕ) → c ≡ false → cond (b && c) (Some n) None ≡ None
+pub none_where : (b c : Bool) (n : ℕ) → c ≡ false → cond (b && c) (Some n) None ≡ None
 none_where true c n e = rw e refl
 none_where false c n e = refl
 

@@ -23,7 +23,7 @@ record ReadsApart (weights : Weights) (behind : List Placed) (whole front : Read
   left : whole.left ≡ front.left ++ behind
   ends : EndsPlain weights front.left
 
-characters_count : (ps : List Placed) (n : ℕ) → n ≤ length (characters_of ps) → n ≤ length ps
+pub characters_count : (ps : List Placed) (n : ℕ) → n ≤ length (characters_of ps) → n ≤ length ps
 characters_count ps n h = omega (arith, length-map {A = Placed} {B = ℕ})
 
 text_match_apart : (collation : Collation) (p : Placed) (ps : List Placed) (q : Placed) (qs : List Placed)
@@ -89,11 +89,11 @@ class_of_above : (collation : Collation) (c : ℕ) → AreDigitsApart collation 
 class_of_above collation c a h =
     false_from_ne_true (is_digit collation.weights c) (λ e. let none = a.starters c e in omega arith)
 
-grave_class : (canonical : Canonical) → IsDecomposing canonical → canonical.class 0x300 ≡ 230
+pub grave_class : (canonical : Canonical) → IsDecomposing canonical → canonical.class 0x300 ≡ 230
 unfolding built_in_class
 grave_class canonical d = d.built_in_classes 0x300
 
-acute_class : (canonical : Canonical) → IsDecomposing canonical → canonical.class 0x301 ≡ 230
+pub acute_class : (canonical : Canonical) → IsDecomposing canonical → canonical.class 0x301 ≡ 230
 unfolding built_in_class
 acute_class canonical d = d.built_in_classes 0x301
 
@@ -142,7 +142,7 @@ reading_apart collation numeric p ps q qs a d h e =
     (λ es. record { elements = refl; left = refl; ends = rest })
     (text_apart collation p.character p ps q qs a h e)))
 
-nothing_within : (canonical : Canonical) (weights : Weights) (numeric : Bool) (n : ℕ) → elements_within n canonical weights numeric [] ≡ []
+pub nothing_within : (canonical : Canonical) (weights : Weights) (numeric : Bool) (n : ℕ) → elements_within n canonical weights numeric [] ≡ []
 unfolding elements_within
 nothing_within canonical weights numeric zero = refl
 nothing_within canonical weights numeric (suc n) = refl

@@ -29,6 +29,8 @@ impl CollationKeySink for Vec<u8> {
 
     ghost read_back = { λ first now _. drop (length first.items) now.items };
 
+    ghost starts = { λ _ _. tt };
+
     ghost begins = { λ sink _ _. sym (append-nil sink.items) };
 
     ghost keeps = { λ first key now _ written. ap (drop (length first.items)) written ∙ drop-append_seam first.items key };
@@ -59,6 +61,8 @@ impl CollationKeySink for VecDeque<u8> {
     ghost has_failed = { λ first key now _. AddsPrefix first.items key now.items };
 
     ghost read_back = { λ first now _. drop (length first.items) now.items };
+
+    ghost starts = { λ _ _. tt };
 
     ghost begins = { λ sink _ _. sym (append-nil sink.items) };
 
@@ -92,6 +96,8 @@ impl<const N: usize> CollationKeySink for SmallVec<u8, N> {
     ghost has_failed = { λ first key now _. AddsPrefix first.items key now.items };
 
     ghost read_back = { λ first now _. drop (length first.items) now.items };
+
+    ghost starts = { λ _ _. tt };
 
     ghost begins = { λ sink _ _. sym (append-nil sink.items) };
 

@@ -24,6 +24,8 @@ impl CollationKeySink for &mut [u8] {
 
     ghost read_back = { λ _ now count. take count now.now };
 
+    ghost starts = { λ _ at_zero. at_zero };
+
     ghost begins = { λ sink _ at_zero. (record { same_reference = refl; contents = sym (ap (λ l. l ++ sink.now) (take-nil (length sink.now))) }, at_zero) };
 
     ghost keeps = { λ _ key now _ whole. ap (λ n. take n now.now) whole.counted_all ∙ ap (take (length key)) whole.contents ∙ take-append_seam key _ };

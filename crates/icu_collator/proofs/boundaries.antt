@@ -1,0 +1,15 @@
+pub mod SplitAtBoundaryLemmas
+pub mod BehindBoundaryLemmas
+pub mod DecomposedAtLemmas
+pub mod LevelFrontLemmas
+pub mod SkippingLemmas
+pub mod DecidingCharacterLemmas
+pub mod CommonFrontLemmas
+pub mod FirstDifferenceLemmas
+pub mod PlaceLemmas
+pub mod DifferenceOrderLemmas
+pub mod TableBoundaryLemmas
+pub mod CountingLemmas
+pub mod NextCharacterLemmas
+pub mod SafeCharacterLemmas
+pub mod ReadingPlaceLemmas

@@ -1,0 +1,53 @@
+-- A common front may be skipped where nothing is shifted, or where what stands behind it begins with a primary weight.
+use Rattle.std.proofs.Common.{◌≡◌, ℕ, ◌==◌, false, List, [], ◌∷◌, ◌++◌, subst, sym, ◌∙◌}
+use Rattle.std.specs.Prelude.{All}
+use Rattle.std.specs.Char.{IsScalar}
+use Rattle.std.specs.declared.cmp.Ordering.TheVariants.{Equal}
+use Rattle.std.proofs.lemmas.Cmp.{tied_itself}
+use Rattle.std.proofs.lemmas.List.Elements.{All-tail}
+use Rattle.icu_normalizer_core.specs.Canonical.{IsDecomposing}
+use Rattle.icu_collator_types.specs.declared.options.ResolvedCollatorOptions.{ResolvedCollatorOptions}
+use Rattle.icu_collator_types.specs.Options.{is_numeric, is_shifted}
+use Rattle.icu_collator_core.specs.Collation.{Collation}
+use Rattle.icu_collator_core.specs.Pools.{element_of}
+use Rattle.icu_collator.specs.Boundaries.{IsApart, IsOwnBoundary, IsPlain}
+use Rattle.icu_collator.specs.Levels.{elements_of_text}
+use Rattle.icu_collator.specs.Order.{collation_order}
+use Rattle.icu_collator.proofs.boundaries.DecidingCharacterLemmas.{plain_apart, text_begins}
+use Rattle.icu_collator.proofs.boundaries.LevelFrontLemmas.{CountApart, primary_apart, unshifted_apart}
+use Rattle.icu_collator.proofs.boundaries.SkippingLemmas.{front_skipped}
+use Rattle.icu_collator.proofs.orders.TotalOrderLemmas.{collation_order_total}
+
+-- a text is equal to itself
+pub equal_itself : (collation : Collation) (options : ResolvedCollatorOptions) (a : List ℕ) → collation_order collation options a a ≡ Equal
+equal_itself collation options a = tied_itself (collation_order_total collation options) a
+
+rest_scalars : (xs ys : List ℕ) → All IsScalar (xs ++ ys) → All IsScalar ys
+rest_scalars [] ys h = h
+rest_scalars (x ∷ xs) ys h = rest_scalars xs ys (All-tail IsScalar x (xs ++ ys) h)
+
+module _ (collation : Collation) (options : ResolvedCollatorOptions) (a b c : ℕ) (x p q : List ℕ) (decomposing : IsDecomposing collation.canonical) (forward : collation.backward ≡ false) (first : IsOwnBoundary collation.canonical collation.weights a) (second : IsOwnBoundary collation.canonical collation.weights b) (third : IsOwnBoundary collation.canonical collation.weights c) (h : All IsScalar (x ++ a ∷ b ∷ c ∷ p)) (g : All IsScalar (x ++ a ∷ b ∷ c ∷ q)) where
+  pub skipped_unshifted : is_shifted options.alternate_handling ≡ false → IsApart collation.weights (is_numeric options.numeric) a
+      → collation_order collation options (x ++ a ∷ b ∷ c ∷ p) (x ++ a ∷ b ∷ c ∷ q) ≡ collation_order collation options (a ∷ b ∷ c ∷ p) (a ∷ b ∷ c ∷ q)
+  skipped_unshifted plain apart =
+      front_skipped collation options decomposing a b c first second third apart forward x p q
+      (unshifted_apart collation options plain (elements_of_text collation options (a ∷ b ∷ c ∷ p)))
+      (unshifted_apart collation options plain (elements_of_text collation options (a ∷ b ∷ c ∷ q))) h g
+
+  module _ (bits : ℕ) (plain : IsPlain collation a bits) (filled : ((element_of bits).primary == 0) ≡ false) where
+    same_first : plain.first ≡ a
+    same_first = let same : plain.first ∷ plain.others ≡ a ∷ [] = sym plain.full ∙ first.own in cc
+
+    own_apart : IsApart collation.weights (is_numeric options.numeric) a
+    own_apart = subst (IsApart collation.weights (is_numeric options.numeric)) same_first (plain_apart collation options decomposing a bits plain)
+
+    counts_apart : (y : List ℕ) → All IsScalar (x ++ a ∷ y) → CountApart collation options (elements_of_text collation options (a ∷ y))
+    counts_apart y s =
+        subst (CountApart collation options) (sym (text_begins collation options decomposing a bits plain y (rest_scalars x (a ∷ y) s)))
+        (primary_apart collation options (element_of bits) _ filled)
+
+    pub skipped_at_primary :
+        collation_order collation options (x ++ a ∷ b ∷ c ∷ p) (x ++ a ∷ b ∷ c ∷ q) ≡ collation_order collation options (a ∷ b ∷ c ∷ p) (a ∷ b ∷ c ∷ q)
+    skipped_at_primary =
+        front_skipped collation options decomposing a b c first second third own_apart forward x p q
+        (counts_apart (b ∷ c ∷ p) h) (counts_apart (b ∷ c ∷ q) g) h g

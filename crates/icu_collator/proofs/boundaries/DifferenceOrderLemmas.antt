@@ -1,0 +1,109 @@
+-- How texts compare by where they first differ.
+use Rattle.std.proofs.Common.{◌≡◌, ℕ, ◌≤◌, false, List, [], ◌∷◌, ◌++◌, length, drop, Option, Some, None, refl, sym, ap, subst, ◌∙◌, inl, inr, arith, append_assoc, append-nil, length-append, ⊎_elim}
+use Rattle.std.specs.Prelude.{◌≢◌, All}
+use Rattle.std.specs.Char.{IsScalar}
+use Rattle.std.specs.Ordering.{nat_cmp}
+use Rattle.std.specs.declared.cmp.Ordering.TheVariants.{Less, Equal, Greater}
+use Rattle.std.proofs.lemmas.List.{drop_at}
+use Rattle.icu_normalizer_core.specs.Canonical.{IsDecomposing}
+use Rattle.icu_collator_types.specs.declared.options.ResolvedCollatorOptions.{ResolvedCollatorOptions}
+use Rattle.icu_collator_core.specs.Collation.{Collation}
+use Rattle.icu_collator.specs.Boundaries.{CountsWhole, IsPassage, IsPlain, reordered_primary}
+use Rattle.icu_collator.specs.Fronts.{IsPlaceToBegin, PartAt, ThreeStandAt}
+use Rattle.icu_collator.specs.Order.{collation_order}
+use Rattle.icu_collator.proofs.boundaries.CommonFrontLemmas.{equal_itself, skipped_at_primary, skipped_unshifted}
+use Rattle.icu_collator.proofs.boundaries.DecidingCharacterLemmas.{end_behind, end_first, plain_characters_decide}
+
+-- a list that begins as another does, up to a place that both reach
+shared : (us xs ys vs ws : List ℕ) → us ++ xs ≡ vs ++ ws → length vs ≤ length us → (q : List ℕ) × (us ++ ys ≡ vs ++ q)
+shared us xs ys [] ws e l = (us ++ ys, refl)
+shared [] xs ys (v ∷ vs) ws e l = absurd (omega arith)
+shared (u ∷ us) xs ys (v ∷ vs) ws e l =
+    let rest : us ++ xs ≡ vs ++ ws = ap (drop 1) e
+    in let found = shared us xs ys vs ws rest (omega arith)
+    in let first : u ≡ v = cc
+    in (found.0, cc (first, found.1))
+
+-- a front before three passages
+passed_skipped : (collation : Collation) (options : ResolvedCollatorOptions) → IsDecomposing collation.canonical → collation.backward ≡ false
+    → (before p q : List ℕ) (x y z : ℕ) → IsPassage collation options x → IsPassage collation options y → IsPassage collation options z
+    → All IsScalar (before ++ x ∷ y ∷ z ∷ p) → All IsScalar (before ++ x ∷ y ∷ z ∷ q)
+    → collation_order collation options (before ++ x ∷ y ∷ z ∷ p) (before ++ x ∷ y ∷ z ∷ q) ≡ collation_order collation options (x ∷ y ∷ z ∷ p) (x ∷ y ∷ z ∷ q)
+passed_skipped collation options d forward before p q x y z first second third h g =
+    elim first.counts [
+      | inl plain ↦ skipped_unshifted collation options x y z before p q d forward first.boundary second.boundary third.boundary h g plain first.apart
+      | inr primary ↦
+          skipped_at_primary collation options x y z before p q d forward first.boundary second.boundary third.boundary h g primary.bits primary.plain primary.filled
+    ]
+
+module _ (collation : Collation) (options : ResolvedCollatorOptions) (decomposing : IsDecomposing collation.canonical) (a b : List ℕ) (common : ℕ) (h : All IsScalar a) (g : All IsScalar b) where
+  -- texts as what they are
+  order_is : (x y : List ℕ) → a ≡ x → b ≡ y → collation_order collation options a b ≡ collation_order collation options x y
+  order_is x y e f = ap (λ (w : List ℕ). collation_order collation options w b) e ∙ ap (λ (w : List ℕ). collation_order collation options x w) f
+
+  pub first_characters_decide : (x y bits other : ℕ) → PartAt a b common (Some x) (Some y) → IsPlain collation x bits → IsPlain collation y other
+      → CountsWhole collation options bits → CountsWhole collation options other
+      → nat_cmp (reordered_primary collation bits) (reordered_primary collation other) ≢ Equal
+      → collation_order collation options a b ≡ nat_cmp (reordered_primary collation bits) (reordered_primary collation other)
+  first_characters_decide x y bits other part first second counts also differ =
+      let left : a ≡ part.front ++ x ∷ part.left_begins.0 = part.left_is ∙ ap (λ (w : List ℕ). part.front ++ w) part.left_begins.1
+      in let right : b ≡ part.front ++ y ∷ part.right_begins.0 = part.right_is ∙ ap (λ (w : List ℕ). part.front ++ w) part.right_begins.1
+      in order_is _ _ left right
+      ∙ plain_characters_decide collation options part.front x y part.left_begins.0 part.right_begins.0 bits other decomposing
+      (subst (λ (w : List ℕ). All IsScalar w) left h) (subst (λ (w : List ℕ). All IsScalar w) right g) first second counts also differ
+
+  pub left_ends : (y other : ℕ) → PartAt a b common None (Some y) → IsPlain collation y other → CountsWhole collation options other
+      → collation_order collation options a b ≡ Less
+  left_ends y other part second also =
+      let left : a ≡ part.front = part.left_is ∙ ap (λ (w : List ℕ). part.front ++ w) part.left_begins ∙ append-nil part.front
+      in let right : b ≡ part.front ++ y ∷ part.right_begins.0 = part.right_is ∙ ap (λ (w : List ℕ). part.front ++ w) part.right_begins.1
+      in order_is _ _ left right
+      ∙ end_first collation options part.front y part.right_begins.0 other decomposing (subst (λ (w : List ℕ). All IsScalar w) right g) second also
+
+  pub right_ends : (x bits : ℕ) → PartAt a b common (Some x) None → IsPlain collation x bits → CountsWhole collation options bits
+      → collation_order collation options a b ≡ Greater
+  right_ends x bits part first counts =
+      let left : a ≡ part.front ++ x ∷ part.left_begins.0 = part.left_is ∙ ap (λ (w : List ℕ). part.front ++ w) part.left_begins.1
+      in let right : b ≡ part.front = part.right_is ∙ ap (λ (w : List ℕ). part.front ++ w) part.right_begins ∙ append-nil part.front
+      in order_is _ _ left right
+      ∙ end_behind collation options part.front x part.left_begins.0 bits decomposing (subst (λ (w : List ℕ). All IsScalar w) left h) first counts
+
+  pub both_end : PartAt a b common None None → collation_order collation options a b ≡ Equal
+  both_end part =
+      let left : a ≡ part.front ++ [] = part.left_is ∙ ap (λ (w : List ℕ). part.front ++ w) part.left_begins
+      in let right : b ≡ part.front ++ [] = part.right_is ∙ ap (λ (w : List ℕ). part.front ++ w) part.right_begins
+      in order_is _ _ left right ∙ equal_itself collation options (part.front ++ [])
+
+  -- from three passages on, which both texts have
+  three_skipped : (place : ℕ) (left right : Option ℕ) → collation.backward ≡ false → PartAt a b common left right
+      → ThreeStandAt (IsPassage collation options) a common place
+      → collation_order collation options a b ≡ collation_order collation options (drop place a) (drop place b)
+  three_skipped place left right forward part three =
+      let before = three.before
+      in let x = three.first
+      in let y = three.second
+      in let z = three.third
+      in let vs = before ++ x ∷ y ∷ z ∷ []
+      in let whole : part.front ++ part.left_rest ≡ vs ++ three.behind =
+      sym part.left_is ∙ three.text_is ∙ sym (append_assoc before (x ∷ y ∷ z ∷ []) three.behind)
+      in let count = length-append before (x ∷ y ∷ z ∷ [])
+      in let within : length vs ≤ length part.front = omega (arith, count, three.place_is, three.within, part.count)
+      in let found = shared part.front part.left_rest part.right_rest vs three.behind whole within
+      in let right_is : b ≡ before ++ x ∷ y ∷ z ∷ found.0 = part.right_is ∙ found.1 ∙ append_assoc before (x ∷ y ∷ z ∷ []) found.0
+      in let one : drop place a ≡ x ∷ y ∷ z ∷ three.behind = ap (drop place) three.text_is ∙ drop_at before (x ∷ y ∷ z ∷ three.behind) place three.place_is
+      in let other : drop place b ≡ x ∷ y ∷ z ∷ found.0 = ap (drop place) right_is ∙ drop_at before (x ∷ y ∷ z ∷ found.0) place three.place_is
+      in let ok = subst (λ (w : List ℕ). All IsScalar w) three.text_is h
+      in let also = subst (λ (w : List ℕ). All IsScalar w) right_is g
+      in let skipped =
+      passed_skipped collation options decomposing forward before three.behind found.0 x y z three.first_passes three.second_passes three.third_passes ok also
+      in order_is _ _ three.text_is right_is ∙ skipped
+      ∙ sym (ap (λ (w : List ℕ). collation_order collation options w (drop place b)) one ∙ ap (λ (w : List ℕ). collation_order collation options (x ∷ y ∷ z ∷ three.behind) w) other)
+
+  pub front_skipped_to : (place : ℕ) (left right : Option ℕ) → collation.backward ≡ false → PartAt a b common left right
+      → IsPlaceToBegin (IsPassage collation options) a common place
+      → collation_order collation options a b ≡ collation_order collation options (drop place a) (drop place b)
+  front_skipped_to place left right forward part stands =
+      ⊎_elim
+      (λ none. sym (ap (λ (k : ℕ). collation_order collation options (drop k a) (drop k b)) none))
+      (λ three. three_skipped place left right forward part three)
+      stands

@@ -1,0 +1,86 @@
+-- From where two texts are read.
+use Rattle.std.proofs.Common.{◌≡◌, ℕ, ◌≤◌, ◌&&◌, ◌==◌, false, List, [], ◌∷◌, length, drop, Option, refl, sym, ap, subst, ◌∙◌, inl, inr, ⊎_elim, arith, length-append}
+use Rattle.std.specs.Prelude.{All}
+use Rattle.std.specs.Char.{IsScalar}
+use Rattle.std.specs.declared.cmp.Ordering.{Ordering}
+use Rattle.icu_normalizer_core.specs.Canonical.{IsDecomposing}
+use Rattle.icu_collator_types.specs.declared.options.ResolvedCollatorOptions.{ResolvedCollatorOptions}
+use Rattle.icu_collator_types.specs.Options.{is_numeric, is_shifted}
+use Rattle.icu_collator_core.specs.Acceptance.{CollationSource}
+use Rattle.icu_collator_core.specs.Collation.{Collation}
+use Rattle.icu_collator_core.specs.UnsafeCharacters.{IsSafe}
+use Rattle.icu_collator.specs.Boundaries.{IsPassage}
+use Rattle.icu_collator.specs.Collators.{source_collation}
+use Rattle.icu_collator.specs.Fronts.{IsPlaceToBegin, PartAt, ThreeStandAt}
+use Rattle.icu_collator.specs.NumbersInTexts.{is_digit}
+use Rattle.icu_collator.specs.Order.{collation_order}
+use Rattle.icu_collator.specs.ReadingPlaces.{IsOpenPassage, IsReadingPlace}
+use Rattle.icu_collator.proofs.boundaries.DifferenceOrderLemmas.{front_skipped_to}
+use Rattle.icu_collator.proofs.boundaries.SafeCharacterLemmas.{safe_boundary}
+use Rattle.icu_collator.proofs.boundaries.TableBoundaryLemmas.{starter_apart}
+
+-- a character at which reading may begin, and that is its own full list
+pub open_passage : (source : CollationSource) (c : ℕ) → IsDecomposing (source_collation source).canonical
+    → IsSafe (source_collation source).canonical (source_collation source).weights c
+    → (source_collation source).canonical.full c ≡ c ∷ [] → (c == 0x303) ≡ false → IsOpenPassage (source_collation source) c
+open_passage source c decomposing safe own tilde options unshifted unnumbered =
+    let collation = source_collation source
+    in let boundary = safe_boundary collation.canonical collation.weights c c [] safe own
+    in let number : (is_numeric options.numeric && is_digit collation.weights c) ≡ false = ap (λ b. b && is_digit collation.weights c) unnumbered
+    in record {
+      boundary = record { boundary = boundary; own = own };
+      apart = starter_apart collation.canonical collation.weights (is_numeric options.numeric) c decomposing boundary.starter tilde number;
+      counts = inl unshifted;
+    }
+
+-- three that pass one test, and so another
+three_as : (P Q : ℕ → Type 0) (text : List ℕ) (common place : ℕ) → ((c : ℕ) → P c → Q c) → ThreeStandAt P text common place → ThreeStandAt Q text common place
+three_as P Q text common place weaker three =
+    record {
+      before = three.before;
+      first = three.first;
+      second = three.second;
+      third = three.third;
+      behind = three.behind;
+      text_is = three.text_is;
+      place_is = three.place_is;
+      within = three.within;
+      first_passes = weaker three.first three.first_passes;
+      second_passes = weaker three.second three.second_passes;
+      third_passes = weaker three.third three.third_passes;
+    }
+
+pub beginning : (collation : Collation) (options : ResolvedCollatorOptions) (text : List ℕ) (common : ℕ) → IsReadingPlace collation options text common 0
+beginning collation options text common = record { within = omega arith; same = λ other left right h g part. refl }
+
+pub found_place : (collation : Collation) (options : ResolvedCollatorOptions) (text : List ℕ) (common place : ℕ) → IsDecomposing collation.canonical
+    → collation.backward ≡ false → is_shifted options.alternate_handling ≡ false → is_numeric options.numeric ≡ false
+    → IsPlaceToBegin (IsOpenPassage collation) text common place → IsReadingPlace collation options text common place
+found_place collation options text common place decomposing forward unshifted unnumbered stands =
+    ⊎_elim
+    (λ (none : place ≡ 0). subst (λ (k : ℕ). IsReadingPlace collation options text common k) (sym none) (beginning collation options text common))
+    (λ (three : ThreeStandAt (IsOpenPassage collation) text common place).
+    let within = three.within in
+    let passes = three_as (IsOpenPassage collation) (IsPassage collation options) text common place (λ c p. p options unshifted unnumbered) three in
+    record {
+      within = omega (arith, within);
+      same = λ other left right h g part. front_skipped_to collation options decomposing text other common h g place left right forward part (inr passes);
+    })
+    stands
+
+-- a place within what two texts have in common is within both
+pub within_left : (a b : List ℕ) (common place : ℕ) (left right : Option ℕ) → PartAt a b common left right → place ≤ common → place ≤ length a
+within_left a b common place left right part within =
+    let count = ap (λ (w : List ℕ). length w) part.left_is in
+    omega (arith, count, length-append part.front part.left_rest, part.count, within)
+
+pub within_right : (a b : List ℕ) (common place : ℕ) (left right : Option ℕ) → PartAt a b common left right → place ≤ common → place ≤ length b
+within_right a b common place left right part within =
+    let count = ap (λ (w : List ℕ). length w) part.right_is in
+    omega (arith, count, length-append part.front part.right_rest, part.count, within)
+
+-- the order of what stands from a place on is that of the texts
+pub read_from : (collation : Collation) (options : ResolvedCollatorOptions) (text other : List ℕ) (common place : ℕ) (left right : Option ℕ) (answer : Ordering)
+    → IsReadingPlace collation options text common place → All IsScalar text → All IsScalar other → PartAt text other common left right
+    → answer ≡ collation_order collation options (drop place text) (drop place other) → answer ≡ collation_order collation options text other
+read_from collation options text other common place left right answer stands h g part e = e ∙ sym (stands.same other left right h g part)

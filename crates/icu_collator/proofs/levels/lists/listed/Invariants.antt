@@ -1,0 +1,15 @@
+use Rattle.std.proofs.Common.{◌≡◌, Bool, Option, filter_map, take, true}
+use Rattle.std.specs.List.{list_all}
+use Rattle.std.specs.Prelude.{IfSome}
+use Rattle.icu_collator.specs.declared.levels.counted.CountedElement.{CountedElement}
+use Rattle.icu_collator.proofs.levels.lists.listed.Given as goal
+
+abbrev pub invariant-loop-element : goal.invariant-loop-element
+invariant-loop-element g l = record {
+  list : (at : CountedElement → Option _) → ((e : CountedElement) (w : Option _) → goal.F-post g l.given e w → w ≡ at e)
+      → l.list.items ≡ filter_map at (take l.element-index l.elements);
+  each : (test : _ → Bool) → ((e : CountedElement) (w : Option _) → goal.F-post g l.given e w → IfSome w (λ weight. test weight ≡ true))
+      → list_all test l.list.items ≡ true;
+  holds : (holds : CountedElement → Bool) → ((e : CountedElement) (w : Option _) → goal.F-post g l.given e w → holds e ≡ true)
+      → list_all holds (take l.element-index l.elements) ≡ true;
+}

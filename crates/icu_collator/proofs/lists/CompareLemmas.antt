@@ -1,0 +1,60 @@
+-- How texts that were read compare: as their collation order says.
+use Rattle.std.proofs.Common.{◌≡◌, ℕ, Bool, true, false, List, [], ◌∷◌, map, filter_map, refl, ap, ◌∙◌}
+use Rattle.std.specs.Ordering.{nat_cmp, ordering_then}
+use Rattle.std.specs.declared.cmp.Ordering.{Ordering}
+use Rattle.icu_normalizer_core.specs.Canonical.{decomposed}
+use Rattle.icu_collator_types.specs.declared.elements.Element.{Element}
+use Rattle.icu_collator_types.specs.declared.options.ResolvedCollatorOptions.{ResolvedCollatorOptions}
+use Rattle.icu_collator_types.specs.declared.options.Strength.TheVariants.{Identical}
+use Rattle.icu_collator_types.specs.Options.{is_at_least, is_numeric}
+use Rattle.icu_collator_core.specs.Collation.{Collation}
+use Rattle.icu_collator_core.specs.Elements.{elements_of_list}
+use Rattle.icu_collator.specs.declared.reading.ReadText.{ReadText}
+use Rattle.icu_collator.specs.Levels.{quaternary_at, secondaries_of, levels_of}
+use Rattle.icu_collator.specs.Order.{character_rank, collation_order, levels_order, list_order, quaternary_rank, secondary_rank, where_in_force}
+use Rattle.icu_collator.specs.Shifted.{Counted, counted}
+use Rattle.icu_collator.specs.TextsRead.{IsReadList, IsReadOf, lists_order, order_from_cases, order_from_quaternaries, order_from_secondaries, order_from_tertiaries, read_order}
+
+-- lists compare by ranks as the lists of the ranks do
+ranked_order : {A : Type 0} (rank : A → ℕ) (xs ys : List A) → lists_order (map rank xs) (map rank ys) ≡ list_order rank xs ys
+ranked_order rank [] [] = refl
+ranked_order rank [] (y ∷ ys) = refl
+ranked_order rank (x ∷ xs) [] = refl
+ranked_order rank (x ∷ xs) (y ∷ ys) = ap (ordering_then (nat_cmp (rank x) (rank y))) (ranked_order rank xs ys)
+
+in_force_alike : (in_force : Bool) (x y : Ordering) → (in_force ≡ true → x ≡ y) → where_in_force in_force x ≡ where_in_force in_force y
+in_force_alike true x y e = e refl
+in_force_alike false x y e = refl
+
+-- a level of two texts, where the elements that count are said in another way
+alike : (of : List Counted → List ℕ) (xs xs' ys ys' : List Counted) → xs ≡ xs' → ys ≡ ys' → lists_order (of xs) (of ys) ≡ lists_order (of xs') (of ys')
+alike of xs xs' ys ys' e f = rw (e, f) refl
+
+module _ (collation : Collation) (options : ResolvedCollatorOptions) (firsts others : List ℕ) (a b : ReadText)
+    (left : IsReadList collation options firsts a) (right : IsReadList collation options others b) where
+  abbrev elements_by : List ℕ → List Element
+  elements_by list = elements_of_list collation.canonical collation.weights (is_numeric options.numeric) list
+
+  characters_alike : where_in_force (is_at_least options.strength Identical) (lists_order (map character_rank a.characters.items) (map character_rank b.characters.items))
+      ≡ where_in_force (is_at_least options.strength Identical) (list_order character_rank firsts others)
+  characters_alike =
+      in_force_alike _ _ _ (λ in_force. ap (λ cs. lists_order (map character_rank cs) (map character_rank b.characters.items)) (left.characters in_force)
+      ∙ ap (λ cs. lists_order (map character_rank firsts) (map character_rank cs)) (right.characters in_force)
+      ∙ ranked_order character_rank firsts others)
+
+  lists_read : read_order collation options a b ≡ levels_order options (levels_of collation options (elements_by firsts) firsts) (levels_of collation options (elements_by others) others)
+  unfolding read_order order_from_secondaries order_from_cases order_from_tertiaries order_from_quaternaries levels_order levels_of
+  lists_read =
+      rw (
+        characters_alike,
+        left.elements,
+        right.elements,
+        ranked_order secondary_rank (secondaries_of collation (counted collation options (elements_by firsts))) (secondaries_of collation (counted collation options (elements_by others))),
+        ranked_order quaternary_rank (filter_map (quaternary_at collation) (counted collation options (elements_by firsts))) (filter_map (quaternary_at collation) (counted collation options (elements_by others))),
+      ) refl
+
+-- texts that were read compare as the texts do
+pub texts_read : (collation : Collation) (options : ResolvedCollatorOptions) (firsts others : List ℕ) (a b : ReadText)
+    → IsReadOf collation options firsts a → IsReadOf collation options others b → read_order collation options a b ≡ collation_order collation options firsts others
+texts_read collation options firsts others a b left right =
+    lists_read collation options (decomposed collation.canonical firsts) (decomposed collation.canonical others) a b left right

@@ -1,0 +1,37 @@
+-- What two texts have in common at their beginnings, and places at which both may be read from.
+use Rattle.std.specs.Prelude.{◌≡◌, ℕ, ◌+◌, ◌≤◌, ◌⊎◌, List, [], ◌∷◌, ◌++◌, length, Option, None, MatchOption}
+
+-- a text begins with a character, or is empty where there is none
+abbrev pub BeginsWith : Option ℕ → List ℕ → Type 0
+BeginsWith first text = MatchOption first (text ≡ []) (λ c. (rest : List ℕ) × (text ≡ c ∷ rest))
+
+-- Two texts have a front in common, of so many characters at least, and these are the characters behind it. They differ, but
+-- where both texts end.
+pub record PartAt (a b : List ℕ) (common : ℕ) (left right : Option ℕ) : Type 0 where
+  pub front : List ℕ
+  pub left_rest : List ℕ
+  pub right_rest : List ℕ
+  pub left_is : a ≡ front ++ left_rest
+  pub right_is : b ≡ front ++ right_rest
+  pub left_begins : BeginsWith left left_rest
+  pub right_begins : BeginsWith right right_rest
+  pub count : common ≤ length front
+  pub differ : left ≡ right → left ≡ None
+
+-- three characters that pass stand at a place of a text, within its first so many characters
+pub record ThreeStandAt (Passes : ℕ → Type 0) (text : List ℕ) (common place : ℕ) : Type 0 where
+  pub before : List ℕ
+  pub first : ℕ
+  pub second : ℕ
+  pub third : ℕ
+  pub behind : List ℕ
+  pub text_is : text ≡ before ++ first ∷ second ∷ third ∷ behind
+  pub place_is : length before ≡ place
+  pub within : place + 3 ≤ common
+  pub first_passes : Passes first
+  pub second_passes : Passes second
+  pub third_passes : Passes third
+
+-- the beginning, or a place where three characters stand that pass
+abbrev pub IsPlaceToBegin : (ℕ → Type 0) → List ℕ → ℕ → ℕ → Type 0
+IsPlaceToBegin Passes text common place = (place ≡ 0) ⊎ ThreeStandAt Passes text common place

@@ -1,0 +1,129 @@
+//! The levels of a key behind the primary one, each with the bytes that separate and end it.
+
+ghost use Rattle.std.specs.Prelude.{◌≡◌, ◌<◌, ◌≤◌, ◌+◌, ◌^◌, [], ◌∷◌, ◌++◌, List, map, true, All, OnOk};
+ghost use Rattle.std.specs.List.{list_all};
+ghost use Rattle.icu_collator_types.specs.Options.{is_shifted, is_upper_first};
+ghost use Rattle.icu_collator.specs.KeyBytes.{case_halves, character_level, paired_halves, quaternary_level, secondary_code, tertiary_code_of, with_runs};
+ghost use Rattle.icu_collator.specs.KeyCodes.{code_of, is_small_place, rank_limit};
+ghost use Rattle.icu_collator.specs.LevelLists.{tertiary_bound};
+ghost use Rattle.icu_collator.specs.Levels.{QuaternaryPlace, SecondaryPlace};
+ghost use Rattle.icu_collator.specs.Order.{quaternary_rank, secondary_rank};
+
+use super::cases::write_cases;
+use super::characters::write_characters;
+use super::quaternaries::write_quaternaries;
+use super::run_level::RunLevel;
+use super::runs::write_runs;
+use icu_collator_types::options::{
+    AlternateHandling, CaseLevel, CollationCaseFirst, ResolvedCollatorOptions,
+};
+use smallvec::SmallVec;
+use std::alloc::AllocError;
+
+/// The byte that separates levels, and that ends some.
+const LEVEL_SEPARATOR: u8 = 0x01;
+
+/// Appends the secondary level, given by ranks. Fails only when out of memory.
+pub(super) fn write_secondary_level(
+    ranks: &[u32],
+    key: &mut SmallVec<u8, 128>,
+) -> Result<(), AllocError>
+    requires { All (λ rank. rank ≤ 2 ^ 16) ranks.now }
+    ensures { OnOk result ((places : List SecondaryPlace) → map secondary_rank places ≡ ranks.now
+        → key.new.items ≡ key.old.items ++ 0x01 ∷ (with_runs secondary_code places ++ 0x01 ∷ [])) }
+{
+    key.push(LEVEL_SEPARATOR)?;
+    write_runs(RunLevel::Secondaries, ranks, key)?;
+    key.push(LEVEL_SEPARATOR)?;
+    Ok(())
+}
+
+/// Whether upper case comes first.
+fn is_upper_first(case_first: CollationCaseFirst) -> bool
+    ensures { result ≡ is_upper_first case_first }
+{
+    match case_first {
+        CollationCaseFirst::Upper => true,
+        CollationCaseFirst::Lower | CollationCaseFirst::False => false,
+    }
+}
+
+/// Appends the case level. Fails only when out of memory.
+pub(super) fn write_case_level(
+    options: &ResolvedCollatorOptions,
+    cases: &[u32],
+    key: &mut SmallVec<u8, 128>,
+) -> Result<(), AllocError>
+    requires { All (λ case. case ≤ 2) cases.now }
+    ensures { OnOk result (key.new.items ≡ key.old.items ++ 0x01 ∷ paired_halves (case_halves options.now cases.now)) }
+{
+    key.push(LEVEL_SEPARATOR)?;
+    write_cases(is_upper_first(options.case_first), cases, key)?;
+    Ok(())
+}
+
+/// How tertiaries are written.
+#[tactic(auto, unfolding(crate::specs::KeyCodes::code_of, crate::specs::KeyCodes::rank_limit))]
+fn tertiary_level(options: &ResolvedCollatorOptions) -> RunLevel
+    ensures code { code_of result ≡ tertiary_code_of options.now }
+    ensures limit { rank_limit result ≡ tertiary_bound options.now }
+{
+    match (options.case_first, options.case_level) {
+        (CollationCaseFirst::False, _) | (_, CaseLevel::On) => RunLevel::Tertiaries,
+        (CollationCaseFirst::Lower, CaseLevel::Off) => RunLevel::LowerFirst,
+        (CollationCaseFirst::Upper, CaseLevel::Off) => RunLevel::UpperFirst,
+    }
+}
+
+/// Appends the tertiary level. Fails only when out of memory.
+pub(super) fn write_tertiary_level(
+    options: &ResolvedCollatorOptions,
+    weights: &[u32],
+    key: &mut SmallVec<u8, 128>,
+) -> Result<(), AllocError>
+    requires { All (λ weight. weight < tertiary_bound options.now) weights.now }
+    ensures { OnOk result (key.new.items ≡ key.old.items ++ 0x01 ∷ (with_runs (tertiary_code_of options.now) weights.now ++ 0x01 ∷ [])) }
+{
+    key.push(LEVEL_SEPARATOR)?;
+    write_runs(tertiary_level(options), weights, key)?;
+    key.push(LEVEL_SEPARATOR)?;
+    Ok(())
+}
+
+/// Whether something can be shifted.
+fn is_shifted(handling: AlternateHandling) -> bool
+    ensures { result ≡ is_shifted handling }
+{
+    match handling {
+        AlternateHandling::NonIgnorable => false,
+        AlternateHandling::Shifted => true,
+    }
+}
+
+/// Appends the quaternary level, given by ranks. Fails only when out of memory.
+pub(super) fn write_quaternary_level(
+    options: &ResolvedCollatorOptions,
+    ranks: &[u64],
+    key: &mut SmallVec<u8, 128>,
+) -> Result<(), AllocError>
+    requires { All (λ rank. rank < 2 ^ 32 + 4) ranks.now }
+    ensures { OnOk result ((places : List QuaternaryPlace) → map quaternary_rank places ≡ ranks.now → list_all is_small_place places ≡ true
+        → key.new.items ≡ key.old.items ++ 0x01 ∷ (quaternary_level options.now places ++ 0x01 ∷ [])) }
+{
+    key.push(LEVEL_SEPARATOR)?;
+    write_quaternaries(is_shifted(options.alternate_handling), ranks, key)?;
+    key.push(LEVEL_SEPARATOR)?;
+    Ok(())
+}
+
+/// Appends the identical level. Fails only when out of memory.
+pub(super) fn write_identical_level(
+    list: &[char],
+    key: &mut SmallVec<u8, 128>,
+) -> Result<(), AllocError>
+    ensures { OnOk result (key.new.items ≡ key.old.items ++ 0x01 ∷ character_level list.now) }
+{
+    key.push(LEVEL_SEPARATOR)?;
+    write_characters(list, key)?;
+    Ok(())
+}

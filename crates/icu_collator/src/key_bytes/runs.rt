@@ -1,0 +1,117 @@
+//! Levels whose runs of the common weight are written short, in one pass.
+
+ghost use Rattle.std.specs.Prelude.{◌≡◌, ◌<◌, ◌≤◌, ◌+◌, ◌-◌, ◌%◌, ◌^◌, ◌/◌, ◌∷◌, ◌++◌, [], false, cond, replicate, All, IfOk, OnOk};
+ghost use Rattle.icu_collator.specs.KeyBytes.{run_bytes, with_runs};
+ghost use Rattle.icu_collator.specs.KeyCodes.{AddsWeight, code_of, rank_limit};
+
+use super::run_level::{RunBytes, RunLevel};
+use smallvec::SmallVec;
+use std::alloc::AllocError;
+
+/// The byte that ends a run, where so many common weights are left for it.
+fn last_byte(bytes: RunBytes, is_below_next: bool, rest: u8) -> u8
+    requires rest { rest < bytes.most }
+    requires low { bytes.low + bytes.most ≤ 256 }
+    requires high { bytes.most ≤ bytes.high }
+    ensures { result ≡ cond is_below_next (bytes.high - rest) (bytes.low + rest) }
+{
+    if is_below_next {
+        bytes.high - rest
+    } else {
+        bytes.low + rest
+    }
+}
+
+/// Appends a run of one common weight and so many more. Fails only when out of memory.
+fn write_filled_run(
+    bytes: RunBytes,
+    is_below_next: bool,
+    more: usize,
+    key: &mut SmallVec<u8, 128>,
+) -> Result<(), AllocError>
+    requires some { 0 < bytes.most }
+    requires low { bytes.low + bytes.most ≤ 256 }
+    requires high { bytes.most ≤ bytes.high }
+    ensures { OnOk result (key.new.items ≡ key.old.items ++ replicate (more / bytes.most) bytes.middle
+        ++ cond is_below_next (bytes.high - more % bytes.most) (bytes.low + more % bytes.most) ∷ []) }
+{
+    let most = usize::from(bytes.most);
+    for _ in 0..more / most {
+        key.push(bytes.middle)?;
+    }
+    let rest = (more % most) as u8;
+    key.push(last_byte(bytes, is_below_next, rest))?;
+    Ok(())
+}
+
+/// Appends a run of so many common weights, before a higher weight or before a lower one or the end. Fails only when out
+/// of memory.
+fn write_run(
+    level: RunLevel,
+    is_below_next: bool,
+    count: usize,
+    key: &mut SmallVec<u8, 128>,
+) -> Result<(), AllocError>
+    ensures { OnOk result (key.new.items ≡ key.old.items ++ run_bytes (code_of level) is_below_next count) }
+{
+    if count == 0 {
+        return Ok(());
+    }
+    write_filled_run(level.run_bytes(), is_below_next, count - 1, key)?;
+    Ok(())
+}
+
+/// Takes one more weight, given by its rank, behind so many common ones that aren't written yet; answers how many aren't
+/// written then. Fails only when out of memory.
+fn write_next(
+    level: RunLevel,
+    rank: u64,
+    pending: usize,
+    key: &mut SmallVec<u8, 128>,
+) -> Result<usize, AllocError>
+    requires rank { rank < rank_limit level }
+    requires room { pending + 1 < 2 ^ 64 }
+    ensures { IfOk result (λ now. AddsWeight (code_of level) rank pending key.old.items now key.new.items) }
+{
+    let common = level.common();
+    if rank == common {
+        return Ok(pending + 1);
+    }
+    write_run(level, common < rank, pending, key)?;
+    level.write_weight(rank, key)?;
+    Ok(0)
+}
+
+/// Appends a level of weights, given by their ranks. Fails only when out of memory.
+pub(super) fn write_runs(
+    level: RunLevel,
+    ranks: &[u32],
+    key: &mut SmallVec<u8, 128>,
+) -> Result<(), AllocError>
+    requires { All (λ rank. rank < rank_limit level) ranks.now }
+    ensures { OnOk result (key.new.items ≡ key.old.items ++ with_runs (code_of level) ranks.now) }
+{
+    let mut pending = 0;
+    for rank in ranks {
+        pending = write_next(level, u64::from(*rank), pending, key)?;
+    }
+    write_run(level, false, pending, key)?;
+    Ok(())
+}
+
+/// The same for ranks that may pass 32 bits.
+pub(super) fn write_wide_runs(
+    level: RunLevel,
+    ranks: &[u64],
+    key: &mut SmallVec<u8, 128>,
+) -> Result<(), AllocError>
+    requires { All (λ rank. rank < rank_limit level) ranks.now }
+    ensures { OnOk result (key.new.items ≡ key.old.items ++ with_runs (code_of level) ranks.now) }
+{
+    let mut pending = 0;
+    for rank in ranks {
+        pending = write_next(level, *rank, pending, key)?;
+    }
+    write_run(level, false, pending, key)?;
+    Ok(())
+}

@@ -1,0 +1,149 @@
+//! A whole key, from the elements of a text that count and from its characters.
+
+ghost use Rattle.std.specs.Prelude.{◌≡◌, [], ◌∷◌, ◌++◌, List, OnOk, filter_map, true};
+ghost use Rattle.std.specs.List.{list_all};
+ghost use Rattle.icu_collator_types.specs.Options.{has_case_level, is_at_least};
+ghost use Rattle.icu_collator_types.specs.declared.elements.Element.{Element};
+ghost use Rattle.icu_collator_types.specs.declared.options.Strength.TheVariants.{Identical, Quaternary, Secondary, Tertiary};
+ghost use Rattle.icu_collator.specs.Collators.{source_collation};
+ghost use Rattle.icu_collator.specs.KeyBytes.{case_halves, character_level, key_bytes, level_bytes, paired_halves, primary_level, quaternary_level, secondary_code, tertiary_code_of, with_runs};
+ghost use Rattle.icu_collator.specs.LevelLists.{cases_by, counted_list, has_sound_case, primaries_by, tertiaries_by};
+ghost use Rattle.icu_collator.specs.Levels.{levels_of, quaternary_at, secondaries_of};
+ghost use Rattle.icu_collator.specs.Shifted.{counted};
+
+use super::levels::{
+    write_case_level, write_identical_level, write_quaternary_level, write_secondary_level,
+    write_tertiary_level,
+};
+use super::primaries::write_primaries;
+use crate::levels::counted::CountedElement;
+use crate::levels::lists::{cases, primaries, quaternaries, secondaries, tertiaries};
+use icu_collator_core::checked::CheckedTables;
+use icu_collator_types::options::{CaseLevel, ResolvedCollatorOptions, Strength};
+use smallvec::SmallVec;
+use std::alloc::AllocError;
+
+/// Appends the primary level. Fails only when out of memory.
+fn add_primaries(
+    checked: &CheckedTables<'_>,
+    elements: &[CountedElement],
+    key: &mut SmallVec<u8, 128>,
+) -> Result<(), AllocError>
+    ensures { OnOk result (key.new.items ≡ key.old.items
+        ++ primary_level (source_collation checked.now).weights (primaries_by (source_collation checked.now) elements.now)) }
+{
+    let list = primaries(*key.allocator(), checked, elements)?;
+    write_primaries(&checked.tables().special_primaries, &list, key)?;
+    Ok(())
+}
+
+/// Appends the secondary level, where it is in force. Fails only when out of memory.
+fn add_secondaries(
+    checked: &CheckedTables<'_>,
+    options: &ResolvedCollatorOptions,
+    elements: &[CountedElement],
+    key: &mut SmallVec<u8, 128>,
+) -> Result<(), AllocError>
+    ensures { OnOk result (key.new.items ≡ key.old.items ++ level_bytes (is_at_least options.now.strength Secondary)
+        (with_runs secondary_code (secondaries_of (source_collation checked.now) (counted_list elements.now)) ++ 0x01 ∷ [])) }
+{
+    if !options.strength.is_at_least(Strength::Secondary) {
+        return Ok(());
+    }
+    let ranks = secondaries(*key.allocator(), checked, elements)?;
+    write_secondary_level(&ranks, key)?;
+    Ok(())
+}
+
+/// Appends the case level, where it is in force. Fails only when out of memory.
+fn add_cases(
+    options: &ResolvedCollatorOptions,
+    elements: &[CountedElement],
+    key: &mut SmallVec<u8, 128>,
+) -> Result<(), AllocError>
+    requires { list_all has_sound_case (counted_list elements.now) ≡ true }
+    ensures { OnOk result (key.new.items ≡ key.old.items ++ level_bytes (has_case_level options.now.case_level)
+        (paired_halves (case_halves options.now (cases_by options.now elements.now)))) }
+{
+    match options.case_level {
+        CaseLevel::Off => Ok(()),
+        CaseLevel::On => {
+            let list = cases(*key.allocator(), options, elements)?;
+            write_case_level(options, &list, key)?;
+            Ok(())
+        }
+    }
+}
+
+/// Appends the tertiary level, where it is in force. Fails only when out of memory.
+fn add_tertiaries(
+    options: &ResolvedCollatorOptions,
+    elements: &[CountedElement],
+    key: &mut SmallVec<u8, 128>,
+) -> Result<(), AllocError>
+    requires { list_all has_sound_case (counted_list elements.now) ≡ true }
+    ensures { OnOk result (key.new.items ≡ key.old.items ++ level_bytes (is_at_least options.now.strength Tertiary)
+        (with_runs (tertiary_code_of options.now) (tertiaries_by options.now elements.now) ++ 0x01 ∷ [])) }
+{
+    if !options.strength.is_at_least(Strength::Tertiary) {
+        return Ok(());
+    }
+    let list = tertiaries(*key.allocator(), options, elements)?;
+    write_tertiary_level(options, &list, key)?;
+    Ok(())
+}
+
+/// Appends the quaternary level, where it is in force. Fails only when out of memory.
+fn add_quaternaries(
+    checked: &CheckedTables<'_>,
+    options: &ResolvedCollatorOptions,
+    elements: &[CountedElement],
+    key: &mut SmallVec<u8, 128>,
+) -> Result<(), AllocError>
+    ensures { OnOk result (key.new.items ≡ key.old.items ++ level_bytes (is_at_least options.now.strength Quaternary)
+        (quaternary_level options.now (filter_map (quaternary_at (source_collation checked.now)) (counted_list elements.now)) ++ 0x01 ∷ [])) }
+{
+    if !options.strength.is_at_least(Strength::Quaternary) {
+        return Ok(());
+    }
+    let ranks = quaternaries(*key.allocator(), checked, elements)?;
+    write_quaternary_level(options, &ranks, key)?;
+    Ok(())
+}
+
+/// Appends the identical level, where it is in force. Fails only when out of memory.
+fn add_characters(
+    options: &ResolvedCollatorOptions,
+    characters: &[char],
+    key: &mut SmallVec<u8, 128>,
+) -> Result<(), AllocError>
+    ensures { OnOk result (key.new.items ≡ key.old.items ++ level_bytes (is_at_least options.now.strength Identical) (character_level characters.now)) }
+{
+    if !options.strength.is_at_least(Strength::Identical) {
+        return Ok(());
+    }
+    write_identical_level(characters, key)?;
+    Ok(())
+}
+
+/// Appends the key of a text's levels, given as the elements that count and, at `Identical`, the decomposed list of its
+/// characters. Fails only when out of memory.
+pub(crate) fn write_whole_key(
+    checked: &CheckedTables<'_>,
+    options: &ResolvedCollatorOptions,
+    elements: &[CountedElement],
+    characters: &[char],
+    key: &mut SmallVec<u8, 128>,
+) -> Result<(), AllocError>
+    requires { list_all has_sound_case (counted_list elements.now) ≡ true }
+    ensures { OnOk result ((es : List Element) → counted_list elements.now ≡ counted (source_collation checked.now) options.now es
+        → key.new.items ≡ key.old.items ++ key_bytes (source_collation checked.now) options.now (levels_of (source_collation checked.now) options.now es characters.now)) }
+{
+    add_primaries(checked, elements, key)?;
+    add_secondaries(checked, options, elements, key)?;
+    add_cases(options, elements, key)?;
+    add_tertiaries(options, elements, key)?;
+    add_quaternaries(checked, options, elements, key)?;
+    add_characters(options, characters, key)?;
+    Ok(())
+}

@@ -1,0 +1,6 @@
+//! The levels of a text's elements: the elements that count, and the list of what they give at each level.
+
+pub(crate) mod counted;
+pub(crate) mod lists;
+mod segments;
+mod weights;

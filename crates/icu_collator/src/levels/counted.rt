@@ -1,0 +1,111 @@
+//! The elements that count under alternate shifted (UTS 10, variable weighting).
+
+ghost use Rattle.std.specs.Prelude.{◌≡◌, ◌*◌, ◌^◌, ◌&&◌, ◌==◌, IfOk, get_or, ltb};
+ghost use Rattle.icu_collator_types.specs.Options.{group_index};
+ghost use Rattle.icu_collator_types.specs.declared.options.ResolvedCollatorOptions.{ResolvedCollatorOptions};
+ghost use Rattle.icu_collator_core.specs.Collation.{Collation};
+ghost use Rattle.icu_collator_core.specs.ElementLists.{unpacked};
+ghost use Rattle.icu_collator.specs.Collators.{source_collation};
+ghost use Rattle.icu_collator.specs.LevelLists.{counted_list, variable_end_of};
+ghost use Rattle.icu_collator.specs.Shifted.{counted};
+
+use icu_collator_core::checked::CheckedTables;
+use icu_collator_types::elements::CollationElement;
+use icu_collator_types::options::{AlternateHandling, MaxVariable, ResolvedCollatorOptions};
+use smallvec::SmallVec;
+use std::alloc::{AllocError, Global};
+
+/// The primary of U+FFFE: no element up to it is variable.
+pub(super) const SEGMENT_END_PRIMARY: u32 = 0x0200_0000;
+
+/// An element that counts.
+#[derive(Clone, Copy, PartialEq, Eq, Debug)]
+pub(crate) enum CountedElement {
+    /// It counts whole.
+    Whole(CollationElement),
+    /// It is variable: its primary alone counts, at the quaternary level.
+    Variable(u32),
+}
+
+impl Default for CountedElement {
+    /// The element that ends a text, whole.
+    fn default() -> Self {
+        CountedElement::Whole(CollationElement::default())
+    }
+}
+
+/// The place of the last variable group among the four groups of tables.
+fn group_place(group: MaxVariable) -> usize
+    ensures { result ≡ group_index group }
+{
+    match group {
+        MaxVariable::Space => 0,
+        MaxVariable::Punctuation => 1,
+        MaxVariable::Symbol => 2,
+        MaxVariable::Currency => 3,
+    }
+}
+
+/// Where the primaries of variable elements end, by a collation's tables; 0 where no element is variable.
+pub(crate) fn variable_end(checked: &CheckedTables<'_>, options: &ResolvedCollatorOptions) -> u32
+    ensures { result ≡ variable_end_of (source_collation checked.now) options.now }
+{
+    match options.alternate_handling {
+        AlternateHandling::NonIgnorable => 0,
+        AlternateHandling::Shifted => group_end(checked, options.max_variable),
+    }
+}
+
+/// The first primary after a group.
+fn group_end(checked: &CheckedTables<'_>, group: MaxVariable) -> u32
+    ensures { result ≡ get_or (source_collation checked.now).groups (group_index group) 0 * 2 ^ 16 }
+{
+    match checked
+        .tables()
+        .special_primaries
+        .last_primaries
+        .get(group_place(group))
+    {
+        Some(half) => u32::from(half) << 16,
+        None => 0,
+    }
+}
+
+/// Whether an element with this primary is variable.
+fn is_variable(primary: u32, variable_end: u32) -> bool
+    ensures { result ≡ (ltb 0x02000000 primary && ltb primary variable_end) }
+{
+    SEGMENT_END_PRIMARY < primary && primary < variable_end
+}
+
+/// Whether an element that isn't variable counts nowhere: it stands behind a variable one, and has no primary.
+fn is_ignored(is_behind: bool, primary: u32) -> bool
+    ensures { result ≡ (is_behind && (primary == 0)) }
+{
+    is_behind && primary == 0
+}
+
+/// The elements that count. After a variable element, those without a primary count nowhere, up to the next that has
+/// one. Fails only when out of memory.
+pub(crate) fn counted(
+    alloc: Global,
+    elements: &[CollationElement],
+    variable_end: u32,
+) -> Result<SmallVec<CountedElement, 32>, AllocError>
+    ensures { IfOk result (λ list. (collation : Collation) (options : ResolvedCollatorOptions) → variable_end ≡ variable_end_of collation options
+        → counted_list list.items ≡ counted collation options (unpacked elements.now)) }
+{
+    let mut list = SmallVec::new(alloc);
+    let mut is_behind = false;
+    for element in elements {
+        let primary = element.primary();
+        if is_variable(primary, variable_end) {
+            is_behind = true;
+            list.push(CountedElement::Variable(primary))?;
+        } else if !is_ignored(is_behind, primary) {
+            is_behind = false;
+            list.push(CountedElement::Whole(*element))?;
+        }
+    }
+    Ok(list)
+}

@@ -1,0 +1,78 @@
+//! Texts in each encoding, as the characters that they decode to.
+
+ghost use Rattle.std.specs.Prelude.{◌≡◌, ℕ, All, List};
+ghost use Rattle.std.specs.Char.{IsScalar};
+ghost use Rattle.std.specs.Iterator.{IsFinite};
+ghost use Rattle.icu_normalizer_core.specs.Decoding.{latin1_chars, utf16_chars, utf8_chars};
+ghost use Rattle.icu_normalizer_core.specs.Iter.{Spells};
+
+use icu_normalizer_core::decoding::{
+    Latin1Chars, Utf8Chars, Utf16Chars, decode_latin1, decode_utf8, decode_utf16,
+};
+
+/// A text that can be read more than once: it gives its characters anew each time.
+pub(crate) trait Characters: Copy {
+    /// Gives the characters one after another.
+    type Chars: Iterator<Item = char> + Drop;
+
+    /// The characters that the text decodes to.
+    ghost characters: { Self → List ℕ };
+
+    /// The characters, from the first on.
+    fn chars(self) -> Self::Chars
+        ensures spelled { Spells Self.Chars.next_gives result (characters self) }
+        ensures ready { Self.Chars.can_next result }
+        ensures ends { IsFinite (Self.Chars.remaining result) }
+        ensures scalars { All IsScalar (characters self) };
+}
+
+/// A text in UTF-8: what is damaged reads as U+FFFD.
+#[derive(Clone, Copy)]
+pub(crate) struct Utf8Text<'a> {
+    /// The bytes.
+    pub(crate) bytes: &'a [u8],
+}
+
+impl<'a> Characters for Utf8Text<'a> {
+    type Chars = Utf8Chars<'a>;
+
+    ghost characters = { λ text. utf8_chars text.bytes.now };
+
+    fn chars(self) -> Utf8Chars<'a> {
+        decode_utf8(self.bytes)
+    }
+}
+
+/// A text in UTF-16: a surrogate without its partner reads as U+FFFD.
+#[derive(Clone, Copy)]
+pub(crate) struct Utf16Text<'a> {
+    /// The units.
+    pub(crate) units: &'a [u16],
+}
+
+impl<'a> Characters for Utf16Text<'a> {
+    type Chars = Utf16Chars<'a>;
+
+    ghost characters = { λ text. utf16_chars text.units.now };
+
+    fn chars(self) -> Utf16Chars<'a> {
+        decode_utf16(self.units)
+    }
+}
+
+/// A text in Latin-1: each byte is a character.
+#[derive(Clone, Copy)]
+pub(crate) struct Latin1Text<'a> {
+    /// The bytes.
+    pub(crate) bytes: &'a [u8],
+}
+
+impl<'a> Characters for Latin1Text<'a> {
+    type Chars = Latin1Chars<'a>;
+
+    ghost characters = { λ text. latin1_chars text.bytes.now };
+
+    fn chars(self) -> Latin1Chars<'a> {
+        decode_latin1(self.bytes)
+    }
+}
