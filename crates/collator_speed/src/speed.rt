@@ -1,0 +1,116 @@
+//! How fast keys are written and names compared.
+
+use crate::names::in_order;
+use icu_collator::collator::CollatorBorrowed;
+use std::alloc::Global;
+use std::cmp::Ordering;
+use std::time::CpuClock;
+
+/// How often each thing is measured.
+const ROUNDS: u32 = 3;
+
+/// The nanoseconds that the process has used of a processor.
+fn nanoseconds(rt: &HostRuntime) -> Option<u64> {
+    let used = rt.process_cpu_time().ok()?;
+    u64::try_from(used.as_nanos()).ok()
+}
+
+/// How many things were done in a second, of so many in so many nanoseconds.
+fn a_second(count: usize, nanoseconds: u64) -> Option<u64> {
+    (count as u64)
+        .checked_mul(1_000_000_000)?
+        .checked_div(nanoseconds)
+}
+
+/// The bytes of the keys of all names together.
+fn write_keys(collator: &CollatorBorrowed<'_>, alloc: Global, names: &[&str]) -> Option<usize> {
+    let mut sum: usize = 0;
+    let mut key = Vec::new(alloc);
+    for name in names {
+        key.clear();
+        collator.write_sort_key_to(alloc, *name, &mut key).ok()?;
+        sum = sum.wrapping_add(key.len());
+    }
+    Some(sum)
+}
+
+/// Prints how many keys are written in a second, and how many bytes they have.
+fn measure_keys(rt: &HostRuntime, collator: &CollatorBorrowed<'_>, names: &[&str]) -> Option<()> {
+    let mut least = u64::MAX;
+    let mut sum = 0;
+    for _round in 0..ROUNDS {
+        let before = nanoseconds(rt)?;
+        sum = write_keys(collator, rt.alloc(), names)?;
+        let after = nanoseconds(rt)?;
+        least = least.min(after.checked_sub(before)?);
+    }
+    let speed = a_second(names.len(), least)?;
+    println!(rt; "keys {speed} {sum}").ok()
+}
+
+/// How many of these pairs are below one another.
+fn compare_pairs(
+    collator: &CollatorBorrowed<'_>,
+    alloc: Global,
+    pairs: &[(&str, &str)],
+) -> Option<usize> {
+    let mut count: usize = 0;
+    for (left, right) in pairs {
+        if collator.compare(alloc, *left, *right).ok()? == Ordering::Less {
+            count = count.wrapping_add(1);
+        }
+    }
+    Some(count)
+}
+
+/// Prints how many pairs are compared in a second, and how many of them are below one another.
+fn measure_pairs(
+    rt: &HostRuntime,
+    collator: &CollatorBorrowed<'_>,
+    name: &str,
+    pairs: &[(&str, &str)],
+) -> Option<()> {
+    let mut least = u64::MAX;
+    let mut count = 0;
+    for _round in 0..ROUNDS {
+        let before = nanoseconds(rt)?;
+        count = compare_pairs(collator, rt.alloc(), pairs)?;
+        let after = nanoseconds(rt)?;
+        least = least.min(after.checked_sub(before)?);
+    }
+    let speed = a_second(pairs.len(), least)?;
+    println!(rt; "{name} {speed} {count}").ok()
+}
+
+/// Each name with one far from it.
+fn far_pairs<'n>(alloc: Global, names: &[&'n str]) -> Option<Vec<(&'n str, &'n str)>> {
+    let mut pairs = Vec::new(alloc);
+    for (i, name) in names.iter().enumerate() {
+        let other = i
+            .wrapping_mul(7919)
+            .wrapping_add(13)
+            .checked_rem(names.len())?;
+        pairs.push((*name, *names.get(other)?)).ok()?;
+    }
+    Some(pairs)
+}
+
+/// Each name with the next.
+fn near_pairs<'n>(alloc: Global, names: &[&'n str]) -> Option<Vec<(&'n str, &'n str)>> {
+    let mut pairs = Vec::new(alloc);
+    for (name, next) in names.iter().zip(names.iter().skip(1)) {
+        pairs.push((*name, *next)).ok()?;
+    }
+    Some(pairs)
+}
+
+/// Prints how fast keys of the lines of a text are written, and lines compared.
+pub fn measure(rt: &HostRuntime, collator: &CollatorBorrowed<'_>, lines: &str) -> Option<()> {
+    let names: Vec<&str> = lines.lines().collect(rt.alloc()).ok()?;
+    measure_keys(rt, collator, &names)?;
+    let far = far_pairs(rt.alloc(), &names)?;
+    measure_pairs(rt, collator, "cmp_random", &far)?;
+    let ordered = in_order(collator, rt.alloc(), &names)?;
+    let near = near_pairs(rt.alloc(), &ordered)?;
+    measure_pairs(rt, collator, "cmp_near", &near)
+}
