@@ -25,7 +25,7 @@ IsRun is_compressible (Some lead) = is_compressible lead ≡ true
 pub record AddsPrimary (is_compressible : ℕ → Bool) (given : Option ℕ) (run : Option ℕ) (before : List ℕ) (now : Option ℕ) (after : List ℕ) : Type 0 where
   pub level : (ps : List ℕ) → after ++ codes_from primary_code (run_after is_compressible) now ps
       ≡ before ++ codes_from primary_code (run_after is_compressible) run (cons_option given ps)
-  pub run : IsRun is_compressible now
+  pub goes_on : IsRun is_compressible now
 
 -- ## Runs
 

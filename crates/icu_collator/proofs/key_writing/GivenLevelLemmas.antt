@@ -13,7 +13,7 @@ use Rattle.icu_collator.proofs.lists.BackwardLemmas.{left_from}
 pub adds_no_primary :
     (compressible : ℕ → Bool) (given run : Option ℕ) (bytes : List ℕ) → IsRun compressible run → given ≡ None → AddsPrimary compressible given run bytes run bytes
 adds_no_primary compressible given run bytes is none =
-    record { level = λ ps. ap (λ g. bytes ++ codes_from primary_code (run_after compressible) run (cons_option g ps)) (sym none); run = is }
+    record { level = λ ps. ap (λ g. bytes ++ codes_from primary_code (run_after compressible) run (cons_option g ps)) (sym none); goes_on = is }
 
 pub adds_primary :
     (compressible : ℕ → Bool) (given : Option ℕ) (p : ℕ) (run now : Option ℕ) (before after : List ℕ) → given ≡ Some p → after ≡ before ++ primary_code run p
@@ -26,7 +26,7 @@ adds_primary compressible given p run now before after some written is next =
           ∙ append_assoc before (primary_code run p) (codes_from primary_code (run_after compressible) now ps)
           ∙ ap (λ r. before ++ (primary_code run p ++ codes_from primary_code (run_after compressible) r ps)) is
           ∙ ap (λ g. before ++ codes_from primary_code (run_after compressible) run (cons_option g ps)) (sym some);
-      run = next;
+      goes_on = next;
     }
 
 -- what passes for all elements passes for one

@@ -39,11 +39,10 @@ pub(super) fn backward_ranks(
     let mut list = SmallVec::new(alloc);
     let mut segment: SmallVec<u32, 32> = SmallVec::new(alloc);
     for element in elements {
-        let element = counted_element(*element, variable_end);
-        if is_segment_end(element) {
+        if is_segment_end(counted_element(*element, variable_end)) {
             move_reversed(&mut segment, &mut list)?;
             list.push(SEGMENT_END_RANK)?;
-        } else if let Some(rank) = secondary_rank_at(element) {
+        } else if let Some(rank) = secondary_rank_at(counted_element(*element, variable_end)) {
             segment.push(rank)?;
         }
     }

@@ -13,7 +13,7 @@ use Rattle.icu_collator.proofs.key_bytes.levels.write_forward_level.Goals as goa
 
 pub write_given_runs-requires-clause-small : goal.write_given_runs-requires-clause-small
 unfolding rank_limit
-write_given_runs-requires-clause-small c = λ e w h sound. h.bound
+write_given_runs-requires-clause-small c = λ e w h sound. h.1.0
 
 pub returns : goal.returns
 returns c =

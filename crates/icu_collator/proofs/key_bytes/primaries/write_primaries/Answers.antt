@@ -12,13 +12,13 @@ pub loop-element-preserved : goal.loop-element-preserved
 loop-element-preserved c =
     let at = primary_at (source_collation c.args.checked.now) in
     let compressible = is_compressible_in c.args.special.now.last_primaries in
-    let adds = c.in_ok-write_given.ensures in
+    let adds = c.in_ok-run.ensures in
     let level = primaries_go_on at c.args.variable_end c.args.elements.now compressible c.loop-element.element-index c.element-item.result c.loop-element.run
-    c.in_ok-write_given.run c.primary_at-primary.result
+    c.in_ok-run.run' c.primary_at-primary.result
     (c.args.key.now.items ++ codes_from primary_code (run_after compressible) None (primaries_by (source_collation c.args.checked.now) (counted_list c.args.variable_end c.args.elements.now)))
     c.loop-element.key.items c.write_given.new.key.items c.loop-element-test.true c.element-item.is
     (c.primary_at-primary.ensures ∙ ap at c.counted_element.ensures) c.loop-element.invariant.level adds in
-    record { run = adds.run; level = level }
+    record { run = adds.goes_on; level = level }
 
 pub returns : goal.returns
 returns c =

@@ -10,7 +10,7 @@ abbrev pub invariant-loop-element : goal.invariant-loop-element
 invariant-loop-element l = record {
   run : IsRun (is_compressible_in l.special.last_primaries) l.run;
   level : l.key.items ++ codes_from primary_code (run_after (is_compressible_in l.special.last_primaries)) l.run
-          (primaries_by (source_collation l.checked) (counted_list l.variable_end (drop l.element-index l.elements)))
+      (primaries_by (source_collation l.checked) (counted_list l.variable_end (drop l.element-index l.elements)))
       ≡ l.initial.key.items ++ codes_from primary_code (run_after (is_compressible_in l.special.last_primaries)) None
-          (primaries_by (source_collation l.checked) (counted_list l.variable_end l.elements));
+      (primaries_by (source_collation l.checked) (counted_list l.variable_end l.elements));
 }

@@ -14,12 +14,12 @@ write_given-requires-clause-rank g c =
 
 pub loop-element-preserved : goal.loop-element-preserved
 loop-element-preserved g c =
-    let adds = c.in_ok-write_given.ensures in
+    let adds = c.in_ok-pending.ensures in
     record {
       count = let most = adds.count in let before = c.loop-element.invariant.count in omega (arith, most, before);
       level = λ at says.
           runs_go_on at c.args.variable_end c.args.elements.now (code_of c.args.level) c.loop-element.element-index c.element-item.result c.loop-element.pending
-          c.in_ok-write_given.pending c.given-rank.result
+          c.in_ok-pending.pending c.given-rank.result
           (c.args.key.now.items ++ with_runs (code_of c.args.level) (filter_map at (counted_list c.args.variable_end c.args.elements.now)))
           c.loop-element.key.items c.write_given.new.key.items c.loop-element-test.true c.element-item.is
           (says _ _ c.given-rank.ensures ∙ ap at c.counted_element.ensures) (c.loop-element.invariant.level at says) adds;

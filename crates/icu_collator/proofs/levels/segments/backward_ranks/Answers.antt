@@ -15,17 +15,17 @@ loop-element-preserved c =
     let xs = c.args.elements.now
     in let i = c.loop-element.element-index
     in let x = c.element-item.result
-    in let of = c.counted_element-element.ensures
+    in let of = c.counted_element.ensures
     in elim c.if-is_segment_end.branch [
       | then-is_segment_end+in_ok-move_reversed+in_ok-push w ↦ rw (w.list-is, w.segment-is)
           (ended_more c.args.variable_end xs i x c.loop-element-test.true c.element-item.is c.loop-element.list.items c.loop-element.segment.items _ c.loop-element.invariant
           _ _ _ (sym (c.is_segment_end.ensures ∙ ap is_segment_end of) ∙ w.if-is_segment_end.true) w.in_ok-move_reversed.ensures.list w.in_ok-push.ensures.ok w.in_ok-move_reversed.ensures.segment)
       | else-is_segment_end+in-Some+in_ok-push-2 w ↦ rw (w.list-is, w.segment-is)
           (rank_more c.args.variable_end xs i x c.loop-element-test.true c.element-item.is c.loop-element.list.items c.loop-element.segment.items _ c.loop-element.invariant
-          _ _ (sym (c.is_segment_end.ensures ∙ ap is_segment_end of) ∙ w.if-is_segment_end.false) (sym w.in-Some.is ∙ w.secondary_rank_at.ensures.rank ∙ ap rank_at of) w.in_ok-push-2.ensures.ok)
+          _ _ (sym (c.is_segment_end.ensures ∙ ap is_segment_end of) ∙ w.if-is_segment_end.false) (sym w.in-Some.is ∙ w.secondary_rank_at.ensures.rank ∙ ap rank_at w.counted_element-else-is_segment_end.ensures) w.in_ok-push-2.ensures.ok)
       | else-is_segment_end+in_default w ↦ rw (w.list-is, w.segment-is)
           (none_more c.args.variable_end xs i x c.loop-element-test.true c.element-item.is c.loop-element.list.items c.loop-element.segment.items _ c.loop-element.invariant
-          (sym (c.is_segment_end.ensures ∙ ap is_segment_end of) ∙ w.if-is_segment_end.false) (sym w.in_default.is ∙ w.secondary_rank_at.ensures.rank ∙ ap rank_at of))
+          (sym (c.is_segment_end.ensures ∙ ap is_segment_end of) ∙ w.if-is_segment_end.false) (sym w.in_default.is ∙ w.secondary_rank_at.ensures.rank ∙ ap rank_at w.counted_element-else-is_segment_end.ensures))
     ]
 
 pub returns : goal.returns
