@@ -1,6 +1,7 @@
 pub mod CaseWrittenLemmas
 pub mod CharacterWrittenLemmas
 pub mod CodesWrittenLemmas
+pub mod GivenLevelLemmas
 pub mod KeyWrittenLemmas
 pub mod PlaceRankLemmas
 pub mod RankedRunLemmas

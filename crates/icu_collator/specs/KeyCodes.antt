@@ -1,9 +1,9 @@
 -- How the bytes of keys are written in one pass: levels by the ranks of their weights, and primaries by the run that each
 -- leaves behind.
 use Rattle.std.specs.Prelude.{◌≡◌, ℕ, ◌+◌, ◌-◌, ◌/◌, ◌^◌, ◌<◌, ◌≤◌, Bool, true, cond, not, ◌==◌, ◌&&◌, ltb, List, [], ◌∷◌, ◌++◌, Option, Some, None}
-use Rattle.std.specs.List.{list_all}
+use Rattle.std.specs.List.{cons_option, list_all}
 use Rattle.icu_collator_core.specs.WeightRules.{weight_bytes}
-use Rattle.icu_collator.specs.KeyBytes.{RunCode, behind_run, with_runs, secondary_code, lower_case_code, upper_case_code, tertiary_code, lower_first_code, upper_first_code, quaternary_code, shifted_bytes}
+use Rattle.icu_collator.specs.KeyBytes.{RunCode, behind_run, codes_from, primary_code, with_runs, secondary_code, lower_case_code, upper_case_code, tertiary_code, lower_first_code, upper_first_code, quaternary_code, shifted_bytes}
 use Rattle.icu_collator.specs.Levels.{QuaternaryPlace, shifted, quaternary}
 use Rattle.icu_collator.specs.declared.key_bytes.run_level.RunBytes.{RunBytes}
 use Rattle.icu_collator.specs.declared.key_bytes.run_level.RunLevel.{RunLevel}
@@ -19,6 +19,13 @@ run_after is_compressible run p = let lead = p / 2 ^ 24 in cond (is_compressible
 abbrev pub IsRun : (ℕ → Bool) → Option ℕ → Type 0
 IsRun is_compressible None = Unit {0}
 IsRun is_compressible (Some lead) = is_compressible lead ≡ true
+
+-- What an element gives was added to the primary level: whatever follows, the bytes stand for all so far, and this run
+-- goes on.
+pub record AddsPrimary (is_compressible : ℕ → Bool) (given : Option ℕ) (run : Option ℕ) (before : List ℕ) (now : Option ℕ) (after : List ℕ) : Type 0 where
+  pub level : (ps : List ℕ) → after ++ codes_from primary_code (run_after is_compressible) now ps
+      ≡ before ++ codes_from primary_code (run_after is_compressible) run (cons_option given ps)
+  pub goes_on : IsRun is_compressible now
 
 -- ## Runs
 
@@ -76,6 +83,11 @@ pub record HasRunBytes (code : RunCode ℕ) (bytes : RunBytes) : Type 0 where
 -- a weight was added to a level: whatever follows, the bytes and the common weights not written yet stand for all so far
 pub record AddsWeight (code : RunCode ℕ) (weight : ℕ) (pending : ℕ) (before : List ℕ) (now : ℕ) (after : List ℕ) : Type 0 where
   pub level : (ws : List ℕ) → after ++ behind_run code now ws ≡ before ++ behind_run code pending (weight ∷ ws)
+  pub count : now ≤ pending + 1
+
+-- the same of what an element gives at the level, if it gives something
+pub record AddsGiven (code : RunCode ℕ) (given : Option ℕ) (pending : ℕ) (before : List ℕ) (now : ℕ) (after : List ℕ) : Type 0 where
+  pub level : (ws : List ℕ) → after ++ behind_run code now ws ≡ before ++ behind_run code pending (cons_option given ws)
   pub count : now ≤ pending + 1
 
 -- ## Levels that are left out in part

@@ -1,5 +1,5 @@
 -- The lists that a comparison and a key are made of: elements of 64 bits that count, and what they give at each level.
-use Rattle.std.specs.Prelude.{ℕ, ◌+◌, ◌-◌, ◌*◌, ◌^◌, ◌==◌, Bool, true, cond, leb, List, get_or, map, filter_map}
+use Rattle.std.specs.Prelude.{ℕ, ◌+◌, ◌-◌, ◌*◌, ◌/◌, ◌^◌, ◌==◌, ◌&&◌, Bool, true, cond, leb, ltb, List, get_or, map, filter_map}
 use Rattle.icu_collator_types.specs.declared.elements.Element.{Element}
 use Rattle.icu_collator_types.specs.declared.options.CollationCaseFirst.{CollationCaseFirst}
 use Rattle.icu_collator_types.specs.declared.options.ResolvedCollatorOptions.{ResolvedCollatorOptions}
@@ -17,8 +17,16 @@ abbrev pub counted_of : CountedElement → Counted
 counted_of (Whole bits) = whole (element_of bits)
 counted_of (Variable primary) = variable primary
 
-abbrev pub counted_list : List CountedElement → List Counted
-counted_list items = map counted_of items
+-- an element of 64 bits that counts: it is variable if its primary lies above that of U+FFFE and below this end
+unfoldable pub counted_by : ℕ → ℕ → Counted
+counted_by end bits =
+    let primary = bits / 2 ^ 32
+    in let by_primary = variable primary
+    in let by_weights = whole (element_of bits)
+    in cond (ltb 0x02000000 primary && ltb primary end) by_primary by_weights
+
+abbrev pub counted_list : ℕ → List ℕ → List Counted
+counted_list end items = map (counted_by end) items
 
 -- below this primary, and above that of U+FFFE, elements are variable: 0 where none is
 abbrev pub variable_end_of : Collation → ResolvedCollatorOptions → ℕ
@@ -27,20 +35,20 @@ variable_end_of collation options =
 
 -- ## The level of each kind
 
-abbrev pub primaries_by : Collation → List CountedElement → List ℕ
-primaries_by collation items = filter_map (primary_at collation) (counted_list items)
+abbrev pub primaries_by : Collation → List Counted → List ℕ
+primaries_by collation es = filter_map (primary_at collation) es
 
-abbrev pub secondary_ranks : Collation → List CountedElement → List ℕ
-secondary_ranks collation items = map secondary_rank (secondaries_of collation (counted_list items))
+abbrev pub secondary_ranks : Collation → List Counted → List ℕ
+secondary_ranks collation es = map secondary_rank (secondaries_of collation es)
 
-abbrev pub cases_by : ResolvedCollatorOptions → List CountedElement → List ℕ
-cases_by options items = filter_map (case_at options) (counted_list items)
+abbrev pub cases_by : ResolvedCollatorOptions → List Counted → List ℕ
+cases_by options es = filter_map (case_at options) es
 
-abbrev pub tertiaries_by : ResolvedCollatorOptions → List CountedElement → List ℕ
-tertiaries_by options items = filter_map (tertiary_at options) (counted_list items)
+abbrev pub tertiaries_by : ResolvedCollatorOptions → List Counted → List ℕ
+tertiaries_by options es = filter_map (tertiary_at options) es
 
-abbrev pub quaternary_ranks : Collation → List CountedElement → List ℕ
-quaternary_ranks collation items = map quaternary_rank (filter_map (quaternary_at collation) (counted_list items))
+abbrev pub quaternary_ranks : Collation → List Counted → List ℕ
+quaternary_ranks collation es = map quaternary_rank (filter_map (quaternary_at collation) es)
 
 -- the tertiary of an element with its case above it, as it counts where case comes first
 abbrev pub tertiary_with_case : CollationCaseFirst → Element → ℕ

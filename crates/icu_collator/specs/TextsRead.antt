@@ -13,15 +13,19 @@ use Rattle.icu_collator_core.specs.Elements.{elements_of_list}
 use Rattle.icu_collator.specs.declared.reading.ReadText.{ReadText}
 use Rattle.icu_collator.specs.LevelLists.{cases_by, counted_list, primaries_by, quaternary_ranks, secondary_ranks, tertiaries_by}
 use Rattle.icu_collator.specs.Order.{character_rank, where_in_force}
-use Rattle.icu_collator.specs.Shifted.{counted}
+use Rattle.icu_collator.specs.Shifted.{Counted, counted}
 
 -- the lead byte of numbers, where digits count
 abbrev pub numeric_by : CollationSource → ResolvedCollatorOptions → Option ℕ
 numeric_by source options = cond (is_numeric options.numeric) (Some source.tables.special_primaries.numeric_primary) None
 
+-- the elements that count in a text that was read
+abbrev pub counted_in : ReadText → List Counted
+counted_in text = counted_list text.variable_end text.elements.items
+
 -- what is read of a decomposed list: its elements that count, and at Identical its characters
 pub record IsReadList (collation : Collation) (options : ResolvedCollatorOptions) (list : List ℕ) (text : ReadText) : Type 0 where
-  pub elements : counted_list text.elements.items
+  pub elements : counted_in text
       ≡ counted collation options (elements_of_list collation.canonical collation.weights (is_numeric options.numeric) list)
   pub characters : is_at_least options.strength Identical ≡ true → text.characters.items ≡ list
 
@@ -35,27 +39,27 @@ abbrev pub lists_order : List ℕ → List ℕ → Ordering
 lists_order xs ys = slice_cmp nat_cmp xs ys
 
 abbrev pub read_primaries_order : Collation → ReadText → ReadText → Ordering
-read_primaries_order collation a b = lists_order (primaries_by collation a.elements.items) (primaries_by collation b.elements.items)
+read_primaries_order collation a b = lists_order (primaries_by collation (counted_in a)) (primaries_by collation (counted_in b))
 
 abbrev pub read_secondaries_order : Collation → ResolvedCollatorOptions → ReadText → ReadText → Ordering
 read_secondaries_order collation options a b =
     where_in_force (is_at_least options.strength Secondary)
-    (lists_order (secondary_ranks collation a.elements.items) (secondary_ranks collation b.elements.items))
+    (lists_order (secondary_ranks collation (counted_in a)) (secondary_ranks collation (counted_in b)))
 
 abbrev pub read_cases_order : ResolvedCollatorOptions → ReadText → ReadText → Ordering
 read_cases_order options a b =
     where_in_force (has_case_level options.case_level)
-    (lists_order (cases_by options a.elements.items) (cases_by options b.elements.items))
+    (lists_order (cases_by options (counted_in a)) (cases_by options (counted_in b)))
 
 abbrev pub read_tertiaries_order : ResolvedCollatorOptions → ReadText → ReadText → Ordering
 read_tertiaries_order options a b =
     where_in_force (is_at_least options.strength Tertiary)
-    (lists_order (tertiaries_by options a.elements.items) (tertiaries_by options b.elements.items))
+    (lists_order (tertiaries_by options (counted_in a)) (tertiaries_by options (counted_in b)))
 
 abbrev pub read_quaternaries_order : Collation → ResolvedCollatorOptions → ReadText → ReadText → Ordering
 read_quaternaries_order collation options a b =
     where_in_force (is_at_least options.strength Quaternary)
-    (lists_order (quaternary_ranks collation a.elements.items) (quaternary_ranks collation b.elements.items))
+    (lists_order (quaternary_ranks collation (counted_in a)) (quaternary_ranks collation (counted_in b)))
 
 abbrev pub read_characters_order : ResolvedCollatorOptions → ReadText → ReadText → Ordering
 read_characters_order options a b =

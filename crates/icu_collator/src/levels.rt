@@ -3,4 +3,4 @@
 pub(crate) mod counted;
 pub(crate) mod lists;
 mod segments;
-mod weights;
+pub(crate) mod weights;

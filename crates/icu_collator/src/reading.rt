@@ -2,7 +2,7 @@
 
 mod texts;
 
-use crate::levels::counted::CountedElement;
+use icu_collator_types::elements::CollationElement;
 use smallvec::SmallVec;
 pub(crate) use texts::read_text;
 
@@ -10,7 +10,9 @@ pub(crate) use texts::read_text;
 #[derive(Drop)]
 pub(crate) struct ReadText {
     /// The elements that count.
-    pub(crate) elements: SmallVec<CountedElement, 32>,
+    pub(crate) elements: SmallVec<CollationElement, 32>,
+    /// Where the primaries of variable elements end; 0 where no element is variable.
+    pub(crate) variable_end: u32,
     /// At strength `Identical` the decomposed list, else nothing.
     pub(crate) characters: SmallVec<char, 64>,
 }

@@ -1,12 +1,14 @@
 -- A key written level by level is the key of the levels.
 use Rattle.std.proofs.Common.{◌≡◌, ℕ, Bool, true, false, List, [], ◌∷◌, ◌++◌, refl, sym, ◌∙◌, ap, append_assoc}
 use Rattle.std.specs.Prelude.{filter_map}
-use Rattle.icu_collator_types.specs.Options.{has_case_level, is_at_least}
+use Rattle.icu_collator_types.specs.Options.{has_case_bits, has_case_level, is_at_least}
 use Rattle.icu_collator_types.specs.declared.elements.Element.{Element}
 use Rattle.icu_collator_types.specs.declared.options.ResolvedCollatorOptions.{ResolvedCollatorOptions}
 use Rattle.icu_collator_types.specs.declared.options.Strength.TheVariants.{Secondary, Tertiary, Quaternary, Identical}
 use Rattle.icu_collator_core.specs.Collation.{Collation}
 use Rattle.icu_collator.specs.KeyBytes.{case_halves, character_level, key_bytes, level_bytes, paired_halves, primary_level, quaternary_level, secondary_code, tertiary_code_of, with_runs}
+use Rattle.icu_collator.specs.KeyCodes.{code_of}
+use Rattle.icu_collator.specs.declared.key_bytes.run_level.RunLevel.TheVariants.{Tertiaries}
 use Rattle.icu_collator.specs.Levels.{case_at, levels_of, primary_at, quaternary_at, secondaries_of, tertiary_at}
 use Rattle.icu_collator.specs.Shifted.{Counted, counted}
 
@@ -56,3 +58,8 @@ same_characters collation options es xs ys same =
     ++ level_bytes (is_at_least options.strength Quaternary) (quaternary_level options (filter_map (quaternary_at collation) items) ++ 0x01 ∷ [])
     ++ l) (last_level (is_at_least options.strength Identical) xs ys same)
     ∙ key_counted collation options es items ys refl
+
+-- tertiaries without case bits
+pub plain_code : (options : ResolvedCollatorOptions) → has_case_bits options ≡ false → code_of Tertiaries ≡ tertiary_code_of options
+unfolding code_of
+plain_code options none = rw none refl

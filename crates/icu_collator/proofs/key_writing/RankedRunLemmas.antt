@@ -1,10 +1,11 @@
 -- Levels as they are written by the ranks of their weights.
-use Rattle.std.proofs.Common.{◌≡◌, ◌≢◌, ℕ, zero, suc, ◌<◌, ◌≤◌, ◌+◌, ◌-◌, ◌/◌, ◌%◌, Bool, true, false, cond, List, [], ◌∷◌, ◌++◌, length, drop, get_or, replicate, refl, sym, ◌∙◌, ap, arith, append_assoc, add-one, ltb, ⊎_elim}
+use Rattle.std.proofs.Common.{◌≡◌, ◌≢◌, ℕ, zero, suc, ◌<◌, ◌≤◌, ◌+◌, ◌-◌, ◌/◌, ◌%◌, Bool, true, false, cond, Option, Some, None, List, [], ◌∷◌, ◌++◌, length, drop, get_or, replicate, refl, sym, ◌∙◌, ap, arith, append_assoc, add-one, ltb, ⊎_elim}
+use Rattle.std.specs.List.{cons_option}
 use Rattle.std.proofs.lemmas.List.{drop_more, drop_all}
 use Rattle.std.proofs.lemmas.Bool.{cases_lt}
 use Rattle.std.proofs.lemmas.Bool.Decides.{nat_tests}
 use Rattle.icu_collator.specs.KeyBytes.{RunCode, run_bytes, behind_run, with_runs}
-use Rattle.icu_collator.specs.KeyCodes.{AddsWeight, code_of}
+use Rattle.icu_collator.specs.KeyCodes.{AddsGiven, AddsWeight, code_of}
 use Rattle.icu_collator.specs.declared.key_bytes.run_level.RunLevel.{RunLevel}
 use Rattle.icu_collator.specs.declared.key_bytes.run_level.RunLevel.TheVariants.{Secondaries, LowerCases, UpperCases, Tertiaries, LowerFirst, UpperFirst, Quaternaries}
 use Rattle.icu_collator.proofs.keys.RunCodeLemmas.{goes_lower, goes_common, goes_higher}
@@ -91,3 +92,14 @@ adds_other code rank common pending before between after is_rank is_common other
     let test : ltb common rank ≡ false = grind (arith, nat_tests) in
     adds_lower code rank pending before between after (omega (arith, is_rank, is_common, not_higher, other)) (run ∙ ap (λ b. before ++ run_bytes code b pending) test) weight)
     (cases_lt common rank)
+
+-- an element that gives nothing, and one that gives a weight
+pub adds_none : (code : RunCode ℕ) (given : Option ℕ) (pending : ℕ) (bytes : List ℕ) → given ≡ None → AddsGiven code given pending bytes pending bytes
+adds_none code given pending bytes none =
+    record { level = λ ws. ap (λ g. bytes ++ behind_run code pending (cons_option g ws)) (sym none); count = omega arith }
+
+pub adds_some :
+    (code : RunCode ℕ) (given : Option ℕ) (rank pending now : ℕ) (before after : List ℕ) → given ≡ Some rank → AddsWeight code rank pending before now after
+    → AddsGiven code given pending before now after
+adds_some code given rank pending now before after some adds =
+    record { level = λ ws. adds.level ws ∙ ap (λ g. before ++ behind_run code pending (cons_option g ws)) (sym some); count = adds.count }

@@ -23,8 +23,8 @@ pub(super) fn compare_primaries(
 ) -> Result<Ordering, AllocError>
     ensures { IfOk result (λ order. order ≡ read_primaries_order (source_collation checked.now) left.now right.now) }
 {
-    let lefts = primaries(alloc, checked, &left.elements)?;
-    let rights = primaries(alloc, checked, &right.elements)?;
+    let lefts = primaries(alloc, checked, &left.elements, left.variable_end)?;
+    let rights = primaries(alloc, checked, &right.elements, right.variable_end)?;
     Ok(lefts.cmp(&rights))
 }
 
@@ -41,8 +41,8 @@ pub(super) fn compare_secondaries(
     if !options.strength.is_at_least(Strength::Secondary) {
         return Ok(Ordering::Equal);
     }
-    let lefts = secondaries(alloc, checked, &left.elements)?;
-    let rights = secondaries(alloc, checked, &right.elements)?;
+    let lefts = secondaries(alloc, checked, &left.elements, left.variable_end)?;
+    let rights = secondaries(alloc, checked, &right.elements, right.variable_end)?;
     Ok(lefts.cmp(&rights))
 }
 
@@ -58,8 +58,8 @@ pub(super) fn compare_cases(
     match options.case_level {
         CaseLevel::Off => Ok(Ordering::Equal),
         CaseLevel::On => {
-            let lefts = cases(alloc, options, &left.elements)?;
-            let rights = cases(alloc, options, &right.elements)?;
+            let lefts = cases(alloc, options, &left.elements, left.variable_end)?;
+            let rights = cases(alloc, options, &right.elements, right.variable_end)?;
             Ok(lefts.cmp(&rights))
         }
     }
@@ -77,8 +77,8 @@ pub(super) fn compare_tertiaries(
     if !options.strength.is_at_least(Strength::Tertiary) {
         return Ok(Ordering::Equal);
     }
-    let lefts = tertiaries(alloc, options, &left.elements)?;
-    let rights = tertiaries(alloc, options, &right.elements)?;
+    let lefts = tertiaries(alloc, options, &left.elements, left.variable_end)?;
+    let rights = tertiaries(alloc, options, &right.elements, right.variable_end)?;
     Ok(lefts.cmp(&rights))
 }
 
@@ -95,8 +95,8 @@ pub(super) fn compare_quaternaries(
     if !options.strength.is_at_least(Strength::Quaternary) {
         return Ok(Ordering::Equal);
     }
-    let lefts = quaternaries(alloc, checked, &left.elements)?;
-    let rights = quaternaries(alloc, checked, &right.elements)?;
+    let lefts = quaternaries(alloc, checked, &left.elements, left.variable_end)?;
+    let rights = quaternaries(alloc, checked, &right.elements, right.variable_end)?;
     Ok(lefts.cmp(&rights))
 }
 

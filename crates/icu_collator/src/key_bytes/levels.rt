@@ -1,19 +1,21 @@
 //! The levels of a key behind the primary one, each with the bytes that separate and end it.
 
-ghost use Rattle.std.specs.Prelude.{◌≡◌, ◌<◌, ◌≤◌, ◌+◌, ◌^◌, [], ◌∷◌, ◌++◌, List, map, true, All, OnOk};
+ghost use Rattle.std.specs.Prelude.{◌≡◌, ◌<◌, ◌≤◌, ◌+◌, ◌^◌, [], ◌∷◌, ◌++◌, List, filter_map, map, true, All, OnOk};
 ghost use Rattle.std.specs.List.{list_all};
 ghost use Rattle.icu_collator_types.specs.Options.{is_shifted, is_upper_first};
 ghost use Rattle.icu_collator.specs.KeyBytes.{case_halves, character_level, paired_halves, quaternary_level, secondary_code, tertiary_code_of, with_runs};
 ghost use Rattle.icu_collator.specs.KeyCodes.{code_of, is_small_place, rank_limit};
-ghost use Rattle.icu_collator.specs.LevelLists.{tertiary_bound};
-ghost use Rattle.icu_collator.specs.Levels.{QuaternaryPlace, SecondaryPlace};
+ghost use Rattle.icu_collator.specs.LevelLists.{counted_list, has_sound_case, tertiaries_by, tertiary_bound};
+ghost use Rattle.icu_collator.specs.Levels.{QuaternaryPlace, SecondaryPlace, secondary_at};
 ghost use Rattle.icu_collator.specs.Order.{quaternary_rank, secondary_rank};
 
 use super::cases::write_cases;
 use super::characters::write_characters;
 use super::quaternaries::write_quaternaries;
 use super::run_level::RunLevel;
-use super::runs::write_runs;
+use super::runs::{write_given_runs, write_runs};
+use crate::levels::weights::{has_case_bits, plain_tertiary_at, secondary_rank_at, tertiary_at};
+use icu_collator_types::elements::CollationElement;
 use icu_collator_types::options::{
     AlternateHandling, CaseLevel, CollationCaseFirst, ResolvedCollatorOptions,
 };
@@ -34,6 +36,28 @@ pub(super) fn write_secondary_level(
 {
     key.push(LEVEL_SEPARATOR)?;
     write_runs(RunLevel::Secondaries, ranks, key)?;
+    key.push(LEVEL_SEPARATOR)?;
+    Ok(())
+}
+
+/// Appends the secondary level in the order of the text. Fails only when out of memory.
+pub(super) fn write_forward_level(
+    elements: &[CollationElement],
+    variable_end: u32,
+    key: &mut SmallVec<u8, 128>,
+) -> Result<(), AllocError>
+    requires { list_all has_sound_case (counted_list variable_end elements.now) ≡ true }
+    ensures { OnOk result (key.new.items ≡ key.old.items
+        ++ 0x01 ∷ (with_runs secondary_code (filter_map secondary_at (counted_list variable_end elements.now)) ++ 0x01 ∷ [])) }
+{
+    key.push(LEVEL_SEPARATOR)?;
+    write_given_runs(
+        RunLevel::Secondaries,
+        elements,
+        variable_end,
+        secondary_rank_at,
+        key,
+    )?;
     key.push(LEVEL_SEPARATOR)?;
     Ok(())
 }
@@ -75,17 +99,50 @@ fn tertiary_level(options: &ResolvedCollatorOptions) -> RunLevel
     }
 }
 
+/// Appends the weights of the tertiary level. Fails only when out of memory.
+fn write_tertiaries(
+    options: &ResolvedCollatorOptions,
+    elements: &[CollationElement],
+    variable_end: u32,
+    key: &mut SmallVec<u8, 128>,
+) -> Result<(), AllocError>
+    requires { list_all has_sound_case (counted_list variable_end elements.now) ≡ true }
+    ensures { OnOk result (key.new.items ≡ key.old.items ++ with_runs (tertiary_code_of options.now) (tertiaries_by options.now (counted_list variable_end elements.now))) }
+{
+    if has_case_bits(options) {
+        let level = tertiary_level(options);
+        write_given_runs(
+            level,
+            elements,
+            variable_end,
+            |element| tertiary_at(options, element),
+            key,
+        )?;
+        return Ok(());
+    }
+    write_given_runs(
+        RunLevel::Tertiaries,
+        elements,
+        variable_end,
+        plain_tertiary_at,
+        key,
+    )?;
+    Ok(())
+}
+
 /// Appends the tertiary level. Fails only when out of memory.
 pub(super) fn write_tertiary_level(
     options: &ResolvedCollatorOptions,
-    weights: &[u32],
+    elements: &[CollationElement],
+    variable_end: u32,
     key: &mut SmallVec<u8, 128>,
 ) -> Result<(), AllocError>
-    requires { All (λ weight. weight < tertiary_bound options.now) weights.now }
-    ensures { OnOk result (key.new.items ≡ key.old.items ++ 0x01 ∷ (with_runs (tertiary_code_of options.now) weights.now ++ 0x01 ∷ [])) }
+    requires { list_all has_sound_case (counted_list variable_end elements.now) ≡ true }
+    ensures { OnOk result (key.new.items ≡ key.old.items
+        ++ 0x01 ∷ (with_runs (tertiary_code_of options.now) (tertiaries_by options.now (counted_list variable_end elements.now)) ++ 0x01 ∷ [])) }
 {
     key.push(LEVEL_SEPARATOR)?;
-    write_runs(tertiary_level(options), weights, key)?;
+    write_tertiaries(options, elements, variable_end, key)?;
     key.push(LEVEL_SEPARATOR)?;
     Ok(())
 }

@@ -1,12 +1,18 @@
 //! The primary level of a key.
 
-ghost use Rattle.std.specs.Prelude.{◌≡◌, ◌/◌, ◌^◌, ◌++◌, None, OnOk};
+ghost use Rattle.std.specs.Prelude.{◌≡◌, ◌/◌, ◌^◌, ◌++◌, None, IfOk, OnOk};
 ghost use Rattle.icu_collator_core.specs.TableSettings.{is_compressible_in};
+ghost use Rattle.icu_collator.specs.Collators.{source_collation};
 ghost use Rattle.icu_collator.specs.KeyBytes.{codes_from, primary_code, run_end};
-ghost use Rattle.icu_collator.specs.KeyCodes.{IsRun, run_after};
+ghost use Rattle.icu_collator.specs.KeyCodes.{AddsPrimary, IsRun, run_after};
+ghost use Rattle.icu_collator.specs.LevelLists.{counted_list, primaries_by};
 
 use super::weights::{write_primary_bytes, write_primary_rest};
+use crate::levels::counted::counted_element;
+use crate::levels::weights::primary_at;
+use icu_collator_core::checked::CheckedTables;
 use icu_collator_core::tables::CollationSpecialPrimaries;
+use icu_collator_types::elements::CollationElement;
 use smallvec::SmallVec;
 use std::alloc::AllocError;
 
@@ -71,19 +77,39 @@ fn run_after(special: &CollationSpecialPrimaries<'_>, run: Option<u8>, primary: 
     }
 }
 
+/// Appends what an element gives, if it gives a primary; answers the lead of the run then. Fails only when out of memory.
+#[inline]
+fn write_given(
+    special: &CollationSpecialPrimaries<'_>,
+    run: Option<u8>,
+    primary: Option<u32>,
+    key: &mut SmallVec<u8, 128>,
+) -> Result<Option<u8>, AllocError>
+    requires { IsRun (is_compressible_in special.now.last_primaries) run }
+    ensures { IfOk result (λ now. AddsPrimary (is_compressible_in special.now.last_primaries) primary run key.old.items now key.new.items) }
+{
+    let Some(primary) = primary else {
+        return Ok(run);
+    };
+    write_primary(run, primary, key)?;
+    Ok(run_after(special, run, primary))
+}
+
 /// Appends the primary level. Fails only when out of memory.
 pub(super) fn write_primaries(
+    checked: &CheckedTables<'_>,
     special: &CollationSpecialPrimaries<'_>,
-    primaries: &[u32],
+    elements: &[CollationElement],
+    variable_end: u32,
     key: &mut SmallVec<u8, 128>,
 ) -> Result<(), AllocError>
-    ensures { OnOk result (key.new.items ≡ key.old.items
-        ++ codes_from primary_code (run_after (is_compressible_in special.now.last_primaries)) None primaries.now) }
+    ensures { OnOk result (key.new.items ≡ key.old.items ++ codes_from primary_code (run_after (is_compressible_in special.now.last_primaries)) None
+        (primaries_by (source_collation checked.now) (counted_list variable_end elements.now))) }
 {
     let mut run: Option<u8> = None;
-    for primary in primaries {
-        write_primary(run, *primary, key)?;
-        run = run_after(special, run, *primary);
+    for element in elements {
+        let primary = primary_at(checked, counted_element(*element, variable_end));
+        run = write_given(special, run, primary, key)?;
     }
     Ok(())
 }

@@ -1,10 +1,16 @@
 //! Levels whose runs of the common weight are written short, in one pass.
 
-ghost use Rattle.std.specs.Prelude.{◌≡◌, ◌<◌, ◌≤◌, ◌+◌, ◌-◌, ◌%◌, ◌^◌, ◌/◌, ◌∷◌, ◌++◌, [], false, cond, replicate, All, IfOk, OnOk};
+ghost use Rattle.std.specs.Prelude.{◌≡◌, ◌<◌, ◌≤◌, ◌+◌, ◌-◌, ◌%◌, ◌^◌, ◌/◌, ◌∷◌, ◌++◌, [], ℕ, Option, false, true, cond, filter_map, replicate, All, IfOk, IfSome, OnOk};
+ghost use Rattle.std.specs.List.{list_all};
 ghost use Rattle.icu_collator.specs.KeyBytes.{run_bytes, with_runs};
-ghost use Rattle.icu_collator.specs.KeyCodes.{AddsWeight, code_of, rank_limit};
+ghost use Rattle.icu_collator.specs.KeyCodes.{AddsGiven, AddsWeight, code_of, rank_limit};
+ghost use Rattle.icu_collator.specs.LevelLists.{counted_list, counted_of, has_sound_case};
+ghost use Rattle.icu_collator.specs.Shifted.{Counted};
+ghost use Rattle.icu_collator.specs.declared.levels.counted.CountedElement.{CountedElement};
 
 use super::run_level::{RunBytes, RunLevel};
+use crate::levels::counted::{CountedElement, counted_element};
+use icu_collator_types::elements::CollationElement;
 use smallvec::SmallVec;
 use std::alloc::AllocError;
 
@@ -63,23 +69,71 @@ fn write_run(
 
 /// Takes one more weight, given by its rank, behind so many common ones that aren't written yet; answers how many aren't
 /// written then. Fails only when out of memory.
+#[inline]
 fn write_next(
     level: RunLevel,
+    common: u64,
     rank: u64,
     pending: usize,
     key: &mut SmallVec<u8, 128>,
 ) -> Result<usize, AllocError>
+    requires common { common ≡ (code_of level).common }
     requires rank { rank < rank_limit level }
     requires room { pending + 1 < 2 ^ 64 }
     ensures { IfOk result (λ now. AddsWeight (code_of level) rank pending key.old.items now key.new.items) }
 {
-    let common = level.common();
     if rank == common {
         return Ok(pending + 1);
     }
     write_run(level, common < rank, pending, key)?;
     level.write_weight(rank, key)?;
     Ok(0)
+}
+
+/// The same of what an element gives, if it gives a weight.
+#[inline]
+fn write_given(
+    level: RunLevel,
+    common: u64,
+    rank: Option<u32>,
+    pending: usize,
+    key: &mut SmallVec<u8, 128>,
+) -> Result<usize, AllocError>
+    requires common { common ≡ (code_of level).common }
+    requires rank { IfSome rank (λ r. r < rank_limit level) }
+    requires room { pending + 1 < 2 ^ 64 }
+    ensures { IfOk result (λ now. AddsGiven (code_of level) rank pending key.old.items now key.new.items) }
+{
+    let Some(rank) = rank else {
+        return Ok(pending);
+    };
+    let now = write_next(level, common, u64::from(rank), pending, key)?;
+    Ok(now)
+}
+
+/// Appends a level of the weights that elements give, by their ranks. Fails only when out of memory.
+pub(super) fn write_given_runs<F: Fn(CountedElement) -> Option<u32>>(
+    level: RunLevel,
+    elements: &[CollationElement],
+    variable_end: u32,
+    given: F,
+    key: &mut SmallVec<u8, 128>,
+) -> Result<(), AllocError>
+    requires callable { F.IsAlwaysCallable given }
+    requires cases { list_all has_sound_case (counted_list variable_end elements.now) ≡ true }
+    requires small { (e : CountedElement) (w : Option ℕ) → F.post given e w → has_sound_case (counted_of e) ≡ true
+        → IfSome w (λ rank. rank < rank_limit level) }
+    ensures { OnOk result ((at : Counted → Option ℕ) → ((e : CountedElement) (w : Option ℕ) → F.post given e w → w ≡ at (counted_of e))
+        → key.new.items ≡ key.old.items ++ with_runs (code_of level) (filter_map at (counted_list variable_end elements.now))) }
+{
+    let common = level.common();
+    let mut pending = 0;
+    for element in elements {
+        let rank = given(counted_element(*element, variable_end));
+        pending = write_given(level, common, rank, pending, key)?;
+    }
+    write_run(level, false, pending, key)?;
+    Ok(())
 }
 
 /// Appends a level of weights, given by their ranks. Fails only when out of memory.
@@ -91,9 +145,10 @@ pub(super) fn write_runs(
     requires { All (λ rank. rank < rank_limit level) ranks.now }
     ensures { OnOk result (key.new.items ≡ key.old.items ++ with_runs (code_of level) ranks.now) }
 {
+    let common = level.common();
     let mut pending = 0;
     for rank in ranks {
-        pending = write_next(level, u64::from(*rank), pending, key)?;
+        pending = write_next(level, common, u64::from(*rank), pending, key)?;
     }
     write_run(level, false, pending, key)?;
     Ok(())
@@ -108,9 +163,10 @@ pub(super) fn write_wide_runs(
     requires { All (λ rank. rank < rank_limit level) ranks.now }
     ensures { OnOk result (key.new.items ≡ key.old.items ++ with_runs (code_of level) ranks.now) }
 {
+    let common = level.common();
     let mut pending = 0;
     for rank in ranks {
-        pending = write_next(level, *rank, pending, key)?;
+        pending = write_next(level, common, *rank, pending, key)?;
     }
     write_run(level, false, pending, key)?;
     Ok(())

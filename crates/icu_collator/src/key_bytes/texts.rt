@@ -28,7 +28,14 @@ pub(crate) fn text_key<T: Characters>(
     checked.canonical().keep_promise();
     let read = read_text(alloc, checked, options, text.chars())?;
     let mut key = SmallVec::new(alloc);
-    write_whole_key(checked, options, &read.elements, &read.characters, &mut key)?;
+    write_whole_key(
+        checked,
+        options,
+        &read.elements,
+        read.variable_end,
+        &read.characters,
+        &mut key,
+    )?;
     Ok(key)
 }
 

@@ -12,13 +12,13 @@ ghost use Rattle.icu_collator.specs.Levels.{levels_of, quaternary_at, secondarie
 ghost use Rattle.icu_collator.specs.Shifted.{counted};
 
 use super::levels::{
-    write_case_level, write_identical_level, write_quaternary_level, write_secondary_level,
-    write_tertiary_level,
+    write_case_level, write_forward_level, write_identical_level, write_quaternary_level,
+    write_secondary_level, write_tertiary_level,
 };
 use super::primaries::write_primaries;
-use crate::levels::counted::CountedElement;
-use crate::levels::lists::{cases, primaries, quaternaries, secondaries, tertiaries};
+use crate::levels::lists::{cases, quaternaries, secondaries};
 use icu_collator_core::checked::CheckedTables;
+use icu_collator_types::elements::CollationElement;
 use icu_collator_types::options::{CaseLevel, ResolvedCollatorOptions, Strength};
 use smallvec::SmallVec;
 use std::alloc::AllocError;
@@ -26,14 +26,15 @@ use std::alloc::AllocError;
 /// Appends the primary level. Fails only when out of memory.
 fn add_primaries(
     checked: &CheckedTables<'_>,
-    elements: &[CountedElement],
+    elements: &[CollationElement],
+    variable_end: u32,
     key: &mut SmallVec<u8, 128>,
 ) -> Result<(), AllocError>
     ensures { OnOk result (key.new.items ≡ key.old.items
-        ++ primary_level (source_collation checked.now).weights (primaries_by (source_collation checked.now) elements.now)) }
+        ++ primary_level (source_collation checked.now).weights (primaries_by (source_collation checked.now) (counted_list variable_end elements.now))) }
 {
-    let list = primaries(*key.allocator(), checked, elements)?;
-    write_primaries(&checked.tables().special_primaries, &list, key)?;
+    let special = &checked.tables().special_primaries;
+    write_primaries(checked, special, elements, variable_end, key)?;
     Ok(())
 }
 
@@ -41,34 +42,41 @@ fn add_primaries(
 fn add_secondaries(
     checked: &CheckedTables<'_>,
     options: &ResolvedCollatorOptions,
-    elements: &[CountedElement],
+    elements: &[CollationElement],
+    variable_end: u32,
     key: &mut SmallVec<u8, 128>,
 ) -> Result<(), AllocError>
+    requires { list_all has_sound_case (counted_list variable_end elements.now) ≡ true }
     ensures { OnOk result (key.new.items ≡ key.old.items ++ level_bytes (is_at_least options.now.strength Secondary)
-        (with_runs secondary_code (secondaries_of (source_collation checked.now) (counted_list elements.now)) ++ 0x01 ∷ [])) }
+        (with_runs secondary_code (secondaries_of (source_collation checked.now) (counted_list variable_end elements.now)) ++ 0x01 ∷ [])) }
 {
     if !options.strength.is_at_least(Strength::Secondary) {
         return Ok(());
     }
-    let ranks = secondaries(*key.allocator(), checked, elements)?;
-    write_secondary_level(&ranks, key)?;
+    if checked.tables().metadata.backward_second_level() {
+        let ranks = secondaries(*key.allocator(), checked, elements, variable_end)?;
+        write_secondary_level(&ranks, key)?;
+        return Ok(());
+    }
+    write_forward_level(elements, variable_end, key)?;
     Ok(())
 }
 
 /// Appends the case level, where it is in force. Fails only when out of memory.
 fn add_cases(
     options: &ResolvedCollatorOptions,
-    elements: &[CountedElement],
+    elements: &[CollationElement],
+    variable_end: u32,
     key: &mut SmallVec<u8, 128>,
 ) -> Result<(), AllocError>
-    requires { list_all has_sound_case (counted_list elements.now) ≡ true }
+    requires { list_all has_sound_case (counted_list variable_end elements.now) ≡ true }
     ensures { OnOk result (key.new.items ≡ key.old.items ++ level_bytes (has_case_level options.now.case_level)
-        (paired_halves (case_halves options.now (cases_by options.now elements.now)))) }
+        (paired_halves (case_halves options.now (cases_by options.now (counted_list variable_end elements.now))))) }
 {
     match options.case_level {
         CaseLevel::Off => Ok(()),
         CaseLevel::On => {
-            let list = cases(*key.allocator(), options, elements)?;
+            let list = cases(*key.allocator(), options, elements, variable_end)?;
             write_case_level(options, &list, key)?;
             Ok(())
         }
@@ -78,18 +86,18 @@ fn add_cases(
 /// Appends the tertiary level, where it is in force. Fails only when out of memory.
 fn add_tertiaries(
     options: &ResolvedCollatorOptions,
-    elements: &[CountedElement],
+    elements: &[CollationElement],
+    variable_end: u32,
     key: &mut SmallVec<u8, 128>,
 ) -> Result<(), AllocError>
-    requires { list_all has_sound_case (counted_list elements.now) ≡ true }
+    requires { list_all has_sound_case (counted_list variable_end elements.now) ≡ true }
     ensures { OnOk result (key.new.items ≡ key.old.items ++ level_bytes (is_at_least options.now.strength Tertiary)
-        (with_runs (tertiary_code_of options.now) (tertiaries_by options.now elements.now) ++ 0x01 ∷ [])) }
+        (with_runs (tertiary_code_of options.now) (tertiaries_by options.now (counted_list variable_end elements.now)) ++ 0x01 ∷ [])) }
 {
     if !options.strength.is_at_least(Strength::Tertiary) {
         return Ok(());
     }
-    let list = tertiaries(*key.allocator(), options, elements)?;
-    write_tertiary_level(options, &list, key)?;
+    write_tertiary_level(options, elements, variable_end, key)?;
     Ok(())
 }
 
@@ -97,16 +105,17 @@ fn add_tertiaries(
 fn add_quaternaries(
     checked: &CheckedTables<'_>,
     options: &ResolvedCollatorOptions,
-    elements: &[CountedElement],
+    elements: &[CollationElement],
+    variable_end: u32,
     key: &mut SmallVec<u8, 128>,
 ) -> Result<(), AllocError>
     ensures { OnOk result (key.new.items ≡ key.old.items ++ level_bytes (is_at_least options.now.strength Quaternary)
-        (quaternary_level options.now (filter_map (quaternary_at (source_collation checked.now)) (counted_list elements.now)) ++ 0x01 ∷ [])) }
+        (quaternary_level options.now (filter_map (quaternary_at (source_collation checked.now)) (counted_list variable_end elements.now)) ++ 0x01 ∷ [])) }
 {
     if !options.strength.is_at_least(Strength::Quaternary) {
         return Ok(());
     }
-    let ranks = quaternaries(*key.allocator(), checked, elements)?;
+    let ranks = quaternaries(*key.allocator(), checked, elements, variable_end)?;
     write_quaternary_level(options, &ranks, key)?;
     Ok(())
 }
@@ -131,19 +140,20 @@ fn add_characters(
 pub(crate) fn write_whole_key(
     checked: &CheckedTables<'_>,
     options: &ResolvedCollatorOptions,
-    elements: &[CountedElement],
+    elements: &[CollationElement],
+    variable_end: u32,
     characters: &[char],
     key: &mut SmallVec<u8, 128>,
 ) -> Result<(), AllocError>
-    requires { list_all has_sound_case (counted_list elements.now) ≡ true }
-    ensures { OnOk result ((es : List Element) → counted_list elements.now ≡ counted (source_collation checked.now) options.now es
+    requires { list_all has_sound_case (counted_list variable_end elements.now) ≡ true }
+    ensures { OnOk result ((es : List Element) → counted_list variable_end elements.now ≡ counted (source_collation checked.now) options.now es
         → key.new.items ≡ key.old.items ++ key_bytes (source_collation checked.now) options.now (levels_of (source_collation checked.now) options.now es characters.now)) }
 {
-    add_primaries(checked, elements, key)?;
-    add_secondaries(checked, options, elements, key)?;
-    add_cases(options, elements, key)?;
-    add_tertiaries(options, elements, key)?;
-    add_quaternaries(checked, options, elements, key)?;
+    add_primaries(checked, elements, variable_end, key)?;
+    add_secondaries(checked, options, elements, variable_end, key)?;
+    add_cases(options, elements, variable_end, key)?;
+    add_tertiaries(options, elements, variable_end, key)?;
+    add_quaternaries(checked, options, elements, variable_end, key)?;
     add_characters(options, characters, key)?;
     Ok(())
 }

@@ -6,7 +6,7 @@ ghost use Rattle.icu_collator_types.specs.declared.options.ResolvedCollatorOptio
 ghost use Rattle.icu_collator_core.specs.Collation.{Collation};
 ghost use Rattle.icu_collator_core.specs.ElementLists.{unpacked};
 ghost use Rattle.icu_collator.specs.Collators.{source_collation};
-ghost use Rattle.icu_collator.specs.LevelLists.{counted_list, variable_end_of};
+ghost use Rattle.icu_collator.specs.LevelLists.{counted_by, counted_list, counted_of, variable_end_of};
 ghost use Rattle.icu_collator.specs.Shifted.{counted};
 
 use icu_collator_core::checked::CheckedTables;
@@ -18,20 +18,13 @@ use std::alloc::{AllocError, Global};
 /// The primary of U+FFFE: no element up to it is variable.
 pub(super) const SEGMENT_END_PRIMARY: u32 = 0x0200_0000;
 
-/// An element that counts.
-#[derive(Clone, Copy, PartialEq, Eq, Debug)]
+/// An element that counts, as the levels look at it.
+#[derive(Clone, Copy, Debug)]
 pub(crate) enum CountedElement {
     /// It counts whole.
     Whole(CollationElement),
     /// It is variable: its primary alone counts, at the quaternary level.
     Variable(u32),
-}
-
-impl Default for CountedElement {
-    /// The element that ends a text, whole.
-    fn default() -> Self {
-        CountedElement::Whole(CollationElement::default())
-    }
 }
 
 /// The place of the last variable group among the four groups of tables.
@@ -85,15 +78,29 @@ fn is_ignored(is_behind: bool, primary: u32) -> bool
     is_behind && primary == 0
 }
 
-/// The elements that count. After a variable element, those without a primary count nowhere, up to the next that has
-/// one. Fails only when out of memory.
-pub(crate) fn counted(
+/// An element that counts, where variable ones end before a primary.
+#[inline]
+#[tactic(auto, unfolding(crate::specs::LevelLists::counted_by))]
+pub(crate) fn counted_element(element: CollationElement, variable_end: u32) -> CountedElement
+    ensures { counted_of result ≡ counted_by variable_end element }
+{
+    let primary = element.primary();
+    if is_variable(primary, variable_end) {
+        CountedElement::Variable(primary)
+    } else {
+        CountedElement::Whole(element)
+    }
+}
+
+/// The elements that count, where some may be variable. After a variable element, those without a primary count nowhere, up
+/// to the next that has one. Fails only when out of memory.
+fn kept(
     alloc: Global,
     elements: &[CollationElement],
     variable_end: u32,
-) -> Result<SmallVec<CountedElement, 32>, AllocError>
+) -> Result<SmallVec<CollationElement, 32>, AllocError>
     ensures { IfOk result (λ list. (collation : Collation) (options : ResolvedCollatorOptions) → variable_end ≡ variable_end_of collation options
-        → counted_list list.items ≡ counted collation options (unpacked elements.now)) }
+        → counted_list variable_end list.items ≡ counted collation options (unpacked elements.now)) }
 {
     let mut list = SmallVec::new(alloc);
     let mut is_behind = false;
@@ -101,11 +108,27 @@ pub(crate) fn counted(
         let primary = element.primary();
         if is_variable(primary, variable_end) {
             is_behind = true;
-            list.push(CountedElement::Variable(primary))?;
+            list.push(*element)?;
         } else if !is_ignored(is_behind, primary) {
             is_behind = false;
-            list.push(CountedElement::Whole(*element))?;
+            list.push(*element)?;
         }
     }
+    Ok(list)
+}
+
+/// The elements that count: all, where none is variable. Fails only when out of memory.
+pub(crate) fn counted(
+    alloc: Global,
+    elements: SmallVec<CollationElement, 32>,
+    variable_end: u32,
+) -> Result<SmallVec<CollationElement, 32>, AllocError>
+    ensures { IfOk result (λ list. (collation : Collation) (options : ResolvedCollatorOptions) → variable_end ≡ variable_end_of collation options
+        → counted_list variable_end list.items ≡ counted collation options (unpacked elements.items)) }
+{
+    if variable_end == 0 {
+        return Ok(elements);
+    }
+    let list = kept(alloc, &elements, variable_end)?;
     Ok(list)
 }

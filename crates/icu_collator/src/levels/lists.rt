@@ -3,16 +3,18 @@
 ghost use Rattle.std.specs.Prelude.{◌≡◌, ◌+◌, ◌<◌, ◌≤◌, ◌^◌, All, Bool, IfOk, IfSome, Option, filter_map, map, true};
 ghost use Rattle.std.specs.List.{list_all};
 ghost use Rattle.icu_collator.specs.Collators.{source_collation};
+ghost use Rattle.icu_collator.specs.Shifted.{Counted};
 ghost use Rattle.icu_collator.specs.declared.levels.counted.CountedElement.{CountedElement};
 ghost use Rattle.icu_collator.specs.KeyCodes.{is_small_place};
-ghost use Rattle.icu_collator.specs.LevelLists.{cases_by, counted_list, has_sound_case, primaries_by, quaternary_ranks, secondary_ranks, tertiaries_by, tertiary_bound};
+ghost use Rattle.icu_collator.specs.LevelLists.{cases_by, counted_list, counted_of, has_sound_case, primaries_by, quaternary_ranks, secondary_ranks, tertiaries_by};
 ghost use Rattle.icu_collator.specs.Levels.{quaternary_at, secondary_at};
 ghost use Rattle.icu_collator.specs.Order.{secondary_rank};
 
-use super::counted::CountedElement;
+use super::counted::{CountedElement, counted_element};
 use super::segments::backward_ranks;
 use super::weights::{case_at, primary_at, quaternary_rank_at, secondary_rank_at, tertiary_at};
 use icu_collator_core::checked::CheckedTables;
+use icu_collator_types::elements::CollationElement;
 use icu_collator_types::options::ResolvedCollatorOptions;
 use smallvec::SmallVec;
 use std::alloc::{AllocError, Global};
@@ -20,23 +22,24 @@ use std::alloc::{AllocError, Global};
 /// What elements give, in order. Fails only when out of memory.
 fn listed<W: Copy + Default, F: Fn(CountedElement) -> Option<W>>(
     alloc: Global,
-    elements: &[CountedElement],
+    elements: &[CollationElement],
+    variable_end: u32,
     given: F,
 ) -> Result<SmallVec<W, 32>, AllocError>
     requires { F.IsAlwaysCallable given }
-    ensures list { IfOk result (λ list. (at : CountedElement → Option W)
-        → ((e : CountedElement) (w : Option W) → F.post given e w → w ≡ at e)
-        → list.items ≡ filter_map at elements.now) }
+    ensures list { IfOk result (λ list. (at : Counted → Option W)
+        → ((e : CountedElement) (w : Option W) → F.post given e w → w ≡ at (counted_of e))
+        → list.items ≡ filter_map at (counted_list variable_end elements.now)) }
     ensures each { IfOk result (λ list. (test : W → Bool)
         → ((e : CountedElement) (w : Option W) → F.post given e w → IfSome w (λ weight. test weight ≡ true))
         → list_all test list.items ≡ true) }
-    ensures holds { IfOk result (λ list. (holds : CountedElement → Bool)
-        → ((e : CountedElement) (w : Option W) → F.post given e w → holds e ≡ true)
-        → list_all holds elements.now ≡ true) }
+    ensures holds { IfOk result (λ list. (holds : Counted → Bool)
+        → ((e : CountedElement) (w : Option W) → F.post given e w → holds (counted_of e) ≡ true)
+        → list_all holds (counted_list variable_end elements.now) ≡ true) }
 {
     let mut list = SmallVec::new(alloc);
     for element in elements {
-        if let Some(weight) = given(*element) {
+        if let Some(weight) = given(counted_element(*element, variable_end)) {
             list.push(weight)?;
         }
     }
@@ -47,22 +50,29 @@ fn listed<W: Copy + Default, F: Fn(CountedElement) -> Option<W>>(
 pub(crate) fn primaries(
     alloc: Global,
     checked: &CheckedTables<'_>,
-    elements: &[CountedElement],
+    elements: &[CollationElement],
+    variable_end: u32,
 ) -> Result<SmallVec<u32, 32>, AllocError>
-    ensures { IfOk result (λ list. list.items ≡ primaries_by (source_collation checked.now) elements.now) }
+    ensures { IfOk result (λ list. list.items ≡ primaries_by (source_collation checked.now) (counted_list variable_end elements.now)) }
 {
-    let list = listed(alloc, elements, |element| primary_at(checked, element))?;
+    let list = listed(
+        alloc,
+        elements,
+        variable_end,
+        |element| primary_at(checked, element),
+    )?;
     Ok(list)
 }
 
 /// The ranks of the secondaries in the order of the text. Fails only when out of memory.
 fn forward_ranks(
     alloc: Global,
-    elements: &[CountedElement],
+    elements: &[CollationElement],
+    variable_end: u32,
 ) -> Result<SmallVec<u32, 32>, AllocError>
-    ensures { IfOk result (λ list. list.items ≡ map secondary_rank (filter_map secondary_at (counted_list elements.now))) }
+    ensures { IfOk result (λ list. list.items ≡ map secondary_rank (filter_map secondary_at (counted_list variable_end elements.now))) }
 {
-    let list = listed(alloc, elements, secondary_rank_at)?;
+    let list = listed(alloc, elements, variable_end, secondary_rank_at)?;
     Ok(list)
 }
 
@@ -70,15 +80,16 @@ fn forward_ranks(
 fn secondary_ranks(
     alloc: Global,
     checked: &CheckedTables<'_>,
-    elements: &[CountedElement],
+    elements: &[CollationElement],
+    variable_end: u32,
 ) -> Result<SmallVec<u32, 32>, AllocError>
-    ensures { IfOk result (λ list. list.items ≡ secondary_ranks (source_collation checked.now) elements.now) }
+    ensures { IfOk result (λ list. list.items ≡ secondary_ranks (source_collation checked.now) (counted_list variable_end elements.now)) }
 {
     if checked.tables().metadata.backward_second_level() {
-        let list = backward_ranks(alloc, elements)?;
+        let list = backward_ranks(alloc, elements, variable_end)?;
         Ok(list)
     } else {
-        let list = forward_ranks(alloc, elements)?;
+        let list = forward_ranks(alloc, elements, variable_end)?;
         Ok(list)
     }
 }
@@ -88,12 +99,13 @@ fn secondary_ranks(
 pub(crate) fn secondaries(
     alloc: Global,
     checked: &CheckedTables<'_>,
-    elements: &[CountedElement],
+    elements: &[CollationElement],
+    variable_end: u32,
 ) -> Result<SmallVec<u32, 32>, AllocError>
-    ensures ranks { IfOk result (λ list. list.items ≡ secondary_ranks (source_collation checked.now) elements.now) }
+    ensures ranks { IfOk result (λ list. list.items ≡ secondary_ranks (source_collation checked.now) (counted_list variable_end elements.now)) }
     ensures bound { IfOk result (λ list. All (λ rank. rank ≤ 2 ^ 16) list.items) }
 {
-    let list = secondary_ranks(alloc, checked, elements)?;
+    let list = secondary_ranks(alloc, checked, elements, variable_end)?;
     Ok(list)
 }
 
@@ -101,12 +113,18 @@ pub(crate) fn secondaries(
 pub(crate) fn cases(
     alloc: Global,
     options: &ResolvedCollatorOptions,
-    elements: &[CountedElement],
+    elements: &[CollationElement],
+    variable_end: u32,
 ) -> Result<SmallVec<u32, 32>, AllocError>
-    ensures cases { IfOk result (λ list. list.items ≡ cases_by options.now elements.now) }
-    ensures bound { IfOk result (λ list. list_all has_sound_case (counted_list elements.now) ≡ true → All (λ case. case ≤ 2) list.items) }
+    ensures cases { IfOk result (λ list. list.items ≡ cases_by options.now (counted_list variable_end elements.now)) }
+    ensures bound { IfOk result (λ list. list_all has_sound_case (counted_list variable_end elements.now) ≡ true → All (λ case. case ≤ 2) list.items) }
 {
-    let list = listed(alloc, elements, |element| case_at(options, element))?;
+    let list = listed(
+        alloc,
+        elements,
+        variable_end,
+        |element| case_at(options, element),
+    )?;
     Ok(list)
 }
 
@@ -114,12 +132,17 @@ pub(crate) fn cases(
 pub(crate) fn tertiaries(
     alloc: Global,
     options: &ResolvedCollatorOptions,
-    elements: &[CountedElement],
+    elements: &[CollationElement],
+    variable_end: u32,
 ) -> Result<SmallVec<u32, 32>, AllocError>
-    ensures weights { IfOk result (λ list. list.items ≡ tertiaries_by options.now elements.now) }
-    ensures bound { IfOk result (λ list. list_all has_sound_case (counted_list elements.now) ≡ true → All (λ weight. weight < tertiary_bound options.now) list.items) }
+    ensures { IfOk result (λ list. list.items ≡ tertiaries_by options.now (counted_list variable_end elements.now)) }
 {
-    let list = listed(alloc, elements, |element| tertiary_at(options, element))?;
+    let list = listed(
+        alloc,
+        elements,
+        variable_end,
+        |element| tertiary_at(options, element),
+    )?;
     Ok(list)
 }
 
@@ -127,15 +150,17 @@ pub(crate) fn tertiaries(
 pub(crate) fn quaternaries(
     alloc: Global,
     checked: &CheckedTables<'_>,
-    elements: &[CountedElement],
+    elements: &[CollationElement],
+    variable_end: u32,
 ) -> Result<SmallVec<u64, 32>, AllocError>
-    ensures ranks { IfOk result (λ list. list.items ≡ quaternary_ranks (source_collation checked.now) elements.now) }
+    ensures ranks { IfOk result (λ list. list.items ≡ quaternary_ranks (source_collation checked.now) (counted_list variable_end elements.now)) }
     ensures bound { IfOk result (λ list. All (λ rank. rank < 2 ^ 32 + 4) list.items) }
-    ensures shifted { IfOk result (λ list. list_all is_small_place (filter_map (quaternary_at (source_collation checked.now)) (counted_list elements.now)) ≡ true) }
+    ensures shifted { IfOk result (λ list. list_all is_small_place (filter_map (quaternary_at (source_collation checked.now)) (counted_list variable_end elements.now)) ≡ true) }
 {
     let list = listed(
         alloc,
         elements,
+        variable_end,
         |element| quaternary_rank_at(checked, element),
     )?;
     Ok(list)

@@ -5,8 +5,9 @@ ghost use Rattle.icu_collator.specs.LevelLists.{counted_list};
 ghost use Rattle.icu_collator.specs.Levels.{backward_from};
 ghost use Rattle.icu_collator.specs.Order.{secondary_rank};
 
-use super::counted::CountedElement;
+use super::counted::counted_element;
 use super::weights::{is_segment_end, secondary_rank_at};
+use icu_collator_types::elements::CollationElement;
 use smallvec::SmallVec;
 use std::alloc::{AllocError, Global};
 
@@ -30,17 +31,18 @@ fn move_reversed(
 /// The ranks of the secondaries, reversed in each segment. Fails only when out of memory.
 pub(super) fn backward_ranks(
     alloc: Global,
-    elements: &[CountedElement],
+    elements: &[CollationElement],
+    variable_end: u32,
 ) -> Result<SmallVec<u32, 32>, AllocError>
-    ensures { IfOk result (λ list. list.items ≡ map secondary_rank (backward_from [] (counted_list elements.now))) }
+    ensures { IfOk result (λ list. list.items ≡ map secondary_rank (backward_from [] (counted_list variable_end elements.now))) }
 {
     let mut list = SmallVec::new(alloc);
     let mut segment: SmallVec<u32, 32> = SmallVec::new(alloc);
     for element in elements {
-        if is_segment_end(*element) {
+        if is_segment_end(counted_element(*element, variable_end)) {
             move_reversed(&mut segment, &mut list)?;
             list.push(SEGMENT_END_RANK)?;
-        } else if let Some(rank) = secondary_rank_at(*element) {
+        } else if let Some(rank) = secondary_rank_at(counted_element(*element, variable_end)) {
             segment.push(rank)?;
         }
     }

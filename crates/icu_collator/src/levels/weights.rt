@@ -1,7 +1,8 @@
 //! What an element gives at each level.
 
-ghost use Rattle.std.specs.Prelude.{◌≡◌, ◌+◌, ◌^◌, IfSome, ltb, option_map, true};
+ghost use Rattle.std.specs.Prelude.{◌≡◌, ◌<◌, ◌+◌, ◌^◌, IfSome, false, ltb, option_map, true};
 ghost use Rattle.icu_collator_types.specs.Options.{has_case_bits};
+ghost use Rattle.icu_collator_types.specs.declared.options.ResolvedCollatorOptions.{ResolvedCollatorOptions};
 ghost use Rattle.icu_collator_core.specs.Pools.{element_of};
 ghost use Rattle.icu_collator_core.specs.TableSettings.{reordered_in};
 ghost use Rattle.icu_collator.specs.Collators.{source_collation};
@@ -35,7 +36,8 @@ fn reordered(tables: &CollationTables<'_>, primary: u32) -> u32
 }
 
 /// The primary, as it is reordered; `None` for an element that has none, or is variable.
-pub(super) fn primary_at(checked: &CheckedTables<'_>, element: CountedElement) -> Option<u32>
+#[inline]
+pub(crate) fn primary_at(checked: &CheckedTables<'_>, element: CountedElement) -> Option<u32>
     ensures { result ≡ primary_at (source_collation checked.now) (counted_of element) }
 {
     match element {
@@ -52,8 +54,10 @@ pub(super) fn primary_at(checked: &CheckedTables<'_>, element: CountedElement) -
 }
 
 /// The rank of the secondary; `None` for an element that has none.
-pub(super) fn secondary_rank_at(element: CountedElement) -> Option<u32>
-    ensures { result ≡ option_map secondary_rank (secondary_at (counted_of element)) }
+#[inline]
+pub(crate) fn secondary_rank_at(element: CountedElement) -> Option<u32>
+    ensures bound { IfSome result (λ rank. rank < 2 ^ 16 + 1) }
+    ensures rank { result ≡ option_map secondary_rank (secondary_at (counted_of element)) }
 {
     match element {
         CountedElement::Whole(element) => {
@@ -79,6 +83,7 @@ pub(super) fn is_segment_end(element: CountedElement) -> bool
 }
 
 /// The case of an element.
+#[inline]
 fn case_of(element: CollationElement) -> u32
     ensures { result ≡ (element_of element).case }
 {
@@ -86,6 +91,7 @@ fn case_of(element: CollationElement) -> u32
 }
 
 /// The tertiary of an element.
+#[inline]
 fn tertiary_of(element: CollationElement) -> u32
     ensures { result ≡ (element_of element).tertiary }
 {
@@ -119,7 +125,7 @@ pub(super) fn case_at(options: &ResolvedCollatorOptions, element: CountedElement
 }
 
 /// Whether the tertiary level counts case: with case first, and without a level for case.
-fn has_case_bits(options: &ResolvedCollatorOptions) -> bool
+pub(crate) fn has_case_bits(options: &ResolvedCollatorOptions) -> bool
     ensures { result ≡ has_case_bits options.now }
 {
     match (options.case_first, options.case_level) {
@@ -148,8 +154,23 @@ fn tertiary_with_case(case_first: CollationCaseFirst, element: CollationElement)
     }
 }
 
+/// The tertiary of an element; `None` for one that has none, or is variable.
+#[inline]
+pub(crate) fn plain_tertiary_at(element: CountedElement) -> Option<u32>
+    ensures bound { IfSome result (λ weight. weight < 0x4000) }
+    ensures weight { (options : ResolvedCollatorOptions) → has_case_bits options ≡ false → result ≡ tertiary_at options (counted_of element) }
+{
+    match element {
+        CountedElement::Whole(element) => {
+            let tertiary = tertiary_of(element);
+            if tertiary == 0 { None } else { Some(tertiary) }
+        }
+        CountedElement::Variable(_) => None,
+    }
+}
+
 /// The weight of an element at the tertiary level; `None` for one that has no tertiary, or is variable.
-pub(super) fn tertiary_at(options: &ResolvedCollatorOptions, element: CountedElement) -> Option<u32>
+pub(crate) fn tertiary_at(options: &ResolvedCollatorOptions, element: CountedElement) -> Option<u32>
     ensures { result ≡ tertiary_at options.now (counted_of element) }
 {
     let CountedElement::Whole(element) = element else {

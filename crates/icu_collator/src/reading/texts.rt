@@ -56,10 +56,11 @@ fn read_list(
     let characters = kept_characters(alloc, options.strength, &list)?;
     let numeric = numeric_lead(checked, options);
     let elements = list_elements(alloc, checked, numeric, list)?;
-    let end = variable_end(checked, options);
-    let elements = counted(alloc, &elements, end)?;
+    let variable_end = variable_end(checked, options);
+    let elements = counted(alloc, elements, variable_end)?;
     Ok(ReadText {
         elements,
+        variable_end,
         characters,
     })
 }

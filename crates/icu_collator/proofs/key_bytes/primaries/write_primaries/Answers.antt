@@ -1,21 +1,29 @@
-use Rattle.std.proofs.Common.{◌++◌, ◌≤◌, None, length, arith}
+use Rattle.std.proofs.Common.{◌++◌, ◌≤◌, ◌∙◌, None, length, ap, arith}
 use Rattle.icu_collator_core.specs.TableSettings.{is_compressible_in}
+use Rattle.icu_collator.specs.Collators.{source_collation}
 use Rattle.icu_collator.specs.KeyBytes.{codes_from, primary_code}
 use Rattle.icu_collator.specs.KeyCodes.{run_after}
-use Rattle.icu_collator.proofs.key_writing.CodesWrittenLemmas.{codes_go_on, codes_end}
+use Rattle.icu_collator.specs.LevelLists.{counted_list, primaries_by}
+use Rattle.icu_collator.specs.Levels.{primary_at}
+use Rattle.icu_collator.proofs.key_writing.GivenLevelLemmas.{primaries_go_on, primaries_end}
 use Rattle.icu_collator.proofs.key_bytes.primaries.write_primaries.Goals as goal
 
-pub loop-primary-preserved : goal.loop-primary-preserved
-loop-primary-preserved c =
-    let next = run_after (is_compressible_in c.args.special.now.last_primaries) in
-    let level = codes_go_on primary_code next c.loop-primary.run c.run_after-run.result c.args.primaries.now c.loop-primary.primary-index
-    (c.args.key.now.items ++ codes_from primary_code next None c.args.primaries.now) c.loop-primary.key.items c.write_primary.new.key.items
-    c.loop-primary-test.true c.loop-primary.invariant.level c.in_ok-write_primary.ensures c.run_after-run.ensures.next in
-    record { run = c.run_after-run.ensures.compressible; level = level }
+pub loop-element-preserved : goal.loop-element-preserved
+loop-element-preserved c =
+    let at = primary_at (source_collation c.args.checked.now) in
+    let compressible = is_compressible_in c.args.special.now.last_primaries in
+    let adds = c.in_ok-run.ensures in
+    let level = primaries_go_on at c.args.variable_end c.args.elements.now compressible c.loop-element.element-index c.element-item.result c.loop-element.run
+    c.in_ok-run.run' c.primary_at-primary.result
+    (c.args.key.now.items ++ codes_from primary_code (run_after compressible) None (primaries_by (source_collation c.args.checked.now) (counted_list c.args.variable_end c.args.elements.now)))
+    c.loop-element.key.items c.write_given.new.key.items c.loop-element-test.true c.element-item.is
+    (c.primary_at-primary.ensures ∙ ap at c.counted_element.ensures) c.loop-element.invariant.level adds in
+    record { run = adds.goes_on; level = level }
 
 pub returns : goal.returns
 returns c =
-    let next = run_after (is_compressible_in c.args.special.now.last_primaries) in
-    let past : length c.args.primaries.now ≤ c.loop-primary.primary-index = let end = c.loop-primary-test.false in omega (arith, end) in
-    codes_end primary_code next c.loop-primary.run c.args.primaries.now c.loop-primary.primary-index
-    (c.args.key.now.items ++ codes_from primary_code next None c.args.primaries.now) c.loop-primary.key.items past c.loop-primary.invariant.level
+    let compressible = is_compressible_in c.args.special.now.last_primaries in
+    let past : length c.args.elements.now ≤ c.loop-element.element-index = let end = c.loop-element-test.false in omega (arith, end) in
+    primaries_end (primary_at (source_collation c.args.checked.now)) c.args.variable_end c.args.elements.now compressible c.loop-element.element-index c.loop-element.run
+    (c.args.key.now.items ++ codes_from primary_code (run_after compressible) None (primaries_by (source_collation c.args.checked.now) (counted_list c.args.variable_end c.args.elements.now)))
+    c.loop-element.key.items past c.loop-element.invariant.level

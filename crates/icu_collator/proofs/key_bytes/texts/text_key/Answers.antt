@@ -25,7 +25,7 @@ write_whole_key-requires g c =
     let is = c.in_ok-read.ensures text c.chars.ensures.spelled in
     let sound = accepted_weights (meaning source.canonical) source.tables c.keep_promise.ensures in
     let canonical : IsCanonical (meaning source.canonical) = subst (λ tables. IsCanonical (meaning tables)) c.canonical.ensures c.keep_promise-2.ensures in
-    ap (list_all has_sound_case) (ap counted_list c.deref.ensures ∙ is.elements)
+    ap (list_all has_sound_case) (ap (counted_list c.in_ok-read.read.variable_end) c.deref.ensures ∙ is.elements)
     ∙ cases_are_sound collation options numeric es sound (text_elements_sound collation.canonical collation.weights numeric text canonical.decomposing sound c.chars.ensures.scalars)
 
 pub returns : goal.returns
@@ -36,6 +36,6 @@ returns g c =
     let list = decomposed collation.canonical text in
     let es = elements_of_list collation.canonical collation.weights (is_numeric options.numeric) list in
     let is = c.in_ok-read.ensures text c.chars.ensures.spelled in
-    c.in_ok-write_whole_key.ensures es (ap counted_list c.deref.ensures ∙ is.elements)
+    c.in_ok-write_whole_key.ensures es (ap (counted_list c.in_ok-read.read.variable_end) c.deref.ensures ∙ is.elements)
     ∙ ap (λ l. l ++ key_bytes collation options (levels_of collation options es c.deref-2.result.now)) c.new-key.ensures.items
     ∙ same_characters collation options es c.deref-2.result.now list (λ h. c.deref-2.ensures ∙ is.characters h)

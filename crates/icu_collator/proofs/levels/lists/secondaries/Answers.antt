@@ -6,4 +6,4 @@ use Rattle.icu_collator.proofs.levels.lists.secondaries.Goals as goal
 
 pub returns-clause-bound : goal.returns-clause-bound
 returns-clause-bound c =
-    subst (λ (ws : List ℕ). All (λ rank. rank ≤ 2 ^ 16) ws) (sym c.in_ok-list.ensures) (secondaries_small (source_collation c.args.checked.now) c.args.elements.now)
+    subst (λ (ws : List ℕ). All (λ rank. rank ≤ 2 ^ 16) ws) (sym c.in_ok-list.ensures) (secondaries_small (source_collation c.args.checked.now) c.args.variable_end c.args.elements.now)

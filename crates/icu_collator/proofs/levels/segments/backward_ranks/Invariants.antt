@@ -5,4 +5,4 @@ use Rattle.icu_collator.proofs.levels.segments.backward_ranks.Given as goal
 
 abbrev pub invariant-loop-element : goal.invariant-loop-element
 invariant-loop-element l =
-    l.list.items ++ ranks_from (reverse l.segment.items) (counted_list (drop l.element-index l.elements)) ≡ ranks_from [] (counted_list l.elements)
+    l.list.items ++ ranks_from (reverse l.segment.items) (counted_list l.variable_end (drop l.element-index l.elements)) ≡ ranks_from [] (counted_list l.variable_end l.elements)
