@@ -9,4 +9,5 @@ pub mod tables
 pub mod lists
 pub mod SinkLemmas
 pub mod MakingLemmas
+pub mod CollatorLawLemmas
 pub mod key_writing

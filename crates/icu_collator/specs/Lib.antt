@@ -16,6 +16,7 @@ pub mod Sinks
 pub mod Loading
 pub mod CollatorErrors
 pub mod Collators
+pub mod CollatorAnswers
 pub mod KeyCodes
 pub mod LevelLists
 pub mod TextsRead

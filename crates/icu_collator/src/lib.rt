@@ -9,6 +9,7 @@ mod front;
 mod key_bytes;
 pub mod laws;
 pub mod laws_boundaries;
+pub mod laws_collators;
 pub mod laws_keys;
 pub mod laws_levels;
 pub mod laws_same;

@@ -3,6 +3,7 @@
 ghost use Rattle.std.specs.Prelude.{◌≡◌};
 
 mod comparing;
+mod promise;
 mod writing;
 
 use icu_collator_core::checked::CheckedTables;

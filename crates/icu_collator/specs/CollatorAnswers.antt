@@ -1,0 +1,63 @@
+-- What a borrowed collator answers of texts, as the laws of collators speak of it.
+use Rattle.std.specs.Prelude.{◌≡◌, ℕ, true, List}
+use Rattle.std.specs.declared.cmp.Ordering.{Ordering}
+use Rattle.icu_normalizer_core.specs.Canonical.{Canonical}
+use Rattle.icu_normalizer_core.specs.Decoding.{latin1_chars, utf16_chars, utf8_chars}
+use Rattle.icu_collator_types.specs.Options.{is_numeric}
+use Rattle.icu_collator_core.specs.TableSettings.{is_compressible_in}
+use Rattle.icu_collator.specs.Collators.{borrowed_collation, borrowed_options, borrowed_source}
+use Rattle.icu_collator.specs.KeyBytes.{key_of_text}
+use Rattle.icu_collator.specs.NumbersInTexts.{AreDigitsApart, IsNumberBetween, no_number_is_variable, run_value}
+use Rattle.icu_collator.specs.Order.{collation_order}
+use Rattle.icu_collator.specs.Settings.{has_plain_leads}
+use Rattle.icu_collator.specs.WholeLeads.{MovesOnlyWholeLeads}
+use Rattle.icu_collator.specs.declared.collator.borrowed.CollatorBorrowed.{CollatorBorrowed}
+
+-- the order of two texts by a collator, and the key of one, where texts are given as characters
+abbrev pub order_by : CollatorBorrowed → List ℕ → List ℕ → Ordering
+order_by collator = collation_order (borrowed_collation collator) (borrowed_options collator)
+
+abbrev pub key_by : CollatorBorrowed → List ℕ → List ℕ
+key_by collator = key_of_text (borrowed_collation collator) (borrowed_options collator)
+
+-- the canonical data of a collator
+abbrev pub canonical_by : CollatorBorrowed → Canonical
+canonical_by collator = (borrowed_collation collator).canonical
+
+-- a collator whose keys order as texts do: its tables reorder whole leads alone, each for one as compressible as itself, the
+-- implicit lead is compressible, and with numeric ordering the lead of numbers isn't
+pub record HasKeysInOrder (collator : CollatorBorrowed) : Type 0 where
+  pub leads : MovesOnlyWholeLeads (borrowed_source collator).tables
+  pub implicit : is_compressible_in (borrowed_source collator).tables.special_primaries.last_primaries 0xfe ≡ true
+  pub plain : has_plain_leads (borrowed_collation collator) (borrowed_options collator) ≡ true
+
+-- a collator that reads digits as numbers, wherever they stand
+pub record ReadsNumbers (collator : CollatorBorrowed) : Type 0 where
+  pub numeric : is_numeric (borrowed_options collator).numeric ≡ true
+  pub apart : AreDigitsApart (borrowed_collation collator)
+
+-- the same where no number is variable
+pub record OrdersNumbers (collator : CollatorBorrowed) : Type 0 where
+  pub reads : ReadsNumbers collator
+  pub none_is_variable : no_number_is_variable (borrowed_collation collator) (borrowed_options collator) ≡ true
+
+-- texts that differ in a run of digits alone, between the same texts
+pub record DifferInNumber (collator : CollatorBorrowed) (x r s y : List ℕ) : Type 0 where
+  pub first : IsNumberBetween (borrowed_collation collator) x r y
+  pub second : IsNumberBetween (borrowed_collation collator) x s y
+
+-- the value of a run of digits
+abbrev pub value_by : CollatorBorrowed → List ℕ → ℕ
+value_by collator run = run_value (borrowed_collation collator).weights run
+
+-- a text in an encoding, by its bytes or units
+pub data EncodedText : Type 0 where
+  in_utf8 : List ℕ → EncodedText
+  in_utf16 : List ℕ → EncodedText
+  in_latin1 : List ℕ → EncodedText
+
+-- the characters that it decodes to
+abbrev pub characters_of : EncodedText → List ℕ
+characters_of (in_utf8 bytes) = utf8_chars bytes
+characters_of (in_utf16 units) = utf16_chars units
+characters_of (in_latin1 bytes) = latin1_chars bytes
