@@ -5,4 +5,4 @@ mod levels;
 mod orders;
 mod texts;
 
-pub(crate) use texts::compare_texts;
+pub(crate) use texts::{common_place, compare_texts};

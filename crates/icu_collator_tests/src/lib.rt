@@ -7,4 +7,6 @@ pub mod held;
 #[cfg(test)]
 mod made;
 #[cfg(test)]
+mod places;
+#[cfg(test)]
 mod sinks;

@@ -1,8 +1,9 @@
 -- From where two texts are read.
-use Rattle.std.proofs.Common.{◌≡◌, ℕ, ◌≤◌, ◌&&◌, ◌==◌, false, List, [], ◌∷◌, length, drop, Option, refl, sym, ap, subst, ◌∙◌, inl, inr, ⊎_elim, arith, length-append}
+use Rattle.std.proofs.Common.{◌≡◌, ℕ, ◌≤◌, ◌&&◌, ◌==◌, false, List, [], ◌∷◌, length, drop, take, Option, refl, sym, ap, subst, ◌∙◌, inl, inr, ⊎_elim, arith, length-append}
 use Rattle.std.specs.Prelude.{All}
 use Rattle.std.specs.Char.{IsScalar}
 use Rattle.std.specs.declared.cmp.Ordering.{Ordering}
+use Rattle.std.proofs.lemmas.List.{drop_at, take-append-le}
 use Rattle.icu_normalizer_core.specs.Canonical.{IsDecomposing}
 use Rattle.icu_collator_types.specs.declared.options.ResolvedCollatorOptions.{ResolvedCollatorOptions}
 use Rattle.icu_collator_types.specs.Options.{is_numeric, is_shifted}
@@ -14,7 +15,7 @@ use Rattle.icu_collator.specs.Collators.{source_collation}
 use Rattle.icu_collator.specs.Fronts.{IsPlaceToBegin, PartAt, ThreeStandAt}
 use Rattle.icu_collator.specs.NumbersInTexts.{is_digit}
 use Rattle.icu_collator.specs.Order.{collation_order}
-use Rattle.icu_collator.specs.ReadingPlaces.{IsOpenPassage, IsReadingPlace}
+use Rattle.icu_collator.specs.ReadingPlaces.{IsCommonPlace, IsOpenPassage, IsReadingPlace, MaySkip, StandsSafely}
 use Rattle.icu_collator.proofs.boundaries.DifferenceOrderLemmas.{front_skipped_to}
 use Rattle.icu_collator.proofs.boundaries.SafeCharacterLemmas.{safe_boundary}
 use Rattle.icu_collator.proofs.boundaries.TableBoundaryLemmas.{starter_apart}
@@ -23,14 +24,18 @@ use Rattle.icu_collator.proofs.boundaries.TableBoundaryLemmas.{starter_apart}
 pub open_passage : (source : CollationSource) (c : ℕ) → IsDecomposing (source_collation source).canonical
     → IsSafe (source_collation source).canonical (source_collation source).weights c
     → (source_collation source).canonical.full c ≡ c ∷ [] → (c == 0x303) ≡ false → IsOpenPassage (source_collation source) c
-open_passage source c decomposing safe own tilde options unshifted unnumbered =
-    let collation = source_collation source
-    in let boundary = safe_boundary collation.canonical collation.weights c c [] safe own
-    in let number : (is_numeric options.numeric && is_digit collation.weights c) ≡ false = ap (λ b. b && is_digit collation.weights c) unnumbered
-    in record {
-      boundary = record { boundary = boundary; own = own };
-      apart = starter_apart collation.canonical collation.weights (is_numeric options.numeric) c decomposing boundary.starter tilde number;
-      counts = inl unshifted;
+open_passage source c decomposing safe own tilde =
+    let collation = source_collation source in
+    let boundary = safe_boundary collation.canonical collation.weights c c [] safe own in
+    let number : (options : ResolvedCollatorOptions) → is_numeric options.numeric ≡ false → (is_numeric options.numeric && is_digit collation.weights c) ≡ false =
+    λ options unnumbered. ap (λ b. b && is_digit collation.weights c) unnumbered in
+    record {
+      safe = safe;
+      passes = λ options unshifted unnumbered. record {
+        boundary = record { boundary = boundary; own = own };
+        apart = starter_apart collation.canonical collation.weights (is_numeric options.numeric) c decomposing boundary.starter tilde (number options unnumbered);
+        counts = inl unshifted;
+      };
     }
 
 -- three that pass one test, and so another
@@ -51,20 +56,33 @@ three_as P Q text common place weaker three =
     }
 
 pub beginning : (collation : Collation) (options : ResolvedCollatorOptions) (text : List ℕ) (common : ℕ) → IsReadingPlace collation options text common 0
-beginning collation options text common = record { within = omega arith; same = λ other left right h g part. refl }
+beginning collation options text common =
+    record { within = omega arith; may_skip = inl refl; safe = inl refl; same = λ other left right h g part. refl }
+
+-- at a place where three stand that pass, reading may begin
+three_safe : (collation : Collation) (text : List ℕ) (common place : ℕ) → ThreeStandAt (IsOpenPassage collation) text common place → StandsSafely collation text place
+three_safe collation text common place three =
+    let rest = three.second ∷ three.third ∷ three.behind in
+    record {
+      first = three.first;
+      rest = rest;
+      rest_is = ap (drop place) three.text_is ∙ drop_at three.before (three.first ∷ rest) place three.place_is;
+      safe = three.first_passes.safe;
+    }
 
 pub found_place : (collation : Collation) (options : ResolvedCollatorOptions) (text : List ℕ) (common place : ℕ) → IsDecomposing collation.canonical
-    → collation.backward ≡ false → is_shifted options.alternate_handling ≡ false → is_numeric options.numeric ≡ false
-    → IsPlaceToBegin (IsOpenPassage collation) text common place → IsReadingPlace collation options text common place
-found_place collation options text common place decomposing forward unshifted unnumbered stands =
+    → MaySkip collation options → IsPlaceToBegin (IsOpenPassage collation) text common place → IsReadingPlace collation options text common place
+found_place collation options text common place decomposing may stands =
     ⊎_elim
     (λ (none : place ≡ 0). subst (λ (k : ℕ). IsReadingPlace collation options text common k) (sym none) (beginning collation options text common))
     (λ (three : ThreeStandAt (IsOpenPassage collation) text common place).
     let within = three.within in
-    let passes = three_as (IsOpenPassage collation) (IsPassage collation options) text common place (λ c p. p options unshifted unnumbered) three in
+    let passes = three_as (IsOpenPassage collation) (IsPassage collation options) text common place (λ c p. p.passes options may.unshifted may.unnumbered) three in
     record {
       within = omega (arith, within);
-      same = λ other left right h g part. front_skipped_to collation options decomposing text other common h g place left right forward part (inr passes);
+      may_skip = inr may;
+      safe = inr (three_safe collation text common place three);
+      same = λ other left right h g part. front_skipped_to collation options decomposing text other common h g place left right may.forward part (inr passes);
     })
     stands
 
@@ -84,3 +102,24 @@ pub read_from : (collation : Collation) (options : ResolvedCollatorOptions) (tex
     → IsReadingPlace collation options text common place → All IsScalar text → All IsScalar other → PartAt text other common left right
     → answer ≡ collation_order collation options (drop place text) (drop place other) → answer ≡ collation_order collation options text other
 read_from collation options text other common place left right answer stands h g part e = e ∙ sym (stands.same other left right h g part)
+
+-- what stands before a place within what two texts have in common is the same in both
+same_before : (a b : List ℕ) (common place : ℕ) (left right : Option ℕ) → PartAt a b common left right → place ≤ common → take place a ≡ take place b
+same_before a b common place left right part within =
+    let count = part.count in
+    let reached : place ≤ length part.front = omega (arith, count, within) in
+    ap (λ (w : List ℕ). take place w) part.left_is ∙ take-append-le place part.front part.left_rest reached
+    ∙ sym (ap (λ (w : List ℕ). take place w) part.right_is ∙ take-append-le place part.front part.right_rest reached)
+
+-- a place of one text, as a place of both
+pub place_of_both : (collation : Collation) (options : ResolvedCollatorOptions) (a b : List ℕ) (common place : ℕ) (left right : Option ℕ)
+    → IsReadingPlace collation options a common place → All IsScalar a → All IsScalar b → PartAt a b common left right → IsCommonPlace collation options a b place
+place_of_both collation options a b common place left right stands h g part =
+    record {
+      left_reaches = within_left a b common place left right part stands.within;
+      right_reaches = within_right a b common place left right part stands.within;
+      common = same_before a b common place left right part stands.within;
+      may_skip = stands.may_skip;
+      safe = stands.safe;
+      same = stands.same b left right h g part;
+    }

@@ -5,6 +5,7 @@ ghost use Rattle.std.specs.Char.{IsScalar};
 ghost use Rattle.icu_collator.specs.Collators.{source_collation};
 ghost use Rattle.icu_collator.specs.Fronts.{PartAt};
 ghost use Rattle.icu_collator.specs.Order.{collation_order};
+ghost use Rattle.icu_collator.specs.ReadingPlaces.{IsCommonPlace};
 
 use super::characters::compare_characters;
 use crate::front::{FirstDifference, behind, first_difference, order_by_difference, reading_place};
@@ -72,4 +73,18 @@ pub(crate) fn compare_texts<T: Characters, U: Characters>(
             Ok(order)
         }
     }
+}
+
+/// The place from which two texts are read where their first difference doesn't decide, in characters of each. No memory
+/// is taken.
+pub(crate) fn common_place<T: Characters, U: Characters>(
+    checked: &CheckedTables<'_>,
+    options: &ResolvedCollatorOptions,
+    left: T,
+    right: U,
+) -> usize
+    ensures { IsCommonPlace (source_collation checked.now) options.now (T.characters left) (U.characters right) result }
+{
+    let difference = first_difference(left.chars(), right.chars());
+    reading_place(checked, options, left, difference.common)
 }

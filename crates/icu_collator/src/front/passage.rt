@@ -83,10 +83,14 @@ fn is_unnumbered(ordering: CollationNumericOrdering) -> bool
 /// Whether a common front may be left out, as far as the tables and the options say.
 fn may_skip(checked: &CheckedTables<'_>, options: &ResolvedCollatorOptions) -> bool
     ensures forward { result ≡ true → (source_collation checked.now).backward ≡ false }
+    ensures undotted { result ≡ true → (source_collation checked.now).weights.dot_above ≡ false }
     ensures unshifted { result ≡ true → is_shifted options.now.alternate_handling ≡ false }
     ensures unnumbered { result ≡ true → is_numeric options.now.numeric ≡ false }
 {
     if checked.tables().metadata.backward_second_level() {
+        return false;
+    }
+    if checked.tables().metadata.lithuanian_dot_above() {
         return false;
     }
     if !is_unshifted(options.alternate_handling) {
@@ -122,7 +126,8 @@ fn place_near_or_far<T: Characters>(checked: &CheckedTables<'_>, text: T, common
 }
 
 /// The place from which texts have to be read that begin with the same `common` characters as this text: 0 where the
-/// secondaries are read backward, where elements are shifted, and where numbers are sought. No memory is taken.
+/// secondaries are read backward, where a dot above may be dropped, where elements are shifted, and where numbers are
+/// sought. No memory is taken.
 pub(crate) fn reading_place<T: Characters>(
     checked: &CheckedTables<'_>,
     options: &ResolvedCollatorOptions,

@@ -1,10 +1,10 @@
 //! The calls that compare two texts.
 
-ghost use Rattle.std.specs.Prelude.{◌≡◌, IfOk};
+ghost use Rattle.std.specs.Prelude.{◌≡◌, ◌≤◌, ◌⊎◌, IfOk, drop, length, take};
 ghost use Rattle.icu_normalizer_core.specs.Decoding.{latin1_chars, utf16_chars, utf8_chars};
 
 use super::CollatorBorrowed;
-use crate::compare::compare_texts;
+use crate::compare::{common_place, compare_texts};
 use crate::texts::{Latin1Text, Utf8Text, Utf16Text};
 use std::alloc::{AllocError, Global};
 use std::cmp::Ordering;
@@ -12,6 +12,7 @@ use std::cmp::Ordering;
 impl<'d> CollatorBorrowed<'d> {
     ghost use Rattle.icu_collator.specs.Collators.{borrowed_collation, borrowed_options};
     ghost use Rattle.icu_collator.specs.Order.{collation_order};
+    ghost use Rattle.icu_collator.specs.ReadingPlaces.{MaySkip, StandsSafely};
 
     /// The order of two texts. Fails only when out of memory.
     pub fn compare(&self, alloc: Global, left: &str, right: &str) -> Result<Ordering, AllocError>
@@ -81,5 +82,27 @@ impl<'d> CollatorBorrowed<'d> {
         let rights = Utf16Text { units: right };
         let answer = compare_texts(alloc, self.tables, &self.options, lefts, rights)?;
         Ok(answer)
+    }
+
+    /// The place from which `compare` reads two texts, where the first characters that differ don't decide alone: in
+    /// characters of each, not bytes. What stands before it is the same in both, and isn't read. It is 0, their
+    /// beginning, or the place of a character that isn't unsafe; always 0 where secondaries are read backward, a dot
+    /// above may be dropped, elements are shifted, or numbers are sought. No memory is taken.
+    pub fn reading_place(&self, left: &str, right: &str) -> usize
+        ensures left_reaches { result ≤ length (utf8_chars left.now) }
+        ensures right_reaches { result ≤ length (utf8_chars right.now) }
+        ensures common { take result (utf8_chars left.now) ≡ take result (utf8_chars right.now) }
+        ensures may_skip { (result ≡ 0) ⊎ MaySkip (borrowed_collation self.now) (borrowed_options self.now) }
+        ensures safe { (result ≡ 0) ⊎ StandsSafely (borrowed_collation self.now) (utf8_chars left.now) result }
+        ensures same { collation_order (borrowed_collation self.now) (borrowed_options self.now) (utf8_chars left.now) (utf8_chars right.now)
+            ≡ collation_order (borrowed_collation self.now) (borrowed_options self.now) (drop result (utf8_chars left.now)) (drop result (utf8_chars right.now)) }
+    {
+        let lefts = Utf8Text {
+            bytes: left.as_bytes(),
+        };
+        let rights = Utf8Text {
+            bytes: right.as_bytes(),
+        };
+        common_place(self.tables, &self.options, lefts, rights)
     }
 }

@@ -12,7 +12,13 @@ returns g c =
     let decomposing : IsDecomposing (meaning c.args.checked.now.canonical) = subst (λ tables. IsDecomposing (meaning tables)) c.canonical.ensures c.keep_promise.ensures.decomposing in
     let may = c.if-not-may_skip.false in
     found_place collation c.args.options.now text c.args.common c.place_near_or_far.result decomposing
-    (c.may_skip.ensures.forward may) (c.may_skip.ensures.unshifted may) (c.may_skip.ensures.unnumbered may) c.place_near_or_far.ensures
+    (record {
+      forward = c.may_skip.ensures.forward may;
+      undotted = c.may_skip.ensures.undotted may;
+      unshifted = c.may_skip.ensures.unshifted may;
+      unnumbered = c.may_skip.ensures.unnumbered may;
+    })
+    c.place_near_or_far.ensures
 
 pub returns-then-not-may_skip : goal.returns-then-not-may_skip
 returns-then-not-may_skip g c = beginning (source_collation c.args.checked.now) c.args.options.now (g.T.Characters.characters c.args.text) c.args.common
