@@ -6,7 +6,7 @@ use Rattle.std.specs.declared.cmp.Ordering.{Ordering}
 use Rattle.std.proofs.lemmas.List.{drop_at, take-append-le}
 use Rattle.icu_normalizer_core.specs.Canonical.{IsDecomposing}
 use Rattle.icu_collator_types.specs.declared.options.ResolvedCollatorOptions.{ResolvedCollatorOptions}
-use Rattle.icu_collator_types.specs.Options.{is_numeric, is_shifted}
+use Rattle.icu_collator_types.specs.Options.{is_numeric}
 use Rattle.icu_collator_core.specs.Acceptance.{CollationSource}
 use Rattle.icu_collator_core.specs.Collation.{Collation}
 use Rattle.icu_collator_core.specs.UnsafeCharacters.{IsSafe}
