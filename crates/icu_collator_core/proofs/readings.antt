@@ -3,6 +3,7 @@ pub mod AloneReadLemmas
 pub mod CaseLemmas
 pub mod CountLemmas
 pub mod DigitRunLemmas
+pub mod LowCharacterLemmas
 pub mod MovedMarkLemmas
 pub mod ReaderLemmas
 pub mod ReadingLeftLemmas

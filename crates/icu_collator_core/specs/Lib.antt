@@ -40,3 +40,4 @@ pub mod Upcoming
 pub mod ElementTexts
 pub mod UnsafeCharacters
 pub mod TiedWords
+pub mod LowCharacters

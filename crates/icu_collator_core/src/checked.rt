@@ -1,9 +1,10 @@
 //! Collation data: tables that were checked, with the canonical data that they are read with.
 
-ghost use Rattle.std.specs.Prelude.{◌≡◌, ◌↔◌, [], ◌∷◌, ℕ, List, IfSome, IsTrue, MatchOption, MatchResult};
+ghost use Rattle.std.specs.Prelude.{◌≡◌, ◌↔◌, [], ◌∷◌, ℕ, List, IfOk, IfSome, IsTrue, MatchOption, MatchResult};
 ghost use Rattle.icu_normalizer_core.specs.BorrowedMeaning.{borrowed_meaning, borrowed_tables};
 ghost use Rattle.icu_normalizer_core.specs.CanonicalMeaning.{meaning};
 ghost use Rattle.icu_collator_core.specs.Acceptance.{IsAccepted, IsRefusal};
+ghost use Rattle.icu_collator_core.specs.LowCharacters.{IsNoted, IsOwnBeginning, IsPlainCharacter};
 ghost use Rattle.icu_collator_core.specs.ReadSources.{IsAloneAnywhere};
 ghost use Rattle.icu_collator_core.specs.TableMeaning.{weights_of};
 ghost use Rattle.icu_collator_core.specs.TiedWords.{AreTied};
@@ -11,12 +12,13 @@ ghost use Rattle.icu_collator_core.specs.UnsafeCharacters.{IsUnsafe, IsUnsafeIts
 
 use crate::check::TableFault;
 use crate::check::faults::judge;
+use crate::low::{LowCharacter, low_characters};
 use crate::reading::next::alone_at;
 use crate::tables::CollationTables;
 use crate::tied::{holds, tied_characters};
 use icu_collator_types::elements::CollationElement;
-use icu_normalizer_core::canonical::{CanonicalBorrowed, CanonicalData};
-use std::alloc::Global;
+use icu_normalizer_core::canonical::{CanonicalBorrowed, CanonicalData, Reading};
+use std::alloc::{AllocError, Global};
 use std::marker::Model;
 
 /// Collation data: tables that pass every check, with their canonical data, seen as the tables of both.
@@ -26,11 +28,14 @@ pub struct CheckedTables<'a> {
     tables: CollationTables<'a>,
     /// The characters that are tied to what stands before them.
     tied: Vec<u32>,
+    /// What is noted of the low characters.
+    low: Vec<LowCharacter>,
 }
 
 impl<'a> Model for CheckedTables<'a> {
     ghost use Rattle.icu_normalizer_core.specs.CanonicalMeaning.{meaning};
     ghost use Rattle.icu_collator_core.specs.Acceptance.{CollationSource, IsAccepted};
+    ghost use Rattle.icu_collator_core.specs.LowCharacters.{AreNoted};
     ghost use Rattle.icu_collator_core.specs.TableMeaning.{weights_of};
     ghost use Rattle.icu_collator_core.specs.TiedWords.{AreTied};
 
@@ -38,7 +43,9 @@ impl<'a> Model for CheckedTables<'a> {
 
     ghost view = { λ inside. record { canonical = inside.canonical; tables = inside.tables } };
 
-    ghost invariant = { λ inside. IsAccepted (meaning inside.canonical) inside.tables × AreTied (weights_of (meaning inside.canonical) inside.tables) inside.tied.items };
+    ghost invariant = { λ inside. IsAccepted (meaning inside.canonical) inside.tables
+        × AreTied (weights_of (meaning inside.canonical) inside.tables) inside.tied.items
+        × AreNoted (record { canonical = inside.canonical; tables = inside.tables }) inside.low.items };
 }
 
 /// The characters that tables tie, where they pass every check; else what they are refused for.
@@ -64,6 +71,16 @@ fn first_of_full(canonical: CanonicalBorrowed<'_>, c: char) -> Option<char>
     list.next()
 }
 
+/// Whether one read tells that a character is its own full list.
+fn is_own_list(canonical: CanonicalBorrowed<'_>, c: char) -> bool
+    ensures { IsTrue result → (borrowed_meaning canonical.entry).full c ≡ c ∷ [] }
+{
+    match canonical.reading(c) {
+        Reading::Itself(_class) => true,
+        _ => false,
+    }
+}
+
 impl<'a> CheckedTables<'a> {
     /// Collation data from tables, if they pass every check with these canonical data; the first fault otherwise. Want
     /// of memory can come with any tables. Reads the words of all characters.
@@ -77,13 +94,25 @@ impl<'a> CheckedTables<'a> {
             (IsRefusal (meaning canonical.entry) tables.entry) }
     {
         match judge_tied(alloc, canonical.as_borrowed(), &tables) {
-            Ok(tied) => Ok(CheckedTables {
-                canonical,
-                tables,
-                tied,
-            }),
+            Ok(tied) => {
+                let checked = CheckedTables {
+                    canonical,
+                    tables,
+                    tied,
+                    low: Vec::new(alloc),
+                };
+                Ok(checked.with_low(alloc)?)
+            }
             Err(fault) => Err(fault),
         }
+    }
+
+    /// The same tables, with notes of the low characters.
+    fn with_low(mut self, alloc: Global) -> Result<CheckedTables<'a>, AllocError>
+        ensures { IfOk result (λ checked. checked ≡ self.entry) }
+    {
+        self.low = low_characters(alloc, &self)?;
+        Ok(self)
     }
 
     /// The canonical data that `try_new` was given. No memory is taken.
@@ -116,6 +145,50 @@ impl<'a> CheckedTables<'a> {
     {
         let element = alone_at(self, c)?;
         Some(element)
+    }
+
+    /// The element of a character that is read by itself, whatever stands before and behind it, that is its own full list
+    /// (UAX 15), and at which the reading of a text may begin; `None` for another, for some that are so, and for all from
+    /// U+0380 on. It takes one read and no memory.
+    #[inline]
+    pub fn plain_element(&self, c: char) -> Option<CollationElement>
+        ensures { IfSome result (λ bits. IsPlainCharacter self.now c bits) }
+    {
+        let element = self.low_character(c)?.plain()?;
+        Some(element)
+    }
+
+    /// Whether the reading of a text may begin at a character, and it is its own full list (UAX 15); `false` for another,
+    /// and for some that are so. Below U+0380 it takes one read; no memory is taken.
+    #[inline]
+    pub fn is_own_beginning(&self, c: char) -> bool
+        ensures { IsTrue result → IsOwnBeginning (meaning self.now.canonical) (weights_of (meaning self.now.canonical) self.now.tables) c }
+    {
+        match self.low_character(c) {
+            Some(note) => note.is_beginning(),
+            None => self.find_own_beginning(c),
+        }
+    }
+
+    /// What is noted of a character; `None` for one behind the low characters.
+    #[inline]
+    pub(crate) fn low_character(&self, c: char) -> Option<LowCharacter>
+        ensures { IfSome result (λ note. IsNoted self.now c note) }
+    {
+        match self.low.get(c as usize) {
+            Some(note) => Some(*note),
+            None => None,
+        }
+    }
+
+    /// Whether a character is its own full list, and reading may begin at it, by the tables alone.
+    pub(crate) fn find_own_beginning(&self, c: char) -> bool
+        ensures { IsTrue result → IsOwnBeginning (meaning self.now.canonical) (weights_of (meaning self.now.canonical) self.now.tables) c }
+    {
+        if !is_own_list(self.canonical(), c) {
+            return false;
+        }
+        !self.is_unsafe_itself(c)
     }
 
     /// Whether no reading of a text may begin at a character: it is a mark, stands second or later in a recorded text or

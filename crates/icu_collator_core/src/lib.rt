@@ -10,6 +10,7 @@ pub mod laws;
 pub mod laws_same;
 pub mod laws_tables;
 pub mod laws_texts;
+mod low;
 pub mod provider;
 mod reading;
 pub mod tables;

@@ -61,9 +61,8 @@ fn number_lead(entry: CountingWord<'_>, numeric: Option<u8>) -> Option<u8>
     }
 }
 
-/// The element of a character, if nothing that stands before or behind it changes it.
-#[inline]
-pub(crate) fn alone_at(checked: &CheckedTables<'_>, c: char) -> Option<CollationElement>
+/// The element of a character, if nothing that stands before or behind it changes it, by the tables alone.
+pub(crate) fn find_alone(checked: &CheckedTables<'_>, c: char) -> Option<CollationElement>
     ensures { IfSome result (λ bits. IsAloneAnywhere checked.now c bits) }
 {
     if c == '\u{307}' || special_primary(c as u32).is_some() {
@@ -71,6 +70,21 @@ pub(crate) fn alone_at(checked: &CheckedTables<'_>, c: char) -> Option<Collation
     }
     let element = checked_word(checked, c).alone_element(c)?;
     Some(element)
+}
+
+/// The element of a character, if nothing that stands before or behind it changes it: for a low character by what is noted
+/// of it.
+#[inline]
+pub(crate) fn alone_at(checked: &CheckedTables<'_>, c: char) -> Option<CollationElement>
+    ensures { IfSome result (λ bits. IsAloneAnywhere checked.now c bits) }
+{
+    match checked.low_character(c) {
+        Some(note) => {
+            let element = note.alone()?;
+            Some(element)
+        }
+        None => find_alone(checked, c),
+    }
 }
 
 /// Reads a character that is neither special nor a digit that counts. Fails only when out of memory.

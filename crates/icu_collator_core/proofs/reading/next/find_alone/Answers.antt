@@ -2,7 +2,7 @@ use Rattle.std.proofs.Common.{◌∙◌, sym}
 use Rattle.std.proofs.lemmas.Bool.{ne_eqb}
 use Rattle.icu_collator_core.specs.ReadSources.{weights_by}
 use Rattle.icu_collator_core.proofs.readings.AloneReadLemmas.{not_some}
-use Rattle.icu_collator_core.proofs.reading.next.alone_at.Goals as goal
+use Rattle.icu_collator_core.proofs.reading.next.find_alone.Goals as goal
 
 pub returns : goal.returns
 returns c =
