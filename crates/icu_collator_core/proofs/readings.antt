@@ -2,6 +2,7 @@ pub mod AlikeLemmas
 pub mod AloneReadLemmas
 pub mod CaseLemmas
 pub mod CountLemmas
+pub mod DecomposingLemmas
 pub mod DigitRunLemmas
 pub mod LowCharacterLemmas
 pub mod MovedMarkLemmas

@@ -1,4 +1,5 @@
 pub mod Weights
+pub mod Decomposing
 pub mod Defaults
 pub mod Numbers
 pub mod NumberBytes

@@ -1,6 +1,7 @@
 //! The reading of a text's elements: the word of a character, and what stands with it in the tables.
 
 pub(crate) mod alone;
+pub(crate) mod decomposing;
 pub(crate) mod digits;
 pub(crate) mod elements;
 pub(crate) mod joining;

@@ -1,8 +1,8 @@
 //! The elements of a whole text, as one list.
 
-ghost use Rattle.std.specs.Prelude.{◌≡◌, ◌++◌, ◌∷◌, ◌<◌, ◌≤◌, ℕ, List, [], true, IfOk, OnOk, is_some};
+ghost use Rattle.std.specs.Prelude.{◌≡◌, ◌<◌, ◌≤◌, ℕ, List, [], true, IfOk, OnOk, is_some};
 ghost use Rattle.std.specs.Iterator.{IsFinite};
-ghost use lib.Utf8.{scalar, scalars};
+ghost use lib.Utf8.{scalars};
 ghost use Rattle.smallvec.specs.SmallVec.{small_vec_len};
 ghost use Rattle.icu_normalizer_core.specs.BorrowedMeaning.{borrowed_meaning};
 ghost use Rattle.icu_normalizer_core.specs.Canonical.{decomposed};
@@ -13,22 +13,13 @@ ghost use Rattle.icu_collator_core.specs.ReadSources.{canonical_by, weights_by};
 ghost use Rattle.icu_collator_core.specs.ReadSteps.{IsRead};
 
 use crate::checked::CheckedTables;
+use crate::reading::decomposing::decompose_into;
 use crate::reading::next::read_next;
 use crate::reading::runs::push_alone;
 use icu_collator_types::elements::CollationElement;
 use icu_normalizer_core::canonical::CanonicalBorrowed;
-use icu_normalizer_core::decomposition::Decomposition;
 use smallvec::SmallVec;
 use std::alloc::{AllocError, Global};
-
-/// Appends a character. Fails only when out of memory.
-fn push_character(list: &mut SmallVec<char, 64>, c: char) -> Result<(), AllocError>
-    ensures items { OnOk result (list.new.items ≡ list.old.items ++ c ∷ []) }
-    ensures character { scalar c ≡ true }
-{
-    list.push(c)?;
-    Ok(())
-}
 
 /// The decomposed list of the characters that an iterator gives. Fails only when out of memory.
 pub fn decomposed_list<I: Iterator<Item = char> + Drop>(
@@ -42,9 +33,7 @@ pub fn decomposed_list<I: Iterator<Item = char> + Drop>(
     ensures characters { IfOk result (λ list. scalars list.items ≡ true) }
 {
     let mut list = SmallVec::new(alloc);
-    for item in Decomposition::new(alloc, canonical, chars) {
-        push_character(&mut list, item?)?;
-    }
+    decompose_into(canonical, chars, &mut list)?;
     Ok(list)
 }
 
