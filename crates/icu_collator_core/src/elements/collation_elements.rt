@@ -4,7 +4,6 @@ ghost use Rattle.std.specs.Prelude.{◌≡◌, ◌++◌, ◌∷◌, ℕ, List, [
 ghost use Rattle.std.specs.Iterator.{IsFinite};
 ghost use Rattle.icu_normalizer_core.specs.Iter.{IsFirstOf, Spells};
 
-use super::texts::decomposed_list;
 use super::upcoming::Upcoming;
 use crate::checked::CheckedTables;
 use crate::reading::reader::Reader;
@@ -84,21 +83,13 @@ impl<'t, 'a, I: Iterator<Item = char> + Drop> CollationElements<'t, 'a, I> {
         let Some(source) = self.source.take() else {
             return Ok(());
         };
-        let canonical = self.reader.checked().canonical();
-        match decomposed_list(source.allocator(), canonical, source) {
-            Ok(list) => {
-                self.reader.take(list);
-                Ok(())
-            }
-            Err(error) => {
-                self.reader.stop();
-                Err(error)
-            }
-        }
+        self.reader.begin(source)?;
+        Ok(())
     }
 
     /// The next element, after `init`; behind the last, and after want of memory, the element that ends a text,
     /// `CollationElement::default()`, for ever. Fails only when out of memory.
+    #[inline]
     pub fn next(&mut self) -> Result<CollationElement, AllocError>
         ensures first { IfOk result (λ bits. GivesElement (elements_to_come self.old) bits (elements_to_come self.new)) }
         ensures none { OnErr result (elements_to_come self.new ≡ []) }

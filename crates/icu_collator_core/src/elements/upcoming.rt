@@ -30,11 +30,6 @@ impl<I: Iterator<Item = char> + Drop> Upcoming<I> {
         }
     }
 
-    /// The allocator of what is put before.
-    pub(super) fn allocator(&self) -> Global {
-        *self.first.allocator()
-    }
-
     /// The next character of the iterator, whatever was put before. After `None` the iterator isn't asked again.
     pub(super) fn pull(&mut self) -> Option<char>
         requires ready { CanComeUp I.can_next I.remaining self.old }

@@ -1,12 +1,16 @@
 //! A text that is being read: its decomposed list, and the elements that are ready.
 
-ghost use Rattle.std.specs.Prelude.{◌≡◌, ◌-◌, ◌<◌, ◌≤◌, ◌∷◌, [], true, MatchOption, IfOk, OnOk, OnErr, is_some};
+ghost use Rattle.std.specs.Prelude.{◌≡◌, ◌-◌, ◌<◌, ◌≤◌, ◌∷◌, ℕ, List, [], true, MatchOption, IfOk, OnOk, OnErr, is_some};
+ghost use Rattle.std.specs.Iterator.{IsFinite};
 ghost use lib.Utf8.{scalars};
 ghost use Rattle.smallvec.specs.SmallVec.{small_vec_len};
+ghost use Rattle.icu_normalizer_core.specs.Canonical.{decomposed};
+ghost use Rattle.icu_normalizer_core.specs.Iter.{Spells};
 ghost use Rattle.icu_collator_core.specs.Elements.{elements_of_list};
 ghost use Rattle.icu_collator_core.specs.Pools.{element_of};
 ghost use Rattle.icu_collator_core.specs.ReadSources.{canonical_by, weights_by};
 
+use super::decomposing::decompose_into;
 use super::runs::read_run;
 use crate::checked::CheckedTables;
 use icu_collator_types::elements::CollationElement;
@@ -50,27 +54,28 @@ impl<'t, 'a> Reader<'t, 'a> {
         }
     }
 
-    /// The tables that the text is read by.
-    pub(crate) fn checked(&self) -> &'t CheckedTables<'a>
-        ensures { result.now ≡ source_of self.now }
-    {
-        self.checked
-    }
-
-    /// Takes the text of a decomposed list in place of what it had.
-    pub(crate) fn take(&mut self, list: SmallVec<char, 64>)
-        requires { scalars list.items ≡ true }
+    /// Takes the text that an iterator gives in place of what it had, and decomposes it. Fails only when out of memory, and
+    /// then nothing is left.
+    pub(crate) fn begin<I: Iterator<Item = char> + Drop>(
+        &mut self,
+        chars: I,
+    ) -> Result<(), AllocError>
+        requires can { I.can_next chars }
+        requires finite { IsFinite (I.remaining chars) }
         ensures same { ReadsOn self.old self.new }
-        ensures left { elements_left self.new ≡ elements_of_list (canonical_by (source_of self.old)) (weights_by (numeric_of self.old) (source_of self.old)) (is_some (numeric_of self.old)) list.items }
+        ensures left { OnOk result ((cs : List ℕ) → Spells I.next_gives chars cs
+            → elements_left self.new ≡ elements_of_list (canonical_by (source_of self.old)) (weights_by (numeric_of self.old) (source_of self.old)) (is_some (numeric_of self.old)) (decomposed (canonical_by (source_of self.old)) cs)) }
+        ensures none { OnErr result (elements_left self.new ≡ []) }
     {
         self.given = 0;
         self.ready.clear();
         self.place = 0;
-        self.list = list;
+        let canonical = self.checked.canonical();
+        decompose_into(canonical, chars, &mut self.list)
     }
 
     /// Drops what is left.
-    pub(crate) fn stop(&mut self)
+    fn stop(&mut self)
         ensures same { ReadsOn self.old self.new }
         ensures left { elements_left self.new ≡ [] }
     {
@@ -111,6 +116,22 @@ impl<'t, 'a> Reader<'t, 'a> {
         Ok(())
     }
 
+    /// The same; where memory lacks, nothing is left.
+    #[cold]
+    #[inline(never)]
+    fn refill(&mut self) -> Result<(), AllocError>
+        ensures same { ReadsOn self.old self.new }
+        ensures left { OnOk result (elements_left self.new ≡ elements_left self.old) }
+        ensures ready { OnOk result (self.new.given ≡ small_vec_len self.new.ready → self.new.place ≡ small_vec_len self.new.list) }
+        ensures none { OnErr result (elements_left self.new ≡ []) }
+    {
+        if let Err(error) = self.fill() {
+            self.stop();
+            return Err(error);
+        }
+        Ok(())
+    }
+
     /// Gives the first element that is ready; `None` where the text has ended.
     #[inline]
     fn give(&mut self) -> Option<CollationElement>
@@ -133,12 +154,8 @@ impl<'t, 'a> Reader<'t, 'a> {
         ensures left { IfOk result (λ next. MatchOption next ((elements_left self.old ≡ []) × (elements_left self.new ≡ [])) (λ bits. elements_left self.old ≡ element_of bits ∷ elements_left self.new)) }
         ensures none { OnErr result (elements_left self.new ≡ []) }
     {
-        if self.given < self.ready.len() {
-            return Ok(self.give());
-        }
-        if let Err(error) = self.fill() {
-            self.stop();
-            return Err(error);
+        if self.given == self.ready.len() {
+            self.refill()?;
         }
         Ok(self.give())
     }
