@@ -9,8 +9,7 @@ mod copies;
 mod element_calls;
 #[cfg(test)]
 mod element_rows;
-#[cfg(test)]
-mod inverted_bits;
+pub mod inverted_bits;
 #[cfg(test)]
 mod judged;
 pub mod lines;
