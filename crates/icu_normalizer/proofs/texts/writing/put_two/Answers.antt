@@ -1,7 +1,7 @@
 use Rattle.std.proofs.Common.{[], ◌∷◌, sym}
 use Rattle.icu_normalizer.specs.Sinks.{nothing, more}
 use Rattle.icu_normalizer.proofs.SinkLemmas.{joined_front, joined_back}
-use Rattle.icu_normalizer.proofs.decomposing.writer.straight.put_two.Goals as goal
+use Rattle.icu_normalizer.proofs.texts.writing.put_two.Goals as goal
 
 pub returns-in-Err-clause-err : goal.returns-in-Err-clause-err
 returns-in-Err-clause-err g c =
