@@ -142,11 +142,16 @@ fn broken(
     given: usize,
     canonical_words: &[(u32, u32)],
 ) -> Option<HeldCollation<'static>> {
-    let mut held = provider(alloc, TAILORED_AND_REORDERED, canonical_words)?;
-    held.tables.tailoring = Some(empty_tailoring(alloc)?);
-    held.tables.reordering = Some(reordering(alloc)?);
-    held.lacks = lacks_from(given);
-    Some(held)
+    let canonical = tables(alloc, canonical_words, &STEPS, &PAIRS)?;
+    let mut all: CollationTables<'static> = letters(alloc)?;
+    all.metadata.bits = TAILORED_AND_REORDERED;
+    all.tailoring = Some(empty_tailoring(alloc)?);
+    all.reordering = Some(reordering(alloc)?);
+    Some(HeldCollation {
+        canonical,
+        tables: all,
+        lacks: lacks_from(given),
+    })
 }
 
 /// Whether of all that is wrong this is named, where so many loads are given.

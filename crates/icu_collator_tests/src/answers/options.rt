@@ -11,8 +11,9 @@ use std::alloc::Global;
 /// What a locale's preferences ask of a collator, and what its caller does.
 #[derive(Clone, Copy)]
 pub struct Asked {
-    preferences: CollatorPreferences<'static>,
     options: CollatorOptions,
+    case_first: Option<CollationCaseFirst>,
+    numeric_ordering: Option<CollationNumericOrdering>,
 }
 
 impl Asked {
@@ -21,21 +22,22 @@ impl Asked {
         let mut options = CollatorOptions::default();
         options.strength = Some(strength);
         Asked {
-            preferences: CollatorPreferences::default(),
             options,
+            case_first: None,
+            numeric_ordering: None,
         }
     }
 
     /// The same with a level of case, upper case first.
     pub fn with_upper_case_first(mut self) -> Asked {
         self.options.case_level = Some(CaseLevel::On);
-        self.preferences.case_first = Some(CollationCaseFirst::Upper);
+        self.case_first = Some(CollationCaseFirst::Upper);
         self
     }
 
     /// The same with numbers by value.
     pub fn with_numbers(mut self) -> Asked {
-        self.preferences.numeric_ordering = Some(CollationNumericOrdering::True);
+        self.numeric_ordering = Some(CollationNumericOrdering::True);
         self
     }
 
@@ -51,6 +53,12 @@ impl Asked {
         alloc: Global,
         held: &'h HeldCollation<'static>,
     ) -> Option<Collator<'h>> {
-        Collator::try_new_unstable(alloc, held, self.preferences, self.options).ok()
+        let preferences = CollatorPreferences {
+            locale: "",
+            collation_type: None,
+            case_first: self.case_first,
+            numeric_ordering: self.numeric_ordering,
+        };
+        Collator::try_new_unstable(alloc, held, preferences, self.options).ok()
     }
 }
