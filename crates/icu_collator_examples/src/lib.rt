@@ -1,6 +1,7 @@
-//! The laws of `icu_collator` applied to texts over written tables.
+//! The laws of `icu_collator` applied to texts over written tables, and to what its calls answer a caller.
 #![tactic(auto)]
 
+pub mod calls;
 #[cfg(test)]
 mod keys;
 #[cfg(test)]

@@ -3,6 +3,8 @@
 //! `held` has a provider of a collation's tables that the tests of crates above may use too.
 #![tactic(auto)]
 
+#[cfg(test)]
+mod answers;
 pub mod held;
 #[cfg(test)]
 mod made;
