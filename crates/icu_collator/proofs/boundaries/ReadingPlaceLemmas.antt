@@ -9,6 +9,7 @@ use Rattle.icu_collator_types.specs.declared.options.ResolvedCollatorOptions.{Re
 use Rattle.icu_collator_types.specs.Options.{is_numeric}
 use Rattle.icu_collator_core.specs.Acceptance.{CollationSource}
 use Rattle.icu_collator_core.specs.Collation.{Collation}
+use Rattle.icu_collator_core.specs.LowCharacters.{IsOwnBeginning}
 use Rattle.icu_collator_core.specs.UnsafeCharacters.{IsSafe}
 use Rattle.icu_collator.specs.Boundaries.{IsPassage}
 use Rattle.icu_collator.specs.Collators.{source_collation}
@@ -17,7 +18,7 @@ use Rattle.icu_collator.specs.NumbersInTexts.{is_digit}
 use Rattle.icu_collator.specs.Order.{collation_order}
 use Rattle.icu_collator.specs.ReadingPlaces.{IsCommonPlace, IsOpenPassage, IsReadingPlace, MaySkip, StandsSafely}
 use Rattle.icu_collator.proofs.boundaries.DifferenceOrderLemmas.{front_skipped_to}
-use Rattle.icu_collator.proofs.boundaries.SafeCharacterLemmas.{safe_boundary}
+use Rattle.icu_collator.proofs.boundaries.SafeCharacterLemmas.{safe_beginning, safe_boundary}
 use Rattle.icu_collator.proofs.boundaries.TableBoundaryLemmas.{starter_apart}
 
 -- a character at which reading may begin, and that is its own full list
@@ -37,6 +38,14 @@ open_passage source c decomposing safe own tilde =
         counts = inl unshifted;
       };
     }
+
+-- the same, where the core says it
+pub open_beginning : (source : CollationSource) (c : ℕ) → IsDecomposing (source_collation source).canonical → IsScalar c
+    → IsOwnBeginning (source_collation source).canonical (source_collation source).weights c → (c == 0x303) ≡ false
+    → IsOpenPassage (source_collation source) c
+open_beginning source c decomposing scalar begins tilde =
+    let collation = source_collation source
+    in open_passage source c decomposing (safe_beginning collation.canonical collation.weights c decomposing scalar begins) begins.own tilde
 
 -- three that pass one test, and so another
 three_as : (P Q : ℕ → Type 0) (text : List ℕ) (common place : ℕ) → ((c : ℕ) → P c → Q c) → ThreeStandAt P text common place → ThreeStandAt Q text common place

@@ -1,10 +1,11 @@
 -- Characters at which reading may begin, as plain characters and as ones that two texts may be read from.
-use Rattle.std.proofs.Common.{◌≡◌, ℕ, ◌==◌, ◌↔◌, Bool, true, false, IsTrue, List, ◌∷◌, sym, subst, ◌∙◌}
+use Rattle.std.proofs.Common.{◌≡◌, ℕ, ◌==◌, ◌↔◌, Bool, true, false, IsTrue, List, [], ◌∷◌, sym, subst, ◌∙◌}
 use Rattle.std.specs.Prelude.{not}
 use Rattle.std.specs.Char.{IsScalar}
 use Rattle.std.proofs.lemmas.Bool.{false≢true}
 use Rattle.icu_normalizer_core.specs.Canonical.{Canonical, IsDecomposing}
 use Rattle.icu_collator_core.specs.Acceptance.{CollationSource}
+use Rattle.icu_collator_core.specs.LowCharacters.{IsOwnBeginning, IsPlainCharacter}
 use Rattle.icu_collator_core.specs.ReadSources.{IsAloneAnywhere}
 use Rattle.icu_collator_core.specs.UnsafeCharacters.{IsSafe, IsUnsafe}
 use Rattle.icu_collator_core.specs.Weights.{Weights}
@@ -22,6 +23,11 @@ pub safe_by : (canonical : Canonical) (weights : Weights) (c : ℕ) (told : Bool
     → (IsTrue told ↔ IsUnsafe canonical weights c) → not told ≡ true → IsSafe canonical weights c
 safe_by canonical weights c told decomposing scalar by safe =
     safe_character canonical weights c decomposing scalar (λ u. never_both told safe (by.1 u))
+
+-- a character that is its own beginning
+pub safe_beginning : (canonical : Canonical) (weights : Weights) (c : ℕ) → IsDecomposing canonical → IsScalar c
+    → IsOwnBeginning canonical weights c → IsSafe canonical weights c
+safe_beginning canonical weights c decomposing scalar begins = safe_character canonical weights c decomposing scalar begins.safe
 
 -- the first character of the full list of one at which reading may begin
 pub safe_boundary : (canonical : Canonical) (weights : Weights) (c first : ℕ) (others : List ℕ) → IsSafe canonical weights c
@@ -41,3 +47,11 @@ pub safe_plain : (source : CollationSource) (c bits first : ℕ) (others : List 
 safe_plain source c bits first others decomposing safe full tilde alone =
     let collation = source_collation source
     in alone_plain source c bits first others decomposing full (safe_boundary collation.canonical collation.weights c first others safe full) tilde alone
+
+-- a character of which the core says that it is plain
+pub noted_plain : (source : CollationSource) (c bits : ℕ) → IsDecomposing (source_collation source).canonical → IsScalar c
+    → (c == 0x303) ≡ false → IsPlainCharacter source c bits → IsPlain (source_collation source) c bits
+noted_plain source c bits decomposing scalar tilde plain =
+    let collation = source_collation source
+    in safe_plain source c bits c [] decomposing (safe_beginning collation.canonical collation.weights c decomposing scalar plain.beginning)
+    plain.beginning.own tilde plain.alone

@@ -3,6 +3,7 @@
 ghost use Rattle.std.specs.Prelude.{◌≡◌, [], ◌∷◌, ◌==◌, ℕ, false, true, IfSome, List, MatchOption};
 ghost use Rattle.icu_normalizer_core.specs.BorrowedMeaning.{borrowed_meaning};
 ghost use Rattle.icu_normalizer_core.specs.Canonical.{IsDecomposing};
+ghost use Rattle.icu_collator_core.specs.LowCharacters.{IsPlainCharacter};
 ghost use Rattle.icu_collator_core.specs.ReadSources.{IsAloneAnywhere};
 ghost use Rattle.icu_collator_core.specs.UnsafeCharacters.{IsSafe};
 ghost use Rattle.icu_collator.specs.Boundaries.{IsPlain};
@@ -15,7 +16,7 @@ use icu_collator_types::elements::CollationElement;
 use icu_normalizer_core::canonical::CanonicalBorrowed;
 
 /// Whether the reading of a text may begin at a character.
-pub(super) fn is_safe(checked: &CheckedTables<'_>, c: char) -> bool
+fn is_safe(checked: &CheckedTables<'_>, c: char) -> bool
     ensures safe { result ≡ true → IsSafe (source_collation checked.now).canonical (source_collation checked.now).weights c }
     ensures decomposing { IsDecomposing (source_collation checked.now).canonical }
 {
@@ -43,8 +44,21 @@ fn alone_element(checked: &CheckedTables<'_>, c: char) -> Option<CollationElemen
     Some(element)
 }
 
-/// The element of a plain character; `None` for one that isn't plain, and for some that are.
-fn plain_element(checked: &CheckedTables<'_>, c: char) -> Option<CollationElement>
+/// The element of a plain character other than U+0303 that is its own full list, where one read tells it.
+#[inline]
+fn noted_element(checked: &CheckedTables<'_>, c: char) -> Option<CollationElement>
+    ensures plain { IfSome result (λ bits. IsPlainCharacter checked.now c bits) }
+    ensures other { IfSome result (λ bits. (c == 0x303) ≡ false) }
+{
+    if c == '\u{303}' {
+        return None;
+    }
+    let element = checked.plain_element(c)?;
+    Some(element)
+}
+
+/// The element of a plain character, by its full list; `None` for one that isn't plain, and for some that are.
+fn find_plain_element(checked: &CheckedTables<'_>, c: char) -> Option<CollationElement>
     ensures { IfSome result (λ bits. IsPlain (source_collation checked.now) c bits) }
 {
     if !is_safe(checked, c) {
@@ -53,6 +67,18 @@ fn plain_element(checked: &CheckedTables<'_>, c: char) -> Option<CollationElemen
     let first = first_of_full(checked.canonical(), c)?;
     let element = alone_element(checked, first)?;
     Some(element)
+}
+
+/// The element of a plain character; `None` for one that isn't plain, and for some that are.
+#[inline]
+fn plain_element(checked: &CheckedTables<'_>, c: char) -> Option<CollationElement>
+    ensures { IfSome result (λ bits. IsPlain (source_collation checked.now) c bits) }
+{
+    checked.canonical().keep_promise();
+    match noted_element(checked, c) {
+        Some(element) => Some(element),
+        None => find_plain_element(checked, c),
+    }
 }
 
 /// What stands next in a text, by its next character: `None` at its end.

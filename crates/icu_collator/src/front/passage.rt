@@ -1,20 +1,17 @@
 //! The characters from which two texts may be read, and the place where reading begins.
 
-ghost use Rattle.std.specs.Prelude.{◌≡◌, ◌∷◌, [], false, true};
-ghost use Rattle.icu_normalizer_core.specs.BorrowedMeaning.{borrowed_meaning};
+ghost use Rattle.std.specs.Prelude.{◌≡◌, false, true};
 ghost use Rattle.icu_collator_types.specs.Options.{is_numeric, is_shifted};
 ghost use Rattle.icu_collator.specs.Collators.{source_collation};
 ghost use Rattle.icu_collator.specs.Fronts.{IsPlaceToBegin};
 ghost use Rattle.icu_collator.specs.ReadingPlaces.{IsOpenPassage, IsReadingPlace};
 
-use super::next::is_safe;
 use super::{PassageTest, place_to_begin};
 use crate::texts::Characters;
 use icu_collator_core::checked::CheckedTables;
 use icu_collator_types::options::{
     AlternateHandling, CollationNumericOrdering, ResolvedCollatorOptions,
 };
-use icu_normalizer_core::canonical::{CanonicalBorrowed, Reading};
 
 /// How many characters before a first difference are looked at first.
 const SEARCHED: usize = 16;
@@ -37,16 +34,6 @@ impl PassageTest for Passages<'_> {
     }
 }
 
-/// Whether one read tells that a character is its own full list.
-fn is_own_list(canonical: CanonicalBorrowed<'_>, c: char) -> bool
-    ensures { result ≡ true → (borrowed_meaning canonical.entry).full c ≡ c ∷ [] }
-{
-    match canonical.reading(c) {
-        Reading::Itself(_class) => true,
-        _ => false,
-    }
-}
-
 /// Whether a character is one from which texts may be read: reading may begin at it, and decomposing leaves it alone.
 fn is_passage(checked: &CheckedTables<'_>, c: char) -> bool
     ensures { result ≡ true → IsOpenPassage (source_collation checked.now) c }
@@ -54,10 +41,8 @@ fn is_passage(checked: &CheckedTables<'_>, c: char) -> bool
     if c == '\u{303}' {
         return false;
     }
-    if !is_own_list(checked.canonical(), c) {
-        return false;
-    }
-    is_safe(checked, c)
+    checked.canonical().keep_promise();
+    checked.is_own_beginning(c)
 }
 
 /// Whether nothing is shifted.

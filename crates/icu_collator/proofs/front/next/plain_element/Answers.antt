@@ -1,12 +1,13 @@
-use Rattle.std.proofs.Common.{◌≡◌, ◌∷◌, subst}
+use Rattle.std.proofs.Common.{rules, subst, [], ◌∷◌}
+use Rattle.std.specs.Char.{IsScalar}
+use Rattle.icu_normalizer_core.specs.Canonical.{IsDecomposing}
 use Rattle.icu_normalizer_core.specs.CanonicalMeaning.{meaning}
-use Rattle.icu_collator.proofs.boundaries.SafeCharacterLemmas.{safe_plain}
+use Rattle.icu_collator.proofs.boundaries.SafeCharacterLemmas.{noted_plain}
 use Rattle.icu_collator.proofs.front.next.plain_element.Goals as goal
 
-pub returns : goal.returns
-returns c =
-    let first = c.in_ok-first.first in
-    let others = c.in_ok-first.ensures.0 in
-    let full = subst (λ tables. (meaning tables).full c.args.c ≡ first ∷ others) c.canonical.ensures c.in_ok-first.ensures.1 in
-    safe_plain c.args.checked.now c.args.c c.in_ok-element.element first others c.is_safe.ensures.decomposing (c.is_safe.ensures.safe c.if-not-is_safe.false)
-    full c.in_ok-element.ensures.other c.in_ok-element.ensures.alone
+pub returns-in-Some : goal.returns-in-Some
+returns-in-Some c =
+    let source = c.args.checked.now in
+    let scalar : IsScalar c.args.c = search rules in
+    let decomposing : IsDecomposing (meaning source.canonical) = subst (λ tables. IsDecomposing (meaning tables)) c.canonical.ensures c.keep_promise.ensures.decomposing in
+    noted_plain source c.args.c c.in-Some.element decomposing scalar c.in-Some.ensures.other c.in-Some.ensures.plain
