@@ -5,9 +5,13 @@ The elements are read over the letters of the worked rows: 200,000 random names 
 characters each, eight letters with weights, other Latin letters, and marks in and behind letters. The tables that are
 checked name 150 characters: letters, marks, and contractions and prefixes of letters. Each is the best of so many rounds, by
 processor time; the program is built first where it has to be.
+
+Then how often a round of reading asks for memory, as valgrind counts: eleven rounds less one, over 2,000 names of 5 to 30
+characters, and, so that it is seen to count, over as many of 100.
 """
 import os
 import random
+import re
 import subprocess
 import sys
 import tempfile
@@ -20,6 +24,8 @@ LETTERS = [('0061', '2A10'), ('0062', '2A20'), ('0063', '2A30'), ('0065', '2A50'
 MARKS = [('0301', '8800', 230), ('0302', '8A00', 230), ('0323', '8C00', 220)]
 MAPPED = ['map 00E1 0061 0301', 'map 1EA1 0061 0323']
 ROUNDS = 20
+COUNTED_NAMES = 2000
+COUNTED_ROUNDS = 10
 
 
 def letters():
@@ -46,19 +52,32 @@ def many():
     return list(dict((line.split(' ;')[0], line) for line in lines).values())
 
 
-def names(count):
+def names(count, shortest=5, longest=30):
     """Random names, the same each time."""
     source = random.Random(1)
     plain = [chr(int(c, 16)) for c, _ in LETTERS] * 3 + list('dfgikmnprs')
     accented = ['\u00E1', '\u1EA1']
     marks = [chr(int(c, 16)) for c, _, _ in MARKS]
     everything = plain * 3 + accented * 4 + marks * 4
-    return [''.join(source.choices(everything, k=source.randint(5, 30))) for _ in range(count)]
+    return [''.join(source.choices(everything, k=source.randint(shortest, longest))) for _ in range(count)]
 
 
 def write(folder, name, lines):
     with open(os.path.join(folder, name), 'w') as file:
         file.write(''.join(f'{line}\n' for line in lines))
+
+
+def requests(folder, file, rounds):
+    """How often the program asks for memory while it reads elements."""
+    line = [os.path.join(folder, 'letters'), os.path.join(folder, file), 'elements', str(rounds)]
+    shown = subprocess.run(['valgrind', PROGRAM, *line], stdout=subprocess.DEVNULL, stderr=subprocess.PIPE, check=True).stderr.decode()
+    return int(re.search(r'total heap usage: ([\d,]+) allocs', shown).group(1).replace(',', ''))
+
+
+def show_requests(folder, file):
+    """Prints how often a round asks for memory."""
+    added = requests(folder, file, 1 + COUNTED_ROUNDS) - requests(folder, file, 1)
+    print(f'{file} allocations a round: {added / COUNTED_ROUNDS:g}')
 
 
 def main(words):
@@ -75,6 +94,10 @@ def main(words):
             line = [os.path.join(folder, records), os.path.join(folder, 'names'), task, str(ROUNDS)]
             shown = subprocess.run([PROGRAM, *line], stdout=subprocess.PIPE, check=True).stdout.decode()
             print(records, shown.strip())
+        write(folder, 'short_names', names(COUNTED_NAMES))
+        write(folder, 'long_names', names(COUNTED_NAMES, 100, 100))
+        for file in ('short_names', 'long_names'):
+            show_requests(folder, file)
     return 0
 
 
