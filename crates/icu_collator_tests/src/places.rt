@@ -2,7 +2,8 @@
 
 use crate::held::held_tables;
 use icu_codepointtrie::TrieType;
-use icu_collator::collator::Collator;
+use icu_collator::collator::{Collator, CollatorBorrowed};
+use icu_collator_core::checked::CheckedTables;
 use icu_collator_core_tests::packed::checked_tables;
 use icu_collator_types::options::{
     AlternateHandling, CollationNumericOrdering, CollatorOptions, CollatorPreferences,
@@ -40,32 +41,28 @@ w 0305 ; [0.8E00.0.0500.0]
 w 0306 ; [0.8F00.0.0500.0]
 w 0307 ; [0.9000.0.0500.0]";
 
-/// A letter behind two others has a weight of its own.
-const BEHIND_TWO: &str = "w 0061 0062 | 0063 ; [2A600000.0500.0.0500.0]";
-
-/// A letter behind three others has.
-const BEHIND_THREE: &str = "w 0061 0062 006C | 0063 ; [2A600000.0500.0.0500.0]";
-
-/// Two letters that have a weight together.
-const TOGETHER: &str = "w 0063 0068 ; [2A700000.0500.0.0500.0]";
+/// A letter behind two others, and behind three, has weights of its own, and two letters have a weight together.
+const CONTEXTS: &str = "w 0061 0062 | 0063 ; [2A600000.0500.0.0500.0]
+w 0061 0062 006C | 0063 ; [2A900000.0500.0.0500.0]
+w 0065 0068 ; [2A700000.0500.0.0500.0]";
 
 /// Twenty letters, with which the texts begin.
 const TWENTY: &str = "tttttttttttttttttttt";
 
-/// Records, and what stands in two texts behind twenty letters.
-type Row = (&'static str, &'static str, &'static str);
+/// What stands in two texts behind twenty letters.
+type Row = (&'static str, &'static str);
 
 /// Texts whose twenty letters may be left out in part, and nothing behind these: a letter behind two or three others, two
 /// letters together, each in both texts and in one; letters at which no reading begins; and marks.
 const ROWS: [Row; 8] = [
-    (BEHIND_TWO, "abcl", "abco"),
-    (BEHIND_TWO, "abc", "abe"),
-    (BEHIND_THREE, "ablcl", "ablco"),
-    (BEHIND_THREE, "ablc", "able"),
-    (TOGETHER, "chl", "cho"),
-    (TOGETHER, "ch", "ce"),
-    (TOGETHER, "hhhhl", "hhhho"),
-    ("", "\u{323}\u{301}l", "\u{323}\u{301}o"),
+    ("abcl", "abco"),
+    ("abc", "abe"),
+    ("ablcl", "ablco"),
+    ("ablc", "able"),
+    ("ehl", "eho"),
+    ("eh", "ec"),
+    ("hhhhl", "hhhho"),
+    ("\u{323}\u{301}l", "\u{323}\u{301}o"),
 ];
 
 /// What a collator is asked of.
@@ -153,8 +150,6 @@ fn leaves_out(place: Option<usize>) -> bool {
 fn ok_reading_place(rt: HostRuntime) {
     let asked = Asked::of("", "");
     assert!(rt; leaves_out(place_behind_letters(rt.alloc(), asked)));
-    assert!(rt; place(rt.alloc(), asked, "c", "e") == Some(0));
-    assert!(rt; place(rt.alloc(), asked, "", "") == Some(0));
 }
 
 #[test]
@@ -168,69 +163,83 @@ fn options_leave_out_nothing(rt: HostRuntime) {
 }
 
 #[test]
-fn settings_leave_out_nothing(rt: HostRuntime) {
-    let dotted = Asked::of(MARKS, "set dotabove on");
-    let undotted = Asked::of(MARKS, "set dotabove off");
+fn backward_secondaries_leave_out_nothing(rt: HostRuntime) {
     let backward = Asked::of("", "set backward on");
-    assert!(rt; place_behind_letters(rt.alloc(), dotted) == Some(0));
-    assert!(rt; leaves_out(place_behind_letters(rt.alloc(), undotted)));
     assert!(rt; place_behind_letters(rt.alloc(), backward) == Some(0));
 }
 
-/// Whether a character of a text is one at which reading may begin, by these records.
-fn is_safe_at(alloc: Global, asked: Asked, text: &str, place: usize) -> bool {
-    let Some(lines) = asked.lines(alloc) else {
-        return false;
-    };
-    let Some(Ok(tables)) = checked_tables(alloc, lines.as_str(), TrieType::Small) else {
-        return false;
-    };
+#[test]
+fn a_dot_above_leaves_out_nothing(rt: HostRuntime) {
+    let dotted = Asked::of(MARKS, "set dotabove on");
+    assert!(rt; place_behind_letters(rt.alloc(), dotted) == Some(0));
+}
+
+#[test]
+fn no_dot_above_leaves_out_letters(rt: HostRuntime) {
+    let undotted = Asked::of(MARKS, "set dotabove off");
+    assert!(rt; leaves_out(place_behind_letters(rt.alloc(), undotted)));
+}
+
+/// Whether reading may begin at a character of a text.
+fn is_safe_at(tables: &CheckedTables<'_>, text: &str, place: usize) -> bool {
     match text.chars().nth(place) {
         Some(c) => !tables.is_unsafe(c),
         None => false,
     }
 }
 
-/// Whether of twenty letters before these at least ten are left out, nothing behind them is, and reading begins at a
-/// character where it may.
-fn is_read_from_letters(alloc: Global, row: Row) -> bool {
-    let (records, left, right) = row;
-    let asked = Asked::of(records, "");
-    let Ok(lefts) = format!(in alloc; "{TWENTY}{left}") else {
-        return false;
-    };
-    let Ok(rights) = format!(in alloc; "{TWENTY}{right}") else {
-        return false;
-    };
-    match place(alloc, asked, lefts.as_str(), rights.as_str()) {
-        Some(place) => {
-            leaves_out(Some(place))
-                && is_safe_at(alloc, asked, lefts.as_str(), place)
-                && is_safe_at(alloc, asked, rights.as_str(), place)
-        }
-        None => false,
-    }
+/// Whether two texts of twenty letters and more are read from a character where reading may begin: at least ten letters
+/// are left out, and nothing behind the twenty is.
+fn are_read_from_letters(
+    collator: &CollatorBorrowed<'_>,
+    tables: &CheckedTables<'_>,
+    left: &str,
+    right: &str,
+) -> bool {
+    let place = collator.reading_place(left, right);
+    leaves_out(Some(place)) && is_safe_at(tables, left, place) && is_safe_at(tables, right, place)
 }
 
-/// The first row that isn't read from its twenty letters, or none.
-fn first_read_otherwise(alloc: Global) -> Option<usize> {
+/// The first row that isn't read from its twenty letters, or none; the number of rows where memory is refused.
+fn first_read_otherwise(
+    alloc: Global,
+    collator: &CollatorBorrowed<'_>,
+    tables: &CheckedTables<'_>,
+) -> Option<usize> {
     for (number, row) in ROWS.iter().enumerate() {
-        if !is_read_from_letters(alloc, *row) {
+        let (left, right) = *row;
+        let Ok(lefts) = format!(in alloc; "{TWENTY}{left}") else {
+            return Some(ROWS.len());
+        };
+        let Ok(rights) = format!(in alloc; "{TWENTY}{right}") else {
+            return Some(ROWS.len());
+        };
+        if !are_read_from_letters(collator, tables, lefts.as_str(), rights.as_str()) {
             return Some(number);
         }
     }
     None
 }
 
-#[test]
-fn places_stand_before_what_is_read_together(rt: HostRuntime) {
-    assert!(rt; first_read_otherwise(rt.alloc()) == None);
+/// Whether each row is read from its twenty letters, and texts in which reading may begin nowhere are read whole.
+fn are_read_as_they_may(alloc: Global) -> Option<bool> {
+    let asked = Asked::of(CONTEXTS, "");
+    let lines = asked.lines(alloc)?;
+    let tables = checked_tables(alloc, lines.as_str(), TrieType::Small)?.ok()?;
+    let held = held_tables(alloc, lines.as_str())?;
+    let collator = Collator::try_new_unstable(
+        alloc,
+        &held,
+        asked.preferences(),
+        asked.options(),
+    ).ok()?;
+    let collator = collator.as_borrowed();
+    let otherwise = first_read_otherwise(alloc, &collator, &tables);
+    let unsafe_place = collator.reading_place("hhhhhhhhhhhhhhhhhhhhl", "hhhhhhhhhhhhhhhhhhhho");
+    Some(otherwise == None && unsafe_place == 0)
 }
 
 #[test]
-fn texts_of_unsafe_characters_are_read_whole(rt: HostRuntime) {
-    let asked = Asked::of(TOGETHER, "");
-    let left = "hhhhhhhhhhhhhhhhhhhhl";
-    let right = "hhhhhhhhhhhhhhhhhhhho";
-    assert!(rt; place(rt.alloc(), asked, left, right) == Some(0));
+fn places_stand_before_what_is_read_together(rt: HostRuntime) {
+    assert!(rt; are_read_as_they_may(rt.alloc()) == Some(true));
 }
