@@ -15,7 +15,7 @@ use smallvec::SmallVec;
 use std::alloc::{AllocError, Global};
 
 /// Appends a character. Fails only when out of memory.
-#[inline]
+#[inline(always)]
 fn push_character(list: &mut SmallVec<char, 64>, c: char) -> Result<(), AllocError>
     ensures items { OnOk result (list.new.items ≡ list.old.items ++ c ∷ []) }
     ensures character { scalar c ≡ true }
@@ -39,7 +39,7 @@ fn sort_marks(
 }
 
 /// Puts the marks from a place on in their order. Fails only when out of memory.
-#[inline]
+#[inline(always)]
 fn close(
     canonical: CanonicalBorrowed<'_>,
     list: &mut SmallVec<char, 64>,
@@ -56,7 +56,7 @@ fn close(
 }
 
 /// Appends a character of this class, and answers up to where the list is in order then. Fails only when out of memory.
-#[inline]
+#[inline(always)]
 fn push_classed(
     canonical: CanonicalBorrowed<'_>,
     list: &mut SmallVec<char, 64>,
@@ -95,6 +95,7 @@ fn push_own(
 
 /// Appends two characters, each its own full list, and answers up to where the list is in order then. Fails only when out
 /// of memory.
+#[inline(never)]
 fn push_two(
     canonical: CanonicalBorrowed<'_>,
     list: &mut SmallVec<char, 64>,
@@ -111,6 +112,7 @@ fn push_two(
 }
 
 /// Appends the full list of a character, and answers up to where the list is in order then. Fails only when out of memory.
+#[inline(never)]
 fn push_full_list(
     canonical: CanonicalBorrowed<'_>,
     list: &mut SmallVec<char, 64>,
@@ -128,7 +130,7 @@ fn push_full_list(
 }
 
 /// The same, by one read where that tells enough.
-#[inline]
+#[inline(always)]
 #[tactic(auto, using(crate::proofs::readings::DecomposingLemmas::low_itself, crate::proofs::readings::DecomposingLemmas::low_starter))]
 fn push_decomposed(
     canonical: CanonicalBorrowed<'_>,
