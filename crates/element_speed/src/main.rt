@@ -6,17 +6,11 @@
 //! digits as numbers. In their texts a character is a number in hexadecimal. `elements` reads the texts as they are,
 //! in UTF-8, as many rounds as asked for, and prints how many characters it read in a second of processor time; `try_new`
 //! checks the tables so often and prints how many microseconds it takes.
-//!
-//! `bits` changes each bit of good tables of the provider's own, one after another, and prints how many of the changed tables
-//! were refused, fault by fault, and how many gave their texts the elements that they mean, for each list; `tailored_bits` does
-//! so with tables that have a tailoring and a reordering. They look at neither file, and take minutes.
 #![tactic(auto)]
 
-mod bits;
 mod show;
 mod speed;
 
-use bits::{print_bits, print_tailored_bits};
 use icu_codepointtrie::TrieType;
 use icu_collator_core::check::TableFault;
 use icu_collator_core::checked::CheckedTables;
@@ -87,18 +81,16 @@ fn run_judged(
 
 /// Does a task over a records file and a file of texts.
 fn run(rt: &HostRuntime, records: &str, texts: &str, task: &str, rounds: u32) -> Option<()> {
-    match task {
-        "try_new" => measure_check(rt, records, rounds),
-        "bits" => print_bits(rt),
-        "tailored_bits" => print_tailored_bits(rt),
-        _ => run_judged(
-            rt,
-            &checked_tables(rt.alloc(), records, TrieType::Small)?,
-            texts,
-            task,
-            rounds,
-        ),
+    if task == "try_new" {
+        return measure_check(rt, records, rounds);
     }
+    run_judged(
+        rt,
+        &checked_tables(rt.alloc(), records, TrieType::Small)?,
+        texts,
+        task,
+        rounds,
+    )
 }
 
 /// Does what the words say: records file, texts file, task, rounds.

@@ -1,38 +1,68 @@
-//! Good tables with a bit changed, each in turn: they are refused by name, or their texts have the elements that the changed
-//! tables mean.
+//! Good tables with a bit changed, each in turn: they are refused, or their texts have the elements that the changed tables
+//! mean.
 
-pub mod answers;
-pub mod good;
-#[cfg(test)]
-mod samples;
-
-use crate::lists::Part;
+use crate::lists::{Lists, Part, lists_of};
 use crate::plain::plain_elements;
 use crate::plain::recorded::Tables;
 use crate::read::read_elements;
-use answers::{Answer, Answers, refused, unbuilt};
-use good::{GoodTables, TEXTS};
 use icu_collator_core::check::TableFault;
 use icu_collator_core::checked::CheckedTables;
+use icu_normalizer_core::canonical::{CanonicalData, CanonicalDataBuilder};
 use std::alloc::Global;
 use std::ops::Range;
 
-/// A changed bit by which tables are neither refused by name nor read as they mean.
-#[derive(Clone, Copy, Debug, PartialEq, Eq)]
-pub struct Misjudged {
-    /// The list.
-    pub part: Part,
-    /// The place of the item in the list.
-    pub place: usize,
-    /// The bit of the item.
-    pub bit: u32,
+/// Records with each form of word: of one element in three ways, of more in two, digits, a range, contractions with and
+/// without marks, prefixes, and a jamo.
+const RECORDS: &str = "class 0300 230
+class 0301 230
+class 0302 220
+w 0300 ; [0.8600.0.0500.0]
+w 0301 ; [0.8800.0.0500.0]
+w 0302 ; [0.8A02.0.0500.0]
+w 0061 ; [2A100000.0500.0.0500.0]
+w 0061 0301 ; [2A180000.0500.0.0500.0]
+w 0061 0302 0301 ; [2A190000.8800.1.0900.0]
+w 0061 0302 ; [2A150000.0500.0.0500.0]
+w 0061 0062 ; [2A200000.0500.0.0500.0] [0.8800.0.0500.0]
+w 0062 ; [2B202000.0500.0.0500.0]
+w 0063 ; [2A300000.0500.0.0A03.2] [2A300000.0500.0.0500.0]
+w 0061 | 0063 ; [2A340000.0500.0.0500.0]
+w 0062 0061 | 0063 ;
+w 0031 ; [11110000.0500.0.0500.0]
+w 0032 ; [0.8600.0.0500.0] [11120000.0500.0.0500.0]
+w 1100 ; [2A350000.0500.0.0500.0]
+digit 0031 1
+digit 0032 2
+range 0070 0075 E0020200 3
+";
+
+/// Texts that read all of that.
+const TEXTS: [&str; 8] = [
+    "a\u{302}\u{301}b",
+    "abc\u{300}ac",
+    "bac\u{301}\u{302}",
+    "a\u{300}\u{301}\u{302}\u{302}\u{301}",
+    "1210z2",
+    "pqu\u{1100}\u{1101}\u{ac00}",
+    "\u{303}@A\u{370}\u{33f}",
+    "\u{fffd}\u{fffe}\u{ffff}\u{ffc0}\u{10000}\u{4e00}",
+];
+
+/// Canonical data with the classes of the records; `None` where memory is refused.
+fn canonical(alloc: Global) -> Option<CanonicalData<'static>> {
+    let mut builder = CanonicalDataBuilder::new(alloc);
+    builder.class('\u{300}', 230).ok()?;
+    builder.class('\u{301}', 230).ok()?;
+    builder.class('\u{302}', 220).ok()?;
+    builder.build_data(alloc).ok()
 }
 
-/// Whether a text has the elements that tables mean. With a lead the digits are read as numbers.
-fn is_read(alloc: Global, tables: &CheckedTables<'_>, text: &str, lead: Option<u8>) -> bool {
+/// Whether a text has the elements that tables mean.
+fn is_read(alloc: Global, tables: &CheckedTables<'_>, text: &str) -> bool {
     let Ok(characters) = text.chars().collect::<Vec<char>>(alloc) else {
         return false;
     };
+    let lead = Some(tables.tables().special_primaries.numeric_primary);
     let plain = Tables {
         canonical: tables.canonical(),
         tables: tables.tables(),
@@ -45,77 +75,138 @@ fn is_read(alloc: Global, tables: &CheckedTables<'_>, text: &str, lead: Option<u
     }
 }
 
-/// Whether each text has, its digits read as numbers and not.
+/// Whether each text has.
 fn are_read(alloc: Global, tables: &CheckedTables<'_>) -> bool {
-    let lead = Some(tables.tables().special_primaries.numeric_primary);
-    TEXTS.iter().all(|text| is_read(alloc, tables, text, lead)
-        && is_read(alloc, tables, text, None))
+    TEXTS.iter().all(|text| is_read(alloc, tables, text))
 }
 
-/// What became of tables that were checked; `None` where memory was refused, or a text has other elements.
-fn checked_answer(alloc: Global, checked: Result<CheckedTables<'_>, TableFault>) -> Option<Answer> {
-    match checked {
-        Ok(checked) => are_read(alloc, &checked).then_some(Answer::Read),
-        Err(fault) => refused(fault),
+/// Whether tables are refused, for a fault of theirs, or read.
+fn is_judged(alloc: Global, lists: &Lists) -> bool {
+    let Some(tables) = lists.tables(alloc) else {
+        return true;
+    };
+    let Some(canonical) = canonical(alloc) else {
+        return false;
+    };
+    match CheckedTables::try_new(alloc, canonical, tables) {
+        Ok(checked) => are_read(alloc, &checked),
+        Err(fault) => fault != TableFault::Memory,
     }
 }
 
-impl GoodTables {
-    /// What becomes of the tables as they are; `None` where memory is refused, or a text has other elements than they mean.
-    pub fn answer(&self, alloc: Global) -> Option<Answer> {
-        match self.lists.tables(alloc) {
-            Ok(tables) => {
-                let canonical = self.canonical(alloc)?;
-                checked_answer(alloc, CheckedTables::try_new(alloc, canonical, tables))
-            }
-            Err(error) => unbuilt(error),
+/// The number of bits of an item of a list.
+fn bits_of(part: Part) -> u32 {
+    match part {
+        Part::Ces => 64,
+        Part::Cells | Part::Ce32s | Part::Jamo | Part::Metadata => 32,
+        Part::NumericPrimary => 8,
+        _ => 16,
+    }
+}
+
+/// Whether this is so with each bit of an item changed.
+fn are_bits_judged(alloc: Global, lists: &mut Lists, part: Part, place: usize) -> bool {
+    for bit in 0..bits_of(part) {
+        lists.flip(part, place, bit);
+        let judged = is_judged(alloc, lists);
+        lists.flip(part, place, bit);
+        if !judged {
+            return false;
         }
     }
+    true
+}
 
-    /// What becomes of the tables with a bit changed.
-    fn changed_answer(&mut self, alloc: Global, bit: Misjudged) -> Option<Answer> {
-        self.lists.flip(bit.part, bit.place, bit.bit);
-        let answer = self.answer(alloc);
-        self.lists.flip(bit.part, bit.place, bit.bit);
-        answer
-    }
-
-    /// Counts what becomes of them with each bit of an item changed; the first that is misjudged, if one is.
-    fn judge_bits(
-        &mut self,
-        alloc: Global,
-        part: Part,
-        place: usize,
-        answers: &mut Answers,
-    ) -> Result<(), Misjudged> {
-        for bit in 0..part.width() {
-            let changed = Misjudged { part, place, bit };
-            match self.changed_answer(alloc, changed) {
-                Some(answer) => answers.count(answer),
-                None => return Err(changed),
-            }
+/// Whether this is so of all items between two places.
+fn are_places_judged(alloc: Global, lists: &mut Lists, part: Part, places: Range<usize>) -> bool {
+    for place in places {
+        if !are_bits_judged(alloc, lists, part, place) {
+            return false;
         }
-        Ok(())
     }
+    true
+}
 
-    /// How many of them become what, with each bit of the items between two places changed; the first that is misjudged, if
-    /// one is.
-    pub fn judge(
-        &mut self,
-        alloc: Global,
-        part: Part,
-        places: Range<usize>,
-    ) -> Result<Answers, Misjudged> {
-        let mut answers = Answers::default();
-        for place in places {
-            self.judge_bits(alloc, part, place, &mut answers)?;
+/// Whether this is so of some items of the good tables.
+fn is_part_judged(alloc: Global, part: Part, places: Range<usize>) -> bool {
+    match lists_of(alloc, RECORDS) {
+        Some(mut lists) => are_places_judged(alloc, &mut lists, part, places),
+        None => false,
+    }
+}
+
+/// Whether this is so of all items of a list of the good tables.
+fn is_whole_part_judged(alloc: Global, part: Part) -> bool {
+    match lists_of(alloc, RECORDS) {
+        Some(mut lists) => {
+            let count = lists.count(part);
+            are_places_judged(alloc, &mut lists, part, 0..count)
         }
-        Ok(answers)
+        None => false,
     }
+}
 
-    /// The same of all items of a list.
-    pub fn judge_all(&mut self, alloc: Global, part: Part) -> Result<Answers, Misjudged> {
-        let count = self.lists.count(part);
-        self.judge(alloc, part, 0..count)
-    }
+#[test]
+fn good_tables_are_read(rt: HostRuntime) {
+    let alloc = rt.alloc();
+    let read = match (lists_of(alloc, RECORDS), canonical(alloc)) {
+        (Some(lists), Some(canonical)) => match lists.tables(alloc) {
+            Some(tables) => CheckedTables::try_new(alloc, canonical, tables).is_ok_and(
+                |checked| are_read(alloc, &checked),
+            ),
+            None => false,
+        },
+        _ => false,
+    };
+    assert!(rt; read);
+}
+
+#[test]
+fn words_of_digits(rt: HostRuntime) {
+    assert!(rt; is_part_judged(rt.alloc(), Part::Cells, 64 + 0x30..64 + 0x34));
+}
+
+#[test]
+fn words_of_letters(rt: HostRuntime) {
+    assert!(rt; is_part_judged(rt.alloc(), Part::Cells, 128 + 0x20..128 + 0x37));
+}
+
+#[test]
+fn words_of_marks_and_special_characters(rt: HostRuntime) {
+    assert!(rt; is_part_judged(rt.alloc(), Part::Cells, 192..196));
+    assert!(rt; is_part_judged(rt.alloc(), Part::Cells, 316..322));
+}
+
+#[test]
+fn index(rt: HostRuntime) {
+    let alloc = rt.alloc();
+    assert!(rt; is_part_judged(alloc, Part::Index, 0..2));
+    assert!(rt; is_part_judged(alloc, Part::Index, 0xc..0xd));
+    assert!(rt; is_part_judged(alloc, Part::Index, 0x3ff..0x400));
+    assert!(rt; is_part_judged(alloc, Part::Index, 0x44..0x48));
+}
+
+#[test]
+fn listed_elements_and_words(rt: HostRuntime) {
+    assert!(rt; is_whole_part_judged(rt.alloc(), Part::Ces));
+    assert!(rt; is_whole_part_judged(rt.alloc(), Part::Ce32s));
+}
+
+#[test]
+fn contexts(rt: HostRuntime) {
+    assert!(rt; is_whole_part_judged(rt.alloc(), Part::Contexts));
+}
+
+#[test]
+fn secondaries_and_jamo(rt: HostRuntime) {
+    assert!(rt; is_whole_part_judged(rt.alloc(), Part::Secondaries));
+    assert!(rt; is_part_judged(rt.alloc(), Part::Jamo, 0..4));
+    assert!(rt; is_part_judged(rt.alloc(), Part::Jamo, 254..256));
+}
+
+#[test]
+fn leads_and_metadata(rt: HostRuntime) {
+    assert!(rt; is_whole_part_judged(rt.alloc(), Part::LastPrimaries));
+    assert!(rt; is_whole_part_judged(rt.alloc(), Part::NumericPrimary));
+    assert!(rt; is_whole_part_judged(rt.alloc(), Part::Metadata));
 }

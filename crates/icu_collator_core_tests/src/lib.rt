@@ -9,7 +9,8 @@ mod copies;
 mod element_calls;
 #[cfg(test)]
 mod element_rows;
-pub mod inverted_bits;
+#[cfg(test)]
+mod inverted_bits;
 #[cfg(test)]
 mod judged;
 pub mod lines;

@@ -1,34 +1,35 @@
-//! Collation tables as plain lists, which a test can change bit by bit.
-
-pub mod data;
-mod items;
-pub mod reordering;
+//! Collation tables as plain lists, which a test can change unit by unit. Their trie is laid out by hand: a block of 64 cells
+//! for each of four parts of the characters, and one for all others.
 
 use crate::packed::tables_of;
-use data::{DataLists, DataPart};
-use icu_codepointtrie::{CodePointTrieError, TrieType};
+use icu_codepointtrie::{CodePointTrie, CodePointTrieHeader, TrieType};
 use icu_collator_core::tables::{
-    CollationData, CollationDiacritics, CollationJamo, CollationMetadata, CollationReordering,
+    CollationData, CollationDiacritics, CollationJamo, CollationMetadata,
     CollationSpecialPrimaries, CollationTables,
 };
 use icu_packed_vector::PackedVec;
-use items::{flip_unit, flip_word, push_units, push_words};
-use reordering::{ReorderingLists, ReorderingPart};
-use std::alloc::{AllocError, Global};
+use std::alloc::Global;
+
+/// The length of the trie's index.
+const INDEX: usize = 0x400;
 
 /// The lists.
 #[derive(Drop)]
 pub struct Lists {
-    /// Those of the root.
-    pub root: DataLists,
-    /// Those of the tailoring.
-    pub tailoring: Option<DataLists>,
+    /// Where the cells of each 64 characters begin, up to U+FFFF.
+    pub index: Vec<u16>,
+    /// The words of characters.
+    pub cells: Vec<u32>,
+    /// Elements, and the primaries of ranges.
+    pub ces: Vec<u64>,
+    /// Words of expansions and of digits.
+    pub ce32s: Vec<u32>,
+    /// Contexts.
+    pub contexts: Vec<u16>,
     /// The secondaries of marks.
     pub secondaries: Vec<u16>,
     /// The words of jamo.
     pub jamo: Vec<u32>,
-    /// Those of the reordering.
-    pub reordering: Option<ReorderingLists>,
     /// The groups and the compressible leads.
     pub last_primaries: Vec<u16>,
     /// The lead of numbers.
@@ -37,19 +38,23 @@ pub struct Lists {
     pub bits: u32,
 }
 
-/// One of the lists, or of the numbers beside them.
+/// One of the lists, or of the two numbers beside them.
 #[derive(Clone, Copy, Debug, PartialEq, Eq)]
 pub enum Part {
-    /// A list of the root.
-    Root(DataPart),
-    /// A list of the tailoring.
-    Tailoring(DataPart),
+    /// The trie's index.
+    Index,
+    /// The words of characters.
+    Cells,
+    /// Elements.
+    Ces,
+    /// Words in a list.
+    Ce32s,
+    /// Contexts.
+    Contexts,
     /// The secondaries of marks.
     Secondaries,
     /// The words of jamo.
     Jamo,
-    /// A list of the reordering, or its number.
-    Reordering(ReorderingPart),
     /// The groups and the compressible leads.
     LastPrimaries,
     /// The lead of numbers.
@@ -58,238 +63,220 @@ pub enum Part {
     Metadata,
 }
 
-/// All lists and numbers.
-pub const PARTS: [Part; 18] = [
-    Part::Root(DataPart::Index),
-    Part::Root(DataPart::Cells),
-    Part::Root(DataPart::Ces),
-    Part::Root(DataPart::Ce32s),
-    Part::Root(DataPart::Contexts),
-    Part::Tailoring(DataPart::Index),
-    Part::Tailoring(DataPart::Cells),
-    Part::Tailoring(DataPart::Ces),
-    Part::Tailoring(DataPart::Ce32s),
-    Part::Tailoring(DataPart::Contexts),
-    Part::Secondaries,
-    Part::Jamo,
-    Part::Reordering(ReorderingPart::Leads),
-    Part::Reordering(ReorderingPart::Ranges),
-    Part::Reordering(ReorderingPart::Bound),
-    Part::LastPrimaries,
-    Part::NumericPrimary,
-    Part::Metadata,
-];
-
-/// Why lists make no tables.
-#[derive(Clone, Copy, Debug, PartialEq, Eq)]
-pub enum Unbuilt {
-    /// An index and cells are no trie's.
-    Trie(CodePointTrieError),
-    /// Out of memory.
-    Memory,
-}
-
-impl From<AllocError> for Unbuilt {
-    fn from(_: AllocError) -> Unbuilt {
-        Unbuilt::Memory
+/// Changes a bit of a unit of a list.
+fn flip_unit(list: &mut [u16], place: usize, bit: u32) {
+    if let Some(unit) = list.get_mut(place) {
+        *unit ^= 1 << (bit % 16);
     }
 }
 
-/// The lists of data.
-fn data_lists(alloc: Global, data: &CollationData<'_>) -> Option<DataLists> {
-    let mut lists = DataLists::new(alloc);
-    match lists.fill(data) {
-        Some(()) => Some(lists),
-        None => None,
+/// Changes a bit of a word of a list.
+fn flip_word(list: &mut [u32], place: usize, bit: u32) {
+    if let Some(word) = list.get_mut(place) {
+        *word ^= 1 << (bit % 32);
     }
 }
 
-/// The lists of a reordering.
-fn reordering_lists(
-    alloc: Global,
-    reordering: &CollationReordering<'_>,
-) -> Option<ReorderingLists> {
-    let mut lists = ReorderingLists::new(alloc);
-    match lists.fill(reordering) {
-        Some(()) => Some(lists),
-        None => None,
+/// Changes a bit of an element of a list.
+fn flip_element(list: &mut [u64], place: usize, bit: u32) {
+    if let Some(element) = list.get_mut(place) {
+        *element ^= 1 << (bit % 64);
     }
 }
 
-/// The lists of tables, of which there are none beside those of data and of the reordering.
-fn layered_lists(alloc: Global, tables: &CollationTables<'_>) -> Option<Lists> {
-    let tailoring = match &tables.tailoring {
-        Some(tailoring) => Some(data_lists(alloc, tailoring)?),
-        None => None,
-    };
-    let reordering = match &tables.reordering {
-        Some(reordering) => Some(reordering_lists(alloc, reordering)?),
-        None => None,
-    };
-    Some(Lists {
-        root: data_lists(alloc, &tables.root)?,
-        tailoring,
+/// Appends the items of a packed vector of words.
+fn push_words(list: &mut Vec<u32>, items: &PackedVec<'_, u32>) -> Option<()> {
+    for item in items.iter() {
+        list.push(item).ok()?;
+    }
+    Some(())
+}
+
+/// The same of units.
+fn push_units(list: &mut Vec<u16>, items: &PackedVec<'_, u16>) -> Option<()> {
+    for item in items.iter() {
+        list.push(item).ok()?;
+    }
+    Some(())
+}
+
+/// The same of elements.
+fn push_elements(list: &mut Vec<u64>, items: &PackedVec<'_, u64>) -> Option<()> {
+    for item in items.iter() {
+        list.push(item).ok()?;
+    }
+    Some(())
+}
+
+/// Appends the words of 64 characters.
+fn push_block(cells: &mut Vec<u32>, trie: &CodePointTrie<'_, u32>, block: u32) -> Option<()> {
+    for i in 0..64u32 {
+        cells.push(trie.get32((block & 0x3ff) * 64 + i)).ok()?;
+    }
+    Some(())
+}
+
+/// Appends the cells: a common block, those of the four parts, and two more, for characters past U+FFFF and for numbers
+/// that are none.
+fn push_cells(cells: &mut Vec<u32>, trie: &CodePointTrie<'_, u32>) -> Option<()> {
+    push_block(cells, trie, 2)?;
+    push_block(cells, trie, 0)?;
+    push_block(cells, trie, 1)?;
+    push_block(cells, trie, 0xc)?;
+    push_block(cells, trie, 0x3ff)?;
+    cells.push(trie.get32(0x1_0000)).ok()?;
+    cells.push(trie.get32(0x1_0000)).ok()?;
+    Some(())
+}
+
+/// Where in the cells the block at a place of the index begins.
+fn start_of(place: usize) -> u16 {
+    match place {
+        0 => 64,
+        1 => 128,
+        0xc => 192,
+        0x3ff => 256,
+        _ => 0,
+    }
+}
+
+/// Appends the index of those cells.
+fn push_index(index: &mut Vec<u16>) -> Option<()> {
+    for place in 0..INDEX {
+        index.push(start_of(place)).ok()?;
+    }
+    Some(())
+}
+
+/// Lists without items.
+fn empty_lists(alloc: Global) -> Lists {
+    Lists {
+        index: Vec::new(alloc),
+        cells: Vec::new(alloc),
+        ces: Vec::new(alloc),
+        ce32s: Vec::new(alloc),
+        contexts: Vec::new(alloc),
         secondaries: Vec::new(alloc),
         jamo: Vec::new(alloc),
-        reordering,
         last_primaries: Vec::new(alloc),
-        numeric_primary: tables.special_primaries.numeric_primary,
-        bits: tables.metadata.bits,
-    })
+        numeric_primary: 0,
+        bits: 0,
+    }
 }
 
-/// Appends the items of the other lists of tables.
-fn fill_others(lists: &mut Lists, tables: &CollationTables<'_>) -> Option<()> {
+/// Appends the items of tables to the lists.
+fn fill(lists: &mut Lists, tables: &CollationTables<'_>) -> Option<()> {
+    let root = &tables.root;
+    push_index(&mut lists.index)?;
+    push_cells(&mut lists.cells, &root.trie)?;
+    push_elements(&mut lists.ces, &root.ces)?;
+    push_words(&mut lists.ce32s, &root.ce32s)?;
+    push_units(&mut lists.contexts, &root.contexts)?;
     push_units(&mut lists.secondaries, &tables.diacritics.secondaries)?;
     push_words(&mut lists.jamo, &tables.jamo.ce32s)?;
     push_units(
         &mut lists.last_primaries,
         &tables.special_primaries.last_primaries,
-    )
+    )?;
+    lists.numeric_primary = tables.special_primaries.numeric_primary;
+    lists.bits = tables.metadata.bits;
+    Some(())
 }
 
 /// The lists of tables.
 fn lists_in(alloc: Global, tables: &CollationTables<'_>) -> Option<Lists> {
-    let mut lists = layered_lists(alloc, tables)?;
-    match fill_others(&mut lists, tables) {
+    let mut lists = empty_lists(alloc);
+    match fill(&mut lists, tables) {
         Some(()) => Some(lists),
         None => None,
     }
 }
 
-/// The lists of the lines of a records file, which says nothing of characters outside the parts that tries are laid out for.
+/// The lists of the lines of a records file, which says nothing of characters in other parts, and has no tailoring and no
+/// reordering.
 pub fn lists_of(alloc: Global, lines: &str) -> Option<Lists> {
     let (_, tables) = tables_of(alloc, lines, TrieType::Fast)?;
     lists_in(alloc, &tables)
 }
 
-impl Part {
-    /// The number of bits of an item.
-    pub fn width(self) -> u32 {
-        match self {
-            Part::Root(part) => part.width(),
-            Part::Tailoring(part) => part.width(),
-            Part::Reordering(part) => part.width(),
-            Part::Secondaries | Part::LastPrimaries => 16,
-            Part::Jamo | Part::Metadata => 32,
-            Part::NumericPrimary => 8,
-        }
-    }
-}
-
 impl Lists {
-    /// The number of items of a list of the tailoring.
-    fn tailoring_count(&self, part: DataPart) -> usize {
-        match &self.tailoring {
-            Some(tailoring) => tailoring.count(part),
-            None => 0,
-        }
-    }
-
-    /// The number of items of a list of the reordering.
-    fn reordering_count(&self, part: ReorderingPart) -> usize {
-        match &self.reordering {
-            Some(reordering) => reordering.count(part),
-            None => 0,
-        }
-    }
-
-    /// The number of items of a list; of those of what isn't there 0.
+    /// The number of items of a list.
     pub fn count(&self, part: Part) -> usize {
         match part {
-            Part::Root(part) => self.root.count(part),
-            Part::Tailoring(part) => self.tailoring_count(part),
+            Part::Index => self.index.len(),
+            Part::Cells => self.cells.len(),
+            Part::Ces => self.ces.len(),
+            Part::Ce32s => self.ce32s.len(),
+            Part::Contexts => self.contexts.len(),
             Part::Secondaries => self.secondaries.len(),
             Part::Jamo => self.jamo.len(),
-            Part::Reordering(part) => self.reordering_count(part),
             Part::LastPrimaries => self.last_primaries.len(),
             Part::NumericPrimary | Part::Metadata => 1,
-        }
-    }
-
-    /// Changes a bit of an item of the tailoring.
-    fn flip_tailoring(&mut self, part: DataPart, place: usize, bit: u32) {
-        if let Some(tailoring) = &mut self.tailoring {
-            tailoring.flip(part, place, bit);
-        }
-    }
-
-    /// Changes a bit of an item of the reordering.
-    fn flip_reordering(&mut self, part: ReorderingPart, place: usize, bit: u32) {
-        if let Some(reordering) = &mut self.reordering {
-            reordering.flip(part, place, bit);
         }
     }
 
     /// Changes a bit of an item.
     pub fn flip(&mut self, part: Part, place: usize, bit: u32) {
         match part {
-            Part::Root(part) => self.root.flip(part, place, bit),
-            Part::Tailoring(part) => self.flip_tailoring(part, place, bit),
+            Part::Index => flip_unit(self.index.as_mut_slice(), place, bit),
+            Part::Cells => flip_word(self.cells.as_mut_slice(), place, bit),
+            Part::Ces => flip_element(self.ces.as_mut_slice(), place, bit),
+            Part::Ce32s => flip_word(self.ce32s.as_mut_slice(), place, bit),
+            Part::Contexts => flip_unit(self.contexts.as_mut_slice(), place, bit),
             Part::Secondaries => flip_unit(self.secondaries.as_mut_slice(), place, bit),
             Part::Jamo => flip_word(self.jamo.as_mut_slice(), place, bit),
-            Part::Reordering(part) => self.flip_reordering(part, place, bit),
             Part::LastPrimaries => flip_unit(self.last_primaries.as_mut_slice(), place, bit),
             Part::NumericPrimary => self.numeric_primary ^= 1 << (bit % 8),
             Part::Metadata => self.bits ^= 1 << (bit % 32),
         }
     }
 
-    /// Cuts leads of the reordering: gives it these parts, and the primary from which on others stay.
-    pub fn cut(&mut self, ranges: &[u32], bound: u32) -> Option<()> {
-        match &mut self.reordering {
-            Some(reordering) => {
-                reordering.bound = bound;
-                reordering.ranges.extend_from_slice(ranges).ok()
-            }
-            None => None,
-        }
+    /// The trie of the index and the cells; `None` where it is refused.
+    fn trie(&self, alloc: Global) -> Option<CodePointTrie<'static, u32>> {
+        let header = CodePointTrieHeader {
+            high_start: 0x1_0000,
+            shifted12_high_start: 0x10,
+            index3_null_offset: 0xffff,
+            data_null_offset: 0xf_ffff,
+            null_value: 0,
+            trie_type: TrieType::Fast,
+        };
+        let index = PackedVec::from_slice(alloc, self.index.as_slice()).ok()?;
+        let cells = PackedVec::from_slice(alloc, self.cells.as_slice()).ok()?;
+        CodePointTrie::try_new(header, index, cells).ok()
     }
 
-    /// The data of the tailoring, if there is one.
-    fn tailoring(&self, alloc: Global) -> Result<Option<CollationData<'static>>, Unbuilt> {
-        match &self.tailoring {
-            Some(tailoring) => Ok(Some(tailoring.data(alloc)?)),
-            None => Ok(None),
-        }
-    }
-
-    /// The reordering, if there is one.
-    fn reordering(&self, alloc: Global) -> Result<Option<CollationReordering<'static>>, Unbuilt> {
-        match &self.reordering {
-            Some(reordering) => Ok(Some(reordering.reordering(alloc)?)),
-            None => Ok(None),
-        }
-    }
-
-    /// The groups, the compressible leads and the lead of numbers.
-    fn special_primaries(
+    /// The data of a trie and the lists.
+    fn data(
         &self,
         alloc: Global,
-    ) -> Result<CollationSpecialPrimaries<'static>, AllocError> {
-        let last_primaries = PackedVec::from_slice(alloc, self.last_primaries.as_slice())?;
-        Ok(CollationSpecialPrimaries {
-            last_primaries,
-            numeric_primary: self.numeric_primary,
+        trie: CodePointTrie<'static, u32>,
+    ) -> Option<CollationData<'static>> {
+        Some(CollationData {
+            trie,
+            ces: PackedVec::from_slice(alloc, self.ces.as_slice()).ok()?,
+            ce32s: PackedVec::from_slice(alloc, self.ce32s.as_slice()).ok()?,
+            contexts: PackedVec::from_slice(alloc, self.contexts.as_slice()).ok()?,
         })
     }
 
-    /// The tables of the lists.
-    pub fn tables(&self, alloc: Global) -> Result<CollationTables<'static>, Unbuilt> {
-        let root = self.root.data(alloc)?;
-        let tailoring = self.tailoring(alloc)?;
-        let reordering = self.reordering(alloc)?;
-        let secondaries = PackedVec::from_slice(alloc, self.secondaries.as_slice())?;
-        let ce32s = PackedVec::from_slice(alloc, self.jamo.as_slice())?;
-        let special_primaries = self.special_primaries(alloc)?;
-        Ok(CollationTables {
+    /// The tables of the lists; `None` where the trie is refused.
+    pub fn tables(&self, alloc: Global) -> Option<CollationTables<'static>> {
+        let root = self.data(alloc, self.trie(alloc)?)?;
+        let secondaries = PackedVec::from_slice(alloc, self.secondaries.as_slice()).ok()?;
+        let ce32s = PackedVec::from_slice(alloc, self.jamo.as_slice()).ok()?;
+        let last_primaries = PackedVec::from_slice(alloc, self.last_primaries.as_slice()).ok()?;
+        Some(CollationTables {
             root,
-            tailoring,
+            tailoring: None,
             diacritics: CollationDiacritics { secondaries },
             jamo: CollationJamo { ce32s },
-            reordering,
+            reordering: None,
             metadata: CollationMetadata { bits: self.bits },
-            special_primaries,
+            special_primaries: CollationSpecialPrimaries {
+                last_primaries,
+                numeric_primary: self.numeric_primary,
+            },
         })
     }
 }
