@@ -3,8 +3,6 @@
 //! `held` has a provider of a collation's tables that the tests of crates above may use too.
 #![tactic(auto)]
 
-#[cfg(test)]
-mod answers;
 pub mod held;
 #[cfg(test)]
 mod made;
