@@ -7,6 +7,4 @@ pub mod held;
 #[cfg(test)]
 mod made;
 #[cfg(test)]
-mod places;
-#[cfg(test)]
 mod sinks;
