@@ -181,10 +181,6 @@ utf8_three bytes rest behind after lead next last c e f k a b d g h i is =
 one_long : (c : ℕ) → c < 2 ^ 16 → encode_utf16 c ≡ c ∷ []
 one_long c small = grind (arith, nat_tests)
 
--- two characters of a unit each
-pub two_units : (first second : ℕ) → first < 0x1_0000 → second < 0x1_0000 → encode_utf16_all (first ∷ second ∷ []) ≡ first ∷ second ∷ []
-two_units first second one two = ap₂ (λ x y. x ++ (y ++ [])) (one_long first one) (one_long second two)
-
 pub utf16_one : (units rest : List ℕ) (u c : ℕ) → units ≡ u ∷ rest → u < 2 ^ 16 → c ≡ u → IsScalar u → BeginsWith encode_utf16_all (utf16_text units) c (utf16_text rest)
 utf16_one units rest u c e small same scalar = record {
   scalar = subst IsScalar (sym same) scalar;

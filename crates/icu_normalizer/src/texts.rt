@@ -10,7 +10,7 @@ ghost use Rattle.icu_normalizer.specs.TextCuts.{IsBehind};
 ghost use Rattle.icu_normalizer.specs.Texts.{Text as Spelled, IsEncoding, AreCharacters, BeginsWith, BeginsDamaged, IsAtEnd};
 
 pub(crate) use bytes::{known as known_text, valid as valid_text};
-pub(crate) use writing::{HoldIn, WriteTo, WriteTwoTo};
+pub(crate) use writing::{HoldIn, WriteTo};
 
 /// A text in some encoding, which is read from the front. What is damaged reads as U+FFFD.
 pub(crate) trait Text: Copy {

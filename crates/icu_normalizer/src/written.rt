@@ -9,7 +9,7 @@ ghost use Rattle.icu_normalizer.specs.Texts.{IsUndamaged};
 mod held;
 
 use crate::sinks::{NormError, TextSink};
-use crate::texts::{Text, WriteTwoTo, valid_text};
+use crate::texts::{Text, WriteTo, valid_text};
 pub(crate) use held::{normal_bytes, normal_text, normal_units};
 use std::alloc::{AllocError, Global};
 
@@ -32,7 +32,7 @@ pub(crate) trait WriteForm {
 
     /// Writes a text in the form, character by character or part by part. What is damaged is written as U+FFFD. After an
     /// error the sink holds what it held, and a prefix of the text in the form.
-    fn write_rest<T: WriteTwoTo<S>, S>(
+    fn write_rest<T: WriteTo<S>, S>(
         &self,
         alloc: Global,
         text: T,
@@ -62,7 +62,7 @@ pub(crate) fn write_bytes<F: WriteForm, S: TextSink>(
 }
 
 /// The same of a text in any encoding.
-pub(crate) fn write_form<F: WriteForm, T: WriteTwoTo<S>, S>(
+pub(crate) fn write_form<F: WriteForm, T: WriteTo<S>, S>(
     normalizer: &F,
     alloc: Global,
     text: T,
@@ -79,7 +79,7 @@ pub(crate) fn write_form<F: WriteForm, T: WriteTwoTo<S>, S>(
 }
 
 /// Writes the first of two texts as it stands, which is undamaged, and then the second in a normaliser's form.
-fn write_parts<F: WriteForm, T: WriteTwoTo<S>, S>(
+fn write_parts<F: WriteForm, T: WriteTo<S>, S>(
     normalizer: &F,
     alloc: Global,
     parts: (T, T),

@@ -10,7 +10,7 @@ ghost use Rattle.icu_normalizer.specs.Texts.{BeginsWith};
 
 use super::clusters::next_of_cluster;
 use crate::sinks::NormError;
-use crate::texts::{Text, WriteTo, WriteTwoTo};
+use crate::texts::{Text, WriteTo};
 use icu_normalizer_core::canonical::Reading;
 use icu_normalizer_core::decomposition::FormData;
 
@@ -167,7 +167,7 @@ fn composed_pair(basis: FormData<'_>, letter: char, mark: char) -> LoneMark
 
 /// Writes what composing makes of such a cluster.
 #[inline]
-pub(super) fn write_lone<T: WriteTwoTo<S>, S>(
+pub(super) fn write_lone<T: WriteTo<S>, S>(
     lone: LoneMark,
     sink: &mut S,
 ) -> Result<(), NormError<T::Error>>
@@ -177,8 +177,25 @@ pub(super) fn write_lone<T: WriteTwoTo<S>, S>(
 {
     match lone {
         LoneMark::Joined(c) => write_char::<T, S>(c, sink),
-        LoneMark::Apart(letter, mark) => T::write_two(sink, letter, mark),
-        LoneMark::Changed(first, second) => T::write_two(sink, first, second),
+        LoneMark::Apart(letter, mark) => write_both::<T, S>(letter, mark, sink),
+        LoneMark::Changed(first, second) => write_both::<T, S>(first, second, sink),
+    }
+}
+
+/// Writes two characters.
+#[inline]
+fn write_both<T: WriteTo<S>, S>(
+    first: char,
+    second: char,
+    sink: &mut S,
+) -> Result<(), NormError<T::Error>>
+    ensures ok { OnOk result (T.contents sink.new ≡ T.contents sink.old ++ T.encode (first ∷ second ∷ [])) }
+    ensures err { OnErr result (AddsPrefix (T.contents sink.old) (T.encode (first ∷ second ∷ [])) (T.contents sink.new)) }
+    ensures failure { EndsByFailure T.takes T.fails sink.old result sink.new }
+{
+    match write_char::<T, S>(first, sink) {
+        Ok(()) => write_char::<T, S>(second, sink),
+        Err(error) => Err(error),
     }
 }
 

@@ -21,7 +21,7 @@ use super::cluster_form::ClusterForm;
 use super::cuts::{split, split_low};
 use super::lone_mark::{lone_mark, write_lone};
 use crate::sinks::{NormError, TextSink};
-use crate::texts::{Text, WriteTwoTo};
+use crate::texts::{Text, WriteTo};
 use crate::written::{WriteForm, write_form};
 use icu_normalizer_core::decomposition::FormData;
 use std::alloc::{AllocError, Global};
@@ -86,7 +86,7 @@ impl<'d> ComposingNormalizerBorrowed<'d> {
 
     /// Writes the NFC of the first cluster of a text, and gives what stands behind it.
     #[inline]
-    fn write_first<T: WriteTwoTo<S>, S>(
+    fn write_first<T: WriteTo<S>, S>(
         &self,
         alloc: Global,
         text: T,
@@ -108,7 +108,7 @@ impl<'d> ComposingNormalizerBorrowed<'d> {
     }
 
     /// The same of any cluster, character by character.
-    fn write_cluster<T: WriteTwoTo<S>, S>(
+    fn write_cluster<T: WriteTo<S>, S>(
         &self,
         alloc: Global,
         text: T,
@@ -156,7 +156,7 @@ impl<'d> WriteForm for ComposingNormalizerBorrowed<'d> {
 
     /// Writes a text in NFC, part by part: what stays as it stands is written as it stands. What is damaged is written as
     /// U+FFFD.
-    fn write_rest<T: WriteTwoTo<S>, S>(
+    fn write_rest<T: WriteTo<S>, S>(
         &self,
         alloc: Global,
         text: T,

@@ -19,7 +19,7 @@ use super::Decomposition;
 use super::cuts::split;
 use super::writer::Writer;
 use crate::sinks::{NormError, TextSink};
-use crate::texts::{Text, WriteTwoTo};
+use crate::texts::{Text, WriteTo};
 use crate::written::{WriteForm, write_form};
 use icu_normalizer_core::canonical::CanonicalBorrowed;
 use icu_normalizer_core::decomposition::FormData;
@@ -110,7 +110,7 @@ impl<'d> WriteForm for DecomposingNormalizerBorrowed<'d> {
 
     /// Writes a text in NFD, character by character. What is damaged is written as U+FFFD. The marks of a letter are
     /// written with it where the next character is known to begin with a starter.
-    fn write_rest<T: WriteTwoTo<S>, S>(
+    fn write_rest<T: WriteTo<S>, S>(
         &self,
         alloc: Global,
         text: T,

@@ -12,7 +12,7 @@ ghost use Rattle.icu_normalizer.specs.Sinks.{AddsPrefix, EndsByFailure};
 mod straight;
 
 use crate::sinks::NormError;
-use crate::texts::{WriteTo, WriteTwoTo};
+use crate::texts::WriteTo;
 use icu_normalizer_core::canonical::Reading;
 use icu_normalizer_core::decomposition::{FormData, sort_marks};
 use smallvec::SmallVec;
@@ -87,7 +87,7 @@ impl<'d> Writer<'d> {
 
     /// Writes the full list of `c`. Behind `c` nothing stands, or a character whose full list begins with a starter.
     #[inline(always)]
-    pub(super) fn write_apart<T: WriteTwoTo<S>, S>(
+    pub(super) fn write_apart<T: WriteTo<S>, S>(
         &mut self,
         c: char,
         sink: &mut S,

@@ -1,11 +1,11 @@
 //! Texts on their way to sinks, in their own encoding.
 
 ghost use Rattle.std.specs.Prelude.{◌≡◌, ℕ, List, [], ◌∷◌, ◌++◌, IfOk, OnOk, OnErr, IfErr, encode_utf8_all, string_bytes};
-ghost use Rattle.icu_normalizer.specs.Sinks.{AddsPrefix, EndsByFailure};
+ghost use Rattle.icu_normalizer.specs.Sinks.{AddsPrefix};
 ghost use Rattle.icu_normalizer.specs.Texts.{IsUndamaged, encode_utf16_all};
 
 use super::{Text, known_text};
-use crate::sinks::{NormError, TextSink, UnitSink};
+use crate::sinks::{TextSink, UnitSink};
 use std::alloc::{AllocError, Global};
 
 /// A text that can be written to a sink `S`, which holds characters in the encoding of the text.
@@ -37,17 +37,8 @@ pub(crate) trait WriteTo<S>: Text {
         ensures failed { IfErr result (λ error. fails sink.old error sink.new) };
 }
 
-/// A text of which two characters can be written at once.
-pub(crate) trait WriteTwoTo<S>: WriteTo<S> {
-    /// Writes two characters. After an error the sink holds what it held, and a prefix of their units.
-    fn write_two(sink: &mut S, first: char, second: char) -> Result<(), NormError<Self::Error>>
-        ensures ok { OnOk result (Self.contents sink.new ≡ Self.contents sink.old ++ Self.encode (first ∷ second ∷ [])) }
-        ensures err { OnErr result (AddsPrefix (Self.contents sink.old) (Self.encode (first ∷ second ∷ [])) (Self.contents sink.new)) }
-        ensures failure { EndsByFailure Self.takes Self.fails sink.old result sink.new };
-}
-
 /// A text whose form can be held in an `S`.
-pub(crate) trait HoldIn<S>: WriteTwoTo<S> {
+pub(crate) trait HoldIn<S>: WriteTo<S> {
     /// One that holds nothing, with room for so many units.
     fn empty(alloc: Global, room: usize) -> Result<S, AllocError>
         ensures { IfOk result (λ sink. Self.contents sink ≡ []) };
@@ -126,67 +117,6 @@ impl<'t, S: UnitSink> WriteTo<S> for &'t [u16] {
     fn write_whole(self, sink: &mut S) -> Result<(), S::Error> {
         sink.write_slice(self)
     }
-}
-
-impl<'t, S: TextSink> WriteTwoTo<S> for &'t str {
-    #[inline(always)]
-    fn write_two(sink: &mut S, first: char, second: char) -> Result<(), NormError<S::Error>>
-        ensures ok { OnOk result (S.contents sink.new ≡ S.contents sink.old ++ encode_utf8_all (first ∷ second ∷ [])) }
-        ensures err { OnErr result (AddsPrefix (S.contents sink.old) (encode_utf8_all (first ∷ second ∷ [])) (S.contents sink.new)) }
-        ensures failure { EndsByFailure S.takes S.fails sink.old result sink.new }
-    {
-        put_two::<Self, S>(first, second, sink)
-    }
-}
-
-impl<'t, S: TextSink> WriteTwoTo<S> for &'t [u8] {
-    #[inline(always)]
-    fn write_two(sink: &mut S, first: char, second: char) -> Result<(), NormError<S::Error>>
-        ensures ok { OnOk result (S.contents sink.new ≡ S.contents sink.old ++ encode_utf8_all (first ∷ second ∷ [])) }
-        ensures err { OnErr result (AddsPrefix (S.contents sink.old) (encode_utf8_all (first ∷ second ∷ [])) (S.contents sink.new)) }
-        ensures failure { EndsByFailure S.takes S.fails sink.old result sink.new }
-    {
-        put_two::<Self, S>(first, second, sink)
-    }
-}
-
-impl<'t, S: UnitSink> WriteTwoTo<S> for &'t [u16] {
-    #[inline(always)]
-    #[tactic(auto, using(crate::proofs::TextLemmas::two_units))]
-    fn write_two(sink: &mut S, first: char, second: char) -> Result<(), NormError<S::Error>>
-        ensures ok { OnOk result (S.contents sink.new ≡ S.contents sink.old ++ encode_utf16_all (first ∷ second ∷ [])) }
-        ensures err { OnErr result (AddsPrefix (S.contents sink.old) (encode_utf16_all (first ∷ second ∷ [])) (S.contents sink.new)) }
-        ensures failure { EndsByFailure S.takes S.fails sink.old result sink.new }
-    {
-        if first >= '\u{10000}' || second >= '\u{10000}' {
-            return put_two::<Self, S>(first, second, sink);
-        }
-        let units = [first as u16, second as u16];
-        match sink.write_slice(&units) {
-            Ok(()) => Ok(()),
-            Err(error) => Err(NormError::Sink(error)),
-        }
-    }
-}
-
-/// Writes two characters, one after the other.
-#[inline(always)]
-fn put_two<T: WriteTo<S>, S>(
-    first: char,
-    second: char,
-    sink: &mut S,
-) -> Result<(), NormError<T::Error>>
-    ensures ok { OnOk result (T.contents sink.new ≡ T.contents sink.old ++ T.encode (first ∷ second ∷ [])) }
-    ensures err { OnErr result (AddsPrefix (T.contents sink.old) (T.encode (first ∷ second ∷ [])) (T.contents sink.new)) }
-    ensures failure { EndsByFailure T.takes T.fails sink.old result sink.new }
-{
-    if let Err(error) = T::write_char(sink, first) {
-        return Err(NormError::Sink(error));
-    }
-    if let Err(error) = T::write_char(sink, second) {
-        return Err(NormError::Sink(error));
-    }
-    Ok(())
 }
 
 impl<'t> HoldIn<String> for &'t str {

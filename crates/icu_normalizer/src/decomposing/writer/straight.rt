@@ -1,14 +1,14 @@
 //! Full lists that go to a sink at once: a starter, with its marks in order behind it.
 
-ghost use Rattle.std.specs.Prelude.{◌≡◌, [], ◌∷◌, OnOk, OnErr, IsTrue};
+ghost use Rattle.std.specs.Prelude.{◌≡◌, [], ◌∷◌, ◌++◌, OnOk, OnErr, IsTrue};
 ghost use Rattle.icu_normalizer_core.specs.Canonical.{marks_in_order};
 ghost use Rattle.icu_normalizer_core.specs.FormData.{form_meaning};
-ghost use Rattle.icu_normalizer.specs.Sinks.{EndsByFailure};
+ghost use Rattle.icu_normalizer.specs.Sinks.{AddsPrefix, EndsByFailure};
 ghost use Rattle.icu_normalizer.specs.Straight.{IsStraight};
 
 use super::Writer;
 use crate::sinks::NormError;
-use crate::texts::WriteTwoTo;
+use crate::texts::WriteTo;
 use icu_normalizer_core::decomposition::FormData;
 
 impl<'d> Writer<'d> {
@@ -16,7 +16,7 @@ impl<'d> Writer<'d> {
 
     /// Writes two characters, each its own full list. Behind them nothing stands, or a starter.
     #[inline(always)]
-    pub(super) fn write_two<T: WriteTwoTo<S>, S>(
+    pub(super) fn write_two<T: WriteTo<S>, S>(
         &mut self,
         first: char,
         second: char,
@@ -31,7 +31,7 @@ impl<'d> Writer<'d> {
             return self.write_both::<T, S>(first, second, sink);
         }
         self.flush::<T, S>(sink)?;
-        T::write_two(sink, first, second)
+        put_two::<T, S>(first, second, sink)
     }
 }
 
@@ -59,4 +59,24 @@ pub(super) fn is_straight(basis: FormData<'_>, first: char, second: char, third:
     ensures { IsTrue result → IsStraight (form_meaning basis.entry).class (first ∷ second ∷ third ∷ []) }
 {
     is_starter(basis, first) && is_in_order(basis, second, third)
+}
+
+/// Writes two characters to a sink.
+#[inline(always)]
+fn put_two<T: WriteTo<S>, S>(
+    first: char,
+    second: char,
+    sink: &mut S,
+) -> Result<(), NormError<T::Error>>
+    ensures ok { OnOk result (T.contents sink.new ≡ T.contents sink.old ++ T.encode (first ∷ second ∷ [])) }
+    ensures err { OnErr result (AddsPrefix (T.contents sink.old) (T.encode (first ∷ second ∷ [])) (T.contents sink.new)) }
+    ensures failure { EndsByFailure T.takes T.fails sink.old result sink.new }
+{
+    if let Err(error) = T::write_char(sink, first) {
+        return Err(NormError::Sink(error));
+    }
+    if let Err(error) = T::write_char(sink, second) {
+        return Err(NormError::Sink(error));
+    }
+    Ok(())
 }

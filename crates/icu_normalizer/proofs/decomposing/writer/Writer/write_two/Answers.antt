@@ -20,17 +20,17 @@ returns-in_err-flush-clause-err g c =
 pub returns-clause-ok : goal.returns-clause-ok
 returns-clause-ok g c =
     let straight = two_straight (writer_data c.args.self.now).class c.args.first c.args.second (c.is_starter.ensures c.if-not-is_starter.false) in
-    on_ok_weaker c.write_two.result
+    on_ok_weaker c.put_two.result
     (λ done. straight_written g.T.Text.encode g.met.T.Text.encoding c.args.self.now (c.args.first ∷ c.args.second ∷ []) straight _ _ _ _ c.in_ok-flush.ensures.same c.in_ok-flush.ensures.empty c.in_ok-flush.ensures.ok done)
-    c.write_two.ensures.ok
+    c.put_two.ensures.ok
 
 pub returns-clause-err : goal.returns-clause-err
 returns-clause-err g c =
     let straight = two_straight (writer_data c.args.self.now).class c.args.first c.args.second (c.is_starter.ensures c.if-not-is_starter.false) in
-    on_err_weaker c.write_two.result
+    on_err_weaker c.put_two.result
     (λ part. straight_cut g.T.Text.encode g.met.T.Text.encoding c.args.self.now (c.args.first ∷ c.args.second ∷ []) straight _ _ _ c.in_ok-flush.ensures.ok part)
-    c.write_two.ensures.err
+    c.put_two.ensures.err
 
 pub returns-clause-failure : goal.returns-clause-failure
 returns-clause-failure g c =
-    ends_after g.T.WriteTo.takes g.T.WriteTo.fails _ _ c.write_two.result _ c.in_ok-flush.ensures.failure c.write_two.ensures.failure
+    ends_after g.T.WriteTo.takes g.T.WriteTo.fails _ _ c.put_two.result _ c.in_ok-flush.ensures.failure c.put_two.ensures.failure
