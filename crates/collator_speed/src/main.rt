@@ -17,7 +17,7 @@ mod texts;
 
 use choice::{options_of, preferences_of};
 use icu_collator::collator::{Collator, CollatorBorrowed};
-use icu_collator_tests::held::{HeldCollation, held_tables};
+use icu_collator_samples::held::{HeldCollation, held_tables};
 use show::{show_keys, show_orders};
 use speed::measure;
 use std::{env, fs, io};

@@ -14,7 +14,7 @@ mod speed;
 use icu_codepointtrie::TrieType;
 use icu_collator_core::check::TableFault;
 use icu_collator_core::checked::CheckedTables;
-use icu_collator_core_tests::packed::checked_tables;
+use icu_collator_samples::packed::checked_tables;
 use show::{show_plain, show_read};
 use speed::{measure_check, measure_elements};
 use std::{env, fs, io};

@@ -1,10 +1,10 @@
 //! The elements of texts, printed.
 
 use icu_collator_core::checked::CheckedTables;
-use icu_collator_core_tests::lines::characters;
-use icu_collator_core_tests::plain::plain_elements;
-use icu_collator_core_tests::plain::recorded::Tables;
-use icu_collator_core_tests::read::read_elements;
+use icu_collator_samples::lines::characters;
+use icu_collator_samples::plain::plain_elements;
+use icu_collator_samples::plain::recorded::Tables;
+use icu_collator_samples::read::read_elements;
 use std::alloc::{AllocError, Global};
 
 /// The characters of a line of numbers in hexadecimal.

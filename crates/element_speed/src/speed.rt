@@ -3,7 +3,7 @@
 use icu_codepointtrie::TrieType;
 use icu_collator_core::checked::CheckedTables;
 use icu_collator_core::elements::CollationElements;
-use icu_collator_core_tests::packed::tables_of;
+use icu_collator_samples::packed::tables_of;
 use icu_collator_types::elements::CollationElement;
 use std::alloc::Global;
 use std::time::CpuClock;

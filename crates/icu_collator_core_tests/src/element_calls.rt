@@ -1,9 +1,9 @@
 //! The calls of the reader of elements, in their order.
 
-use crate::packed::checked_tables;
 use icu_codepointtrie::TrieType;
 use icu_collator_core::checked::CheckedTables;
 use icu_collator_core::elements::CollationElements;
+use icu_collator_samples::packed::checked_tables;
 use icu_collator_types::elements::CollationElement;
 use std::alloc::Global;
 use std::str::Chars;

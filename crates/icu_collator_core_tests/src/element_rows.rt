@@ -1,11 +1,11 @@
 //! The elements of worked rows: each from its records, written out by hand.
 
-use crate::packed::checked_tables;
-use crate::plain::plain_elements;
-use crate::plain::recorded::Tables;
-use crate::read::read_elements;
 use icu_codepointtrie::TrieType;
 use icu_collator_core::checked::CheckedTables;
+use icu_collator_samples::packed::checked_tables;
+use icu_collator_samples::plain::plain_elements;
+use icu_collator_samples::plain::recorded::Tables;
+use icu_collator_samples::read::read_elements;
 use std::alloc::Global;
 
 /// The records of the worked rows: eight letters, three marks, and two letters with marks.

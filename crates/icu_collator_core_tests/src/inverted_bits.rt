@@ -1,12 +1,12 @@
 //! Good tables with a bit changed, each in turn: they are refused, or their texts have the elements that the changed tables
 //! mean.
 
-use crate::lists::{Lists, Part, lists_of};
-use crate::plain::plain_elements;
-use crate::plain::recorded::Tables;
-use crate::read::read_elements;
 use icu_collator_core::check::TableFault;
 use icu_collator_core::checked::CheckedTables;
+use icu_collator_samples::lists::{Lists, Part, lists_of};
+use icu_collator_samples::plain::plain_elements;
+use icu_collator_samples::plain::recorded::Tables;
+use icu_collator_samples::read::read_elements;
 use icu_normalizer_core::canonical::{CanonicalData, CanonicalDataBuilder};
 use std::alloc::Global;
 use std::ops::Range;

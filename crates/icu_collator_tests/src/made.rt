@@ -1,10 +1,10 @@
 //! Collators over a provider's tables, and in which order what is wrong is named.
 
-use crate::held::HeldCollation;
 use icu_collator::collator::{Collator, CollatorError};
 use icu_collator_core::check::TableFault;
 use icu_collator_core::tables::CollationTables;
-use icu_collator_core_tests::tables::{TAILORED_DIACRITICS, letters};
+use icu_collator_samples::held::HeldCollation;
+use icu_collator_samples::tables::{TAILORED_DIACRITICS, letters};
 use icu_collator_types::options::{
     AlternateHandling, CaseLevel, CollationCaseFirst, CollationNumericOrdering, CollatorOptions,
     CollatorPreferences, MaxVariable, ResolvedCollatorOptions, Strength,

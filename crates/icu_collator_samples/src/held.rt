@@ -4,14 +4,14 @@ ghost use Rattle.std.specs.Prelude.{true, false, Some, None, Ok, Err};
 ghost use Rattle.icu_normalizer_core.specs.declared.provider.error.DataError.TheVariants.{Missing};
 ghost use Rattle.icu_normalizer_core.specs.declared.provider.error.TableName.TheVariants.{Nfkd, NfkdTables, Uts46, Root, Jamo, Reordering, Tailoring};
 
+use crate::lines::read_lines;
+use crate::packed::packed_tables;
 use icu_codepointtrie::{CodePointTrie, TrieType};
 use icu_collator_core::provider::CollatorProvider;
 use icu_collator_core::tables::{
     CollationData, CollationDiacritics, CollationJamo, CollationMetadata, CollationReordering,
     CollationSpecialPrimaries, CollationTables,
 };
-use icu_collator_core_tests::lines::read_lines;
-use icu_collator_core_tests::packed::packed_tables;
 use icu_normalizer_core::canonical::CanonicalTables;
 use icu_normalizer_core::provider::{
     DataError, NfdLists, NfkdLists, NormalizerProvider, TableName, Uts46Tables,
