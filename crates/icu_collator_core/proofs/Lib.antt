@@ -6,7 +6,6 @@ pub mod meaning
 pub mod lookups
 pub mod apart
 pub mod unsafety
-pub mod NumberExamples
 mod TableExamples
 mod TableFaultExamples
 mod ContextExamples

@@ -34,6 +34,3 @@ pub fn no_number_begins_another()
         → number_elements lead others ≡ number_elements lead digits ++ more
         → more ≡ [] }
 {}
-
-#[cfg(test)]
-mod tests;

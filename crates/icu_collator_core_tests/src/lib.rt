@@ -12,6 +12,8 @@ mod inverted_bits;
 #[cfg(test)]
 mod judged;
 #[cfg(test)]
+mod numbers;
+#[cfg(test)]
 mod other_refusals;
 #[cfg(test)]
 mod refusals;

@@ -1,6 +1,6 @@
 use Rattle.std.proofs.Common.{[], ◌∷◌, arith}
-use Rattle.icu_collator_core.proofs.NumberExamples.{one_digit, ten_is_whole}
-use Rattle.icu_collator_core.proofs.laws.tests.nine_is_below_ten.Goals as goal
+use Rattle.icu_collator_core_tests.proofs.NumberExamples.{one_digit, ten_is_whole}
+use Rattle.icu_collator_core_tests.proofs.numbers.nine_is_below_ten.Goals as goal
 
 pub returns : goal.returns
 returns c lead behind behind_others =

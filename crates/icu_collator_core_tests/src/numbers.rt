@@ -8,7 +8,9 @@ ghost use Rattle.icu_collator_types.specs.declared.elements.Element.{Element};
 ghost use Rattle.icu_collator_core.specs.Numbers.{number_elements};
 ghost use Rattle.icu_collator_core.specs.WholeNumbers.{primaries_of};
 
-use super::{equal_values_have_equal_elements, no_number_begins_another, numbers_order_as_values};
+use icu_collator_core::laws::{
+    equal_values_have_equal_elements, no_number_begins_another, numbers_order_as_values,
+};
 
 // 9 is below 10, whatever follows.
 fn nine_is_below_ten()

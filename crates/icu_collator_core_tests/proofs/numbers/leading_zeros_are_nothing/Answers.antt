@@ -1,6 +1,6 @@
 use Rattle.std.proofs.Common.{[], ◌∷◌, refl, arith}
-use Rattle.icu_collator_core.proofs.NumberExamples.{one_digit, padded_is_whole}
-use Rattle.icu_collator_core.proofs.laws.tests.leading_zeros_are_nothing.Goals as goal
+use Rattle.icu_collator_core_tests.proofs.NumberExamples.{one_digit, padded_is_whole}
+use Rattle.icu_collator_core_tests.proofs.numbers.leading_zeros_are_nothing.Goals as goal
 
 pub returns : goal.returns
 returns c lead =
