@@ -38,6 +38,3 @@ pub struct Element {
     /// The quaternary of the file, 0 to 3.
     pub quaternary: u8,
 }
-
-#[cfg(test)]
-mod tests;

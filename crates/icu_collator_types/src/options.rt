@@ -202,6 +202,3 @@ impl ResolvedCollatorOptions {
         Self::from(merged)
     }
 }
-
-#[cfg(test)]
-mod tests;

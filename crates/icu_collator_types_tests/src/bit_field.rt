@@ -1,6 +1,9 @@
 //! What setters, defaults and conversions do to options with notes, seen through the getters.
 
-use super::*;
+use icu_collator_types::options::{
+    AlternateHandling, CaseLevel, CollationCaseFirst, CollationNumericOrdering, CollatorOptions,
+    CollatorOptionsBitField, CollatorPreferences, MaxVariable, ResolvedCollatorOptions, Strength,
+};
 use std::process::Abort;
 
 /// The first strength, of each other option the second value, all given.

@@ -1,7 +1,10 @@
 //! The calls on words and elements, at words worked by hand.
 
-use super::*;
 use icu_codepointtrie::{CodePointTrieBuilder, TrieType};
+use icu_collator_types::elements::{
+    AnyQuaternaryAccumulator, CharacterAndClass, CharacterAndClassAndTrieValue, CollationElement,
+    CollationElement32, NonPrimary, Tag,
+};
 use std::alloc::Global;
 use std::process::Abort;
 
@@ -121,14 +124,20 @@ fn quaternaries_are_found(rt: HostRuntime) {
     assert!(rt; any.has_quaternary());
 }
 
+// Whether a character is this one, of this class, whatever its word.
+fn is_of_class(found: CharacterAndClassAndTrieValue, c: char, class: u8) -> bool {
+    let mut found = found;
+    let want = CharacterAndClassAndTrieValue::new_with_non_zero_ccc(c, class);
+    found.trie_val = want.trie_val;
+    found == want
+}
+
 #[test]
 fn characters_have_classes(rt: HostRuntime) {
     let mark = CharacterAndClassAndTrieValue::new_with_trie_val('\u{301}', 0xc000_d8e6);
-    assert!(rt;
-        mark.character_and_class.ccc() == 230 && mark.decomposition_starts_with_non_starter()
-    );
+    assert!(rt; is_of_class(mark, '\u{301}', 230) && mark.decomposition_starts_with_non_starter());
     let special = CharacterAndClassAndTrieValue::new_with_trie_val('\u{344}', 0xd9e6);
-    assert!(rt; special.character_and_class.ccc() == 0xff && special.character() == '\u{344}');
+    assert!(rt; is_of_class(special, '\u{344}', 0xff) && special.character() == '\u{344}');
 }
 
 // Whether a trie that says class 230 of all characters gives it where none is known, and there alone.

@@ -1,6 +1,9 @@
 //! What options resolve to, and the numbers of strengths.
 
-use super::*;
+use icu_collator_types::options::{
+    AlternateHandling, CaseLevel, CollationCaseFirst, CollationNumericOrdering, CollatorOptions,
+    CollatorPreferences, FileSettings, MaxVariable, ResolvedCollatorOptions, Strength,
+};
 use std::process::Abort;
 
 const ASKED: CollatorOptions = CollatorOptions {

@@ -364,6 +364,3 @@ impl From<ResolvedCollatorOptions> for CollatorPreferences<'static> {
         }
     }
 }
-
-#[cfg(test)]
-mod tests;
