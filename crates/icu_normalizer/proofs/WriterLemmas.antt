@@ -1,21 +1,21 @@
 -- The steps of a writer of decomposed text.
-use Rattle.std.proofs.Common.{◌≡◌, ℕ, List, [], ◌∷◌, ◌++◌, refl, sym, ap, ap₂, subst, ◌∙◌, append_assoc, append-nil, arith, inr, ◌+◌, ◌<◌, ◌≤◌, length, take, set, true, not, ltb, ◌==◌, ◌&&◌}
-use Rattle.std.proofs.lemmas.Bool.{and_parts, and_from}
+use Rattle.std.proofs.Common.{◌≡◌, ℕ, List, [], ◌∷◌, ◌++◌, refl, sym, ap, ap₂, subst, ◌∙◌, append_assoc, append-nil, arith, ◌+◌, ◌<◌, ◌≤◌, length, take, set, true, ◌==◌, length-set}
 use Rattle.std.proofs.lemmas.Bool.Decides.{nat_tests}
-use Rattle.std.proofs.lemmas.List.{take_more_set}
+use Rattle.std.proofs.Math.Seq.{take-append-add}
+use Rattle.std.proofs.lemmas.List.{length-take-le, take-take, take_more_set}
 use Rattle.std.specs.List.{list_all, flat_map}
 use Rattle.std.specs.Prelude.{Result, Ok, Err, OnErr}
-use Rattle.icu_normalizer_core.specs.Canonical.{Canonical, put_in_order, marks_in_order, decomposed}
+use Rattle.icu_normalizer_core.specs.Canonical.{Canonical, marks_in_order, decomposed}
 use Rattle.icu_normalizer_core.specs.Marks.{is_mark}
 use Rattle.icu_normalizer_core.proofs.DecomposedLemmas.{order_before}
 use Rattle.icu_normalizer_core.proofs.RunLemmas.{order_nothing, all_pushed, mark_from}
 use Rattle.icu_normalizer.specs.declared.decomposing.writer.Writer.{Writer}
-use Rattle.icu_normalizer.specs.Marks.{rises_to}
+use Rattle.icu_normalizer.specs.Marks.{stands_to}
 use Rattle.icu_normalizer.specs.Sinks.{AddsPrefix}
 use Rattle.icu_normalizer.specs.Texts.{IsEncoding}
-use Rattle.icu_normalizer.specs.Writer.{writer_data, held, due, AddsFront, Writes, WritesPart}
+use Rattle.icu_normalizer.specs.Writer.{writer_data, held, due, AddsFront, KeepsDue, Writes, WritesPart}
 use Rattle.icu_normalizer.proofs.SinkLemmas.{joined_front, joined_back}
-use Rattle.icu_normalizer.proofs.SplitLemmas.{put_stays}
+use Rattle.icu_normalizer.proofs.OrderLemmas.{stands_order}
 
 -- ---- parts of bytes
 
@@ -27,7 +27,7 @@ front_more old all mid left new rest h g = record {
 }
 
 -- other words for what there is, and for what is left
-front_same : (old all left all' left' new : List ℕ) → all' ≡ all → left ≡ left' → AddsFront old all left new → AddsFront old all' left' new
+pub front_same : (old all left all' left' new : List ℕ) → all' ≡ all → left ≡ left' → AddsFront old all left new → AddsFront old all' left' new
 front_same old all left all' left' new e f h = record { written = h.written; whole = e ∙ h.whole ∙ ap (λ l. h.written ++ l) f; holds = h.holds }
 
 pub front_cut : (old all mid left new : List ℕ) → AddsFront old all left mid → AddsPrefix mid left new → AddsPrefix old all new
@@ -41,40 +41,43 @@ pub on_any : {A E P : Type 0} (result : Result A E) → P → OnErr result P
 on_any (Ok _) p = tt
 on_any (Err _) p = p
 
-begins_last : (before last n : ℕ) → (before == last) ≡ true → last ≤ n → (not (ltb n before) && (n == n)) ≡ true
-begins_last before last n h le = grind (arith, nat_tests)
+-- a list of no length
+pub none_of : (xs : List ℕ) → (length xs == 0) ≡ true → xs ≡ []
+none_of [] h = refl
+none_of (x ∷ xs) h = let zero : length (x ∷ xs) ≡ 0 = grind (arith, nat_tests) in absurd (omega (arith, zero))
 
-not_below : (m n : ℕ) → not (ltb n m) ≡ true → m ≤ n
-not_below m n h = grind (arith, nat_tests)
+-- one mark more behind others
+pub marks_with : (class : ℕ → ℕ) (xs ys : List ℕ) (c : ℕ) → ys ≡ xs ++ c ∷ [] → list_all (is_mark class) xs ≡ true → 0 < class c → list_all (is_mark class) ys ≡ true
+marks_with class xs ys c e marks mark = rw e (all_pushed class xs c marks (mark_from class (class c) mark))
 
-module _ (class : ℕ → ℕ) where
-  -- one mark more
-  pub rises_more : (before last c : ℕ) (xs : List ℕ) → rises_to class before last xs ≡ true → last ≤ class c → rises_to class before (class c) (xs ++ c ∷ []) ≡ true
-  rises_more before last c [] h le = begins_last before last (class c) h le
-  rises_more before last c (x ∷ xs) h le =
-      let parts = and_parts (not (ltb (class x) before)) (rises_to class (class x) last xs) h in and_from _ _ parts.0 (rises_more (class x) last c xs parts.1 le)
+-- ---- three characters at the end of a list
 
-  -- marks that rise are in order
-  pub rising_order : (before last : ℕ) (xs : List ℕ) → rises_to class before last xs ≡ true → xs ≡ marks_in_order class xs
-  unfolding marks_in_order put_in_order
-  rising_order before last [] h = refl
-  rising_order before last (x ∷ []) h = refl
-  rising_order before last (x ∷ y ∷ xs) h =
-      let parts = and_parts (not (ltb (class x) before)) (rises_to class (class x) last (y ∷ xs)) h in
-      let next = and_parts (not (ltb (class y) (class x))) (rises_to class (class y) last xs) parts.1 in
-      sym (ap (put_in_order class x) (sym (rising_order (class x) last (y ∷ xs) parts.1)) ∙ put_stays class x y xs (inr (not_below (class x) (class y) next.0)))
+three_set : (xs : List ℕ) (n a b c : ℕ) → n + 2 < length xs → take (n + 3) (set (set (set xs n a) (n + 1) b) (n + 2) c) ≡ take n xs ++ a ∷ b ∷ c ∷ []
+three_set xs n a b c lt =
+    let one = set xs n a in
+    let two = set one (n + 1) b in
+    let one_long : length one ≡ length xs = length-set xs n a in
+    let two_long : length two ≡ length one = length-set one (n + 1) b in
+    let first : take (n + 1) one ≡ take n xs ++ a ∷ [] = take_more_set xs n a (omega arith) in
+    let second : take (n + 2) two ≡ take (n + 1) one ++ b ∷ [] = ap (λ k. take k two) (omega arith) ∙ take_more_set one (n + 1) b (omega arith) in
+    let third : take (n + 3) (set two (n + 2) c) ≡ take (n + 2) two ++ c ∷ [] = ap (λ k. take k (set two (n + 2) c)) (omega arith) ∙ take_more_set two (n + 2) c (omega arith) in
+    third ∙ ap (λ l. l ++ c ∷ []) (second ∙ ap (λ l. l ++ b ∷ []) first ∙ append_assoc (take n xs) (a ∷ []) (b ∷ [])) ∙ append_assoc (take n xs) (a ∷ b ∷ []) (c ∷ [])
 
-  -- what is held, with one mark more
-  pub marks_with : (xs ys : List ℕ) (c : ℕ) → ys ≡ xs ++ c ∷ [] → list_all (is_mark class) xs ≡ true → 0 < class c → list_all (is_mark class) ys ≡ true
-  marks_with xs ys c e marks mark = rw e (all_pushed class xs c marks (mark_from class (class c) mark))
+-- some of them
+pub some_set : (xs : List ℕ) (n k a b c : ℕ) → n + 2 < length xs → k ≤ 3 → take (n + k) (set (set (set xs n a) (n + 1) b) (n + 2) c) ≡ take n xs ++ take k (a ∷ b ∷ c ∷ [])
+some_set xs n k a b c lt le =
+    let all = set (set (set xs n a) (n + 1) b) (n + 2) c in
+    let long : length (take n xs) ≡ n = length-take-le n xs (omega arith) in
+    sym (take-take (n + k) (n + 3) all (omega arith)) ∙ ap (take (n + k)) (three_set xs n a b c lt)
+    ∙ ap (λ m. take (m + k) (take n xs ++ a ∷ b ∷ c ∷ [])) (sym long) ∙ take-append-add (take n xs) (a ∷ b ∷ c ∷ []) k
 
-  pub order_with : (xs ys : List ℕ) (last c k : ℕ) → ys ≡ xs ++ c ∷ [] → rises_to class 0 last xs ≡ true → last ≤ k → k ≡ class c → rises_to class 0 k ys ≡ true
-  order_with xs ys last c k e rises le is = rw (e, is) (rises_more 0 last c xs rises (omega (arith, is, le)))
-
-pub few_with : (few more : List ℕ) (count c : ℕ) → count < length few → more ≡ [] → take (count + 1) (set few count c) ++ more ≡ (take count few ++ more) ++ c ∷ []
-few_with few more count c lt none =
-    ap₂ (λ front back. front ++ back) (take_more_set few count c lt) none ∙ append-nil (take count few ++ c ∷ [])
-    ∙ ap (λ l. l ++ c ∷ []) (sym (append-nil (take count few)) ∙ ap (λ l. take count few ++ l) (sym none))
+-- what went in stands behind what was held
+pub list_kept : (old new : Writer) (read : List ℕ) → writer_data new ≡ writer_data old → held new ≡ held old ++ read → KeepsDue old read new
+list_kept old new read same pushed = record {
+  at = λ rest.
+      ap₂ (λ (k : Canonical) (l : List ℕ). marks_in_order k.class l) same
+      (ap (λ l. l ++ rest) pushed ∙ append_assoc (held old) read rest);
+}
 
 module _ (encode : List ℕ → List ℕ) (is : IsEncoding encode) where
   -- ---- steps one after another
@@ -103,14 +106,12 @@ module _ (encode : List ℕ → List ℕ) (is : IsEncoding encode) where
 
   -- ---- one character
 
-  pub mark_held : (old new : Writer) (c : ℕ) (sink : List ℕ) → writer_data new ≡ writer_data old → held new ≡ held old ++ c ∷ [] → Writes encode old (c ∷ []) sink sink new
+  pub due_kept : (old new : Writer) (read : List ℕ) (sink : List ℕ) → KeepsDue old read new → Writes encode old read sink sink new
   unfolding due
-  mark_held old new c sink same pushed = record {
+  due_kept old new read sink kept = record {
     at = λ rest. record {
       written = [];
-      whole =
-          ap₂ (λ (k : Canonical) (l : List ℕ). encode (marks_in_order k.class l)) (sym same)
-          (sym (append_assoc (held old) (c ∷ []) rest) ∙ ap (λ l. l ++ rest) (sym pushed));
+      whole = ap encode (sym (kept.at rest));
       holds = sym (append-nil sink);
     };
   }
@@ -158,11 +159,12 @@ module _ (encode : List ℕ → List ℕ) (is : IsEncoding encode) where
   unfolding due
   marks_due writer ys sorted = ap encode (sorted ∙ ap (marks_in_order (writer_data writer).class) (sym (append-nil (held writer))))
 
-  -- few marks that rise
-  pub few_due : (writer : Writer) (ys : List ℕ) → ys ≡ take writer.count writer.few → writer.in_order ≡ true → writer.count < 4 → encode ys ≡ due encode writer []
-  few_due writer ys is rises few =
-      marks_due writer ys (is ∙ sym (append-nil (take writer.count writer.few)) ∙ ap (λ l. take writer.count writer.few ++ l) (sym (writer.full few))
-      ∙ rising_order (writer_data writer).class 0 writer.last (held writer) (writer.order rises))
+  -- few, which stand in order
+  pub few_due : (writer : Writer) (ys : List ℕ) → ys ≡ take writer.count writer.few → writer.more.items ≡ [] → encode ys ≡ due encode writer []
+  few_due writer ys is none =
+      let all : held writer ≡ ys = ap (λ l. take writer.count writer.few ++ l) none ∙ append-nil (take writer.count writer.few) ∙ sym is in
+      marks_due writer ys (sym (ap (marks_in_order (writer_data writer).class) all
+      ∙ stands_order (writer_data writer).class 0 writer.last ys (subst (λ l. stands_to (writer_data writer).class 0 writer.last l ≡ true) (sym is) writer.order)))
 
   -- ---- a text
 
@@ -190,17 +192,3 @@ module _ (encode : List ℕ → List ℕ) (is : IsEncoding encode) where
       → AddsPrefix mid (due encode old ((writer_data old).full c ++ flat_map canonical.full rest)) after → AddsPrefix base all after
   text_cut old canonical c cs rest base all mid after same next before part =
       front_cut base all mid _ after (front_same base all _ all _ mid refl (text_next old canonical c cs rest same next) before) part
-
-  -- nothing stands behind the last character
-  pub text_last : (writer : Writer) (canonical : Canonical) (c : ℕ) (cs base all now : List ℕ) → writer_data writer ≡ canonical → cs ≡ []
-      → AddsFront base all (due encode writer (flat_map canonical.full (c ∷ cs))) now → AddsFront base all (due encode writer ((writer_data writer).full c)) now
-  text_last writer canonical c cs base all now same none h =
-      front_same base all _ all _ now refl
-      (ap (due encode writer)
-      (ap (λ l. canonical.full c ++ flat_map canonical.full l) none ∙ append-nil (canonical.full c) ∙ ap (λ (k : Canonical). k.full c) (sym same))) h
-
-  pub writes_end : (old new : Writer) (read before after : List ℕ) → Writes encode old read before after new → AddsFront before (due encode old read) (due encode new []) after
-  writes_end old new read before after h = front_same before _ _ _ _ after (ap (due encode old) (sym (append-nil read))) refl (h.at [])
-
-  pub part_end : (old : Writer) (read before after : List ℕ) → WritesPart encode old read before after → AddsPrefix before (due encode old read) after
-  part_end old read before after h = subst (λ l. AddsPrefix before (due encode old l) after) (append-nil read) (h.at [])

@@ -7,12 +7,12 @@ pub mod Encodings
 pub mod Equivalence
 pub mod FormCuts
 pub mod LoneMarks
+pub mod LowCharacters
 pub mod Marks
 pub mod Normalizers
 pub mod NormalizerTables
 pub mod Sinks
 pub mod Splits
-pub mod Straight
 pub mod TextCuts
 pub mod TextForms
 pub mod Texts

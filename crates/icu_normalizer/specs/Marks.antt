@@ -1,7 +1,8 @@
--- Marks in the order of their classes.
-use Rattle.std.specs.Prelude.{ℕ, Bool, not, ltb, ◌==◌, ◌&&◌, List, [], ◌∷◌}
+-- Characters in the order of their classes.
+use Rattle.std.specs.Prelude.{ℕ, Bool, not, ltb, ◌==◌, ◌&&◌, ◌||◌, List, [], ◌∷◌}
 
--- no class is below the one before it, nor the first below `before`; the last is `last`
-abbrev pub rises_to : (ℕ → ℕ) → ℕ → ℕ → List ℕ → Bool
-rises_to class before last [] = before == last
-rises_to class before last (c ∷ cs) = not (ltb (class c) before) && rises_to class (class c) last cs
+-- each is a starter, or of no class below that of the one before it, and the first of none below `before`; the last is
+-- of class `last`
+abbrev pub stands_to : (ℕ → ℕ) → ℕ → ℕ → List ℕ → Bool
+stands_to class before last [] = before == last
+stands_to class before last (c ∷ cs) = ((class c == 0) || not (ltb (class c) before)) && stands_to class (class c) last cs

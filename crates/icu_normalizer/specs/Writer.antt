@@ -1,10 +1,12 @@
 -- Decomposed text on its way to a sink.
-use Rattle.std.specs.Prelude.{◌≡◌, ℕ, List, ◌++◌, take}
+use Rattle.std.specs.Prelude.{◌≡◌, ℕ, ◌≤◌, List, ◌++◌, true, take}
 use Rattle.icu_normalizer_core.specs.Canonical.{Canonical, marks_in_order}
 use Rattle.icu_normalizer_core.specs.FormData.{form_meaning}
 use Rattle.icu_normalizer.specs.declared.decomposing.writer.Writer.{Writer}
+use Rattle.icu_normalizer.specs.declared.low.LowCharacter.{LowCharacter}
+use Rattle.icu_normalizer.specs.LowCharacters.{noted_list}
+use Rattle.icu_normalizer.specs.Marks.{stands_to}
 use Rattle.icu_normalizer.specs.Sinks.{AddsPrefix}
-use Rattle.icu_normalizer.specs.Straight.{BeginsApart}
 
 -- what the data of a writer say of characters
 abbrev pub writer_data : Writer → Canonical
@@ -32,9 +34,13 @@ pub record Writes (encode : List ℕ → List ℕ) (old : Writer) (read before a
 pub record WritesPart (encode : List ℕ → List ℕ) (old : Writer) (read before after : List ℕ) : Type 0 where
   pub at : (rest : List ℕ) → AddsPrefix before (due encode old (read ++ rest)) after
 
--- the same of both, where nothing comes behind what was read, or a starter comes first
-pub record WritesApart (encode : List ℕ → List ℕ) (old : Writer) (read before after : List ℕ) (new : Writer) : Type 0 where
-  pub at : (rest : List ℕ) → BeginsApart (writer_data old).class rest → AddsFront before (due encode old (read ++ rest)) (due encode new rest) after
+-- `read` went in, and nothing came out
+pub record KeepsDue (old : Writer) (read : List ℕ) (new : Writer) : Type 0 where
+  pub at : (rest : List ℕ) → marks_in_order (writer_data new).class (held new ++ rest) ≡ marks_in_order (writer_data old).class (held old ++ (read ++ rest))
 
-pub record WritesPartApart (encode : List ℕ → List ℕ) (old : Writer) (read before after : List ℕ) : Type 0 where
-  pub at : (rest : List ℕ) → BeginsApart (writer_data old).class rest → AddsPrefix before (due encode old (read ++ rest)) after
+-- what is noted of a character fits behind what is held
+pub record Fits (writer : Writer) (c : ℕ) (note : LowCharacter) : Type 0 where
+  pub room : writer.count ≤ 61
+  pub within : note.len ≤ 3
+  pub full_is : (writer_data writer).full c ≡ noted_list note
+  pub stands : stands_to (writer_data writer).class writer.last note.class (noted_list note) ≡ true

@@ -5,6 +5,7 @@
 pub mod composing;
 pub mod decomposing;
 pub mod laws;
+mod low;
 mod owned_data;
 pub mod sinks;
 mod texts;

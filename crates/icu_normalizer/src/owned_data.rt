@@ -1,12 +1,15 @@
 //! The data that normalisers hold.
 
-ghost use Rattle.std.specs.Prelude.{◌≡◌};
+ghost use Rattle.std.specs.Prelude.{◌≡◌, MatchResult};
 ghost use Rattle.icu_normalizer_core.specs.CanonicalMeaning.{meaning};
 ghost use Rattle.icu_normalizer_core.specs.CompatibilityLoading.{loaded_both, loaded_words};
 ghost use Rattle.icu_normalizer_core.specs.Loading.{loaded};
 ghost use Rattle.icu_normalizer_core.specs.FormData.{form_meaning, form_canonical, low_bound};
+ghost use Rattle.icu_normalizer_core.specs.declared.provider.error.DataError.TheVariants.{Memory};
+ghost use Rattle.icu_normalizer.specs.LowCharacters.{AreLow};
 ghost use Rattle.icu_normalizer.specs.NormalizerTables.{tables_of, tables_meaning, tables_bound, loaded_tables, IsMadeOfCanonical, IsMadeOfBoth};
 
+use crate::low::{LowCharacter, low_characters};
 use icu_normalizer_core::canonical::CanonicalData;
 use icu_normalizer_core::compatibility::CompatibilityData;
 use icu_normalizer_core::decomposition::FormData;
@@ -63,5 +66,30 @@ impl<'a> OwnedData<'a> {
             OwnedData::Canonical(canonical) => FormData::Canonical(canonical.as_borrowed()),
             OwnedData::Compatibility(both) => FormData::Compatibility(both.as_borrowed()),
         }
+    }
+}
+
+/// The data of a normaliser, with notes of low characters.
+#[derive(Debug, Drop)]
+pub(crate) struct NotedData<'a> {
+    pub(crate) owned: OwnedData<'a>,
+    low: Vec<LowCharacter>,
+    ghost notes: { AreLow (tables_meaning (tables_of owned)) low.items },
+}
+
+impl<'a> NotedData<'a> {
+    /// These data, with notes. The only refusal is that of memory.
+    pub(crate) fn new(alloc: Global, owned: OwnedData<'a>) -> Result<NotedData<'a>, DataError>
+        ensures { MatchResult result (λ noted. noted.owned ≡ owned.entry) (λ refusal. refusal ≡ Memory) }
+    {
+        let low = low_characters(alloc, owned.as_form_data())?;
+        Ok(NotedData { owned, low })
+    }
+
+    /// The notes of low characters.
+    pub(crate) fn low(&self) -> &[LowCharacter]
+        ensures { AreLow (tables_meaning (tables_of self.now.owned)) result.now }
+    {
+        &self.low
     }
 }

@@ -8,6 +8,7 @@ ghost use Rattle.icu_normalizer_core.specs.FormData.{form_meaning};
 ghost use Rattle.icu_normalizer_core.specs.Forming.{IsSaidOver};
 ghost use Rattle.icu_normalizer_core.specs.Iter.{Spells};
 ghost use Rattle.icu_normalizer_core.specs.Readable.{IsReadable};
+ghost use Rattle.icu_normalizer.specs.LowCharacters.{AreLow};
 ghost use Rattle.icu_normalizer.specs.Sinks.{AddsPrefix, EndsByFailure};
 ghost use Rattle.icu_normalizer.specs.Texts.{IsAtEnd};
 
@@ -18,6 +19,7 @@ mod written;
 use super::Decomposition;
 use super::cuts::split;
 use super::writer::Writer;
+use crate::low::LowCharacter;
 use crate::sinks::{NormError, TextSink};
 use crate::texts::{Text, WriteTo};
 use crate::written::{WriteForm, write_form};
@@ -29,6 +31,9 @@ use std::alloc::{AllocError, Global};
 #[derive(Clone, Copy, Debug)]
 pub struct DecomposingNormalizerBorrowed<'d> {
     basis: FormData<'d>,
+    /// What is noted of low characters, where that was found once for all; else nothing.
+    low: &'d [LowCharacter],
+    ghost notes: { AreLow (form_meaning basis) low.now },
     ghost readable: { IsReadable (form_meaning basis) },
 }
 
@@ -42,15 +47,19 @@ impl<'d> DecomposingNormalizerBorrowed<'d> {
         ensures canonical { normalizer_canonical result ≡ borrowed_meaning canonical.entry }
         ensures bound { normalizer_bound result ≡ 0xc0 }
     {
-        DecomposingNormalizerBorrowed::over(FormData::Canonical(canonical))
+        DecomposingNormalizerBorrowed::over(FormData::Canonical(canonical), &[])
     }
 
-    /// The same, over data of either kind.
-    pub(super) fn over(basis: FormData<'d>) -> DecomposingNormalizerBorrowed<'d>
+    /// The same, over data of either kind, with notes of low characters.
+    pub(super) fn over(
+        basis: FormData<'d>,
+        low: &'d [LowCharacter],
+    ) -> DecomposingNormalizerBorrowed<'d>
+        requires { AreLow (form_meaning basis) low.now }
         ensures { result.basis ≡ basis.entry }
     {
         basis.keep_promise();
-        DecomposingNormalizerBorrowed { basis }
+        DecomposingNormalizerBorrowed { basis, low }
     }
 
     /// Its data keep what canonical data promise, which the laws ask for, and what compatibility data do where it is
@@ -108,30 +117,20 @@ impl<'d> WriteForm for DecomposingNormalizerBorrowed<'d> {
         text.saturating_add(rest).saturating_add(rest / 2)
     }
 
-    /// Writes a text in NFD, character by character. What is damaged is written as U+FFFD. The marks of a letter are
-    /// written with it where the next character is known to begin with a starter.
+    /// Writes a text in NFD, character by character. What is damaged is written as U+FFFD.
     fn write_rest<T: WriteTo<S>, S>(
         &self,
         alloc: Global,
         text: T,
         sink: &mut S,
     ) -> Result<(), NormError<T::Error>> {
-        let Some(start) = read(text) else {
-            return Ok(());
-        };
-        let mut writer = Writer::new(alloc, self.basis);
-        let mut c = start.0;
-        let mut ahead = start.1;
-        'chars: while let Some(next) = read(ahead) {
-            if self.basis.is_steady(next.0) {
-                writer.write_apart::<T, S>(c, sink)?;
-            } else {
-                writer.write_decomposed::<T, S>(c, sink)?;
-            }
-            c = next.0;
-            ahead = next.1;
+        let mut writer = Writer::new(alloc, self.basis, self.low);
+        let mut left = text;
+        'chars: while let Some(next) = read(left) {
+            writer.write_decomposed::<T, S>(next.0, sink)?;
+            left = next.1;
         }
-        writer.write_last::<T, S>(c, sink)
+        writer.flush::<T, S>(sink)
     }
 }
 

@@ -1,70 +1,123 @@
 //! Decomposed text on its way to a sink.
 
-ghost use Rattle.std.specs.Prelude.{◌≡◌, ◌≢◌, ℕ, ◌<◌, ◌≤◌, [], ◌∷◌, ◌++◌, true, take, length, IfOk, OnOk, OnErr, IsTrue};
-ghost use Rattle.std.specs.Char.{IsScalar};
+ghost use Rattle.std.specs.Prelude.{◌≡◌, ◌≢◌, ℕ, ◌+◌, ◌<◌, ◌≤◌, [], ◌∷◌, ◌++◌, true, take, IfOk, IfSome, OnOk, OnErr};
 ghost use Rattle.std.specs.List.{list_all};
 ghost use Rattle.icu_normalizer_core.specs.FormData.{form_meaning};
 ghost use Rattle.icu_normalizer_core.specs.Canonical.{marks_in_order};
 ghost use Rattle.icu_normalizer_core.specs.Marks.{is_mark};
-ghost use Rattle.icu_normalizer.specs.Marks.{rises_to};
+ghost use Rattle.icu_normalizer.specs.LowCharacters.{AreLow, noted_list};
+ghost use Rattle.icu_normalizer.specs.Marks.{stands_to};
 ghost use Rattle.icu_normalizer.specs.Sinks.{AddsPrefix, EndsByFailure};
 
-mod straight;
+mod order;
 
+use crate::low::{LowCharacter, low_character};
 use crate::sinks::NormError;
 use crate::texts::WriteTo;
 use icu_normalizer_core::canonical::Reading;
 use icu_normalizer_core::decomposition::{FormData, sort_marks};
+use order::{insert_at, last_class, place_of};
 use smallvec::SmallVec;
 use std::alloc::{AllocError, Global};
-use straight::is_straight;
 
-/// How many marks are held without memory.
-const FEW: usize = 4;
+/// How many characters are held without memory.
+const FEW: usize = 64;
 
-/// Writes decomposed text. Starters go to the sink at once; the marks behind the last starter, whose order is still
-/// open, are held: `few` has the first `count`, and `more` those behind them. Where they are known to be in order, they
-/// are not sorted.
+/// Up to this count there is room for a full list that is noted.
+const ROOM: usize = 61;
+
+/// Writes decomposed text. Low characters and marks are held, in order: `few` has the first `count`, of which the last is
+/// of class `last`. Behind 64 come in `more` the marks that follow, as they came, whose order is still open.
 #[derive(Debug, Drop)]
 pub(super) struct Writer<'d> {
     basis: FormData<'d>,
-    few: [char; 4],
+    low: &'d [LowCharacter],
+    few: [char; 64],
     count: usize,
     more: Vec<char>,
     last: u8,
-    in_order: bool,
-    ghost within: { count ≤ 4 },
-    ghost full: { count < 4 → more.items ≡ [] },
-    ghost marks: { list_all (is_mark (form_meaning basis).class) (take count few ++ more.items) ≡ true },
-    ghost order: { in_order ≡ true → rises_to (form_meaning basis).class 0 last (take count few ++ more.items) ≡ true },
-    ghost low: { (c : ℕ) → c < 0xa0 → (form_meaning basis).full c ≡ c ∷ [] },
+    ghost within: { count ≤ 64 },
+    ghost full: { count < 64 → more.items ≡ [] },
+    ghost marks: { list_all (is_mark (form_meaning basis).class) more.items ≡ true },
+    ghost order: { stands_to (form_meaning basis).class 0 last (take count few) ≡ true },
+    ghost notes: { AreLow (form_meaning basis) low.now },
+    ghost unmapped: { (c : ℕ) → c < 0xa0 → (form_meaning basis).full c ≡ c ∷ [] },
     ghost starters: { (c : ℕ) → c < 0xa0 → (form_meaning basis).class c ≡ 0 },
 }
 
 impl<'d> Writer<'d> {
     ghost use Rattle.icu_normalizer_core.specs.Readable.{IsReadable};
-    ghost use Rattle.icu_normalizer.specs.Straight.{IsStraight};
-    ghost use Rattle.icu_normalizer.specs.Writer.{writer_data, held, due, Writes, WritesPart, WritesApart, WritesPartApart};
+    ghost use Rattle.icu_normalizer.specs.Writer.{writer_data, held, due, Fits, KeepsDue, Writes, WritesPart};
 
     /// Nothing is held.
-    pub(super) fn new(alloc: Global, basis: FormData<'d>) -> Writer<'d>
-        requires { IsReadable (form_meaning basis) }
+    #[inline(always)]
+    pub(super) fn new(alloc: Global, basis: FormData<'d>, low: &'d [LowCharacter]) -> Writer<'d>
+        requires readable { IsReadable (form_meaning basis) }
+        requires notes { AreLow (form_meaning basis) low.now }
         ensures empty { held result ≡ [] }
         ensures same { writer_data result ≡ form_meaning basis.entry }
     {
         Writer {
             basis,
-            few: ['\0'; 4],
+            low,
+            few: ['\0'; 64],
             count: 0,
             more: Vec::new(alloc),
             last: 0,
-            in_order: true,
         }
     }
 
-    /// Writes the full list of `c`.
-    #[inline]
+    /// Writes the full list of `c`, or holds it.
+    #[inline(always)]
     pub(super) fn write_decomposed<T: WriteTo<S>, S>(
+        &mut self,
+        c: char,
+        sink: &mut S,
+    ) -> Result<(), NormError<T::Error>>
+        ensures ok { OnOk result (Writes T.encode self.old ((writer_data self.old).full c) (T.contents sink.old) (T.contents sink.new) self.new) }
+        ensures err { OnErr result (WritesPart T.encode self.old ((writer_data self.old).full c) (T.contents sink.old) (T.contents sink.new)) }
+        ensures failure { EndsByFailure T.takes T.fails sink.old result sink.new }
+        ensures same { writer_data self.new ≡ writer_data self.old }
+    {
+        if let Some(note) = self.fitting(c) {
+            self.append(note);
+            return Ok(());
+        }
+        self.write_asked::<T, S>(c, sink)
+    }
+
+    /// What is noted of a character whose full list fits: it is in order behind what is held, and there is room.
+    #[inline(always)]
+    fn fitting(&self, c: char) -> Option<LowCharacter>
+        ensures { IfSome result (λ note. Fits self.now c note) }
+    {
+        let note = low_character(self.low, c)?;
+        if note.len == 0 || self.last > note.order || self.count > ROOM {
+            return None;
+        }
+        Some(note)
+    }
+
+    /// Holds a full list that fits.
+    #[inline(always)]
+    fn append(&mut self, note: LowCharacter)
+        requires room { self.old.count ≤ 61 }
+        requires within { note.len ≤ 3 }
+        requires stands { stands_to (writer_data self.old).class self.old.last note.class (noted_list note) ≡ true }
+        ensures held { held self.new ≡ held self.old ++ noted_list note }
+        ensures same { writer_data self.new ≡ writer_data self.old }
+    {
+        let count = self.count;
+        self.few[count] = note.first;
+        self.few[count + 1] = note.second;
+        self.few[count + 2] = note.third;
+        self.count = count + note.len as usize;
+        self.last = note.class;
+    }
+
+    /// Writes the full list of `c`, by what the data say of it.
+    #[inline(never)]
+    fn write_asked<T: WriteTo<S>, S>(
         &mut self,
         c: char,
         sink: &mut S,
@@ -85,50 +138,6 @@ impl<'d> Writer<'d> {
         }
     }
 
-    /// Writes the full list of `c`. Behind `c` nothing stands, or a character whose full list begins with a starter.
-    #[inline(always)]
-    pub(super) fn write_apart<T: WriteTo<S>, S>(
-        &mut self,
-        c: char,
-        sink: &mut S,
-    ) -> Result<(), NormError<T::Error>>
-        ensures ok { OnOk result (WritesApart T.encode self.old ((writer_data self.old).full c) (T.contents sink.old) (T.contents sink.new) self.new) }
-        ensures err { OnErr result (WritesPartApart T.encode self.old ((writer_data self.old).full c) (T.contents sink.old) (T.contents sink.new)) }
-        ensures failure { EndsByFailure T.takes T.fails sink.old result sink.new }
-        ensures same { writer_data self.new ≡ writer_data self.old }
-    {
-        if c < '\u{a0}' {
-            return self.add::<T, S>(c, 0, sink);
-        }
-        match self.basis.reading(c) {
-            Reading::Itself(class) => self.add::<T, S>(c, class, sink),
-            Reading::Two(first, second) => self.write_two::<T, S>(first, second, sink),
-            Reading::Three(first, second, third) => {
-                if is_straight(self.basis, first, second, third) {
-                    self.write_flushed::<T, S>(&[first, second, third], sink)
-                } else {
-                    self.write_list::<T, S>(c, sink)
-                }
-            }
-            Reading::Other => self.write_list::<T, S>(c, sink),
-        }
-    }
-
-    /// Writes the full list of the last character of a text, and all that is held.
-    #[inline(never)]
-    pub(super) fn write_last<T: WriteTo<S>, S>(
-        &mut self,
-        c: char,
-        sink: &mut S,
-    ) -> Result<(), NormError<T::Error>>
-        ensures ok { OnOk result (T.contents sink.new ≡ T.contents sink.old ++ due T.encode self.old ((writer_data self.old).full c)) }
-        ensures err { OnErr result (AddsPrefix (T.contents sink.old) (due T.encode self.old ((writer_data self.old).full c)) (T.contents sink.new)) }
-        ensures failure { EndsByFailure T.takes T.fails sink.old result sink.new }
-    {
-        self.write_decomposed::<T, S>(c, sink)?;
-        self.flush::<T, S>(sink)
-    }
-
     /// Writes the full list of `c`, character by character.
     #[inline(never)]
     fn write_list<T: WriteTo<S>, S>(
@@ -145,23 +154,6 @@ impl<'d> Writer<'d> {
             self.write::<T, S>(d, sink)?;
         }
         Ok(())
-    }
-
-    /// Writes a starter and what is in order behind it. Behind that nothing stands, or a starter.
-    #[inline]
-    fn write_flushed<T: WriteTo<S>, S>(
-        &mut self,
-        list: &[char],
-        sink: &mut S,
-    ) -> Result<(), NormError<T::Error>>
-        requires { IsStraight (writer_data self.old).class list.now }
-        ensures ok { OnOk result (WritesApart T.encode self.old list.now (T.contents sink.old) (T.contents sink.new) self.new) }
-        ensures err { OnErr result (WritesPartApart T.encode self.old list.now (T.contents sink.old) (T.contents sink.new)) }
-        ensures failure { EndsByFailure T.takes T.fails sink.old result sink.new }
-        ensures same { writer_data self.new ≡ writer_data self.old }
-    {
-        self.flush::<T, S>(sink)?;
-        write_chars::<T, S>(list, sink)
     }
 
     /// Writes two characters, each its own full list.
@@ -224,52 +216,54 @@ impl<'d> Writer<'d> {
     }
 
     /// Holds a mark of this class.
-    #[inline]
     fn hold(&mut self, c: char, class: u8) -> Result<(), AllocError>
         requires class { class ≡ (writer_data self.old).class c }
         requires mark { class ≢ 0 }
-        ensures ok { OnOk result (held self.new ≡ held self.old ++ c ∷ []) }
+        ensures ok { OnOk result (KeepsDue self.old (c ∷ []) self.new) }
         ensures same { writer_data self.new ≡ writer_data self.old }
     {
-        let in_order = self.rises(class);
         if self.count == FEW {
-            return self.hold_more(c, class);
+            return self.hold_more(c);
         }
-        self.few[self.count] = c;
-        self.count += 1;
-        self.last = class;
-        self.in_order = in_order;
+        self.insert(c, class);
         Ok(())
     }
 
     /// The same, where `few` is full.
     #[cold]
-    fn hold_more(&mut self, c: char, class: u8) -> Result<(), AllocError>
-        requires class { class ≡ (writer_data self.old).class c }
-        requires mark { class ≢ 0 }
-        requires full { self.old.count ≡ 4 }
-        ensures ok { OnOk result (held self.new ≡ held self.old ++ c ∷ []) }
+    fn hold_more(&mut self, c: char) -> Result<(), AllocError>
+        requires mark { (writer_data self.old).class c ≢ 0 }
+        requires full { self.old.count ≡ 64 }
+        ensures ok { OnOk result (KeepsDue self.old (c ∷ []) self.new) }
         ensures same { writer_data self.new ≡ writer_data self.old }
     {
-        let in_order = self.rises(class);
         self.more.push(c)?;
-        self.last = class;
-        self.in_order = in_order;
         Ok(())
     }
 
-    /// Whether the marks are known to be in order, with one more of this class.
-    #[inline]
-    fn rises(&self, class: u8) -> bool
-        ensures order { IsTrue result → self.now.in_order ≡ true }
-        ensures last { IsTrue result → self.now.last ≤ class }
+    /// The same, where there is room: behind the last that is of no higher class.
+    fn insert(&mut self, c: char, class: u8)
+        requires class { class ≡ (writer_data self.old).class c }
+        requires mark { class ≢ 0 }
+        requires room { self.old.count < 64 }
+        ensures kept { KeepsDue self.old (c ∷ []) self.new }
+        ensures same { writer_data self.new ≡ writer_data self.old }
     {
-        self.in_order && self.last <= class
+        let place = place_of(self.basis, &self.few[..self.count], class);
+        let last = last_class(place, self.count, class, self.last);
+        let mut few = self.few;
+        insert_at(&mut few, place, self.count, c);
+        self.few = few;
+        self.count += 1;
+        self.last = last;
     }
 
-    /// Writes the marks that are held, as is right before a starter and at the end of the text.
+    /// Writes what is held, as is right before a starter and at the end of the text.
     #[inline(always)]
-    fn flush<T: WriteTo<S>, S>(&mut self, sink: &mut S) -> Result<(), NormError<T::Error>>
+    pub(super) fn flush<T: WriteTo<S>, S>(
+        &mut self,
+        sink: &mut S,
+    ) -> Result<(), NormError<T::Error>>
         ensures ok { OnOk result (T.contents sink.new ≡ T.contents sink.old ++ due T.encode self.old []) }
         ensures empty { OnOk result (held self.new ≡ []) }
         ensures err { OnErr result (AddsPrefix (T.contents sink.old) (due T.encode self.old []) (T.contents sink.new)) }
@@ -296,30 +290,32 @@ impl<'d> Writer<'d> {
         written
     }
 
-    /// Writes the marks that are held, in order.
+    /// Writes what is held, in order.
     #[inline]
     fn write_marks<T: WriteTo<S>, S>(&self, sink: &mut S) -> Result<(), NormError<T::Error>>
         ensures ok { OnOk result (T.contents sink.new ≡ T.contents sink.old ++ due T.encode self.now []) }
         ensures err { OnErr result (AddsPrefix (T.contents sink.old) (due T.encode self.now []) (T.contents sink.new)) }
         ensures failure { EndsByFailure T.takes T.fails sink.old result sink.new }
     {
-        if self.in_order && self.count < FEW {
-            return write_chars::<T, S>(&self.few[..self.count], sink);
+        let more = self.more.as_slice();
+        if more.is_empty() {
+            return T::write_chars(sink, &self.few[..self.count]);
         }
         let Ok(marks) = self.sorted() else {
             return Err(NormError::Memory);
         };
-        write_chars::<T, S>(&marks, sink)
+        T::write_chars(sink, &marks)
     }
 
-    /// The marks that are held, in order.
+    /// What is held, in order.
     fn sorted(&self) -> Result<SmallVec<char, 16>, AllocError>
         ensures { IfOk result (λ marks. marks.items ≡ marks_in_order (writer_data self.now).class (held self.now)) }
     {
         let mut marks = SmallVec::new(*self.more.allocator());
         marks.extend_from_slice(&self.few[..self.count])?;
         marks.extend_from_slice(&self.more)?;
-        sort_marks(self.basis, &mut marks, 0)?;
+        let from = place_of(self.basis, &self.few[..self.count], 0);
+        sort_marks(self.basis, &mut marks, from)?;
         Ok(marks)
     }
 
@@ -334,21 +330,5 @@ impl<'d> Writer<'d> {
         }
         self.count = 0;
         self.last = 0;
-        self.in_order = true;
     }
-}
-
-/// Writes characters to a sink.
-#[inline]
-fn write_chars<T: WriteTo<S>, S>(chars: &[char], sink: &mut S) -> Result<(), NormError<T::Error>>
-    ensures ok { OnOk result (T.contents sink.new ≡ T.contents sink.old ++ T.encode chars.now) }
-    ensures err { OnErr result (AddsPrefix (T.contents sink.old) (T.encode chars.now) (T.contents sink.new)) }
-    ensures failure { EndsByFailure T.takes T.fails sink.old result sink.new }
-{
-    for c in chars {
-        if let Err(error) = T::write_char(sink, *c) {
-            return Err(NormError::Sink(error));
-        }
-    }
-    Ok(())
 }

@@ -1,11 +1,14 @@
 //! Texts on their way to sinks, in their own encoding.
 
 ghost use Rattle.std.specs.Prelude.{◌≡◌, ℕ, List, [], ◌∷◌, ◌++◌, IfOk, OnOk, OnErr, IfErr, encode_utf8_all, string_bytes};
-ghost use Rattle.icu_normalizer.specs.Sinks.{AddsPrefix};
+ghost use Rattle.icu_normalizer.specs.Sinks.{AddsPrefix, EndsByFailure};
 ghost use Rattle.icu_normalizer.specs.Texts.{IsUndamaged, encode_utf16_all};
 
+mod several;
+
 use super::{Text, known_text};
-use crate::sinks::{TextSink, UnitSink};
+use crate::sinks::{NormError, TextSink, UnitSink};
+use several::{write_text_chars, write_unit_chars};
 use std::alloc::{AllocError, Global};
 
 /// A text that can be written to a sink `S`, which holds characters in the encoding of the text.
@@ -27,6 +30,12 @@ pub(crate) trait WriteTo<S>: Text {
         ensures err { OnErr result (AddsPrefix (contents sink.old) (Self.encode (c ∷ [])) (contents sink.new)) }
         ensures taken { OnOk result (takes sink.old sink.new) }
         ensures failed { IfErr result (λ error. fails sink.old error sink.new) };
+
+    /// Writes characters. After an error the sink holds what it held, and a prefix of the characters' units.
+    fn write_chars(sink: &mut S, chars: &[char]) -> Result<(), NormError<Self::Error>>
+        ensures ok { OnOk result (contents sink.new ≡ contents sink.old ++ Self.encode chars.now) }
+        ensures err { OnErr result (AddsPrefix (contents sink.old) (Self.encode chars.now) (contents sink.new)) }
+        ensures failure { EndsByFailure takes fails sink.old result sink.new };
 
     /// Writes a text that is undamaged. After an error the sink holds what it held, and a prefix of the text.
     fn write_whole(self, sink: &mut S) -> Result<(), Self::Error>
@@ -64,6 +73,15 @@ impl<'t, S: TextSink> WriteTo<S> for &'t str {
     }
 
     #[inline]
+    fn write_chars(sink: &mut S, chars: &[char]) -> Result<(), NormError<S::Error>>
+        ensures ok { OnOk result (S.contents sink.new ≡ S.contents sink.old ++ encode_utf8_all chars.now) }
+        ensures err { OnErr result (AddsPrefix (S.contents sink.old) (encode_utf8_all chars.now) (S.contents sink.new)) }
+        ensures failure { EndsByFailure S.takes S.fails sink.old result sink.new }
+    {
+        write_text_chars(sink, chars)
+    }
+
+    #[inline]
     fn write_whole(self, sink: &mut S) -> Result<(), S::Error> {
         sink.write_str(self)
     }
@@ -89,6 +107,15 @@ impl<'t, S: TextSink> WriteTo<S> for &'t [u8] {
     }
 
     #[inline]
+    fn write_chars(sink: &mut S, chars: &[char]) -> Result<(), NormError<S::Error>>
+        ensures ok { OnOk result (S.contents sink.new ≡ S.contents sink.old ++ encode_utf8_all chars.now) }
+        ensures err { OnErr result (AddsPrefix (S.contents sink.old) (encode_utf8_all chars.now) (S.contents sink.new)) }
+        ensures failure { EndsByFailure S.takes S.fails sink.old result sink.new }
+    {
+        write_text_chars(sink, chars)
+    }
+
+    #[inline]
     fn write_whole(self, sink: &mut S) -> Result<(), S::Error> {
         sink.write_str(known_text(self))
     }
@@ -111,6 +138,15 @@ impl<'t, S: UnitSink> WriteTo<S> for &'t [u16] {
         ensures failed { IfErr result (λ error. S.fails sink.old error sink.new) }
     {
         sink.write_char(c)
+    }
+
+    #[inline]
+    fn write_chars(sink: &mut S, chars: &[char]) -> Result<(), NormError<S::Error>>
+        ensures ok { OnOk result (S.contents sink.new ≡ S.contents sink.old ++ encode_utf16_all chars.now) }
+        ensures err { OnErr result (AddsPrefix (S.contents sink.old) (encode_utf16_all chars.now) (S.contents sink.new)) }
+        ensures failure { EndsByFailure S.takes S.fails sink.old result sink.new }
+    {
+        write_unit_chars(sink, chars)
     }
 
     #[inline]

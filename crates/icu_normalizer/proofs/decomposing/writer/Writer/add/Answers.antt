@@ -1,10 +1,10 @@
 use Rattle.std.proofs.Common.{arith}
 use Rattle.icu_normalizer.specs.Sinks.{nothing, more}
-use Rattle.icu_normalizer.proofs.WriterLemmas.{on_any, mark_held, starter_written, starter_cut, held_cut}
+use Rattle.icu_normalizer.proofs.WriterLemmas.{on_any, due_kept, starter_written, starter_cut, held_cut}
 use Rattle.icu_normalizer.proofs.decomposing.writer.Writer.add.Goals as goal
 
 pub returns-in-Ok-clause-ok : goal.returns-in-Ok-clause-ok
-returns-in-Ok-clause-ok g c = mark_held g.T.Text.encode g.met.T.Text.encoding c.args.self.now c.hold.new.self c.args.c _ c.in-Ok.ensures.same c.in-Ok.ensures.ok
+returns-in-Ok-clause-ok g c = due_kept g.T.Text.encode g.met.T.Text.encoding c.args.self.now c.hold.new.self _ _ c.in-Ok.ensures.ok
 
 pub returns-in-Ok-clause-failure : goal.returns-in-Ok-clause-failure
 returns-in-Ok-clause-failure g c = nothing _

@@ -1,7 +1,7 @@
-use Rattle.std.proofs.Common.{◌++◌, refl, ap, ◌∙◌, subst}
+use Rattle.std.proofs.Common.{◌++◌, refl, ap, ◌∙◌, subst, sym}
 use Rattle.std.proofs.lemmas.Result.{on_ok_weaker, on_err_weaker}
 use Rattle.icu_normalizer.specs.Sinks.{AddsPrefix, nothing}
-use Rattle.icu_normalizer.proofs.WriterLemmas.{marks_due, few_due}
+use Rattle.icu_normalizer.proofs.WriterLemmas.{marks_due, few_due, none_of}
 use Rattle.icu_normalizer.proofs.decomposing.writer.Writer.write_marks.Goals as goal
 
 pub returns-in_default-clause-failure : goal.returns-in_default-clause-failure
@@ -19,14 +19,14 @@ returns-clause-err g c =
     (λ part. subst (λ l. AddsPrefix (g.T.WriteTo.contents c.args.sink.now) l (g.T.WriteTo.contents c.write_chars-2.new.sink)) sorted part)
     c.write_chars-2.ensures.err
 
-pub returns-then-self-lt-FEW-clause-ok : goal.returns-then-self-lt-FEW-clause-ok
-returns-then-self-lt-FEW-clause-ok g c =
-    let sorted = few_due g.T.Text.encode g.met.T.Text.encoding c.args.self.now _ refl c.if-self.true c.if-self-lt-FEW.true in
+pub returns-then-is_empty-clause-ok : goal.returns-then-is_empty-clause-ok
+returns-then-is_empty-clause-ok g c =
+    let sorted = few_due g.T.Text.encode g.met.T.Text.encoding c.args.self.now _ refl (sym c.as_slice-more.ensures.value ∙ none_of c.as_slice-more.result.now (sym c.if-is_empty.ensures)) in
     on_ok_weaker c.write_chars.result (λ done. done ∙ ap (λ l. g.T.WriteTo.contents c.args.sink.now ++ l) sorted) c.write_chars.ensures.ok
 
-pub returns-then-self-lt-FEW-clause-err : goal.returns-then-self-lt-FEW-clause-err
-returns-then-self-lt-FEW-clause-err g c =
-    let sorted = few_due g.T.Text.encode g.met.T.Text.encoding c.args.self.now _ refl c.if-self.true c.if-self-lt-FEW.true in
+pub returns-then-is_empty-clause-err : goal.returns-then-is_empty-clause-err
+returns-then-is_empty-clause-err g c =
+    let sorted = few_due g.T.Text.encode g.met.T.Text.encoding c.args.self.now _ refl (sym c.as_slice-more.ensures.value ∙ none_of c.as_slice-more.result.now (sym c.if-is_empty.ensures)) in
     on_err_weaker c.write_chars.result
     (λ part. subst (λ l. AddsPrefix (g.T.WriteTo.contents c.args.sink.now) l (g.T.WriteTo.contents c.write_chars.new.sink)) sorted part)
     c.write_chars.ensures.err

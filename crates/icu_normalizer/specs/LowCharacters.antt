@@ -1,0 +1,24 @@
+-- Notes of characters, each at the place that is its code.
+use Rattle.std.specs.Prelude.{◌≡◌, ℕ, ◌<◌, ◌≤◌, true, List, [], ◌∷◌, length, take, get_or}
+use Rattle.icu_normalizer_core.specs.Canonical.{Canonical}
+use Rattle.icu_normalizer.specs.declared.low.LowCharacter.{LowCharacter}
+use Rattle.icu_normalizer.specs.Marks.{stands_to}
+
+-- the full list that is noted
+abbrev pub noted_list : LowCharacter → List ℕ
+noted_list note = take note.len (note.first ∷ note.second ∷ note.third ∷ [])
+
+-- a note is that of a full list: it is in order behind what it says, and its last character has the class that it says
+pub record IsListed (canonical : Canonical) (list : List ℕ) (note : LowCharacter) : Type 0 where
+  pub within : note.len ≤ 3
+  pub list_is : 0 < note.len → list ≡ noted_list note
+  pub stands : 0 < note.len → (before : ℕ) → before ≤ note.order → stands_to canonical.class before note.class (noted_list note) ≡ true
+
+-- what is noted of a character is so
+pub record IsLow (canonical : Canonical) (c : ℕ) (note : LowCharacter) : Type 0 where
+  pub listed : IsListed canonical (canonical.full c) note
+  pub alone : note.len ≡ 1 → (canonical.full c ≡ c ∷ []) × (canonical.class c ≡ note.class)
+
+-- notes, each at the place that is its character's code
+abbrev pub AreLow : Canonical → List LowCharacter → Type 0
+AreLow canonical notes = (c : ℕ) (other : LowCharacter) → c < length notes → IsLow canonical c (get_or notes c other)
