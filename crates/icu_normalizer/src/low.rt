@@ -1,6 +1,6 @@
 //! Notes of low characters: what is asked of them most often, found once and looked up by one read.
 
-ghost use Rattle.std.specs.Prelude.{◌≡◌, [], ◌∷◌, IfOk, IfSome};
+ghost use Rattle.std.specs.Prelude.{◌≡◌, false, [], ◌∷◌, IfOk, IfSome};
 ghost use Rattle.icu_normalizer_core.specs.Canonical.{Canonical};
 ghost use Rattle.icu_normalizer_core.specs.FormData.{form_meaning};
 ghost use Rattle.icu_normalizer.specs.LowCharacters.{AreLow, IsListed, IsLow};
@@ -23,13 +23,16 @@ pub(crate) struct LowCharacter {
     pub(crate) len: u8,
     /// The full list is in order behind any character of a class up to this.
     pub(crate) order: u8,
-    /// The class of the last character of the full list.
+    /// The class of the last character of the full list, which is its highest.
     pub(crate) class: u8,
+    /// Whether it is known that composing leaves the character alone.
+    pub(crate) steady: bool,
 }
 
 /// Where nothing is noted.
 fn nothing() -> LowCharacter
-    ensures { result.len ≡ 0 }
+    ensures len { result.len ≡ 0 }
+    ensures steady { result.steady ≡ false }
 {
     LowCharacter {
         first: '\0',
@@ -38,6 +41,7 @@ fn nothing() -> LowCharacter
         len: 0,
         order: 0,
         class: 0,
+        steady: false,
     }
 }
 
@@ -45,7 +49,9 @@ fn nothing() -> LowCharacter
 fn note_itself(basis: FormData<'_>, c: char, class: u8) -> LowCharacter
     requires full { (form_meaning basis).full c ≡ c ∷ [] }
     requires class { (form_meaning basis).class c ≡ class }
-    ensures { IsLow (form_meaning basis.entry) c result }
+    ensures listed { IsListed (form_meaning basis.entry) ((form_meaning basis.entry).full c) result }
+    ensures class { result.class ≡ class }
+    ensures steady { result.steady ≡ false }
 {
     LowCharacter {
         first: c,
@@ -54,12 +60,15 @@ fn note_itself(basis: FormData<'_>, c: char, class: u8) -> LowCharacter
         len: 1,
         order: if class == 0 { u8::MAX } else { class },
         class,
+        steady: false,
     }
 }
 
 /// The note of a character whose full list has these two.
 fn note_two(basis: FormData<'_>, first: char, second: char) -> LowCharacter
-    ensures { IsListed (form_meaning basis.entry) (first ∷ second ∷ []) result }
+    ensures listed { IsListed (form_meaning basis.entry) (first ∷ second ∷ []) result }
+    ensures steady { result.steady ≡ false }
+    ensures two { result.len ≡ 1 → ⊥ }
 {
     if basis.class(first) != 0 {
         return nothing();
@@ -71,12 +80,15 @@ fn note_two(basis: FormData<'_>, first: char, second: char) -> LowCharacter
         len: 2,
         order: u8::MAX,
         class: basis.class(second),
+        steady: false,
     }
 }
 
 /// The note of a character whose full list has these three.
 fn note_three(basis: FormData<'_>, first: char, second: char, third: char) -> LowCharacter
-    ensures { IsListed (form_meaning basis.entry) (first ∷ second ∷ third ∷ []) result }
+    ensures listed { IsListed (form_meaning basis.entry) (first ∷ second ∷ third ∷ []) result }
+    ensures steady { result.steady ≡ false }
+    ensures three { result.len ≡ 1 → ⊥ }
 {
     let class = basis.class(third);
     if basis.class(first) != 0 || basis.class(second) > class {
@@ -89,12 +101,15 @@ fn note_three(basis: FormData<'_>, first: char, second: char, third: char) -> Lo
         len: 3,
         order: u8::MAX,
         class,
+        steady: false,
     }
 }
 
-/// What is to be noted of a character.
-fn note_of(basis: FormData<'_>, c: char) -> LowCharacter
-    ensures { IsLow (form_meaning basis.entry) c result }
+/// What is to be noted of a character, but for whether it is steady.
+fn listed_note(basis: FormData<'_>, c: char) -> LowCharacter
+    ensures listed { IsListed (form_meaning basis.entry) ((form_meaning basis.entry).full c) result }
+    ensures steady { result.steady ≡ false }
+    ensures alone { result.len ≡ 1 → ((form_meaning basis.entry).full c ≡ c ∷ []) × ((form_meaning basis.entry).class c ≡ result.class) }
 {
     match basis.reading(c) {
         Reading::Itself(class) => note_itself(basis, c, class),
@@ -102,6 +117,18 @@ fn note_of(basis: FormData<'_>, c: char) -> LowCharacter
         Reading::Three(first, second, third) => note_three(basis, first, second, third),
         Reading::Other => nothing(),
     }
+}
+
+/// What is to be noted of a character.
+fn note_of(basis: FormData<'_>, c: char) -> LowCharacter
+    ensures { IsLow (form_meaning basis.entry) c result }
+{
+    let mut note = listed_note(basis, c);
+    if note.len == 0 || !basis.is_steady(c) {
+        return note;
+    }
+    note.steady = true;
+    note
 }
 
 /// What is to be noted of the character of a code, if it is one.

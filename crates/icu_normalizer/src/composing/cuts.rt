@@ -4,12 +4,14 @@ ghost use Rattle.std.specs.Prelude.{◌≡◌, ◌<◌, ◌≤◌, ◌++◌, len
 ghost use Rattle.icu_normalizer_core.specs.Canonical.{composed};
 ghost use Rattle.icu_normalizer_core.specs.FormData.{form_meaning};
 ghost use Rattle.icu_normalizer.specs.Clusters.{IsFound};
+ghost use Rattle.icu_normalizer.specs.LowCharacters.{AreLow};
 ghost use Rattle.icu_normalizer.specs.TextCuts.{IsTextCut, IsTextSplit};
 ghost use Rattle.icu_normalizer.specs.Texts.{IsAtEnd, IsUndamaged};
 
 use super::cluster_form::ClusterForm;
 use super::lone_mark::{LoneMark, lone_mark};
 use super::low::pass_low;
+use crate::low::LowCharacter;
 use crate::texts::Text;
 use icu_normalizer_core::decomposition::FormData;
 use std::alloc::{AllocError, Global};
@@ -27,13 +29,15 @@ pub(super) enum Found<T> {
 pub(super) fn rest_to_change<T: Text>(
     alloc: Global,
     basis: FormData<'_>,
+    low: &[LowCharacter],
     text: T,
 ) -> Result<T, AllocError>
+    requires { AreLow (form_meaning basis) low.now }
     ensures { IfOk result (λ rest. IsTextCut T.encode (composed (form_meaning basis.entry)) 0x300 (T.spelled text) (T.spelled rest)) }
 {
     let mut left = pass_low(basis, text);
     'clusters: while !left.is_at_end() {
-        match first_found(alloc, basis, left) {
+        match first_found(alloc, basis, low, left) {
             Ok(Found::Own(rest)) => left = pass_low(basis, rest),
             Ok(Found::Changed(rest)) => return Ok(rest),
             Err(error) => return Err(error),
@@ -46,11 +50,13 @@ pub(super) fn rest_to_change<T: Text>(
 pub(super) fn split<T: Text>(
     alloc: Global,
     basis: FormData<'_>,
+    low: &[LowCharacter],
     text: T,
 ) -> Result<(T, T), AllocError>
+    requires { AreLow (form_meaning basis) low.now }
     ensures { IfOk result (λ parts. IsTextSplit T.encode (composed (form_meaning basis.entry)) 0x300 (T.spelled text) (T.spelled parts.0) (T.spelled parts.1)) }
 {
-    match rest_to_change(alloc, basis, text) {
+    match rest_to_change(alloc, basis, low, text) {
         Ok(rest) => Ok(text.split_before(rest)),
         Err(error) => Err(error),
     }
@@ -67,12 +73,18 @@ pub(super) fn split_low<T: Text>(basis: FormData<'_>, text: T) -> (T, T)
 
 /// What is found of the first cluster of a text. Memory is taken for long runs of marks alone.
 #[inline]
-fn first_found<T: Text>(alloc: Global, basis: FormData<'_>, text: T) -> Result<Found<T>, AllocError>
-    requires { IsAtEnd (T.spelled text) → ⊥ }
+fn first_found<T: Text>(
+    alloc: Global,
+    basis: FormData<'_>,
+    low: &[LowCharacter],
+    text: T,
+) -> Result<Found<T>, AllocError>
+    requires some { IsAtEnd (T.spelled text) → ⊥ }
+    requires notes { AreLow (form_meaning basis) low.now }
     ensures { IfOk result (λ found. IsFound T.encode (composed (form_meaning basis.entry)) T.spelled (T.spelled text) found) }
 {
     text.keep_promise();
-    let Some(lone) = lone_mark(basis, text) else {
+    let Some(lone) = lone_mark(basis, low, text) else {
         return read_cluster(alloc, basis, text);
     };
     match lone.0 {

@@ -4,11 +4,13 @@ ghost use Rattle.std.specs.Prelude.{◌≡◌, ◌<◌, ◌≤◌, [], ◌∷◌
 ghost use Rattle.std.specs.List.{AllByRecursion};
 ghost use Rattle.icu_normalizer_core.specs.Canonical.{composed, composing};
 ghost use Rattle.icu_normalizer_core.specs.FormData.{form_meaning};
+ghost use Rattle.icu_normalizer.specs.LowCharacters.{AreLow};
 ghost use Rattle.icu_normalizer.specs.LoneMarks.{IsLoneMark, IsMade, IsMark, IsSteadyUpTo, lone_form};
 ghost use Rattle.icu_normalizer.specs.Sinks.{AddsPrefix, EndsByFailure};
 ghost use Rattle.icu_normalizer.specs.Texts.{BeginsWith};
 
 use super::clusters::next_of_cluster;
+use crate::low::{LowCharacter, low_character};
 use crate::sinks::NormError;
 use crate::texts::{Text, WriteTo};
 use icu_normalizer_core::canonical::Reading;
@@ -28,7 +30,12 @@ pub(super) enum LoneMark {
 /// What composing makes of the first cluster of a text, and what stands behind it, where the cluster is a steady
 /// character and one mark and that is known; `None` says nothing.
 #[inline]
-pub(super) fn lone_mark<T: Text>(basis: FormData<'_>, text: T) -> Option<(LoneMark, T)>
+pub(super) fn lone_mark<T: Text>(
+    basis: FormData<'_>,
+    low: &[LowCharacter],
+    text: T,
+) -> Option<(LoneMark, T)>
+    requires { AreLow (form_meaning basis) low.now }
     ensures { IfSome result (λ lone. IsLoneMark T.encode (form_meaning basis.entry) (T.spelled text) lone.0 (T.spelled lone.1)) }
 {
     let Some(letter) = undamaged_char(text) else {
@@ -37,13 +44,13 @@ pub(super) fn lone_mark<T: Text>(basis: FormData<'_>, text: T) -> Option<(LoneMa
     let Some(mark) = undamaged_char(letter.1) else {
         return None;
     };
-    let Some(class) = class_of_mark(basis, mark.0) else {
+    let Some(class) = class_of_mark(basis, low, mark.0) else {
         return None;
     };
     if let Some(_) = next_of_cluster(basis, mark.1) {
         return None;
     }
-    match composed_lone(basis, letter.0, mark.0, class) {
+    match composed_lone(basis, low, letter.0, mark.0, class) {
         Some(lone) => Some((lone, mark.1)),
         None => None,
     }
@@ -67,7 +74,21 @@ fn undamaged_char<T: Text>(text: T) -> Option<(char, T)>
 
 /// The class of a mark that is known to be its own full list; `None` of other characters.
 #[inline]
-fn class_of_mark(basis: FormData<'_>, c: char) -> Option<u8>
+fn class_of_mark(basis: FormData<'_>, low: &[LowCharacter], c: char) -> Option<u8>
+    requires { AreLow (form_meaning basis) low.now }
+    ensures { IfSome result (λ class. IsMark (form_meaning basis.entry) c class) }
+{
+    let Some(note) = low_character(low, c) else {
+        return class_asked(basis, c);
+    };
+    if note.len != 1 || note.class == 0 {
+        return None;
+    }
+    Some(note.class)
+}
+
+/// The same, by what the data say.
+fn class_asked(basis: FormData<'_>, c: char) -> Option<u8>
     ensures { IfSome result (λ class. IsMark (form_meaning basis.entry) c class) }
 {
     let Reading::Itself(class) = basis.reading(c) else {
@@ -81,8 +102,21 @@ fn class_of_mark(basis: FormData<'_>, c: char) -> Option<u8>
 
 /// Whether a character is known to be steady, and of no class above this one in its full list.
 #[inline]
+fn is_steady_up_to(basis: FormData<'_>, low: &[LowCharacter], c: char, class: u8) -> bool
+    requires { AreLow (form_meaning basis) low.now }
+    ensures { IsTrue result → IsSteadyUpTo (form_meaning basis.entry) c class }
+{
+    if let Some(note) = low_character(low, c) {
+        if note.steady {
+            return note.class <= class;
+        }
+    }
+    is_asked_up_to(basis, c, class)
+}
+
+/// The same, by what the data say.
 #[tactic(auto, using(crate::proofs::LoneMarkLemmas::steady_up_to_itself, crate::proofs::LoneMarkLemmas::steady_up_to_two))]
-fn is_steady_up_to(basis: FormData<'_>, c: char, class: u8) -> bool
+fn is_asked_up_to(basis: FormData<'_>, c: char, class: u8) -> bool
     ensures { IsTrue result → IsSteadyUpTo (form_meaning basis.entry) c class }
 {
     basis.keep_promise();
@@ -113,12 +147,19 @@ fn has_classes_up_to(basis: FormData<'_>, c: char, class: u8) -> bool
 
 /// What composing makes of a character and a mark of this class behind it, if that is known.
 #[inline]
-fn composed_lone(basis: FormData<'_>, letter: char, mark: char, class: u8) -> Option<LoneMark>
-    requires { IsMark (form_meaning basis) mark class }
+fn composed_lone(
+    basis: FormData<'_>,
+    low: &[LowCharacter],
+    letter: char,
+    mark: char,
+    class: u8,
+) -> Option<LoneMark>
+    requires mark { IsMark (form_meaning basis) mark class }
+    requires notes { AreLow (form_meaning basis) low.now }
     ensures form { IfSome result (λ lone. composed (form_meaning basis.entry) (letter ∷ mark ∷ []) ≡ lone_form lone) }
     ensures made { IfSome result (λ lone. IsMade letter mark lone) }
 {
-    if is_steady_up_to(basis, letter, class) {
+    if is_steady_up_to(basis, low, letter, class) {
         Some(composed_pair(basis, letter, mark))
     } else {
         composed_below(basis, letter, mark, class)

@@ -8,6 +8,7 @@ ghost use Rattle.icu_normalizer_core.specs.Forming.{IsSaidOver};
 ghost use Rattle.icu_normalizer_core.specs.Iter.{Spells};
 ghost use Rattle.icu_normalizer_core.specs.Readable.{IsReadable};
 ghost use Rattle.icu_normalizer.specs.Composing.{IsComposable};
+ghost use Rattle.icu_normalizer.specs.LowCharacters.{AreLow};
 ghost use Rattle.icu_normalizer.specs.Sinks.{AddsPrefix, EndsByFailure};
 ghost use Rattle.icu_normalizer.specs.Texts.{IsAtEnd, IsUndamaged};
 ghost use Rattle.icu_normalizer.specs.Writer.{AddsFront};
@@ -20,6 +21,7 @@ use super::Composition;
 use super::cluster_form::ClusterForm;
 use super::cuts::{split, split_low};
 use super::lone_mark::{lone_mark, write_lone};
+use crate::low::LowCharacter;
 use crate::sinks::{NormError, TextSink};
 use crate::texts::{Text, WriteTo};
 use crate::written::{WriteForm, write_form};
@@ -30,6 +32,8 @@ use std::alloc::{AllocError, Global};
 #[derive(Clone, Copy, Debug)]
 pub struct ComposingNormalizerBorrowed<'d> {
     basis: FormData<'d>,
+    low: &'d [LowCharacter],
+    ghost notes: { AreLow (form_meaning basis) low.now },
     ghost readable: { IsReadable (form_meaning basis) },
     ghost composable: { IsComposable (form_meaning basis) },
 }
@@ -38,12 +42,16 @@ impl<'d> ComposingNormalizerBorrowed<'d> {
     ghost use Rattle.icu_normalizer.specs.Compositions.{ComposesTo, CanCompose, composition_size};
     ghost use Rattle.icu_normalizer.specs.Normalizers.{composing_data, composing_canonical};
 
-    /// A normaliser over these data. It takes no memory.
-    pub(super) fn over(basis: FormData<'d>) -> ComposingNormalizerBorrowed<'d>
+    /// A normaliser over these data, with notes of low characters. It takes no memory.
+    pub(super) fn over(
+        basis: FormData<'d>,
+        low: &'d [LowCharacter],
+    ) -> ComposingNormalizerBorrowed<'d>
+        requires { AreLow (form_meaning basis) low.now }
         ensures { result.basis ≡ basis.entry }
     {
         basis.keep_promise();
-        ComposingNormalizerBorrowed { basis }
+        ComposingNormalizerBorrowed { basis, low }
     }
 
     /// Its data keep what canonical data promise, which the laws ask for, and what compatibility data do where it is
@@ -98,7 +106,7 @@ impl<'d> ComposingNormalizerBorrowed<'d> {
         ensures err { OnErr result (AddsPrefix (T.contents sink.old) (T.encode (composed (composing_data self.now) (T.spelled text).characters)) (T.contents sink.new)) }
         ensures failure { EndsByFailure T.takes T.fails sink.old result sink.new }
     {
-        let Some(lone) = lone_mark(self.basis, text) else {
+        let Some(lone) = lone_mark(self.basis, self.low, text) else {
             return self.write_cluster::<T, S>(alloc, text, sink);
         };
         match write_lone::<T, S>(lone.0, sink) {
@@ -146,7 +154,7 @@ impl<'d> WriteForm for ComposingNormalizerBorrowed<'d> {
     ghost bound = { λ _. 0x300 };
 
     fn split<T: Text>(&self, alloc: Global, text: T) -> Result<(T, T), AllocError> {
-        split(alloc, self.basis, text)
+        split(alloc, self.basis, self.low, text)
     }
 
     /// Most texts have no more units in NFC than they have.

@@ -1,13 +1,14 @@
 //! Normalisers to NFC and NFKC that hold their data.
 
-ghost use Rattle.std.specs.Prelude.{◌≡◌};
+ghost use Rattle.std.specs.Prelude.{◌≡◌, ◌⊎◌, Err};
 ghost use Rattle.icu_normalizer_core.specs.CanonicalMeaning.{meaning};
 ghost use Rattle.icu_normalizer_core.specs.CompatibilityLoading.{loaded_both, loaded_words};
 ghost use Rattle.icu_normalizer_core.specs.Loading.{loaded};
-ghost use Rattle.icu_normalizer.specs.NormalizerTables.{tables_meaning, IsMadeOfCanonical, IsMadeOfBoth};
+ghost use Rattle.icu_normalizer_core.specs.declared.provider.error.DataError.TheVariants.{Memory};
+ghost use Rattle.icu_normalizer.specs.NormalizerTables.{loaded_tables, tables_meaning, IsMadeOfCanonical, IsMadeOfBoth};
 
 use super::ComposingNormalizerBorrowed;
-use crate::owned_data::OwnedData;
+use crate::owned_data::{NotedData, OwnedData};
 use icu_normalizer_core::provider::{DataError, NormalizerProvider};
 use std::alloc::Global;
 use std::marker::Model;
@@ -16,7 +17,7 @@ use std::marker::Model;
 /// compatibility ones too.
 #[derive(Debug, Drop)]
 pub struct ComposingNormalizer<'a> {
-    data: OwnedData<'a>,
+    data: NotedData<'a>,
 }
 
 impl<'a> Model for ComposingNormalizer<'a> {
@@ -24,7 +25,7 @@ impl<'a> Model for ComposingNormalizer<'a> {
 
     ghost Value = { NormalizerTables };
 
-    ghost view = { λ inside. tables_of inside.data };
+    ghost view = { λ inside. tables_of inside.data.owned };
 }
 
 impl<'a> ComposingNormalizer<'a> {
@@ -38,8 +39,7 @@ impl<'a> ComposingNormalizer<'a> {
     ) -> Result<ComposingNormalizer<'a>, DataError>
         ensures { IsMadeOfCanonical result (loaded (P.nfd provider.now) (P.nfd_tables provider.now) (P.pairs provider.now)) }
     {
-        let data = OwnedData::load_canonical(alloc, provider)?;
-        Ok(ComposingNormalizer { data })
+        ComposingNormalizer::of_data(alloc, OwnedData::load_canonical(alloc, provider))
     }
 
     /// A normaliser to NFKC over a provider's tables. The answer is the first refusal, if there is one: of `load_nfd`,
@@ -54,8 +54,7 @@ impl<'a> ComposingNormalizer<'a> {
             (loaded (P.nfd provider.now) (P.nfd_tables provider.now) (P.pairs provider.now))
             (loaded_words (P.nfkd provider.now) (P.nfkd_tables provider.now))) }
     {
-        let data = OwnedData::load_compatibility(alloc, provider)?;
-        Ok(ComposingNormalizer { data })
+        ComposingNormalizer::of_data(alloc, OwnedData::load_compatibility(alloc, provider))
     }
 
     /// The same, borrowed: that has the calls.
@@ -63,6 +62,17 @@ impl<'a> ComposingNormalizer<'a> {
         ensures data { composing_data result ≡ tables_meaning self.now }
         ensures canonical { composing_canonical result ≡ meaning self.now.canonical }
     {
-        ComposingNormalizerBorrowed::over(self.data.as_form_data())
+        ComposingNormalizerBorrowed::over(self.data.owned.as_form_data(), self.data.low())
+    }
+
+    /// A normaliser of data that were loaded, or the refusal of the load, or that of memory.
+    fn of_data(
+        alloc: Global,
+        loaded: Result<OwnedData<'a>, DataError>,
+    ) -> Result<ComposingNormalizer<'a>, DataError>
+        ensures { (result ≡ Err Memory) ⊎ (result ≡ loaded_tables loaded.entry) }
+    {
+        let data = NotedData::new(alloc, loaded?)?;
+        Ok(ComposingNormalizer { data })
     }
 }

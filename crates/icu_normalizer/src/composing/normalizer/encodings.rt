@@ -40,7 +40,7 @@ impl ComposingNormalizerBorrowed<'_> {
         ensures empty { IfOk result (λ parts. (parts.1.now ≡ []) ↔ IsOwnText encode_utf8_all (composed (composing_data self.now)) (utf8_text text.now)) }
         ensures far { IfOk result (λ parts. ReachesTo encode_utf8_all (composed (composing_data self.now)) 0x300 (utf8_text text.now) (utf8_chars parts.0.now)) }
     {
-        let (prefix, rest) = split(alloc, self.basis, text)?;
+        let (prefix, rest) = split(alloc, self.basis, self.low, text)?;
         Ok((known_text(prefix), rest))
     }
 
@@ -67,7 +67,7 @@ impl ComposingNormalizerBorrowed<'_> {
         ensures empty { IfOk result (λ parts. (parts.1.now ≡ []) ↔ IsOwnText encode_utf16_all (composed (composing_data self.now)) (utf16_text text.now)) }
         ensures far { IfOk result (λ parts. ReachesTo encode_utf16_all (composed (composing_data self.now)) 0x300 (utf16_text text.now) (utf16_chars parts.0.now)) }
     {
-        let parts = split(alloc, self.basis, text)?;
+        let parts = split(alloc, self.basis, self.low, text)?;
         Ok(parts)
     }
 }

@@ -27,7 +27,7 @@ impl ComposingNormalizerBorrowed<'_> {
     pub(super) fn is_own<T: Text>(&self, alloc: Global, text: T) -> Result<bool, AllocError>
         ensures { IfOk result (λ is. IsTrue is ↔ IsOwnText T.encode (composed (composing_data self.now)) (T.spelled text)) }
     {
-        let rest = rest_to_change(alloc, self.basis, text)?;
+        let rest = rest_to_change(alloc, self.basis, self.low, text)?;
         Ok(rest.len() == 0)
     }
 
@@ -46,7 +46,7 @@ impl ComposingNormalizerBorrowed<'_> {
         ensures empty { IfOk result (λ parts. (parts.1.now ≡ []) ↔ IsComposed (composing_data self.now) (chars text.now)) }
         ensures far { IfOk result (λ parts. ReachesBelow (composed (composing_data self.now)) 0x300 (chars text.now) (chars parts.0.now)) }
     {
-        let parts = split(alloc, self.basis, text)?;
+        let parts = split(alloc, self.basis, self.low, text)?;
         Ok(parts)
     }
 

@@ -1,6 +1,10 @@
+use Rattle.std.proofs.Common.{arith}
+use Rattle.std.proofs.lemmas.Bool.Decides.{nat_tests}
 use Rattle.icu_normalizer_core.specs.FormData.{form_meaning}
-use Rattle.icu_normalizer.proofs.LoneMarkLemmas.{steady_up_to_low}
+use Rattle.icu_normalizer.proofs.LowCharacterLemmas.{steady_noted}
 use Rattle.icu_normalizer.proofs.composing.lone_mark.is_steady_up_to.Goals as goal
 
-pub returns-then-c-lt160 : goal.returns-then-c-lt160
-returns-then-c-lt160 c = λ _. steady_up_to_low (form_meaning c.args.basis) c.keep_promise.ensures.forming c.args.c c.args.class c.if-c-lt160.true
+pub returns-then-note : goal.returns-then-note
+returns-then-note c = λ yes.
+    steady_noted (form_meaning c.args.basis) c.args.c c.args.class c.in-Some.note (c.in-Some.ensures (form_meaning c.args.basis) c.requires) c.if-note.true
+    (grind (arith, nat_tests, yes))

@@ -1,5 +1,5 @@
 use Rattle.std.proofs.Common.{arith}
-use Rattle.icu_normalizer.proofs.composing.lone_mark.class_of_mark.Goals as goal
+use Rattle.icu_normalizer.proofs.composing.lone_mark.class_asked.Goals as goal
 
 pub returns : goal.returns
 returns c =
