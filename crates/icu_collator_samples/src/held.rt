@@ -6,6 +6,7 @@ ghost use Rattle.icu_normalizer_core.specs.declared.provider.error.TableName.The
 
 use crate::lines::read_lines;
 use crate::packed::packed_tables;
+use crate::records::RecordSet;
 use icu_codepointtrie::{CodePointTrie, TrieType};
 use icu_collator_core::provider::CollatorProvider;
 use icu_collator_core::tables::{
@@ -172,17 +173,27 @@ impl CollatorProvider for HeldCollation<'_> {
     }
 }
 
-/// A provider of the tables that lines of a records file say; `None` where a line says nothing that is known, or memory is
-/// refused.
-pub fn held_tables(alloc: Global, lines: &str) -> Option<HeldCollation<'static>> {
-    let set = read_lines(alloc, lines)?;
-    let canonical = set.canonical.build(alloc).ok()?;
+/// The collation tables of a set of records.
+fn tables_of_set(alloc: Global, set: &RecordSet) -> Option<CollationTables<'static>> {
     let data = set.canonical.build_data(alloc).ok()?;
-    let tables = packed_tables(alloc, &set, data.as_borrowed(), TrieType::Small)?;
+    packed_tables(alloc, set, data.as_borrowed(), TrieType::Small)
+}
+
+/// A provider of the tables of a set of records.
+fn held_set(alloc: Global, set: &RecordSet) -> Option<HeldCollation<'static>> {
+    let canonical = set.canonical.build(alloc).ok();
+    let (canonical, tables) = canonical.zip(tables_of_set(alloc, set))?;
     Some(HeldCollation {
         canonical,
         tables,
         lacks_root: false,
         lacks_jamo: false,
     })
+}
+
+/// A provider of the tables that lines of a records file say; `None` where a line says nothing that is known, or memory is
+/// refused.
+pub fn held_tables(alloc: Global, lines: &str) -> Option<HeldCollation<'static>> {
+    let set = read_lines(alloc, lines)?;
+    held_set(alloc, &set)
 }

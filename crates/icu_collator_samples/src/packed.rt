@@ -234,6 +234,32 @@ fn metadata(set: &RecordSet, is_tailored: bool) -> CollationMetadata {
     CollationMetadata { bits }
 }
 
+/// The data of the tailoring, if there is one.
+fn optional_tailoring(
+    alloc: Global,
+    set: &RecordSet,
+    canonical: CanonicalBorrowed<'_>,
+    trie_type: TrieType,
+) -> Option<Option<CollationData<'static>>> {
+    if !set.records.iter().any(|record| record.is_tailored) {
+        return Some(None);
+    }
+    let data = tailoring(alloc, set, canonical, trie_type)?;
+    Some(Some(data))
+}
+
+/// The reordering, if there is one.
+fn optional_reordering(
+    alloc: Global,
+    set: &RecordSet,
+) -> Option<Option<CollationReordering<'static>>> {
+    let Some(leads) = &set.reordering else {
+        return Some(None);
+    };
+    let order = reordering(alloc, leads)?;
+    Some(Some(order))
+}
+
 /// The tables of a set of records over its canonical data; `None` where they are too large, or memory is refused.
 pub fn packed_tables(
     alloc: Global,
@@ -241,28 +267,47 @@ pub fn packed_tables(
     canonical: CanonicalBorrowed<'_>,
     trie_type: TrieType,
 ) -> Option<CollationTables<'static>> {
-    let is_tailored = set.records.iter().any(|record| record.is_tailored);
-    let root = root(alloc, set, canonical, trie_type)?;
-    let tailoring = if is_tailored {
-        Some(tailoring(alloc, set, canonical, trie_type)?)
-    } else {
-        None
-    };
-    let secondaries = secondaries(alloc, set, canonical)?;
-    let ce32s = jamo(alloc, set)?;
-    let reordering = match &set.reordering {
-        Some(leads) => Some(reordering(alloc, leads)?),
-        None => None,
-    };
+    // (one way out while large values are held, in place of one at each of them, is proved sooner)
+    let data = root(alloc, set, canonical, trie_type).zip(optional_tailoring(
+        alloc, set, canonical, trie_type,
+    ));
+    let lists = secondaries(alloc, set, canonical).zip(jamo(alloc, set));
+    let leads = optional_reordering(alloc, set).zip(special_primaries(alloc, set));
+    let (data, (lists, leads)) = data.zip(lists.zip(leads))?;
+    let (root, tailoring) = data;
+    let (secondaries, ce32s) = lists;
+    let (reordering, special_primaries) = leads;
+    let metadata = metadata(set, tailoring.is_some());
     Some(CollationTables {
         root,
         tailoring,
         diacritics: CollationDiacritics { secondaries },
         jamo: CollationJamo { ce32s },
         reordering,
-        metadata: metadata(set, is_tailored),
-        special_primaries: special_primaries(alloc, set)?,
+        metadata,
+        special_primaries,
     })
+}
+
+/// The tables of a set of records, with its canonical data.
+fn with_tables(
+    alloc: Global,
+    set: &RecordSet,
+    canonical: CanonicalData<'static>,
+    trie_type: TrieType,
+) -> Option<(CanonicalData<'static>, CollationTables<'static>)> {
+    let tables = packed_tables(alloc, set, canonical.as_borrowed(), trie_type);
+    Some(canonical).zip(tables)
+}
+
+/// The canonical data and the tables of a set of records.
+fn tables_of_set(
+    alloc: Global,
+    set: &RecordSet,
+    trie_type: TrieType,
+) -> Option<(CanonicalData<'static>, CollationTables<'static>)> {
+    let canonical = set.canonical.build_data(alloc).ok()?;
+    with_tables(alloc, set, canonical, trie_type)
 }
 
 /// The canonical data and the tables of the lines of a records file; `None` where a line says nothing that is known, the
@@ -273,9 +318,7 @@ pub fn tables_of(
     trie_type: TrieType,
 ) -> Option<(CanonicalData<'static>, CollationTables<'static>)> {
     let set = read_lines(alloc, lines)?;
-    let canonical = set.canonical.build_data(alloc).ok()?;
-    let tables = packed_tables(alloc, &set, canonical.as_borrowed(), trie_type)?;
-    Some((canonical, tables))
+    tables_of_set(alloc, &set, trie_type)
 }
 
 /// The same, checked.

@@ -86,9 +86,10 @@ pub fn data(
     ce32s: &[u32],
     contexts: &[u16],
 ) -> Option<CollationData<'static>> {
-    let ces = PackedVec::from_slice(alloc, ces).ok()?;
-    let ce32s = PackedVec::from_slice(alloc, ce32s).ok()?;
-    let contexts = PackedVec::from_slice(alloc, contexts).ok()?;
+    let ces = PackedVec::from_slice(alloc, ces).ok();
+    let ce32s = PackedVec::from_slice(alloc, ce32s).ok();
+    let contexts = PackedVec::from_slice(alloc, contexts).ok();
+    let ((trie, ces), (ce32s, contexts)) = Some(trie).zip(ces).zip(ce32s.zip(contexts))?;
     Some(CollationData {
         trie,
         ces,
@@ -123,9 +124,12 @@ pub fn tables(
     root: CollationData<'static>,
     tailoring: Option<CollationData<'static>>,
 ) -> Option<CollationTables<'static>> {
-    let secondaries = PackedVec::from_slice(alloc, &[]).ok()?;
-    let ce32s = jamo_words(alloc).ok()?;
-    let special_primaries = special_primaries(alloc)?;
+    let secondaries = PackedVec::from_slice(alloc, &[]).ok();
+    let lists = secondaries.zip(jamo_words(alloc).ok());
+    let parts = lists.zip(special_primaries(alloc));
+    let (data, parts) = Some((root, tailoring)).zip(parts)?;
+    let (root, tailoring) = data;
+    let ((secondaries, ce32s), special_primaries) = parts;
     Some(CollationTables {
         root,
         tailoring,
