@@ -1,237 +1,272 @@
-//! Normal forms of many texts.
+//! What normalisers answer of many texts.
 
-use crate::normal::{
-    Normal, Parts, composed, decomposed, is_composed, is_decomposed, split_composed,
-    split_decomposed,
-};
-use crate::texts::Text;
+use crate::task::{Question, Task};
+use crate::texts::{Text, byte_lines, known_lines, unit_lines, units};
 use icu_normalizer::composing::{ComposingNormalizer, ComposingNormalizerBorrowed};
 use icu_normalizer::decomposing::{DecomposingNormalizer, DecomposingNormalizerBorrowed};
-use icu_normalizer_core::provider::{DataError, load_canonical_data, load_compatibility_data};
-use icu_normalizer_core_tests::held::Held;
-use std::alloc::Global;
-use std::io;
+use icu_normalizer::uts46::Uts46Mapper;
+use icu_normalizer_core::provider::{
+    DataError, NormalizerProvider, load_canonical_data, load_compatibility_data,
+};
+use std::alloc::{AllocError, Global};
+use std::borrow::{CowSlice, CowStr};
 
-/// What is done with each text.
-#[derive(Clone, Copy)]
-pub enum Action {
-    /// The bytes or units of its form are numbered.
-    Form,
-    /// It is asked whether it is its own form, and numbered where it is.
-    Ask,
-    /// Whether it is its own form is printed.
-    Tell,
-    /// Its form is printed.
-    Show,
-    /// The two parts that it is split in are printed, with a bar between them.
-    Split,
-}
-
-/// A normal form.
+/// A normaliser.
 #[derive(Clone, Copy)]
 enum Form<'d> {
+    /// To NFC or NFKC.
     Composed(ComposingNormalizerBorrowed<'d>),
+    /// To NFD or NFKD.
     Decomposed(DecomposingNormalizerBorrowed<'d>),
 }
 
-/// Prints a form: text as it is, units as a list of numbers.
-fn print_form(rt: &HostRuntime, form: &Normal<'_>) -> io::Result<()> {
-    match form {
-        Normal::Text(text) => println!(rt; "{}", text.as_str()),
-        Normal::Units(units) => println!(rt; "{:?}", units.as_slice()),
+/// How many bytes a form has, if it came. It is printed if `shows` says so.
+fn number_of_bytes(
+    rt: &HostRuntime,
+    form: Result<CowStr<'_>, AllocError>,
+    shows: bool,
+) -> Option<usize> {
+    let form = form.ok()?;
+    if shows {
+        println!(rt; "{}", form.as_str()).ok()?;
     }
+    Some(form.as_str().len())
 }
 
-/// Prints two parts: text as it is, bytes and units as lists of numbers.
-fn print_parts(rt: &HostRuntime, parts: Parts<'_>) -> io::Result<()> {
+/// How many units a form has, if it came. They are printed, as a list of numbers, if `shows` says so.
+fn number_of_units(
+    rt: &HostRuntime,
+    form: Result<CowSlice<'_, u16>, AllocError>,
+    shows: bool,
+) -> Option<usize> {
+    let form = form.ok()?;
+    if shows {
+        println!(rt; "{:?}", form.as_slice()).ok()?;
+    }
+    Some(form.as_slice().len())
+}
+
+/// Prints two parts of a text with a bar between them: known UTF-8 as it is, bytes and units as lists of numbers.
+fn print_parts(rt: &HostRuntime, parts: (Text<'_>, Text<'_>)) -> Option<()> {
     match parts {
-        Parts::Known(prefix, rest) => println!(rt; "{prefix}|{rest}"),
-        Parts::Bytes(prefix, rest) => println!(rt; "{prefix:?}|{rest:?}"),
-        Parts::Units(prefix, rest) => println!(rt; "{prefix:?}|{rest:?}"),
+        (Text::Known(prefix), Text::Known(rest)) => println!(rt; "{prefix}|{rest}").ok(),
+        (Text::Bytes(prefix), Text::Bytes(rest)) => println!(rt; "{prefix:?}|{rest:?}").ok(),
+        (Text::Units(prefix), Text::Units(rest)) => println!(rt; "{prefix:?}|{rest:?}").ok(),
+        _ => None,
     }
 }
 
 impl Form<'_> {
-    /// The form of a text.
-    fn normalize<'t>(self, alloc: Global, text: Text<'t>) -> Option<Normal<'t>> {
-        match self {
-            Form::Composed(form) => composed(form, alloc, text),
-            Form::Decomposed(form) => decomposed(form, alloc, text),
+    /// How many bytes or units the form of a text has. It is printed if `shows` says so.
+    fn number(self, rt: &HostRuntime, text: Text<'_>, shows: bool) -> Option<usize> {
+        let alloc = rt.alloc();
+        match (self, text) {
+            (Form::Composed(form), Text::Known(text)) => {
+                number_of_bytes(rt, form.normalize(alloc, text), shows)
+            }
+            (Form::Composed(form), Text::Bytes(text)) => {
+                number_of_bytes(rt, form.normalize_utf8(alloc, text), shows)
+            }
+            (Form::Composed(form), Text::Units(text)) => {
+                number_of_units(rt, form.normalize_utf16(alloc, text), shows)
+            }
+            (Form::Decomposed(form), Text::Known(text)) => {
+                number_of_bytes(rt, form.normalize(alloc, text), shows)
+            }
+            (Form::Decomposed(form), Text::Bytes(text)) => {
+                number_of_bytes(rt, form.normalize_utf8(alloc, text), shows)
+            }
+            (Form::Decomposed(form), Text::Units(text)) => {
+                number_of_units(rt, form.normalize_utf16(alloc, text), shows)
+            }
         }
     }
 
     /// Whether a text is its own form.
-    fn is_normalized(self, alloc: Global, text: Text<'_>) -> Option<bool> {
-        match self {
-            Form::Composed(form) => is_composed(form, alloc, text),
-            Form::Decomposed(form) => Some(is_decomposed(form, text)),
+    fn is_own(self, alloc: Global, text: Text<'_>) -> Option<bool> {
+        match (self, text) {
+            (Form::Composed(form), Text::Known(text)) => form.is_normalized(alloc, text).ok(),
+            (Form::Composed(form), Text::Bytes(text)) => form.is_normalized_utf8(alloc, text).ok(),
+            (Form::Composed(form), Text::Units(text)) => form.is_normalized_utf16(alloc, text).ok(),
+            (Form::Decomposed(form), Text::Known(text)) => Some(form.is_normalized(text)),
+            (Form::Decomposed(form), Text::Bytes(text)) => Some(form.is_normalized_utf8(text)),
+            (Form::Decomposed(form), Text::Units(text)) => Some(form.is_normalized_utf16(text)),
         }
     }
 
-    /// The two parts that a text is split in.
-    fn split_normalized<'t>(self, alloc: Global, text: Text<'t>) -> Option<Parts<'t>> {
-        match self {
-            Form::Composed(form) => split_composed(form, alloc, text),
-            Form::Decomposed(form) => Some(split_decomposed(form, text)),
+    /// The two parts that a text of known UTF-8 is split in.
+    fn known_parts<'t>(self, alloc: Global, text: &'t str) -> Option<(Text<'t>, Text<'t>)> {
+        let (prefix, rest) = match self {
+            Form::Composed(form) => form.split_normalized(alloc, text).ok()?,
+            Form::Decomposed(form) => form.split_normalized(text),
+        };
+        Some((Text::Known(prefix), Text::Known(rest)))
+    }
+
+    /// The same of bytes.
+    fn byte_parts<'t>(self, alloc: Global, text: &'t [u8]) -> Option<(Text<'t>, Text<'t>)> {
+        let (prefix, rest) = match self {
+            Form::Composed(form) => form.split_normalized_utf8(alloc, text).ok()?,
+            Form::Decomposed(form) => form.split_normalized_utf8(text),
+        };
+        Some((Text::Bytes(prefix.as_bytes()), Text::Bytes(rest)))
+    }
+
+    /// The same of units.
+    fn unit_parts<'t>(self, alloc: Global, text: &'t [u16]) -> Option<(Text<'t>, Text<'t>)> {
+        let (prefix, rest) = match self {
+            Form::Composed(form) => form.split_normalized_utf16(alloc, text).ok()?,
+            Form::Decomposed(form) => form.split_normalized_utf16(text),
+        };
+        Some((Text::Units(prefix), Text::Units(rest)))
+    }
+
+    /// Prints the two parts that a text is split in.
+    fn show_parts(self, rt: &HostRuntime, text: Text<'_>) -> Option<()> {
+        let alloc = rt.alloc();
+        let parts = match text {
+            Text::Known(text) => self.known_parts(alloc, text)?,
+            Text::Bytes(text) => self.byte_parts(alloc, text)?,
+            Text::Units(text) => self.unit_parts(alloc, text)?,
+        };
+        print_parts(rt, parts)
+    }
+
+    /// What is asked of a text: how many bytes or units its form has, or 1 where it is its own form, or is split.
+    fn answer(self, rt: &HostRuntime, text: Text<'_>, task: &Task<'_>) -> Option<usize> {
+        match task.question {
+            Question::Form => self.number(rt, text, task.shows),
+            Question::IsForm => {
+                let is_own = self.is_own(rt.alloc(), text)?;
+                if task.shows {
+                    println!(rt; "{is_own}").ok()?;
+                }
+                Some(usize::from(is_own))
+            }
+            Question::Parts => {
+                self.show_parts(rt, text)?;
+                Some(1)
+            }
         }
     }
 
-    /// How many bytes or units the form of a text has; or if it is asked, 1 for a text that is its own.
-    fn number(self, alloc: Global, text: Text<'_>, asks: bool) -> Option<usize> {
-        if asks {
-            return Some(usize::from(self.is_normalized(alloc, text)?));
-        }
-        let normal = self.normalize(alloc, text)?;
-        Some(normal.len())
-    }
-
-    /// The sum of these numbers over the texts.
-    fn sum(self, alloc: Global, texts: &[Text<'_>], asks: bool) -> Option<usize> {
+    /// The sum of the answers over the texts.
+    fn sum(self, rt: &HostRuntime, texts: &[Text<'_>], task: &Task<'_>) -> Option<usize> {
         let mut sum: usize = 0;
         for text in texts {
-            sum = sum.wrapping_add(self.number(alloc, *text, asks)?);
+            sum = sum.wrapping_add(self.answer(rt, *text, task)?);
         }
         Some(sum)
     }
 
     /// The same, round by round.
-    fn sum_rounds(
-        self,
-        alloc: Global,
-        texts: &[Text<'_>],
-        rounds: u32,
-        asks: bool,
-    ) -> Option<usize> {
+    fn sum_rounds(self, rt: &HostRuntime, texts: &[Text<'_>], task: &Task<'_>) -> Option<usize> {
         let mut sum: usize = 0;
-        for _round in 0..rounds {
-            sum = sum.wrapping_add(self.sum(alloc, texts, asks)?);
+        for _round in 0..task.rounds {
+            sum = sum.wrapping_add(self.sum(rt, texts, task)?);
         }
         Some(sum)
     }
 
-    /// Prints the form of a text, a line.
-    fn show_one(self, rt: &HostRuntime, text: Text<'_>) -> Option<()> {
-        let form = self.normalize(rt.alloc(), text)?;
-        print_form(rt, &form).ok()
-    }
-
-    /// The same of the two parts of a text.
-    fn split_one(self, rt: &HostRuntime, text: Text<'_>) -> Option<()> {
-        let parts = self.split_normalized(rt.alloc(), text)?;
-        print_parts(rt, parts).ok()
-    }
-
-    /// The same of the answer whether a text is its own form.
-    fn tell_one(self, rt: &HostRuntime, text: Text<'_>) -> Option<()> {
-        let is_own = self.is_normalized(rt.alloc(), text)?;
-        println!(rt; "{is_own}").ok()
-    }
-
-    /// Prints what is asked for of a text; nothing where it is numbered.
-    fn print_one(self, rt: &HostRuntime, action: Action, text: Text<'_>) -> Option<()> {
-        match action {
-            Action::Form | Action::Ask => Some(()),
-            Action::Tell => self.tell_one(rt, text),
-            Action::Show => self.show_one(rt, text),
-            Action::Split => self.split_one(rt, text),
-        }
-    }
-
-    /// Prints what is asked for of each text, and says how many there are.
-    fn print_each(self, rt: &HostRuntime, action: Action, texts: &[Text<'_>]) -> Option<usize> {
-        for text in texts {
-            self.print_one(rt, action, *text)?;
-        }
-        Some(texts.len())
-    }
-
-    /// Does this with each text.
-    fn act(
-        self,
-        rt: &HostRuntime,
-        action: Action,
-        texts: &[Text<'_>],
-        rounds: u32,
-    ) -> Option<usize> {
-        match action {
-            Action::Form => self.sum_rounds(rt.alloc(), texts, rounds, false),
-            Action::Ask => self.sum_rounds(rt.alloc(), texts, rounds, true),
-            Action::Tell | Action::Show | Action::Split => self.print_each(rt, action, texts),
+    /// The same over the lines of a file, in the encoding that the task names.
+    fn sum_lines(self, rt: &HostRuntime, file: &[u8], task: &Task<'_>) -> Option<usize> {
+        let alloc = rt.alloc();
+        match task.encoding {
+            "" => self.sum_rounds(rt, &known_lines(alloc, file)?, task),
+            "utf8" => self.sum_rounds(rt, &byte_lines(alloc, file)?, task),
+            "utf16" => {
+                let units = units(alloc, file)?;
+                self.sum_rounds(rt, &unit_lines(alloc, &units)?, task)
+            }
+            _ => None,
         }
     }
 }
 
-/// Does this with each text, by a normaliser that composes, if it could be made.
-fn run_composed(
+/// What does a task over the lines of a file.
+pub trait Worker {
+    /// What the task comes to; `None` where there is no such task, or memory is refused.
+    fn work(&self, rt: &HostRuntime, file: &[u8], task: &Task<'_>) -> Option<usize>;
+}
+
+impl Worker for ComposingNormalizer<'_> {
+    fn work(&self, rt: &HostRuntime, file: &[u8], task: &Task<'_>) -> Option<usize> {
+        Form::Composed(self.as_borrowed()).sum_lines(rt, file, task)
+    }
+}
+
+impl Worker for DecomposingNormalizer<'_> {
+    fn work(&self, rt: &HostRuntime, file: &[u8], task: &Task<'_>) -> Option<usize> {
+        Form::Decomposed(self.as_borrowed()).sum_lines(rt, file, task)
+    }
+}
+
+/// What a task comes to by a worker, if it could be made.
+fn work_by<W: Worker + Drop>(
     rt: &HostRuntime,
-    owned: Result<ComposingNormalizer<'_>, DataError>,
-    action: Action,
-    texts: &[Text<'_>],
-    rounds: u32,
+    made: Result<W, DataError>,
+    file: &[u8],
+    task: &Task<'_>,
 ) -> Option<usize> {
-    match owned {
-        Ok(owned) => Form::Composed(owned.as_borrowed()).act(rt, action, texts, rounds),
+    match made {
+        Ok(worker) => worker.work(rt, file, task),
         Err(_) => None,
     }
 }
 
-/// The same by one that decomposes.
-fn run_decomposed(
+/// What a task comes to over the lines of a file, by the data of a provider; `None` where there is no such form or encoding,
+/// or it can't be made.
+pub fn run_form<P: NormalizerProvider>(
     rt: &HostRuntime,
-    owned: Result<DecomposingNormalizer<'_>, DataError>,
-    action: Action,
-    texts: &[Text<'_>],
-    rounds: u32,
-) -> Option<usize> {
-    match owned {
-        Ok(owned) => Form::Decomposed(owned.as_borrowed()).act(rt, action, texts, rounds),
-        Err(_) => None,
-    }
-}
-
-/// Does this with each text, by the form of this name over the data of a provider; `None` where there is no such form.
-pub fn run_form(
-    rt: &HostRuntime,
-    provider: &Held<'_>,
-    name: &str,
-    action: Action,
-    texts: &[Text<'_>],
-    rounds: u32,
+    provider: &P,
+    file: &[u8],
+    task: &Task<'_>,
 ) -> Option<usize> {
     let alloc = rt.alloc();
-    match name {
+    match task.form {
         "nfc" => {
-            let owned = ComposingNormalizer::try_new_nfc_unstable(alloc, provider);
-            run_composed(rt, owned, action, texts, rounds)
+            let made = ComposingNormalizer::try_new_nfc_unstable(alloc, provider);
+            work_by(rt, made, file, task)
         }
         "nfkc" => {
-            let owned = ComposingNormalizer::try_new_nfkc_unstable(alloc, provider);
-            run_composed(rt, owned, action, texts, rounds)
+            let made = ComposingNormalizer::try_new_nfkc_unstable(alloc, provider);
+            work_by(rt, made, file, task)
         }
         "nfd" => {
-            let owned = DecomposingNormalizer::try_new_nfd_unstable(alloc, provider);
-            run_decomposed(rt, owned, action, texts, rounds)
+            let made = DecomposingNormalizer::try_new_nfd_unstable(alloc, provider);
+            work_by(rt, made, file, task)
         }
         "nfkd" => {
-            let owned = DecomposingNormalizer::try_new_nfkd_unstable(alloc, provider);
-            run_decomposed(rt, owned, action, texts, rounds)
+            let made = DecomposingNormalizer::try_new_nfkd_unstable(alloc, provider);
+            work_by(rt, made, file, task)
         }
+        "uts46" => work_by(rt, Uts46Mapper::try_new(alloc, provider), file, task),
         _ => None,
     }
 }
 
-/// Loads and checks the canonical data as many times as asked for, and says how many times.
-pub fn load_canonical(alloc: Global, provider: &Held<'_>, rounds: u32) -> Option<usize> {
-    for _round in 0..rounds {
-        let _data = load_canonical_data(alloc, provider).ok()?;
-    }
-    Some(rounds as usize)
+/// Whether data were loaded.
+fn is_loaded<D: Drop>(data: Result<D, DataError>) -> bool {
+    data.is_ok()
 }
 
-/// The same of the compatibility data.
-pub fn load_compatibility(alloc: Global, provider: &Held<'_>, rounds: u32) -> Option<usize> {
+/// Loads and checks the canonical data as many times as asked for, those of compatibility too if it is asked, and says how
+/// many times.
+pub fn load<P: NormalizerProvider>(
+    alloc: Global,
+    provider: &P,
+    with_compatibility: bool,
+    rounds: u32,
+) -> Option<usize> {
     for _round in 0..rounds {
-        let _data = load_compatibility_data(alloc, provider).ok()?;
+        let is_loaded = if with_compatibility {
+            is_loaded(load_compatibility_data(alloc, provider))
+        } else {
+            is_loaded(load_canonical_data(alloc, provider))
+        };
+        if !is_loaded {
+            return None;
+        }
     }
     Some(rounds as usize)
 }

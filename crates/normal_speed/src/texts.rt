@@ -2,25 +2,14 @@
 
 use std::alloc::Global;
 
-/// How a file is read.
-#[derive(Clone, Copy)]
-pub enum Encoding {
-    /// As UTF-8, which it has to be.
-    Known,
-    /// As any bytes, which normalisers read as UTF-8.
-    Utf8,
-    /// As any units of two bytes, the low byte first, which normalisers read as UTF-16.
-    Utf16,
-}
-
 /// A text in an encoding.
 #[derive(Clone, Copy)]
 pub enum Text<'t> {
     /// Known UTF-8.
     Known(&'t str),
-    /// Any bytes.
+    /// Any bytes, which normalisers read as UTF-8.
     Bytes(&'t [u8]),
-    /// Any units.
+    /// Any units, which normalisers read as UTF-16.
     Units(&'t [u16]),
 }
 
@@ -34,26 +23,29 @@ pub fn units(alloc: Global, bytes: &[u8]) -> Option<Vec<u16>> {
         .ok()
 }
 
-/// The lines of a text.
-pub fn known_lines(alloc: Global, file: &str) -> Option<Vec<Text<'_>>> {
-    file.lines()
-        .map(|line| Text::Known(line))
-        .collect(alloc)
-        .ok()
+/// The lines of a text; `None` where it isn't UTF-8, or memory is refused.
+pub fn known_lines(alloc: Global, file: &[u8]) -> Option<Vec<Text<'_>>> {
+    let mut texts = Vec::new(alloc);
+    for line in str::from_utf8(file).ok()?.lines() {
+        texts.push(Text::Known(line)).ok()?;
+    }
+    Some(texts)
 }
 
 /// What stands between the newlines of bytes, before the first and behind the last.
 pub fn byte_lines(alloc: Global, file: &[u8]) -> Option<Vec<Text<'_>>> {
-    file.split(|byte| *byte == 0xa)
-        .map(|line| Text::Bytes(line))
-        .collect(alloc)
-        .ok()
+    let mut texts = Vec::new(alloc);
+    for line in file.split(|byte| *byte == 0xa) {
+        texts.push(Text::Bytes(line)).ok()?;
+    }
+    Some(texts)
 }
 
 /// The same of units.
 pub fn unit_lines(alloc: Global, file: &[u16]) -> Option<Vec<Text<'_>>> {
-    file.split(|unit| *unit == 0xa)
-        .map(|line| Text::Units(line))
-        .collect(alloc)
-        .ok()
+    let mut texts = Vec::new(alloc);
+    for line in file.split(|unit| *unit == 0xa) {
+        texts.push(Text::Units(line)).ok()?;
+    }
+    Some(texts)
 }
