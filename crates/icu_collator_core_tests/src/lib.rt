@@ -8,8 +8,6 @@ mod element_calls;
 #[cfg(test)]
 mod element_rows;
 #[cfg(test)]
-mod inverted_bits;
-#[cfg(test)]
 mod judged;
 #[cfg(test)]
 mod numbers;
