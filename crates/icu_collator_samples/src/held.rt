@@ -2,7 +2,7 @@
 
 ghost use Rattle.std.specs.Prelude.{true, false, Some, None, Ok, Err};
 ghost use Rattle.icu_normalizer_core.specs.declared.provider.error.DataError.TheVariants.{Missing};
-ghost use Rattle.icu_normalizer_core.specs.declared.provider.error.TableName.TheVariants.{Nfkd, NfkdTables, Uts46, Root, Jamo, Reordering, Tailoring};
+ghost use Rattle.icu_normalizer_core.specs.declared.provider.error.TableName.TheVariants.{Nfd, NfdTables, Nfkd, NfkdTables, Pairs, Uts46, Root, Jamo, SpecialPrimaries, Tailoring, Diacritics, Metadata, Reordering};
 
 use crate::lines::read_lines;
 use crate::packed::packed_tables;
@@ -20,6 +20,27 @@ use icu_normalizer_core::provider::{
 use icu_packed_vector::PackedVec;
 use std::alloc::Global;
 
+/// Which calls of a provider answer that their table is missing.
+#[derive(Clone, Copy, Debug, Default)]
+pub struct Lacking {
+    /// `load_nfd` does.
+    pub nfd: bool,
+    /// `load_nfd_tables` does.
+    pub nfd_tables: bool,
+    /// `load_pairs` does.
+    pub pairs: bool,
+    /// `load_root` does.
+    pub root: bool,
+    /// `load_jamo` does.
+    pub jamo: bool,
+    /// `load_special_primaries` does.
+    pub special_primaries: bool,
+    /// `load_metadata` does.
+    pub metadata: bool,
+    /// `load_diacritics` does.
+    pub diacritics: bool,
+}
+
 /// A provider of tables, the same for all locales.
 #[derive(Drop)]
 pub struct HeldCollation<'t> {
@@ -27,35 +48,42 @@ pub struct HeldCollation<'t> {
     pub canonical: CanonicalTables<'t>,
     /// Those of the collation. It lacks the tailoring and the reordering that they lack.
     pub tables: CollationTables<'t>,
-    /// `load_root` answers that its table is missing.
-    pub lacks_root: bool,
-    /// `load_jamo` does.
-    pub lacks_jamo: bool,
+    /// What else it lacks.
+    pub lacking: Lacking,
 }
 
 impl NormalizerProvider for HeldCollation<'_> {
-    ghost nfd = { λ held. Ok held.canonical.trie };
+    ghost nfd = { λ held. elim held.lacking.nfd [ true ↦ Err (Missing Nfd) | false ↦ Ok held.canonical.trie ] };
 
-    ghost nfd_tables = { λ held. Ok (record {
-      scalars16 = held.canonical.scalars16;
-      scalars24 = held.canonical.scalars24;
-      steps = held.canonical.steps;
-    }) };
+    ghost nfd_tables = { λ held. elim held.lacking.nfd_tables [
+      | true ↦ Err (Missing NfdTables)
+      | false ↦ Ok (record {
+        scalars16 = held.canonical.scalars16;
+        scalars24 = held.canonical.scalars24;
+        steps = held.canonical.steps;
+      })
+    ] };
 
     ghost nfkd = { λ _. Err (Missing Nfkd) };
 
     ghost nfkd_tables = { λ _. Err (Missing NfkdTables) };
 
-    ghost pairs = { λ held. Ok held.canonical.pairs };
+    ghost pairs = { λ held. elim held.lacking.pairs [ true ↦ Err (Missing Pairs) | false ↦ Ok held.canonical.pairs ] };
 
     ghost uts46 = { λ _. Err (Missing Uts46) };
 
     fn load_nfd(&self, alloc: Global) -> Result<CodePointTrie<'_, u32>, DataError> {
+        if self.lacking.nfd {
+            return Err(DataError::Missing(TableName::Nfd));
+        }
         let trie = self.canonical.trie.clone(alloc)?;
         Ok(trie)
     }
 
     fn load_nfd_tables(&self, alloc: Global) -> Result<NfdLists<'_>, DataError> {
+        if self.lacking.nfd_tables {
+            return Err(DataError::Missing(TableName::NfdTables));
+        }
         let scalars16 = self.canonical.scalars16.clone(alloc)?;
         let scalars24 = self.canonical.scalars24.clone(alloc)?;
         let steps = self.canonical.steps.clone(alloc)?;
@@ -75,6 +103,9 @@ impl NormalizerProvider for HeldCollation<'_> {
     }
 
     fn load_pairs(&self, alloc: Global) -> Result<PackedVec<'_, u64>, DataError> {
+        if self.lacking.pairs {
+            return Err(DataError::Missing(TableName::Pairs));
+        }
         let pairs = self.canonical.pairs.clone(alloc)?;
         Ok(pairs)
     }
@@ -85,22 +116,22 @@ impl NormalizerProvider for HeldCollation<'_> {
 }
 
 impl CollatorProvider for HeldCollation<'_> {
-    ghost root = { λ held. elim held.lacks_root [ true ↦ Err (Missing Root) | false ↦ Ok held.tables.root ] };
+    ghost root = { λ held. elim held.lacking.root [ true ↦ Err (Missing Root) | false ↦ Ok held.tables.root ] };
 
-    ghost jamo = { λ held. elim held.lacks_jamo [ true ↦ Err (Missing Jamo) | false ↦ Ok held.tables.jamo ] };
+    ghost jamo = { λ held. elim held.lacking.jamo [ true ↦ Err (Missing Jamo) | false ↦ Ok held.tables.jamo ] };
 
-    ghost special_primaries = { λ held. Ok held.tables.special_primaries };
+    ghost special_primaries = { λ held. elim held.lacking.special_primaries [ true ↦ Err (Missing SpecialPrimaries) | false ↦ Ok held.tables.special_primaries ] };
 
     ghost tailoring = { λ held _ _. elim held.tables.tailoring [ None ↦ Err (Missing Tailoring) | Some tailoring ↦ Ok tailoring ] };
 
-    ghost diacritics = { λ held _ _. Ok held.tables.diacritics };
+    ghost diacritics = { λ held _ _. elim held.lacking.diacritics [ true ↦ Err (Missing Diacritics) | false ↦ Ok held.tables.diacritics ] };
 
-    ghost metadata = { λ held _ _. Ok held.tables.metadata };
+    ghost metadata = { λ held _ _. elim held.lacking.metadata [ true ↦ Err (Missing Metadata) | false ↦ Ok held.tables.metadata ] };
 
     ghost reordering = { λ held _ _. elim held.tables.reordering [ None ↦ Err (Missing Reordering) | Some order ↦ Ok order ] };
 
     fn load_root(&self, alloc: Global) -> Result<CollationData<'_>, DataError> {
-        if self.lacks_root {
+        if self.lacking.root {
             return Err(DataError::Missing(TableName::Root));
         }
         let root = self.tables.root.clone(alloc)?;
@@ -108,7 +139,7 @@ impl CollatorProvider for HeldCollation<'_> {
     }
 
     fn load_jamo(&self, alloc: Global) -> Result<CollationJamo<'_>, DataError> {
-        if self.lacks_jamo {
+        if self.lacking.jamo {
             return Err(DataError::Missing(TableName::Jamo));
         }
         let jamo = self.tables.jamo.clone(alloc)?;
@@ -119,6 +150,9 @@ impl CollatorProvider for HeldCollation<'_> {
         &self,
         alloc: Global,
     ) -> Result<CollationSpecialPrimaries<'_>, DataError> {
+        if self.lacking.special_primaries {
+            return Err(DataError::Missing(TableName::SpecialPrimaries));
+        }
         let special_primaries = self.tables.special_primaries.clone(alloc)?;
         Ok(special_primaries)
     }
@@ -144,6 +178,9 @@ impl CollatorProvider for HeldCollation<'_> {
         _locale: &str,
         _collation_type: Option<&str>,
     ) -> Result<CollationDiacritics<'_>, DataError> {
+        if self.lacking.diacritics {
+            return Err(DataError::Missing(TableName::Diacritics));
+        }
         let diacritics = self.tables.diacritics.clone(alloc)?;
         Ok(diacritics)
     }
@@ -154,6 +191,9 @@ impl CollatorProvider for HeldCollation<'_> {
         _locale: &str,
         _collation_type: Option<&str>,
     ) -> Result<CollationMetadata, DataError> {
+        if self.lacking.metadata {
+            return Err(DataError::Missing(TableName::Metadata));
+        }
         Ok(self.tables.metadata)
     }
 
@@ -186,8 +226,7 @@ fn held_set(alloc: Global, set: &RecordSet) -> Option<HeldCollation<'static>> {
     Some(HeldCollation {
         canonical,
         tables,
-        lacks_root: false,
-        lacks_jamo: false,
+        lacking: Lacking::default(),
     })
 }
 
