@@ -3,26 +3,21 @@
 
   compare_orders.py ORACLE [PAIRS [SETS [SEED]]]
 
-ORACLE is a folder with an independent reading of the definitions in Python, which isn't part of this repository: modules
-`records` (`read`, `Fault`), `decode` (`decode_utf8`, `decode_utf16`, `decode_latin1`) and `collate` (`Options`, `levels`, `key`).
-There are 20,000 pairs over 60 sets of records unless PAIRS and SETS say otherwise, each set with four choices of options. Half
+ORACLE is a folder with an independent reading of the definitions (tools/answers.py). There are 20,000 pairs over 60 sets of records
+unless PAIRS and SETS say otherwise, each set with four choices of options. Half
 of the pairs are nearly equal: one mark, case or space differs, or the normal form, or zeros before a number. Bytes and units
-are damaged at times. crates/collator_speed builds tables of each set and answers orders in five encodings, and keys in three;
+are damaged at times. crates/collation_rows builds tables of each set and answers orders in five encodings, and keys in three;
 it has to be built (`rt run` in its folder). What differs is printed, and the status is then 1. How many pairs each level
 decided is printed too.
 """
-import os
 import random
-import subprocess
 import sys
-import tempfile
 import unicodedata
 
-from random_weights import random_characters, random_weights, word
+from answers import SIDES, characters, load, options_of
+from compare_elements import differences
+from random_weights import random_characters, random_weights
 
-ROOT = os.path.dirname(os.path.dirname(os.path.realpath(__file__)))
-PROGRAM = os.environ.get('COLLATOR_SPEED', os.path.join(ROOT, 'crates/collator_speed/out/collator_speed'))
-SIGNS = {-1: '<', 0: '=', 1: '>'}
 CHOICES = 4
 
 
@@ -38,17 +33,13 @@ def settings(source):
     return lines
 
 
-def choose(source, options):
-    """Options by chance: as words, and for the oracle."""
-    given = {}
-    given['strength'] = source.choice([None, 'primary', 'secondary', 'tertiary', 'quaternary', 'quaternary', 'identical'])
-    given['alternate'] = source.choice([None, None, 'shifted', 'nonignorable'])
-    given['maxvariable'] = source.choice([None, None, 'space', 'punctuation', 'symbol', 'currency'])
-    given['caselevel'] = source.choice([None, None, 'on'])
-    given['casefirst'] = source.choice([None, None, 'off', 'lower', 'upper'])
-    given['numeric'] = source.choice([None, None, 'on'])
-    words = [{'caselevel': 'caselevel', 'numeric': 'numeric'}.get(name, value) for name, value in given.items() if value]
-    return ','.join(words or ['none']), options(**given)
+def choose(source):
+    """Options by chance, as words."""
+    given = [source.choice([None, 'primary', 'secondary', 'tertiary', 'quaternary', 'quaternary', 'identical']),
+             source.choice([None, None, 'shifted', 'nonignorable']),
+             source.choice([None, None, 'space', 'punctuation', 'symbol', 'currency']), source.choice([None, None, 'caselevel']),
+             source.choice([None, None, 'off', 'lower', 'upper']), source.choice([None, None, 'numeric'])]
+    return ','.join(filter(None, given)) or 'none'
 
 
 def near(source, text, marks):
@@ -94,108 +85,62 @@ def shown(items, width):
     return ''.join(f'{item:0{2 * width}x}' for item in items) or '-'
 
 
-class Side:
-    """A text in an encoding: its word on a line, and its characters."""
-
-    def __init__(self, source, encoding, text, oracle):
-        if encoding == 'text':
-            self.word, self.characters = shown(''.join(map(chr, text)).encode(), 1), text
-        elif encoding == 'utf8':
-            data = damaged(source, ''.join(map(chr, text)).encode(), 1)
-            self.word, self.characters = shown(data, 1), oracle.decode_utf8(bytes(data))
-        elif encoding == 'utf16':
-            data = damaged(source, to_units(text), 2)
-            self.word, self.characters = shown(data, 2), oracle.decode_utf16(data)
-        else:
-            data = bytes(c & 0xFF for c in text)
-            self.word, self.characters = shown(data, 1), oracle.decode_latin1(data)
+def encoded(source, side, text, is_whole):
+    """A text in an encoding, at times damaged: its word on a line."""
+    if side == 'utf8':
+        data = ''.join(map(chr, text)).encode()
+        return shown(data if is_whole else damaged(source, data, 1), 1)
+    if side == 'utf16':
+        return shown(damaged(source, to_units(text), 2), 2)
+    return shown(bytes(c & 0xFF for c in text), 1)
 
 
-SIDES = {'text': ('text', 'text'), 'utf8': ('utf8', 'utf8'), 'utf16': ('utf16', 'utf16'), 'latin1': ('latin1', 'latin1'),
-         'mixed': ('latin1', 'utf16')}
+def order_question(source, left, right):
+    """A question how two texts order, in some encoding."""
+    encoding = source.choice(list(SIDES))
+    sides = zip(SIDES[encoding], (left, right))
+    return ' '.join(['compare', encoding, *(encoded(source, side, text, encoding == 'text') for side, text in sides)])
 
 
-def run(folder, task, words):
-    """The lines that a task prints."""
-    line = [PROGRAM, os.path.join(folder, 'records'), os.path.join(folder, 'lines'), task, words]
-    return subprocess.run(line, stdout=subprocess.PIPE, check=True).stdout.decode().split('\n')[:-1]
+def key_question(source, text):
+    """A question for a key, in some encoding."""
+    encoding = source.choice(['text', 'utf8', 'utf16'])
+    return f"key {encoding} {encoded(source, SIDES[encoding][0], text, encoding == 'text')}"
 
 
-def write(folder, name, lines):
-    with open(os.path.join(folder, name), 'w') as file:
-        file.write(''.join(f'{line}\n' for line in lines))
+def count_level(said, options, question, oracle, done):
+    """Counts the level that decides a question."""
+    _, encoding, *words = question.split(' ')
+    a, b = (oracle.levels(said, options, characters(word, side, oracle)) for word, side in zip(words, SIDES[encoding]))
+    level = next((name for (name, left), (_, right) in zip(a, b) if left != right), 'none')
+    done[f'decided by {level}'] = done.get(f'decided by {level}', 0) + 1
 
 
-def order(a, b):
-    """The order of levels, and the level that decides."""
-    for (name, left), (_, right) in zip(a, b):
-        if left != right:
-            return (-1 if left < right else 1), name
-    return 0, 'none'
+def pair_of(source, lines, letters, marks, mapped):
+    """Two texts, at times with a common beginning, or nearly equal."""
+    left = random_characters(source, lines, letters, marks, mapped)
+    front = random_characters(source, lines, letters, marks, mapped) if source.random() < 0.3 else []
+    right = near(source, left, marks) if source.random() < 0.5 else random_characters(source, lines, letters, marks, mapped)
+    return front + left, front + right
 
 
-def compare_answers(task, asked, shown_lines, wanted, done):
-    faults = [(task, f'{len(shown_lines)} lines of {len(asked)}', *shown_lines[:1])] if len(shown_lines) != len(asked) else []
-    for line, answer, expected in zip(asked, shown_lines, wanted):
-        done[task] = done.get(task, 0) + 1
-        if answer != expected:
-            faults.append((task, line, answer, expected))
-    return faults
-
-
-def compare_choice(folder, said, pairs, source, oracle, done):
-    """What orders and keys of pairs differ, with options by chance."""
-    words, options = choose(source, oracle.Options)
-    lines, wanted, keys, wanted_keys = [], [], [], []
-    for left, right in pairs:
-        encoding = source.choice(list(SIDES))
-        a, b = (Side(source, side, text, oracle) for side, text in zip(SIDES[encoding], (left, right)))
-        sign, level = order(oracle.levels(said, options, a.characters), oracle.levels(said, options, b.characters))
-        done[f'decided by {level}'] = done.get(f'decided by {level}', 0) + 1
-        lines.append(f'{encoding} {a.word} {b.word}')
-        wanted.append(SIGNS[sign])
-        encoding = source.choice(['text', 'utf8', 'utf16'])
-        side = Side(source, encoding, left, oracle)
-        keys.append(f'{encoding} {side.word}')
-        wanted_keys.append(oracle.key(said, options, side.characters).hex())
-    write(folder, 'lines', lines)
-    faults = compare_answers('orders', lines, run(folder, 'orders', words), wanted, done)
-    write(folder, 'lines', keys)
-    faults += compare_answers('keys', keys, run(folder, 'keys', words), wanted_keys, done)
-    return [(*fault, words) for fault in faults]
-
-
-def compare_set(folder, source, oracle, count, done):
+def compare_set(source, oracle, count, done):
     """Compares so many pairs over one random set of records; what differs."""
     lines, letters, marks, mapped = random_weights(source, oracle.read, lambda said: isinstance(said, oracle.Fault))
     for line in settings(source):
         if not isinstance(oracle.read('\n'.join([*lines, line, '']).encode()), oracle.Fault):
             lines.append(line)
-    write(folder, 'records', lines)
     said = oracle.read('\n'.join([*lines, '']).encode())
-    faults = []
+    script = ['records', *lines, '', 'collators']
     for _ in range(CHOICES):
-        pairs = []
+        words = choose(source)
+        script.append(f'options {words}')
         for _ in range(count // CHOICES):
-            left = random_characters(source, lines, letters, marks, mapped)
-            front = random_characters(source, lines, letters, marks, mapped) if source.random() < 0.3 else []
-            right = near(source, left, marks) if source.random() < 0.5 else random_characters(source, lines, letters, marks, mapped)
-            pairs.append((front + left, front + right))
-        faults += compare_choice(folder, said, pairs, source, oracle, done)
-    return [(*fault, *lines) for fault in faults]
-
-
-def load(folder):
-    """The oracle's functions."""
-    sys.path.insert(0, folder)
-    import collate
-    import decode
-    import records
-    names = {'read': records.read, 'levels': collate.levels, 'key': collate.key, 'decode_utf8': decode.decode_utf8,
-             'decode_utf16': decode.decode_utf16, 'decode_latin1': decode.decode_latin1}
-    oracle = type('Oracle', (), {name: staticmethod(made) for name, made in names.items()})
-    oracle.Fault, oracle.Options = records.Fault, collate.Options
-    return oracle
+            left, right = pair_of(source, lines, letters, marks, mapped)
+            question = order_question(source, left, right)
+            count_level(said, options_of(words, oracle), question, oracle, done)
+            script += [question, key_question(source, left)]
+    return [(*fault, *lines) for fault in differences('\n'.join([*script, '']), oracle, done)]
 
 
 def main(words):
@@ -206,9 +151,8 @@ def main(words):
     pairs, sets, seed = [int(words[k]) if len(words) > k else other for k, other in ((1, 20000), (2, 60), (3, 1))]
     source = random.Random(seed)
     done, faults = {}, []
-    with tempfile.TemporaryDirectory() as folder:
-        for _ in range(sets):
-            faults += compare_set(folder, source, oracle, pairs // sets, done)
+    for _ in range(sets):
+        faults += compare_set(source, oracle, pairs // sets, done)
     for name, made in done.items():
         print(f'{name:28} {made:7}')
     for fault in faults[:5]:

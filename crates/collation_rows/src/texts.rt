@@ -1,4 +1,4 @@
-//! The texts of a line, in an encoding.
+//! The texts of a question.
 
 use std::alloc::Global;
 
@@ -10,13 +10,20 @@ pub fn bytes(alloc: Global, word: &str) -> Option<Vec<u8>> {
     hex::decode(alloc, word).ok()
 }
 
-/// The units that a word says, the upper byte of each first.
-pub fn units(alloc: Global, word: &str) -> Option<Vec<u16>> {
-    let bytes = bytes(alloc, word)?;
+/// The units of bytes, the upper byte of each first.
+pub fn units(alloc: Global, bytes: &[u8]) -> Option<Vec<u16>> {
     let (pairs, _) = bytes.as_chunks::<2>();
     pairs
         .iter()
         .map(|pair| u16::from_be_bytes(*pair))
         .collect(alloc)
         .ok()
+}
+
+/// Bytes in hexadecimal, or a stroke for none.
+pub fn shown(alloc: Global, bytes: &[u8]) -> Option<String> {
+    if bytes.is_empty() {
+        return String::from_str(alloc, "-").ok();
+    }
+    hex::encode(alloc, bytes).ok()
 }

@@ -1,0 +1,37 @@
+//! Answers a script of questions about collations: `collation_rows < SCRIPT`.
+//!
+//! The paragraphs of a script stand apart by an empty line. Each begins with a line that says what it is:
+//!
+//! - `records`: the lines behind it are a records file, which counts from there on.
+//! - `more`: so are these, behind those of the last `records`.
+//! - `collators`: questions to collators over the records (module `asked`).
+//! - `tables fast` or `tables small`: questions to the tables of the records, which have tries of this type (module `elements`).
+//! - `provider`: changes of what a provider gives of the records' tables. The answer to each, upon those before it, is what a
+//!   collator is refused for then, or that it is made (module `provider`).
+//! - `#` and anything: a comment. A question or change may be one too.
+//!
+//! Texts are bytes in hexadecimal, those of a unit of UTF-16 the upper one first, or `-` for none. A question and its answer
+//! are printed as a line, and so is the first line of a paragraph that asks, and one with options. A script with another line ends there, with a
+//! line that says so.
+#![tactic(auto)]
+
+mod asked;
+mod elements;
+mod keys;
+mod options;
+mod orders;
+mod provider;
+mod script;
+mod sinks;
+mod texts;
+
+use script::answer_script;
+use std::io;
+
+fn main(rt: HostRuntime) -> io::Result<()> {
+    let script = io::read_to_string(rt.alloc(), rt.reader())?;
+    match answer_script(&rt, script.as_str()) {
+        Some(()) => Ok(()),
+        None => println!(rt; "not a script, or no memory"),
+    }
+}

@@ -1,0 +1,266 @@
+"""The rows of crates/collation_rows: sections of a title, records, and paragraphs of questions. A question is a call, texts and
+the worked answer, which is None where the definitions alone give it (tools/answers.py), and begins with `..` where only its
+end is worked out. Weights, and bytes of keys, are hexadecimal."""
+
+LETTERS = ['class 0302 230', 'class 0323 220', 'map 00E1 0061 0301', 'map 1EA1 0061 0323',
+           *(f'w {c} ; [{p}0000.0500.0.0500.0]' for c, p in (
+               ('0061', '2A10'), ('0062', '2A20'), ('0063', '2A30'), ('0065', '2A50'), ('0068', '2A80'), ('006C', '2AC0'),
+               ('006F', '2AF0'), ('0074', '2B40'))),
+           *(f'w {c} ; [0.{s}.0.0500.0]' for c, s in (('0301', '8800'), ('0302', '8A00'), ('0323', '8C00')))]
+CAPITAL = 'w 0041 ; [2A100000.0500.2.0900.0]'
+DIGITS = [line for i in range(10) for line in (f'digit {0x30 + i:04X} {i}', f'w {0x30 + i:04X} ; [111{i}0000.0500.0.0500.0]')]
+STRENGTHS = ('primary', 'secondary', 'tertiary', 'quaternary', 'identical')
+LOADS = ('nfd', 'nfd_tables', 'pairs', 'root', 'jamo', 'special_primaries', 'metadata', 'diacritics')
+
+
+def key(text, answer=None):
+    return 'key', text, answer
+
+
+def compare(left, right, answer=None):
+    return 'compare', left, right, answer
+
+
+def place(left, right, answer):
+    return 'place', left, right, answer
+
+
+def line(text, answer=None):
+    return 'line', text, answer
+
+
+def lines(*texts):
+    return [line(text) for text in texts]
+
+
+def at(text, primary):
+    """The record of a text with a primary, and a common rest."""
+    return f'w {" ".join(f"{ord(c):04X}" for c in text)} ; [{primary}0000.0500.0.0500.0]'
+
+
+def without(*texts):
+    """The letters without the records of some characters."""
+    return [said for said in LETTERS if not any(said.startswith(f'w {ord(c):04X} ;') for c in texts)]
+
+
+def section(title, more, *paragraphs):
+    return title, [('more', more)], paragraphs
+
+
+def sinks(text, length):
+    """Questions on a key of so many bytes in each sink: as many slices as it has bytes, and two more."""
+    hexed = text.encode().hex()
+    short = [line(f'sink {n} {hexed}', f'TooSmall {{ length: {length} }}') for n in range(length)]
+    return [*short, *lines(f'sink {length} {hexed}', f'sink {length + 1} {hexed}', f'sink deque {hexed}', f'sink small {hexed}')]
+
+
+def numbers(*rows):
+    return [key(text, answer) for text, answer in rows]
+
+
+def elements(*rows):
+    """Questions on the elements of texts, by the reader and read slowly; behind `n` digits are read as numbers."""
+    asked = []
+    for kind, text, answer in rows:
+        said = ' '.join(f'{ord(c):X}' for c in text)
+        asked += [line(f'{call}{"_numbers" if kind == "n" else ""} {said}', answer) for call in ('read', 'plain')]
+    return asked
+
+
+def rest(*primaries):
+    """Elements of primaries with a common rest."""
+    return ' '.join(f'{primary:0<8}05000500' for primary in primaries)
+
+
+WORKED = [
+    ('The letters', [('records', LETTERS)], [
+        ('options tertiary', [key('a', '2a10010501010501'), key('', '01010101'), key('\u00e1', '2a1001458801010601'),
+                               key('a\u0301', '2a1001458801010601'), compare('cote\u0301', 'co\u0302te', 'Less'),
+                               *sinks('a', 8), *sinks('\u00e1', 9)]),
+        ('options identical', [key('a', '2a1001050101050101010192'), *sinks('a', 12), key('\u9fffa', '..01fca4950688a8'),
+                                key('\ua000a', '..01fca496065e2e'), compare('\u1ea1\u0301', '\u00e1\u0323', 'Equal'),
+                                compare('\ue000', '\U00010000', 'Less')]),
+        ('options primary', [key('z', 'fe0408d4'), key('zz', 'fe0408d40408d4'), key('za', 'fe0408d4032a10'),
+                              key('\ufffe\0\0', '02fe040210040210'), key('\0\ufffe\0', 'fe04021002fe040210'),
+                              compare('\ufffe\0\0', '\0\ufffe\0', 'Less'), key('\uac00', 'fd0402fd0463'),
+                              key('\u1100\u1161', 'fd0402fd0463')]),
+    ]),
+    section('Upper case first, with the level of case', [CAPITAL],
+            ('options secondary,caselevel,upper', [compare('a' * 13 + 'A', 'a' * 14, 'Less'),
+                                                    key('a' * 13 + 'A', '2a10' * 14 + '01120101f1'),
+                                                    key('a' * 14, '2a10' * 14 + '01120101f3')])),
+    section('Secondaries read backward', ['set backward on'],
+            ('options secondary', [key('', '0101')]), ('options tertiary', [compare('cote\u0301', 'co\u0302te', 'Greater')])),
+    section('Three letters together', [at('abc', '2B80')],
+            ('options tertiary', [compare('abc', 'abe', 'Greater')]),
+            ('tables fast', [line('unsafe 61 E1 AC00', 'false false false'), line('unsafe 62 301 344', 'true true true')]),
+            ('tables small', [line('unsafe 61 E1 AC00 62 301 344', 'false false false true true true')])),
+    section('A letter behind two others', ['w 0061 0062 | 0063 ; [2A600000.0500.0.0500.0]'],
+            ('options tertiary', [compare('abc', 'abe', 'Greater'), compare('bbc', 'bbe', 'Less')])),
+    section('A letter behind three others', ['w 0061 0062 0063 | 0065 ; [2AA00000.0500.0.0500.0]'],
+            ('options primary', [compare('abce', 'abch', 'Greater'), key('abce', '2a102a202a302aa0')])),
+    section('The longest of two prefixes', ['w 0061 0062 0063 | 0065 ; [2AA00000.0500.0.0500.0]',
+                                            'w 0063 | 0065 ; [2A700000.0500.0.0500.0]'],
+            ('options primary', [compare('abce', 'abch', 'Greater'), key('abce', '2a102a202a302aa0'),
+                                  compare('bce', 'bch', 'Less'), key('bce', '2a202a302a70')])),
+    section('Marks do not join across a letter', [at('c\u0301', '2A70'), at('cha', '2B90')],
+            ('options primary', [compare('ch\u0323\u0301', 'ch', 'Equal')]),
+            ('tables small', elements((' ', 'ch', rest('2a30', '2a80')),
+                                      (' ', 'ch\u0323\u0301', rest('2a30', '2a80') + ' 000000008c000500 0000000088000500')))),
+    section('A mark joins past a lower one, and not past its own class', [at('a\u0301', '2A18')],
+            ('options primary', [compare('a\u0323', 'a\u0323\u0301', 'Less'), compare('a\u0302\u0301', 'a', 'Equal')])),
+    section('Numbers', DIGITS,
+            ('options tertiary', [compare('a2', 'a10', 'Greater')]),
+            ('options tertiary,numeric', [compare('a2', 'a10', 'Less'), compare('a99', 'a100', 'Less')]),
+            ('options quaternary,numeric', [compare('a007b', 'a7b', 'Equal')]),
+            ('options identical,numeric', [compare('a007b', 'a7b', 'Less')]),
+            ('options primary,numeric', [
+                compare('0007', '7', 'Equal'), compare('9' * 254, '1' + '0' * 253, 'Greater'),
+                compare('9' * 254, '0001' + '0' * 253, 'Greater'),
+                *numbers(('73', '104b'), ('74', '104c02'), ('10233', '1073ff'), ('10234', '10740202'), ('1042489', '1083ffff'),
+                         ('1042490', '10840d13103bbe'), ('9999999', '10841dd110d1d0'), ('10000000', '10841e'),
+                         ('100000000', '10850c'), ('0', '1002'), ('000', '1002')),
+                key('9' * 254), key('1' + '0' * 253), key('a' + '12' * 130 + 'b')]),
+            *((f'tables {trie}', elements(
+                ('n', '73', rest('104b')), ('n', '74', rest('104c02')), ('n', '10233', rest('1073ff')),
+                ('n', '10234', rest('10740202')), ('n', '1042489', rest('1083ffff')),
+                ('n', '1042490', rest('10840d13', '103bbe')), (' ', 'a10', rest('2a10', '1111', '1110'))))
+              for trie in ('fast', 'small'))),
+    section('A range', ['range 4E00 9FFF E0020200 1'],
+            ('options primary', [key('\u4e00', 'e00202'), key('\u4efe', 'e00302')]),
+            ('tables small', elements((' ', '\u4e00', rest('e00202')), (' ', '\u4efe', rest('e00302')),
+                                      (' ', '\uac00', rest('fd0402', 'fd0463')), (' ', '\u1100\u1161', rest('fd0402', 'fd0463')),
+                                      (' ', 'z', rest('fe0408d4')), (' ', '\ufffe\ufffd\uffff', rest('02', 'fffd', 'ffff'))))),
+    section('Letters with marks, and cases', [CAPITAL, 'w 0300 ; [0.8600.0.0500.0]', at('s', '2B10'), 'map 00E0 0061 0300',
+                                              'map 00F2 006F 0300'],
+            ('options secondary', [compare('as', '\u00e0s', 'Less'), compare('ao', 'Ao', 'Equal'),
+                                    compare('Ao', 'a\u00f2', 'Less')])),
+    section('Shifted spaces and stops', [at(' ', '0304'), at('.', '0308'), 'set groups 0306 030A 030A 030A',
+                                         'set maxvariable punctuation'],
+            ('options tertiary,shifted', [compare('a c', 'ac', 'Equal'), compare('a.c.', 'ac', 'Equal')]),
+            ('options quaternary,shifted', [compare('a c', 'ac', 'Less'), compare('a.c.', 'ac', 'Less'),
+                                             key('a c', '2a102a30010601010601011c03041c01'),
+                                             key('ac', '2a102a30010601010601011d01')])),
+]
+
+REPLACED = [
+    ('Marks without elements', [('records', [*without('\u0301', '\u0323'), 'class 0350 230', 'w 0301 ;', 'w 0323 ;', 'w 0350 ;'])], [
+        ('options identical', [compare('a\u0350\u0323', 'a\u0350\u0301', 'Less')]),
+        ('tables fast', lines('read 301', 'plain 301', 'read 61 350 323'))]),
+    ('A tertiary element', [('records', [*without('t'), 'w 0074 ; [0.0000.2.0900.0]', 'w 0042 ; [2A200000.0500.0.0900.0]'])], [
+        ('options tertiary,caselevel,upper', [compare('a', 'ta', 'Less')]),
+        ('options tertiary,upper', [compare('atb', 'aB', 'Greater')])]),
+]
+
+DAMAGED = [('utf8', text, count) for text, count in (
+    ('f090', 1), ('eda080', 3), ('c0af', 2), ('f4908080', 4), ('ff', 1), ('80', 1), ('c3', 1), ('e282', 1), ('e08080', 3),
+    ('f09f98', 1), ('f8888080', 4))] + [('utf16', 'dc00d800', 2), ('utf16', 'd800', 1), ('utf16', 'dc00', 1), ('utf16', 'd83dd83d', 2)]
+
+
+def damaged(encoding, text, count):
+    """Questions on a damaged text: alone, and between letters. It orders as that many U+FFFD do, and has the same key."""
+    asked = []
+    front, back, mark = ('0061', '0062', 'fffd') if encoding == 'utf16' else ('61', '62', 'efbfbd')
+    for broken, whole in ((text, mark * count), (front + text + back, front + mark * count + back)):
+        asked += [line(f'compare {encoding} {broken} {whole}', 'Equal'), line(f'compare {encoding} {whole} {broken}', 'Equal')]
+        asked += lines(f'key {encoding} {broken}', f'key {encoding} {whole}')
+    return asked
+
+
+TWENTY = 'a' * 20
+MARKS = ['class 0303 230', 'class 0304 230', 'class 0305 230', 'class 0306 230', 'class 0307 230',
+         *(f'w {c} ; [0.{s}.0.0500.0]' for c, s in (('0300', '8600'), ('0303', '8B00'), ('0304', '8D00'), ('0305', '8E00'),
+                                                    ('0306', '8F00'), ('0307', '9000')))]
+BEHIND = (TWENTY + 'c', TWENTY + 'e')
+TIED = [('abcl', 'abco'), ('abc', 'abe'), ('ablcl', 'ablco'), ('ablc', 'able'), ('ehl', 'eho'), ('eh', 'ec'), ('hhhhl', 'hhhho')]
+TEXTS = ('', 'a', 'A', 'ab', 'a b', 'a.b', 'Ab', 'aB', '\u00e1b', 'a\u0301B', 'b', 'a2', 'a10', 'A\u0323c')
+NEAR = list(zip(TEXTS, TEXTS[1:])) + [('ab', 'Ab'), ('a b', 'ab'), ('a.b', 'ab'), ('a b', 'a.b'), ('\u00e1b', 'a\u0301b')]
+
+
+def option_paragraphs():
+    """Questions at each strength with each option."""
+    for strength in STRENGTHS:
+        for words in ('', ',shifted', ',shifted,space', ',shifted,currency', ',caselevel', ',lower', ',upper',
+                      ',caselevel,lower', ',caselevel,upper', ',numeric'):
+            asked = [line('options?')]
+            asked += [line(f'compare text {a.encode().hex() or "-"} {b.encode().hex() or "-"}') for a, b in NEAR]
+            asked += [line(f'key utf8 {a.encode().hex() or "-"}') for a in TEXTS[1:]]
+            yield f'options {strength}{words}', asked
+
+
+OTHERS = [
+    section('Damaged texts', [],
+            ('options identical', [
+                line('compare utf8 61ff 61efbfbd', 'Equal'), line('compare utf16 0061d800 0061fffd', 'Equal'),
+                line('compare mixed e1 00610301', 'Equal'), line('compare mixed 61 0061d800', 'Less'),
+                *(question for row in DAMAGED for question in damaged(*row))]),
+            ('options primary', [question for row in DAMAGED for question in damaged(*row)])),
+    section('From where texts are read: at least ten letters are left out, but with numbers and with shifting', [],
+            ('options none', [place(*BEHIND, 'at least 10')]), ('options numeric', [place(*BEHIND, '0')]),
+            ('options shifted', [place(*BEHIND, '0')])),
+    section('From where texts are read: secondaries backward', ['set backward on'], ('options none', [place(*BEHIND, '0')])),
+    section('From where texts are read: a dot above that may go', [*MARKS, 'set dotabove on'],
+            ('options none', [place(*BEHIND, '0')])),
+    section('From where texts are read: a dot above that stays', [*MARKS, 'set dotabove off'],
+            ('options none', [place(*BEHIND, 'at least 10')])),
+    section('From where texts are read: prefixes, and letters together', [
+        'w 0061 0062 | 0063 ; [2A600000.0500.0.0500.0]', 'w 0061 0062 006C | 0063 ; [2A900000.0500.0.0500.0]', at('eh', '2A70')],
+            ('options none', [*(place('t' * 20 + a, 't' * 20 + b, 'at least 10') for a, b in TIED),
+                               place('h' * 21, 'h' * 20 + 'l', '0'),
+                               *(compare('t' * 20 + a, 't' * 20 + b) for a, b in TIED)])),
+    section('Leads in the place of others', ['set reorder 2A 2B 2B 2A'],
+            ('options tertiary', [compare('t', 'a', 'Less'), key('t', '2a40010501010501'), key('a', '2b10010501010501')])),
+    section('Settings of a file count where nothing else is given', [
+        'set alternate shifted', 'set casefirst upper', 'set maxvariable symbol'],
+            *((f'options {words}', lines('options?')) for words in (
+                'none', 'quaternary', 'currency,lower', 'space,off,nonignorable', 'caselevel,numeric'))),
+    section('Each strength with each option', [
+        CAPITAL, 'w 0042 ; [2A200000.0500.1.0900.0]', at(' ', '0304'), at('.', '0308'), 'set groups 0306 030A 030C 2B48',
+        'set maxvariable punctuation', *DIGITS], *option_paragraphs()),
+]
+
+SECTIONS = [*WORKED, *OTHERS, *REPLACED]
+
+
+def missing(table):
+    return f'Data(Missing({"".join(word.capitalize() for word in table.split("_"))}))'
+
+
+def provider(*rows):
+    return 'provider', [line(*row) for row in rows]
+
+
+RANGES = '2A800000 2B000001 2B800000 2C0000FF'
+CHANGES = [
+    ('What is loaded first is missed first', [('records', LETTERS)], [
+        provider(*((f'lacks {" ".join(LOADS[i:])}', missing(table)) for i, table in enumerate(LOADS)), ('lacks', 'made'),
+                 ('metadata 38', missing('tailoring')), ('lacks diacritics', missing('diacritics')),
+                 ('lacks', missing('tailoring')), ('metadata 30', missing('reordering')), ('metadata 10', 'made'))]),
+    section('Loads come first, then canonical tables, then the others', [],
+            provider(('root 61 C3', "Table(Word('a'))"), ('nfd E1 D8FF', "Data(Canonical(BadValue('\u00e1')))"),
+                     ('metadata 30', missing('reordering')), ('lacks pairs', missing('pairs')),
+                     ('lacks', missing('reordering')), ('metadata 10', "Data(Canonical(BadValue('\u00e1')))"),
+                     ('nfd E1 1808061', "Table(Word('a'))"), ('root 61 2A100505', 'made'))),
+    section('A change at a time', [],
+            provider(('nfd E1 D8FF', "Data(Canonical(BadValue('\u00e1')))")),
+            provider(('nfd E1 0', "Data(Canonical(BadList('\u00e1')))")),
+            provider(('steps 61 E1 110000 E1 61 301 1EA1 61 323', "Data(Canonical(Loop('a')))")),
+            provider(('nfd AC00 0', "Data(Canonical(BuiltIn('\uac00')))")),
+            provider(('root 61 C3', "Table(Word('a'))")),
+            provider(('root 61 FFFFE1C6', "Table(Index('a'))"), ('root 61 C6', "Table(Index('a'))")),
+            provider(('root 61 01000505', "Table(Weight('a'))")),
+            provider(('root 62 2A1020C1', 'Table(PrefixOfWeight)')),
+            provider((f'secondaries{" 8000" * 78}', 'made'), ('metadata 0', 'Table(Diacritics)')),
+            provider(('jamo FF', 'Table(Jamo(255))')),
+            provider(('metadata 30', missing('reordering')), ('reordering FF 0', 'Table(Reordering)'),
+                     ('reordering 100 0', 'made')),
+            provider(('groups 300 300 300', 'Table(SpecialPrimaries)')),
+            provider(('numeric 2', 'Table(SpecialPrimaries)'))),
+    section('Primaries moved by ranges: the upper halves of two leads are exchanged, and what no range is above stays', [
+        at('s', '3010')],
+            provider(('metadata 30', missing('reordering')), (f'reordering 100 60000000 {RANGES}', 'made'),
+                     ('? key text 61', '2a10010501010501'), ('? key text 68', '2b80010501010501'),
+                     ('? key text 74', '2b40010501010501'), ('? key text 73', '3010010501010501'),
+                     ('? compare text 68 74', 'Greater'), ('? compare text 61 74', 'Less'), ('? compare text 68 73', 'Less'),
+                     (f'reordering 100 2B800000 {RANGES}', 'Table(Reordering)'))),
+]
