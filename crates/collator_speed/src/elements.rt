@@ -1,18 +1,12 @@
 //! How fast elements are read, and tables checked.
 
+use crate::clock::{a_second, nanoseconds};
 use icu_codepointtrie::TrieType;
 use icu_collator_core::checked::CheckedTables;
 use icu_collator_core::elements::CollationElements;
-use icu_collator_samples::packed::tables_of;
+use icu_collator_samples::packed::{checked_tables, tables_of};
 use icu_collator_types::elements::CollationElement;
 use std::alloc::Global;
-use std::time::CpuClock;
-
-/// The nanoseconds that the process has used of a processor.
-fn nanoseconds(rt: &HostRuntime) -> Option<u64> {
-    let used = rt.process_cpu_time().ok()?;
-    u64::try_from(used.as_nanos()).ok()
-}
 
 /// The nanoseconds from one time to another.
 fn time_between(before: Option<u64>, after: Option<u64>) -> Option<u64> {
@@ -104,16 +98,16 @@ fn least_reading(
 }
 
 /// The number of characters of all texts.
-fn count(texts: &str) -> u64 {
-    let mut count: u64 = 0;
+fn count(texts: &str) -> usize {
+    let mut count: usize = 0;
     for text in texts.lines() {
-        count = count.saturating_add(text.chars().count() as u64);
+        count = count.saturating_add(text.chars().count());
     }
     count
 }
 
 /// Prints how many characters are read in a second, and the sum of the primaries.
-pub fn measure_elements(
+fn measure_reading(
     rt: &HostRuntime,
     tables: &CheckedTables<'_>,
     texts: &str,
@@ -121,6 +115,24 @@ pub fn measure_elements(
     rounds: u32,
 ) -> Option<()> {
     let (least, sum) = least_reading(rt, tables, texts, lead, rounds)?;
-    let speed = count(texts).checked_mul(1_000_000_000)?.checked_div(least)?;
+    let speed = a_second(count(texts), least)?;
     println!(rt; "elements {speed} {sum}").ok()
+}
+
+/// Prints how many characters of the lines of a text are read in a second, and the sum of the primaries, over the tables of
+/// records; `None` where they are refused, or memory is. With numbers digits are read as numbers.
+pub fn measure_elements(
+    rt: &HostRuntime,
+    records: &str,
+    texts: &str,
+    has_numbers: bool,
+    rounds: u32,
+) -> Option<()> {
+    match checked_tables(rt.alloc(), records, TrieType::Small) {
+        Some(Ok(tables)) => {
+            let lead = tables.tables().special_primaries.numeric_primary;
+            measure_reading(rt, &tables, texts, has_numbers.then_some(lead), rounds)
+        }
+        _ => None,
+    }
 }

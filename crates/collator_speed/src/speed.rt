@@ -1,26 +1,15 @@
 //! How fast keys are written and names compared.
 
+use crate::clock::{a_second, nanoseconds};
 use crate::names::in_order;
-use icu_collator::collator::CollatorBorrowed;
+use icu_collator::collator::{Collator, CollatorBorrowed};
+use icu_collator_samples::held::{HeldCollation, held_tables};
+use icu_collator_types::options::{CollatorOptions, CollatorPreferences};
 use std::alloc::Global;
 use std::cmp::Ordering;
-use std::time::CpuClock;
 
 /// How often each thing is measured.
 const ROUNDS: u32 = 3;
-
-/// The nanoseconds that the process has used of a processor.
-fn nanoseconds(rt: &HostRuntime) -> Option<u64> {
-    let used = rt.process_cpu_time().ok()?;
-    u64::try_from(used.as_nanos()).ok()
-}
-
-/// How many things were done in a second, of so many in so many nanoseconds.
-fn a_second(count: usize, nanoseconds: u64) -> Option<u64> {
-    (count as u64)
-        .checked_mul(1_000_000_000)?
-        .checked_div(nanoseconds)
-}
 
 /// The bytes of the keys of all names together.
 fn write_keys(collator: &CollatorBorrowed<'_>, alloc: Global, names: &[&str]) -> Option<usize> {
@@ -105,7 +94,7 @@ fn near_pairs<'n>(alloc: Global, names: &[&'n str]) -> Option<Vec<(&'n str, &'n 
 }
 
 /// Prints how fast keys of the lines of a text are written, and lines compared.
-pub fn measure(rt: &HostRuntime, collator: &CollatorBorrowed<'_>, lines: &str) -> Option<()> {
+fn measure(rt: &HostRuntime, collator: &CollatorBorrowed<'_>, lines: &str) -> Option<()> {
     let names: Vec<&str> = lines.lines().collect(rt.alloc()).ok()?;
     measure_keys(rt, collator, &names)?;
     let far = far_pairs(rt.alloc(), &names)?;
@@ -113,4 +102,21 @@ pub fn measure(rt: &HostRuntime, collator: &CollatorBorrowed<'_>, lines: &str) -
     let ordered = in_order(collator, rt.alloc(), &names)?;
     let near = near_pairs(rt.alloc(), &ordered)?;
     measure_pairs(rt, collator, "cmp_near", &near)
+}
+
+/// The same, by a collator over a provider's tables.
+fn measure_over(rt: &HostRuntime, held: &HeldCollation<'static>, lines: &str) -> Option<()> {
+    let preferences = CollatorPreferences::default();
+    match Collator::try_new_unstable(rt.alloc(), held, preferences, CollatorOptions::default()) {
+        Ok(collator) => measure(rt, &collator.as_borrowed(), lines),
+        Err(_) => None,
+    }
+}
+
+/// The same, by a collator over the tables of records; `None` where it can't be made, or memory is refused.
+pub fn measure_collator(rt: &HostRuntime, records: &str, lines: &str) -> Option<()> {
+    match held_tables(rt.alloc(), records) {
+        Some(held) => measure_over(rt, &held, lines),
+        None => None,
+    }
 }
