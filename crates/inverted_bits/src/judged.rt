@@ -22,7 +22,7 @@ const TEXTS: [&str; 12] = [
     "\u{303}@A\u{370}\u{33f}\u{212a}\u{fa6c}",
     "\u{fffd}\u{fffe}\u{ffff}\u{ffc0}\u{10000}\u{4e00}",
     "adcfgdc",
-    "hihahipapu",
+    "hihahijpapu",
     "22112",
     "\u{307}\u{300}\u{307}\u{f73}\u{344}",
 ];
@@ -112,10 +112,16 @@ fn are_read(alloc: Global, tables: &CheckedTables<'_>) -> bool {
 }
 
 /// What became of tables that were checked.
-fn checked_answer(alloc: Global, checked: Result<CheckedTables<'_>, TableFault>) -> Answer {
+fn checked_answer(alloc: Global, checked: &Result<CheckedTables<'_>, TableFault>) -> Answer {
     match checked {
-        Ok(tables) if are_read(alloc, &tables) => Answer::Read,
-        Ok(_) | Err(TableFault::Memory) => Answer::Misread,
+        Ok(tables) => {
+            if are_read(alloc, tables) {
+                Answer::Read
+            } else {
+                Answer::Misread
+            }
+        }
+        Err(TableFault::Memory) => Answer::Misread,
         Err(_) => Answer::Refused,
     }
 }
@@ -135,7 +141,7 @@ fn canonical_data(alloc: Global, lists: &Lists) -> Result<CanonicalData<'_>, Ans
 /// What becomes of collation tables with the canonical data of lists.
 fn collation_answer(alloc: Global, lists: &Lists, tables: CollationTables<'_>) -> Answer {
     match canonical_data(alloc, lists) {
-        Ok(canonical) => checked_answer(alloc, CheckedTables::try_new(alloc, canonical, tables)),
+        Ok(canonical) => checked_answer(alloc, &CheckedTables::try_new(alloc, canonical, tables)),
         Err(answer) => answer,
     }
 }
