@@ -3,6 +3,6 @@
 #![tactic(auto)]
 
 #[cfg(test)]
-mod made;
+mod calls;
 #[cfg(test)]
 mod sinks;
