@@ -72,6 +72,11 @@ def rest(*primaries):
     return ' '.join(f'{primary:0<8}05000500' for primary in primaries)
 
 
+def marks(*secondaries):
+    """Elements of secondaries with a common tertiary, behind others."""
+    return ''.join(f' 00000000{secondary}0500' for secondary in secondaries)
+
+
 WORKED = [
     ('The letters', [('records', LETTERS)], [
         ('options tertiary', [key('a', '2a10010501010501'), key('', '01010101'), key('\u00e1', '2a1001458801010601'),
@@ -84,6 +89,8 @@ WORKED = [
                               key('\ufffe\0\0', '02fe040210040210'), key('\0\ufffe\0', 'fe04021002fe040210'),
                               compare('\ufffe\0\0', '\0\ufffe\0', 'Less'), key('\uac00', 'fd0402fd0463'),
                               key('\u1100\u1161', 'fd0402fd0463')]),
+        ('tables fast', elements((' ', '\u1ea1\u0301', rest('2a10') + marks('8c00', '8800')),
+                                 (' ', '\u00e1\u0323', rest('2a10') + marks('8c00', '8800')), (' ', '', '-'))),
     ]),
     section('Upper case first, with the level of case', [CAPITAL],
             ('options secondary,caselevel,upper', [compare('a' * 13 + 'A', 'a' * 14, 'Less'),
@@ -96,7 +103,8 @@ WORKED = [
             ('tables fast', [line('unsafe 61 E1 AC00', 'false false false'), line('unsafe 62 301 344', 'true true true')]),
             ('tables small', [line('unsafe 61 E1 AC00 62 301 344', 'false false false true true true')])),
     section('A letter behind two others', ['w 0061 0062 | 0063 ; [2A600000.0500.0.0500.0]'],
-            ('options tertiary', [compare('abc', 'abe', 'Greater'), compare('bbc', 'bbe', 'Less')])),
+            ('options tertiary', [compare('abc', 'abe', 'Greater'), compare('bbc', 'bbe', 'Less')]),
+            ('tables fast', elements((' ', 'abc', rest('2a10', '2a20', '2a60')), (' ', 'bbc', rest('2a20', '2a20', '2a30'))))),
     section('A letter behind three others', ['w 0061 0062 0063 | 0065 ; [2AA00000.0500.0.0500.0]'],
             ('options primary', [compare('abce', 'abch', 'Greater'), key('abce', '2a102a202a302aa0')])),
     section('The longest of two prefixes', ['w 0061 0062 0063 | 0065 ; [2AA00000.0500.0.0500.0]',
@@ -106,9 +114,12 @@ WORKED = [
     section('Marks do not join across a letter', [at('c\u0301', '2A70'), at('cha', '2B90')],
             ('options primary', [compare('ch\u0323\u0301', 'ch', 'Equal')]),
             ('tables small', elements((' ', 'ch', rest('2a30', '2a80')),
-                                      (' ', 'ch\u0323\u0301', rest('2a30', '2a80') + ' 000000008c000500 0000000088000500')))),
+                                      (' ', 'ch\u0323\u0301', rest('2a30', '2a80') + marks('8c00', '8800'))))),
     section('A mark joins past a lower one, and not past its own class', [at('a\u0301', '2A18')],
-            ('options primary', [compare('a\u0323', 'a\u0323\u0301', 'Less'), compare('a\u0302\u0301', 'a', 'Equal')])),
+            ('options primary', [compare('a\u0323', 'a\u0323\u0301', 'Less'), compare('a\u0302\u0301', 'a', 'Equal')]),
+            ('tables fast', elements((' ', 'a\u0323', rest('2a10') + marks('8c00')),
+                                     (' ', 'a\u0323\u0301', rest('2a18') + marks('8c00')),
+                                     (' ', 'a\u0302\u0301', rest('2a10') + marks('8a00', '8800'))))),
     section('Numbers', DIGITS,
             ('options tertiary', [compare('a2', 'a10', 'Greater')]),
             ('options tertiary,numeric', [compare('a2', 'a10', 'Less'), compare('a99', 'a100', 'Less')]),
@@ -124,7 +135,8 @@ WORKED = [
             *((f'tables {trie}', elements(
                 ('n', '73', rest('104b')), ('n', '74', rest('104c02')), ('n', '10233', rest('1073ff')),
                 ('n', '10234', rest('10740202')), ('n', '1042489', rest('1083ffff')),
-                ('n', '1042490', rest('10840d13', '103bbe')), (' ', 'a10', rest('2a10', '1111', '1110'))))
+                ('n', '1042490', rest('10840d13', '103bbe')), ('n', '0007', rest('1009')), ('n', 'a2', rest('2a10', '1004')),
+                ('n', 'a10', rest('2a10', '100c')), (' ', 'a10', rest('2a10', '1111', '1110'))))
               for trie in ('fast', 'small'))),
     section('A range', ['range 4E00 9FFF E0020200 1'],
             ('options primary', [key('\u4e00', 'e00202'), key('\u4efe', 'e00302')]),

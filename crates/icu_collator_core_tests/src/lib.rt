@@ -6,8 +6,6 @@ mod copies;
 #[cfg(test)]
 mod element_calls;
 #[cfg(test)]
-mod element_rows;
-#[cfg(test)]
 mod judged;
 #[cfg(test)]
 mod numbers;
