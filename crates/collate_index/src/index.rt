@@ -26,15 +26,20 @@ use std::marker::Model;
 use std::ops::Range;
 
 /// A name that an index keeps, with its key.
-#[derive(Drop)]
 struct Name {
     bytes: Vec<u8>,
     key: IndexKey,
 }
 
+// (let go of as one, and not part by part, so that what owns one is proved sooner)
+impl Drop for Name {
+    fn drop(self) {
+        let Name { bytes: _, key: _ } = self;
+    }
+}
+
 /// Names in collation order under records and options. Names that compare as equal stand as they arrived, and no name
 /// occurs twice.
-#[derive(Drop)]
 pub struct Index {
     alloc: Global,
     records: Records,
@@ -43,6 +48,19 @@ pub struct Index {
     names: Vec<Name>,
     /// Places in `names`, in collation order.
     order: Vec<usize>,
+}
+
+// (let go of as one, and not part by part, so that what owns one is proved sooner)
+impl Drop for Index {
+    fn drop(self) {
+        let Index {
+            alloc: _,
+            records: _,
+            options: _,
+            names: _,
+            order: _,
+        } = self;
+    }
 }
 
 impl Model for Index {

@@ -14,11 +14,21 @@ use std::alloc::{AllocError, Global};
 use std::cmp::Ordering;
 
 /// The levels of a name under records and options, up to the strength. Only `make` makes one, and only `compare` reads it.
-#[derive(Drop)]
 pub struct IndexKey {
     primaries: Vec<u32>,
     secondaries: Vec<u16>,
     tertiaries: Vec<u16>,
+}
+
+// (let go of as one, and not part by part, so that what owns one is proved sooner)
+impl Drop for IndexKey {
+    fn drop(self) {
+        let IndexKey {
+            primaries: _,
+            secondaries: _,
+            tertiaries: _,
+        } = self;
+    }
 }
 
 impl IndexKey {

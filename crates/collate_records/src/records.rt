@@ -28,11 +28,21 @@ use std::marker::Model;
 /// What an accepted records file says of characters: a list of lines, as its contracts see it, with
 /// canonical data and a look-up table of weights made of them (docs/RECORDS.md). The lines of records are always accepted:
 /// `keep_rules` says so.
-#[derive(Drop)]
 pub struct Records {
     records: Vec<Record>,
     canonical: CanonicalData<'static>,
     weights: CharacterTable<Vec<Element>>,
+}
+
+// (let go of as one, and not part by part, so that what owns one is proved sooner)
+impl Drop for Records {
+    fn drop(self) {
+        let Records {
+            records: _,
+            canonical: _,
+            weights: _,
+        } = self;
+    }
 }
 
 impl Model for Records {

@@ -5,11 +5,21 @@ use std::alloc::{AllocError, Global};
 use std::collections::BTreeSet;
 
 /// The characters whose class, mapping or weights a line gave.
-#[derive(Drop)]
 pub(crate) struct Seen {
     classes: BTreeSet<char>,
     mappings: BTreeSet<char>,
     weights: BTreeSet<char>,
+}
+
+// (let go of as one, and not part by part, so that what owns one is proved sooner)
+impl Drop for Seen {
+    fn drop(self) {
+        let Seen {
+            classes: _,
+            mappings: _,
+            weights: _,
+        } = self;
+    }
 }
 
 impl Seen {

@@ -54,11 +54,22 @@ pub enum CodePointTrieError {
 
 /// A map from code points to values, as ICU4X has it. It answers from its cells for any number,
 /// past 10FFFF (hex) too.
-#[derive(Debug, Drop)]
+#[derive(Debug)]
 pub struct CodePointTrie<'a, T: TrieValue> {
     header: CodePointTrieHeader,
     index: PackedVec<'a, u16>,
     cells: PackedVec<'a, T>,
+}
+
+// (let go of as one, and not part by part, so that what owns one is proved sooner)
+impl<T: TrieValue> Drop for CodePointTrie<'_, T> {
+    fn drop(self) {
+        let CodePointTrie {
+            header: _,
+            index: _,
+            cells: _,
+        } = self;
+    }
 }
 
 impl<'a, T: TrieValue> Model for CodePointTrie<'a, T> {

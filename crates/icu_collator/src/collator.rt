@@ -20,10 +20,20 @@ use std::alloc::Global;
 use std::marker::Model;
 
 /// A collator that holds its data: checked tables, and the options that it goes by.
-#[derive(Debug, Drop)]
+#[derive(Debug)]
 pub struct Collator<'a> {
     tables: CheckedTables<'a>,
     options: ResolvedCollatorOptions,
+}
+
+// (let go of as one, and not part by part, so that what owns one is proved sooner)
+impl Drop for Collator<'_> {
+    fn drop(self) {
+        let Collator {
+            tables: _,
+            options: _,
+        } = self;
+    }
 }
 
 impl<'a> Model for Collator<'a> {

@@ -7,7 +7,6 @@ use smallvec::SmallVec;
 pub(crate) use texts::read_text;
 
 /// What is read of a text.
-#[derive(Drop)]
 pub(crate) struct ReadText {
     /// The elements that count.
     pub(crate) elements: SmallVec<CollationElement, 32>,
@@ -15,4 +14,15 @@ pub(crate) struct ReadText {
     pub(crate) variable_end: u32,
     /// At strength `Identical` the decomposed list, else nothing.
     pub(crate) characters: SmallVec<char, 64>,
+}
+
+// (let go of as one, and not part by part, so that what owns one is proved sooner)
+impl Drop for ReadText {
+    fn drop(self) {
+        let ReadText {
+            elements: _,
+            variable_end: _,
+            characters: _,
+        } = self;
+    }
 }

@@ -22,7 +22,7 @@ use std::alloc::{AllocError, Global};
 use std::marker::Model;
 
 /// Collation data: tables that pass every check, with their canonical data, seen as the tables of both.
-#[derive(Debug, Drop)]
+#[derive(Debug)]
 pub struct CheckedTables<'a> {
     canonical: CanonicalData<'a>,
     tables: CollationTables<'a>,
@@ -30,6 +30,18 @@ pub struct CheckedTables<'a> {
     tied: Vec<u32>,
     /// What is noted of the low characters.
     low: Vec<LowCharacter>,
+}
+
+// (let go of as one, and not part by part, so that what owns one is proved sooner)
+impl Drop for CheckedTables<'_> {
+    fn drop(self) {
+        let CheckedTables {
+            canonical: _,
+            tables: _,
+            tied: _,
+            low: _,
+        } = self;
+    }
 }
 
 impl<'a> Model for CheckedTables<'a> {

@@ -30,7 +30,7 @@ pub struct CollationJamo<'a> {
 }
 
 /// The tables of a collation.
-#[derive(Debug, PartialEq, Drop)]
+#[derive(Debug, PartialEq)]
 pub struct CollationTables<'a> {
     /// The data of all characters.
     pub root: CollationData<'a>,
@@ -47,6 +47,21 @@ pub struct CollationTables<'a> {
     pub metadata: CollationMetadata,
     /// Groups, compressible leads, and the lead of numbers.
     pub special_primaries: CollationSpecialPrimaries<'a>,
+}
+
+// (let go of as one, and not part by part, so that what owns one is proved sooner)
+impl Drop for CollationTables<'_> {
+    fn drop(self) {
+        let CollationTables {
+            root: _,
+            tailoring: _,
+            diacritics: _,
+            jamo: _,
+            reordering: _,
+            metadata: _,
+            special_primaries: _,
+        } = self;
+    }
 }
 
 impl<'a> CollationDiacritics<'a> {

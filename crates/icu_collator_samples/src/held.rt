@@ -42,7 +42,6 @@ pub struct Lacking {
 }
 
 /// A provider of tables, the same for all locales.
-#[derive(Drop)]
 pub struct HeldCollation<'t> {
     /// Canonical tables.
     pub canonical: CanonicalTables<'t>,
@@ -50,6 +49,17 @@ pub struct HeldCollation<'t> {
     pub tables: CollationTables<'t>,
     /// What else it lacks.
     pub lacking: Lacking,
+}
+
+// (let go of as one, and not part by part, so that what owns one is proved sooner)
+impl Drop for HeldCollation<'_> {
+    fn drop(self) {
+        let HeldCollation {
+            canonical: _,
+            tables: _,
+            lacking: _,
+        } = self;
+    }
 }
 
 impl NormalizerProvider for HeldCollation<'_> {

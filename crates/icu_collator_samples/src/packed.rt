@@ -56,11 +56,21 @@ fn beginnings(alloc: Global, records: &[Record]) -> Option<Vec<char>> {
 }
 
 /// A map from characters to words, and what the words are written from.
-#[derive(Drop)]
 struct DataWriter<'s> {
     map: CodePointTrieBuilder<u32>,
     writer: Writer<'s>,
     set: &'s RecordSet,
+}
+
+// (let go of as one, and not part by part, so that what owns one is proved sooner)
+impl Drop for DataWriter<'_> {
+    fn drop(self) {
+        let DataWriter {
+            map: _,
+            writer: _,
+            set: _,
+        } = self;
+    }
 }
 
 /// All characters have one word.

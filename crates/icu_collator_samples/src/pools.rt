@@ -18,7 +18,6 @@ pub struct Entry {
 }
 
 /// The lists.
-#[derive(Drop)]
 pub struct Pools {
     /// Elements, and the primaries of ranges.
     pub ces: Vec<u64>,
@@ -26,6 +25,17 @@ pub struct Pools {
     pub ce32s: Vec<u32>,
     /// Contexts.
     pub contexts: Vec<u16>,
+}
+
+// (let go of as one, and not part by part, so that what owns one is proved sooner)
+impl Drop for Pools {
+    fn drop(self) {
+        let Pools {
+            ces: _,
+            ce32s: _,
+            contexts: _,
+        } = self;
+    }
 }
 
 /// The secondary, the case and the tertiary of an element, and its quaternary.

@@ -6,7 +6,7 @@ use icu_normalizer_core::canonical::CanonicalDataBuilder;
 use std::alloc::Global;
 
 /// The elements of a text, or of a character behind a prefix.
-#[derive(Debug, Drop)]
+#[derive(Debug)]
 pub struct Record {
     /// What stands before the text.
     pub prefix: Vec<char>,
@@ -16,6 +16,18 @@ pub struct Record {
     pub elements: Vec<Element>,
     /// Whether a tailoring has it.
     pub is_tailored: bool,
+}
+
+// (let go of as one, and not part by part, so that what owns one is proved sooner)
+impl Drop for Record {
+    fn drop(self) {
+        let Record {
+            prefix: _,
+            text: _,
+            elements: _,
+            is_tailored: _,
+        } = self;
+    }
 }
 
 /// Characters whose primaries follow one another.
@@ -32,7 +44,6 @@ pub struct PrimaryRange {
 }
 
 /// What the lines of a records file say.
-#[derive(Drop)]
 pub struct RecordSet {
     /// The classes and mappings.
     pub canonical: CanonicalDataBuilder,
@@ -52,6 +63,23 @@ pub struct RecordSet {
     pub compressible: [u16; 16],
     /// What stands in the place of leads, 0 where they stay, if a lead moves.
     pub reordering: Option<[u8; 256]>,
+}
+
+// (let go of as one, and not part by part, so that what owns one is proved sooner)
+impl Drop for RecordSet {
+    fn drop(self) {
+        let RecordSet {
+            canonical: _,
+            records: _,
+            ranges: _,
+            digits: _,
+            metadata: _,
+            groups: _,
+            numeric_primary: _,
+            compressible: _,
+            reordering: _,
+        } = self;
+    }
 }
 
 impl Record {

@@ -56,7 +56,6 @@ fn both_flags(flags: u32, others: u32) -> u32 {
 }
 
 /// What the words of a set of records are written from and to.
-#[derive(Drop)]
 pub struct Writer<'s> {
     /// The records.
     set: &'s RecordSet,
@@ -64,6 +63,17 @@ pub struct Writer<'s> {
     canonical: CanonicalBorrowed<'s>,
     /// The lists.
     pub pools: Pools,
+}
+
+// (let go of as one, and not part by part, so that what owns one is proved sooner)
+impl Drop for Writer<'_> {
+    fn drop(self) {
+        let Writer {
+            set: _,
+            canonical: _,
+            pools: _,
+        } = self;
+    }
 }
 
 impl<'s> Writer<'s> {

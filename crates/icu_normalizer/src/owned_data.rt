@@ -19,12 +19,22 @@ use icu_normalizer_core::provider::{
 use std::alloc::Global;
 
 /// What a normal form is made by, held.
-#[derive(Debug, Drop)]
+#[derive(Debug)]
 pub(crate) enum OwnedData<'a> {
     /// Canonical data: NFD and NFC.
     Canonical(CanonicalData<'a>),
     /// Compatibility data: NFKD and NFKC.
     Compatibility(CompatibilityData<'a>),
+}
+
+// (let go of as one, and not part by part, so that what owns one is proved sooner)
+impl Drop for OwnedData<'_> {
+    fn drop(self) {
+        match self {
+            OwnedData::Canonical(_) => {}
+            OwnedData::Compatibility(_) => {}
+        }
+    }
 }
 
 impl<'a> OwnedData<'a> {
@@ -70,11 +80,18 @@ impl<'a> OwnedData<'a> {
 }
 
 /// The data of a normaliser, with notes of low characters.
-#[derive(Debug, Drop)]
+#[derive(Debug)]
 pub(crate) struct NotedData<'a> {
     pub(crate) owned: OwnedData<'a>,
     low: Vec<LowCharacter>,
     ghost notes: { AreLow (tables_meaning (tables_of owned)) low.items },
+}
+
+// (let go of as one, and not part by part, so that what owns one is proved sooner)
+impl Drop for NotedData<'_> {
+    fn drop(self) {
+        let NotedData { owned: _, low: _ } = self;
+    }
 }
 
 impl<'a> NotedData<'a> {

@@ -15,7 +15,6 @@ use icu_packed_vector::PackedVec;
 use std::alloc::Global;
 
 /// A provider of tables, some of which it may lack.
-#[derive(Drop)]
 pub struct Held<'t> {
     /// What is held.
     pub tables: CanonicalTables<'t>,
@@ -29,6 +28,20 @@ pub struct Held<'t> {
     pub lacks_lists: bool,
     /// `load_pairs` does.
     pub lacks_pairs: bool,
+}
+
+// (let go of as one, and not part by part, so that what owns one is proved sooner)
+impl Drop for Held<'_> {
+    fn drop(self) {
+        let Held {
+            tables: _,
+            nfkd: _,
+            uts46: _,
+            lacks_words: _,
+            lacks_lists: _,
+            lacks_pairs: _,
+        } = self;
+    }
 }
 
 impl NormalizerProvider for Held<'_> {

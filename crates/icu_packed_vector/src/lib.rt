@@ -31,10 +31,16 @@ pub enum PackedVecError {
 }
 
 /// Items in packed bytes, borrowed or owned.
-#[derive(Drop)]
 pub struct PackedVec<'a, T: PackedItem> {
     bytes: Bytes<'a>,
     item: PhantomData<T>,
+}
+
+// (a vector is let go of as one, and not part by part, so that who owns it is proved sooner)
+impl<T: PackedItem> Drop for PackedVec<'_, T> {
+    fn drop(self) {
+        let PackedVec { bytes: _, item: _ } = self;
+    }
 }
 
 /// Where the bytes are.
@@ -192,7 +198,8 @@ impl<'a, T: PackedItem> PackedVec<'a, T> {
     pub fn into_owned(self, alloc: Global) -> Result<PackedVec<'static, T>, AllocError>
         ensures { IfOk result (λ items. items ≡ self.entry) }
     {
-        let bytes = match self.bytes {
+        let PackedVec { bytes, item: _item } = self;
+        let bytes = match bytes {
             Bytes::Borrowed(bytes) => Vec::from_slice(alloc, bytes)?,
             Bytes::Owned(bytes) => bytes,
         };

@@ -18,7 +18,7 @@ use smallvec::SmallVec;
 use std::alloc::{AllocError, Global};
 
 /// A text that is being read.
-#[derive(Debug, Drop)]
+#[derive(Debug)]
 pub(crate) struct Reader<'t, 'a> {
     checked: &'t CheckedTables<'a>,
     numeric: Option<u8>,
@@ -29,6 +29,20 @@ pub(crate) struct Reader<'t, 'a> {
     ghost within: { place ≤ small_vec_len list },
     ghost counted: { given ≤ small_vec_len ready },
     ghost characters: { scalars list.items ≡ true },
+}
+
+// (let go of as one, and not part by part, so that what owns one is proved sooner)
+impl Drop for Reader<'_, '_> {
+    fn drop(self) {
+        let Reader {
+            checked: _,
+            numeric: _,
+            list: _,
+            place: _,
+            ready: _,
+            given: _,
+        } = self;
+    }
 }
 
 impl<'t, 'a> Reader<'t, 'a> {

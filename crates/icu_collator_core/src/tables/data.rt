@@ -8,7 +8,7 @@ use std::alloc::{AllocError, Global};
 
 /// The word of each character, and the lists that words name places in. There is one of the root, and one
 /// of a tailoring, which names places in its own lists.
-#[derive(Debug, PartialEq, Drop)]
+#[derive(Debug, PartialEq)]
 pub struct CollationData<'a> {
     /// The words. In a tailoring the fallback, C0 (hex), is the word of a character that it leaves to the root.
     pub trie: CodePointTrie<'a, u32>,
@@ -19,6 +19,18 @@ pub struct CollationData<'a> {
     /// Contexts: each a default word in two units, the upper first, and a unit trie of what may stand
     /// behind a character or before it. A prefix stands there the nearest character first.
     pub contexts: PackedVec<'a, u16>,
+}
+
+// (let go of as one, and not part by part, so that what owns one is proved sooner)
+impl Drop for CollationData<'_> {
+    fn drop(self) {
+        let CollationData {
+            trie: _,
+            ces: _,
+            ce32s: _,
+            contexts: _,
+        } = self;
+    }
 }
 
 impl<'a> CollationData<'a> {

@@ -7,7 +7,7 @@ use icu_packed_vector::PackedVec;
 use std::alloc::{AllocError, Global};
 
 /// What primaries stand in the place of others.
-#[derive(Debug, PartialEq, Drop)]
+#[derive(Debug, PartialEq)]
 pub struct CollationReordering<'a> {
     /// From this primary on, one whose lead has no byte in `reorder_table` stays.
     pub min_high_no_reorder: u32,
@@ -16,6 +16,17 @@ pub struct CollationReordering<'a> {
     /// For leads that are cut, in rising order: in the upper half of each where a part ends, in its low
     /// byte what is added to the lead of a primary in that part.
     pub reorder_ranges: PackedVec<'a, u32>,
+}
+
+// (let go of as one, and not part by part, so that what owns one is proved sooner)
+impl Drop for CollationReordering<'_> {
+    fn drop(self) {
+        let CollationReordering {
+            min_high_no_reorder: _,
+            reorder_table: _,
+            reorder_ranges: _,
+        } = self;
+    }
 }
 
 /// The primary with this lead byte in the place of its own.

@@ -13,11 +13,21 @@ use icu_normalizer_core::decomposition::{FormData, Run};
 use std::alloc::{AllocError, Global};
 
 /// What is left of the NFC of a cluster.
-#[derive(Debug, Drop)]
+#[derive(Debug)]
 pub(super) struct ClusterForm<'d> {
     run: Run<'d>,
     composer: Composer<'d>,
     ghost same: { form_meaning run.basis ≡ form_meaning composer.basis },
+}
+
+// (let go of as one, and not part by part, so that what owns one is proved sooner)
+impl Drop for ClusterForm<'_> {
+    fn drop(self) {
+        let ClusterForm {
+            run: _,
+            composer: _,
+        } = self;
+    }
 }
 
 impl<'d> ClusterForm<'d> {

@@ -10,7 +10,7 @@ use std::alloc::{AllocError, Global};
 
 /// The last starter of decomposed characters, and the marks behind it that did not compose with it. They leave once
 /// another starter has taken its place.
-#[derive(Debug, Drop)]
+#[derive(Debug)]
 pub(crate) struct Composer<'d> {
     basis: FormData<'d>,
     starter: Option<char>,
@@ -22,6 +22,20 @@ pub(crate) struct Composer<'d> {
     ghost alone: { leaving ≡ false → starter ≡ None → marks.items ≡ [] },
     ghost unread: { leaving ≡ false → next ≡ 0 },
     ghost composable: { IsComposable (form_meaning basis) },
+}
+
+// (let go of as one, and not part by part, so that what owns one is proved sooner)
+impl Drop for Composer<'_> {
+    fn drop(self) {
+        let Composer {
+            basis: _,
+            starter: _,
+            marks: _,
+            highest: _,
+            leaving: _,
+            next: _,
+        } = self;
+    }
 }
 
 impl<'d> Composer<'d> {

@@ -18,10 +18,20 @@ use std::alloc::Global;
 use std::marker::Model;
 
 /// A mapper of the characters of domain names (UTS 46). It is seen as the tables that it reads.
-#[derive(Debug, Drop)]
+#[derive(Debug)]
 pub struct Uts46Mapper<'a> {
     pub(super) canonical: CanonicalData<'a>,
     pub(super) table: MapperTable<'a>,
+}
+
+// (let go of as one, and not part by part, so that what owns one is proved sooner)
+impl Drop for Uts46Mapper<'_> {
+    fn drop(self) {
+        let Uts46Mapper {
+            canonical: _,
+            table: _,
+        } = self;
+    }
 }
 
 impl<'a> Model for Uts46Mapper<'a> {

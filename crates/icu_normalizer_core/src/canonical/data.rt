@@ -42,10 +42,20 @@ impl From<AllocError> for CanonicalDataError {
 }
 
 /// Canonical data: tables that pass every check, seen as those tables.
-#[derive(Debug, Drop)]
+#[derive(Debug)]
 pub struct CanonicalData<'a> {
     tables: CanonicalTables<'a>,
     steady: SteadyCharacters,
+}
+
+// (let go of as one, and not part by part, so that what owns one is proved sooner)
+impl Drop for CanonicalData<'_> {
+    fn drop(self) {
+        let CanonicalData {
+            tables: _,
+            steady: _,
+        } = self;
+    }
 }
 
 impl<'a> Model for CanonicalData<'a> {

@@ -12,7 +12,7 @@ use std::error::Error;
 use std::fmt;
 
 /// Canonical data in packed tables, not yet checked (`CanonicalData::try_new` checks them).
-#[derive(Debug, Drop)]
+#[derive(Debug)]
 pub struct CanonicalTables<'a> {
     /// The canonical word of each code point: its class, or its full list. A list that fits into no word stands in
     /// `scalars16` or `scalars24`, and the word says its place and its length; places are counted through
@@ -28,6 +28,19 @@ pub struct CanonicalTables<'a> {
     /// The composed pairs, one number each in rising order: first * 2^42 + second * 2^21 + composed.
     /// Those of Hangul are left out.
     pub pairs: PackedVec<'a, u64>,
+}
+
+// (let go of as one, and not part by part, so that what owns one is proved sooner)
+impl Drop for CanonicalTables<'_> {
+    fn drop(self) {
+        let CanonicalTables {
+            trie: _,
+            scalars16: _,
+            scalars24: _,
+            steps: _,
+            pairs: _,
+        } = self;
+    }
 }
 
 /// Why tables are no canonical data. The causes are looked for in this order, and of each the least character is

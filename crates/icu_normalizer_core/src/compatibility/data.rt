@@ -18,11 +18,22 @@ use std::alloc::Global;
 use std::marker::Model;
 
 /// Compatibility data: canonical data, and compatibility tables that pass every check, seen as the tables of both.
-#[derive(Debug, Drop)]
+#[derive(Debug)]
 pub struct CompatibilityData<'a> {
     canonical: CanonicalData<'a>,
     tables: NfkdTables<'a>,
     steady: SteadyCharacters,
+}
+
+// (let go of as one, and not part by part, so that what owns one is proved sooner)
+impl Drop for CompatibilityData<'_> {
+    fn drop(self) {
+        let CompatibilityData {
+            canonical: _,
+            tables: _,
+            steady: _,
+        } = self;
+    }
 }
 
 impl<'a> Model for CompatibilityData<'a> {

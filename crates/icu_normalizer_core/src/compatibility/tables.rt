@@ -9,7 +9,7 @@ use icu_codepointtrie::CodePointTrie;
 use icu_packed_vector::PackedVec;
 
 /// Compatibility full lists in packed tables, not yet checked (`CompatibilityData::try_new` checks them).
-#[derive(Debug, Drop)]
+#[derive(Debug)]
 pub struct NfkdTables<'a> {
     /// The word of each code point: its class, or its full list by canonical and compatibility mappings. The words
     /// have the forms of canonical ones (`CanonicalTables`).
@@ -18,6 +18,17 @@ pub struct NfkdTables<'a> {
     pub scalars16: PackedVec<'a, u16>,
     /// Full lists, one after another, of any characters; their places are counted on from the end of `scalars16`.
     pub scalars24: PackedVec<'a, char>,
+}
+
+// (let go of as one, and not part by part, so that what owns one is proved sooner)
+impl Drop for NfkdTables<'_> {
+    fn drop(self) {
+        let NfkdTables {
+            trie: _,
+            scalars16: _,
+            scalars24: _,
+        } = self;
+    }
 }
 
 impl NfkdTables<'_> {

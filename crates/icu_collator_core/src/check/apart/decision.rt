@@ -15,10 +15,19 @@ use smallvec::SmallVec;
 use std::alloc::{AllocError, Global};
 
 /// The elements that tables spell, and the leads of ranges.
-#[derive(Drop)]
 struct Gathered {
     elements: SmallVec<CollationElement, 32>,
     leads: Vec<u32>,
+}
+
+// (let go of as one, and not part by part, so that what owns one is proved sooner)
+impl Drop for Gathered {
+    fn drop(self) {
+        let Gathered {
+            elements: _,
+            leads: _,
+        } = self;
+    }
 }
 
 /// What the words of data spell.
