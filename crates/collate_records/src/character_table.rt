@@ -10,11 +10,20 @@ use icu_collections::codepointtrie::{
 use std::alloc::{AllocError, Global};
 
 /// Values of some characters, to look up: each in a list, its place found through a trie.
-#[derive(Drop)]
 pub(crate) struct CharacterTable<V> {
     /// The place of a code point's value, counted from 1; 0 without one, and past 10FFFF (hex).
     places: CodePointTrie<'static, u16>,
     values: Vec<V>,
+}
+
+// (let go of as one, and not part by part, so that what owns one is proved sooner)
+impl<V: Drop> Drop for CharacterTable<V> {
+    fn drop(self) {
+        let CharacterTable {
+            places: _,
+            values: _,
+        } = self;
+    }
 }
 
 impl<V> CharacterTable<V> {

@@ -84,11 +84,22 @@ pub struct GivenCompatibility {
 }
 
 /// Tables in the making, seen as the classes and mappings that were given.
-#[derive(Debug, Drop)]
+#[derive(Debug)]
 pub struct CanonicalDataBuilder {
     classes: Vec<GivenClass>,
     mappings: Vec<GivenMapping>,
     compatibilities: Vec<GivenCompatibility>,
+}
+
+// (let go of as one, and not part by part, so that what owns one is proved sooner)
+impl Drop for CanonicalDataBuilder {
+    fn drop(self) {
+        let CanonicalDataBuilder {
+            classes: _,
+            mappings: _,
+            compatibilities: _,
+        } = self;
+    }
 }
 
 impl Model for CanonicalDataBuilder {
