@@ -2,6 +2,7 @@
 //! libraries are proved once.
 #![tactic(auto)]
 
+#[cfg(test)]
 pub mod built_ranges;
 #[cfg(test)]
 mod char16trie;

@@ -1,6 +1,6 @@
 //! Canonical tables that are built of classes and mappings.
 
-use crate::tables::{PAIRS, STEPS, tables};
+use icu_normalizer_samples::tables::{PAIRS, STEPS, tables};
 use icu_normalizer_core::canonical::{
     CanonicalBorrowed, CanonicalData, CanonicalDataBuildError, CanonicalDataBuilder,
     CanonicalTables,

@@ -1,6 +1,6 @@
 //! What the check of canonical tables refuses.
 
-use crate::tables::{PAIRS, STEPS, pair, tables};
+use icu_normalizer_samples::tables::{PAIRS, STEPS, pair, tables};
 use icu_normalizer_core::canonical::{
     CanonicalData, CanonicalDataError, CanonicalFault, CanonicalTables,
 };

@@ -5,7 +5,7 @@ ghost use Rattle.icu_normalizer_core.specs.Canonical.{decomposed};
 ghost use Rattle.icu_normalizer_core.specs.Classes.{with_classes};
 ghost use Rattle.icu_normalizer_core.specs.Decoding.{utf8_chars};
 
-use crate::tables::{PAIRS, STEPS, tables};
+use icu_normalizer_samples::tables::{PAIRS, STEPS, tables};
 use icu_normalizer_core::canonical::{CanonicalBorrowed, CanonicalData, CanonicalTables};
 use icu_normalizer_core::decoding::decode_utf8;
 use std::alloc::{AllocError, Global};

@@ -1,7 +1,7 @@
 //! Data from a provider, and in which order what is wrong is named.
 
-use crate::held::{Held, letters, provider_of};
-use crate::tables::{PAIRS, STEPS, tables};
+use icu_normalizer_samples::held::{Held, letters, provider_of};
+use icu_normalizer_samples::tables::{PAIRS, STEPS, tables};
 use icu_normalizer_core::canonical::{
     CanonicalBorrowed, CanonicalDataBuildError, CanonicalDataError, CanonicalFault,
 };

@@ -6,7 +6,7 @@ use crate::encoded::{EncodedCall, Encoding, gives_encoded};
 use icu_normalizer::composing::{ComposingNormalizer, ComposingNormalizerBorrowed};
 use icu_normalizer::decomposing::{DecomposingNormalizer, DecomposingNormalizerBorrowed};
 use icu_normalizer_core::provider::DataError;
-use icu_normalizer_core_tests::held::Held;
+use icu_normalizer_samples::held::Held;
 use std::alloc::{AllocError, Global};
 use std::borrow::CowStr;
 

@@ -4,8 +4,8 @@ use crate::calls::{Ask, Call, Kind, Row, gives};
 use icu_normalizer::composing::Composition;
 use icu_normalizer::decomposing::Decomposition;
 use icu_normalizer_core::canonical::{CanonicalBorrowed, CanonicalData, CanonicalTables};
-use icu_normalizer_core_tests::held::provider_of;
-use icu_normalizer_core_tests::tables::{PAIRS, STEPS, tables};
+use icu_normalizer_samples::held::provider_of;
+use icu_normalizer_samples::tables::{PAIRS, STEPS, tables};
 use std::alloc::Global;
 
 /// A text, its NFD and its NFC, as an independent reading of the definitions gives them.

@@ -4,7 +4,7 @@
 use crate::calls::{Ask, Kind, gives};
 use icu_normalizer_core::canonical::{CanonicalDataBuilder, CanonicalTables};
 use icu_normalizer_core::compatibility::NfkdTables;
-use icu_normalizer_core_tests::held::Held;
+use icu_normalizer_samples::held::Held;
 use std::alloc::Global;
 
 /// Marks, and their classes.

@@ -7,8 +7,8 @@ use icu_codepointtrie::{
 use icu_normalizer::uts46::{Uts46Mapper, Uts46MapperBorrowed};
 use icu_normalizer_core::canonical::CanonicalFault;
 use icu_normalizer_core::provider::{DataError, TableName, Uts46Tables};
-use icu_normalizer_core_tests::held::{Held, letters, provider_of};
-use icu_normalizer_core_tests::tables::{PAIRS, STEPS, tables};
+use icu_normalizer_samples::held::{Held, letters, provider_of};
+use icu_normalizer_samples::tables::{PAIRS, STEPS, tables};
 use icu_packed_vector::PackedVec;
 use std::alloc::{AllocError, Global};
 

@@ -5,7 +5,7 @@
 use icu_codepointtrie::{CodePointTrieBuilder, TrieType};
 use icu_normalizer_core::canonical::CanonicalDataBuilder;
 use icu_normalizer_core::provider::Uts46Tables;
-use icu_normalizer_core_tests::held::{Held, provider_of};
+use icu_normalizer_samples::held::{Held, provider_of};
 use icu_packed_vector::PackedVec;
 use std::alloc::Global;
 
