@@ -1,11 +1,11 @@
 //! Canonical tables that are built of classes and mappings.
 
-use icu_normalizer_samples::tables::{PAIRS, STEPS, tables};
 use icu_normalizer_core::canonical::{
     CanonicalBorrowed, CanonicalData, CanonicalDataBuildError, CanonicalDataBuilder,
     CanonicalTables,
 };
 use icu_normalizer_core::compatibility::{CompatibilityBorrowed, CompatibilityData};
+use icu_normalizer_samples::tables::{PAIRS, STEPS, tables};
 use std::alloc::{AllocError, Global};
 
 /// A builder that was given the classes and mappings of the worked rows, the last first.

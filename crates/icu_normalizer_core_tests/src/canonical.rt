@@ -1,9 +1,9 @@
 //! What the check of canonical tables refuses.
 
-use icu_normalizer_samples::tables::{PAIRS, STEPS, pair, tables};
 use icu_normalizer_core::canonical::{
     CanonicalData, CanonicalDataError, CanonicalFault, CanonicalTables,
 };
+use icu_normalizer_samples::tables::{PAIRS, STEPS, pair, tables};
 use icu_packed_vector::PackedVec;
 use std::alloc::Global;
 

@@ -5,9 +5,9 @@ ghost use Rattle.icu_normalizer_core.specs.Canonical.{decomposed};
 ghost use Rattle.icu_normalizer_core.specs.Classes.{with_classes};
 ghost use Rattle.icu_normalizer_core.specs.Decoding.{utf8_chars};
 
-use icu_normalizer_samples::tables::{PAIRS, STEPS, tables};
 use icu_normalizer_core::canonical::{CanonicalBorrowed, CanonicalData, CanonicalTables};
 use icu_normalizer_core::decoding::decode_utf8;
+use icu_normalizer_samples::tables::{PAIRS, STEPS, tables};
 use std::alloc::{AllocError, Global};
 
 /// The decomposed characters of a text in UTF-8, each with its class, kept.

@@ -1,9 +1,9 @@
 //! What the check of compatibility tables refuses, and what accepted ones say.
 
-use icu_normalizer_samples::tables::{PAIRS, STEPS, WORDS, tables, trie};
 use icu_codepointtrie::{CodePointTrie, CodePointTrieHeader, TrieType};
 use icu_normalizer_core::canonical::{CanonicalData, CanonicalDataError, CanonicalFault, FullList};
 use icu_normalizer_core::compatibility::{CompatibilityBorrowed, CompatibilityData, NfkdTables};
+use icu_normalizer_samples::tables::{PAIRS, STEPS, WORDS, tables, trie};
 use icu_packed_vector::PackedVec;
 use std::alloc::{AllocError, Global};
 

@@ -1,7 +1,5 @@
 //! Data from a provider, and in which order what is wrong is named.
 
-use icu_normalizer_samples::held::{Held, letters, provider_of};
-use icu_normalizer_samples::tables::{PAIRS, STEPS, tables};
 use icu_normalizer_core::canonical::{
     CanonicalBorrowed, CanonicalDataBuildError, CanonicalDataError, CanonicalFault,
 };
@@ -11,6 +9,8 @@ use icu_normalizer_core::properties::{
     Decomposed, combining_class, shape_compose, shape_decompose,
 };
 use icu_normalizer_core::provider::{DataError, TableName, load_canonical_data};
+use icu_normalizer_samples::held::{Held, letters, provider_of};
+use icu_normalizer_samples::tables::{PAIRS, STEPS, tables};
 use std::alloc::Global;
 
 /// Numbers of code points, and their classes.
