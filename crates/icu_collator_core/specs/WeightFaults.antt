@@ -14,6 +14,7 @@ use Rattle.icu_collator_core.specs.WeightRules.{is_letter_lead, is_sound_element
 use Rattle.icu_collator_core.specs.Pools.{Pools, elements_of_word, index_of, offset_primary, stated_element}
 use Rattle.icu_collator_core.specs.TableMeaning.{is_primary_alone, own_primary}
 use Rattle.icu_collator_core.specs.TableSettings.{groups_of, has_bit, is_compressible_in, reordered_by}
+use Rattle.icu_collator_core.specs.WordForms.{states_element}
 
 -- ## Elements
 
@@ -146,7 +147,8 @@ pub record AreSoundSpecialPrimaries (special_primaries : CollationSpecialPrimari
 -- whether the word of a jamo, by its place, states an element that keeps the rules, or the one that it has by itself
 unfoldable pub is_sound_jamo : CollationTables → ℕ → Bool
 is_sound_jamo tables place =
-    elim (stated_element (slice_index tables.jamo.ce32s place)) [
+    states_element (slice_index tables.jamo.ce32s place)
+    && elim (stated_element (slice_index tables.jamo.ce32s place)) [
       | Some e ↦ are_sound_spelled tables.special_primaries (Some (own_primary (0x1100 + place))) (e ∷ [])
       | None ↦ false
     ]

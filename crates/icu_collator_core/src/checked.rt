@@ -1,10 +1,11 @@
 //! Collation data: tables that were checked, with the canonical data that they are read with.
 
-ghost use Rattle.std.specs.Prelude.{◌≡◌, ◌↔◌, [], ◌∷◌, ℕ, List, IfOk, IfSome, IsTrue, MatchOption, MatchResult};
+ghost use Rattle.std.specs.Prelude.{◌≡◌, ◌↔◌, [], ◌∷◌, ℕ, List, IfOk, IfSome, IsTrue, MatchOption, MatchResult, true};
 ghost use Rattle.icu_normalizer_core.specs.BorrowedMeaning.{borrowed_meaning, borrowed_tables};
 ghost use Rattle.icu_normalizer_core.specs.CanonicalMeaning.{meaning};
 ghost use Rattle.icu_collator_core.specs.Acceptance.{IsAccepted, IsRefusal};
 ghost use Rattle.icu_collator_core.specs.LowCharacters.{IsNoted, IsOwnBeginning, IsPlainCharacter};
+ghost use Rattle.icu_collator_core.specs.PlainWords.{IsUnprefixed};
 ghost use Rattle.icu_collator_core.specs.ReadSources.{IsAloneAnywhere};
 ghost use Rattle.icu_collator_core.specs.TableMeaning.{weights_of};
 ghost use Rattle.icu_collator_core.specs.TiedWords.{AreTied};
@@ -14,6 +15,7 @@ use crate::check::TableFault;
 use crate::check::faults::judge;
 use crate::low::{LowCharacter, low_characters};
 use crate::reading::next::alone_at;
+use crate::reading::words::checked_word;
 use crate::tables::CollationTables;
 use crate::tied::{holds, tied_characters};
 use icu_collator_types::elements::CollationElement;
@@ -180,6 +182,14 @@ impl<'a> CheckedTables<'a> {
             Some(note) => note.is_beginning(),
             None => self.find_own_beginning(c),
         }
+    }
+
+    /// Whether no prefix is recorded with a character, so that nothing that stands before it counts for its elements;
+    /// `false` for one whose word names prefixes. No memory is taken.
+    pub fn is_unprefixed(&self, c: char) -> bool
+        ensures { result ≡ true → IsUnprefixed (weights_of (meaning self.now.canonical) self.now.tables) c }
+    {
+        checked_word(self, c).is_unprefixed()
     }
 
     /// What is noted of a character; `None` for one behind the low characters.

@@ -1,5 +1,5 @@
-//! The elements of characters that no record names: special ones, jamo and implicit ones, as UTS 10 has
-//! them, with weights that are this project's own (`docs/RECORDS.md`).
+//! The elements of texts, by `CollationElements` or as lists (`texts`), and the elements of characters that no record names:
+//! special ones, jamo and implicit ones, as UTS 10 has them, with weights that are this project's own (`docs/RECORDS.md`).
 
 ghost use Rattle.std.specs.Prelude.{◌≡◌, cond};
 ghost use Rattle.icu_normalizer_core.specs.BuiltIn.{is_jamo};

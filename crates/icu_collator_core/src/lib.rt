@@ -1,5 +1,5 @@
-//! Collation elements: what texts are matched, and what each match gives. The definitions stand in
-//! `specs`; of the code, begin with `elements::primary_element`, the element of a primary weight.
+//! Collation tables, their check, and the collation elements that a text has by them (UTS 10). The definitions stand in
+//! `specs`; of the code, begin with `checked::CheckedTables::try_new`, and with `elements::CollationElements`.
 #![tactic(auto)]
 
 pub mod check;

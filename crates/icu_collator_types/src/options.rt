@@ -132,7 +132,7 @@ pub struct CollatorPreferences<'a> {
     pub numeric_ordering: Option<CollationNumericOrdering>,
 }
 
-/// What a records file sets of the options.
+/// What the data of a collation set of the options: a records file, or the metadata of tables.
 #[derive(Clone, Copy, PartialEq, Eq, Debug)]
 pub struct FileSettings {
     /// What becomes of spaces and punctuation.

@@ -12,7 +12,7 @@ use Rattle.icu_collator_types.specs.declared.elements.word_tags.Tag.TheVariants.
 use Rattle.icu_collator_types.specs.ElementWords.{has_tag, self_contained, tag_number}
 use Rattle.icu_collator_core.specs.Defaults.{default_elements}
 use Rattle.icu_collator_core.specs.Elements.{Placed, at_greatest, behind_prefix, longest_prefix, prefix_match}
-use Rattle.icu_collator_core.specs.PlainWords.{IsReadAlone}
+use Rattle.icu_collator_core.specs.PlainWords.{IsReadAlone, IsUnprefixed}
 use Rattle.icu_collator_core.specs.Pools.{Pools, element_of, elements_of_word, stated_element, unprefixed_word}
 use Rattle.icu_collator_core.specs.ReadWords.{AreSaidBy, default_by, elements_spelled_by}
 use Rattle.icu_collator_core.specs.TableMeaning.{TableWord}
@@ -30,6 +30,33 @@ contained_spelled word None some e = tt
 contained_spelled word (Some b) some e =
     λ pools. stated_elements pools word (element_of b) (cond-false (word == 0) _ _ some ∙ ap (option_map element_of) (sym e))
 
+-- with a character whose word names no prefixes none is recorded
+module _ (entry : TableWord) (no_prefix : has_tag Prefix entry.word ≡ false) (weights : Weights) (c : ℕ) (said : AreSaidBy weights entry c) where
+  none_at : (before : List ℕ) → scalars before ≡ true → 0 < length before → weights.recorded (reverse before) (c ∷ []) ≡ None
+  none_at before ok some =
+      said.recorded (reverse before) [] (scalars_back before ok) refl
+      ∙ recorded_before entry c before some
+      ∙ ap (option_and_then (elements_of_word entry.pools)) (cond-false (has_tag Prefix entry.word) _ _ no_prefix)
+
+  none_of_length : (p : Placed) → p.character ≡ c → scalars p.before ≡ true → (n : ℕ) → behind_prefix weights p n ≡ None
+  none_of_length p is ok n = by_length (ltb 0 n && leb n (length p.before)) refl
+    where
+      by_length : (b : Bool) → (ltb 0 n && leb n (length p.before)) ≡ b
+          → cond b (weights.recorded (reverse (take n p.before)) (p.character ∷ [])) None ≡ None
+      by_length false inside = refl
+      by_length true inside =
+          let parts = and_parts (ltb 0 n) (leb n (length p.before)) inside in
+          let above = ltb-true 0 n parts.0 in
+          let count = length-take-le n p.before (leb-true n (length p.before) parts.1) in
+          ap (λ d. weights.recorded (reverse (take n p.before)) (d ∷ [])) is
+          ∙ none_at (take n p.before) (scalars_front n p.before ok) (omega (arith, above, count))
+
+  pub none_before : IsUnprefixed weights c
+  unfolding at_greatest
+  none_before p is ok =
+      greatest_past (behind_prefix weights p) 0 longest_prefix (omega arith) (λ n above within. none_of_length p is ok n)
+      ∙ none_of_length p is ok 0
+
 module _ (entry : TableWord) (no_prefix : has_tag Prefix entry.word ≡ false) (no_contraction : has_tag Contraction entry.word ≡ false) (no_digit : has_tag Digit entry.word ≡ false) where
   module _ (weights : Weights) (c : ℕ) (said : AreSaidBy weights entry c) where
     none_behind : (d : ℕ) (ds : List ℕ) → scalars (d ∷ ds) ≡ true → weights.recorded [] (c ∷ d ∷ ds) ≡ None
@@ -38,31 +65,6 @@ module _ (entry : TableWord) (no_prefix : has_tag Prefix entry.word ≡ false) (
         ∙ recorded_behind entry c (d ∷ ds) (omega arith)
         ∙ ap (option_and_then (elements_of_word entry.pools))
         (cond-false (has_tag Contraction (unprefixed_word entry.pools entry.word)) _ _ (ap (has_tag Contraction) (unprefixed_same entry.pools entry.word no_prefix) ∙ no_contraction))
-
-    none_at : (before : List ℕ) → scalars before ≡ true → 0 < length before → weights.recorded (reverse before) (c ∷ []) ≡ None
-    none_at before ok some =
-        said.recorded (reverse before) [] (scalars_back before ok) refl
-        ∙ recorded_before entry c before some
-        ∙ ap (option_and_then (elements_of_word entry.pools)) (cond-false (has_tag Prefix entry.word) _ _ no_prefix)
-
-    none_of_length : (p : Placed) → p.character ≡ c → scalars p.before ≡ true → (n : ℕ) → behind_prefix weights p n ≡ None
-    none_of_length p is ok n = by_length (ltb 0 n && leb n (length p.before)) refl
-      where
-        by_length : (b : Bool) → (ltb 0 n && leb n (length p.before)) ≡ b
-            → cond b (weights.recorded (reverse (take n p.before)) (p.character ∷ [])) None ≡ None
-        by_length false inside = refl
-        by_length true inside =
-            let parts = and_parts (ltb 0 n) (leb n (length p.before)) inside in
-            let above = ltb-true 0 n parts.0 in
-            let count = length-take-le n p.before (leb-true n (length p.before) parts.1) in
-            ap (λ d. weights.recorded (reverse (take n p.before)) (d ∷ [])) is
-            ∙ none_at (take n p.before) (scalars_front n p.before ok) (omega (arith, above, count))
-
-    none_before : (p : Placed) → p.character ≡ c → scalars p.before ≡ true → prefix_match weights p ≡ None
-    unfolding at_greatest
-    none_before p is ok =
-        greatest_past (behind_prefix weights p) 0 longest_prefix (omega arith) (λ n above within. none_of_length p is ok n)
-        ∙ none_of_length p is ok 0
 
     one_alone : (e : Element) → elements_spelled_by entry c entry.word ≡ e ∷ [] → unwrap_or (weights.recorded [] (c ∷ [])) (default_elements weights c) ≡ e ∷ []
     one_alone e spelled =
@@ -76,7 +78,7 @@ module _ (entry : TableWord) (no_prefix : has_tag Prefix entry.word ≡ false) (
     read_without bits spelled =
         record {
           digit = said.digit ∙ cond-false (has_tag Digit entry.word) _ _ no_digit;
-          before = none_before;
+          before = none_before entry no_prefix weights c said;
           behind = none_behind;
           elements = one_alone (element_of bits) spelled;
         }

@@ -18,6 +18,7 @@ use Rattle.icu_collator_core.specs.PrefixFaults.{IsSpelled, Spells}
 use Rattle.icu_collator_core.specs.TableMeaning.{TableWord, digit_by, own_primary, pools_of, ranged_by, recorded_by, secondary_word, unless_own}
 use Rattle.icu_collator_core.specs.WeightFaults.{AreSoundJamo, are_sound_spelled, is_sound_diacritic, is_sound_jamo, is_sound_spelled, jamo_count}
 use Rattle.icu_collator_core.specs.WeightRules.{is_sound_secondary}
+use Rattle.icu_collator_core.specs.WordForms.{states_element}
 use Rattle.icu_collator_core.proofs.meaning.GoodWordLemmas.{IsGoodRanged, IsGoodWord, KeepsRules, asked, unless_own_some}
 use Rattle.icu_collator_core.proofs.meaning.WordElementLemmas.{elements_narrow, is_narrow, lone_sound, passes_in}
 use Rattle.icu_collator_core.proofs.meaning.WordTagLemmas.{lone_same, stated_elements, stated_tag, unprefixed_same}
@@ -186,7 +187,8 @@ module _ (tables : CollationTables) (c : ℕ) (jamo : AreSoundJamo tables) (is :
 
   told : Told c (stated_element word)
   unfolding is_sound_jamo
-  told = subst (λ (d : ℕ). Told d (stated_element word)) back (jamo.sound (c - 0x1100) inside)
+  told =
+      subst (λ (d : ℕ). Told d (stated_element word)) back (and_parts (states_element word) _ (jamo.sound (c - 0x1100) inside)).1
 
   pub jamo_good : IsGoodWord tables c (record { word = word; pools = pools_of tables.root })
   jamo_good = at (stated_element word) refl told

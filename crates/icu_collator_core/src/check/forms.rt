@@ -23,7 +23,7 @@ use std::alloc::{AllocError, Global};
 const FALLBACK_CE32: u32 = 0xc0;
 
 /// Whether a word states an element, or none.
-fn states_element(word: u32) -> bool
+pub(crate) fn states_element(word: u32) -> bool
     ensures { result ≡ states_element word }
 {
     !is_special(word) || has_form(word, Tag::LongPrimary) || has_form(word, Tag::LongSecondary)

@@ -6,6 +6,7 @@ ghost use Rattle.icu_collator_core.specs.WeightFaults.{AreSoundJamo, IsJamoFault
 use super::elements::stated_element;
 use super::own::own_primary;
 use super::spelled::is_sound_lone;
+use crate::check::forms::states_element;
 use crate::tables::CollationTables;
 
 /// How many jamo there are.
@@ -18,7 +19,11 @@ fn is_sound_jamo(tables: &CollationTables<'_>, place: usize) -> bool
     requires inside { place < jamo_count }
     ensures { result ≡ is_sound_jamo tables.now place }
 {
-    let Some(element) = stated_element(tables.jamo.ce32s.at(place)) else {
+    let word = tables.jamo.ce32s.at(place);
+    if !states_element(word) {
+        return false;
+    }
+    let Some(element) = stated_element(word) else {
         return false;
     };
     let own = own_primary(0x1100 + place as u32);

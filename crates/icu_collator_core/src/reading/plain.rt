@@ -1,9 +1,9 @@
 //! Characters that are read alone, whatever stands before or behind them.
 
-ghost use Rattle.std.specs.Prelude.{◌≡◌, ◌||◌, IfSome};
+ghost use Rattle.std.specs.Prelude.{◌≡◌, ◌||◌, ℕ, IfSome, true};
 ghost use Rattle.icu_collator_types.specs.ElementWords.{has_tag};
 ghost use Rattle.icu_collator_types.specs.declared.elements.word_tags.Tag.TheVariants.{Implicit, Offset};
-ghost use Rattle.icu_collator_core.specs.PlainWords.{IsReadAlone};
+ghost use Rattle.icu_collator_core.specs.PlainWords.{IsReadAlone, IsUnprefixed};
 ghost use Rattle.icu_collator_core.specs.ReadWords.{AreSaidBy, table_word};
 ghost use Rattle.icu_collator_core.specs.Weights.{Weights};
 
@@ -13,6 +13,13 @@ use crate::check::fields::has_tag;
 use icu_collator_types::elements::{CollationElement, Tag};
 
 impl CountingWord<'_> {
+    /// Whether no prefix is recorded with the word's characters, by its tag.
+    pub(crate) fn is_unprefixed(self) -> bool
+        ensures { result ≡ true → (weights : Weights) (c : ℕ) → AreSaidBy weights (table_word self.entry) c → IsUnprefixed weights c }
+    {
+        !has_tag(self.word, Tag::Prefix)
+    }
+
     /// Whether a word leaves its characters to a range or to their code points.
     fn is_left(self) -> bool
         ensures { result ≡ (has_tag Implicit self.entry.word || has_tag Offset self.entry.word) }
