@@ -10,7 +10,7 @@ use Rattle.icu_collator_core.specs.Acceptance.{CollationSource}
 use Rattle.icu_collator_core.specs.Elements.{elements_of_list}
 use Rattle.icu_collator_core.specs.Pools.{element_of}
 use Rattle.icu_collator_core.specs.ReadSources.{canonical_by, weights_by}
-use Rattle.icu_collator_core.specs.Readers.{ReadsOn, elements_left, numeric_of, source_of}
+use Rattle.icu_collator_core.specs.Readers.{HasEnded, ReadsOn, elements_left, numeric_of, source_of}
 use Rattle.icu_collator_core.specs.Upcoming.{CanComeUp, HasUnread}
 
 -- the elements of a text by tables; where a lead byte is given, its numbers are read as such
@@ -36,6 +36,10 @@ CanBegin can left s = MatchOption s.source ⊥ (λ u. CanComeUp can left u)
 -- the elements that are still to come
 abbrev pub elements_to_come : {I : Type 0} → CollationElements I → List Element
 elements_to_come s = elements_left s.reader
+
+-- the text is read to its end, and all its elements are given
+abbrev pub IsFinished : {I : Type 0} → CollationElements I → Type 0
+IsFinished s = HasEnded s.reader
 
 -- the tables and the lead byte are the same
 abbrev pub KeepsTables : {I : Type 0} → CollationElements I → CollationElements I → Type 0

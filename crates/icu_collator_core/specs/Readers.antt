@@ -1,6 +1,7 @@
 -- What a text that is being read has still to give.
 use Rattle.std.specs.Prelude.{◌≡◌, ℕ, List, ◌++◌, drop, Option}
 use Rattle.std.specs.Option.{is_some}
+use Rattle.smallvec.specs.SmallVec.{small_vec_len}
 use Rattle.icu_collator_types.specs.declared.elements.Element.{Element}
 use Rattle.icu_collator_core.specs.declared.reading.reader.Reader.{Reader}
 use Rattle.icu_collator_core.specs.Acceptance.{CollationSource}
@@ -21,6 +22,11 @@ abbrev pub elements_left : Reader → List Element
 elements_left reader =
     drop reader.given (unpacked reader.ready.items)
     ++ elements_from (canonical_by reader.checked.now) (weights_by reader.numeric reader.checked.now) (is_some reader.numeric) reader.list.items reader.place
+
+-- the whole list is read, and each element that was ready is given
+pub record HasEnded (reader : Reader) : Type 0 where
+  pub given : reader.given ≡ small_vec_len reader.ready
+  pub read : reader.place ≡ small_vec_len reader.list
 
 -- another text was read on by the same tables
 pub record ReadsOn (old new : Reader) : Type 0 where

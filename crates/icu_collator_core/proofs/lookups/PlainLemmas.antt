@@ -11,7 +11,7 @@ use Rattle.icu_collator_types.specs.declared.elements.word_tags.Tag.{Tag}
 use Rattle.icu_collator_types.specs.declared.elements.word_tags.Tag.TheVariants.{Contraction, Digit, Implicit, Offset, Prefix}
 use Rattle.icu_collator_types.specs.ElementWords.{has_tag, self_contained, tag_number}
 use Rattle.icu_collator_core.specs.Defaults.{default_elements}
-use Rattle.icu_collator_core.specs.Elements.{Placed, at_greatest, behind_prefix, longest_prefix, prefix_match}
+use Rattle.icu_collator_core.specs.Elements.{Placed, at_greatest, behind_prefix, longest_prefix}
 use Rattle.icu_collator_core.specs.PlainWords.{IsReadAlone, IsUnprefixed}
 use Rattle.icu_collator_core.specs.Pools.{Pools, element_of, elements_of_word, stated_element, unprefixed_word}
 use Rattle.icu_collator_core.specs.ReadWords.{AreSaidBy, default_by, elements_spelled_by}

@@ -1,5 +1,5 @@
 -- A decomposed list that is being made, character by character.
-use Rattle.std.proofs.Common.{◌≡◌, ℕ, ◌+◌, ◌<◌, ◌≤◌, Bool, true, false, cond, ltb, ◌&&◌, List, [], ◌∷◌, ◌++◌, length, take, drop, flat_map, refl, sym, ap, subst, ◌∙◌, arith, append_assoc, append-nil, length-append, Option, Some, None}
+use Rattle.std.proofs.Common.{◌≡◌, ℕ, ◌+◌, ◌<◌, true, ltb, ◌&&◌, List, [], ◌∷◌, ◌++◌, length, take, drop, flat_map, refl, sym, ap, subst, ◌∙◌, arith, append_assoc, append-nil, length-append, Option, Some, None}
 use Rattle.std.proofs.lemmas.Bool.{and_from, and_parts, cond_both}
 use Rattle.std.proofs.lemmas.List.{drop_all}
 use Rattle.std.specs.List.{list_all}
@@ -9,7 +9,7 @@ use Rattle.icu_normalizer_core.specs.Iter.{Spells}
 use Rattle.icu_normalizer_core.specs.Marks.{is_mark}
 use Rattle.icu_normalizer_core.proofs.FormingLemmas.{forming_canonical}
 use Rattle.icu_normalizer_core.proofs.IterLemmas.{Spells-end, Spells-next}
-use Rattle.icu_normalizer_core.proofs.RunLemmas.{marks_pushed, order_nothing, out_before_starter, out_mark, out_sorted, out_starter}
+use Rattle.icu_normalizer_core.proofs.RunLemmas.{marks_pushed, out_before_starter, out_mark, out_sorted, out_starter}
 use Rattle.icu_collator_core.specs.Decomposing.{Appends, HasMarksFrom, ordered_with}
 use Rattle.icu_collator_core.proofs.lookups.MatchLemmas.{scalars_front}
 use Rattle.icu_collator_core.proofs.lookups.OpenTextLemmas.{scalars_behind}

@@ -1,6 +1,6 @@
 //! The collation elements of a text.
 
-ghost use Rattle.std.specs.Prelude.{◌≡◌, ◌++◌, ◌∷◌, ℕ, List, [], IfOk, MatchOption, OnErr, OnOk};
+ghost use Rattle.std.specs.Prelude.{◌≡◌, ◌++◌, ◌∷◌, ℕ, List, [], Ok, IfOk, MatchOption, OnErr, OnOk};
 ghost use Rattle.std.specs.Iterator.{IsFinite};
 ghost use Rattle.icu_normalizer_core.specs.Iter.{IsFirstOf, Spells};
 
@@ -24,7 +24,7 @@ pub struct CollationElements<'t, 'a, I> {
 }
 
 impl<'t, 'a, I: Iterator<Item = char> + Drop> CollationElements<'t, 'a, I> {
-    ghost use Rattle.icu_collator_core.specs.ElementTexts.{CanBegin, GivesElement, IsBefore, KeepsTables, elements_to_come, numbers_of, tables_of, text_elements};
+    ghost use Rattle.icu_collator_core.specs.ElementTexts.{CanBegin, GivesElement, IsBefore, IsFinished, KeepsTables, elements_to_come, end_element, numbers_of, tables_of, text_elements};
 
     /// The elements of the characters of an iterator, by these tables. Where a lead byte is given, digits that stand
     /// together are read as a number, whose primaries have this lead byte. No memory is taken.
@@ -61,9 +61,10 @@ impl<'t, 'a, I: Iterator<Item = char> + Drop> CollationElements<'t, 'a, I> {
 
     /// Puts a character before all that is to be read, before `init`. Where memory lacks, nothing changes.
     pub fn prepend_upcoming_before_init(&mut self, c: char) -> Result<(), AllocError>
+        requires ready { CanBegin I.can_next I.remaining self.old }
         ensures before { (before rest : List ℕ) → IsBefore I.next_gives self.old before rest → OnOk result (IsBefore I.next_gives self.new (c ∷ before) rest) }
         ensures kept { (before rest : List ℕ) → IsBefore I.next_gives self.old before rest → OnErr result (IsBefore I.next_gives self.new before rest) }
-        ensures ready { CanBegin I.can_next I.remaining self.old → CanBegin I.can_next I.remaining self.new }
+        ensures ready { CanBegin I.can_next I.remaining self.new }
         ensures tables { KeepsTables self.old self.new }
     {
         match &mut self.source {
@@ -72,12 +73,14 @@ impl<'t, 'a, I: Iterator<Item = char> + Drop> CollationElements<'t, 'a, I> {
         }
     }
 
-    /// Decomposes the text. Fails only when out of memory, and then no element is to come.
+    /// Decomposes the text. Fails only when out of memory, and then no element is to come: `next` gives the element that
+    /// ends a text, for ever.
     pub fn init(&mut self) -> Result<(), AllocError>
         requires ready { CanBegin I.can_next I.remaining self.old }
         ensures elements { (before rest : List ℕ) → IsBefore I.next_gives self.old before rest
             → OnOk result (elements_to_come self.new ≡ text_elements (tables_of self.old) (numbers_of self.old) (before ++ rest)) }
         ensures none { OnErr result (elements_to_come self.new ≡ []) }
+        ensures finished { OnErr result (IsFinished self.new) }
         ensures tables { KeepsTables self.old self.new }
     {
         let Some(source) = self.source.take() else {
@@ -93,6 +96,10 @@ impl<'t, 'a, I: Iterator<Item = char> + Drop> CollationElements<'t, 'a, I> {
     pub fn next(&mut self) -> Result<CollationElement, AllocError>
         ensures first { IfOk result (λ bits. GivesElement (elements_to_come self.old) bits (elements_to_come self.new)) }
         ensures none { OnErr result (elements_to_come self.new ≡ []) }
+        ensures finished { OnErr result (IsFinished self.new) }
+        ensures last { elements_to_come self.old ≡ [] → OnOk result (IsFinished self.new) }
+        ensures ended { IsFinished self.old → result ≡ Ok end_element }
+        ensures stays { IsFinished self.old → IsFinished self.new }
         ensures tables { KeepsTables self.old self.new }
     {
         match self.reader.next()? {

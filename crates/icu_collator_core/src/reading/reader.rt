@@ -1,6 +1,6 @@
 //! A text that is being read: its decomposed list, and the elements that are ready.
 
-ghost use Rattle.std.specs.Prelude.{◌≡◌, ◌-◌, ◌<◌, ◌≤◌, ◌∷◌, ℕ, List, [], true, MatchOption, IfOk, OnOk, OnErr, is_some};
+ghost use Rattle.std.specs.Prelude.{◌≡◌, ◌-◌, ◌<◌, ◌≤◌, ◌∷◌, ℕ, List, [], true, None, Ok, MatchOption, IfOk, IsOk, OnOk, OnErr, is_some};
 ghost use Rattle.std.specs.Iterator.{IsFinite};
 ghost use lib.Utf8.{scalars};
 ghost use Rattle.smallvec.specs.SmallVec.{small_vec_len};
@@ -46,7 +46,7 @@ impl Drop for Reader<'_, '_> {
 }
 
 impl<'t, 'a> Reader<'t, 'a> {
-    ghost use Rattle.icu_collator_core.specs.Readers.{ReadsOn, elements_left, numeric_of, source_of};
+    ghost use Rattle.icu_collator_core.specs.Readers.{HasEnded, ReadsOn, elements_left, numeric_of, source_of};
 
     /// A text of no characters, to be read by these tables; where a lead byte of numbers is given, digits count.
     pub(crate) fn new(
@@ -69,7 +69,7 @@ impl<'t, 'a> Reader<'t, 'a> {
     }
 
     /// Takes the text that an iterator gives in place of what it had, and decomposes it. Fails only when out of memory, and
-    /// then nothing is left.
+    /// then the text has ended.
     pub(crate) fn begin<I: Iterator<Item = char> + Drop>(
         &mut self,
         chars: I,
@@ -80,6 +80,7 @@ impl<'t, 'a> Reader<'t, 'a> {
         ensures left { OnOk result ((cs : List ℕ) → Spells I.next_gives chars cs
             → elements_left self.new ≡ elements_of_list (canonical_by (source_of self.old)) (weights_by (numeric_of self.old) (source_of self.old)) (is_some (numeric_of self.old)) (decomposed (canonical_by (source_of self.old)) cs)) }
         ensures none { OnErr result (elements_left self.new ≡ []) }
+        ensures ended { OnErr result (HasEnded self.new) }
     {
         self.given = 0;
         self.ready.clear();
@@ -92,6 +93,7 @@ impl<'t, 'a> Reader<'t, 'a> {
     fn stop(&mut self)
         ensures same { ReadsOn self.old self.new }
         ensures left { elements_left self.new ≡ [] }
+        ensures ended { HasEnded self.new }
     {
         self.given = 0;
         self.ready.clear();
@@ -118,11 +120,13 @@ impl<'t, 'a> Reader<'t, 'a> {
         Ok(())
     }
 
-    /// Reads on until an element is ready, or the text ends. Fails only when out of memory.
+    /// Reads on until an element is ready, or the text ends. Fails only when out of memory, and never where it has ended.
     fn fill(&mut self) -> Result<(), AllocError>
         ensures same { ReadsOn self.old self.new }
         ensures left { OnOk result (elements_left self.new ≡ elements_left self.old) }
         ensures ready { OnOk result (self.new.given ≡ small_vec_len self.new.ready → self.new.place ≡ small_vec_len self.new.list) }
+        ensures past { HasEnded self.old → IsOk result }
+        ensures stays { HasEnded self.old → HasEnded self.new }
     {
         'reading: while self.given == self.ready.len() && self.place < self.list.len() {
             self.read()?;
@@ -130,7 +134,7 @@ impl<'t, 'a> Reader<'t, 'a> {
         Ok(())
     }
 
-    /// The same; where memory lacks, nothing is left.
+    /// The same; where memory lacks, the text has ended.
     #[cold]
     #[inline(never)]
     fn refill(&mut self) -> Result<(), AllocError>
@@ -138,6 +142,9 @@ impl<'t, 'a> Reader<'t, 'a> {
         ensures left { OnOk result (elements_left self.new ≡ elements_left self.old) }
         ensures ready { OnOk result (self.new.given ≡ small_vec_len self.new.ready → self.new.place ≡ small_vec_len self.new.list) }
         ensures none { OnErr result (elements_left self.new ≡ []) }
+        ensures ended { OnErr result (HasEnded self.new) }
+        ensures past { HasEnded self.old → IsOk result }
+        ensures stays { HasEnded self.old → HasEnded self.new }
     {
         if let Err(error) = self.fill() {
             self.stop();
@@ -152,6 +159,8 @@ impl<'t, 'a> Reader<'t, 'a> {
         requires { self.old.given ≡ small_vec_len self.old.ready → self.old.place ≡ small_vec_len self.old.list }
         ensures same { ReadsOn self.old self.new }
         ensures left { MatchOption result ((elements_left self.old ≡ []) × (elements_left self.new ≡ [])) (λ bits. elements_left self.old ≡ element_of bits ∷ elements_left self.new) }
+        ensures ended { result ≡ None → HasEnded self.new }
+        ensures past { HasEnded self.old → result ≡ None }
     {
         if self.given == self.ready.len() {
             return None;
@@ -161,12 +170,17 @@ impl<'t, 'a> Reader<'t, 'a> {
         Some(element)
     }
 
-    /// The next element; `None` where none is left. Fails only when out of memory, and then nothing is left.
+    /// The next element; `None` where none is left, and then for ever. Fails only when out of memory, and then the text has
+    /// ended.
     #[inline]
     pub(crate) fn next(&mut self) -> Result<Option<CollationElement>, AllocError>
         ensures same { ReadsOn self.old self.new }
         ensures left { IfOk result (λ next. MatchOption next ((elements_left self.old ≡ []) × (elements_left self.new ≡ [])) (λ bits. elements_left self.old ≡ element_of bits ∷ elements_left self.new)) }
         ensures none { OnErr result (elements_left self.new ≡ []) }
+        ensures ended { OnErr result (HasEnded self.new) }
+        ensures last { result ≡ Ok None → HasEnded self.new }
+        ensures past { HasEnded self.old → result ≡ Ok None }
+        ensures stays { HasEnded self.old → HasEnded self.new }
     {
         if self.given == self.ready.len() {
             self.refill()?;
