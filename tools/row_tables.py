@@ -185,6 +185,8 @@ MARKS = ['class 0303 230', 'class 0304 230', 'class 0305 230', 'class 0306 230',
                                                     ('0306', '8F00'), ('0307', '9000')))]
 BEHIND = (TWENTY + 'c', TWENTY + 'e')
 TIED = [('abcl', 'abco'), ('abc', 'abe'), ('ablcl', 'ablco'), ('ablc', 'able'), ('ehl', 'eho'), ('eh', 'ec'), ('hhhhl', 'hhhho')]
+MARKED = ('\u00e1' * 20, 'a\u0301' * 20, 'a\u0323\u0301' * 20, '\uac00' * 20, 'e\u0301\uac01\u00e1' * 20)
+ENDS = [('c', 'e'), ('tc', 'te'), ('\u0323', 'e'), ('', 'c')]
 TEXTS = ('', 'a', 'A', 'ab', 'a b', 'a.b', 'Ab', 'aB', '\u00e1b', 'a\u0301B', 'b', 'a2', 'a10', 'A\u0323c')
 NEAR = list(zip(TEXTS, TEXTS[1:])) + [('ab', 'Ab'), ('a b', 'ab'), ('a.b', 'ab'), ('a b', 'a.b'), ('\u00e1b', 'a\u0301b')]
 
@@ -220,6 +222,9 @@ OTHERS = [
             ('options none', [*(place('t' * 20 + a, 't' * 20 + b, 'at least 10') for a, b in TIED),
                                place('h' * 21, 'h' * 20 + 'l', '0'),
                                *(compare('t' * 20 + a, 't' * 20 + b) for a, b in TIED)])),
+    section('From where texts are read: letters with marks, and syllables', [at('a\u0301', '2A60'), 'w 0074 | 0063 ; [2A900000.0500.0.0500.0]'],
+            ('options none', [*(place(front + a, front + b, 'at least 10') for front in MARKED for a, b in ENDS),
+                               *(compare(front + a, front + b) for front in MARKED for a, b in ENDS)])),
     section('Leads in the place of others', ['set reorder 2A 2B 2B 2A'],
             ('options tertiary', [compare('t', 'a', 'Less'), key('t', '2a40010501010501'), key('a', '2b10010501010501')])),
     section('Settings of a file count where nothing else is given', [

@@ -1,6 +1,7 @@
 -- Characters at which the reading of a text may begin, whatever stands before them, and characters that have one element
 -- wherever they stand.
 use Rattle.std.specs.Prelude.{◌≡◌, ℕ, ◌*◌, ◌^◌, Bool, true, false, cond, get_or, ◌==◌, ◌&&◌, ◌||◌, ◌⊎◌, ◌≢◌, List, [], ◌∷◌, ◌++◌, None}
+use Rattle.std.specs.List.{AllByRecursion}
 use Rattle.std.specs.Ordering.{nat_cmp}
 use Rattle.std.specs.declared.cmp.Ordering.{Ordering}
 use Rattle.std.specs.declared.cmp.Ordering.TheVariants.{Equal}
@@ -10,7 +11,7 @@ use Rattle.icu_collator_types.specs.declared.options.ResolvedCollatorOptions.{Re
 use Rattle.icu_collator_types.specs.Options.{group_index, is_numeric, is_shifted}
 use Rattle.icu_collator_core.specs.Collation.{Collation}
 use Rattle.icu_collator_core.specs.Defaults.{special_primary}
-use Rattle.icu_collator_core.specs.PlainWords.{IsReadAlone}
+use Rattle.icu_collator_core.specs.PlainWords.{IsReadAlone, IsUnprefixed}
 use Rattle.icu_collator_core.specs.Pools.{element_of}
 use Rattle.icu_collator_core.specs.Weights.{Weights}
 use Rattle.icu_collator.specs.NumbersInTexts.{is_digit}
@@ -31,6 +32,10 @@ pub record IsBoundary (canonical : Canonical) (weights : Weights) (d : ℕ) : Ty
 pub record IsOwnBoundary (canonical : Canonical) (weights : Weights) (c : ℕ) : Type 0 where
   pub boundary : IsBoundary canonical weights c
   pub own : canonical.full c ≡ c ∷ []
+
+-- with no character of its full list a prefix is recorded
+abbrev pub GoesOn : Canonical → Weights → ℕ → Type 0
+GoesOn canonical weights c = AllByRecursion (IsUnprefixed weights) (canonical.full c)
 
 -- a character that goes on with no number, and before which no dot above is dropped
 pub record IsApart (weights : Weights) (numeric : Bool) (c : ℕ) : Type 0 where
@@ -60,11 +65,16 @@ pub record CountsWhole (collation : Collation) (options : ResolvedCollatorOption
   pub fixed : is_variable collation options (element_of bits) ≡ false
   pub filled : ((element_of bits).primary == 0) ≡ false
 
--- A character from which on texts may be read, where two more such follow: a boundary that decomposing leaves as it is and
--- that stands apart. Where elements are shifted, it also has one element with a primary weight.
+-- A character from which on texts may be read, where two more such follow, and none between them with which a prefix is
+-- recorded: its full list begins with a boundary that stands apart, and with none of it a prefix is recorded. Where elements
+-- are shifted, it also has one element with a primary weight.
 pub record IsPassage (collation : Collation) (options : ResolvedCollatorOptions) (c : ℕ) : Type 0 where
-  pub boundary : IsOwnBoundary collation.canonical collation.weights c
-  pub apart : IsApart collation.weights (is_numeric options.numeric) c
+  pub first : ℕ
+  pub others : List ℕ
+  pub full : collation.canonical.full c ≡ first ∷ others
+  pub boundary : IsBoundary collation.canonical collation.weights first
+  pub goes_on : GoesOn collation.canonical collation.weights c
+  pub apart : IsApart collation.weights (is_numeric options.numeric) first
   pub counts : (is_shifted options.alternate_handling ≡ false) ⊎ HasPrimary collation c
 
 -- the primary weight of an element, as reordering has it

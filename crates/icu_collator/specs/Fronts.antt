@@ -1,5 +1,6 @@
 -- What two texts have in common at their beginnings, and places at which both may be read from.
-use Rattle.std.specs.Prelude.{◌≡◌, ℕ, ◌+◌, ◌≤◌, ◌⊎◌, List, [], ◌∷◌, ◌++◌, length, Option, None, MatchOption}
+use Rattle.std.specs.List.{AllByRecursion}
+use Rattle.std.specs.Prelude.{◌≡◌, ℕ, ◌≤◌, ◌⊎◌, List, [], ◌∷◌, ◌++◌, length, Option, None, MatchOption}
 
 -- a text begins with a character, or is empty where there is none
 abbrev pub BeginsWith : Option ℕ → List ℕ → Type 0
@@ -18,20 +19,25 @@ pub record PartAt (a b : List ℕ) (common : ℕ) (left right : Option ℕ) : Ty
   pub count : common ≤ length front
   pub differ : left ≡ right → left ≡ None
 
--- three characters that pass stand at a place of a text, within its first so many characters
-pub record ThreeStandAt (Passes : ℕ → Type 0) (text : List ℕ) (common place : ℕ) : Type 0 where
+-- Three characters that pass stand in a text, the first of them at this place, all within its first so many characters. What
+-- stands between them goes on.
+pub record ThreeStandAt (Passes GoesOn : ℕ → Type 0) (text : List ℕ) (common place : ℕ) : Type 0 where
   pub before : List ℕ
   pub first : ℕ
+  pub between : List ℕ
   pub second : ℕ
+  pub further : List ℕ
   pub third : ℕ
   pub behind : List ℕ
-  pub text_is : text ≡ before ++ first ∷ second ∷ third ∷ behind
+  pub text_is : text ≡ before ++ first ∷ (between ++ second ∷ (further ++ third ∷ behind))
   pub place_is : length before ≡ place
-  pub within : place + 3 ≤ common
+  pub within : length (before ++ first ∷ (between ++ second ∷ (further ++ third ∷ []))) ≤ common
   pub first_passes : Passes first
+  pub between_goes_on : AllByRecursion GoesOn between
   pub second_passes : Passes second
+  pub further_goes_on : AllByRecursion GoesOn further
   pub third_passes : Passes third
 
--- the beginning, or a place where three characters stand that pass
-abbrev pub IsPlaceToBegin : (ℕ → Type 0) → List ℕ → ℕ → ℕ → Type 0
-IsPlaceToBegin Passes text common place = (place ≡ 0) ⊎ ThreeStandAt Passes text common place
+-- the beginning, or a place from which on three characters stand that pass
+abbrev pub IsPlaceToBegin : (Passes GoesOn : ℕ → Type 0) → List ℕ → ℕ → ℕ → Type 0
+IsPlaceToBegin Passes GoesOn text common place = (place ≡ 0) ⊎ ThreeStandAt Passes GoesOn text common place

@@ -1,9 +1,10 @@
 //! Where two texts first differ, and from where they have to be read to be compared.
 
-ghost use Rattle.std.specs.Prelude.{◌≡◌, ◌≤◌, ◌-◌, ◌&&◌, ℕ, List, true, cond, drop, length};
+ghost use Rattle.std.specs.Prelude.{◌≡◌, ◌≤◌, ℕ, List, drop, length};
 ghost use Rattle.std.specs.Iterator.{IsFinite};
 ghost use Rattle.icu_normalizer_core.specs.Iter.{Spells};
 ghost use Rattle.icu_collator.specs.Fronts.{IsPlaceToBegin, PartAt};
+ghost use Rattle.icu_collator.specs.declared.front.PassageKind.TheVariants.{GoesOn, Open};
 
 mod deciding;
 mod next;
@@ -64,41 +65,47 @@ pub(crate) fn first_difference<I: Iterator<Item = char> + Drop, J: Iterator<Item
     }
 }
 
-/// A test of the characters at which texts may be read from.
-pub(crate) trait PassageTest {
-    ghost use Rattle.std.specs.Prelude.{◌≡◌, ℕ, true};
+/// What a character is to a search for a place from which texts may be read.
+#[derive(Clone, Copy, Debug, PartialEq, Eq)]
+pub(crate) enum PassageKind {
+    /// Texts may be read from it, where two more such follow.
+    Open,
+    /// Nothing that stands before it counts for it.
+    GoesOn,
+    /// What stands before it may count.
+    Closed,
+}
 
-    /// What a character that passes is.
+/// A test of characters, for such a search.
+pub(crate) trait PassageTest {
+    ghost use Rattle.std.specs.Prelude.{◌≡◌, ℕ};
+    ghost use Rattle.icu_collator.specs.declared.front.PassageKind.TheVariants.{GoesOn, Open};
+
+    /// What an open character is.
     ghost passes: { Self → ℕ → Type 0 };
 
-    /// Whether a character passes.
-    fn may_pass(&self, c: char) -> bool
-        ensures { result ≡ true → passes self.now c };
+    /// What one is that goes on.
+    ghost goes_on: { Self → ℕ → Type 0 };
+
+    /// What a character is.
+    fn passage(&self, c: char) -> PassageKind
+        ensures open { result ≡ Open → passes self.now c }
+        ensures goes_on { result ≡ GoesOn → goes_on self.now c };
 }
 
-/// Whether a character passes, and isn't before the first place that is looked at.
-fn passes_at<T: PassageTest>(test: &T, c: char, read: usize, from: usize) -> bool
-    ensures { result ≡ true → T.passes test.now c }
+/// What a character is, and closed before the first place that is looked at.
+fn passage_at<T: PassageTest>(test: &T, c: char, read: usize, from: usize) -> PassageKind
+    ensures open { result ≡ Open → T.passes test.now c }
+    ensures goes_on { result ≡ GoesOn → T.goes_on test.now c }
 {
     if read < from {
-        return false;
+        return PassageKind::Closed;
     }
-    test.may_pass(c)
+    test.passage(c)
 }
 
-/// The place of three characters that pass, the last one behind so many that were read; else the place before it.
-fn place_of_three(place: usize, read: usize, last: bool, second: bool, first: bool) -> usize
-    ensures { result ≡ cond (last && second && first) (read - 2) place }
-{
-    if last && second && first {
-        read.saturating_sub(2)
-    } else {
-        place
-    }
-}
-
-/// The last place within the first `common` characters where three stand one after another that pass; 0 where there is
-/// none among the last `searched` of these. No memory is taken.
+/// The last place within the first `common` characters from which on three open characters stand, and between them none
+/// that is closed; 0 where there is none among the last `searched` of these. No memory is taken.
 pub(crate) fn place_to_begin<I: Iterator<Item = char> + Drop, T: PassageTest>(
     chars: I,
     common: usize,
@@ -107,21 +114,29 @@ pub(crate) fn place_to_begin<I: Iterator<Item = char> + Drop, T: PassageTest>(
 ) -> usize
     requires can { I.can_next chars }
     requires finite { IsFinite (I.remaining chars) }
-    ensures { (text : List ℕ) → Spells I.next_gives chars text → IsPlaceToBegin (T.passes test.now) text common result }
+    ensures { (text : List ℕ) → Spells I.next_gives chars text → IsPlaceToBegin (T.passes test.now) (T.goes_on test.now) text common result }
 {
     let from = common.saturating_sub(searched);
     let mut place = 0usize;
     let mut read = 0usize;
-    let mut one = false;
-    let mut two = false;
+    let mut earlier = None;
+    let mut latest = None;
     for c in chars {
         if read >= common {
             break;
         }
-        let passes = passes_at(test, c, read, from);
-        place = place_of_three(place, read, passes, one, two);
-        two = one;
-        one = passes;
+        match passage_at(test, c, read, from) {
+            PassageKind::Open => {
+                place = earlier.unwrap_or(place);
+                earlier = latest;
+                latest = Some(read);
+            }
+            PassageKind::GoesOn => {}
+            PassageKind::Closed => {
+                earlier = None;
+                latest = None;
+            }
+        }
         read += 1;
     }
     place

@@ -15,7 +15,7 @@ ghost use Rattle.icu_collator_core.specs.Collation.{Collation};
 ghost use Rattle.icu_collator_core.specs.Pools.{element_of};
 ghost use Rattle.icu_collator_core.specs.ReadSources.{IsAloneAnywhere};
 ghost use Rattle.icu_collator_core.specs.Weights.{Weights};
-ghost use Rattle.icu_collator.specs.Boundaries.{CountsWhole, IsApart, IsBoundary, IsOwnBoundary, IsPassage, IsPlain, reordered_primary};
+ghost use Rattle.icu_collator.specs.Boundaries.{CountsWhole, GoesOn, IsApart, IsBoundary, IsOwnBoundary, IsPassage, IsPlain, reordered_primary};
 ghost use Rattle.icu_collator.specs.Fronts.{IsPlaceToBegin, PartAt};
 ghost use Rattle.icu_collator.specs.Collators.{source_collation};
 ghost use Rattle.icu_collator.specs.NumbersInTexts.{is_digit};
@@ -92,7 +92,7 @@ pub fn texts_compare_from_a_place()
     ensures { (collation : Collation) (options : ResolvedCollatorOptions) → IsDecomposing collation.canonical
         → (a b : List ℕ) (common : ℕ) → All IsScalar a → All IsScalar b
         → (place : ℕ) (left right : Option ℕ) → collation.backward ≡ false → PartAt a b common left right
-        → IsPlaceToBegin (IsPassage collation options) a common place
+        → IsPlaceToBegin (IsPassage collation options) (GoesOn collation.canonical collation.weights) a common place
         → collation_order collation options a b ≡ collation_order collation options (drop place a) (drop place b) }
 {}
 

@@ -1,5 +1,7 @@
--- Lists that begin with three boundaries are read alike behind any characters, for a prefix has at most three.
-use Rattle.std.proofs.Common.{◌≡◌, ℕ, ◌<◌, ◌&&◌, true, ltb, leb, List, [], ◌∷◌, length, take, reverse, refl, sym, ◌∙◌, arith, Option, None}
+-- Lists that begin with three characters with which no prefix is recorded are read alike behind any characters, for a prefix
+-- has at most three.
+use Rattle.std.proofs.Common.{◌≡◌, ℕ, ◌<◌, ◌≤◌, ◌&&◌, true, ltb, leb, List, [], ◌∷◌, ◌++◌, length, take, reverse, refl, sym, subst, ◌∙◌, arith, Option, None}
+use Rattle.std.specs.List.{AllByRecursion}
 use Rattle.std.proofs.lemmas.Bool.{and_from, and_parts, cond_both, leb-true, ltb-true}
 use Rattle.std.proofs.lemmas.List.{length-reverse, length-take-le}
 use lib.Utf8.{scalar, scalars}
@@ -7,6 +9,7 @@ use Rattle.icu_normalizer_core.specs.Canonical.{Canonical}
 use Rattle.icu_collator_types.specs.declared.elements.Element.{Element}
 use Rattle.icu_collator_core.specs.AlikeLists.{AreAlike}
 use Rattle.icu_collator_core.specs.Elements.{at_greatest, behind_prefix, longest_prefix, placed_behind, prefix_match}
+use Rattle.icu_collator_core.specs.PlainWords.{IsUnprefixed}
 use Rattle.icu_collator_core.specs.Weights.{Weights}
 use Rattle.icu_collator_core.proofs.lookups.MatchLemmas.{scalars_front}
 use Rattle.icu_collator_core.proofs.lookups.PrefixLemmas.{scalars_back}
@@ -46,15 +49,20 @@ module _ (canonical : Canonical) (weights : Weights) where
   prefix_none d before b s =
       at_greatest_same (behind_prefix weights (record { character = d; before = before })) (λ _. None) longest_prefix (λ n. behind_none d before n b s)
 
-  prefixes_same : (d : ℕ) (xs ys : List ℕ) → IsBoundary canonical weights d → scalars xs ≡ true → scalars ys ≡ true
+  pub boundary_unprefixed : (d : ℕ) → IsBoundary canonical weights d → IsUnprefixed weights d
+  boundary_unprefixed d b p is ok =
+      subst (λ (c : ℕ). prefix_match weights (record { character = c; before = p.before }) ≡ None) (sym is) (prefix_none d p.before b ok)
+
+module _ (weights : Weights) where
+  prefixes_same : (d : ℕ) (xs ys : List ℕ) → IsUnprefixed weights d → scalars xs ≡ true → scalars ys ≡ true
       → prefix_match weights (record { character = d; before = xs }) ≡ prefix_match weights (record { character = d; before = ys })
-  prefixes_same d xs ys b s t = prefix_none d xs b s ∙ sym (prefix_none d ys b t)
+  prefixes_same d xs ys b s t = b (record { character = d; before = xs }) refl s ∙ sym (b (record { character = d; before = ys }) refl t)
 
   further : (d : ℕ) (xs : List ℕ) → scalar d ≡ true → scalars xs ≡ true → scalars (take 3 (d ∷ xs)) ≡ true
   further d xs h s = scalars_front 3 (d ∷ xs) (and_from (scalar d) (scalars xs) h s)
 
-  pub three_alike : (xs ys : List ℕ) (a b c : ℕ) (cs : List ℕ)
-      → IsBoundary canonical weights a → IsBoundary canonical weights b → IsBoundary canonical weights c
+  three_alike : (xs ys : List ℕ) (a b c : ℕ) (cs : List ℕ)
+      → IsUnprefixed weights a → IsUnprefixed weights b → IsUnprefixed weights c
       → scalar a ≡ true → scalar b ≡ true → scalars xs ≡ true → scalars ys ≡ true
       → AreAlike weights (placed_behind xs (a ∷ b ∷ c ∷ cs)) (placed_behind ys (a ∷ b ∷ c ∷ cs))
   unfolding placed_behind
@@ -76,3 +84,15 @@ module _ (canonical : Canonical) (weights : Weights) where
           ),
         ),
       )
+
+  -- a list that begins with three such, or more
+  pub front_alike : (front xs ys cs : List ℕ) → AllByRecursion (IsUnprefixed weights) front → 3 ≤ length front
+      → scalars front ≡ true → scalars xs ≡ true → scalars ys ≡ true
+      → AreAlike weights (placed_behind xs (front ++ cs)) (placed_behind ys (front ++ cs))
+  front_alike [] xs ys cs all l ok s t = absurd (omega arith)
+  front_alike (a ∷ []) xs ys cs all l ok s t = absurd (omega arith)
+  front_alike (a ∷ b ∷ []) xs ys cs all l ok s t = absurd (omega arith)
+  front_alike (a ∷ b ∷ c ∷ front) xs ys cs all l ok s t =
+      let behind = and_parts (scalar a) (scalars (b ∷ c ∷ front)) ok
+      in let further = and_parts (scalar b) (scalars (c ∷ front)) behind.1
+      in three_alike xs ys a b c (front ++ cs) all.0 all.1.0 all.1.1.0 behind.0 further.0 s t

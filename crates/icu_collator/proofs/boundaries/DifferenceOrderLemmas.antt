@@ -1,5 +1,6 @@
 -- How texts compare by where they first differ.
-use Rattle.std.proofs.Common.{◌≡◌, ℕ, ◌≤◌, false, List, [], ◌∷◌, ◌++◌, length, drop, Option, Some, None, refl, sym, ap, subst, ◌∙◌, inl, inr, arith, append_assoc, append-nil, length-append, ⊎_elim}
+use Rattle.std.proofs.Common.{◌≡◌, ℕ, ◌≤◌, false, List, [], ◌∷◌, ◌++◌, length, drop, Option, Some, None, refl, sym, ap, subst, ◌∙◌, inl, inr, arith, append_assoc, append-nil, ⊎_elim}
+use Rattle.std.specs.List.{AllByRecursion}
 use Rattle.std.specs.Prelude.{◌≢◌, All}
 use Rattle.std.specs.Char.{IsScalar}
 use Rattle.std.specs.Ordering.{nat_cmp}
@@ -8,10 +9,12 @@ use Rattle.std.proofs.lemmas.List.{drop_at}
 use Rattle.icu_normalizer_core.specs.Canonical.{IsDecomposing}
 use Rattle.icu_collator_types.specs.declared.options.ResolvedCollatorOptions.{ResolvedCollatorOptions}
 use Rattle.icu_collator_core.specs.Collation.{Collation}
-use Rattle.icu_collator.specs.Boundaries.{CountsWhole, IsPassage, IsPlain, reordered_primary}
+use Rattle.icu_collator_core.specs.PlainWords.{IsUnprefixed}
+use Rattle.icu_collator.specs.Boundaries.{CountsWhole, GoesOn, IsPassage, IsPlain, reordered_primary}
 use Rattle.icu_collator.specs.Fronts.{IsPlaceToBegin, PartAt, ThreeStandAt}
 use Rattle.icu_collator.specs.Order.{collation_order}
-use Rattle.icu_collator.proofs.boundaries.CommonFrontLemmas.{equal_itself, skipped_at_primary, skipped_unshifted}
+use Rattle.icu_collator.proofs.boundaries.CommonFrontLemmas.{equal_itself, front_skipped_at_primary, front_skipped_unshifted}
+use Rattle.icu_collator.proofs.boundaries.SkippingLemmas.{IsFront}
 use Rattle.icu_collator.proofs.boundaries.DecidingCharacterLemmas.{end_behind, end_first, plain_characters_decide}
 
 -- a list that begins as another does, up to a place that both reach
@@ -24,17 +27,56 @@ shared (u ∷ us) xs ys (v ∷ vs) ws e l =
     in let first : u ≡ v = cc
     in (found.0, cc (first, found.1))
 
+-- three passages, with what goes on between them
+abbrev passages_front : (collation : Collation) (options : ResolvedCollatorOptions) (x : ℕ) (m : List ℕ) (y : ℕ) (n : List ℕ) (z : ℕ)
+    → (first : IsPassage collation options x) → AllByRecursion (GoesOn collation.canonical collation.weights) m → IsPassage collation options y
+    → AllByRecursion (GoesOn collation.canonical collation.weights) n → IsPassage collation options z
+    → IsFront collation.canonical collation.weights x m y n z
+passages_front collation options x m y n z first between second further third =
+    let Go : List ℕ → Type 0 = AllByRecursion (IsUnprefixed collation.weights)
+    in record {
+      first = first.first;
+      firsts = first.others;
+      first_full = first.full;
+      boundary = first.boundary;
+      firsts_go_on = (subst Go first.full first.goes_on).1;
+      between = between;
+      second = second.first;
+      seconds = second.others;
+      second_full = second.full;
+      second_starter = second.boundary.starter;
+      second_goes_on = (subst Go second.full second.goes_on).0;
+      seconds_go_on = (subst Go second.full second.goes_on).1;
+      further = further;
+      third = third.first;
+      thirds = third.others;
+      third_full = third.full;
+      third_starter = third.boundary.starter;
+      third_goes_on = (subst Go third.full third.goes_on).0;
+    }
+
 -- a front before three passages
 passed_skipped : (collation : Collation) (options : ResolvedCollatorOptions) → IsDecomposing collation.canonical → collation.backward ≡ false
-    → (before p q : List ℕ) (x y z : ℕ) → IsPassage collation options x → IsPassage collation options y → IsPassage collation options z
-    → All IsScalar (before ++ x ∷ y ∷ z ∷ p) → All IsScalar (before ++ x ∷ y ∷ z ∷ q)
-    → collation_order collation options (before ++ x ∷ y ∷ z ∷ p) (before ++ x ∷ y ∷ z ∷ q) ≡ collation_order collation options (x ∷ y ∷ z ∷ p) (x ∷ y ∷ z ∷ q)
-passed_skipped collation options d forward before p q x y z first second third h g =
-    elim first.counts [
-      | inl plain ↦ skipped_unshifted collation options x y z before p q d forward first.boundary second.boundary third.boundary h g plain first.apart
-      | inr primary ↦
-          skipped_at_primary collation options x y z before p q d forward first.boundary second.boundary third.boundary h g primary.bits primary.plain primary.filled
+    → (before p q : List ℕ) (x : ℕ) (m : List ℕ) (y : ℕ) (n : List ℕ) (z : ℕ)
+    → IsPassage collation options x → AllByRecursion (GoesOn collation.canonical collation.weights) m → IsPassage collation options y
+    → AllByRecursion (GoesOn collation.canonical collation.weights) n → IsPassage collation options z
+    → All IsScalar (before ++ x ∷ (m ++ y ∷ (n ++ z ∷ p))) → All IsScalar (before ++ x ∷ (m ++ y ∷ (n ++ z ∷ q)))
+    → collation_order collation options (before ++ x ∷ (m ++ y ∷ (n ++ z ∷ p))) (before ++ x ∷ (m ++ y ∷ (n ++ z ∷ q)))
+    ≡ collation_order collation options (x ∷ (m ++ y ∷ (n ++ z ∷ p))) (x ∷ (m ++ y ∷ (n ++ z ∷ q)))
+passed_skipped collation options d forward before p q x m y n z first between second further third h g =
+    let front = passages_front collation options x m y n z first between second further third
+    in elim first.counts [
+      | inl plain ↦ front_skipped_unshifted collation options x m y n z before p q d forward front h g plain first.apart
+      | inr primary ↦ front_skipped_at_primary collation options x m y n z before p q d forward front h g primary.bits primary.plain primary.filled
     ]
+
+-- three characters that pass, and what stands before, between and behind them
+three_parts : (before : List ℕ) (x : ℕ) (m : List ℕ) (y : ℕ) (n : List ℕ) (z : ℕ) (r : List ℕ)
+    → (before ++ x ∷ (m ++ y ∷ (n ++ z ∷ []))) ++ r ≡ before ++ x ∷ (m ++ y ∷ (n ++ z ∷ r))
+three_parts before x m y n z r =
+    append_assoc before (x ∷ (m ++ y ∷ (n ++ z ∷ []))) r
+    ∙ ap (λ (w : List ℕ). before ++ x ∷ w)
+    (append_assoc m (y ∷ n ++ z ∷ []) r ∙ ap (λ (w : List ℕ). m ++ y ∷ w) (append_assoc n (z ∷ []) r))
 
 module _ (collation : Collation) (options : ResolvedCollatorOptions) (decomposing : IsDecomposing collation.canonical) (a b : List ℕ) (common : ℕ) (h : All IsScalar a) (g : All IsScalar b) where
   -- texts as what they are
@@ -76,31 +118,34 @@ module _ (collation : Collation) (options : ResolvedCollatorOptions) (decomposin
 
   -- from three passages on, which both texts have
   three_skipped : (place : ℕ) (left right : Option ℕ) → collation.backward ≡ false → PartAt a b common left right
-      → ThreeStandAt (IsPassage collation options) a common place
+      → ThreeStandAt (IsPassage collation options) (GoesOn collation.canonical collation.weights) a common place
       → collation_order collation options a b ≡ collation_order collation options (drop place a) (drop place b)
   three_skipped place left right forward part three =
       let before = three.before
       in let x = three.first
+      in let m = three.between
       in let y = three.second
+      in let n = three.further
       in let z = three.third
-      in let vs = before ++ x ∷ y ∷ z ∷ []
+      in let vs = before ++ x ∷ (m ++ y ∷ (n ++ z ∷ []))
       in let whole : part.front ++ part.left_rest ≡ vs ++ three.behind =
-      sym part.left_is ∙ three.text_is ∙ sym (append_assoc before (x ∷ y ∷ z ∷ []) three.behind)
-      in let count = length-append before (x ∷ y ∷ z ∷ [])
-      in let within : length vs ≤ length part.front = omega (arith, count, three.place_is, three.within, part.count)
+      sym part.left_is ∙ three.text_is ∙ sym (three_parts before x m y n z three.behind)
+      in let within : length vs ≤ length part.front = omega (arith, three.within, part.count)
       in let found = shared part.front part.left_rest part.right_rest vs three.behind whole within
-      in let right_is : b ≡ before ++ x ∷ y ∷ z ∷ found.0 = part.right_is ∙ found.1 ∙ append_assoc before (x ∷ y ∷ z ∷ []) found.0
-      in let one : drop place a ≡ x ∷ y ∷ z ∷ three.behind = ap (drop place) three.text_is ∙ drop_at before (x ∷ y ∷ z ∷ three.behind) place three.place_is
-      in let other : drop place b ≡ x ∷ y ∷ z ∷ found.0 = ap (drop place) right_is ∙ drop_at before (x ∷ y ∷ z ∷ found.0) place three.place_is
+      in let right_is : b ≡ before ++ x ∷ (m ++ y ∷ (n ++ z ∷ found.0)) = part.right_is ∙ found.1 ∙ three_parts before x m y n z found.0
+      in let one : drop place a ≡ x ∷ (m ++ y ∷ (n ++ z ∷ three.behind)) =
+      ap (drop place) three.text_is ∙ drop_at before (x ∷ (m ++ y ∷ (n ++ z ∷ three.behind))) place three.place_is
+      in let other : drop place b ≡ x ∷ (m ++ y ∷ (n ++ z ∷ found.0)) = ap (drop place) right_is ∙ drop_at before (x ∷ (m ++ y ∷ (n ++ z ∷ found.0))) place three.place_is
       in let ok = subst (λ (w : List ℕ). All IsScalar w) three.text_is h
       in let also = subst (λ (w : List ℕ). All IsScalar w) right_is g
       in let skipped =
-      passed_skipped collation options decomposing forward before three.behind found.0 x y z three.first_passes three.second_passes three.third_passes ok also
+      passed_skipped collation options decomposing forward before three.behind found.0 x m y n z three.first_passes three.between_goes_on three.second_passes
+      three.further_goes_on three.third_passes ok also
       in order_is _ _ three.text_is right_is ∙ skipped
-      ∙ sym (ap (λ (w : List ℕ). collation_order collation options w (drop place b)) one ∙ ap (λ (w : List ℕ). collation_order collation options (x ∷ y ∷ z ∷ three.behind) w) other)
+      ∙ sym (ap (λ (w : List ℕ). collation_order collation options w (drop place b)) one ∙ ap (λ (w : List ℕ). collation_order collation options (x ∷ (m ++ y ∷ (n ++ z ∷ three.behind))) w) other)
 
   pub front_skipped_to : (place : ℕ) (left right : Option ℕ) → collation.backward ≡ false → PartAt a b common left right
-      → IsPlaceToBegin (IsPassage collation options) a common place
+      → IsPlaceToBegin (IsPassage collation options) (GoesOn collation.canonical collation.weights) a common place
       → collation_order collation options a b ≡ collation_order collation options (drop place a) (drop place b)
   front_skipped_to place left right forward part stands =
       ⊎_elim

@@ -1,5 +1,6 @@
 -- From where two texts are read.
-use Rattle.std.proofs.Common.{◌≡◌, ℕ, ◌≤◌, ◌&&◌, ◌==◌, false, List, [], ◌∷◌, length, drop, take, Option, refl, sym, ap, subst, ◌∙◌, inl, inr, ⊎_elim, arith, length-append}
+use Rattle.std.proofs.Common.{◌≡◌, ℕ, ◌≤◌, ◌&&◌, ◌==◌, false, List, [], ◌∷◌, ◌++◌, length, drop, take, Option, refl, sym, ap, subst, ◌∙◌, inl, inr, ⊎_elim, arith, length-append}
+use Rattle.std.specs.List.{AllByRecursion}
 use Rattle.std.specs.Prelude.{All}
 use Rattle.std.specs.Char.{IsScalar}
 use Rattle.std.specs.declared.cmp.Ordering.{Ordering}
@@ -10,57 +11,72 @@ use Rattle.icu_collator_types.specs.Options.{is_numeric}
 use Rattle.icu_collator_core.specs.Acceptance.{CollationSource}
 use Rattle.icu_collator_core.specs.Collation.{Collation}
 use Rattle.icu_collator_core.specs.LowCharacters.{IsOwnBeginning}
+use Rattle.icu_collator_core.specs.PlainWords.{IsUnprefixed}
 use Rattle.icu_collator_core.specs.UnsafeCharacters.{IsSafe}
-use Rattle.icu_collator.specs.Boundaries.{IsPassage}
+use Rattle.icu_collator.specs.Boundaries.{GoesOn, IsPassage}
 use Rattle.icu_collator.specs.Collators.{source_collation}
 use Rattle.icu_collator.specs.Fronts.{IsPlaceToBegin, PartAt, ThreeStandAt}
 use Rattle.icu_collator.specs.NumbersInTexts.{is_digit}
 use Rattle.icu_collator.specs.Order.{collation_order}
 use Rattle.icu_collator.specs.ReadingPlaces.{IsCommonPlace, IsOpenPassage, IsReadingPlace, MaySkip, StandsSafely}
+use Rattle.icu_collator.proofs.boundaries.BehindBoundaryLemmas.{boundary_unprefixed}
 use Rattle.icu_collator.proofs.boundaries.DifferenceOrderLemmas.{front_skipped_to}
 use Rattle.icu_collator.proofs.boundaries.SafeCharacterLemmas.{safe_beginning, safe_boundary}
 use Rattle.icu_collator.proofs.boundaries.TableBoundaryLemmas.{starter_apart}
 
--- a character at which reading may begin, and that is its own full list
-pub open_passage : (source : CollationSource) (c : ℕ) → IsDecomposing (source_collation source).canonical
+-- a character at which reading may begin, and with none of whose full list a prefix is recorded
+pub open_passage : (source : CollationSource) (c first : ℕ) (others : List ℕ) → IsDecomposing (source_collation source).canonical
     → IsSafe (source_collation source).canonical (source_collation source).weights c
-    → (source_collation source).canonical.full c ≡ c ∷ [] → (c == 0x303) ≡ false → IsOpenPassage (source_collation source) c
-open_passage source c decomposing safe own tilde =
+    → (source_collation source).canonical.full c ≡ first ∷ others → (first == 0x303) ≡ false
+    → GoesOn (source_collation source).canonical (source_collation source).weights c → IsOpenPassage (source_collation source) c
+open_passage source c first others decomposing safe full tilde on =
     let collation = source_collation source in
-    let boundary = safe_boundary collation.canonical collation.weights c c [] safe own in
-    let number : (options : ResolvedCollatorOptions) → is_numeric options.numeric ≡ false → (is_numeric options.numeric && is_digit collation.weights c) ≡ false =
-    λ options unnumbered. ap (λ b. b && is_digit collation.weights c) unnumbered in
+    let boundary = safe_boundary collation.canonical collation.weights c first others safe full in
+    let number : (options : ResolvedCollatorOptions) → is_numeric options.numeric ≡ false → (is_numeric options.numeric && is_digit collation.weights first) ≡ false =
+    λ options unnumbered. ap (λ b. b && is_digit collation.weights first) unnumbered in
     record {
       safe = safe;
       passes = λ options unshifted unnumbered. record {
-        boundary = record { boundary = boundary; own = own };
-        apart = starter_apart collation.canonical collation.weights (is_numeric options.numeric) c decomposing boundary.starter tilde (number options unnumbered);
+        first = first;
+        others = others;
+        full = full;
+        boundary = boundary;
+        goes_on = on;
+        apart = starter_apart collation.canonical collation.weights (is_numeric options.numeric) first decomposing boundary.starter tilde (number options unnumbered);
         counts = inl unshifted;
       };
     }
 
--- the same, where the core says it
+-- the same of one that is its own full list, where the core says it
 pub open_beginning : (source : CollationSource) (c : ℕ) → IsDecomposing (source_collation source).canonical → IsScalar c
     → IsOwnBeginning (source_collation source).canonical (source_collation source).weights c → (c == 0x303) ≡ false
     → IsOpenPassage (source_collation source) c
 open_beginning source c decomposing scalar begins tilde =
-    let collation = source_collation source
-    in open_passage source c decomposing (safe_beginning collation.canonical collation.weights c decomposing scalar begins) begins.own tilde
+    let collation = source_collation source in
+    let safe = safe_beginning collation.canonical collation.weights c decomposing scalar begins in
+    let boundary = safe_boundary collation.canonical collation.weights c c [] safe begins.own in
+    open_passage source c c [] decomposing safe begins.own tilde
+    (subst (AllByRecursion (IsUnprefixed collation.weights)) (sym begins.own) (boundary_unprefixed collation.canonical collation.weights c boundary, tt))
 
 -- three that pass one test, and so another
-three_as : (P Q : ℕ → Type 0) (text : List ℕ) (common place : ℕ) → ((c : ℕ) → P c → Q c) → ThreeStandAt P text common place → ThreeStandAt Q text common place
-three_as P Q text common place weaker three =
+three_as : (P Q GoesOn : ℕ → Type 0) (text : List ℕ) (common place : ℕ) → ((c : ℕ) → P c → Q c) → ThreeStandAt P GoesOn text common place
+    → ThreeStandAt Q GoesOn text common place
+three_as P Q GoesOn text common place weaker three =
     record {
       before = three.before;
       first = three.first;
+      between = three.between;
       second = three.second;
+      further = three.further;
       third = three.third;
       behind = three.behind;
       text_is = three.text_is;
       place_is = three.place_is;
       within = three.within;
       first_passes = weaker three.first three.first_passes;
+      between_goes_on = three.between_goes_on;
       second_passes = weaker three.second three.second_passes;
+      further_goes_on = three.further_goes_on;
       third_passes = weaker three.third three.third_passes;
     }
 
@@ -68,10 +84,15 @@ pub beginning : (collation : Collation) (options : ResolvedCollatorOptions) (tex
 beginning collation options text common =
     record { within = omega arith; may_skip = inl refl; safe = inl refl; same = λ other left right h g part. refl }
 
+-- the test of characters that go on
+abbrev Go : Collation → ℕ → Type 0
+Go collation = GoesOn collation.canonical collation.weights
+
 -- at a place where three stand that pass, reading may begin
-three_safe : (collation : Collation) (text : List ℕ) (common place : ℕ) → ThreeStandAt (IsOpenPassage collation) text common place → StandsSafely collation text place
+three_safe : (collation : Collation) (text : List ℕ) (common place : ℕ) → ThreeStandAt (IsOpenPassage collation) (Go collation) text common place
+    → StandsSafely collation text place
 three_safe collation text common place three =
-    let rest = three.second ∷ three.third ∷ three.behind in
+    let rest = three.between ++ three.second ∷ (three.further ++ three.third ∷ three.behind) in
     record {
       first = three.first;
       rest = rest;
@@ -79,16 +100,22 @@ three_safe collation text common place three =
       safe = three.first_passes.safe;
     }
 
+-- and it is within the first so many characters
+three_within : (collation : Collation) (text : List ℕ) (common place : ℕ) → ThreeStandAt (IsOpenPassage collation) (Go collation) text common place
+    → place ≤ common
+three_within collation text common place three =
+    let count = length-append three.before (three.first ∷ (three.between ++ three.second ∷ (three.further ++ three.third ∷ []))) in
+    omega (arith, count, three.place_is, three.within)
+
 pub found_place : (collation : Collation) (options : ResolvedCollatorOptions) (text : List ℕ) (common place : ℕ) → IsDecomposing collation.canonical
-    → MaySkip collation options → IsPlaceToBegin (IsOpenPassage collation) text common place → IsReadingPlace collation options text common place
+    → MaySkip collation options → IsPlaceToBegin (IsOpenPassage collation) (Go collation) text common place → IsReadingPlace collation options text common place
 found_place collation options text common place decomposing may stands =
     ⊎_elim
     (λ (none : place ≡ 0). subst (λ (k : ℕ). IsReadingPlace collation options text common k) (sym none) (beginning collation options text common))
-    (λ (three : ThreeStandAt (IsOpenPassage collation) text common place).
-    let within = three.within in
-    let passes = three_as (IsOpenPassage collation) (IsPassage collation options) text common place (λ c p. p.passes options may.unshifted may.unnumbered) three in
+    (λ (three : ThreeStandAt (IsOpenPassage collation) (Go collation) text common place).
+    let passes = three_as (IsOpenPassage collation) (IsPassage collation options) (Go collation) text common place (λ c p. p.passes options may.unshifted may.unnumbered) three in
     record {
-      within = omega (arith, within);
+      within = three_within collation text common place three;
       may_skip = inr may;
       safe = inr (three_safe collation text common place three);
       same = λ other left right h g part. front_skipped_to collation options decomposing text other common h g place left right may.forward part (inr passes);

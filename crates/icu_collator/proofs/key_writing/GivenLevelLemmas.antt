@@ -1,8 +1,8 @@
 -- Levels of what the elements of a list give, written one element after another.
-use Rattle.std.proofs.Common.{◌≡◌, ℕ, zero, suc, ◌<◌, ◌≤◌, ◌+◌, Bool, true, false, ◌&&◌, Option, Some, None, List, [], ◌∷◌, ◌++◌, filter_map, length, drop, get_or, map, refl, sym, ◌∙◌, ap, append_assoc, arith}
+use Rattle.std.proofs.Common.{◌≡◌, ℕ, zero, suc, ◌<◌, ◌≤◌, ◌+◌, Bool, true, false, Option, Some, None, List, [], ◌∷◌, ◌++◌, filter_map, length, drop, get_or, sym, ◌∙◌, ap, append_assoc, arith}
 use Rattle.std.specs.List.{cons_option, list_all}
 use Rattle.std.proofs.lemmas.List.{append-nil, drop_all}
-use Rattle.icu_collator.specs.KeyBytes.{RunCode, behind_run, codes_from, primary_code, run_bytes, with_runs}
+use Rattle.icu_collator.specs.KeyBytes.{RunCode, behind_run, codes_from, primary_code, run_bytes}
 use Rattle.icu_collator.specs.KeyCodes.{AddsGiven, AddsPrimary, IsRun, run_after}
 use Rattle.icu_collator.specs.LevelLists.{counted_by, counted_list}
 use Rattle.icu_collator.specs.Shifted.{Counted}

@@ -16,7 +16,7 @@ use icu_collator_types::elements::CollationElement;
 use icu_normalizer_core::canonical::CanonicalBorrowed;
 
 /// Whether the reading of a text may begin at a character.
-fn is_safe(checked: &CheckedTables<'_>, c: char) -> bool
+pub(super) fn is_safe(checked: &CheckedTables<'_>, c: char) -> bool
     ensures safe { result ≡ true → IsSafe (source_collation checked.now).canonical (source_collation checked.now).weights c }
     ensures decomposing { IsDecomposing (source_collation checked.now).canonical }
 {
@@ -25,7 +25,7 @@ fn is_safe(checked: &CheckedTables<'_>, c: char) -> bool
 }
 
 /// The first character of a full list.
-fn first_of_full(canonical: CanonicalBorrowed<'_>, c: char) -> Option<char>
+pub(super) fn first_of_full(canonical: CanonicalBorrowed<'_>, c: char) -> Option<char>
     ensures { MatchOption result ((borrowed_meaning canonical.entry).full c ≡ []) (λ first. (rest : List ℕ) × ((borrowed_meaning canonical.entry).full c ≡ first ∷ rest)) }
 {
     let mut list = canonical.full_list(c);

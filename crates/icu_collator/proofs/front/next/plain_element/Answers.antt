@@ -1,4 +1,4 @@
-use Rattle.std.proofs.Common.{rules, subst, [], ◌∷◌}
+use Rattle.std.proofs.Common.{rules, subst}
 use Rattle.std.specs.Char.{IsScalar}
 use Rattle.icu_normalizer_core.specs.Canonical.{IsDecomposing}
 use Rattle.icu_normalizer_core.specs.CanonicalMeaning.{meaning}

@@ -4,7 +4,7 @@ use Rattle.std.proofs.lemmas.Bool.{ne_eqb}
 use Rattle.icu_normalizer_core.specs.Canonical.{IsDecomposing}
 use Rattle.icu_normalizer_core.specs.CanonicalMeaning.{meaning}
 use Rattle.icu_collator.proofs.boundaries.ReadingPlaceLemmas.{open_beginning}
-use Rattle.icu_collator.proofs.front.passage.is_passage.Goals as goal
+use Rattle.icu_collator.proofs.front.passage.is_own_passage.Goals as goal
 
 pub returns : goal.returns
 returns c = λ begins.

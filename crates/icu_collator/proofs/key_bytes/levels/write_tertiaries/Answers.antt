@@ -1,7 +1,7 @@
 use Rattle.std.proofs.Common.{◌≡◌, ◌++◌, ◌∙◌, ◌<◌, Option, ℕ, ap, rules, subst, sym}
 use Rattle.std.specs.Prelude.{IfSome}
-use Rattle.icu_collator.specs.KeyBytes.{tertiary_code_of, with_runs}
-use Rattle.icu_collator.specs.KeyCodes.{code_of, rank_limit}
+use Rattle.icu_collator.specs.KeyBytes.{with_runs}
+use Rattle.icu_collator.specs.KeyCodes.{rank_limit}
 use Rattle.icu_collator.specs.LevelLists.{counted_list, counted_of, tertiaries_by, tertiary_bound}
 use Rattle.icu_collator.specs.Levels.{tertiary_at}
 use Rattle.icu_collator.proofs.lists.BoundLemmas.{tertiary_small}

@@ -1,8 +1,4 @@
-use Rattle.std.proofs.Common.{◌++◌, ◌∙◌, ap, append_assoc, sym}
-use Rattle.std.specs.List.{cons_option}
 use Rattle.icu_collator_core.specs.TableSettings.{is_compressible_in}
-use Rattle.icu_collator.specs.KeyBytes.{codes_from, primary_code}
-use Rattle.icu_collator.specs.KeyCodes.{run_after}
 use Rattle.icu_collator.proofs.key_writing.GivenLevelLemmas.{adds_no_primary, adds_primary}
 use Rattle.icu_collator.proofs.key_bytes.primaries.write_given.Goals as goal
 

@@ -1,4 +1,4 @@
-use Rattle.std.proofs.Common.{◌≤◌, ◌+◌, ◌++◌, ◌∙◌, ap, filter_map, length, arith}
+use Rattle.std.proofs.Common.{◌≤◌, ◌++◌, ◌∙◌, ap, filter_map, length, arith}
 use Rattle.icu_collator.specs.KeyBytes.{with_runs}
 use Rattle.icu_collator.specs.KeyCodes.{code_of}
 use Rattle.icu_collator.specs.LevelLists.{counted_list, has_sound_case}
