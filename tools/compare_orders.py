@@ -3,12 +3,12 @@
 
   compare_orders.py ORACLE [PAIRS [SETS [SEED]]]
 
-ORACLE is a folder with an independent reading of the definitions (tools/answers.py). There are 20,000 pairs over 60 sets of records
-unless PAIRS and SETS say otherwise, each set with four choices of options. Half
-of the pairs are nearly equal: one mark, case or space differs, or the normal form, or zeros before a number. Bytes and units
-are damaged at times. crates/collation_rows builds tables of each set and answers orders in five encodings, and keys in three;
-it has to be built (`rt run` in its folder). What differs is printed, and the status is then 1. How many pairs each level
-decided is printed too.
+ORACLE is a folder with an independent reading of the definitions (tools/answers.py). There are 20,000 pairs over 60 sets of
+records unless PAIRS and SETS say otherwise, each set with four choices of options. Half of the pairs are nearly equal: one mark,
+case or space differs, or the normal form, or zeros before a number; and some begin with the same long text. Each pair is asked in
+all five encodings, its bytes and units damaged at times. crates/collation_rows builds tables of each set and answers orders in
+these, and keys in three; it has to be built (`rt run` in its folder). What differs is printed, and the status is then 1. How many
+pairs each level decided is printed too.
 """
 import random
 import sys
@@ -95,11 +95,11 @@ def encoded(source, side, text, is_whole):
     return shown(bytes(c & 0xFF for c in text), 1)
 
 
-def order_question(source, left, right):
-    """A question how two texts order, in some encoding."""
-    encoding = source.choice(list(SIDES))
-    sides = zip(SIDES[encoding], (left, right))
-    return ' '.join(['compare', encoding, *(encoded(source, side, text, encoding == 'text') for side, text in sides)])
+def order_questions(source, left, right):
+    """Questions how two texts order, in each encoding. Latin-1 has of each character the lower byte."""
+    for encoding, sides in SIDES.items():
+        words = [encoded(source, side, text, encoding == 'text') for side, text in zip(sides, (left, right))]
+        yield ' '.join(['compare', encoding, *words])
 
 
 def key_question(source, text):
@@ -120,6 +120,7 @@ def pair_of(source, lines, letters, marks, mapped):
     """Two texts, at times with a common beginning, or nearly equal."""
     left = random_characters(source, lines, letters, marks, mapped)
     front = random_characters(source, lines, letters, marks, mapped) if source.random() < 0.3 else []
+    front = front * source.choice([1, 1, 2, 20])
     right = near(source, left, marks) if source.random() < 0.5 else random_characters(source, lines, letters, marks, mapped)
     return front + left, front + right
 
@@ -135,11 +136,11 @@ def compare_set(source, oracle, count, done):
     for _ in range(CHOICES):
         words = choose(source)
         script.append(f'options {words}')
-        for _ in range(count // CHOICES):
+        for _ in range(-(-count // CHOICES)):
             left, right = pair_of(source, lines, letters, marks, mapped)
-            question = order_question(source, left, right)
-            count_level(said, options_of(words, oracle), question, oracle, done)
-            script += [question, key_question(source, left)]
+            questions = list(order_questions(source, left, right))
+            count_level(said, options_of(words, oracle), questions[0], oracle, done)
+            script += [*questions, key_question(source, left)]
     return [(*fault, *lines) for fault in differences('\n'.join([*script, '']), oracle, done)]
 
 
@@ -152,7 +153,7 @@ def main(words):
     source = random.Random(seed)
     done, faults = {}, []
     for _ in range(sets):
-        faults += compare_set(source, oracle, pairs // sets, done)
+        faults += compare_set(source, oracle, -(-pairs // sets), done)
     for name, made in done.items():
         print(f'{name:28} {made:7}')
     for fault in faults[:5]:

@@ -25,12 +25,16 @@ pub trait CollationKeySink {
     /// What the sink answers when it has a key.
     type Output;
 
+    /// A state in which no piece was taken yet, as its default is.
     ghost is_start: { Self.State → Type 0 };
 
+    /// The sink at the first piece took these bytes, and is now this one, with this state.
     ghost has_taken: { Self → List ℕ → Self → Self.State → Type 0 };
 
+    /// The sink at the first piece took this whole key, and is now this one, with what `finish` answered.
     ghost has_written: { Self → List ℕ → Self → Self.Output → Type 0 };
 
+    /// The sink at the first piece can't take this whole key, for this error, and is now this one.
     ghost has_failed: { Self → List ℕ → Self → Self.Error → Type 0 };
 
     /// What was written since the first piece, read back.

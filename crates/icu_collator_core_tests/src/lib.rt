@@ -6,6 +6,8 @@ mod copies;
 #[cfg(test)]
 mod element_calls;
 #[cfg(test)]
+mod fast_calls;
+#[cfg(test)]
 mod judged;
 #[cfg(test)]
 mod numbers;

@@ -104,14 +104,15 @@ fn with_jamo(alloc: Global, words: &[u32]) -> Option<CollationTables<'static>> {
     with_lists(alloc, &[], TAILORED_DIACRITICS, words, &GROUPS, NUMBERS)
 }
 
-/// The words of 256 jamo, without one.
-fn jamo_without(place: usize) -> [u32; 256] {
+/// Tables with this word of the fourth jamo; `None` where memory is refused.
+fn with_fourth_jamo(alloc: Global, word: u32) -> Option<CollationTables<'static>> {
     let mut words = JAMO;
-    if place < 256 {
-        words[place] = 0;
-    }
-    words
+    words[3] = word;
+    with_jamo(alloc, &words)
 }
+
+/// The fault of the fourth jamo.
+const BAD_FOURTH_JAMO: Option<TableFault> = Some(TableFault::Jamo(3));
 
 #[test]
 fn jamo(rt: HostRuntime) {
@@ -124,13 +125,10 @@ fn jamo(rt: HostRuntime) {
             Some(TableFault::Jamo(255))
         )
     );
-    assert!(rt;
-        judged(
-            alloc,
-            with_jamo(alloc, &jamo_without(3)),
-            Some(TableFault::Jamo(3))
-        )
-    );
+    assert!(rt; judged(alloc, with_fourth_jamo(alloc, 0), BAD_FOURTH_JAMO));
+    assert!(rt; judged(alloc, with_fourth_jamo(alloc, 0x8600_05c2), None));
+    assert!(rt; judged(alloc, with_fourth_jamo(alloc, 0x8600_05d2), BAD_FOURTH_JAMO));
+    assert!(rt; judged(alloc, with_fourth_jamo(alloc, 0x8600_05f2), BAD_FOURTH_JAMO));
 }
 
 /// Tables with a reordering of these leads; `None` where memory is refused.
