@@ -5,7 +5,7 @@
 //! compared, each name with one far from it (`cmp_random`), and each with the next in the order of their keys
 //! (`cmp_near`): the best of three rounds at strength Tertiary, over the lines of a file of names.
 //!
-//! `collator_speed RECORDS NAMES TASK ROUNDS` prints the best of so many rounds. TASK is `elements`, how many characters of
+//! `collator_speed RECORDS NAMES TASK ROUNDS` prints the best of so many rounds. TASK is `names`, as above; `elements`, how many characters of
 //! the lines of a file are read in a second; `numeric_elements`, the same with digits read as numbers; or `try_new`, how many
 //! microseconds a check of the tables takes, with tries of type `Small` and of type `Fast`.
 #![tactic(auto)]
@@ -31,7 +31,7 @@ fn words(rt: &HostRuntime) -> io::Result<Vec<String>> {
 /// Does a task over a records file and a file of names.
 fn run(rt: &HostRuntime, records: &str, names: &str, task: &str, rounds: u32) -> Option<()> {
     match task {
-        "names" => measure_collator(rt, records, names),
+        "names" => measure_collator(rt, records, names, rounds),
         "elements" => measure_elements(rt, records, names, false, rounds),
         "numeric_elements" => measure_elements(rt, records, names, true, rounds),
         "try_new" => measure_check(rt, records, rounds),

@@ -8,28 +8,35 @@ use icu_collator_types::options::{CollatorOptions, CollatorPreferences};
 use std::alloc::Global;
 use std::cmp::Ordering;
 
-/// How often each thing is measured.
-const ROUNDS: u32 = 3;
-
-/// The bytes of the keys of all names together.
-fn write_keys(collator: &CollatorBorrowed<'_>, alloc: Global, names: &[&str]) -> Option<usize> {
+/// The bytes of the keys of all names together, each written to the same vector.
+fn write_keys(
+    collator: &CollatorBorrowed<'_>,
+    alloc: Global,
+    names: &[&str],
+    key: &mut Vec<u8>,
+) -> Option<usize> {
     let mut sum: usize = 0;
-    let mut key = Vec::new(alloc);
     for name in names {
         key.clear();
-        collator.write_sort_key_to(alloc, *name, &mut key).ok()?;
+        collator.write_sort_key_to(alloc, *name, key).ok()?;
         sum = sum.wrapping_add(key.len());
     }
     Some(sum)
 }
 
 /// Prints how many keys are written in a second, and how many bytes they have.
-fn measure_keys(rt: &HostRuntime, collator: &CollatorBorrowed<'_>, names: &[&str]) -> Option<()> {
+fn measure_keys(
+    rt: &HostRuntime,
+    collator: &CollatorBorrowed<'_>,
+    names: &[&str],
+    rounds: u32,
+) -> Option<()> {
     let mut least = u64::MAX;
     let mut sum = 0;
-    for _round in 0..ROUNDS {
+    let mut key = Vec::new(rt.alloc());
+    for _round in 0..rounds {
         let before = nanoseconds(rt)?;
-        sum = write_keys(collator, rt.alloc(), names)?;
+        sum = write_keys(collator, rt.alloc(), names, &mut key)?;
         let after = nanoseconds(rt)?;
         least = least.min(after.checked_sub(before)?);
     }
@@ -58,10 +65,11 @@ fn measure_pairs(
     collator: &CollatorBorrowed<'_>,
     name: &str,
     pairs: &[(&str, &str)],
+    rounds: u32,
 ) -> Option<()> {
     let mut least = u64::MAX;
     let mut count = 0;
-    for _round in 0..ROUNDS {
+    for _round in 0..rounds {
         let before = nanoseconds(rt)?;
         count = compare_pairs(collator, rt.alloc(), pairs)?;
         let after = nanoseconds(rt)?;
@@ -94,29 +102,39 @@ fn near_pairs<'n>(alloc: Global, names: &[&'n str]) -> Option<Vec<(&'n str, &'n 
 }
 
 /// Prints how fast keys of the lines of a text are written, and lines compared.
-fn measure(rt: &HostRuntime, collator: &CollatorBorrowed<'_>, lines: &str) -> Option<()> {
+fn measure(
+    rt: &HostRuntime,
+    collator: &CollatorBorrowed<'_>,
+    lines: &str,
+    rounds: u32,
+) -> Option<()> {
     let names: Vec<&str> = lines.lines().collect(rt.alloc()).ok()?;
-    measure_keys(rt, collator, &names)?;
+    measure_keys(rt, collator, &names, rounds)?;
     let far = far_pairs(rt.alloc(), &names)?;
-    measure_pairs(rt, collator, "cmp_random", &far)?;
+    measure_pairs(rt, collator, "cmp_random", &far, rounds)?;
     let ordered = in_order(collator, rt.alloc(), &names)?;
     let near = near_pairs(rt.alloc(), &ordered)?;
-    measure_pairs(rt, collator, "cmp_near", &near)
+    measure_pairs(rt, collator, "cmp_near", &near, rounds)
 }
 
 /// The same, by a collator over a provider's tables.
-fn measure_over(rt: &HostRuntime, held: &HeldCollation<'static>, lines: &str) -> Option<()> {
+fn measure_over(
+    rt: &HostRuntime,
+    held: &HeldCollation<'static>,
+    lines: &str,
+    rounds: u32,
+) -> Option<()> {
     let preferences = CollatorPreferences::default();
     match Collator::try_new_unstable(rt.alloc(), held, preferences, CollatorOptions::default()) {
-        Ok(collator) => measure(rt, &collator.as_borrowed(), lines),
+        Ok(collator) => measure(rt, &collator.as_borrowed(), lines, rounds),
         Err(_) => None,
     }
 }
 
 /// The same, by a collator over the tables of records; `None` where it can't be made, or memory is refused.
-pub fn measure_collator(rt: &HostRuntime, records: &str, lines: &str) -> Option<()> {
+pub fn measure_collator(rt: &HostRuntime, records: &str, lines: &str, rounds: u32) -> Option<()> {
     match held_tables(rt.alloc(), records) {
-        Some(held) => measure_over(rt, &held, lines),
+        Some(held) => measure_over(rt, &held, lines, rounds),
         None => None,
     }
 }
