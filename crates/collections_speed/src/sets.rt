@@ -40,7 +40,7 @@ fn build(alloc: Global, order: Order) -> Result<CodePointInversionList<'static>,
         let first = 100 * order.place(count);
         builder.add_range32(first..=first + 49)?;
     }
-    builder.build(alloc)
+    builder.build()
 }
 
 /// How many of code points all over the code space the set holds.

@@ -56,7 +56,7 @@ fn build(
         let (code_point, value) = write_of(blocks, number);
         let _ = map.set_value(code_point, value);
     }
-    map.build(alloc)
+    map.build()
 }
 
 /// The trie of a map whose blocks differ in their first values.
@@ -90,7 +90,7 @@ fn build_ranges(
     for _number in 0..count {
         let mut map = CodePointTrieBuilder::new(alloc, 0u32, 0, trie_type)?;
         let _ = map.set_range_value(0xF_0000..=0x10_FFFD, 1);
-        let trie = map.build(alloc)?;
+        let trie = map.build()?;
         sum = sum.wrapping_add(trie.get32(0xF_8000));
     }
     Ok(sum)
@@ -134,7 +134,7 @@ fn sum_at_random(trie: &CodePointTrie<'_, u32>, limit: u32) -> u32 {
 fn count_ranges(alloc: Global, walks: u32) -> Result<u32, CodePointTrieBuildError> {
     let mut map = CodePointTrieBuilder::new(alloc, 0u32, 0, TrieType::Fast)?;
     let _ = map.set_range_value(0x400..=0x1_FFFF, 1);
-    let trie = map.build(alloc)?;
+    let trie = map.build()?;
     let mut count: u32 = 0;
     for _walk in 0..walks {
         for _range in trie.iter_ranges() {

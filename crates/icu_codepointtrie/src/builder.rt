@@ -49,9 +49,9 @@ impl<T: TrieValue> Model for CodePointTrieBuilder<T> {
 
 impl<T: TrieValue> CodePointTrieBuilder<T> {
     /// The map of all code points to the default, for a trie of this type whose value past 10FFFF
-    /// (hex) is `error_value`. It has at most one different block of a width, and each write for a
-    /// code point makes at most one more, so few writes keep a map within what `build` takes. The
-    /// only error is `AllocError`.
+    /// (hex) is `error_value`. It has at most one different block of a width. Each write for a code
+    /// point makes at most one more, and each for a range at most three, so few writes keep a map
+    /// within what `build` takes. The only error is `AllocError`.
     pub fn new(
         alloc: Global,
         default_value: T,
@@ -109,6 +109,8 @@ impl<T: TrieValue> CodePointTrieBuilder<T> {
         ensures written { MatchResult result
             (λ _. IsWritten T.number self.old (covers range) value self.new)
             (λ _. self.new ≡ self.old) }
+        ensures blocks { OnOk result ((width : ℕ) →
+            different_blocks T.number width self.new.values ≤ different_blocks T.number width self.old.values + 3) }
         ensures refused { MatchResult result
             (λ _. (range_inclusive_start range ≤ 0x10FFFF) × (range_inclusive_end range ≤ 0x10FFFF))
             (λ e. (e ≡ OutOfRange) × ((0x10FFFF < range_inclusive_start range) ⊎ (0x10FFFF < range_inclusive_end range))) }
@@ -131,6 +133,7 @@ fn overwrite<T: TrieValue>(values: &mut [T], first: usize, end: usize, value: T)
     requires end { end ≤ length values.old }
     ensures length { length values.new ≡ length values.old }
     ensures values { (c : ℕ) (default : T) → c < length values.old → slice_index_or values.new c default ≡ (if nat_le first c && nat_lt c end then value else slice_index_or values.old c default) }
+    ensures blocks { (width : ℕ) → different_blocks T.number width values.new ≤ different_blocks T.number width values.old + 3 }
 {
     for place in first..end {
         values[place] = value;

@@ -31,7 +31,7 @@ pub fn get_planes_trie(alloc: Global) -> Result<CodePointTrie<'static, u8>, Allo
     ensures past { IfOk result (λ trie. (c : ℕ) → 0x10FFFF < c → value_at trie c ≡ Some 0) }
 {
     let map = plane_map(alloc)?;
-    match map.build(alloc) {
+    match map.build() {
         Ok(trie) => Ok(trie),
         Err(CodePointTrieBuildError::Memory) => Err(AllocError),
         Err(CodePointTrieBuildError::TooLarge) => unreachable!(),

@@ -10,7 +10,7 @@ fn has_edges(
     builder: &CodePointInversionListBuilder,
     edges: &[u32],
 ) -> Result<bool, AllocError> {
-    let list = builder.build(alloc)?.get_inversion_list_vec(alloc)?;
+    let list = builder.build()?.get_inversion_list_vec(alloc)?;
     Ok(list.as_slice() == edges)
 }
 
@@ -31,7 +31,7 @@ fn two_ranges(alloc: Global) -> Result<CodePointInversionListBuilder, AllocError
 }
 
 fn six_edges(alloc: Global) -> Result<CodePointInversionList<'static>, AllocError> {
-    builder_of(alloc, &[(0x05, 0x09), (0x16, 0x20), (0x2C, 0x32)])?.build(alloc)
+    builder_of(alloc, &[(0x05, 0x09), (0x16, 0x20), (0x2C, 0x32)])?.build()
 }
 
 /// What a builder is edited by: the set of six ends, a character, a code point, or a range of them.

@@ -17,6 +17,7 @@ pub mod MappedLemmas
 pub mod OrderLemmas
 pub mod OwnLemmas
 pub mod PassedLemmas
+pub mod SameFormLemmas
 pub mod SinkLemmas
 pub mod SkipLemmas
 pub mod SplitLemmas

@@ -44,7 +44,10 @@ module _ (canonical : Canonical) (ok : IsForming canonical) where
       order_all (λ c. canonical.full c ≡ c ∷ []) canonical.class (flat_map canonical.full cs)
       (full_all (λ c. canonical.full c ≡ c ∷ []) each_own cs s)
 
+  pub full_scalar : (cs : List ℕ) → AreScalar cs → AreScalar (flat_map canonical.full cs)
+  full_scalar cs s = full_all IsScalar (λ c one. recursion_from_All IsScalar (canonical.full c) (ok.scalars c one)) cs s
+
   pub decomposed_scalar : (cs : List ℕ) → AreScalar cs → AreScalar (decomposed canonical cs)
   unfolding decomposed
   decomposed_scalar cs s =
-      order_all IsScalar canonical.class (flat_map canonical.full cs) (full_all IsScalar (λ c one. recursion_from_All IsScalar (canonical.full c) (ok.scalars c one)) cs s)
+      order_all IsScalar canonical.class (flat_map canonical.full cs) (full_scalar cs s)

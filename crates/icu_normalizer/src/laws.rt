@@ -3,11 +3,12 @@
 //! speak of them. That its canonical data are `IsCanonical` a normaliser's `keep_promise` says.
 
 ghost use Rattle.std.specs.Char.{IsScalar};
-ghost use Rattle.std.specs.Prelude.{◌≡◌, ℕ, ◌↔◌, All, List, chars, encode_utf8_all};
+ghost use Rattle.std.specs.Prelude.{◌≡◌, ℕ, ◌<◌, ◌^◌, ◌↔◌, All, List, chars, encode_utf8_all};
 ghost use Rattle.std.specs.Str.{IsUtf8};
 ghost use Rattle.icu_normalizer_core.specs.Canonical.{Canonical, IsCanonical, IsDecomposing, composed, decomposed};
 ghost use Rattle.icu_normalizer_core.specs.Decoding.{utf8_chars, utf16_chars};
 ghost use Rattle.icu_normalizer_core.specs.Forming.{IsSaidOver};
+ghost use Rattle.icu_normalizer_core.specs.Sameness.{AreSameCanonical, AreSameComposing};
 ghost use Rattle.icu_normalizer.specs.Equivalence.{IsEquivalent};
 ghost use Rattle.icu_normalizer.specs.FormCuts.{IsComposed};
 ghost use Rattle.icu_normalizer.specs.Splits.{IsDecomposed};
@@ -124,4 +125,34 @@ pub fn encodings_have_one_form()
     ensures units_composed { (canonical said : Canonical) (text units : List ℕ) → IsCanonical canonical → IsSaidOver canonical said → IsUtf8 text
         → utf16_chars units ≡ chars text
         → utf16_chars (encode_utf16_all (composed said (utf16_chars units))) ≡ chars (composed_text said text) }
+{}
+
+/// Data that say the same of each scalar value give a text one decomposed list, and, where they say the same of what two
+/// compose to, one composed list: by canonical data the lists of NFD and NFC, by compatibility data those of NFKD and
+/// NFKC. It is enough that one of the two is a normaliser's.
+#[tactic(auto, using(crate::proofs::SameFormLemmas::same_decomposed, crate::proofs::SameFormLemmas::same_composed))]
+pub fn same_data_have_same_forms()
+    ensures decomposed { (canonical said other : Canonical) (xs : List ℕ) → IsCanonical canonical → IsSaidOver canonical said
+        → AreSameCanonical other said → All IsScalar xs → decomposed other xs ≡ decomposed said xs }
+    ensures composed { (canonical said other : Canonical) (xs : List ℕ) → IsCanonical canonical → IsSaidOver canonical said
+        → AreSameComposing other said → All IsScalar xs → composed other xs ≡ composed said xs }
+{}
+
+/// So the calls of normalisers over such data give each text the same normal form: a text in UTF-8, bytes, and units.
+#[tactic(auto, using(crate::proofs::SameFormLemmas::same_text_decomposed, crate::proofs::SameFormLemmas::same_text_composed, crate::proofs::SameFormLemmas::same_bytes_decomposed, crate::proofs::SameFormLemmas::same_bytes_composed, crate::proofs::SameFormLemmas::same_units_decomposed, crate::proofs::SameFormLemmas::same_units_composed))]
+pub fn same_data_have_same_forms_of_texts()
+    ensures decomposed { (canonical said other : Canonical) (text : List ℕ) → IsCanonical canonical → IsSaidOver canonical said
+        → AreSameCanonical other said → IsUtf8 text → decomposed_text other text ≡ decomposed_text said text }
+    ensures composed { (canonical said other : Canonical) (text : List ℕ) → IsCanonical canonical → IsSaidOver canonical said
+        → AreSameComposing other said → IsUtf8 text → composed_text other text ≡ composed_text said text }
+    ensures bytes_decomposed { (canonical said other : Canonical) (bytes : List ℕ) → IsCanonical canonical → IsSaidOver canonical said
+        → AreSameCanonical other said → encode_utf8_all (decomposed other (utf8_chars bytes)) ≡ encode_utf8_all (decomposed said (utf8_chars bytes)) }
+    ensures bytes_composed { (canonical said other : Canonical) (bytes : List ℕ) → IsCanonical canonical → IsSaidOver canonical said
+        → AreSameComposing other said → encode_utf8_all (composed other (utf8_chars bytes)) ≡ encode_utf8_all (composed said (utf8_chars bytes)) }
+    ensures units_decomposed { (canonical said other : Canonical) (units : List ℕ) → IsCanonical canonical → IsSaidOver canonical said
+        → AreSameCanonical other said → All (λ u. u < 2 ^ 16) units
+        → encode_utf16_all (decomposed other (utf16_chars units)) ≡ encode_utf16_all (decomposed said (utf16_chars units)) }
+    ensures units_composed { (canonical said other : Canonical) (units : List ℕ) → IsCanonical canonical → IsSaidOver canonical said
+        → AreSameComposing other said → All (λ u. u < 2 ^ 16) units
+        → encode_utf16_all (composed other (utf16_chars units)) ≡ encode_utf16_all (composed said (utf16_chars units)) }
 {}

@@ -1,6 +1,7 @@
 -- Following an iterator by the words of specs/Iter.antt.
-use Rattle.std.proofs.Common.{◌≡◌, ℕ, Bool, true, false, List, [], ◌∷◌, Option, Some, None, refl, sym, ap, subst, ◌∙◌}
-use Rattle.icu_normalizer_core.specs.Iter.{Spells, SourceSpells, IsFirstOf, KeepsLeft}
+use Rattle.std.proofs.Common.{◌≡◌, ℕ, Bool, true, false, List, [], ◌∷◌, Option, Some, None, Result, Ok, Err, refl, sym, ap, subst, ◌∙◌}
+use Rattle.std.proofs.lemmas.Option.{none-some}
+use Rattle.icu_normalizer_core.specs.Iter.{Spells, SourceSpells, IsFirstOf, KeepsLeft, EndsOnce}
 
 module _ {I : Type 0} (steps : I → Option ℕ → I → Type 0) where
   pub Spells-next : (s t : I) (x : ℕ) (cs : List ℕ) → steps s (Some x) t → Spells steps s cs → IsFirstOf (Spells steps) cs t x
@@ -40,3 +41,22 @@ module _ {I : Type 0} (steps : I → Option ℕ → I → Type 0) where
 pub keeps_then : {S A : Type 0} (HasLeft : S → List A → Type 0) (a b c : S) (written : List A) → KeepsLeft HasLeft a [] b → KeepsLeft HasLeft b written c → KeepsLeft HasLeft a written c
 keeps_then HasLeft a b c written first second =
     record { at = λ cs left. let middle = first.at cs left in let last = second.at middle.0 middle.2 in (last.0, middle.1 ∙ last.1, last.2) }
+
+-- ---- an iterator ends after an error
+
+pub not_both : (b : Bool) → b ≡ false → b ≡ true → ⊥
+not_both b off on = let e : false ≡ true = sym off ∙ on in cc
+
+module _ {S A E : Type 0} (IsFinished : S → Type 0) (s t : S) where
+  pub ends_item : (x : A) → (IsFinished s → ⊥) → EndsOnce {E = E} IsFinished s (Some (Ok x)) t
+  ends_item x running = record { finished = tt; last = tt; ended = λ f. absurd (running f); stays = λ f. absurd (running f) }
+
+  pub ends_error : (e : E) → (IsFinished s → ⊥) → IsFinished t → EndsOnce {A = A} IsFinished s (Some (Err e)) t
+  ends_error e running stopped = record { finished = stopped; last = tt; ended = λ f. absurd (running f); stays = λ f. stopped }
+
+  pub ends_last : IsFinished t → EndsOnce {A = A} {E = E} IsFinished s None t
+  ends_last stopped = record { finished = tt; last = stopped; ended = λ f. refl; stays = λ f. stopped }
+
+  -- an iterator that gave something wasn't finished
+  pub ended_not : (r : Result A E) → EndsOnce IsFinished s (Some r) t → IsFinished s → ⊥
+  ended_not r step f = none-some r (sym (step.ended f))

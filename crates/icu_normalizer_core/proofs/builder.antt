@@ -21,3 +21,5 @@ pub mod FullWordMapLemmas
 pub mod CompatibilityRuleLemmas
 pub mod CompatibilityTableLemmas
 pub mod UnnamedWordLemmas
+pub mod NamedLemmas
+pub mod GivenLemmas

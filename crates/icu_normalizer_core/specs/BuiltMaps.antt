@@ -1,6 +1,6 @@
 -- Tables that are built of maps, as lists.
 use Rattle.std.specs.Prelude.{◌≡◌, ℕ, ◌<◌, ◌≤◌, ◌/◌, ◌^◌, cond, true, List, [], length}
-use Rattle.std.specs.Option.{is_some, unwrap_or}
+use Rattle.std.specs.Option.{is_some, unwrap_or, IsSomeAnd}
 use Rattle.std.specs.Char.{IsScalar}
 use Rattle.icu_codepointtrie.specs.Places.{TrieTables, value_at, has_cell}
 use Rattle.icu_normalizer_core.specs.declared.canonical.builder.GivenClass.{GivenClass}
@@ -13,7 +13,11 @@ use Rattle.icu_normalizer_core.specs.CanonicalWords.{plain_word}
 use Rattle.icu_normalizer_core.specs.CharacterWords.{class_with, AreStarters, IsWordOf}
 use Rattle.icu_normalizer_core.specs.Settled.{key_at}
 
--- at most 150 triples list what mappings say and isn't built in
+-- the word of each code point is below 2 ^ 30: its two uppermost bits are 0
+abbrev pub HasPlainWords : TrieTables ℕ → Type 0
+HasPlainWords trie = (c : ℕ) → c ≤ 0x10_FFFF → IsSomeAnd (value_at trie c) (λ word. word < 2 ^ 30)
+
+-- The triples, at most 150, are the mappings that aren't built in: one for each character that has such a mapping, in rising order.
 pub record AreStepsOf (mappings : List GivenMapping) (steps : List ℕ) : Type 0 where
   pub triples : AreTriples steps
   pub listed : (c : ℕ) → listed_step steps c ≡ cond (is_some (built_in_step c)) [] (given_step mappings c)

@@ -1,6 +1,6 @@
 -- Canonical data as they are given one by one: classes, and mappings of which some are composed. What they mean, and the rules that they keep.
 use Rattle.std.specs.Prelude.{◌≡◌, ◌≢◌, ℕ, ◌<◌, ◌≤◌, ◌⊎◌, Bool, true, false, cond, not, ◌==◌, ◌&&◌, ◌||◌, List, [], ◌∷◌, ◌++◌, length, map, flat_map, nat_eq, Option, Some, None, IfSome}
-use Rattle.std.specs.List.{All, Contains, find, IsDistinct, list_any}
+use Rattle.std.specs.List.{All, Contains, find, list_any}
 use Rattle.std.specs.Set.{distinct_count}
 use Rattle.std.specs.Option.{is_some, unwrap_or}
 use Rattle.std.specs.Char.{IsScalar}
@@ -21,13 +21,21 @@ pub record CanonicalMaps : Type 0 where
 
 -- ---- Meaning: what is built in, else what is given, else that the character is an unmapped starter
 
--- the class that is given for a character; of two, the first
-abbrev pub given_class : List GivenClass → ℕ → ℕ
-given_class classes c = elim (find (λ g. g.character == c) classes) [ Some g ↦ g.class | None ↦ 0 ]
+-- the first class that is given for a character
+abbrev pub first_class : List GivenClass → ℕ → Option GivenClass
+first_class classes c = find (λ g. g.character == c) classes
 
--- the mapping that is given for a character; of two, the first
+-- the class that counts of those that are given for a character
+abbrev pub given_class : List GivenClass → ℕ → ℕ
+given_class classes c = elim (first_class classes c) [ Some g ↦ g.class | None ↦ 0 ]
+
+-- the first mapping that is given for a character
+abbrev pub first_mapping : List GivenMapping → ℕ → Option GivenMapping
+first_mapping mappings c = find (λ g. g.character == c) mappings
+
+-- the mapping that counts of those that are given for a character
 abbrev pub given_step : List GivenMapping → ℕ → List ℕ
-given_step mappings c = elim (find (λ g. g.character == c) mappings) [ Some g ↦ mapping_given g | None ↦ [] ]
+given_step mappings c = elim (first_mapping mappings c) [ Some g ↦ mapping_given g | None ↦ [] ]
 
 -- whether a mapping that isn't built in makes the character of these two
 abbrev pub composes : ℕ → ℕ → GivenMapping → Bool
@@ -81,17 +89,20 @@ BeginsWithStarter maps list = (d : ℕ) (ds : List ℕ) → list ≡ d ∷ ds �
 abbrev pub ComposeAlike : GivenMapping → GivenMapping → Type 0
 ComposeAlike g h = (a : ℕ) × (b : ℕ) × (composes a b g ≡ true) × (composes a b h ≡ true)
 
--- The rules of canonical data (docs/RECORDS.md, C1 to C9), and the limit on what is named.
+-- no character has two mappings that differ: each is the first of its character
+abbrev pub HaveOneMapping : List GivenMapping → Type 0
+HaveOneMapping mappings = All (λ g. first_mapping mappings g.character ≡ Some g) mappings
+
+-- The rules of canonical data (docs/RECORDS.md, C1 to C9), and the limit on what is named. Of the classes of a character the first counts, and only it is judged.
 pub record KeepRules (maps : CanonicalMaps) : Type 0 where
   pub few : distinct_count nat_eq (named maps) ≤ 150
-  pub one_class : IsDistinct nat_eq (map (λ g. g.character) maps.classes)
-  pub one_mapping : IsDistinct nat_eq (map (λ g. g.character) maps.mappings)
-  -- C1: a mapping stands on a starter
+  -- C1: a character has one mapping, and it stands on a starter
+  pub one_mapping : HaveOneMapping maps.mappings
   pub starters : (c : ℕ) → IsScalar c → IsMapped maps c → class_of maps c ≡ 0
   -- C2: the steps from each character end
   pub ends : (c : ℕ) → IsScalar c → (list : List ℕ) × Leaves (step_of maps) (c ∷ []) list
   -- C3: a class is 1 to 254, or built in
-  pub classes : All (λ g. ((0 < g.class) × (g.class ≤ 254)) ⊎ (built_in_class g.character ≡ Some g.class)) maps.classes
+  pub classes : (c : ℕ) (g : GivenClass) → first_class maps.classes c ≡ Some g → ((0 < g.class) × (g.class ≤ 254)) ⊎ (built_in_class c ≡ Some g.class)
   -- C4: the full list of a mapped character begins with a starter and has at most eight characters
   pub full_lists : (c : ℕ) (list : List ℕ) → IsScalar c → IsMapped maps c → Leaves (step_of maps) (c ∷ []) list
       → (length list ≤ 8) × BeginsWithStarter maps list
@@ -104,7 +115,7 @@ pub record KeepRules (maps : CanonicalMaps) : Type 0 where
   pub own : (canonical : Canonical) → AreMeaning maps canonical → (c : ℕ) → c < 0x300 → composed canonical (c ∷ []) ≡ c ∷ []
   pub unmapped : (c : ℕ) → c < 0xc0 → step_of maps c ≡ []
   -- C8: what is built in isn't contradicted
-  pub built_in_classes : All (λ g. IfSome (built_in_class g.character) (λ k. g.class ≡ k)) maps.classes
+  pub built_in_classes : (c : ℕ) (g : GivenClass) → first_class maps.classes c ≡ Some g → IfSome (built_in_class c) (λ k. g.class ≡ k)
   pub built_in_mappings : All (λ g. is_built_in g.character ≡ true → is_built_in_mapping g ≡ true) maps.mappings
   -- C9: no mapping but those built in names a jamo or a syllable
   pub letters : All (λ g. is_built_in_mapping g ≡ false → list_any (λ d. is_jamo d || is_syllable d) (g.character ∷ mapping_given g) ≡ false) maps.mappings

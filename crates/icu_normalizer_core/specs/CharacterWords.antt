@@ -1,9 +1,10 @@
 -- The words of characters in tables that are built: what each says of its character.
-use Rattle.std.specs.Prelude.{◌≡◌, ℕ, ◌+◌, ◌/◌, ◌<◌, ◌≤◌, ◌⊎◌, ◌^◌, true, cond, List, [], ◌∷◌, length, slice_index}
+use Rattle.std.specs.Prelude.{◌≡◌, ℕ, ◌+◌, ◌/◌, ◌<◌, ◌≤◌, ◌⊎◌, ◌^◌, true, cond, List, [], ◌∷◌, ◌++◌, length, map, slice_index}
 use Rattle.std.specs.Option.{unwrap_or, IfSome}
 use Rattle.icu_codepointtrie.specs.Blocks.{different_blocks}
 use Rattle.icu_codepointtrie.specs.CodePointMaps.{CodePointMap, mapped}
 use Rattle.icu_normalizer_core.specs.declared.canonical.builder.GivenClass.{GivenClass}
+use Rattle.icu_normalizer_core.specs.declared.canonical.builder.GivenMapping.{GivenMapping}
 use Rattle.icu_normalizer_core.specs.declared.canonical.builder.list_words.ListWords.{ListWords}
 use Rattle.icu_normalizer_core.specs.BuiltIn.{built_in_class, is_syllable}
 use Rattle.icu_normalizer_core.specs.Canonical.{Leaves, IsFree}
@@ -48,6 +49,10 @@ pub record IsWordOf (k : ℕ) (steps scalars24 : List ℕ) (c word : ℕ) : Type
 -- the characters with a built-in class other than 0, and those with a built-in mapping to other characters but syllables
 abbrev pub built_in_named : List ℕ
 built_in_named = 0x300 ∷ 0x301 ∷ 0x308 ∷ 0x313 ∷ 0x340 ∷ 0x341 ∷ 0x343 ∷ 0x344 ∷ 0xf71 ∷ 0xf72 ∷ 0xf73 ∷ 0xf74 ∷ 0xf75 ∷ 0xf80 ∷ 0xf81 ∷ 0x3099 ∷ 0x309a ∷ []
+
+-- the list has the characters that are named by what is built in, but syllables, or given
+abbrev pub HasNamed : List GivenClass → List GivenMapping → List ℕ → Type 0
+HasNamed classes mappings list = (c : ℕ) → IsAmong ((built_in_named ++ map (λ g. g.character) classes) ++ map (λ g. g.character) mappings) c → IsAmong list c
 
 -- the word of a character that isn't named: 1 of a syllable
 abbrev pub unnamed_word : ℕ → ℕ

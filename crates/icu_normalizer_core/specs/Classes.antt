@@ -4,8 +4,8 @@ use Rattle.std.specs.Iterator.{Count}
 use Rattle.icu_normalizer_core.specs.declared.decomposition.classed.Classed.{Classed}
 use Rattle.icu_normalizer_core.specs.BorrowedMeaning.{borrowed_meaning}
 use Rattle.icu_normalizer_core.specs.Canonical.{Canonical}
-use Rattle.icu_normalizer_core.specs.Decompositions.{DecomposesTo, CanDecompose, decomposition_size}
-use Rattle.icu_normalizer_core.specs.Iter.{YieldsFirstOk}
+use Rattle.icu_normalizer_core.specs.Decompositions.{DecomposesTo, CanDecompose, decomposition_size, IsFinished as IsDecompositionFinished}
+use Rattle.icu_normalizer_core.specs.Iter.{YieldsFirstOk, EndsOnce}
 
 -- characters, each with its class
 abbrev pub with_classes : Canonical → List ℕ → List (ℕ × ℕ)
@@ -17,6 +17,10 @@ pub record ClassesTo {I : Type 0} (steps : I → Option ℕ → I → Type 0) (s
   pub source : DecomposesTo steps s.chars unread
   pub text : out ≡ with_classes (borrowed_meaning s.canonical) unread
 
+-- nothing is to come, and the source is not called again
+abbrev pub IsFinished : {I : Type 0} → Classed I → Type 0
+IsFinished s = IsDecompositionFinished s.chars
+
 -- it may be called
 abbrev pub CanClass : {I : Type 0} → (I → Type 0) → (I → Count) → Classed I → Type 0
 CanClass can left s = CanDecompose can left s.chars
@@ -25,8 +29,10 @@ CanClass can left s = CanDecompose can left s.chars
 abbrev pub classed_size : {I : Type 0} → (I → Count) → Classed I → ℕ
 classed_size left s = decomposition_size left s.chars
 
--- a call gave the first that was left, `None` if none was, and leaves an iterator that may be called again
+-- A call gave the first that was left, `None` if none was, and leaves an iterator that may be called again. An error
+-- comes once, and ends it.
 pub record ClassedSteps {I E : Type 0} (can : I → Type 0) (steps : I → Option ℕ → I → Type 0) (left : I → Count) (s : Classed I) (r : Option (Result (ℕ × ℕ) E)) (t : Classed I) : Type 0 where
   pub first : YieldsFirstOk (ClassesTo steps) s r t
+  pub ends : EndsOnce IsFinished s r t
   pub again : CanClass can left t
   pub size : classed_size left t ≤ classed_size left s

@@ -1,6 +1,6 @@
 -- Compatibility mappings as they are given one by one, beside canonical maps. What they mean, and the rules that they keep.
 use Rattle.std.specs.Prelude.{◌≡◌, ◌≢◌, ℕ, ◌<◌, ◌≤◌, Bool, true, false, cond, ◌==◌, ◌||◌, List, [], ◌∷◌, ◌++◌, length, map, flat_map, nat_eq, Option, Some, None}
-use Rattle.std.specs.List.{All, find, IsDistinct, list_any}
+use Rattle.std.specs.List.{All, find, list_any}
 use Rattle.std.specs.Set.{distinct_count}
 use Rattle.std.specs.Option.{is_some, unwrap_or}
 use Rattle.std.specs.Char.{IsScalar}
@@ -10,7 +10,7 @@ use Rattle.icu_normalizer_core.specs.BuiltIn.{built_in_step, built_in_compatibil
 use Rattle.icu_normalizer_core.specs.Canonical.{Leaves}
 use Rattle.icu_normalizer_core.specs.CanonicalFaults.{IsAccepted}
 use Rattle.icu_normalizer_core.specs.CanonicalLists.{CanonicalLists, canonical_of}
-use Rattle.icu_normalizer_core.specs.CanonicalMaps.{CanonicalMaps, AreMeaning, BeginsWithStarter, KeepRules, class_of, given_step, is_built_in, named, step_of}
+use Rattle.icu_normalizer_core.specs.CanonicalMaps.{CanonicalMaps, AreMeaning, BeginsWithStarter, KeepRules, class_of, first_mapping, is_built_in, named, step_of}
 use Rattle.icu_normalizer_core.specs.CompatibilityFaults.{AreAcceptedWords}
 use Rattle.icu_normalizer_core.specs.Words.{WordLists, class_in, full_in}
 
@@ -29,7 +29,7 @@ IsGivenTo old c mapping new = (g : GivenCompatibility) × (new ≡ old ++ g ∷ 
 abbrev pub first_given : List GivenCompatibility → ℕ → Option GivenCompatibility
 first_given given c = find (λ g. g.character == c) given
 
--- the compatibility mapping that is given for a character; of two, the first
+-- the compatibility mapping that counts of those that are given for a character
 abbrev pub given_compatibility : List GivenCompatibility → ℕ → List ℕ
 given_compatibility given c = elim (first_given given c) [ Some g ↦ g.mapping.items | None ↦ [] ]
 
@@ -72,14 +72,21 @@ IsMappedAtAll maps c = (is_built_in c ≡ false) × (all_steps_of maps c ≢ [])
 abbrev pub is_built_in_compatibility : GivenCompatibility → Bool
 is_built_in_compatibility g = elim (built_in_compatibility_step g.character) [ Some ds ↦ bytes_eq g.mapping.items ds | None ↦ false ]
 
--- The rules of compatibility mappings (docs/RECORDS.md, V14 and C1 to C9), and the limit on what is named.
+-- no character has two compatibility mappings that differ: each is the first of its character
+abbrev pub HaveOneCompatibility : List GivenCompatibility → Type 0
+HaveOneCompatibility given = All (λ g. given_compatibility given g.character ≡ g.mapping.items) given
+
+-- no character has mappings of both kinds, what is built in aside
+abbrev pub AreApart : AllMaps → Type 0
+AreApart maps = All (λ g. is_built_in g.character ≡ false → first_mapping maps.canonical.mappings g.character ≡ None) maps.compatibilities
+
+-- The rules of compatibility mappings (docs/RECORDS.md, C1 to C9), and the limit on what is named.
 pub record KeepCompatibilityRules (maps : AllMaps) : Type 0 where
   pub few : distinct_count nat_eq (all_named maps) ≤ 150
-  -- V14: a character has one mapping
-  pub one_mapping : IsDistinct nat_eq (map (λ g. g.character) maps.compatibilities)
-  -- C1: a mapping stands on a starter that has no canonical mapping
+  -- C1: a character has one mapping, of one kind, and it stands on a starter
+  pub one_mapping : HaveOneCompatibility maps.compatibilities
+  pub apart : AreApart maps
   pub starters : All (λ g. is_built_in g.character ≡ false → class_of maps.canonical g.character ≡ 0) maps.compatibilities
-  pub apart : All (λ g. is_built_in g.character ≡ false → given_step maps.canonical.mappings g.character ≡ []) maps.compatibilities
   -- C2: the steps of both kinds from each character end
   pub ends : (c : ℕ) → IsScalar c → (list : List ℕ) × Leaves (all_steps_of maps) (c ∷ []) list
   -- C4: the full list of a mapped character begins with a starter and has at most eight characters

@@ -1,5 +1,5 @@
 -- Words for iterators whose source is an iterator of characters.
-use Rattle.std.specs.Prelude.{◌≡◌, ℕ, ◌+◌, Bool, true, false, List, [], ◌∷◌, ◌++◌, Option, Result, MatchBool, MatchOption, MatchResult, if◌then◌else◌, ⊤}
+use Rattle.std.specs.Prelude.{◌≡◌, ℕ, ◌+◌, Bool, true, false, List, [], ◌∷◌, ◌++◌, Option, Result, MatchBool, MatchOption, MatchResult, IfSome, IfNone, OnErr, None, if◌then◌else◌, ⊤}
 use Rattle.std.specs.Iterator.{Count, IsFinite, size, AlwaysYields}
 
 -- each run of the iterator gives these characters
@@ -33,3 +33,11 @@ IsFirstOf HasLeft cs t c = (rest : List _) × (cs ≡ c ∷ rest) × HasLeft t r
 -- `None` or an error.
 pub record YieldsFirstOk {S A E : Type 0} (HasLeft : S → List A → Type 0) (s : S) (r : Option (Result A E)) (t : S) : Type 0 where
   pub at : (cs : List A) → HasLeft s cs → MatchOption r ((cs ≡ []) × HasLeft t []) (λ item. MatchResult item (IsFirstOf HasLeft cs t) (λ _. HasLeft t []))
+
+-- A call from s gave r, whatever the source is: after an error and after `None` the iterator is finished. One that is
+-- finished gives `None`, and stays so.
+pub record EndsOnce {S A E : Type 0} (IsFinished : S → Type 0) (s : S) (r : Option (Result A E)) (t : S) : Type 0 where
+  pub finished : IfSome r (λ item. OnErr item (IsFinished t))
+  pub last : IfNone r (IsFinished t)
+  pub ended : IsFinished s → r ≡ None
+  pub stays : IsFinished s → IsFinished t

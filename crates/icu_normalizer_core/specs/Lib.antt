@@ -33,6 +33,7 @@ pub mod ListWords
 pub mod Loading
 pub mod MapNumbers
 pub mod Marks
+pub mod Named
 pub mod PairTests
 pub mod Plain
 pub mod Properties

@@ -7,3 +7,8 @@ use Rattle.icu_normalizer_core.specs.Canonical.{Canonical}
 pub record AreSameCanonical (a b : Canonical) : Type 0 where
   pub class : (c : ℕ) → IsScalar c → a.class c ≡ b.class c
   pub full : (c : ℕ) → IsScalar c → a.full c ≡ b.full c
+
+-- data that compose two scalar values alike, too
+pub record AreSameComposing (a b : Canonical) : Type 0 where
+  pub same : AreSameCanonical a b
+  pub pair : (x y : ℕ) → IsScalar x → IsScalar y → a.pair x y ≡ b.pair x y

@@ -83,9 +83,13 @@ abbrev pub named_with : List GivenClass → List GivenMapping → List GivenComp
 named_with classes mappings given =
     (((0xff9e ∷ 0xff9f ∷ built_in_named) ++ map (λ g. g.character) classes) ++ map (λ g. g.character) mappings) ++ map (λ g. g.character) given
 
+-- the list has these characters
+abbrev pub HasAllNamed : List GivenClass → List GivenMapping → List GivenCompatibility → List ℕ → Type 0
+HasAllNamed classes mappings given list = (c : ℕ) → IsAmong (named_with classes mappings given) c → IsAmong list c
+
 -- the words of so many characters are right, also when scalars24 grows
 pub record AreRightSoFar (step : ℕ → List ℕ) (class : ℕ → ℕ) (scalars24 done : List ℕ) (words : CodePointMap ℕ) (places : ℕ) : Type 0 where
-  pub right : HasRightWords (λ c word. IsScalar c → KeepsFullWord step (class c) scalars24 c word) done words
+  pub right : HasRightWords (λ c word. (word < 2 ^ 30) × (IsScalar c → KeepsFullWord step (class c) scalars24 c word)) done words
   pub size : length scalars24 ≤ 8 * places
 
 -- the word as none is set is right of each character outside a list

@@ -31,7 +31,7 @@ pub struct Decomposition<'d, I> {
 }
 
 impl<'d, I: Iterator<Item = char> + Drop> Decomposition<'d, I> {
-    ghost use Rattle.icu_normalizer_core.specs.Decompositions.{DecomposesTo, CanDecompose, canonical_of, decomposition_size, pulls_left};
+    ghost use Rattle.icu_normalizer_core.specs.Decompositions.{DecomposesTo, CanDecompose, IsFinished, canonical_of, decomposition_size, pulls_left};
 
     /// The decomposed list of the characters that `chars` gives, by canonical data.
     #[inline]
@@ -84,9 +84,10 @@ impl<'d, I: Iterator<Item = char> + Drop> Decomposition<'d, I> {
         Ok(None)
     }
 
-    /// Drops what is left.
+    /// Drops what is left: nothing is to come.
     pub fn stop(&mut self)
         ensures text { DecomposesTo I.next_gives self.new [] }
+        ensures finished { IsFinished self.new }
         ensures ready { CanDecompose I.can_next I.remaining self.new }
         ensures size { decomposition_size I.remaining self.new ≡ 0 }
         ensures same { canonical_of self.new ≡ canonical_of self.old }

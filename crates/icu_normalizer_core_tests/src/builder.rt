@@ -72,7 +72,7 @@ fn ok_try_new(rt: HostRuntime) {
 
 /// Whether the tables that are built of what was given are.
 fn built_are_accepted(alloc: Global, builder: &CanonicalDataBuilder) -> bool {
-    match builder.build(alloc) {
+    match builder.build() {
         Ok(tables) => are_of_what_was_given(alloc, tables),
         Err(_) => false,
     }
@@ -92,8 +92,8 @@ fn ok_build(rt: HostRuntime) {
 }
 
 /// Whether data that are built of what was given say so.
-fn is_built_data(alloc: Global, builder: &CanonicalDataBuilder) -> bool {
-    match builder.build_data(alloc) {
+fn is_built_data(builder: &CanonicalDataBuilder) -> bool {
+    match builder.build_data() {
         Ok(checked) => say_what_was_given(checked.as_borrowed()),
         Err(_) => false,
     }
@@ -102,7 +102,7 @@ fn is_built_data(alloc: Global, builder: &CanonicalDataBuilder) -> bool {
 /// Whether a builder builds such data.
 fn builds_data(alloc: Global) -> bool {
     match given(alloc) {
-        Ok(builder) => is_built_data(alloc, &builder),
+        Ok(builder) => is_built_data(&builder),
         Err(_) => false,
     }
 }
@@ -113,8 +113,8 @@ fn ok_build_data(rt: HostRuntime) {
 }
 
 /// Whether the class that is given to U+0323 is in what is built.
-fn class_is_built(alloc: Global, builder: &CanonicalDataBuilder, class: u8) -> bool {
-    match builder.build_data(alloc) {
+fn class_is_built(builder: &CanonicalDataBuilder, class: u8) -> bool {
+    match builder.build_data() {
         Ok(checked) => has_class(checked.as_borrowed(), '\u{323}', class),
         Err(_) => false,
     }
@@ -123,7 +123,7 @@ fn class_is_built(alloc: Global, builder: &CanonicalDataBuilder, class: u8) -> b
 /// The same of a new builder.
 fn class_comes_back(alloc: Global, class: u8) -> bool {
     let mut builder = CanonicalDataBuilder::new(alloc);
-    builder.class('\u{323}', class).is_ok() && class_is_built(alloc, &builder, class)
+    builder.class('\u{323}', class).is_ok() && class_is_built(&builder, class)
 }
 
 #[test]
@@ -132,8 +132,8 @@ fn ok_class(rt: HostRuntime) {
 }
 
 /// Whether U+0061 and U+0323 compose to this in what is built.
-fn pair_is_built(alloc: Global, builder: &CanonicalDataBuilder, composed: char) -> bool {
-    match builder.build_data(alloc) {
+fn pair_is_built(builder: &CanonicalDataBuilder, composed: char) -> bool {
+    match builder.build_data() {
         Ok(checked) => composes(checked.as_borrowed(), 'a', '\u{323}', Some(composed)),
         Err(_) => false,
     }
@@ -142,8 +142,7 @@ fn pair_is_built(alloc: Global, builder: &CanonicalDataBuilder, composed: char) 
 /// The same where that character is mapped to them in a new builder.
 fn pair_comes_back(alloc: Global, composed: char) -> bool {
     let mut builder = CanonicalDataBuilder::new(alloc);
-    builder.map(composed, 'a', Some('\u{323}'), true).is_ok()
-        && pair_is_built(alloc, &builder, composed)
+    builder.map(composed, 'a', Some('\u{323}'), true).is_ok() && pair_is_built(&builder, composed)
 }
 
 #[test]
@@ -155,7 +154,7 @@ fn ok_map(rt: HostRuntime) {
 fn refusal(alloc: Global, character: char, target: char) -> Option<CanonicalDataBuildError> {
     let mut builder = given(alloc).ok()?;
     builder.map(character, target, None, false).ok()?;
-    builder.build(alloc).err()
+    builder.build().err()
 }
 
 /// A loop, a mapping on a mark, one to a jamo, and one below U+00C0.
@@ -172,10 +171,10 @@ fn maps_that_break_rules(rt: HostRuntime) {
 /// A builder that was given some canonical mappings, and compatibility mappings of Unicode's data.
 fn given_both(alloc: Global) -> Result<CanonicalDataBuilder, AllocError> {
     let mut builder = given(alloc)?;
-    builder.kmap(alloc, 'ﬅ', 'ſ', &['t'])?;
-    builder.kmap(alloc, 'ﬃ', 'f', &['f', 'i'])?;
-    builder.kmap(alloc, 'ſ', 's', &[])?;
-    builder.kmap(alloc, 'ẚ', 'á', &['ạ'])?;
+    builder.kmap('ﬅ', 'ſ', &['t'])?;
+    builder.kmap('ﬃ', 'f', &['f', 'i'])?;
+    builder.kmap('ſ', 's', &[])?;
+    builder.kmap('ẚ', 'á', &['ạ'])?;
     Ok(builder)
 }
 
@@ -191,8 +190,8 @@ fn say_both(data: CompatibilityBorrowed<'_>) -> bool {
 
 /// Whether the data of a builder's canonical and compatibility tables say what it was given.
 fn says_both(alloc: Global, builder: &CanonicalDataBuilder) -> Option<bool> {
-    let canonical = builder.build_data(alloc).ok()?;
-    let nfkd = builder.build_nfkd(alloc).ok()?;
+    let canonical = builder.build_data().ok()?;
+    let nfkd = builder.build_nfkd().ok()?;
     let data = CompatibilityData::try_new(alloc, canonical, nfkd).ok()?;
     Some(say_both(data.as_borrowed()))
 }
@@ -213,7 +212,7 @@ fn ok_build_nfkd(rt: HostRuntime) {
 /// Whether a builder takes a compatibility mapping of a character that has no other, and builds tables of it.
 fn takes_mapping(alloc: Global) -> bool {
     let mut builder = CanonicalDataBuilder::new(alloc);
-    builder.kmap(alloc, 'ﬁ', 'f', &['i']).is_ok() && builder.build_nfkd(alloc).is_ok()
+    builder.kmap('ﬁ', 'f', &['i']).is_ok() && builder.build_nfkd().is_ok()
 }
 
 #[test]
@@ -228,8 +227,8 @@ fn compatibility_refusal(
     target: char,
 ) -> Option<CanonicalDataBuildError> {
     let mut builder = given_both(alloc).ok()?;
-    builder.kmap(alloc, character, target, &[]).ok()?;
-    builder.build_nfkd(alloc).err()
+    builder.kmap(character, target, &[]).ok()?;
+    builder.build_nfkd().err()
 }
 
 /// A loop with a mapping that is given, a mapping on a mark, and one below U+00A0.

@@ -13,6 +13,12 @@ mod compatibility;
 #[cfg(test)]
 mod decoding;
 #[cfg(test)]
+mod loads;
+#[cfg(test)]
 mod provider;
+#[cfg(test)]
+mod repeats;
+#[cfg(test)]
+mod runs;
 #[cfg(test)]
 mod steady;

@@ -148,7 +148,7 @@ fn letters_give_classes(alloc: Global) -> bool {
 }
 
 #[test]
-fn ok_canonical_combining_class_map(rt: HostRuntime) {
+fn ok_try_new_unstable_of_classes(rt: HostRuntime) {
     assert!(rt; letters_give_classes(rt.alloc()));
 }
 
@@ -169,7 +169,7 @@ fn letters_give_pairs(alloc: Global) -> bool {
 }
 
 #[test]
-fn ok_canonical_composition(rt: HostRuntime) {
+fn ok_try_new_unstable_of_pairs(rt: HostRuntime) {
     assert!(rt; letters_give_pairs(rt.alloc()));
 }
 
@@ -190,7 +190,7 @@ fn letters_give_mappings(alloc: Global) -> bool {
 }
 
 #[test]
-fn ok_canonical_decomposition(rt: HostRuntime) {
+fn ok_try_new_unstable_of_mappings(rt: HostRuntime) {
     assert!(rt; letters_give_mappings(rt.alloc()));
 }
 

@@ -44,7 +44,7 @@ fn has_others(canonical: CanonicalBorrowed<'_>) -> bool {
 
 /// Data that are built of what was given, if such data are built.
 fn built(alloc: Global) -> Result<Option<CanonicalData<'static>>, AllocError> {
-    Ok(given(alloc)?.build_data(alloc).ok())
+    Ok(given(alloc)?.build_data().ok())
 }
 
 /// Whether what is built says of just these letters that they are steady.

@@ -4,7 +4,7 @@ ghost use Rattle.std.specs.Prelude.{true, false, Some, None, Ok, Err};
 ghost use Rattle.icu_normalizer_core.specs.declared.provider.error.DataError.TheVariants.{Missing};
 ghost use Rattle.icu_normalizer_core.specs.declared.provider.error.TableName.TheVariants.{Nfd, NfdTables, Nfkd, NfkdTables, Pairs, Uts46};
 
-use crate::tables::{PAIRS, STEPS, pair, tables};
+use crate::tables::{PAIRS, STEPS, pair, tables, trie};
 use icu_codepointtrie::CodePointTrie;
 use icu_normalizer_core::canonical::CanonicalTables;
 use icu_normalizer_core::compatibility::NfkdTables;
@@ -28,6 +28,8 @@ pub struct Held<'t> {
     pub lacks_lists: bool,
     /// `load_pairs` does.
     pub lacks_pairs: bool,
+    /// `load_nfkd_tables` does, where it has compatibility tables too.
+    pub lacks_compatibility_lists: bool,
 }
 
 // (let go of as one, and not part by part, so that what owns one is proved sooner)
@@ -40,6 +42,7 @@ impl Drop for Held<'_> {
             lacks_words: _,
             lacks_lists: _,
             lacks_pairs: _,
+            lacks_compatibility_lists: _,
         } = self;
     }
 }
@@ -55,9 +58,12 @@ impl NormalizerProvider for Held<'_> {
 
     ghost nfkd = { λ held. elim held.nfkd [ None ↦ Err (Missing Nfkd) | Some tables ↦ Ok tables.trie ] };
 
-    ghost nfkd_tables = { λ held. elim held.nfkd [
-      | None ↦ Err (Missing NfkdTables)
-      | Some tables ↦ Ok (record { scalars16 = tables.scalars16; scalars24 = tables.scalars24 })
+    ghost nfkd_tables = { λ held. elim held.lacks_compatibility_lists [
+      | true ↦ Err (Missing NfkdTables)
+      | false ↦ elim held.nfkd [
+        | None ↦ Err (Missing NfkdTables)
+        | Some tables ↦ Ok (record { scalars16 = tables.scalars16; scalars24 = tables.scalars24 })
+      ]
     ] };
 
     ghost pairs = { λ held. elim held.lacks_pairs [ true ↦ Err (Missing Pairs) | false ↦ Ok held.tables.pairs ] };
@@ -97,6 +103,9 @@ impl NormalizerProvider for Held<'_> {
     }
 
     fn load_nfkd_tables(&self, alloc: Global) -> Result<NfkdLists<'_>, DataError> {
+        if self.lacks_compatibility_lists {
+            return Err(DataError::Missing(TableName::NfkdTables));
+        }
         match &self.nfkd {
             None => Err(DataError::Missing(TableName::NfkdTables)),
             Some(tables) => {
@@ -139,6 +148,7 @@ pub fn provider_of(tables: CanonicalTables<'_>) -> Held<'_> {
         lacks_words: false,
         lacks_lists: false,
         lacks_pairs: false,
+        lacks_compatibility_lists: false,
     }
 }
 
@@ -148,4 +158,37 @@ pub fn letters(alloc: Global) -> Option<Held<'static>> {
     let pairs = [PAIRS[0], pair(0x61, 0x308, 0xe4), PAIRS[1]];
     let tables = tables(alloc, &[(0xe4, 0x184_0061)], &steps, &pairs)?;
     Some(provider_of(tables))
+}
+
+/// Words that compatibility data add to those of the worked rows: a space, and the two marks of half width, whose mappings
+/// are built in.
+const COMPATIBILITY_WORDS: [(u32, u32); 3] = [(0xa0, 0x20), (0xff9e, 0x3099), (0xff9f, 0x309a)];
+
+/// Compatibility tables of these words, and of others.
+fn nfkd_tables(alloc: Global, others: &[(u32, u32)]) -> Option<NfkdTables<'static>> {
+    let trie = trie(alloc, &COMPATIBILITY_WORDS, others)?;
+    let scalars16 = PackedVec::from_slice(alloc, &[]).ok()?;
+    let scalars24 = PackedVec::from_slice(alloc, &[]).ok()?;
+    Some(NfkdTables {
+        trie,
+        scalars16,
+        scalars24,
+    })
+}
+
+/// A provider of the tables of the worked rows with other words for some characters, and of compatibility tables with
+/// others for some; `None` where memory is refused.
+pub fn with_words(
+    alloc: Global,
+    canonical: &[(u32, u32)],
+    compatibility: &[(u32, u32)],
+) -> Option<Held<'static>> {
+    let mut held = provider_of(tables(alloc, canonical, &STEPS, &PAIRS)?);
+    held.nfkd = Some(nfkd_tables(alloc, compatibility)?);
+    Some(held)
+}
+
+/// A provider of the tables of the worked rows and of compatibility tables; `None` where memory is refused.
+pub fn with_compatibility(alloc: Global) -> Option<Held<'static>> {
+    with_words(alloc, &[], &[])
 }

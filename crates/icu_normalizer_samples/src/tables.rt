@@ -75,7 +75,7 @@ pub fn trie(
 ) -> Option<CodePointTrie<'static, u32>> {
     let mut map = CodePointTrieBuilder::new(alloc, PLAIN, 0, TrieType::Fast).ok()?;
     set_all_words(&mut map, words, others).ok()?;
-    map.build(alloc).ok()
+    map.build().ok()
 }
 
 /// Tables of these words, mappings and pairs.

@@ -3,6 +3,7 @@
 ghost use Rattle.std.specs.Iterator.{IsFinite};
 
 use crate::encoded::{EncodedCall, Encoding, gives_encoded};
+use crate::sinks::{SinkCall, is_cut_at_each};
 use icu_normalizer::composing::{ComposingNormalizer, ComposingNormalizerBorrowed};
 use icu_normalizer::decomposing::{DecomposingNormalizer, DecomposingNormalizerBorrowed};
 use icu_normalizer_core::provider::DataError;
@@ -32,11 +33,12 @@ pub enum Kind {
 }
 
 /// What is asked of normalisers to both forms: that a call gives these texts' forms, or one for an encoding those of its
-/// rows.
+/// rows, or one that writes to a sink hands on the sink's errors, at a text with these forms.
 #[derive(Clone, Copy)]
 pub enum Ask<'r> {
     Texts(Call, &'r [Row]),
     Encoded(Encoding, EncodedCall),
+    Limited(SinkCall, Row),
 }
 
 /// A normaliser to each form, over the same data.
@@ -184,11 +186,23 @@ fn give_encoded(
         && gives_encoded(alloc, &composing, encoding, call)
 }
 
+/// Whether both hand on the errors of a sink that takes some writes and then fails.
+fn hand_on(
+    alloc: Global,
+    normalizers: Normalizers<'_>,
+    call: SinkCall,
+    (text, decomposed, composed): Row,
+) -> bool {
+    is_cut_at_each(alloc, &normalizers.decomposing, call, (text, decomposed))
+        && is_cut_at_each(alloc, &normalizers.composing, call, (text, composed))
+}
+
 /// Whether they give what is asked for.
 fn give(alloc: Global, normalizers: Normalizers<'_>, ask: Ask<'_>) -> bool {
     match ask {
         Ask::Texts(call, rows) => gives_rows(alloc, normalizers, call, rows),
         Ask::Encoded(encoding, call) => give_encoded(alloc, normalizers, encoding, call),
+        Ask::Limited(call, row) => hand_on(alloc, normalizers, call, row),
     }
 }
 

@@ -70,9 +70,9 @@ fn takes_mappings(builder: &mut CanonicalDataBuilder) -> bool {
 }
 
 /// Whether it takes the compatibility mappings.
-fn takes_compatibilities(alloc: Global, builder: &mut CanonicalDataBuilder) -> bool {
+fn takes_compatibilities(builder: &mut CanonicalDataBuilder) -> bool {
     for (c, first, others) in COMPATIBILITIES {
-        if builder.kmap(alloc, c, first, others).is_err() {
+        if builder.kmap(c, first, others).is_err() {
             return false;
         }
     }
@@ -80,8 +80,8 @@ fn takes_compatibilities(alloc: Global, builder: &mut CanonicalDataBuilder) -> b
 }
 
 /// Whether it takes all three.
-fn takes_all(alloc: Global, builder: &mut CanonicalDataBuilder) -> bool {
-    takes_classes(builder) && takes_mappings(builder) && takes_compatibilities(alloc, builder)
+fn takes_all(builder: &mut CanonicalDataBuilder) -> bool {
+    takes_classes(builder) && takes_mappings(builder) && takes_compatibilities(builder)
 }
 
 /// A provider of these tables.
@@ -93,20 +93,21 @@ fn held_of(tables: CanonicalTables<'static>, nfkd: Option<NfkdTables<'static>>) 
         lacks_words: false,
         lacks_lists: false,
         lacks_pairs: false,
+        lacks_compatibility_lists: false,
     }
 }
 
 /// A provider of the tables that a builder makes of what it was given.
-fn built(alloc: Global, builder: &CanonicalDataBuilder) -> Option<Held<'static>> {
-    let tables = builder.build(alloc).ok()?;
-    Some(held_of(tables, builder.build_nfkd(alloc).ok()))
+fn built(builder: &CanonicalDataBuilder) -> Option<Held<'static>> {
+    let tables = builder.build().ok()?;
+    Some(held_of(tables, builder.build_nfkd().ok()))
 }
 
 /// A provider of the tables of all that is above; `None` where memory is refused.
 fn provider(alloc: Global) -> Option<Held<'static>> {
     let mut builder = CanonicalDataBuilder::new(alloc);
-    if takes_all(alloc, &mut builder) {
-        built(alloc, &builder)
+    if takes_all(&mut builder) {
+        built(&builder)
     } else {
         None
     }

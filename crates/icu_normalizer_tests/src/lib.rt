@@ -18,3 +18,7 @@ mod forms;
 mod given;
 #[cfg(test)]
 mod mapper;
+#[cfg(test)]
+mod refusals;
+#[cfg(test)]
+mod sinks;

@@ -99,7 +99,7 @@ fn trie(alloc: Global, words: &[(u32, u32)]) -> Option<CodePointTrie<'static, u3
     let mut map = CodePointTrieBuilder::new(alloc, 0, 0, TrieType::Small).ok()?;
     set_words(&mut map, &WORDS).ok()?;
     set_words(&mut map, words).ok()?;
-    map.build(alloc).ok()
+    map.build().ok()
 }
 
 /// A trie of valid characters, in which those from U+1000 to U+1FFF have no cell.

@@ -34,7 +34,7 @@ fn give_compatibility(
 ) -> Option<()> {
     let mut others = Vec::new(alloc);
     add_characters(&mut others, words)?;
-    builder.kmap(alloc, c, first, &others).ok()
+    builder.kmap(c, first, &others).ok()
 }
 
 /// Gives a builder what a line `class C N`, `map C D [E] [x]` or `kmap C D [E..]` says; with an x the two don't compose. Lines
@@ -144,7 +144,7 @@ fn mapper_table(alloc: Global, records: &str) -> Option<Uts46Tables<'static>> {
         let words: Vec<&str> = line.split_ascii_whitespace().collect(alloc).ok()?;
         mapping.give(words.as_slice())?;
     }
-    let trie = mapping.words.build(alloc).ok()?;
+    let trie = mapping.words.build().ok()?;
     let scalars24 = PackedVec::from_slice(alloc, &mapping.scalars).ok()?;
     Some(Uts46Tables { trie, scalars24 })
 }
@@ -153,8 +153,8 @@ fn mapper_table(alloc: Global, records: &str) -> Option<Uts46Tables<'static>> {
 pub fn provider(alloc: Global, records: &str) -> Option<Held<'static>> {
     let mut builder = CanonicalDataBuilder::new(alloc);
     give_lines(alloc, &mut builder, records)?;
-    let mut held = provider_of(builder.build(alloc).ok()?);
-    held.nfkd = builder.build_nfkd(alloc).ok();
+    let mut held = provider_of(builder.build().ok()?);
+    held.nfkd = builder.build_nfkd().ok();
     held.uts46 = mapper_table(alloc, records);
     Some(held)
 }

@@ -11,7 +11,7 @@ use super::CodePointTrieBuilder;
 use super::compaction::CodePointTrieBuildError;
 use super::layout::Layout;
 use icu_packed_vector::PackedVec;
-use std::alloc::{AllocError, Global};
+use std::alloc::AllocError;
 
 /// Puts the last code point's value and the error value after the cells. The only error is
 /// `AllocError`.
@@ -31,18 +31,19 @@ impl<T: TrieValue> CodePointTrieBuilder<T> {
     /// last run of one value on there are no blocks. Refused as `TooLarge` where the map has more
     /// than 800 different aligned blocks of 512 code points or more than 12,000 of 16, or as
     /// `Memory`. The map is as before in any case.
-    pub fn build(&self, alloc: Global) -> Result<CodePointTrie<'static, T>, CodePointTrieBuildError>
+    pub fn build(&self) -> Result<CodePointTrie<'static, T>, CodePointTrieBuildError>
         ensures reads { IfOk result (IsTrieOf self.now) }
         ensures cells { IfOk result (λ trie. length trie.cells ≤ 64 * different_blocks T.number 64 (take (fast_limit self.now.trie_type) self.now.values) + 16 * different_blocks T.number 16 (drop (fast_limit self.now.trie_type) self.now.values) + 160) }
         ensures refused { IfErr result (λ error. (error ≡ Memory) ⊎ ((error ≡ TooLarge) × ((800 < different_blocks T.number 512 self.now.values) ⊎ (12000 < different_blocks T.number 16 self.now.values)))) }
     {
+        let alloc = *self.values.allocator();
         let values = self.values.as_slice();
         let mut cells = Vec::new(alloc);
         let layout = match Layout::new(alloc, &mut cells, values, self.trie_type) {
             Ok(layout) => layout,
             Err(error) => return Err(error),
         };
-        let index = layout.index(alloc)?;
+        let index = layout.index()?;
         put_last_two(&mut cells, values, self.error_value)?;
         let index = PackedVec::from_slice(alloc, index.as_slice())?;
         let cells = PackedVec::from_slice(alloc, cells.as_slice())?;

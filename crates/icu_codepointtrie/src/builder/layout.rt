@@ -146,11 +146,11 @@ impl Layout {
     }
 
     /// The index cells before the third blocks. The only error is `AllocError`.
-    fn head(&self, alloc: Global) -> Result<Vec<u16>, AllocError>
+    fn head(&self) -> Result<Vec<u16>, AllocError>
         requires { AreBounded self.now }
         ensures { IfOk result (λ head. HasCells self.now head.items) }
     {
-        let mut head = Vec::new(alloc);
+        let mut head = Vec::new(*self.thirds.allocator());
         for place in 0..third_start(self.trie_type, self.wide_end) {
             head.push(self.index_cell(place))?;
         }
@@ -158,11 +158,11 @@ impl Layout {
     }
 
     /// The index cells. The only error is `AllocError`.
-    pub(super) fn index(&self, alloc: Global) -> Result<Vec<u16>, AllocError>
+    pub(super) fn index(&self) -> Result<Vec<u16>, AllocError>
         requires { AreBounded self.now }
         ensures { IfOk result (λ index. HasIndex self.now index.items) }
     {
-        let mut index = self.head(alloc)?;
+        let mut index = self.head()?;
         index.extend_from_slice(self.thirds.as_slice())?;
         Ok(index)
     }

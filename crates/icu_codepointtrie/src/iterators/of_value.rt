@@ -40,7 +40,7 @@ impl<'a, T: TrieValue> CodePointTrie<'a, T> {
         for range in self.iter_ranges_for_value(value) {
             builder.add_range32(range)?;
         }
-        builder.build(alloc)
+        builder.build()
     }
 
     /// The first code point from this one on that has the value.

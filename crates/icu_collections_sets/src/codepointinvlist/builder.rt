@@ -280,11 +280,11 @@ impl CodePointInversionListBuilder {
         self.edges.is_empty()
     }
 
-    /// The set, in memory of its own.
-    pub fn build(&self, alloc: Global) -> Result<CodePointInversionList<'static>, AllocError>
+    /// The set, in memory of its own. The builder is as before. The only error is `AllocError`.
+    pub fn build(&self) -> Result<CodePointInversionList<'static>, AllocError>
         ensures { IfOk result (λ set. set ≡ self.now) }
     {
-        let edges = PackedVec::from_slice(alloc, self.edges.as_slice())?;
+        let edges = PackedVec::from_slice(*self.edges.allocator(), self.edges.as_slice())?;
         Ok(CodePointInversionList::of_edges(edges))
     }
 }

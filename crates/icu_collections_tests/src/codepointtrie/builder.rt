@@ -61,7 +61,7 @@ fn writes_of_ranges(rt: HostRuntime) {
 fn one_value(alloc: Global, trie_type: TrieType) -> Option<CodePointTrie<'static, u32>> {
     let mut map = CodePointTrieBuilder::new(alloc, 0u32, 9, trie_type).ok()?;
     if takes(&mut map, &[(0x41, 7), (0x41, 0)], true) {
-        map.build(alloc).ok()
+        map.build().ok()
     } else {
         None
     }
@@ -99,7 +99,7 @@ fn is_too_large(alloc: Global, trie_type: TrieType) -> bool {
     match CodePointTrieBuilder::new(alloc, 0u32, 0, trie_type) {
         Ok(mut map) => {
             gives_each_its_own(&mut map)
-                && map.build(alloc).err() == Some(CodePointTrieBuildError::TooLarge)
+                && map.build().err() == Some(CodePointTrieBuildError::TooLarge)
         }
         Err(_) => false,
     }
@@ -125,7 +125,7 @@ fn gives_blocks(map: &mut CodePointTrieBuilder<u32>) -> bool {
 fn row_of_blocks(alloc: Global, trie_type: TrieType) -> Option<CodePointTrie<'static, u32>> {
     let mut map = CodePointTrieBuilder::new(alloc, 0u32, 0, trie_type).ok()?;
     if gives_blocks(&mut map) {
-        map.build(alloc).ok()
+        map.build().ok()
     } else {
         None
     }
@@ -216,8 +216,8 @@ fn reads_values(trie: &CodePointTrie<'_, u16>, values: &[u16]) -> bool {
 }
 
 /// Whether what is built of a map does.
-fn builds_values(alloc: Global, map: &CodePointTrieBuilder<u16>, values: &[u16]) -> bool {
-    match map.build(alloc) {
+fn builds_values(map: &CodePointTrieBuilder<u16>, values: &[u16]) -> bool {
+    match map.build() {
         Ok(trie) => reads_values(&trie, values),
         Err(_) => false,
     }
@@ -226,9 +226,7 @@ fn builds_values(alloc: Global, map: &CodePointTrieBuilder<u16>, values: &[u16])
 /// Whether a map takes random writes, and what is built of it reads what was written into this list.
 fn builds_random(alloc: Global, trie_type: TrieType, values: &mut [u16]) -> bool {
     match CodePointTrieBuilder::new(alloc, 0u16, 8, trie_type) {
-        Ok(mut map) => {
-            random_writes(&mut map, values, 4000) && builds_values(alloc, &map, values)
-        }
+        Ok(mut map) => { random_writes(&mut map, values, 4000) && builds_values(&map, values) }
         Err(_) => false,
     }
 }

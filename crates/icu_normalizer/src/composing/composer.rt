@@ -129,6 +129,7 @@ impl<'d> Composer<'d> {
         requires { self.old.leaving ≡ false }
         ensures output { coming self.old [] ≡ option_to_list result ++ coming self.new [] }
         ensures done { IfNone result (coming self.new [] ≡ []) }
+        ensures ended { IfNone result (waiting self.new ≡ 0) }
         ensures fewer { waiting self.new + length (option_to_list result) ≤ waiting self.old }
         ensures same { data_of self.new ≡ data_of self.old }
     {

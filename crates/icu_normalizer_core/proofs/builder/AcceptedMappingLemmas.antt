@@ -15,7 +15,7 @@ use Rattle.icu_normalizer_core.specs.BuiltMaps.{AreBuiltOf}
 use Rattle.icu_normalizer_core.specs.Canonical.{IsFree}
 use Rattle.icu_normalizer_core.specs.CanonicalFaults.{NoneOffends, IsAccepted, OffendsBuiltIn, OffendsPair, IsBadPair}
 use Rattle.icu_normalizer_core.specs.CanonicalLists.{CanonicalLists, canonical_of, pair_first, pair_second, pair_composed}
-use Rattle.icu_normalizer_core.specs.CanonicalMaps.{CanonicalMaps, AreMeaning, KeepRules, given_class, given_step, given_pair, composes, mapping_given, is_built_in_mapping}
+use Rattle.icu_normalizer_core.specs.CanonicalMaps.{CanonicalMaps, AreMeaning, KeepRules, given_class, given_step, given_pair, composes, first_mapping, mapping_given, is_built_in_mapping}
 use Rattle.icu_normalizer_core.proofs.PairLemmas.{listed_pair_of}
 use Rattle.icu_normalizer_core.proofs.TableMeanings.{full_is}
 use Rattle.icu_normalizer_core.proofs.builder.AcceptedMapLemmas.{good_values, good_lists, all_end}
@@ -38,38 +38,6 @@ find_true {X} p (y ∷ ys) x e =
 any_none : (p : ℕ → Bool) (xs : List ℕ) → list_any p xs ≡ false → All (λ x. p x ≡ false) xs
 any_none p [] e = All-nil (λ x. p x ≡ false)
 any_none p (x ∷ xs) e = let both = or_parts (p x) (list_any p xs) e in All-cons (λ y. p y ≡ false) x xs both.0 (any_none p xs both.1)
-
-apart_found : (p : GivenMapping → Bool) (k : ℕ) (ms : List GivenMapping) (g : GivenMapping) → AllByRecursion (λ y. nat_eq k y ≡ false) (map (λ h. h.character) ms)
-    → find p ms ≡ Some g → nat_eq k g.character ≡ false
-apart_found p k [] g all e = absurd cc
-apart_found p k (m ∷ ms) g all e =
-    ⊎_elim
-    (λ t.
-    let same : Some m ≡ Some g = sym (ap (λ (b : Bool). cond b (Some m) (find p ms)) t) ∙ e in
-    let is : m ≡ g = ap (λ (o : Option GivenMapping). unwrap_or o m) same in
-    subst (λ (h : GivenMapping). nat_eq k h.character ≡ false) is all.0)
-    (λ f. apart_found p k ms g all.1 (sym (ap (λ (b : Bool). cond b (Some m) (find p ms)) f) ∙ e))
-    (cases_Bool (p m))
-
-apart : (a b : ℕ) → nat_eq a b ≡ false → a ≢ b
-apart a b e same = grind (arith, nat_tests)
-
--- where characters are given one mapping each, what is found is the mapping of its character
-found_once : (p : GivenMapping → Bool) (ms : List GivenMapping) (g : GivenMapping) → IsDistinct nat_eq (map (λ h. h.character) ms)
-    → find p ms ≡ Some g → find (λ h. h.character == g.character) ms ≡ Some g
-unfolding IsDistinct
-found_once p [] g distinct e = absurd cc
-found_once p (m ∷ ms) g distinct e =
-    ⊎_elim
-    (λ t.
-    let same : Some m ≡ Some g = sym (ap (λ (b : Bool). cond b (Some m) (find p ms)) t) ∙ e in
-    let is : m ≡ g = ap (λ (o : Option GivenMapping). unwrap_or o m) same in
-    cond-true (m.character == g.character) (Some m) (find (λ h. h.character == g.character) ms) (eq-eqb m.character g.character (ap (λ (h : GivenMapping). h.character) is)) ∙ same)
-    (λ f.
-    let rest : find p ms ≡ Some g = sym (ap (λ (b : Bool). cond b (Some m) (find p ms)) f) ∙ e in
-    let other : m.character ≢ g.character = apart m.character g.character (apart_found p m.character ms g distinct.0 rest) in
-    cond-false (m.character == g.character) (Some m) (find (λ h. h.character == g.character) ms) (ne_eqb m.character g.character other) ∙ found_once p ms g distinct.1 rest)
-    (cases_Bool (p m))
 
 not_some : (o : Option (List ℕ)) → not (is_some o) ≡ true → o ≡ None
 not_some None e = refl
@@ -127,7 +95,7 @@ module _ (maps : CanonicalMaps) (lists : CanonicalLists) (built : AreBuiltOf map
           let free : built_in_step z ≡ None = sym (ap built_in_step is) ∙ not_some (built_in_step g.character) parts.1 in
           let list : mapping_given g ≡ a ∷ b ∷ [] = (bytes_eq-Decides (mapping_given g) (a ∷ b ∷ [])).0 parts.0 in
           let once : find (λ h. h.character == z) maps.mappings ≡ Some g =
-          subst (λ (k : ℕ). find (λ h. h.character == k) maps.mappings ≡ Some g) is (found_once (composes a b) maps.mappings g rules.one_mapping e) in
+          subst (λ (k : ℕ). find (λ h. h.character == k) maps.mappings ≡ Some g) is (found_all (λ h. first_mapping maps.mappings h.character ≡ Some h) (composes a b) maps.mappings g rules.one_mapping e) in
           let step : given_step maps.mappings z ≡ a ∷ b ∷ [] = ap (λ (o : Option GivenMapping). elim o [ Some h ↦ mapping_given h | None ↦ [] ]) once ∙ list in
           let second = found_all (λ h. composes a b h ≡ true → (0x300 ≤ b) × (is_within 0x1161 0x11ff b ≡ false)) (composes a b) maps.mappings g (rules.seconds a b) e yes in
           (free, free_step z s free ∙ step, second.0, second.1)

@@ -1,21 +1,18 @@
--- How many classes and mappings there are, by how many characters maps name.
+-- Different characters among others, and those that are named with more.
 use Rattle.std.proofs.Common.{◌≡◌, ℕ, ◌≤◌, Bool, true, false, cond, ◌||◌, List, [], ◌∷◌, ◌++◌, length, map, flat_map, refl, ap, ◌∙◌, arith}
 use Rattle.std.specs.Prelude.{nat_eq}
 use Rattle.std.specs.List.{IsDistinct, list_any}
 use Rattle.std.specs.Set.{distinct_count, is_member, unique_keys}
 use Rattle.std.proofs.lemmas.Bool.{or_left, or_right}
 use Rattle.std.proofs.lemmas.Cmp.{nat_eq_equiv}
-use Rattle.std.proofs.lemmas.List.{length-map}
 use Rattle.std.proofs.lemmas.List.Folds.{list_any-append}
 use Rattle.std.proofs.lemmas.Map.Made.{length-le_from_is_member}
 use Rattle.std.proofs.lemmas.Map.Steps.{list_any_congr}
-use Rattle.icu_normalizer_core.specs.CanonicalMaps.{CanonicalMaps, KeepRules, mapping_given, named}
-use Rattle.icu_normalizer_core.specs.CompatibilityMaps.{AllMaps, KeepCompatibilityRules, all_named}
 
 -- ---- Distinct numbers among others
 
 -- a list without repetitions has the items of the list
-members_kept : (xs : List ℕ) (q : ℕ) → is_member nat_eq (unique_keys nat_eq xs) q ≡ is_member nat_eq xs q
+pub members_kept : (xs : List ℕ) (q : ℕ) → is_member nat_eq (unique_keys nat_eq xs) q ≡ is_member nat_eq xs q
 members_kept [] q = refl
 members_kept (x ∷ xs) q = by (is_member nat_eq xs x) (nat_eq q x) refl refl (members_kept xs q)
   where
@@ -47,22 +44,3 @@ keys_named {X} key more (x ∷ xs) q e = by (nat_eq q (key x)) (keys_named key m
         → (b || is_member nat_eq (map key xs) q) ≡ true → (b || is_member nat_eq (more x ++ flat_map (λ y. key y ∷ more y) xs) q) ≡ true
     by true later e = refl
     by false later e = behind_named (more x) (flat_map (λ y. key y ∷ more y) xs) q (later e)
-
--- within the rules there are at most 150 of each
-pub rules_limit_classes : (maps : CanonicalMaps) → KeepRules maps → length maps.classes ≤ 150
-rules_limit_classes maps rules =
-    let among = distinct_among (map (λ g. g.character) maps.classes) (named maps) rules.one_class
-    (λ q e. front_named (map (λ g. g.character) maps.classes) (flat_map (λ g. g.character ∷ mapping_given g) maps.mappings) q e) in
-    omega (arith, among, rules.few, length-map maps.classes (λ g. g.character))
-
-pub rules_limit_mappings : (maps : CanonicalMaps) → KeepRules maps → length maps.mappings ≤ 150
-rules_limit_mappings maps rules =
-    let among = distinct_among (map (λ g. g.character) maps.mappings) (named maps) rules.one_mapping
-    (λ q e. behind_named (map (λ g. g.character) maps.classes) (flat_map (λ g. g.character ∷ mapping_given g) maps.mappings) q (keys_named (λ g. g.character) mapping_given maps.mappings q e)) in
-    omega (arith, among, rules.few, length-map maps.mappings (λ g. g.character))
-
-pub rules_limit_compatibilities : (maps : AllMaps) → KeepCompatibilityRules maps → length maps.compatibilities ≤ 150
-rules_limit_compatibilities maps rules =
-    let among = distinct_among (map (λ g. g.character) maps.compatibilities) (all_named maps) rules.one_mapping
-    (λ q e. behind_named (named maps.canonical) (flat_map (λ g. g.character ∷ g.mapping.items) maps.compatibilities) q (keys_named (λ g. g.character) (λ g. g.mapping.items) maps.compatibilities q e)) in
-    omega (arith, among, rules.few, length-map maps.compatibilities (λ g. g.character))

@@ -1,8 +1,7 @@
 -- Tables that are packed are built of the maps.
-use Rattle.std.proofs.Common.{◌≡◌, ℕ, ◌≤◌, ◌%◌, ◌^◌, ◌++◌, List, [], length, map, Option, sym, ap, subst, ◌∙◌, arith}
-use Rattle.std.proofs.lemmas.List.{length-append, length-map}
+use Rattle.std.proofs.Common.{◌≡◌, ℕ, ◌<◌, ◌≤◌, ◌%◌, ◌^◌, ⊎_elim, Bool, true, false, cond, List, [], Option, sym, ap, subst, ◌∙◌, arith}
 use Rattle.std.specs.Char.{IsScalar}
-use Rattle.std.specs.Option.{unwrap_or}
+use Rattle.std.specs.Option.{unwrap_or, IsSomeAnd}
 use Rattle.icu_codepointtrie.specs.BuiltTries.{IsTrieOf}
 use Rattle.icu_codepointtrie.specs.CodePointMaps.{CodePointMap, mapped}
 use Rattle.icu_codepointtrie.specs.Places.{TrieTables, value_at}
@@ -11,47 +10,49 @@ use Rattle.icu_normalizer_core.specs.declared.canonical.builder.GivenMapping.{Gi
 use Rattle.icu_normalizer_core.specs.declared.canonical.tables.CanonicalTables.{CanonicalTables}
 use Rattle.icu_normalizer_core.specs.declared.canonical.tables.CanonicalFault.{CanonicalFault}
 use Rattle.icu_normalizer_core.specs.declared.canonical.tables.CanonicalFault.TheVariants.{BadValue, BadList, Loop, BuiltIn, BadPair}
-use Rattle.icu_normalizer_core.specs.BuiltMaps.{AreBuiltOf, AreStepsOf, ArePairsOf, IsWordTrieOf}
+use Rattle.icu_normalizer_core.specs.BuiltIn.{is_syllable}
+use Rattle.icu_normalizer_core.specs.BuiltMaps.{AreBuiltOf, AreStepsOf, ArePairsOf, HasPlainWords, IsWordTrieOf}
 use Rattle.icu_normalizer_core.specs.CanonicalFaults.{IsAccepted, IsFirstFault}
 use Rattle.icu_normalizer_core.specs.CanonicalLists.{CanonicalLists}
 use Rattle.icu_normalizer_core.specs.CanonicalMeaning.{lists_of}
 use Rattle.icu_normalizer_core.specs.CanonicalWords.{plain_word}
-use Rattle.icu_normalizer_core.specs.CharacterWords.{class_with, IsWordOf, HasWords, AreStarters, built_in_named}
+use Rattle.icu_normalizer_core.specs.CharacterWords.{class_with, IsWordOf, HasNamed, HasRightWords, HasWords, AreStarters, unnamed_word}
 use Rattle.icu_normalizer_core.specs.CanonicalMaps.{CanonicalMaps, KeepRules}
 use Rattle.icu_normalizer_core.proofs.builder.AcceptedMappingLemmas.{built_accepted}
 use Rattle.icu_normalizer_core.proofs.builder.CoveredLemmas.{covered}
 use Rattle.icu_normalizer_core.proofs.ScalarLemmas.{scalar_below}
 
--- the characters with a word that may differ from what stands without one
-abbrev pub all_named : List GivenClass → List GivenMapping → List ℕ
-all_named classes mappings = (built_in_named ++ map (λ g. g.character) classes) ++ map (λ g. g.character) mappings
-
-pub named_length : (classes : List GivenClass) (mappings : List GivenMapping) → length classes ≤ 150 → length mappings ≤ 150 → length (all_named classes mappings) ≤ 317
-named_length classes mappings h1 h2 =
-    omega (
-      arith,
-      length-append (built_in_named ++ map (λ g. g.character) classes) (map (λ g. g.character) mappings),
-      length-append built_in_named (map (λ g. g.character) classes),
-      length-map classes (λ g. g.character),
-      length-map mappings (λ g. g.character),
-    )
-
 pub scalar_bound : (c : ℕ) → IsScalar c → c ≤ 0x10_FFFF
 scalar_bound c h = let below = scalar_below c h in omega (arith, below)
 
 -- the trie reads the words
-pub word_read : (classes : List GivenClass) (mappings : List GivenMapping) (steps scalars24 : List ℕ) (words : CodePointMap ℕ) (trie : TrieTables ℕ)
-    → HasWords classes steps scalars24 (all_named classes mappings) words → AreStepsOf mappings steps → IsTrieOf words trie → IsWordTrieOf classes steps scalars24 trie
-word_read classes mappings steps scalars24 words trie has of is = record {
+pub word_read : (classes : List GivenClass) (mappings : List GivenMapping) (steps scalars24 list : List ℕ) (words : CodePointMap ℕ) (trie : TrieTables ℕ)
+    → HasWords classes steps scalars24 list words → HasNamed classes mappings list → AreStepsOf mappings steps → IsTrieOf words trie → IsWordTrieOf classes steps scalars24 trie
+word_read classes mappings steps scalars24 list words trie has named of is = record {
   cells = λ c h. is.cells c;
   words = λ c h.
       let bound = scalar_bound c h in
-      let w = covered classes mappings steps scalars24 words has of.listed c bound in
+      let w = covered classes mappings steps scalars24 list words has named of.listed c bound in
       let small : mapped words c % 2 ^ 30 ≡ mapped words c = let f = w.fits in omega arith in
       let same : plain_word (unwrap_or (value_at trie c) 0) ≡ mapped words c =
       ap (λ (o : Option ℕ). plain_word (unwrap_or o 0)) (is.within c bound) ∙ small in
       subst (λ (n : ℕ). IsWordOf (class_with classes c) steps scalars24 c n) (sym same) w;
 }
+
+-- no word has one of the two uppermost bits
+unnamed_small : (c : ℕ) → unnamed_word c < 2 ^ 30
+unnamed_small c = by (is_syllable c)
+  where
+    by : (b : Bool) → cond b 1 0 < 2 ^ 30
+    by true = omega arith
+    by false = omega arith
+
+pub plain_read : (IsRight : ℕ → ℕ → Type 0) (list : List ℕ) (words : CodePointMap ℕ) (trie : TrieTables ℕ) → ((c word : ℕ) → IsRight c word → word < 2 ^ 30)
+    → HasRightWords IsRight list words → IsTrieOf words trie → HasPlainWords trie
+plain_read IsRight list words trie fits has is c bound =
+    let small : mapped words c < 2 ^ 30 =
+    ⊎_elim (λ right. fits c (mapped words c) right) (λ first. subst (λ (w : ℕ). w < 2 ^ 30) (sym first) (unnamed_small c)) (has.others c bound) in
+    subst (λ (o : Option ℕ). IsSomeAnd o (λ word. word < 2 ^ 30)) (sym (is.within c bound)) small
 
 pub put_together : (classes : List GivenClass) (mappings : List GivenMapping) (tables : CanonicalTables)
     → tables.scalars16 ≡ [] → AreStepsOf mappings tables.steps → AreStarters classes tables.steps → ArePairsOf mappings tables.pairs

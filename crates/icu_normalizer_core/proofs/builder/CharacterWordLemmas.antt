@@ -254,17 +254,6 @@ unlisted_step steps c none free = step_in_free steps c free ∙ listed_none step
 
 -- ---- Classes
 
-pub class_small : (classes : List GivenClass) → All (λ g. g.class < 255) classes → (c : ℕ) → class_with classes c < 255
-class_small classes all c = by (built_in_class c) refl
-  where
-    given : (o : Option GivenClass) → find (λ g. g.character == c) classes ≡ o → elim o [ Some g ↦ g.class | None ↦ 0 ] < 255
-    given (Some g) e = found_all (λ g. g.class < 255) (λ g. g.character == c) classes g all e
-    given None e = omega arith
-
-    by : (o : Option ℕ) → built_in_class c ≡ o → unwrap_or o (given_class classes c) < 255
-    by (Some k) e = small_class c k e
-    by None e = given (find (λ g. g.character == c) classes) refl
-
 pub not_singled : (c : ℕ) (b : Bool) → b ≡ is_some (singled_out c) → b ≡ false → singled_out c ≡ None
 not_singled c b is off = by (singled_out c) (sym is ∙ off)
   where

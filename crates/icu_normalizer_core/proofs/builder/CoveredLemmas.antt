@@ -10,7 +10,7 @@ use Rattle.icu_normalizer_core.specs.declared.canonical.builder.GivenMapping.{Gi
 use Rattle.icu_normalizer_core.specs.BuiltIn.{built_in_step, built_in_class, singled_out, is_syllable}
 use Rattle.icu_normalizer_core.specs.CanonicalLists.{listed_step}
 use Rattle.icu_normalizer_core.specs.CanonicalMaps.{given_class, given_step, mapping_given}
-use Rattle.icu_normalizer_core.specs.CharacterWords.{class_with, IsWordOf, HasWords, built_in_named, unnamed_word}
+use Rattle.icu_normalizer_core.specs.CharacterWords.{class_with, IsWordOf, HasNamed, HasWords, built_in_named, unnamed_word}
 use Rattle.icu_normalizer_core.specs.Settled.{IsAmong}
 use Rattle.icu_normalizer_core.proofs.TableMeanings.{step_in_free}
 use Rattle.icu_normalizer_core.proofs.builder.CharacterWordLemmas.{syllable_word, zero_word}
@@ -102,15 +102,15 @@ unnamed_right classes mappings steps s24 c listed none =
     (cases_Bool (is_syllable c))
 
 -- each character has its word, where those that are named have theirs
-pub covered : (classes : List GivenClass) (mappings : List GivenMapping) (steps s24 : List ℕ) (words : CodePointMap ℕ)
-    → HasWords classes steps s24 ((built_in_named ++ map (λ g. g.character) classes) ++ map (λ g. g.character) mappings) words
+pub covered : (classes : List GivenClass) (mappings : List GivenMapping) (steps s24 list : List ℕ) (words : CodePointMap ℕ)
+    → HasWords classes steps s24 list words → HasNamed classes mappings list
     → ((c : ℕ) → listed_step steps c ≡ cond (is_some (built_in_step c)) [] (given_step mappings c))
     → (c : ℕ) → c ≤ 0x10_FFFF → IsWordOf (class_with classes c) steps s24 c (mapped words c)
-covered classes mappings steps s24 words has listed c h =
+covered classes mappings steps s24 list words has named listed c h =
     ⊎_elim
     (λ right. right)
     (λ first. ⊎_elim
-    (λ yes. has.among c h yes)
+    (λ yes. has.among c h (named c yes))
     (λ no. subst (λ (w : ℕ). IsWordOf (class_with classes c) steps s24 c w) (sym first) (unnamed_right classes mappings steps s24 c listed no))
     (among_or_not ((built_in_named ++ map (λ g. g.character) classes) ++ map (λ g. g.character) mappings) c))
     (has.others c h)

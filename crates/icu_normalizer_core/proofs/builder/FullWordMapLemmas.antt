@@ -13,20 +13,21 @@ use Rattle.icu_normalizer_core.specs.CompatibilityMeaning.{nfkd_lists}
 use Rattle.icu_normalizer_core.specs.declared.canonical.builder.mappings.Mappings.{Mappings}
 use Rattle.icu_normalizer_core.specs.declared.canonical.check.left.Left.{Left}
 use Rattle.icu_normalizer_core.specs.BuiltIn.{is_syllable}
+use Rattle.icu_normalizer_core.specs.BuiltMaps.{HasPlainWords}
 use Rattle.icu_normalizer_core.specs.CanonicalMeaning.{meaning}
 use Rattle.icu_normalizer_core.specs.CharacterWords.{AreUnnamed}
 use Rattle.icu_normalizer_core.specs.Settled.{left_items}
 use Rattle.icu_normalizer_core.specs.SettledMappings.{AreFullWords, AreMappingStarts, AreOthersUnnamed, AreRightSoFar, HasBadLeft, HasOpen, IsAllSettled, IsFullWord, IsSound, KeepsFullWord, StartsLeft, steps_in}
 use Rattle.icu_normalizer_core.proofs.DecomposedLemmas.{left_one}
 use Rattle.icu_normalizer_core.proofs.SettledLemmas.{cut_long}
-use Rattle.icu_normalizer_core.proofs.builder.BuiltTableLemmas.{scalar_bound}
+use Rattle.icu_normalizer_core.proofs.builder.BuiltTableLemmas.{plain_read, scalar_bound}
 use Rattle.icu_normalizer_core.proofs.builder.CoveredLemmas.{among_or_not}
 use Rattle.icu_normalizer_core.proofs.builder.MappingReadLemmas.{open_endless}
 use Rattle.icu_normalizer_core.proofs.builder.WordMapLemmas.{words_along, words_more, words_none}
 
 module _ (step : ℕ → List ℕ) (class : ℕ → ℕ) where
   abbrev IsRight : List ℕ → ℕ → ℕ → Type 0
-  IsRight scalars24 c word = IsScalar c → KeepsFullWord step (class c) scalars24 c word
+  IsRight scalars24 c word = (word < 2 ^ 30) × (IsScalar c → KeepsFullWord step (class c) scalars24 c word)
 
   pub right_first : (scalars24 : List ℕ) (words : CodePointMap ℕ) → AreUnnamed words → scalars24 ≡ [] → AreRightSoFar step class scalars24 [] words 0
   right_first scalars24 words is none = record { right = words_none (IsRight scalars24) words is; size = omega (arith, ap length none) }
@@ -37,13 +38,16 @@ module _ (step : ℕ → List ℕ) (class : ℕ → ℕ) where
       → AreRightSoFar step class new24 (done ++ c ∷ []) new (places + 1)
   right_more old24 new24 done old new places c word before s grown says syllable written blocks =
       let kept = words_along (IsRight old24) (IsRight new24) done old
-      (λ x w right scalar more.
-      subst (λ (t : List ℕ). IsFullWord step (class x) t x w)
-      (sym (append_assoc old24 grown.0 more) ∙ ap (λ (t : List ℕ). t ++ more) (sym grown.1))
-      (right scalar (grown.0 ++ more)))
+      (λ x w right. (
+        right.0,
+        λ scalar more.
+            subst (λ (t : List ℕ). IsFullWord step (class x) t x w)
+            (sym (append_assoc old24 grown.0 more) ∙ ap (λ (t : List ℕ). t ++ more) (sym grown.1))
+            (right.1 scalar (grown.0 ++ more)),
+      ))
       before.right in
       record {
-        right = words_more (IsRight new24) done old new c word kept (scalar_bound c s) written blocks (λ _. says) syllable;
+        right = words_more (IsRight new24) done old new c word kept (scalar_bound c s) written blocks ((says []).fits, λ _. says) syllable;
         size = omega (arith, before.size, ap length grown.1, length-append old24 grown.0, grown.2);
       }
 
@@ -68,7 +72,7 @@ table_words step class scalars24 named words places tables has others is none sa
   each = λ c s.
       let bound = scalar_bound c s in
       let kept : IsRight step class scalars24 c (mapped words c) → IsFullWord step (class c) scalars24 c (mapped words c) =
-      λ right. subst (λ (t : List ℕ). IsFullWord step (class c) t c (mapped words c)) (append-nil scalars24) (right s []) in
+      λ right. subst (λ (t : List ℕ). IsFullWord step (class c) t c (mapped words c)) (append-nil scalars24) (right.1 s []) in
       let word : IsFullWord step (class c) scalars24 c (mapped words c) =
       ⊎_elim
       (λ yes. kept (has.right.among c bound yes))
@@ -78,3 +82,9 @@ table_words step class scalars24 named words places tables has others is none sa
       let read : plain_word (unwrap_or (value_at tables.trie c) 0) ≡ mapped words c = ap (λ (o : Option ℕ). plain_word (unwrap_or o 0)) (is.within c bound) ∙ small in
       subst (λ (n : ℕ). IsFullWord step (class c) tables.scalars24 c n) (sym read) (subst (λ (t : List ℕ). IsFullWord step (class c) t c (mapped words c)) (sym same) word);
 }
+
+-- no word of them has one of the two uppermost bits
+pub table_plain : (step : ℕ → List ℕ) (class : ℕ → ℕ) (scalars24 named : List ℕ) (words : CodePointMap ℕ) (places : ℕ) (tables : NfkdTables)
+    → AreRightSoFar step class scalars24 named words places → IsTrieOf words tables.trie → HasPlainWords tables.trie
+table_plain step class scalars24 named words places tables has is =
+    plain_read (IsRight step class scalars24) named words tables.trie (λ c word right. right.0) has.right is

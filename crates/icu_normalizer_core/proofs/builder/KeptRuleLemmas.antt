@@ -1,22 +1,35 @@
 -- What the builder refuses breaks the rules.
-use Rattle.std.proofs.Common.{◌≡◌, ℕ, ◌+◌, ◌*◌, ◌/◌, ◌<◌, ⊎_elim, cond, List, [], ◌∷◌, length, Option, refl, sym, ap, ◌∙◌, arith}
+use Rattle.std.proofs.Common.{◌≡◌, ℕ, ◌+◌, ◌*◌, ◌/◌, ◌<◌, ⊎_elim, cond, List, [], ◌∷◌, length, Option, Some, None, refl, sym, ap, ◌∙◌, arith}
 use Rattle.std.specs.Char.{IsScalar}
 use Rattle.std.specs.List.{All}
-use Rattle.std.specs.Option.{is_some}
-use Rattle.icu_normalizer_core.specs.BuiltIn.{built_in_step}
+use Rattle.std.specs.Option.{is_some, unwrap_or}
+use Rattle.std.proofs.lemmas.List.Elements.{All-cons, All-nil}
+use Rattle.icu_normalizer_core.specs.declared.canonical.builder.GivenClass.{GivenClass}
+use Rattle.icu_normalizer_core.specs.BuiltIn.{built_in_class, built_in_step}
 use Rattle.icu_normalizer_core.specs.CanonicalLists.{AreTriples, listed_step, step_in}
-use Rattle.icu_normalizer_core.specs.CanonicalMaps.{CanonicalMaps, KeepRules, IsMapped, step_of, given_step}
-use Rattle.icu_normalizer_core.specs.CharacterWords.{AreStarters, HasBadEnd}
+use Rattle.icu_normalizer_core.specs.CanonicalMaps.{CanonicalMaps, KeepRules, IsMapped, first_class, given_class, step_of, given_step}
+use Rattle.icu_normalizer_core.specs.CharacterWords.{AreStarters, HasBadEnd, class_with}
 use Rattle.icu_normalizer_core.specs.Settled.{key_at}
 use Rattle.icu_normalizer_core.proofs.BuiltInFacts.{small_class}
 use Rattle.icu_normalizer_core.proofs.TripleLemmas.{listed_of}
 use Rattle.icu_normalizer_core.proofs.builder.BuiltMapLemmas.{leaves_along, steps_same}
 use Rattle.icu_normalizer_core.proofs.builder.MapNumberLemmas.{mapping_some, keys_free}
 
--- classes that are given are below 255
-pub kept_classes : (maps : CanonicalMaps) → KeepRules maps → All (λ g. g.class < 255) maps.classes
-kept_classes maps rules k d h =
-    ⊎_elim (λ within. let top = within.1 in omega arith) (λ fixed. small_class _ _ fixed) (rules.classes k d h)
+-- classes are below 255
+pub kept_class : (maps : CanonicalMaps) → KeepRules maps → (c : ℕ) → class_with maps.classes c < 255
+kept_class maps rules c = by (built_in_class c) refl
+  where
+    given : (o : Option GivenClass) → first_class maps.classes c ≡ o → elim o [ Some g ↦ g.class | None ↦ 0 ] < 255
+    given (Some g) e = ⊎_elim (λ within. let top = within.1 in omega arith) (λ fixed. small_class c g.class fixed) (rules.classes c g e)
+    given None e = omega arith
+
+    by : (o : Option ℕ) → built_in_class c ≡ o → unwrap_or o (given_class maps.classes c) < 255
+    by (Some k) e = small_class c k e
+    by None e = given (first_class maps.classes c) refl
+
+pub kept_classes : (maps : CanonicalMaps) → KeepRules maps → (list : List ℕ) → All (λ c. class_with maps.classes c < 255) list
+kept_classes maps rules [] = All-nil (λ c. class_with maps.classes c < 255)
+kept_classes maps rules (c ∷ cs) = All-cons (λ d. class_with maps.classes d < 255) c cs (kept_class maps rules c) (kept_classes maps rules cs)
 
 module _ (maps : CanonicalMaps) (steps : List ℕ) (t : AreTriples steps)
     (listed : (c : ℕ) → listed_step steps c ≡ cond (is_some (built_in_step c)) [] (given_step maps.mappings c)) (rules : KeepRules maps) where

@@ -97,14 +97,6 @@ all_mapping_numbers (g ∷ gs) all =
     one true = All-nil IsMappingNumber
     one false = All-cons IsMappingNumber (mapping_number g) [] (is_mapping_number g (All-head IsOfScalars g gs all)) (All-nil IsMappingNumber)
 
-pub numbers_few : (ms : List GivenMapping) → length (flat_map mapping_numbers ms) ≤ length ms
-numbers_few [] = omega arith
-numbers_few (g ∷ gs) = let h = numbers_few gs in at_most_one (is_some (built_in_step g.character)) h
-  where
-    at_most_one : (f : Bool) → length (flat_map mapping_numbers gs) ≤ length gs → length (cond f [] (mapping_number g ∷ []) ++ flat_map mapping_numbers gs) ≤ suc (length gs)
-    at_most_one true h = omega arith
-    at_most_one false h = omega arith
-
 -- ---- The first number of a key, behind the numbers of one mapping
 
 front_one : (divisor key n : ℕ) (f : Bool) (rest : List ℕ)

@@ -26,7 +26,6 @@ use Rattle.icu_normalizer_core.specs.SettledMappings.{AreOnStarters, AreOthersUn
 use Rattle.icu_normalizer_core.proofs.BuiltInFacts.{built_in_cases, high_scalar, syllable_left}
 use Rattle.icu_normalizer_core.proofs.LeftLemmas.{left_alone}
 use Rattle.icu_normalizer_core.proofs.TableMeanings.{zero_form}
-use Rattle.icu_normalizer_core.proofs.builder.AcceptedMapsLimitLemmas.{rules_limit_classes, rules_limit_compatibilities, rules_limit_mappings}
 use Rattle.icu_normalizer_core.proofs.builder.AllStepLemmas.{all_second, cases_step, given_is, step_given}
 use Rattle.icu_normalizer_core.proofs.builder.CharacterWordLemmas.{class_zero, full_of_one, full_zero, syllable_word}
 use Rattle.icu_normalizer_core.proofs.builder.CoveredLemmas.{no_class, not_behind, not_front, not_singled_out, unclassed, unmapped}
@@ -125,50 +124,10 @@ module _ (classes : List GivenClass) (mappings : List GivenMapping) (over : Mapp
   pub others_right : AreOthersUnnamed steps base.class (named_with classes mappings over.given.now)
   others_right s24 c s none = right c s none s24
 
--- ---- The characters that are named
-
-map_scalars : {X : Type 0} (f : X → ℕ) (xs : List X) → All (λ x. IsScalar (f x)) xs → All IsScalar (map f xs)
-map_scalars f [] all = All-nil IsScalar
-map_scalars f (x ∷ xs) all =
-    All-cons IsScalar (f x) (map f xs) (All-head (λ y. IsScalar (f y)) x xs all) (map_scalars f xs (All-tail (λ y. IsScalar (f y)) x xs all))
-
-low_all : (xs : List ℕ) → AllByRecursion (λ x. x < 0xd800) xs → All IsScalar xs
-low_all [] h = All-nil IsScalar
-low_all (x ∷ xs) h = All-cons IsScalar x xs (low_scalar x h.0) (low_all xs h.1)
-
-built_in_scalars : All IsScalar (0xff9e ∷ 0xff9f ∷ built_in_named)
-built_in_scalars =
-    All-cons IsScalar 0xff9e (0xff9f ∷ built_in_named) (high_scalar 0xff9e (omega arith) (omega arith))
-    (All-cons IsScalar 0xff9f built_in_named (high_scalar 0xff9f (omega arith) (omega arith)) (low_all built_in_named (omega arith, (omega arith, (omega arith, (omega arith, (omega arith, (omega arith, (omega arith, (omega arith, (omega arith, (omega arith, (omega arith, (omega arith, (omega arith, (omega arith, (omega arith, (omega arith, (omega arith, tt)))))))))))))))))))
-
-pub named_scalars : (classes : List GivenClass) (mappings : List GivenMapping) (given : List GivenCompatibility) → All (λ g. IsScalar g.character) classes
-    → All IsOfScalars mappings → All IsOfCharacters given → All IsScalar (named_with classes mappings given)
-named_scalars classes mappings given of_classes of_mappings of_given =
-    All-append IsScalar (((0xff9e ∷ 0xff9f ∷ built_in_named) ++ map (λ g. g.character) classes) ++ map (λ g. g.character) mappings) (map (λ g. g.character) given)
-    (All-append IsScalar ((0xff9e ∷ 0xff9f ∷ built_in_named) ++ map (λ g. g.character) classes) (map (λ g. g.character) mappings)
-    (All-append IsScalar (0xff9e ∷ 0xff9f ∷ built_in_named) (map (λ g. g.character) classes) built_in_scalars (map_scalars (λ g. g.character) classes of_classes))
-    (map_scalars (λ g. g.character) mappings (λ k d h. (of_mappings k d h).character)))
-    (map_scalars (λ g. g.character) given (λ k d h. (of_given k d h).character))
-
--- within the rules there are at most so many
-pub named_few : (maps : AllMaps) → KeepAllRules maps → length (named_with maps.canonical.classes maps.canonical.mappings maps.compatibilities) ≤ 469
-named_few maps rules =
-    let fixed : List ℕ = 0xff9e ∷ 0xff9f ∷ built_in_named in
-    let classes : List ℕ = map (λ g. g.character) maps.canonical.classes in
-    let mappings : List ℕ = map (λ g. g.character) maps.canonical.mappings in
-    let given : List ℕ = map (λ g. g.character) maps.compatibilities in
-    omega (
-      arith,
-      length-append ((fixed ++ classes) ++ mappings) given,
-      length-append (fixed ++ classes) mappings,
-      length-append fixed classes,
-      length-map maps.canonical.classes (λ g. g.character),
-      length-map maps.canonical.mappings (λ g. g.character),
-      length-map maps.compatibilities (λ g. g.character),
-      rules_limit_classes maps.canonical rules.0,
-      rules_limit_mappings maps.canonical rules.0,
-      rules_limit_compatibilities maps rules.1,
-    )
+-- and so outside a list that has these characters
+pub others_among : (step : ℕ → List ℕ) (class : ℕ → ℕ) (named list : List ℕ) → ((c : ℕ) → IsAmong named c → IsAmong list c) → AreOthersUnnamed step class named
+    → AreOthersUnnamed step class list
+others_among step class named list among others s24 c s none = others s24 c s (λ h. none (among c h))
 
 -- within the rules each mapping stands on a starter of the tables
 pub kept_on_starters : (maps : AllMaps) (canonical : Canonical) → AreMeaning maps.canonical canonical → All IsOfCharacters maps.compatibilities → KeepAllRules maps

@@ -1,13 +1,15 @@
 //! Canonical tables made of classes and mappings that are given one by one: what is given, and the parts of the tables.
 
-ghost use Rattle.std.specs.Prelude.{◌≡◌, ◌++◌, ◌∷◌, ◌&&◌, ◌⊎◌, ◌<◌, [], length, All, OnOk, OnErr, IfOk, IfErr};
+ghost use Rattle.std.specs.Prelude.{◌≡◌, ◌++◌, ◌∷◌, ◌&&◌, ◌⊎◌, ◌≤◌, [], nat_eq, All, OnOk, OnErr, IfOk, IfErr};
 ghost use Rattle.std.specs.Char.{IsScalar};
 ghost use Rattle.std.specs.Option.{is_some};
+ghost use Rattle.std.specs.Set.{distinct_count};
 ghost use Rattle.icu_normalizer_core.specs.declared.canonical.builder.CanonicalDataBuildError.TheVariants.{Rules, Memory};
+ghost use Rattle.icu_normalizer_core.specs.BuiltMaps.{AreStepsOf, HasPlainWords};
 ghost use Rattle.icu_normalizer_core.specs.CanonicalFaults.{IsAccepted};
-ghost use Rattle.icu_normalizer_core.specs.CanonicalMaps.{AreMeaning, KeepRules};
+ghost use Rattle.icu_normalizer_core.specs.CanonicalMaps.{AreMeaning, HaveOneMapping, KeepRules, named};
 ghost use Rattle.icu_normalizer_core.specs.CanonicalMeaning.{lists_of, meaning};
-ghost use Rattle.icu_normalizer_core.specs.CompatibilityMaps.{AllMaps, AreAcceptedOver, AreMeaningOf, IsGivenTo, KeepAllRules};
+ghost use Rattle.icu_normalizer_core.specs.CompatibilityMaps.{AllMaps, AreAcceptedOver, AreApart, AreMeaningOf, HaveOneCompatibility, IsGivenTo, KeepAllRules, all_named};
 ghost use Rattle.icu_normalizer_core.specs.CompatibilityMeaning.{nfkd_lists};
 ghost use Rattle.icu_normalizer_core.specs.Plain.{Tells};
 
@@ -18,7 +20,9 @@ mod in_order;
 mod list_words;
 mod lists;
 mod mappings;
+mod names;
 mod numbers;
+mod one_mapping;
 mod pairs;
 mod settle;
 mod steps;
@@ -40,8 +44,8 @@ use thiserror::Error;
 /// Why no canonical tables are built.
 #[derive(Clone, Copy, Debug, PartialEq, Eq, Error)]
 pub enum CanonicalDataBuildError {
-    /// The maps break a rule of canonical data (docs/RECORDS.md, C1 to C9), say two things of one character, or name
-    /// more than 150 characters.
+    /// The maps break a rule of canonical data (docs/RECORDS.md, C1 to C9), of which C1 asks that no character has two
+    /// mappings that differ, or name more than 150 different characters.
     #[error("a rule of canonical data is broken")]
     Rules,
     /// Memory was refused.
@@ -68,7 +72,7 @@ pub struct GivenClass {
 }
 
 /// A mapping that is given for a character, and whether the character is composed of the two.
-#[derive(Clone, Copy, Debug)]
+#[derive(Clone, Copy, Debug, PartialEq, Eq)]
 pub struct GivenMapping {
     character: char,
     first: char,
@@ -83,9 +87,10 @@ pub struct GivenCompatibility {
     mapping: Vec<char>,
 }
 
-/// Tables in the making, seen as the classes and mappings that were given.
+/// Tables in the making, seen as the classes and mappings that were given. The builder keeps its allocator.
 #[derive(Debug)]
 pub struct CanonicalDataBuilder {
+    alloc: Global,
     classes: Vec<GivenClass>,
     mappings: Vec<GivenMapping>,
     compatibilities: Vec<GivenCompatibility>,
@@ -95,6 +100,7 @@ pub struct CanonicalDataBuilder {
 impl Drop for CanonicalDataBuilder {
     fn drop(self) {
         let CanonicalDataBuilder {
+            alloc: _,
             classes: _,
             mappings: _,
             compatibilities: _,
@@ -123,14 +129,15 @@ impl CanonicalDataBuilder {
         ensures compatibilities { result.compatibilities ≡ [] }
     {
         CanonicalDataBuilder {
+            alloc,
             classes: Vec::new(alloc),
             mappings: Vec::new(alloc),
             compatibilities: Vec::new(alloc),
         }
     }
 
-    /// Gives a character its canonical combining class. Nothing is refused here but for want of memory, where
-    /// nothing changes.
+    /// Gives a character its canonical combining class. Of the classes that are given for a character the first counts,
+    /// and the others say nothing. Nothing is refused here but for want of memory, where nothing changes.
     pub fn class(&mut self, c: char, class: u8) -> Result<(), AllocError>
         ensures classes { OnOk result (self.new.canonical.classes ≡ self.old.canonical.classes ++ record { character = c; class = class } ∷ []) }
         ensures mappings { self.new.canonical.mappings ≡ self.old.canonical.mappings }
@@ -145,7 +152,8 @@ impl CanonicalDataBuilder {
     }
 
     /// Gives a character its canonical mapping, to one character or to two, and whether the two compose to it; one
-    /// alone never does. Nothing is refused here but for want of memory, where nothing changes.
+    /// alone never does. The same mapping again says nothing new; another one breaks C1, and then nothing is built.
+    /// Nothing is refused here but for want of memory, where nothing changes.
     pub fn map(
         &mut self,
         c: char,
@@ -167,20 +175,15 @@ impl CanonicalDataBuilder {
         Ok(())
     }
 
-    /// Gives a character its compatibility mapping, to `first` and the others behind it (docs/RECORDS.md, `kmap`).
-    /// Nothing is refused here but for want of memory, where nothing changes.
-    pub fn kmap(
-        &mut self,
-        alloc: Global,
-        c: char,
-        first: char,
-        others: &[char],
-    ) -> Result<(), AllocError>
+    /// Gives a character its compatibility mapping, to `first` and the others behind it (docs/RECORDS.md, `kmap`). The
+    /// same mapping again says nothing new; another one breaks C1, and then no compatibility tables are built. Nothing is
+    /// refused here but for want of memory, where nothing changes.
+    pub fn kmap(&mut self, c: char, first: char, others: &[char]) -> Result<(), AllocError>
         ensures compatibilities { OnOk result (IsGivenTo self.old.compatibilities c (first ∷ others.now) self.new.compatibilities) }
         ensures canonical { self.new.canonical ≡ self.old.canonical }
         ensures refused { OnErr result (self.new ≡ self.old) }
     {
-        let mapping = listed(alloc, first, others)?;
+        let mapping = listed(self.alloc, first, others)?;
         self.compatibilities.push(GivenCompatibility {
             character: c,
             mapping,
@@ -188,15 +191,21 @@ impl CanonicalDataBuilder {
         Ok(())
     }
 
-    /// The tables of what was given, with what is built in; the builder stays as it is. `Rules` comes only where
-    /// what was given breaks a rule (docs/RECORDS.md, C1 to C9), says two things of one character, or names more
-    /// than 150 characters. Want of memory can come with anything that was given.
-    pub fn build(&self, alloc: Global) -> Result<CanonicalTables<'static>, CanonicalDataBuildError>
+    /// The tables of what was given, with what is built in; the builder stays as it is. The two uppermost bits of each
+    /// word are 0, and the mappings of the tables are those that were given but the built-in ones. `Rules` comes only
+    /// where what was given breaks a rule (docs/RECORDS.md, C1 to C9) or names more than 150 different characters; what is
+    /// given again as it was counts once, and of several classes of a character the first is asked alone. Want of memory
+    /// can come with anything that was given.
+    pub fn build(&self) -> Result<CanonicalTables<'static>, CanonicalDataBuildError>
         ensures means { IfOk result (λ tables. AreMeaning self.now.canonical (meaning tables)) }
         ensures accepted { IfOk result (λ tables. IsAccepted (lists_of tables)) }
+        ensures plain { IfOk result (λ tables. HasPlainWords tables.trie) }
+        ensures steps { IfOk result (λ tables. AreStepsOf self.now.canonical.mappings tables.steps) }
+        ensures few { OnOk result (distinct_count nat_eq (named self.now.canonical) ≤ 150) }
+        ensures one_mapping { OnOk result (HaveOneMapping self.now.canonical.mappings) }
         ensures refused { IfErr result (λ e. (e ≡ Memory) ⊎ ((e ≡ Rules) × (KeepRules self.now.canonical → ⊥))) }
     {
-        match self.build_told(alloc) {
+        match self.build_told() {
             Ok((tables, _)) => Ok(tables),
             Err(error) => Err(error),
         }
@@ -204,56 +213,67 @@ impl CanonicalDataBuilder {
 
     /// These tables, and a list of the code points of which they say something.
     #[tactic(auto, using(crate::proofs::builder::BuiltMapLemmas::built_meaning, crate::proofs::builder::BuiltTableLemmas::fault_breaks))]
-    fn build_told(
-        &self,
-        alloc: Global,
-    ) -> Result<(CanonicalTables<'static>, Vec<u32>), CanonicalDataBuildError>
+    fn build_told(&self) -> Result<(CanonicalTables<'static>, Vec<u32>), CanonicalDataBuildError>
         ensures means { IfOk result (λ made. AreMeaning self.now.canonical (meaning made.0)) }
         ensures accepted { IfOk result (λ made. IsAccepted (lists_of made.0)) }
         ensures tells { IfOk result (λ made. Tells (lists_of made.0) made.1.items) }
+        ensures plain { IfOk result (λ made. HasPlainWords made.0.trie) }
+        ensures steps { IfOk result (λ made. AreStepsOf self.now.canonical.mappings made.0.steps) }
+        ensures few { OnOk result (distinct_count nat_eq (named self.now.canonical) ≤ 150) }
+        ensures one_mapping { OnOk result (HaveOneMapping self.now.canonical.mappings) }
         ensures refused { IfErr result (λ e. (e ≡ Memory) ⊎ ((e ≡ Rules) × (KeepRules self.now.canonical → ⊥))) }
     {
-        let tables = match tables(alloc, self.classes.as_slice(), self.mappings.as_slice()) {
+        let tables = match tables(
+            self.alloc,
+            self.classes.as_slice(),
+            self.mappings.as_slice(),
+        ) {
             Ok(tables) => tables,
             Err(error) => return Err(error),
         };
-        let told = told(alloc, &tables)?;
-        match first_fault(alloc, &tables, &told)? {
+        let told = told(self.alloc, &tables)?;
+        match first_fault(self.alloc, &tables, &told)? {
             None => Ok((tables, told)),
             Some(_) => Err(CanonicalDataBuildError::Rules),
         }
     }
 
     /// Canonical data of the tables that `build` gives, which it has checked. The errors are those of `build`.
-    pub fn build_data(
-        &self,
-        alloc: Global,
-    ) -> Result<CanonicalData<'static>, CanonicalDataBuildError>
+    pub fn build_data(&self) -> Result<CanonicalData<'static>, CanonicalDataBuildError>
         ensures means { IfOk result (λ made. AreMeaning self.now.canonical (meaning made)) }
         ensures accepted { IfOk result (λ made. IsAccepted (lists_of made)) }
+        ensures plain { IfOk result (λ made. HasPlainWords made.trie) }
+        ensures steps { IfOk result (λ made. AreStepsOf self.now.canonical.mappings made.steps) }
+        ensures few { OnOk result (distinct_count nat_eq (named self.now.canonical) ≤ 150) }
+        ensures one_mapping { OnOk result (HaveOneMapping self.now.canonical.mappings) }
         ensures refused { IfErr result (λ e. (e ≡ Memory) ⊎ ((e ≡ Rules) × (KeepRules self.now.canonical → ⊥))) }
     {
-        match self.build_told(alloc) {
-            Ok((tables, told)) => Ok(CanonicalData::of_accepted(alloc, tables, &told)?),
+        match self.build_told() {
+            Ok((tables, told)) => Ok(CanonicalData::of_accepted(self.alloc, tables, &told)?),
             Err(error) => Err(error),
         }
     }
 
     /// The compatibility tables of what was given, with what is built in; the builder stays as it is. Over canonical
-    /// tables that mean what was given they pass every check (`CompatibilityData::try_new`). `Rules` comes only where
-    /// what was given breaks a rule (docs/RECORDS.md, C1 to C9), says two things of one character, or names more than
-    /// 150 characters. Want of memory can come with anything that was given.
-    pub fn build_nfkd(&self, alloc: Global) -> Result<NfkdTables<'static>, CanonicalDataBuildError>
+    /// tables that mean what was given they pass every check (`CompatibilityData::try_new`). The two uppermost bits of
+    /// each word are 0. `Rules` comes only where what was given breaks a rule (docs/RECORDS.md, C1 to C9) or names more
+    /// than 150 different characters; what is given again as it was counts once. Want of memory can come with anything
+    /// that was given.
+    pub fn build_nfkd(&self) -> Result<NfkdTables<'static>, CanonicalDataBuildError>
         ensures means { IfOk result (λ made. AreMeaningOf self.now (nfkd_lists made)) }
         ensures accepted { IfOk result (λ made. AreAcceptedOver self.now.canonical (nfkd_lists made)) }
+        ensures plain { IfOk result (λ made. HasPlainWords made.trie) }
+        ensures few { OnOk result (distinct_count nat_eq (all_named self.now) ≤ 150) }
+        ensures one_mapping { OnOk result (HaveOneCompatibility self.now.compatibilities) }
+        ensures apart { OnOk result (AreApart self.now) }
         ensures refused { IfErr result (λ e. (e ≡ Memory) ⊎ ((e ≡ Rules) × (KeepAllRules self.now → ⊥))) }
     {
-        let tables = match self.build(alloc) {
+        let tables = match self.build() {
             Ok(tables) => tables,
             Err(error) => return Err(error),
         };
         compatibility_tables(
-            alloc,
+            self.alloc,
             self.classes.as_slice(),
             self.mappings.as_slice(),
             self.compatibilities.as_slice(),

@@ -1,6 +1,6 @@
 //! Decomposed characters on their way out, marks in their order.
 
-ghost use Rattle.std.specs.Prelude.{◌≡◌, ℕ, ◌+◌, ◌<◌, ◌≤◌, [], ◌∷◌, ◌++◌, true, take, drop, length, IfSome, IfNone, OnSome, OnOk, OnErr, IsTrue};
+ghost use Rattle.std.specs.Prelude.{◌≡◌, ℕ, ◌+◌, ◌<◌, ◌≤◌, ◌↔◌, [], ◌∷◌, ◌++◌, true, take, drop, length, IfSome, IfNone, OnSome, OnOk, OnErr, IsTrue};
 ghost use Rattle.std.specs.Char.{IsScalar};
 ghost use Rattle.std.specs.List.{list_all};
 ghost use Rattle.smallvec.specs.SmallVec.{small_vec_len};
@@ -53,7 +53,7 @@ impl<'d> Run<'d> {
     /// Whether it holds no character.
     #[inline]
     pub fn is_empty(&self) -> bool
-        ensures { IsTrue result → held self.now ≡ 0 }
+        ensures { IsTrue result ↔ (held self.now ≡ 0) }
     {
         self.next == self.chars.len()
     }
@@ -105,9 +105,24 @@ impl<'d> Run<'d> {
         self.chars.truncate(left);
     }
 
-    /// Adds the full list of `c`.
+    /// Adds the full list of `c`. Fails only when out of memory, and then it holds no character any more.
     #[inline]
     pub fn push_decomposed(&mut self, c: char) -> Result<(), AllocError>
+        ensures ok { OnOk result (KeepsOutput self.old ((data_of self.old).full c) [] self.new) }
+        ensures err { OnErr result (held self.new ≡ 0) }
+        ensures held { held self.new ≤ held self.old + 8 }
+        ensures same { data_of self.new ≡ data_of self.old }
+    {
+        if let Err(error) = self.push_read(c) {
+            self.clear();
+            return Err(error);
+        }
+        Ok(())
+    }
+
+    /// The same; a part of the full list may stay where memory lacks.
+    #[inline]
+    fn push_read(&mut self, c: char) -> Result<(), AllocError>
         ensures ok { OnOk result (KeepsOutput self.old ((data_of self.old).full c) [] self.new) }
         ensures held { held self.new ≤ held self.old + 8 }
         ensures same { data_of self.new ≡ data_of self.old }
@@ -170,11 +185,13 @@ impl<'d> Run<'d> {
         Ok(())
     }
 
-    /// Makes every character ready, as is right before a starter and at the end of the text.
+    /// Makes every character ready, as is right before a starter and at the end of the text. Fails only when out of
+    /// memory, and then nothing changed.
     #[inline]
     pub fn finish(&mut self) -> Result<(), AllocError>
         ensures output { OnOk result (reordered self.new [] ≡ reordered self.old []) }
         ensures ready { OnOk result (pending self.new ≡ 0) }
+        ensures err { OnErr result (KeepsOutput self.old [] [] self.new × (pending self.new ≡ pending self.old)) }
         ensures held { held self.new ≡ held self.old }
         ensures succeeds { held self.old ≡ 0 → OnErr result ⊥ }
         ensures same { data_of self.new ≡ data_of self.old }

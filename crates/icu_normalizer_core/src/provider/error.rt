@@ -78,8 +78,10 @@ impl fmt::Display for TableName {
 pub enum DataError {
     /// The provider doesn't have the table.
     Missing(TableName),
-    /// The provider has the table, but can't read it: its bytes end too early, say, or hold a value that is none of
-    /// its type. Only the provider says so.
+    /// The table is there, but no table of its kind. A provider says so of one that it can't read: its bytes end too
+    /// early, say, or hold a value that is none of its type. Of a table that was loaded it is said of the mapper's
+    /// alone, by `Uts46Mapper::try_new`: a character has no word there, a word of none of the forms, or one whose list
+    /// ends past the characters. Faults of canonical and compatibility tables are `Canonical`.
     Invalid(TableName),
     /// The tables were loaded, and `CanonicalData::try_new` or `CompatibilityData::try_new` refuses them for this
     /// fault.

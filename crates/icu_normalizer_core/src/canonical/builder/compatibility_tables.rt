@@ -1,21 +1,25 @@
 //! The compatibility tables of what is given, over canonical tables.
 
-ghost use Rattle.std.specs.Prelude.{◌≡◌, ◌≤◌, ◌⊎◌, ◌++◌, [], map, length, IfOk, IfErr, All};
+ghost use Rattle.std.specs.Prelude.{◌≡◌, ◌≤◌, ◌⊎◌, [], length, nat_eq, IfOk, IfErr, OnOk, All};
 ghost use Rattle.std.specs.Char.{IsScalar};
+ghost use Rattle.std.specs.Set.{distinct_count};
 ghost use Rattle.icu_codepointtrie.specs.Blocks.{different_blocks};
 ghost use Rattle.icu_codepointtrie.specs.BuiltTries.{IsTrieOf};
 ghost use Rattle.icu_normalizer_core.specs.declared.canonical.builder.CanonicalDataBuildError.TheVariants.{Rules, Memory};
+ghost use Rattle.icu_normalizer_core.specs.BuiltMaps.{HasPlainWords};
 ghost use Rattle.icu_normalizer_core.specs.CanonicalFaults.{IsAccepted};
 ghost use Rattle.icu_normalizer_core.specs.CanonicalMaps.{AreMeaning};
 ghost use Rattle.icu_normalizer_core.specs.CanonicalMeaning.{lists_of, meaning};
-ghost use Rattle.icu_normalizer_core.specs.CompatibilityMaps.{AreAcceptedOver, AreMeaningOf, KeepAllRules};
+ghost use Rattle.icu_normalizer_core.specs.CompatibilityMaps.{AreAcceptedOver, AreApart, AreMeaningOf, HaveOneCompatibility, KeepAllRules, all_named};
 ghost use Rattle.icu_normalizer_core.specs.CompatibilityMeaning.{nfkd_lists};
 ghost use Rattle.icu_normalizer_core.specs.GivenCompatibilities.{IsOfCharacters};
 ghost use Rattle.icu_normalizer_core.specs.GivenMaps.{IsOfScalars};
-ghost use Rattle.icu_normalizer_core.specs.SettledMappings.{AreFullWords, AreOthersUnnamed, HasBadLeft, IsSound, named_with, steps_in};
+ghost use Rattle.icu_normalizer_core.specs.SettledMappings.{AreFullWords, AreOthersUnnamed, HasBadLeft, IsSound, steps_in};
 
 use super::compatibility_words::CompatibilityWords;
 use super::mappings::{Mappings, are_on_starters};
+use super::names::all_characters_of;
+use super::one_mapping::{are_apart, have_one_compatibility};
 use super::trie::trie_of;
 use super::{CanonicalDataBuildError, GivenClass, GivenCompatibility, GivenMapping};
 use crate::canonical::tables::CanonicalTables;
@@ -23,59 +27,6 @@ use crate::compatibility::NfkdTables;
 use crate::compatibility::check::first_fault;
 use icu_packed_vector::PackedVec;
 use std::alloc::{AllocError, Global};
-
-/// The characters with a built-in mapping of either kind or a built-in class other than 0, but Hangul.
-const BUILT_IN_NAMED: [char; 19] = [
-    '\u{ff9e}', '\u{ff9f}', '\u{300}', '\u{301}', '\u{308}', '\u{313}', '\u{340}', '\u{341}',
-    '\u{343}', '\u{344}', '\u{f71}', '\u{f72}', '\u{f73}', '\u{f74}', '\u{f75}', '\u{f80}',
-    '\u{f81}', '\u{3099}', '\u{309a}',
-];
-
-/// Adds the characters that classes name. The only error is want of memory.
-fn add_classed(named: &mut Vec<char>, classes: &[GivenClass]) -> Result<(), AllocError>
-    ensures { IfOk result (λ _. named.new.items ≡ named.old.items ++ map (λ g. g.character) classes.now) }
-{
-    for given in classes {
-        named.push(given.character)?;
-    }
-    Ok(())
-}
-
-/// Adds the characters that canonical mappings name. The only error is want of memory.
-fn add_mapped(named: &mut Vec<char>, mappings: &[GivenMapping]) -> Result<(), AllocError>
-    ensures { IfOk result (λ _. named.new.items ≡ named.old.items ++ map (λ g. g.character) mappings.now) }
-{
-    for given in mappings {
-        named.push(given.character)?;
-    }
-    Ok(())
-}
-
-/// Adds the characters that compatibility mappings name. The only error is want of memory.
-fn add_compatible(named: &mut Vec<char>, given: &[GivenCompatibility]) -> Result<(), AllocError>
-    ensures { IfOk result (λ _. named.new.items ≡ named.old.items ++ map (λ g. g.character) given.now) }
-{
-    for one in given {
-        named.push(one.character)?;
-    }
-    Ok(())
-}
-
-/// The characters that are named by what is built in or given. The only error is want of memory.
-fn all_named(
-    alloc: Global,
-    classes: &[GivenClass],
-    mappings: &[GivenMapping],
-    given: &[GivenCompatibility],
-) -> Result<Vec<char>, AllocError>
-    ensures { IfOk result (λ named. named.items ≡ named_with classes.now mappings.now given.now) }
-{
-    let mut named = Vec::from_slice(alloc, &BUILT_IN_NAMED)?;
-    add_classed(&mut named, classes)?;
-    add_mapped(&mut named, mappings)?;
-    add_compatible(&mut named, given)?;
-    Ok(named)
-}
 
 /// Words as tables. The only error is want of memory.
 fn packed(alloc: Global, made: &CompatibilityWords) -> Result<NfkdTables<'static>, AllocError>
@@ -85,7 +36,7 @@ fn packed(alloc: Global, made: &CompatibilityWords) -> Result<NfkdTables<'static
     ensures scalars16 { IfOk result (λ tables. tables.scalars16 ≡ []) }
     ensures scalars24 { IfOk result (λ tables. tables.scalars24 ≡ made.now.scalars24.items) }
 {
-    let trie = trie_of(alloc, &made.words)?;
+    let trie = trie_of(&made.words)?;
     let scalars16 = PackedVec::from_slice(alloc, &[])?;
     let scalars24 = PackedVec::from_slice(alloc, made.scalars24.as_slice())?;
     Ok(NfkdTables {
@@ -103,9 +54,10 @@ fn word_tables(
 ) -> Result<NfkdTables<'static>, CanonicalDataBuildError>
     requires sound { IsSound over }
     requires scalars { All IsScalar named.now }
-    requires few { length named.now ≤ 469 }
+    requires few { length named.now ≤ 169 }
     requires others { AreOthersUnnamed (steps_in over) (meaning over.tables.now).class named.now }
     ensures built { IfOk result (λ made. AreFullWords (steps_in over.entry) (meaning over.entry.tables.now).class (nfkd_lists made)) }
+    ensures plain { IfOk result (λ made. HasPlainWords made.trie) }
     ensures refused { IfErr result (λ e. (e ≡ Memory) ⊎ ((e ≡ Rules) × HasBadLeft (steps_in over.entry))) }
 {
     let settled = over.settle(alloc)?;
@@ -133,16 +85,26 @@ pub(super) fn compatibility_tables(
     requires given { All IsOfCharacters given.now }
     ensures means { IfOk result (λ made. AreMeaningOf (record { canonical = record { classes = classes.now; mappings = mappings.now }; compatibilities = given.now }) (nfkd_lists made)) }
     ensures accepted { IfOk result (λ made. AreAcceptedOver (record { classes = classes.now; mappings = mappings.now }) (nfkd_lists made)) }
+    ensures plain { IfOk result (λ made. HasPlainWords made.trie) }
+    ensures few { OnOk result (distinct_count nat_eq (all_named (record { canonical = record { classes = classes.now; mappings = mappings.now }; compatibilities = given.now })) ≤ 150) }
+    ensures one_mapping { OnOk result (HaveOneCompatibility given.now) }
+    ensures apart { OnOk result (AreApart (record { canonical = record { classes = classes.now; mappings = mappings.now }; compatibilities = given.now })) }
     ensures refused { IfErr result (λ e. (e ≡ Memory) ⊎ ((e ≡ Rules) × (KeepAllRules (record { canonical = record { classes = classes.now; mappings = mappings.now }; compatibilities = given.now }) → ⊥))) }
 {
+    let characters = match all_characters_of(alloc, classes, mappings, given) {
+        Ok(characters) => characters,
+        Err(error) => return Err(error),
+    };
+    if !have_one_compatibility(given) {
+        return Err(CanonicalDataBuildError::Rules);
+    }
+    if !are_apart(mappings, given) {
+        return Err(CanonicalDataBuildError::Rules);
+    }
     if !are_on_starters(tables, given) {
         return Err(CanonicalDataBuildError::Rules);
     }
-    let named = all_named(alloc, classes, mappings, given)?;
-    if named.len() > 469 {
-        return Err(CanonicalDataBuildError::Rules);
-    }
-    let made = match word_tables(alloc, Mappings { tables, given }, named.as_slice()) {
+    let made = match word_tables(alloc, Mappings { tables, given }, characters.as_slice()) {
         Ok(made) => made,
         Err(error) => return Err(error),
     };

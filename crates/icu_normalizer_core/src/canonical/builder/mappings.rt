@@ -18,7 +18,7 @@ pub(super) struct Mappings<'t> {
 }
 
 /// Whether it is built in that the character is mapped, of either kind, or unmapped.
-fn is_built_in(c: char) -> bool
+pub(super) fn is_built_in(c: char) -> bool
     ensures { result ≡ is_built_in c }
 {
     built_in_step(c as u32).is_some() || built_in_compatibility_step(c as u32).is_some()

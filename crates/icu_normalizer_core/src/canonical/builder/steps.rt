@@ -1,7 +1,8 @@
 //! The mappings of tables, from those that were given.
 
-ghost use Rattle.std.specs.Prelude.{◌≡◌, ◌*◌, ◌/◌, ◌<◌, ◌≤◌, ℕ, cond, [], length, IfOk, All};
+ghost use Rattle.std.specs.Prelude.{◌≡◌, ◌*◌, ◌/◌, ◌<◌, ◌≤◌, ℕ, cond, [], length, map, nat_eq, IfOk, All};
 ghost use Rattle.std.specs.Option.{is_some};
+ghost use Rattle.std.specs.Set.{distinct_count};
 ghost use Rattle.icu_normalizer_core.specs.BuiltIn.{built_in_step};
 ghost use Rattle.icu_normalizer_core.specs.Canonical.{IsFree};
 ghost use Rattle.icu_normalizer_core.specs.CanonicalLists.{AreTriples, listed_step};
@@ -20,7 +21,7 @@ pub(super) fn steps(alloc: Global, mappings: &[GivenMapping]) -> Result<Vec<u32>
     requires { All IsOfScalars mappings.now }
     ensures triples { IfOk result (λ steps. AreTriples steps.items) }
     ensures listed { IfOk result (λ steps. (c : ℕ) → listed_step steps.items c ≡ cond (is_some (built_in_step c)) [] (given_step mappings.now c)) }
-    ensures few { IfOk result (λ steps. length steps.items ≤ 3 * length mappings.now) }
+    ensures few { IfOk result (λ steps. length steps.items ≤ 3 * distinct_count nat_eq (map (λ g. g.character) mappings.now)) }
     ensures free { IfOk result (λ steps. (place : ℕ) → place < length steps.items / 3 → IsFree (key_at steps.items place)) }
 {
     let numbers = mapping_numbers(alloc, mappings)?;

@@ -1,18 +1,22 @@
 //! The tables of what is given.
 
-ghost use Rattle.std.specs.Prelude.{◌≡◌, ◌≤◌, ◌<◌, ◌⊎◌, true, false, length, IfOk, IfErr, All};
+ghost use Rattle.std.specs.Prelude.{◌≡◌, ◌≤◌, ◌<◌, ◌⊎◌, map, length, nat_eq, IfOk, IfErr, OnOk, All};
+ghost use Rattle.std.specs.Char.{IsScalar};
+ghost use Rattle.std.specs.Set.{distinct_count};
 ghost use Rattle.icu_normalizer_core.specs.declared.canonical.builder.CanonicalDataBuildError.TheVariants.{Rules, Memory};
-ghost use Rattle.icu_normalizer_core.specs.BuiltMaps.{AreBuiltOf, AreStepsOf, ArePairsOf, IsWordTrieOf};
-ghost use Rattle.icu_normalizer_core.specs.CanonicalMaps.{KeepRules};
+ghost use Rattle.icu_normalizer_core.specs.BuiltMaps.{AreBuiltOf, AreStepsOf, ArePairsOf, HasPlainWords, IsWordTrieOf};
+ghost use Rattle.icu_normalizer_core.specs.CanonicalMaps.{HaveOneMapping, KeepRules, named};
 ghost use Rattle.icu_normalizer_core.specs.CanonicalMeaning.{lists_of};
-ghost use Rattle.icu_normalizer_core.specs.CharacterWords.{AreListWords, AreStarters};
+ghost use Rattle.icu_normalizer_core.specs.CharacterWords.{AreListWords, AreStarters, HasNamed, class_with};
 ghost use Rattle.icu_normalizer_core.specs.GivenMaps.{IsOfScalars};
 
 use super::full_lists::full_lists;
 use super::list_words::ListWords;
+use super::names::characters_of;
+use super::one_mapping::have_one_mapping;
 use super::pairs::pairs;
 use super::steps::steps;
-use super::trie::{named, trie_of, words_of};
+use super::trie::{trie_of, words_of};
 use super::words::{are_classes, are_starters};
 use super::{CanonicalDataBuildError, GivenClass, GivenMapping};
 use crate::canonical::tables::CanonicalTables;
@@ -20,27 +24,13 @@ use icu_codepointtrie::CodePointTrie;
 use icu_packed_vector::PackedVec;
 use std::alloc::{AllocError, Global};
 
-/// Whether at most 150 classes and 150 mappings are given, and the classes are below 255.
-fn are_few(classes: &[GivenClass], mappings: &[GivenMapping]) -> bool
-    ensures few { result ≡ true → (length classes.now ≤ 150) × (length mappings.now ≤ 150) × All (λ g. g.class < 255) classes.now }
-    ensures broken { result ≡ false → KeepRules (record { classes = classes.now; mappings = mappings.now }) → ⊥ }
-{
-    if classes.len() > 150 {
-        return false;
-    }
-    if mappings.len() > 150 {
-        return false;
-    }
-    are_classes(classes)
-}
-
 /// The mappings that aren't built in, packed. The only error is want of memory.
 fn packed_steps(
     alloc: Global,
     mappings: &[GivenMapping],
 ) -> Result<PackedVec<'static, u32>, AllocError>
     requires scalars { All IsOfScalars mappings.now }
-    requires few { length mappings.now ≤ 150 }
+    requires few { distinct_count nat_eq (map (λ g. g.character) mappings.now) ≤ 150 }
     ensures { IfOk result (AreStepsOf mappings.now) }
 {
     let triples = steps(alloc, mappings)?;
@@ -68,18 +58,20 @@ fn word_trie(
     mappings: &[GivenMapping],
     steps: &PackedVec<'_, u32>,
     lists: &ListWords,
+    characters: &[char],
 ) -> Result<CodePointTrie<'static, u32>, AllocError>
-    requires bound { All (λ g. g.class < 255) classes.now }
-    requires few_classes { length classes.now ≤ 150 }
-    requires few_mappings { length mappings.now ≤ 150 }
+    requires scalars { All IsScalar characters.now }
+    requires named { HasNamed classes.now mappings.now characters.now }
+    requires few { length characters.now ≤ 167 }
+    requires bound { All (λ c. class_with classes.now c < 255) characters.now }
     requires steps { AreStepsOf mappings.now steps.now }
     requires starters { AreStarters classes.now steps.now }
     requires lists { AreListWords steps.now lists.now }
-    ensures { IfOk result (IsWordTrieOf classes.now steps.now lists.now.scalars24.items) }
+    ensures words { IfOk result (IsWordTrieOf classes.now steps.now lists.now.scalars24.items) }
+    ensures plain { IfOk result HasPlainWords }
 {
-    let named = named(alloc, classes, mappings)?;
-    let words = words_of(alloc, classes, steps, lists, named.as_slice())?;
-    let trie = trie_of(alloc, &words)?;
+    let words = words_of(alloc, classes, steps, lists, characters)?;
+    let trie = trie_of(&words)?;
     Ok(trie)
 }
 
@@ -91,17 +83,21 @@ fn packed_tables(
     mappings: &[GivenMapping],
     steps: PackedVec<'static, u32>,
     lists: &ListWords,
+    characters: &[char],
 ) -> Result<CanonicalTables<'static>, AllocError>
-    requires scalars { All IsOfScalars mappings.now }
-    requires bound { All (λ g. g.class < 255) classes.now }
-    requires few_classes { length classes.now ≤ 150 }
-    requires few_mappings { length mappings.now ≤ 150 }
+    requires mappings { All IsOfScalars mappings.now }
+    requires scalars { All IsScalar characters.now }
+    requires named { HasNamed classes.now mappings.now characters.now }
+    requires few { length characters.now ≤ 167 }
+    requires bound { All (λ c. class_with classes.now c < 255) characters.now }
     requires steps { AreStepsOf mappings.now steps }
     requires starters { AreStarters classes.now steps }
     requires lists { AreListWords steps lists.now }
-    ensures { IfOk result (λ tables. AreBuiltOf (record { classes = classes.now; mappings = mappings.now }) (lists_of tables)) }
+    ensures built { IfOk result (λ tables. AreBuiltOf (record { classes = classes.now; mappings = mappings.now }) (lists_of tables)) }
+    ensures plain { IfOk result (λ tables. HasPlainWords tables.trie) }
+    ensures steps { IfOk result (λ tables. AreStepsOf mappings.now tables.steps) }
 {
-    let trie = word_trie(alloc, classes, mappings, &steps, lists)?;
+    let trie = word_trie(alloc, classes, mappings, &steps, lists, characters)?;
     let scalars16 = PackedVec::from_slice(alloc, &[])?;
     let scalars24 = PackedVec::from_slice(alloc, lists.scalars24.as_slice())?;
     let pairs = packed_pairs(alloc, mappings)?;
@@ -122,9 +118,20 @@ pub(super) fn tables(
 ) -> Result<CanonicalTables<'static>, CanonicalDataBuildError>
     requires { All IsOfScalars mappings.now }
     ensures built { IfOk result (λ tables. AreBuiltOf (record { classes = classes.now; mappings = mappings.now }) (lists_of tables)) }
+    ensures plain { IfOk result (λ tables. HasPlainWords tables.trie) }
+    ensures steps { IfOk result (λ tables. AreStepsOf mappings.now tables.steps) }
+    ensures few { OnOk result (distinct_count nat_eq (named (record { classes = classes.now; mappings = mappings.now })) ≤ 150) }
+    ensures one_mapping { OnOk result (HaveOneMapping mappings.now) }
     ensures refused { IfErr result (λ e. (e ≡ Memory) ⊎ ((e ≡ Rules) × (KeepRules (record { classes = classes.now; mappings = mappings.now }) → ⊥))) }
 {
-    if !are_few(classes, mappings) {
+    let characters = match characters_of(alloc, classes, mappings) {
+        Ok(characters) => characters,
+        Err(error) => return Err(error),
+    };
+    if !are_classes(classes, characters.as_slice()) {
+        return Err(CanonicalDataBuildError::Rules);
+    }
+    if !have_one_mapping(mappings) {
         return Err(CanonicalDataBuildError::Rules);
     }
     let steps = packed_steps(alloc, mappings)?;
@@ -135,6 +142,13 @@ pub(super) fn tables(
         Ok(lists) => lists,
         Err(error) => return Err(error),
     };
-    let tables = packed_tables(alloc, classes, mappings, steps, &lists)?;
+    let tables = packed_tables(
+        alloc,
+        classes,
+        mappings,
+        steps,
+        &lists,
+        characters.as_slice(),
+    )?;
     Ok(tables)
 }

@@ -1,58 +1,19 @@
 //! The trie of the words of characters.
 
-ghost use Rattle.std.specs.Prelude.{◌≡◌, ◌++◌, ◌+◌, ◌≤◌, ◌<◌, ◌==◌, ℕ, map, IfOk, All};
+ghost use Rattle.std.specs.Prelude.{◌≡◌, ◌+◌, ◌≤◌, ◌<◌, ◌==◌, ℕ, IfOk, All};
+ghost use Rattle.std.specs.Char.{IsScalar};
 ghost use Rattle.icu_codepointtrie.specs.Blocks.{different_blocks};
 ghost use Rattle.icu_codepointtrie.specs.BuiltTries.{IsTrieOf};
 ghost use Rattle.icu_codepointtrie.specs.CodePointMaps.{IsWritten};
 ghost use Rattle.icu_normalizer_core.specs.CanonicalLists.{AreTriples};
-ghost use Rattle.icu_normalizer_core.specs.CharacterWords.{AreListWords, AreStarters, AreUnnamed, HasWords, built_in_named};
+ghost use Rattle.icu_normalizer_core.specs.CharacterWords.{AreListWords, AreStarters, AreUnnamed, HasWords, class_with};
 
+use super::GivenClass;
 use super::list_words::ListWords;
 use super::words::word_of;
-use super::{GivenClass, GivenMapping};
 use icu_codepointtrie::{CodePointTrie, CodePointTrieBuildError, CodePointTrieBuilder, TrieType};
 use icu_packed_vector::PackedVec;
 use std::alloc::{AllocError, Global};
-
-/// The characters with a built-in class other than 0, and those with a built-in mapping but Hangul.
-const BUILT_IN_NAMED: [u32; 17] = [
-    0x300, 0x301, 0x308, 0x313, 0x340, 0x341, 0x343, 0x344, 0xf71, 0xf72, 0xf73, 0xf74, 0xf75,
-    0xf80, 0xf81, 0x3099, 0x309a,
-];
-
-/// The characters that are named by what is built in or given. The only error is want of memory.
-pub(super) fn named(
-    alloc: Global,
-    classes: &[GivenClass],
-    mappings: &[GivenMapping],
-) -> Result<Vec<u32>, AllocError>
-    ensures { IfOk result (λ named. named.items ≡ (built_in_named ++ map (λ g. g.character) classes.now) ++ map (λ g. g.character) mappings.now) }
-{
-    let mut named = Vec::from_slice(alloc, &BUILT_IN_NAMED)?;
-    add_classed(&mut named, classes)?;
-    add_mapped(&mut named, mappings)?;
-    Ok(named)
-}
-
-/// Adds the characters that classes name. The only error is want of memory.
-fn add_classed(named: &mut Vec<u32>, classes: &[GivenClass]) -> Result<(), AllocError>
-    ensures { IfOk result (λ _. named.new.items ≡ named.old.items ++ map (λ g. g.character) classes.now) }
-{
-    for given in classes {
-        named.push(given.character as u32)?;
-    }
-    Ok(())
-}
-
-/// Adds the characters that mappings name. The only error is want of memory.
-fn add_mapped(named: &mut Vec<u32>, mappings: &[GivenMapping]) -> Result<(), AllocError>
-    ensures { IfOk result (λ _. named.new.items ≡ named.old.items ++ map (λ g. g.character) mappings.now) }
-{
-    for given in mappings {
-        named.push(given.character as u32)?;
-    }
-    Ok(())
-}
 
 /// Sets the word of a character, unless it is 0.
 pub(super) fn set_word(words: &mut CodePointTrieBuilder<u32>, c: u32, word: u32)
@@ -78,34 +39,32 @@ pub(super) fn words_of(
     classes: &[GivenClass],
     steps: &PackedVec<'_, u32>,
     lists: &ListWords,
-    named: &[u32],
+    characters: &[char],
 ) -> Result<CodePointTrieBuilder<u32>, AllocError>
-    requires classes { All (λ g. g.class < 255) classes.now }
+    requires classes { All (λ c. class_with classes.now c < 255) characters.now }
     requires triples { AreTriples steps.now }
     requires starters { AreStarters classes.now steps.now }
     requires lists { AreListWords steps.now lists.now }
-    ensures { IfOk result (HasWords classes.now steps.now lists.now.scalars24.items named.now) }
+    requires scalars { All IsScalar characters.now }
+    ensures { IfOk result (HasWords classes.now steps.now lists.now.scalars24.items characters.now) }
 {
     let mut words = unnamed_words(alloc)?;
-    for c in named {
-        if *c <= 0x10_FFFF {
-            let word = word_of(classes, steps, lists, *c);
-            set_word(&mut words, *c, word);
-        }
+    for c in characters {
+        let word = word_of(classes, steps, lists, *c as u32);
+        set_word(&mut words, *c as u32, word);
     }
     Ok(words)
 }
 
 /// The trie of words. The only error is want of memory.
 pub(super) fn trie_of(
-    alloc: Global,
     words: &CodePointTrieBuilder<u32>,
 ) -> Result<CodePointTrie<'static, u32>, AllocError>
     requires wide { different_blocks (λ n. n) 512 words.now.values ≤ 800 }
     requires narrow { different_blocks (λ n. n) 16 words.now.values ≤ 12000 }
     ensures { IfOk result (IsTrieOf words.now) }
 {
-    match words.build(alloc) {
+    match words.build() {
         Ok(trie) => Ok(trie),
         Err(CodePointTrieBuildError::Memory) => Err(AllocError),
         Err(CodePointTrieBuildError::TooLarge) => unreachable!(),

@@ -34,12 +34,12 @@ fn class_with(classes: &[GivenClass], c: u32) -> u8
     }
 }
 
-/// Whether the classes that are given are below 255.
-pub(super) fn are_classes(classes: &[GivenClass]) -> bool
-    ensures { IsTrue result ↔ All (λ g. g.class < 255) classes.now }
+/// Whether the classes of characters are below 255.
+pub(super) fn are_classes(classes: &[GivenClass], characters: &[char]) -> bool
+    ensures { IsTrue result ↔ All (λ c. class_with classes.now c < 255) characters.now }
 {
-    for given in classes {
-        if given.class >= 255 {
+    for c in characters {
+        if class_with(classes, *c as u32) >= 255 {
             return false;
         }
     }
@@ -65,7 +65,7 @@ pub(super) fn word_of(
     lists: &ListWords,
     c: u32,
 ) -> u32
-    requires classes { All (λ g. g.class < 255) classes.now }
+    requires class { class_with classes.now c < 255 }
     requires triples { AreTriples steps.now }
     requires starters { AreStarters classes.now steps.now }
     requires lists { AreListWords steps.now lists.now }

@@ -8,7 +8,7 @@ returns-in_default-clause-text g c =
 
 pub returns-then-is_empty-clause-text : goal.returns-then-is_empty-clause-text
 returns-then-is_empty-clause-text g c =
-    let empty = c.if-is_empty.ensures refl in
+    let empty = c.if-is_empty.ensures.0 refl in
     keeps_passed g.I.Iterator.next_gives _ _ _ c.requires.running c.in-Some.ensures.steps c.requires.running refl empty empty c.if-c-lt160.true
 
 pub returns-clause-text : goal.returns-clause-text

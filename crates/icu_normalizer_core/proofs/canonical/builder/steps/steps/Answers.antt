@@ -1,7 +1,9 @@
-use Rattle.std.proofs.Common.{ℕ, ◌<◌, ◌^◌, List, All, flat_map, length, slice_index, sym, subst, ◌∙◌, arith}
+use Rattle.std.proofs.Common.{ℕ, ◌<◌, ◌/◌, ◌^◌, List, All, flat_map, length, slice_index, sym, subst, ◌∙◌, arith}
 use Rattle.icu_normalizer_core.specs.InOrder.{AreFirstsInOrder}
 use Rattle.icu_normalizer_core.specs.MapNumbers.{mapping_numbers, triple, IsMappingNumber}
-use Rattle.icu_normalizer_core.proofs.builder.MapNumberLemmas.{all_mapping_numbers, all_from, sorted_each, sorted_triples, sorted_listed, triples_length, numbers_few, keys_free}
+use Rattle.icu_normalizer_core.proofs.builder.MapNumberLemmas.{all_mapping_numbers, all_from, sorted_each, sorted_triples, sorted_listed, triples_length, keys_free}
+use Rattle.icu_normalizer_core.proofs.builder.NamedLemmas.{sorted_few}
+use Rattle.std.proofs.lemmas.List.{length-map}
 use Rattle.icu_normalizer_core.proofs.canonical.builder.steps.steps.Goals as goal
 
 -- what is in order is in the order of the mappings' numbers
@@ -32,7 +34,7 @@ pub returns-clause-few : goal.returns-clause-few
 returns-clause-few c =
     let order : AreFirstsInOrder (2 ^ 42) (flat_map mapping_numbers c.args.mappings.now) c.in_ok-sorted.sorted.items =
     subst (λ (ns : List ℕ). AreFirstsInOrder (2 ^ 42) ns c.in_ok-sorted.sorted.items) (c.as_slice.ensures.value ∙ c.in_ok-numbers.ensures) c.in_ok-sorted.ensures in
-    rw (c.in_ok-steps.ensures, c.as_slice-2.ensures.value) (omega (arith, order.few, triples_length c.in_ok-sorted.sorted.items, numbers_few c.args.mappings.now))
+    rw (c.in_ok-steps.ensures, c.as_slice-2.ensures.value) (omega (arith, triples_length c.in_ok-sorted.sorted.items, length-map c.in_ok-sorted.sorted.items (λ n. n / 2 ^ 42), sorted_few c.args.mappings.now c.in_ok-sorted.sorted.items c.requires order))
 
 pub returns-clause-free : goal.returns-clause-free
 returns-clause-free c =

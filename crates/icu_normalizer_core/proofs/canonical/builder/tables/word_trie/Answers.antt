@@ -1,11 +1,14 @@
-use Rattle.std.proofs.Common.{ℕ, List, subst, ◌∙◌}
-use Rattle.icu_normalizer_core.specs.CharacterWords.{HasWords}
-use Rattle.icu_normalizer_core.proofs.builder.BuiltTableLemmas.{word_read}
+use Rattle.std.proofs.Common.{ℕ}
+use Rattle.icu_normalizer_core.specs.CharacterWords.{IsWordOf, class_with}
+use Rattle.icu_normalizer_core.proofs.builder.BuiltTableLemmas.{plain_read, word_read}
 use Rattle.icu_normalizer_core.proofs.canonical.builder.tables.word_trie.Goals as goal
 
-pub returns : goal.returns
-returns c =
-    word_read c.args.classes.now c.args.mappings.now c.args.steps.now c.args.lists.now.scalars24.items c.in_ok-words.words c.in_ok-trie.trie
-    (subst (λ (ns : List ℕ). HasWords c.args.classes.now c.args.steps.now c.args.lists.now.scalars24.items ns c.in_ok-words.words)
-    (c.as_slice.ensures.value ∙ c.in_ok-named.ensures) c.in_ok-words.ensures)
-    c.requires.steps c.in_ok-trie.ensures
+pub returns-clause-words : goal.returns-clause-words
+returns-clause-words c =
+    word_read c.args.classes.now c.args.mappings.now c.args.steps.now c.args.lists.now.scalars24.items c.args.characters.now c.in_ok-words.words c.in_ok-trie.trie
+    c.in_ok-words.ensures c.requires.named c.requires.steps c.in_ok-trie.ensures
+
+pub returns-clause-plain : goal.returns-clause-plain
+returns-clause-plain c =
+    plain_read (λ x word. IsWordOf (class_with c.args.classes.now x) c.args.steps.now c.args.lists.now.scalars24.items x word) c.args.characters.now c.in_ok-words.words c.in_ok-trie.trie
+    (λ x word right. right.fits) c.in_ok-words.ensures c.in_ok-trie.ensures

@@ -1,6 +1,6 @@
 use Rattle.std.proofs.Common.{ℕ, ◌<◌, slice_index_or}
-use Rattle.icu_normalizer_core.specs.declared.canonical.builder.GivenClass.{GivenClass}
+use Rattle.icu_normalizer_core.specs.CharacterWords.{class_with}
 use Rattle.icu_normalizer_core.proofs.canonical.builder.words.are_classes.Given as goal
 
-abbrev pub invariant-loop-given : goal.invariant-loop-given
-invariant-loop-given l = (k : ℕ) (d : GivenClass) → k < l.given-index → (slice_index_or l.classes k d).class < 255
+abbrev pub invariant-loop-c : goal.invariant-loop-c
+invariant-loop-c l = (k d : ℕ) → k < l.c-index → class_with l.classes (slice_index_or l.characters k d) < 255

@@ -4,7 +4,7 @@ use Rattle.icu_normalizer_core.specs.CanonicalMaps.{given_class}
 use Rattle.icu_normalizer_core.specs.CharacterWords.{class_with, IsWordOf, IsListWord}
 use Rattle.icu_normalizer_core.specs.Settled.{key_at}
 use Rattle.icu_normalizer_core.specs.Canonical.{IsFree}
-use Rattle.icu_normalizer_core.proofs.builder.CharacterWordLemmas.{syllable_word, syllable_class, singled_word, mapped_word, zero_word, mark_word, unlisted_step, class_small, not_singled, index_got}
+use Rattle.icu_normalizer_core.proofs.builder.CharacterWordLemmas.{syllable_word, syllable_class, singled_word, mapped_word, zero_word, mark_word, unlisted_step, not_singled, index_got}
 use Rattle.icu_normalizer_core.proofs.canonical.builder.words.word_of.Goals as goal
 
 pub returns-then-is_syllable-clause-says : goal.returns-then-is_syllable-clause-says
@@ -44,7 +44,7 @@ returns-else-class-eq0-clause-says c =
     let k : ℕ = class_with c.args.classes.now c.args.c in
     let some : 0 < k = let e = c.class_with-class.ensures in let h = c.if-class-eq0.false in omega arith in
     subst (λ (n : ℕ). IsWordOf k c.args.steps.now c.args.lists.now.scalars24.items c.args.c (0xd800 + n)) (sym c.class_with-class.ensures)
-    (mark_word k c.args.steps.now c.args.lists.now.scalars24.items c.args.c some (class_small c.args.classes.now c.requires.classes c.args.c)
+    (mark_word k c.args.steps.now c.args.lists.now.scalars24.items c.args.c some c.requires.class
     (sym c.is_syllable.ensures ∙ c.if-is_syllable.false)
     (not_singled c.args.c c.is_singled_out.result c.is_singled_out.ensures c.if-is_singled_out.false)
     (unlisted_step c.args.steps.now c.args.c c.in_default.ensures.place))

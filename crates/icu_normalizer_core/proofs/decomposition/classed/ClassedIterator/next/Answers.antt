@@ -1,6 +1,7 @@
 use Rattle.std.proofs.Common.{◌∷◌, refl, sym, ap, ◌∙◌}
 use Rattle.icu_normalizer_core.specs.BorrowedMeaning.{borrowed_meaning}
-use Rattle.icu_normalizer_core.specs.Classes.{with_classes}
+use Rattle.icu_normalizer_core.specs.Classes.{with_classes, IsFinished}
+use Rattle.icu_normalizer_core.proofs.IterLemmas.{ended_not, ends_item, ends_error, ends_last}
 use Rattle.icu_normalizer_core.proofs.decomposition.classed.ClassedIterator.next.Goals as goal
 
 pub returns-in-Some-Ok-clause-steps : goal.returns-in-Some-Ok-clause-steps
@@ -16,6 +17,7 @@ returns-in-Some-Ok-clause-steps g c =
               record { unread = next.0; source = next.2; text = refl },
             );
       };
+      ends = ends_item IsFinished _ _ _ (λ f. ended_not _ _ _ _ step.ends f);
       again = step.again;
       size = step.size;
     }
@@ -25,6 +27,7 @@ returns-in-Some-Err-clause-steps g c =
     let step = rw c.in-Some-Err.field-0-is at c.in-Some-Err.ensures.steps in
     record {
       first = record { at = λ cs left. record { unread = _; source = step.first.at left.unread left.source; text = refl } };
+      ends = ends_error IsFinished _ _ _ (λ f. ended_not _ _ _ _ step.ends f) step.ends.finished;
       again = step.again;
       size = step.size;
     }
@@ -41,6 +44,7 @@ returns-in-None-clause-steps g c =
               record { unread = _; source = none.1; text = refl },
             );
       };
+      ends = ends_last IsFinished _ _ step.ends.last;
       again = step.again;
       size = step.size;
     }

@@ -1,0 +1,192 @@
+//! The characters that are named by what is given.
+
+ghost use Rattle.std.specs.Prelude.{◌≡◌, ◌++◌, ◌∷◌, ◌<◌, ◌≤◌, ◌⊎◌, [], map, flat_map, length, nat_eq, IfOk, IfErr, OnOk, All};
+ghost use Rattle.std.specs.Char.{IsScalar};
+ghost use Rattle.std.specs.Set.{distinct_count};
+ghost use Rattle.icu_normalizer_core.specs.declared.canonical.builder.CanonicalDataBuildError.TheVariants.{Rules, Memory};
+ghost use Rattle.icu_normalizer_core.specs.CanonicalMaps.{mapping_given, named};
+ghost use Rattle.icu_normalizer_core.specs.CharacterWords.{HasNamed, built_in_named};
+ghost use Rattle.icu_normalizer_core.specs.CompatibilityMaps.{all_named};
+ghost use Rattle.icu_normalizer_core.specs.Named.{AreDistinctOf, with_new};
+ghost use Rattle.icu_normalizer_core.specs.SettledMappings.{HasAllNamed};
+
+use super::{CanonicalDataBuildError, GivenClass, GivenCompatibility, GivenMapping};
+use std::alloc::{AllocError, Global};
+
+/// The characters with a built-in class other than 0, and those with a built-in mapping but Hangul.
+const BUILT_IN_NAMED: [char; 17] = [
+    '\u{300}', '\u{301}', '\u{308}', '\u{313}', '\u{340}', '\u{341}', '\u{343}', '\u{344}',
+    '\u{f71}', '\u{f72}', '\u{f73}', '\u{f74}', '\u{f75}', '\u{f80}', '\u{f81}', '\u{3099}',
+    '\u{309a}',
+];
+
+/// The characters with a built-in compatibility mapping.
+const BUILT_IN_COMPATIBLE: [char; 2] = ['\u{ff9e}', '\u{ff9f}'];
+
+/// At most so many characters are named by what is given.
+const LIMIT: usize = 150;
+
+/// Adds the characters that classes name. The only error is want of memory.
+fn add_classed(list: &mut Vec<char>, classes: &[GivenClass]) -> Result<(), AllocError>
+    ensures { IfOk result (λ _. list.new.items ≡ list.old.items ++ map (λ g. g.character) classes.now) }
+{
+    for given in classes {
+        list.push(given.character)?;
+    }
+    Ok(())
+}
+
+/// Adds the characters that a canonical mapping names. The only error is want of memory.
+fn add_mapping(list: &mut Vec<char>, given: GivenMapping) -> Result<(), AllocError>
+    ensures { IfOk result (λ _. list.new.items ≡ list.old.items ++ given.character ∷ mapping_given given) }
+{
+    list.push(given.character)?;
+    list.push(given.first)?;
+    if let Some(second) = given.second {
+        list.push(second)?;
+    }
+    Ok(())
+}
+
+/// Adds the characters that canonical mappings name. The only error is want of memory.
+fn add_mapped(list: &mut Vec<char>, mappings: &[GivenMapping]) -> Result<(), AllocError>
+    ensures { IfOk result (λ _. list.new.items ≡ list.old.items ++ flat_map (λ g. g.character ∷ mapping_given g) mappings.now) }
+{
+    for given in mappings {
+        add_mapping(list, *given)?;
+    }
+    Ok(())
+}
+
+/// Adds the characters that compatibility mappings name. The only error is want of memory.
+fn add_compatible(list: &mut Vec<char>, given: &[GivenCompatibility]) -> Result<(), AllocError>
+    ensures { IfOk result (λ _. list.new.items ≡ list.old.items ++ flat_map (λ g. g.character ∷ g.mapping.items) given.now) }
+{
+    for one in given {
+        list.push(one.character)?;
+        list.extend_from_slice(one.mapping.as_slice())?;
+    }
+    Ok(())
+}
+
+/// The characters that classes and canonical mappings name. The only error is want of memory.
+fn named(
+    alloc: Global,
+    classes: &[GivenClass],
+    mappings: &[GivenMapping],
+) -> Result<Vec<char>, AllocError>
+    ensures { IfOk result (λ list. list.items ≡ named (record { classes = classes.now; mappings = mappings.now })) }
+{
+    let mut list = Vec::new(alloc);
+    add_classed(&mut list, classes)?;
+    add_mapped(&mut list, mappings)?;
+    Ok(list)
+}
+
+/// The characters that classes and mappings of both kinds name. The only error is want of memory.
+fn all_named(
+    alloc: Global,
+    classes: &[GivenClass],
+    mappings: &[GivenMapping],
+    given: &[GivenCompatibility],
+) -> Result<Vec<char>, AllocError>
+    ensures { IfOk result (λ list. list.items ≡ all_named (record { canonical = record { classes = classes.now; mappings = mappings.now }; compatibilities = given.now })) }
+{
+    let mut list = named(alloc, classes, mappings)?;
+    add_compatible(&mut list, given)?;
+    Ok(list)
+}
+
+/// Adds a character that isn't there yet. The only error is want of memory.
+fn add_new(list: &mut Vec<char>, c: char) -> Result<(), AllocError>
+    requires { All IsScalar list.old.items }
+    ensures added { OnOk result (list.new.items ≡ with_new list.old.items c) }
+    ensures scalars { OnOk result (All IsScalar list.new.items) }
+{
+    if list.as_slice().contains(&c) {
+        return Ok(());
+    }
+    list.push(c)?;
+    Ok(())
+}
+
+/// The characters of a list, each once. `Rules` where there are more than 150.
+fn distinct(alloc: Global, all: &[char]) -> Result<Vec<char>, CanonicalDataBuildError>
+    ensures distinct { IfOk result (λ list. AreDistinctOf all.now list.items) }
+    ensures scalars { IfOk result (λ list. All IsScalar list.items) }
+    ensures few { IfOk result (λ list. length list.items ≤ 150) }
+    ensures refused { IfErr result (λ e. (e ≡ Memory) ⊎ ((e ≡ Rules) × (150 < distinct_count nat_eq all.now))) }
+{
+    let mut list = Vec::new(alloc);
+    for c in all {
+        add_new(&mut list, *c)?;
+        if list.len() > LIMIT {
+            return Err(CanonicalDataBuildError::Rules);
+        }
+    }
+    Ok(list)
+}
+
+/// The characters that are named by what is built in, but syllables, and others. The only error is want of memory.
+fn with_built_in(alloc: Global, others: &[char]) -> Result<Vec<char>, AllocError>
+    ensures { IfOk result (λ list. list.items ≡ built_in_named ++ others.now) }
+{
+    let mut list = Vec::from_slice(alloc, &BUILT_IN_NAMED)?;
+    list.extend_from_slice(others)?;
+    Ok(list)
+}
+
+/// The characters with a built-in compatibility mapping, and others. The only error is want of memory.
+fn with_compatible(alloc: Global, others: &[char]) -> Result<Vec<char>, AllocError>
+    ensures { IfOk result (λ list. list.items ≡ (0xff9e ∷ 0xff9f ∷ []) ++ others.now) }
+{
+    let mut list = Vec::from_slice(alloc, &BUILT_IN_COMPATIBLE)?;
+    list.extend_from_slice(others)?;
+    Ok(list)
+}
+
+/// The characters with a word of their own: those that are named by what is built in, but syllables, and those that are
+/// given, each once. `Rules` where over 150 are given.
+pub(super) fn characters_of(
+    alloc: Global,
+    classes: &[GivenClass],
+    mappings: &[GivenMapping],
+) -> Result<Vec<char>, CanonicalDataBuildError>
+    ensures named { IfOk result (λ list. HasNamed classes.now mappings.now list.items) }
+    ensures scalars { IfOk result (λ list. All IsScalar list.items) }
+    ensures few { IfOk result (λ list. length list.items ≤ 167) }
+    ensures within { OnOk result (distinct_count nat_eq (named (record { classes = classes.now; mappings = mappings.now })) ≤ 150) }
+    ensures refused { IfErr result (λ e. (e ≡ Memory) ⊎ ((e ≡ Rules) × (150 < distinct_count nat_eq (named (record { classes = classes.now; mappings = mappings.now }))))) }
+{
+    let all = named(alloc, classes, mappings)?;
+    let given = match distinct(alloc, all.as_slice()) {
+        Ok(given) => given,
+        Err(error) => return Err(error),
+    };
+    let list = with_built_in(alloc, given.as_slice())?;
+    Ok(list)
+}
+
+/// The characters with a compatibility word of their own: those, and those that compatibility mappings name or that have
+/// a built-in one. `Rules` where over 150 are given.
+pub(super) fn all_characters_of(
+    alloc: Global,
+    classes: &[GivenClass],
+    mappings: &[GivenMapping],
+    given: &[GivenCompatibility],
+) -> Result<Vec<char>, CanonicalDataBuildError>
+    ensures named { IfOk result (λ list. HasAllNamed classes.now mappings.now given.now list.items) }
+    ensures scalars { IfOk result (λ list. All IsScalar list.items) }
+    ensures few { IfOk result (λ list. length list.items ≤ 169) }
+    ensures within { OnOk result (distinct_count nat_eq (all_named (record { canonical = record { classes = classes.now; mappings = mappings.now }; compatibilities = given.now })) ≤ 150) }
+    ensures refused { IfErr result (λ e. (e ≡ Memory) ⊎ ((e ≡ Rules) × (150 < distinct_count nat_eq (all_named (record { canonical = record { classes = classes.now; mappings = mappings.now }; compatibilities = given.now }))))) }
+{
+    let all = all_named(alloc, classes, mappings, given)?;
+    let named = match distinct(alloc, all.as_slice()) {
+        Ok(named) => named,
+        Err(error) => return Err(error),
+    };
+    let others = with_built_in(alloc, named.as_slice())?;
+    let list = with_compatible(alloc, others.as_slice())?;
+    Ok(list)
+}
