@@ -15,7 +15,7 @@ use crate::orders::order_of;
 use crate::script::halves;
 use crate::sinks::sink_of;
 use crate::texts::{bytes, shown};
-use icu_collator::collator::{Collator, CollatorBorrowed};
+use icu_collator::{Collator, CollatorBorrowed};
 use icu_collator_samples::held::{HeldCollation, held_tables};
 use std::alloc::Global;
 

@@ -1,7 +1,7 @@
 //! The sort keys of texts.
 
 use crate::texts::units;
-use icu_collator::collator::CollatorBorrowed;
+use icu_collator::CollatorBorrowed;
 use std::alloc::Global;
 
 /// Writes the key of a text in UTF-16.

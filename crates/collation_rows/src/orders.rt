@@ -1,7 +1,7 @@
 //! How two texts order.
 
 use crate::texts::units;
-use icu_collator::collator::CollatorBorrowed;
+use icu_collator::CollatorBorrowed;
 use std::alloc::Global;
 use std::cmp::Ordering;
 

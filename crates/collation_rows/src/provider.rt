@@ -11,7 +11,7 @@
 
 use crate::asked::ask_over;
 use icu_codepointtrie::{CodePointTrie, CodePointTrieBuilder, TrieType};
-use icu_collator::collator::Collator;
+use icu_collator::Collator;
 use icu_collator_core::tables::{CollationJamo, CollationReordering, CollationTables};
 use icu_collator_samples::held::{HeldCollation, Lacking, held_tables};
 use icu_collator_types::options::{CollatorOptions, CollatorPreferences};
@@ -56,7 +56,7 @@ fn with_word(
         map.set_range_value(range.range, range.value).ok()?;
     }
     map.set_value(number(c)?, number(word)?).ok()?;
-    map.build(alloc).ok()
+    map.build().ok()
 }
 
 /// The first so many items of the table of jamo.

@@ -2,8 +2,7 @@
 //! slices, by their length. For a slice `Ok(LENGTH) KEY` is told, or the error.
 
 use crate::texts::shown;
-use icu_collator::collator::CollatorBorrowed;
-use icu_collator::sinks::KeyError;
+use icu_collator::{CollatorBorrowed, KeyError};
 use smallvec::SmallVec;
 use std::alloc::Global;
 use std::collections::VecDeque;

@@ -1,6 +1,6 @@
 //! Names, as they are given and in the order of their keys.
 
-use icu_collator::collator::CollatorBorrowed;
+use icu_collator::CollatorBorrowed;
 use std::alloc::Global;
 
 /// A name with its key.

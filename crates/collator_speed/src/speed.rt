@@ -2,7 +2,7 @@
 
 use crate::clock::{a_second, nanoseconds};
 use crate::names::in_order;
-use icu_collator::collator::{Collator, CollatorBorrowed};
+use icu_collator::{Collator, CollatorBorrowed};
 use icu_collator_samples::held::{HeldCollation, held_tables};
 use icu_collator_types::options::{CollatorOptions, CollatorPreferences};
 use std::alloc::Global;

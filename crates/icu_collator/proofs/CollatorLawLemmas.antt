@@ -30,8 +30,8 @@ use Rattle.icu_collator.specs.KeyBytes.{key_bytes}
 use Rattle.icu_collator.specs.Levels.{Levels, levels_of_text}
 use Rattle.icu_collator.specs.NumbersInTexts.{AreNumbersTogether}
 use Rattle.icu_collator.specs.SoundCollation.{IsSoundCollation}
-use Rattle.icu_collator.specs.WholeLeads.{MovesOnlyWholeLeads, MovesWholeLeads}
-use Rattle.icu_collator.specs.declared.collator.borrowed.CollatorBorrowed.{CollatorBorrowed}
+use Rattle.icu_collator_core.specs.WholeLeads.{MovesOnlyWholeLeads, MovesWholeLeads}
+use Rattle.icu_collator.specs.declared.comparison.borrowed.CollatorBorrowed.{CollatorBorrowed}
 use Rattle.icu_collator.proofs.equivalence.IdenticalLemmas.{equal_at_identical, equivalent_equal, same_levels}
 use Rattle.icu_collator.proofs.equivalence.NormalisingLemmas.{composed_first, composed_levels, composed_second, decomposed_first, decomposed_levels, decomposed_second}
 use Rattle.icu_collator.proofs.keys.TextKeyLemmas.{equal_text_keys, identical_text_keys, text_keys_order}

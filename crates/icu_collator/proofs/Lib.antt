@@ -10,4 +10,5 @@ pub mod lists
 pub mod SinkLemmas
 pub mod MakingLemmas
 pub mod CollatorLawLemmas
+pub mod CollatorFormLemmas
 pub mod key_writing

@@ -10,9 +10,9 @@ use Rattle.icu_normalizer_core.specs.declared.provider.error.DataError.TheVarian
 use Rattle.icu_collator_core.specs.Acceptance.{CollationSource}
 use Rattle.icu_collator.specs.CollatorErrors.{of_data}
 use Rattle.icu_collator.specs.Collators.{AreChecked, AreCheckedMemoryAside, CheckedMemoryAside, IsChecked}
-use Rattle.icu_collator.specs.declared.collator.error.CollatorError.{CollatorError}
-use Rattle.icu_collator.specs.declared.collator.error.CollatorError.TheVariants.{Data, Table, Memory}
-use Rattle.icu_collator.specs.declared.collator.loading.SourceTables.{SourceTables}
+use Rattle.icu_collator.specs.declared.comparison.error.CollatorError.{CollatorError}
+use Rattle.icu_collator.specs.declared.comparison.error.CollatorError.TheVariants.{Data, Table, Memory}
+use Rattle.icu_collator.specs.declared.comparison.loading.SourceTables.{SourceTables}
 
 data_refusal : (refusal : DataError) → (refusal ≡ NoMemory) ⊎ (of_data refusal ≡ Data refusal)
 data_refusal (Missing name) = inr refl

@@ -3,15 +3,17 @@ use Rattle.std.specs.Prelude.{◌≡◌, ℕ, true, List}
 use Rattle.std.specs.declared.cmp.Ordering.{Ordering}
 use Rattle.icu_normalizer_core.specs.Canonical.{Canonical}
 use Rattle.icu_normalizer_core.specs.Decoding.{latin1_chars, utf16_chars, utf8_chars}
-use Rattle.icu_collator_types.specs.Options.{is_numeric}
+use Rattle.icu_collator_types.specs.Options.{is_at_least, is_numeric}
+use Rattle.icu_collator_types.specs.declared.options.CaseLevel.TheVariants.{Off}
 use Rattle.icu_collator_core.specs.TableSettings.{is_compressible_in}
 use Rattle.icu_collator.specs.Collators.{borrowed_collation, borrowed_options, borrowed_source}
 use Rattle.icu_collator.specs.KeyBytes.{key_of_text}
 use Rattle.icu_collator.specs.NumbersInTexts.{AreDigitsApart, IsNumberBetween, no_number_is_variable, run_value}
 use Rattle.icu_collator.specs.Order.{collation_order}
 use Rattle.icu_collator.specs.Settings.{has_plain_leads}
-use Rattle.icu_collator.specs.WholeLeads.{MovesOnlyWholeLeads}
-use Rattle.icu_collator.specs.declared.collator.borrowed.CollatorBorrowed.{CollatorBorrowed}
+use Rattle.icu_collator.specs.Strengths.{at_strength}
+use Rattle.icu_collator_core.specs.WholeLeads.{MovesOnlyWholeLeads}
+use Rattle.icu_collator.specs.declared.comparison.borrowed.CollatorBorrowed.{CollatorBorrowed}
 
 -- the order of two texts by a collator, and the key of one, where texts are given as characters
 abbrev pub order_by : CollatorBorrowed → List ℕ → List ℕ → Ordering
@@ -49,6 +51,13 @@ pub record DifferInNumber (collator : CollatorBorrowed) (x r s y : List ℕ) : T
 -- the value of a run of digits
 abbrev pub value_by : CollatorBorrowed → List ℕ → ℕ
 value_by collator run = run_value (borrowed_collation collator).weights run
+
+-- collators over the same tables, with the case level off, whose options differ in the strength alone: the second's isn't lower
+pub record DifferInStrength (lower higher : CollatorBorrowed) : Type 0 where
+  pub same_tables : borrowed_source higher ≡ borrowed_source lower
+  pub same_options : borrowed_options higher ≡ at_strength (borrowed_options lower) (borrowed_options higher).strength
+  pub case_level_is_off : (borrowed_options lower).case_level ≡ Off
+  pub is_raised : is_at_least (borrowed_options higher).strength (borrowed_options lower).strength ≡ true
 
 -- a text in an encoding, by its bytes or units
 pub data EncodedText : Type 0 where

@@ -6,8 +6,8 @@ use Rattle.icu_normalizer_core.specs.declared.provider.error.DataError.TheVarian
 use Rattle.icu_collator_core.specs.TableFaults.{fault_text}
 use Rattle.icu_collator_core.specs.declared.check.TableFault.{TableFault}
 use Rattle.icu_collator_core.specs.declared.check.TableFault.TheVariants.{Trie, Word, Index, Context, Weight, PrefixOfWeight, Diacritics, Jamo, Reordering, SpecialPrimaries, Memory as NoRoom}
-use Rattle.icu_collator.specs.declared.collator.error.CollatorError.{CollatorError}
-use Rattle.icu_collator.specs.declared.collator.error.CollatorError.TheVariants.{Data, Table, Memory}
+use Rattle.icu_collator.specs.declared.comparison.error.CollatorError.{CollatorError}
+use Rattle.icu_collator.specs.declared.comparison.error.CollatorError.TheVariants.{Data, Table, Memory}
 
 -- a refused load, or refused canonical tables; every want of memory is one error
 abbrev pub of_data : DataError → CollatorError

@@ -15,10 +15,10 @@ use Rattle.icu_collator_core.specs.TableMeaning.{collation_of}
 use Rattle.icu_collator_core.specs.TableSettings.{settings_of}
 use Rattle.icu_collator_core.specs.declared.tables.CollationTables.{CollationTables}
 use Rattle.icu_collator.specs.CollatorErrors.{of_data}
-use Rattle.icu_collator.specs.declared.collator.borrowed.CollatorBorrowed.{CollatorBorrowed}
-use Rattle.icu_collator.specs.declared.collator.error.CollatorError.{CollatorError}
-use Rattle.icu_collator.specs.declared.collator.error.CollatorError.TheVariants.{Data, Table, Memory}
-use Rattle.icu_collator.specs.declared.collator.loading.SourceTables.{SourceTables}
+use Rattle.icu_collator.specs.declared.comparison.borrowed.CollatorBorrowed.{CollatorBorrowed}
+use Rattle.icu_collator.specs.declared.comparison.error.CollatorError.{CollatorError}
+use Rattle.icu_collator.specs.declared.comparison.error.CollatorError.TheVariants.{Data, Table, Memory}
+use Rattle.icu_collator.specs.declared.comparison.loading.SourceTables.{SourceTables}
 
 -- canonical and collation tables, and the options that the collator goes by
 pub record CollatorParts : Type 0 where

@@ -10,13 +10,12 @@ pub mod Boundaries
 pub mod Fronts
 pub mod NextCharacters
 pub mod LevelOrders
-pub mod Sameness
-pub mod WholeLeads
 pub mod Sinks
 pub mod Loading
 pub mod CollatorErrors
 pub mod Collators
 pub mod CollatorAnswers
+pub mod NormalForms
 pub mod KeyCodes
 pub mod LevelLists
 pub mod TextsRead

@@ -10,9 +10,9 @@ use Rattle.icu_collator_core.specs.declared.tables.data.CollationData.{Collation
 use Rattle.icu_collator_core.specs.declared.tables.metadata.CollationMetadata.{CollationMetadata}
 use Rattle.icu_collator_core.specs.declared.tables.reordering.CollationReordering.{CollationReordering}
 use Rattle.icu_collator_core.specs.declared.tables.special_primaries.CollationSpecialPrimaries.{CollationSpecialPrimaries}
-use Rattle.icu_collator.specs.declared.collator.loading.LocalTables.{LocalTables}
-use Rattle.icu_collator.specs.declared.collator.loading.SharedTables.{SharedTables}
-use Rattle.icu_collator.specs.declared.collator.loading.SourceTables.{SourceTables}
+use Rattle.icu_collator.specs.declared.comparison.loading.LocalTables.{LocalTables}
+use Rattle.icu_collator.specs.declared.comparison.loading.SharedTables.{SharedTables}
+use Rattle.icu_collator.specs.declared.comparison.loading.SourceTables.{SourceTables}
 
 -- a table that is loaded only where it is asked for
 abbrev pub loaded_where : {A : Type 0} → Bool → Result A DataError → Result (Option A) DataError

@@ -1,26 +1,10 @@
 -- What a collation's settings must keep (rule `set` of records files), and when keys order as levels do.
-use Rattle.std.specs.Prelude.{◌≡◌, ℕ, ◌+◌, ◌*◌, Bool, true, false, not, ◌==◌, ◌&&◌, ◌||◌, leb, List, [], ◌∷◌, length}
-use Rattle.std.specs.List.{list_all}
-use Rattle.icu_normalizer_core.specs.BuiltIn.{is_within}
+use Rattle.std.specs.Prelude.{◌≡◌, ℕ, Bool, true, false, not, ◌==◌, ◌||◌}
 use Rattle.icu_collator_types.specs.declared.options.ResolvedCollatorOptions.{ResolvedCollatorOptions}
 use Rattle.icu_collator_types.specs.Options.{is_numeric}
+use Rattle.icu_collator_core.specs.SettingRules.{are_sound_groups}
 use Rattle.icu_collator_core.specs.WeightRules.{is_letter_lead}
 use Rattle.icu_collator_core.specs.Collation.{Collation, with_lead, reordered_lead}
-
--- whether a group may end here: not amid the special characters, nor amid numbers, which are all variable or none
-abbrev pub is_sound_group : ℕ → ℕ → Bool
-is_sound_group numeric_lead group =
-    leb 0x300 group && not (is_within (numeric_lead * 256 + 1) (numeric_lead * 256 + 255) group)
-
--- whether each number is at least the one before it
-abbrev pub is_rising : List ℕ → Bool
-is_rising [] = true
-is_rising (a ∷ []) = true
-is_rising (a ∷ b ∷ bs) = leb a b && is_rising (b ∷ bs)
-
-abbrev pub are_sound_groups : ℕ → List ℕ → Bool
-are_sound_groups numeric_lead groups =
-    (length groups == 4) && is_rising groups && list_all (is_sound_group numeric_lead) groups
 
 -- settings that keep the rule
 pub record AreSoundSettings (collation : Collation) : Type 0 where

@@ -7,7 +7,7 @@ ghost use Rattle.std.specs.Char.{IsScalar};
 ghost use Rattle.std.specs.Cmp.{IsTotalOrder};
 ghost use Rattle.std.specs.Cmp.Lexicographic.{slice_cmp};
 ghost use Rattle.std.specs.Ordering.{nat_cmp};
-ghost use Rattle.std.specs.Prelude.{◌≡◌, ◌<◌, ◌^◌, ◌++◌, ℕ, ◌↔◌, All, List, false};
+ghost use Rattle.std.specs.Prelude.{◌≡◌, ◌≢◌, ◌<◌, ◌^◌, ◌++◌, ℕ, ◌↔◌, All, List, false};
 ghost use Rattle.std.specs.Str.{IsUtf8};
 ghost use Rattle.std.specs.declared.cmp.Ordering.TheVariants.{Less, Equal, Greater};
 ghost use Rattle.icu_normalizer_core.specs.Canonical.{composed, decomposed};
@@ -16,11 +16,12 @@ ghost use Rattle.icu_normalizer.specs.Equivalence.{IsEquivalent};
 ghost use Rattle.icu_normalizer.specs.TextForms.{composed_text, decomposed_text};
 ghost use Rattle.icu_collator_types.specs.declared.options.Strength.TheVariants.{Identical};
 ghost use Rattle.icu_collator_types.specs.Options.{is_at_least};
-ghost use Rattle.icu_collator.specs.CollatorAnswers.{DifferInNumber, EncodedText, HasKeysInOrder, OrdersNumbers, ReadsNumbers, canonical_by, characters_of, key_by, order_by, value_by};
+ghost use Rattle.icu_collator.specs.CollatorAnswers.{DifferInNumber, DifferInStrength, EncodedText, HasKeysInOrder, OrdersNumbers, ReadsNumbers, canonical_by, characters_of, key_by, order_by, value_by};
 ghost use Rattle.icu_collator.specs.Collators.{borrowed_options, borrowed_source};
-ghost use Rattle.icu_collator.specs.WholeLeads.{MovesOnlyWholeLeads};
+ghost use Rattle.icu_collator.specs.NormalForms.{IsSplitFor, composed_bytes, composed_units, decomposed_bytes, decomposed_units};
+ghost use Rattle.icu_collator_core.specs.WholeLeads.{MovesOnlyWholeLeads};
 
-use crate::collator::CollatorBorrowed;
+use crate::comparison::CollatorBorrowed;
 use crate::laws::order_is_total;
 
 /// Whatever a text in UTF-8, UTF-16 or Latin-1 decodes to is scalar values, of which the other laws speak.
@@ -121,6 +122,73 @@ pub fn normalised_texts_answer_alike(collator: &CollatorBorrowed<'_>)
         → key_by collator.now (utf8_chars (composed_text (canonical_by collator.now) a)) ≡ key_by collator.now (utf8_chars a) }
 {
     collator.keep_promise();
+}
+
+/// The same of bytes, damaged or not, as `normalize_utf8` gives them.
+pub fn normalised_bytes_answer_alike(collator: &CollatorBorrowed<'_>)
+    ensures decomposed_left { (a b : List ℕ)
+        → order_by collator.now (utf8_chars (decomposed_bytes (canonical_by collator.now) a)) b ≡ order_by collator.now (utf8_chars a) b }
+    ensures decomposed_right { (a b : List ℕ)
+        → order_by collator.now a (utf8_chars (decomposed_bytes (canonical_by collator.now) b)) ≡ order_by collator.now a (utf8_chars b) }
+    ensures decomposed_key { (a : List ℕ)
+        → key_by collator.now (utf8_chars (decomposed_bytes (canonical_by collator.now) a)) ≡ key_by collator.now (utf8_chars a) }
+    ensures composed_left { (a b : List ℕ)
+        → order_by collator.now (utf8_chars (composed_bytes (canonical_by collator.now) a)) b ≡ order_by collator.now (utf8_chars a) b }
+    ensures composed_right { (a b : List ℕ)
+        → order_by collator.now a (utf8_chars (composed_bytes (canonical_by collator.now) b)) ≡ order_by collator.now a (utf8_chars b) }
+    ensures composed_key { (a : List ℕ)
+        → key_by collator.now (utf8_chars (composed_bytes (canonical_by collator.now) a)) ≡ key_by collator.now (utf8_chars a) }
+{
+    collator.keep_promise();
+}
+
+/// The same of units, with surrogates without their partner or not, as `normalize_utf16` gives them.
+pub fn normalised_units_answer_alike(collator: &CollatorBorrowed<'_>)
+    ensures decomposed_left { (a b : List ℕ) → All (λ unit. unit < 2 ^ 16) a
+        → order_by collator.now (utf16_chars (decomposed_units (canonical_by collator.now) a)) b ≡ order_by collator.now (utf16_chars a) b }
+    ensures decomposed_right { (a b : List ℕ) → All (λ unit. unit < 2 ^ 16) b
+        → order_by collator.now a (utf16_chars (decomposed_units (canonical_by collator.now) b)) ≡ order_by collator.now a (utf16_chars b) }
+    ensures decomposed_key { (a : List ℕ) → All (λ unit. unit < 2 ^ 16) a
+        → key_by collator.now (utf16_chars (decomposed_units (canonical_by collator.now) a)) ≡ key_by collator.now (utf16_chars a) }
+    ensures composed_left { (a b : List ℕ) → All (λ unit. unit < 2 ^ 16) a
+        → order_by collator.now (utf16_chars (composed_units (canonical_by collator.now) a)) b ≡ order_by collator.now (utf16_chars a) b }
+    ensures composed_right { (a b : List ℕ) → All (λ unit. unit < 2 ^ 16) b
+        → order_by collator.now a (utf16_chars (composed_units (canonical_by collator.now) b)) ≡ order_by collator.now a (utf16_chars b) }
+    ensures composed_key { (a : List ℕ) → All (λ unit. unit < 2 ^ 16) a
+        → key_by collator.now (utf16_chars (composed_units (canonical_by collator.now) a)) ≡ key_by collator.now (utf16_chars a) }
+{
+    collator.keep_promise();
+}
+
+/// A text that `split_normalized` split in two, or `split_normalized_utf8` or `split_normalized_utf16` did, of a normaliser
+/// over the same canonical data, has the key of its first part with the NFD or the NFC of the other behind it: the calls say
+/// `IsSplitFor` of what they give.
+pub fn split_texts_have_whole_keys(collator: &CollatorBorrowed<'_>)
+    ensures decomposed { (text prefix rest : List ℕ) → IsUtf8 text → IsSplitFor (decomposed_text (canonical_by collator.now)) text prefix rest
+        → key_by collator.now (utf8_chars (prefix ++ decomposed_text (canonical_by collator.now) rest)) ≡ key_by collator.now (utf8_chars text) }
+    ensures composed { (text prefix rest : List ℕ) → IsUtf8 text → IsSplitFor (composed_text (canonical_by collator.now)) text prefix rest
+        → key_by collator.now (utf8_chars (prefix ++ composed_text (canonical_by collator.now) rest)) ≡ key_by collator.now (utf8_chars text) }
+    ensures decomposed_utf8 { (text prefix rest : List ℕ) → IsSplitFor (decomposed_bytes (canonical_by collator.now)) text prefix rest
+        → key_by collator.now (utf8_chars (prefix ++ decomposed_bytes (canonical_by collator.now) rest)) ≡ key_by collator.now (utf8_chars text) }
+    ensures composed_utf8 { (text prefix rest : List ℕ) → IsSplitFor (composed_bytes (canonical_by collator.now)) text prefix rest
+        → key_by collator.now (utf8_chars (prefix ++ composed_bytes (canonical_by collator.now) rest)) ≡ key_by collator.now (utf8_chars text) }
+    ensures decomposed_utf16 { (text prefix rest : List ℕ) → All (λ unit. unit < 2 ^ 16) text → IsSplitFor (decomposed_units (canonical_by collator.now)) text prefix rest
+        → key_by collator.now (utf16_chars (prefix ++ decomposed_units (canonical_by collator.now) rest)) ≡ key_by collator.now (utf16_chars text) }
+    ensures composed_utf16 { (text prefix rest : List ℕ) → All (λ unit. unit < 2 ^ 16) text → IsSplitFor (composed_units (canonical_by collator.now)) text prefix rest
+        → key_by collator.now (utf16_chars (prefix ++ composed_units (canonical_by collator.now) rest)) ≡ key_by collator.now (utf16_chars text) }
+{
+    collator.keep_promise();
+}
+
+/// Where a collator answers `Less` or `Greater`, one at a higher strength answers the same, with the case level off and all
+/// else alike.
+#[tactic(auto, using(crate::proofs::CollatorFormLemmas::raised_answers))]
+pub fn raised_strength_keeps_answers(lower: &CollatorBorrowed<'_>, higher: &CollatorBorrowed<'_>)
+    ensures { DifferInStrength lower.now higher.now → (a b : List ℕ) → order_by lower.now a b ≢ Equal
+        → order_by higher.now a b ≡ order_by lower.now a b }
+{
+    let _lower = *lower;
+    let _higher = *higher;
 }
 
 /// With numeric ordering on, two texts that differ in a number alone compare as the values of the two numbers, where no

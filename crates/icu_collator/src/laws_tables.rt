@@ -8,7 +8,7 @@ ghost use Rattle.icu_collator_core.specs.TableMeaning.{collation_of};
 ghost use Rattle.icu_collator_core.specs.TableSettings.{is_compressible_in};
 ghost use Rattle.icu_collator_core.specs.declared.tables.CollationTables.{CollationTables};
 ghost use Rattle.icu_collator.specs.SoundCollation.{IsSoundCollation};
-ghost use Rattle.icu_collator.specs.WholeLeads.{MovesOnlyWholeLeads};
+ghost use Rattle.icu_collator_core.specs.WholeLeads.{MovesOnlyWholeLeads};
 
 /// Accepted tables mean weights and settings that keep the rules, where they reorder no part of a lead
 /// by itself, give each lead the place of one as compressible, and have the implicit lead compressible.

@@ -1,10 +1,11 @@
-//! Collation: the order of texts, and their sort keys. `collator::Collator` is made of a provider's
-//! tables, and compares texts and writes keys to the sinks of `sinks`. The laws are functions whose
-//! contracts state them; begin with `laws::order_is_total`.
+//! Collation: the order of texts, and their sort keys, under the names of ICU4X's `icu_collator`. A `Collator` is made of
+//! a provider's tables, or of tables that were checked; borrowed, it compares texts and writes keys to a
+//! `CollationKeySink`. The laws are functions whose contracts state them; begin with `laws::order_is_total`.
 #![tactic(auto)]
 
-pub mod collator;
 mod compare;
+mod comparison;
+pub mod elements;
 mod front;
 mod key_bytes;
 pub mod laws;
@@ -16,6 +17,13 @@ pub mod laws_same;
 pub mod laws_sinks;
 pub mod laws_tables;
 mod levels;
+pub mod options;
+pub mod preferences;
+pub mod provider;
 mod reading;
-pub mod sinks;
+mod sinks;
 mod texts;
+
+pub use comparison::{Collator, CollatorBorrowed, CollatorError};
+pub use icu_collator_types::options::CollatorPreferences;
+pub use sinks::{CollationKeySink, KeyError, TooSmall};

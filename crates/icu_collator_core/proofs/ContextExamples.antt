@@ -6,7 +6,7 @@ use Rattle.std.proofs.lemmas.Option.{same_Some}
 use Rattle.icu_char16trie.specs.UnitMaps.{MapsKey, at_node}
 use Rattle.icu_normalizer_core.specs.Canonical.{Canonical}
 use Rattle.icu_collator_core.specs.ContextFaults.{are_others}
-use Rattle.icu_collator_core.specs.ContextRules.{KeysPass, SomeKeyPasses, characters_of_units, has_marks_last, is_prefix, is_suffix, has_flag}
+use Rattle.icu_collator_core.specs.ContextRules.{KeysPass, SomeKeyPasses, characters_of_units, has_marks_last, is_prefix, is_recorded_by, is_suffix, has_flag}
 use Rattle.icu_collator_core.specs.Defaults.{primary_element, special_primary}
 use Rattle.icu_collator_core.specs.Pools.{suffix_word, unprefixed_word}
 use Rattle.icu_collator_core.specs.TableMeaning.{TableWord, recorded_by}
@@ -97,15 +97,15 @@ none_passes others passes units whole none some =
 no_lists : TableWord
 no_lists = record { word = 0; pools = record { ces = []; ce32s = []; contexts = [] } }
 
-mark_behind : is_suffix few_marks no_lists 0x61 (0x300 ∷ []) ≡ true
+mark_behind : is_suffix few_marks (is_recorded_by no_lists) 0x61 (0x300 ∷ []) ≡ true
 unfolding few_marks no_lists has_marks_last
 mark_behind = refl
 
-shorter_not_recorded : is_suffix few_marks no_lists 0x61 (0x62 ∷ 0x300 ∷ []) ≡ false
+shorter_not_recorded : is_suffix few_marks (is_recorded_by no_lists) 0x61 (0x62 ∷ 0x300 ∷ []) ≡ false
 unfolding few_marks no_lists has_marks_last recorded_by suffix_word unprefixed_word
 shorter_not_recorded = refl
 
-eight_behind : is_suffix few_marks no_lists 0x61 (0x62 ∷ 0x62 ∷ 0x62 ∷ 0x62 ∷ 0x62 ∷ 0x62 ∷ 0x62 ∷ 0x62 ∷ []) ≡ false
+eight_behind : is_suffix few_marks (is_recorded_by no_lists) 0x61 (0x62 ∷ 0x62 ∷ 0x62 ∷ 0x62 ∷ 0x62 ∷ 0x62 ∷ 0x62 ∷ 0x62 ∷ []) ≡ false
 unfolding few_marks no_lists
 eight_behind = refl
 

@@ -10,7 +10,8 @@ use Rattle.icu_collator_core.specs.Numbers.{without_last_zeros}
 use Rattle.icu_collator_core.specs.Pools.{Pools, elements_of_word, lone_word, offset_primary, suffix_word, unprefixed_word, word_in_context}
 use Rattle.icu_collator_core.specs.TableMeaning.{own_primary}
 use Rattle.icu_collator_core.specs.TableSettings.{is_compressible_in}
-use Rattle.icu_collator_core.specs.WeightFaults.{are_sound_groups, is_diacritic_count, is_primary_element, is_sound_diacritic, is_sound_in_context, is_sound_lone_word, is_sound_offset, is_sound_spelled, is_sound_word}
+use Rattle.icu_collator_core.specs.SettingRules.{are_sound_groups}
+use Rattle.icu_collator_core.specs.WeightFaults.{is_diacritic_count, is_primary_element, is_sound_diacritic, is_sound_in_context, is_sound_lone_word, is_sound_offset, is_sound_spelled, is_sound_word}
 
 unfoldable computing : Unit {0}
 unfolding small_part target_in value_of_key word_in_context unprefixed_word lone_word suffix_word is_compressible_in moved_primary offset_primary special_primary jamo_primary implicit_primary without_last_zeros elements_of_word is_primary_element is_sound_diacritic is_sound_offset is_sound_spelled is_sound_word

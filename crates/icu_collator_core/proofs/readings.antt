@@ -1,3 +1,4 @@
+pub mod AlikeDecomposedLemmas
 pub mod AlikeLemmas
 pub mod AloneReadLemmas
 pub mod CaseLemmas
@@ -6,6 +7,7 @@ pub mod DecomposingLemmas
 pub mod DigitRunLemmas
 pub mod LowCharacterLemmas
 pub mod MovedMarkLemmas
+pub mod ReachedLemmas
 pub mod ReaderLemmas
 pub mod ReadingLeftLemmas
 pub mod SamenessLemmas

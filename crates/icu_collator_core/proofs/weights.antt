@@ -5,3 +5,4 @@ pub mod ReorderedHalfLemmas
 pub mod SpelledLemmas
 pub mod PrimaryRestLemmas
 pub mod SettingLemmas
+pub mod LeadLemmas

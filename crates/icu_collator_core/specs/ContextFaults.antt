@@ -9,7 +9,7 @@ use Rattle.icu_collator_core.specs.declared.check.flags.Question.TheVariants.{Be
 use Rattle.icu_collator_core.specs.declared.check.layers.Layer.{Layer}
 use Rattle.icu_collator_core.specs.declared.tables.CollationTables.{CollationTables}
 use Rattle.icu_collator_core.specs.declared.tables.data.CollationData.{CollationData}
-use Rattle.icu_collator_core.specs.ContextRules.{AreFlagsTrue, KeepsContextRules, KeysPass, begins_with_mark, ends_in_mark, holds_starter, is_prefix, is_suffix, longest_suffix, may_be_digit, may_have_prefix, units_named}
+use Rattle.icu_collator_core.specs.ContextRules.{AreFlagsTrue, KeepsContextRules, KeysPass, begins_with_mark, ends_in_mark, holds_starter, is_prefix, is_recorded_by, is_suffix, longest_suffix, may_be_digit, may_have_prefix, units_named}
 use Rattle.icu_collator_core.specs.TableMeaning.{TableWord, is_primary_alone, own_primary, pools_of, weights_of, word_in}
 
 -- ## The rule
@@ -51,16 +51,16 @@ agree flag fact = cond flag fact (not fact)
 
 -- the word of a digit stands on a character that may be one
 abbrev pub keeps_digit_rule : Canonical → TableWord → ℕ → Bool
-keeps_digit_rule canonical entry c = not (has_tag Digit entry.word) || may_be_digit canonical entry c
+keeps_digit_rule canonical entry c = not (has_tag Digit entry.word) || may_be_digit canonical (is_recorded_by entry) c
 
 -- a character with prefixes may have them, and all keys of their context are prefixes
 abbrev pub KeepsPrefixRules : Canonical → (ℕ → Option ℕ) → TableWord → ℕ → Type 0
 KeepsPrefixRules canonical digit entry c =
     IsTrue (has_tag Prefix entry.word)
-    → IsTrue (may_have_prefix canonical digit entry c) × KeysPass (is_prefix canonical digit) (units_named entry entry.word)
+    → IsTrue (may_have_prefix canonical digit (is_recorded_by entry) c) × KeysPass (is_prefix canonical digit) (units_named entry entry.word)
 
 -- all keys of a contraction are suffixes of the character, and its flags are true of them
 abbrev pub KeepsSuffixRules : Canonical → TableWord → ℕ → ℕ → Type 0
 KeepsSuffixRules canonical entry c word =
     IsTrue (has_tag Contraction word)
-    → KeysPass (is_suffix canonical entry c) (units_named entry word) × AreFlagsTrue canonical word (units_named entry word)
+    → KeysPass (is_suffix canonical (is_recorded_by entry) c) (units_named entry word) × AreFlagsTrue canonical word (units_named entry word)

@@ -11,6 +11,7 @@ use Rattle.icu_collator_types.specs.ElementWords.{has_tag}
 use Rattle.icu_collator_core.specs.Elements.{longest_prefix}
 use Rattle.icu_collator_core.specs.Pools.{index_of, trie_of, unprefixed_word}
 use Rattle.icu_collator_core.specs.TableMeaning.{TableWord, recorded_by}
+use Rattle.icu_collator_core.specs.Weights.{Weights}
 
 -- ## Whole characters
 
@@ -33,6 +34,17 @@ characters_of_units (unit ∷ next ∷ units) =
     in let joined = option_map (λ cs. joined_halves unit next ∷ cs) (characters_of_units units)
     in cond (is_within 0xd800 0xdfff unit) (cond (is_upper_half unit && is_lower_half next) joined None) single
 
+-- ## What is recorded: a text after a prefix, both in reading order
+
+-- by the word of the text's first character
+abbrev pub is_recorded_by : TableWord → List ℕ → List ℕ → Bool
+is_recorded_by entry prefix [] = false
+is_recorded_by entry prefix (c ∷ cs) = is_some (recorded_by entry c prefix cs)
+
+-- by weights
+abbrev pub is_recorded_in : Weights → List ℕ → List ℕ → Bool
+is_recorded_in weights prefix text = is_some (weights.recorded prefix text)
+
 -- ## Suffixes
 
 -- after a mark stand only marks
@@ -52,20 +64,20 @@ abbrev pub holds_starter : Canonical → List ℕ → Bool
 holds_starter canonical cs = list_any (is_starter canonical) cs
 
 -- a text over two characters that ends in a mark is recorded without it
-abbrev pub is_recorded_shorter : Canonical → TableWord → ℕ → List ℕ → Bool
-is_recorded_shorter canonical entry c suffix =
+abbrev pub is_recorded_shorter : Canonical → (List ℕ → List ℕ → Bool) → ℕ → List ℕ → Bool
+is_recorded_shorter canonical is_recorded c suffix =
     leb (length suffix) 1
-    || (not (ends_in_mark canonical suffix) || is_some (recorded_by entry c [] (take (length suffix - 1) suffix)))
+    || (not (ends_in_mark canonical suffix) || is_recorded [] (c ∷ take (length suffix - 1) suffix))
 
 -- how many characters a suffix may have
 abbrev pub longest_suffix : ℕ
 longest_suffix = 7
 
 -- what may stand behind a character
-abbrev pub is_suffix : Canonical → TableWord → ℕ → List ℕ → Bool
-is_suffix canonical entry c suffix =
+abbrev pub is_suffix : Canonical → (List ℕ → List ℕ → Bool) → ℕ → List ℕ → Bool
+is_suffix canonical is_recorded c suffix =
     leb (length suffix) longest_suffix
-    && (has_marks_last canonical (c ∷ suffix) && is_recorded_shorter canonical entry c suffix)
+    && (has_marks_last canonical (c ∷ suffix) && is_recorded_shorter canonical is_recorded c suffix)
 
 -- ## Prefixes
 
@@ -79,15 +91,15 @@ abbrev pub is_prefix : Canonical → (ℕ → Option ℕ) → List ℕ → Bool
 is_prefix canonical digit prefix = leb (length prefix) longest_prefix && list_all (is_prefix_character canonical digit) prefix
 
 -- a character that may have prefixes: a starter, no digit, no jamo, and recorded alone
-abbrev pub may_have_prefix : Canonical → (ℕ → Option ℕ) → TableWord → ℕ → Bool
-may_have_prefix canonical digit entry c =
-    is_starter canonical c && (not (is_some (digit c)) && (not (is_jamo c) && is_some (recorded_by entry c [] [])))
+abbrev pub may_have_prefix : Canonical → (ℕ → Option ℕ) → (List ℕ → List ℕ → Bool) → ℕ → Bool
+may_have_prefix canonical digit is_recorded c =
+    is_starter canonical c && (not (is_some (digit c)) && (not (is_jamo c) && is_recorded [] (c ∷ [])))
 
 -- ## Digits
 
 -- a character that may be a digit: a starter, no jamo, and recorded alone
-abbrev pub may_be_digit : Canonical → TableWord → ℕ → Bool
-may_be_digit canonical entry c = is_starter canonical c && (not (is_jamo c) && is_some (recorded_by entry c [] []))
+abbrev pub may_be_digit : Canonical → (List ℕ → List ℕ → Bool) → ℕ → Bool
+may_be_digit canonical is_recorded c = is_starter canonical c && (not (is_jamo c) && is_recorded [] (c ∷ []))
 
 -- ## Words with contexts
 
@@ -118,12 +130,12 @@ units_named entry word = trie_of entry.pools.contexts (index_of word)
 
 -- the word of a character keeps the rules on contexts
 pub record KeepsContextRules (canonical : Canonical) (digit : ℕ → Option ℕ) (entry : TableWord) (c : ℕ) : Type 0 where
-  pub digits : IsTrue (has_tag Digit entry.word) → IsTrue (may_be_digit canonical entry c)
-  pub prefixed : IsTrue (has_tag Prefix entry.word) → IsTrue (may_have_prefix canonical digit entry c)
+  pub digits : IsTrue (has_tag Digit entry.word) → IsTrue (may_be_digit canonical (is_recorded_by entry) c)
+  pub prefixed : IsTrue (has_tag Prefix entry.word) → IsTrue (may_have_prefix canonical digit (is_recorded_by entry) c)
   pub prefixes : IsTrue (has_tag Prefix entry.word) → KeysPass (is_prefix canonical digit) (units_named entry entry.word)
   pub suffixes :
       IsTrue (has_tag Contraction (unprefixed_word entry.pools entry.word))
-      → KeysPass (is_suffix canonical entry c) (units_named entry (unprefixed_word entry.pools entry.word))
+      → KeysPass (is_suffix canonical (is_recorded_by entry) c) (units_named entry (unprefixed_word entry.pools entry.word))
   pub flags :
       IsTrue (has_tag Contraction (unprefixed_word entry.pools entry.word))
       → AreFlagsTrue canonical (unprefixed_word entry.pools entry.word) (units_named entry (unprefixed_word entry.pools entry.word))

@@ -1,5 +1,5 @@
 -- The elements of a text that is given by an iterator.
-use Rattle.std.specs.Prelude.{◌≡◌, ℕ, List, [], ◌∷◌, Option, MatchOption}
+use Rattle.std.specs.Prelude.{◌≡◌, ℕ, List, [], ◌∷◌, Option, None, MatchOption}
 use Rattle.std.specs.Iterator.{Count}
 use Rattle.std.specs.Option.{is_some}
 use Rattle.icu_normalizer_core.specs.Canonical.{decomposed}
@@ -29,17 +29,22 @@ numbers_of s = numeric_of s.reader
 abbrev pub IsBefore : {I : Type 0} → (I → Option ℕ → I → Type 0) → CollationElements I → List ℕ → List ℕ → Type 0
 IsBefore steps s before rest = MatchOption s.source ⊥ (λ u. HasUnread steps u before rest)
 
--- nothing is read yet, and the iterator may be called
+-- the text is read to its end, and all its elements are given
+abbrev pub IsFinished : {I : Type 0} → CollationElements I → Type 0
+IsFinished s = HasEnded s.reader
+
+-- nothing is read yet, and the iterator may be called; or no element is to come
 abbrev pub CanBegin : {I : Type 0} → (I → Type 0) → (I → Count) → CollationElements I → Type 0
-CanBegin can left s = MatchOption s.source ⊥ (λ u. CanComeUp can left u)
+CanBegin can left s = MatchOption s.source (IsFinished s) (λ u. CanComeUp can left u)
 
 -- the elements that are still to come
 abbrev pub elements_to_come : {I : Type 0} → CollationElements I → List Element
 elements_to_come s = elements_left s.reader
 
--- the text is read to its end, and all its elements are given
-abbrev pub IsFinished : {I : Type 0} → CollationElements I → Type 0
-IsFinished s = HasEnded s.reader
+-- a character that was to be put before found no memory: nothing is read, and no element is to come
+pub record HasFailed {I : Type 0} (s : CollationElements I) : Type 0 where
+  pub gone : s.source ≡ None
+  pub finished : IsFinished s
 
 -- the tables and the lead byte are the same
 abbrev pub KeepsTables : {I : Type 0} → CollationElements I → CollationElements I → Type 0

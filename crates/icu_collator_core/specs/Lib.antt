@@ -7,8 +7,12 @@ pub mod Elements
 pub mod Collation
 pub mod WholeNumbers
 pub mod WeightRules
+pub mod PlainLeads
+pub mod PrimaryRanges
+pub mod SettingRules
 pub mod SoundElements
 pub mod Sameness
+pub mod SameSettings
 pub mod Pools
 pub mod TableSettings
 pub mod TableMeaning
@@ -18,6 +22,7 @@ pub mod UnrecordedWords
 pub mod TableFaults
 pub mod ContextRules
 pub mod WeightFaults
+pub mod WholeLeads
 pub mod ReorderingTests
 pub mod SpelledTests
 pub mod WordWeights

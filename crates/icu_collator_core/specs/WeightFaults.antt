@@ -1,7 +1,6 @@
 -- What the tables of a collation are refused for by their weights: one predicate for each fault.
 use Rattle.std.specs.Prelude.{◌≡◌, ◌≢◌, ℕ, ◌+◌, ◌-◌, ◌*◌, ◌/◌, ◌%◌, ◌^◌, ◌<◌, ◌↔◌, ◌⊎◌, Bool, true, false, cond, not, ◌==◌, ◌&&◌, ◌||◌, leb, ltb, min, List, [], ◌∷◌, length, slice_index, Option, Some, None, IfSome}
 use Rattle.std.specs.List.{list_all}
-use Rattle.icu_normalizer_core.specs.BuiltIn.{is_within}
 use Rattle.icu_collator_types.specs.declared.elements.Element.{Element}
 use Rattle.icu_collator_types.specs.declared.elements.word_tags.Tag.TheVariants.{Offset}
 use Rattle.icu_collator_types.specs.ElementWords.{has_tag}
@@ -9,8 +8,10 @@ use Rattle.icu_collator_core.specs.declared.tables.CollationTables.{CollationTab
 use Rattle.icu_collator_core.specs.declared.tables.metadata.CollationMetadata.{CollationMetadata}
 use Rattle.icu_collator_core.specs.declared.tables.reordering.CollationReordering.{CollationReordering}
 use Rattle.icu_collator_core.specs.declared.tables.special_primaries.CollationSpecialPrimaries.{CollationSpecialPrimaries}
+use Rattle.icu_collator_core.specs.SettingRules.{are_sound_groups}
 use Rattle.icu_collator_core.specs.Weights.{Weights}
 use Rattle.icu_collator_core.specs.WeightRules.{is_letter_lead, is_sound_element, is_sound_ranged, is_sound_secondary, lowest_second, second_count}
+use Rattle.icu_collator_core.specs.PlainLeads.{leads_alone}
 use Rattle.icu_collator_core.specs.Pools.{Pools, elements_of_word, index_of, offset_primary, stated_element}
 use Rattle.icu_collator_core.specs.TableMeaning.{is_primary_alone, own_primary}
 use Rattle.icu_collator_core.specs.TableSettings.{groups_of, has_bit, is_compressible_in, reordered_by}
@@ -21,14 +22,7 @@ use Rattle.icu_collator_core.specs.WordForms.{states_element}
 -- what tables say of leads, and nothing else; the rules on one element ask no more
 abbrev pub leads_of : CollationSpecialPrimaries → Weights
 leads_of special_primaries =
-    record {
-      recorded = λ prefix text. None;
-      digit = λ c. None;
-      ranged_primary = λ c. None;
-      is_compressible = is_compressible_in special_primaries.last_primaries;
-      numeric_lead = special_primaries.numeric_primary;
-      dot_above = false;
-    }
+    leads_alone (is_compressible_in special_primaries.last_primaries) special_primaries.numeric_primary
 
 -- V1 to V4 of an element that tables spell; the last of the four values of case is none
 unfoldable pub is_sound_spelled : CollationSpecialPrimaries → Element → Bool
@@ -108,22 +102,6 @@ are_sound_diacritics tables =
     && list_all is_sound_diacritic tables.diacritics.secondaries
 
 -- ## SpecialPrimaries: groups, compressible leads or a lead of numbers that break the rule on settings
-
--- whether no number of a list is below the one before it
-abbrev pub never_falls : List ℕ → Bool
-never_falls [] = true
-never_falls (x ∷ []) = true
-never_falls (x ∷ y ∷ ys) = leb x y && never_falls (y ∷ ys)
-
--- whether a group ends where it may: not below letters, and not within numbers
-abbrev pub is_sound_group : ℕ → ℕ → Bool
-is_sound_group numeric_lead group =
-    leb 0x300 group && not (is_within (numeric_lead * 2 ^ 8 + 1) (numeric_lead * 2 ^ 8 + 0xff) group)
-
--- four groups, each where it may end, none below the one before it
-abbrev pub are_sound_groups : ℕ → List ℕ → Bool
-are_sound_groups numeric_lead groups =
-    (length groups == 4) && list_all (is_sound_group numeric_lead) groups && never_falls groups
 
 -- whether a lead may be compressible
 abbrev pub may_be_compressible : ℕ → Bool

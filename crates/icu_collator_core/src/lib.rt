@@ -15,3 +15,4 @@ pub mod provider;
 mod reading;
 pub mod tables;
 mod tied;
+pub mod weight_rules;

@@ -3,6 +3,7 @@
 use icu_codepointtrie::TrieType;
 use icu_collator_core::checked::CheckedTables;
 use icu_collator_core::elements::CollationElements;
+use icu_collator_core::elements::texts::{decomposed_list, list_elements};
 use icu_collator_samples::packed::checked_tables;
 use icu_collator_types::elements::CollationElement;
 use std::alloc::Global;
@@ -151,4 +152,42 @@ fn is_read_with_the_next(alloc: Global) -> bool {
 fn ok_prepend_upcoming_before_init(rt: HostRuntime) {
     assert!(rt; are_read_from_the_last(rt.alloc()));
     assert!(rt; is_read_with_the_next(rt.alloc()));
+}
+
+/// Whether a text's decomposed list has these characters, and the list these elements.
+fn is_read_as_a_list(alloc: Global, text: &str, characters: &[char], expected: &[u64]) -> bool {
+    let Some(tables) = tables(alloc) else {
+        return false;
+    };
+    let Ok(list) = decomposed_list(alloc, tables.canonical(), text.chars()) else {
+        return false;
+    };
+    if list.as_slice() != characters {
+        return false;
+    }
+    let Ok(elements) = list_elements(alloc, &tables, None, list) else {
+        return false;
+    };
+    elements.len() == expected.len()
+        && elements
+            .iter()
+            .zip(expected)
+            .all(|(element, bits)| *element == CollationElement::new(*bits))
+}
+
+#[test]
+fn ok_decomposed_list(rt: HostRuntime) {
+    assert!(rt; is_read_as_a_list(rt.alloc(), "", &[], &[]));
+}
+
+#[test]
+fn ok_list_elements(rt: HostRuntime) {
+    assert!(rt;
+        is_read_as_a_list(
+            rt.alloc(),
+            "acb",
+            &['a', 'c', 'b'],
+            &[0x2a40_0000_0500_0500, 0x2a20_0000_0500_0500]
+        )
+    );
 }

@@ -17,3 +17,5 @@ mod other_refusals;
 mod refusals;
 #[cfg(test)]
 mod settings;
+#[cfg(test)]
+mod weight_rules;

@@ -8,7 +8,7 @@ use Rattle.icu_normalizer_core.specs.BuiltIn.{built_in_class, is_within}
 use Rattle.icu_collator_core.specs.Defaults.{moved_primary, range_primary}
 use Rattle.icu_normalizer_core.specs.Sameness.{AreSameCanonical}
 use Rattle.icu_collator_core.specs.Sameness.{AreSameWeights}
-use Rattle.icu_collator.specs.Sameness.{AreSameSettings}
+use Rattle.icu_collator_core.specs.SameSettings.{AreSameSettings}
 use Rattle.icu_collator_examples.specs.Tables.{class_of, recorded_of}
 use Rattle.icu_collator_examples.specs.SameTables.{ranged_collation, other_collation}
 

@@ -1,20 +1,22 @@
 //! Callers of a collator, each of which concludes by a law what its calls alone do not say.
 
-ghost use Rattle.std.specs.Prelude.{◌≡◌, ◌++◌, ◌↔◌, ℕ, List, false, IfOk, IsTrue};
+ghost use Rattle.std.specs.Prelude.{◌≡◌, ◌++◌, ◌↔◌, ℕ, List, false, IfOk, IsTrue, string_bytes};
 ghost use Rattle.std.specs.declared.cmp.Ordering.TheVariants.{Less, Equal};
 ghost use Rattle.icu_normalizer_core.specs.Decoding.{utf8_chars};
 ghost use Rattle.icu_normalizer.specs.Equivalence.{IsEquivalent};
 ghost use Rattle.icu_collator_types.specs.declared.options.Strength.TheVariants.{Identical};
 ghost use Rattle.icu_collator_types.specs.Options.{is_at_least};
-ghost use Rattle.icu_collator.specs.CollatorAnswers.{DifferInNumber, HasKeysInOrder, ReadsNumbers, canonical_by, key_by, order_by, value_by};
+ghost use Rattle.icu_collator.specs.CollatorAnswers.{DifferInNumber, DifferInStrength, HasKeysInOrder, ReadsNumbers, canonical_by, key_by, order_by, value_by};
 ghost use Rattle.icu_collator.specs.Collators.{borrowed_options};
 
-use icu_collator::collator::CollatorBorrowed;
 use icu_collator::laws_collators::{
     compare_is_a_total_preorder, equal_at_identical_is_canonical_equivalence,
-    keys_order_as_compare, numbers_compare_by_value,
+    keys_order_as_compare, normalised_bytes_answer_alike, numbers_compare_by_value,
+    raised_strength_keeps_answers, split_texts_have_whole_keys,
 };
-use icu_collator::sinks::KeyError;
+use icu_collator::{CollatorBorrowed, KeyError};
+use icu_normalizer::decomposing::DecomposingNormalizerBorrowed;
+use icu_normalizer::sinks::NormError;
 use std::alloc::{AllocError, Global};
 use std::cmp::Ordering;
 
@@ -93,5 +95,60 @@ pub fn compare_versions(
 {
     let order = collator.compare(alloc, left, right)?;
     numbers_compare_by_value(collator);
+    Ok(order)
+}
+
+/// The key of a text, made of its NFD by a normaliser over the collator's canonical data. It is the key of the text itself.
+pub fn key_of_decomposed(
+    alloc: Global,
+    collator: &CollatorBorrowed<'_>,
+    text: &[u8],
+) -> Result<Vec<u8>, KeyError<AllocError>>
+    ensures { IfOk result (λ key. key.items ≡ key_by collator.now (utf8_chars text.now)) }
+{
+    let normalizer = DecomposingNormalizerBorrowed::new_with_data(collator.canonical());
+    let Ok(form) = normalizer.normalize_utf8(alloc, text) else {
+        return Err(KeyError::Memory);
+    };
+    normalised_bytes_answer_alike(collator);
+    key_of(alloc, collator, form.as_str().as_bytes())
+}
+
+/// A text that is decomposed from where it has to be, by a normaliser over the collator's canonical data. It has the key of
+/// the text itself.
+pub fn decompose_rest(
+    alloc: Global,
+    collator: &CollatorBorrowed<'_>,
+    text: &[u8],
+) -> Result<String, NormError<AllocError>>
+    ensures { IfOk result (λ form. key_by collator.now (utf8_chars (string_bytes form)) ≡ key_by collator.now (utf8_chars text.now)) }
+{
+    let normalizer = DecomposingNormalizerBorrowed::new_with_data(collator.canonical());
+    let (prefix, rest) = normalizer.split_normalized_utf8(text);
+    let Ok(mut form) = String::from_str(alloc, prefix) else {
+        return Err(NormError::Memory);
+    };
+    normalizer.normalize_utf8_to(alloc, rest, &mut form)?;
+    split_texts_have_whole_keys(collator);
+    Ok(form)
+}
+
+/// How two texts compare at the higher of two strengths: it is asked only where they are equal at the lower one.
+pub fn compare_in_two_steps(
+    alloc: Global,
+    lower: &CollatorBorrowed<'_>,
+    higher: &CollatorBorrowed<'_>,
+    left: &str,
+    right: &str,
+) -> Result<Ordering, AllocError>
+    ensures { DifferInStrength lower.now higher.now
+        → IfOk result (λ order. order ≡ order_by higher.now (utf8_chars left.now) (utf8_chars right.now)) }
+{
+    let order = lower.compare(alloc, left, right)?;
+    raised_strength_keeps_answers(lower, higher);
+    if order != Ordering::Equal {
+        return Ok(order);
+    }
+    let order = higher.compare(alloc, left, right)?;
     Ok(order)
 }

@@ -10,7 +10,7 @@ ghost use Rattle.icu_collator_core.specs.Sameness.{AreSameWeights};
 ghost use Rattle.icu_collator.specs.KeyBytes.{key_of_text};
 ghost use Rattle.icu_collator.specs.Levels.{levels_of_text};
 ghost use Rattle.icu_collator.specs.Order.{collation_order};
-ghost use Rattle.icu_collator.specs.Sameness.{AreSameSettings};
+ghost use Rattle.icu_collator_core.specs.SameSettings.{AreSameSettings};
 ghost use Rattle.icu_collator_examples.specs.Letters.{numeric_options};
 ghost use Rattle.icu_collator_examples.specs.SameTables.{other_collation, ranged_collation};
 

@@ -225,13 +225,13 @@ impl CollatorProvider for HeldCollation<'_> {
 
 /// The collation tables of a set of records.
 fn tables_of_set(alloc: Global, set: &RecordSet) -> Option<CollationTables<'static>> {
-    let data = set.canonical.build_data(alloc).ok()?;
+    let data = set.canonical.build_data().ok()?;
     packed_tables(alloc, set, data.as_borrowed(), TrieType::Small)
 }
 
 /// A provider of the tables of a set of records.
 fn held_set(alloc: Global, set: &RecordSet) -> Option<HeldCollation<'static>> {
-    let canonical = set.canonical.build(alloc).ok();
+    let canonical = set.canonical.build().ok();
     let (canonical, tables) = canonical.zip(tables_of_set(alloc, set))?;
     Some(HeldCollation {
         canonical,

@@ -130,7 +130,7 @@ impl DataWriter<'_> {
 
     /// The data of what was written.
     fn data(&self, alloc: Global) -> Option<CollationData<'static>> {
-        let trie = self.map.build(alloc).ok()?;
+        let trie = self.map.build().ok()?;
         data_of(alloc, trie, &self.writer.pools)
     }
 }
@@ -316,7 +316,7 @@ fn tables_of_set(
     set: &RecordSet,
     trie_type: TrieType,
 ) -> Option<(CanonicalData<'static>, CollationTables<'static>)> {
-    let canonical = set.canonical.build_data(alloc).ok()?;
+    let canonical = set.canonical.build_data().ok()?;
     with_tables(alloc, set, canonical, trie_type)
 }
 

@@ -66,7 +66,7 @@ pub fn changed_trie(
     let mut map = CodePointTrieBuilder::new(alloc, other, other, TrieType::Fast).ok()?;
     set_words(&mut map, words).ok()?;
     set_words(&mut map, changes).ok()?;
-    map.build(alloc).ok()
+    map.build().ok()
 }
 
 /// Canonical data in which the three marks have their classes; `None` where memory is refused.
@@ -75,7 +75,7 @@ pub fn canonical(alloc: Global) -> Option<CanonicalData<'static>> {
     builder.class('\u{301}', 230).ok()?;
     builder.class('\u{302}', 230).ok()?;
     builder.class('\u{323}', 220).ok()?;
-    builder.build_data(alloc).ok()
+    builder.build_data().ok()
 }
 
 /// Data of these words and lists; `None` where memory is refused.

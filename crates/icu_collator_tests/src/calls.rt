@@ -1,17 +1,17 @@
 //! With memory at hand each call answers.
 
-use icu_collator::collator::{Collator, CollatorBorrowed};
+use icu_collator::{Collator, CollatorBorrowed};
 use icu_collator_samples::held::{HeldCollation, held_tables};
 use icu_collator_types::options::{CollatorOptions, CollatorPreferences};
 use std::alloc::Global;
 use std::cmp::Ordering;
 
 /// The records of two letters.
-const LETTERS: &str = "w 0061 ; [2A100000.0500.0.0500.0]
+pub(crate) const LETTERS: &str = "w 0061 ; [2A100000.0500.0.0500.0]
 w 0062 ; [2A200000.0500.0.0500.0]";
 
 /// The sort key of the first.
-const KEY: [u8; 8] = [0x2a, 0x10, 1, 5, 1, 1, 5, 1];
+pub(crate) const KEY: [u8; 8] = [0x2a, 0x10, 1, 5, 1, 1, 5, 1];
 
 /// A call.
 #[derive(Clone, Copy)]

@@ -5,4 +5,6 @@
 #[cfg(test)]
 mod calls;
 #[cfg(test)]
+mod failing_sinks;
+#[cfg(test)]
 mod sinks;

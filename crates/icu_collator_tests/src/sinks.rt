@@ -2,7 +2,7 @@
 
 ghost use Rattle.std.specs.Prelude.{◌≤◌};
 
-use icu_collator::sinks::{CollationKeySink, TooSmall};
+use icu_collator::{CollationKeySink, TooSmall};
 use smallvec::SmallVec;
 use std::alloc::Global;
 use std::collections::VecDeque;

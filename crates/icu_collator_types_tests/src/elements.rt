@@ -145,7 +145,7 @@ fn trie_gives_class(alloc: Global) -> bool {
     let Ok(map) = CodePointTrieBuilder::new(alloc, 0xd8e6u32, 0, TrieType::Small) else {
         return false;
     };
-    let Ok(trie) = map.build(alloc) else {
+    let Ok(trie) = map.build() else {
         return false;
     };
     let mut unknown = CharacterAndClass::new_with_placeholder('\u{301}');

@@ -9,16 +9,18 @@ use Rattle.icu_collator_types.specs.declared.elements.Element.{Element}
 use Rattle.icu_collator_types.specs.declared.options.ResolvedCollatorOptions.{ResolvedCollatorOptions}
 use Rattle.icu_collator_types.specs.Options.{is_numeric, is_shifted, group_index}
 use Rattle.icu_collator_core.specs.Collation.{Collation}
+use Rattle.icu_collator_core.specs.Weights.{Weights}
 use Rattle.icu_collator_core.specs.Elements.{elements_of_list}
 use Rattle.icu_normalizer_core.specs.Sameness.{AreSameCanonical}
-use Rattle.icu_collator_core.specs.Sameness.{AreSameWeights}
+use Rattle.icu_collator_core.specs.Sameness.{AreSameLeads, AreSameOf, AreSameWeights}
 use Rattle.icu_normalizer_core.proofs.DecomposedLemmas.{decomposed_scalars}
 use Rattle.icu_normalizer_core.proofs.DecomposedLemmas.{decomposed_same}
+use Rattle.icu_collator_core.proofs.readings.ReachedLemmas.{reached_decomposed, reached_elements}
 use Rattle.icu_collator_core.proofs.readings.SamenessLemmas.{elements_same}
 use Rattle.icu_collator.specs.KeyBytes.{codes_from, primary_code, primary_run, primary_level, key_bytes, key_of_text}
 use Rattle.icu_collator.specs.Levels.{Levels, SecondaryPlace, QuaternaryPlace, shifted, unless_zero, primary_at, secondaries_of, case_at, tertiary_at, quaternary_at, backward_from, secondary_at, levels_of, elements_of_text, levels_of_text}
 use Rattle.icu_collator.specs.Order.{collation_order, levels_order}
-use Rattle.icu_collator.specs.Sameness.{AreSameSettings}
+use Rattle.icu_collator_core.specs.SameSettings.{AreSameSettings}
 use Rattle.icu_collator.specs.Shifted.{Counted, whole, variable, is_variable, counted_behind, counted}
 
 -- what functions that agree pick of a list
@@ -52,7 +54,7 @@ module _ (a b : Collation) (options : ResolvedCollatorOptions) (settings : AreSa
   quaternary_same (whole e) = refl
   quaternary_same (variable p) = ap (λ q. Some (shifted q)) (settings.reordered p)
 
-  elements_levels_same : (es : List Element) (list : List ℕ) → levels_of a options es list ≡ levels_of b options es list
+  pub elements_levels_same : (es : List Element) (list : List ℕ) → levels_of a options es list ≡ levels_of b options es list
   unfolding levels_of
   elements_levels_same es list =
       let made : Collation → List Counted → List ℕ → List SecondaryPlace → List QuaternaryPlace → Levels =
@@ -71,27 +73,53 @@ module _ (a b : Collation) (options : ResolvedCollatorOptions) (settings : AreSa
       ∙ ap (λ is. made a cs (filter_map (primary_at b) cs) (cond is (backward_from [] cs) (filter_map secondary_at cs)) (filter_map (quaternary_at a) cs)) settings.backward
       ∙ ap (λ qs. made a cs (filter_map (primary_at b) cs) (secondaries_of b cs) qs) (picked_same (quaternary_at a) (quaternary_at b) cs quaternary_same)
 
-  module _ (characters : AreSameCanonical a.canonical b.canonical) (weights : AreSameWeights a.weights b.weights) where
-    pub levels_same : (text : List ℕ) → IsDecomposing b.canonical → All IsScalar text → levels_of_text a options text ≡ levels_of_text b options text
-    levels_same text d h =
-        let list = decomposed b.canonical text
-        in let one : decomposed a.canonical text ≡ list = decomposed_same a.canonical b.canonical text characters d h
-        in let scalars = All-from_recursion IsScalar list (decomposed_scalars b.canonical text d (recursion_from_All IsScalar text h))
-        in ap (λ ds. levels_of a options (elements_of_list a.canonical a.weights (is_numeric options.numeric) ds) ds) one
-        ∙ ap (λ es. levels_of a options es list) (elements_same a.canonical b.canonical a.weights b.weights (is_numeric options.numeric) characters weights list scalars)
-        ∙ elements_levels_same (elements_of_text b options text) list
+-- codes of keys are of levels, and of what is compressible
+level_same : (v w : Weights) (primaries : List ℕ) → AreSameLeads v w → primary_level v primaries ≡ primary_level w primaries
+level_same v w primaries leads =
+    codes_same primary_code (primary_run v) (primary_run w) None primaries
+    (λ run p. ap (λ (is : Bool). cond is (Some (p / 2 ^ 24)) None) (leads (p / 2 ^ 24)))
 
-    level_same : (primaries : List ℕ) → primary_level a.weights primaries ≡ primary_level b.weights primaries
-    level_same primaries =
-        codes_same primary_code (primary_run a.weights) (primary_run b.weights) None primaries
-        (λ run p. ap (λ (is : Bool). cond is (Some (p / 2 ^ 24)) None) (weights.is_compressible (p / 2 ^ 24)))
+pub bytes_same : (a b : Collation) (options : ResolvedCollatorOptions) (levels : Levels) → AreSameLeads a.weights b.weights
+    → key_bytes a options levels ≡ key_bytes b options levels
+unfolding key_bytes
+bytes_same a b options levels leads = rw (level_same a.weights b.weights levels.primaries leads) refl
 
-    bytes_same : (levels : Levels) → key_bytes a options levels ≡ key_bytes b options levels
-    unfolding key_bytes
-    bytes_same levels = rw (level_same levels.primaries) refl
+-- ---- data that say the same of all scalar values
 
-    pub keys_same : (text : List ℕ) → IsDecomposing b.canonical → All IsScalar text → key_of_text a options text ≡ key_of_text b options text
-    keys_same text d h = ap (key_bytes a options) (levels_same text d h) ∙ bytes_same (levels_of_text b options text)
+module _ (a b : Collation) (options : ResolvedCollatorOptions) (settings : AreSameSettings a b) (characters : AreSameCanonical a.canonical b.canonical) (weights : AreSameWeights a.weights b.weights) where
+  pub levels_same : (text : List ℕ) → IsDecomposing b.canonical → All IsScalar text → levels_of_text a options text ≡ levels_of_text b options text
+  levels_same text d h =
+      let list = decomposed b.canonical text
+      in let one : decomposed a.canonical text ≡ list = decomposed_same a.canonical b.canonical text characters d h
+      in let scalars = All-from_recursion IsScalar list (decomposed_scalars b.canonical text d (recursion_from_All IsScalar text h))
+      in ap (λ ds. levels_of a options (elements_of_list a.canonical a.weights (is_numeric options.numeric) ds) ds) one
+      ∙ ap (λ es. levels_of a options es list) (elements_same a.canonical b.canonical a.weights b.weights (is_numeric options.numeric) characters weights list scalars)
+      ∙ elements_levels_same a b options settings (elements_of_text b options text) list
 
-    pub order_same : (x y : List ℕ) → IsDecomposing b.canonical → All IsScalar x → All IsScalar y → collation_order a options x y ≡ collation_order b options x y
-    order_same x y d h g = ap (λ l. levels_order options l (levels_of_text a options y)) (levels_same x d h) ∙ ap (levels_order options (levels_of_text b options x)) (levels_same y d g)
+  pub keys_same : (text : List ℕ) → IsDecomposing b.canonical → All IsScalar text → key_of_text a options text ≡ key_of_text b options text
+  keys_same text d h = ap (key_bytes a options) (levels_same text d h) ∙ bytes_same a b options (levels_of_text b options text) weights.is_compressible
+
+  pub order_same : (x y : List ℕ) → IsDecomposing b.canonical → All IsScalar x → All IsScalar y → collation_order a options x y ≡ collation_order b options x y
+  order_same x y d h g = ap (λ l. levels_order options l (levels_of_text a options y)) (levels_same x d h) ∙ ap (levels_order options (levels_of_text b options x)) (levels_same y d g)
+
+-- ---- data that say the same of the characters that a text reaches
+
+module _ (a b : Collation) (options : ResolvedCollatorOptions) (decomposing : IsDecomposing a.canonical) (other : IsDecomposing b.canonical) (settings : AreSameSettings a b) where
+  pub reached_levels : (text : List ℕ) → AreSameOf a b text → All IsScalar text → levels_of_text a options text ≡ levels_of_text b options text
+  reached_levels text same h =
+      let numeric = is_numeric options.numeric
+      in let es = elements_of_text b options text
+      in ap (λ ds. levels_of a options (elements_of_text a options text) ds) (reached_decomposed a.canonical b.canonical text decomposing other same.mappings h)
+      ∙ ap (λ es. levels_of a options es (decomposed b.canonical text)) (reached_elements a.canonical b.canonical text decomposing other same.mappings h a.weights b.weights numeric same.readings)
+      ∙ elements_levels_same a b options settings es (decomposed b.canonical text)
+
+  pub reached_keys : (text : List ℕ) → AreSameOf a b text → AreSameLeads a.weights b.weights → All IsScalar text
+      → key_of_text a options text ≡ key_of_text b options text
+  reached_keys text same leads h =
+      ap (key_bytes a options) (reached_levels text same h) ∙ bytes_same a b options (levels_of_text b options text) leads
+
+  pub reached_order : (x y : List ℕ) → AreSameOf a b x → AreSameOf a b y → All IsScalar x → All IsScalar y
+      → collation_order a options x y ≡ collation_order b options x y
+  reached_order x y same other_same h g =
+      ap (λ l. levels_order options l (levels_of_text a options y)) (reached_levels x same h)
+      ∙ ap (levels_order options (levels_of_text b options x)) (reached_levels y other_same g)

@@ -1,5 +1,5 @@
 -- Elements that count, at their places: numbers are shifted whole or not at all.
-use Rattle.std.proofs.Common.{◌≡◌, ◌≢◌, ℕ, zero, suc, ◌<◌, ◌≤◌, ◌+◌, ◌*◌, ◌/◌, ◌%◌, ◌^◌, Bool, true, false, cond, List, [], ◌∷◌, refl, sym, ◌∙◌, ap, subst, arith, inl, inr, ◌⊎◌}
+use Rattle.std.proofs.Common.{◌≡◌, ◌≢◌, ℕ, zero, suc, ◌<◌, ◌≤◌, ◌+◌, ◌*◌, ◌/◌, ◌%◌, ◌^◌, Bool, true, false, cond, List, [], ◌∷◌, length, refl, sym, ◌∙◌, ap, subst, arith, inl, inr, ◌⊎◌}
 use Rattle.std.proofs.lemmas.Bool.{cases_eq, cases_lt, cond_both, and_parts, ltb-true, lt-ltb, eqb-true, eqb-false, eq-eqb, ne_eqb}
 use Rattle.std.proofs.lemmas.Bool.Decides.{nat_tests}
 use mathlib.Core.Bool.{true≢false}
@@ -12,7 +12,8 @@ use Rattle.icu_collator_types.specs.Options.{is_numeric, is_shifted, group_index
 use Rattle.icu_collator_core.specs.Collation.{Collation, reordered_lead}
 use Rattle.icu_collator_core.specs.Defaults.{primary_element}
 use Rattle.icu_collator_core.specs.WeightRules.{AreSoundWeights, IsRecorded}
-use Rattle.icu_collator.specs.Settings.{AreSoundSettings, is_sound_group}
+use Rattle.icu_collator_core.specs.SettingRules.{is_sound_group, never_falls}
+use Rattle.icu_collator.specs.Settings.{AreSoundSettings}
 use Rattle.icu_collator.specs.Shifted.{Counted, whole, variable, is_variable, counted_behind}
 use Rattle.icu_collator.proofs.places.PrimaryPlaceLemmas.{Place, outside, inside, place_behind, IsLetter, recorded, fixed, IsOriginal, IsPrimaryAt, recorded_lead, within_bounds, reordered_lead_is, reordered_second}
 use Rattle.icu_collator.proofs.places.NumberPlaceLemmas.{IsElement, element_behind, Reaches}
@@ -89,7 +90,9 @@ module _ (collation : Collation) (sound : AreSoundWeights collation.weights) (se
   lead_high = (within_bounds 3 0xfc numeric_lead settings.numeric_lead).0
 
   groups_sound : list_all (is_sound_group numeric_lead) collation.groups ≡ true
-  groups_sound = (and_parts _ _ settings.groups).1
+  groups_sound =
+      let all = and_parts ((length collation.groups == 4) && list_all (is_sound_group numeric_lead) collation.groups) (never_falls collation.groups) settings.groups
+      in (and_parts (length collation.groups == 4) (list_all (is_sound_group numeric_lead) collation.groups) all.0).1
 
   -- whether numbers are variable
   abbrev pub numbers_vary : Bool

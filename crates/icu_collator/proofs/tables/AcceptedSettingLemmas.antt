@@ -11,25 +11,13 @@ use Rattle.icu_collator_core.specs.Acceptance.{IsAccepted}
 use Rattle.icu_collator_core.specs.Collation.{with_lead}
 use Rattle.icu_collator_core.specs.TableMeaning.{collation_of}
 use Rattle.icu_collator_core.specs.TableSettings.{groups_of, is_compressible_in, reordered_in}
-use Rattle.icu_collator_core.specs.WeightFaults.{IsSoundReordering, are_sound_groups as are_accepted_groups, is_sound_group as is_accepted_group, never_falls}
+use Rattle.icu_collator_core.specs.WeightFaults.{IsSoundReordering}
 use Rattle.icu_collator_core.specs.WeightRules.{is_letter_lead}
-use Rattle.icu_collator.specs.Settings.{AreSoundSettings, are_sound_groups, is_rising}
+use Rattle.icu_collator.specs.Settings.{AreSoundSettings}
 use Rattle.icu_collator.specs.SoundCollation.{IsSoundCollation}
-use Rattle.icu_collator.specs.WholeLeads.{MovesOnlyWholeLeads, MovesWholeLeads}
+use Rattle.icu_collator_core.specs.WholeLeads.{MovesOnlyWholeLeads, MovesWholeLeads}
 use Rattle.icu_collator_core.proofs.meaning.AcceptedWeightLemmas.{accepted_weights}
 use Rattle.icu_collator.proofs.tables.WholeLeadLemmas.{alike_kept, apart, letter_kept, other_kept, rest_kept}
-
-rising : (xs : List ℕ) → never_falls xs ≡ true → is_rising xs ≡ true
-rising [] h = h
-rising (x ∷ []) h = h
-rising (x ∷ y ∷ ys) h =
-    let both = and_parts (leb x y) (never_falls (y ∷ ys)) h in and_from (leb x y) (is_rising (y ∷ ys)) both.0 (rising (y ∷ ys) both.1)
-
-sound_groups : (lead : ℕ) (groups : List ℕ) → are_accepted_groups lead groups ≡ true → are_sound_groups lead groups ≡ true
-sound_groups lead groups h =
-    let all = and_parts ((length groups == 4) && list_all (is_accepted_group lead) groups) (never_falls groups) h
-    in let both = and_parts (length groups == 4) (list_all (is_accepted_group lead) groups) all.0
-    in and_from _ _ (and_from _ _ both.0 (rising groups all.1)) both.1
 
 -- ---- What stands in the place of primaries
 
@@ -74,7 +62,7 @@ accepted_settings canonical tables accepted moves implicit =
     let leads = keeps_leads tables.special_primaries tables.reordering accepted.reordering moves
     in record {
       numeric_lead = accepted.special_primaries.numeric;
-      groups = sound_groups tables.special_primaries.numeric_primary (groups_of tables.special_primaries.last_primaries) accepted.special_primaries.groups;
+      groups = accepted.special_primaries.groups;
       implicit = implicit;
       compressible = accepted.special_primaries.compressible;
       rest = leads.rest;

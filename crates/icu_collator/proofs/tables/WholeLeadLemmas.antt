@@ -11,7 +11,7 @@ use Rattle.icu_collator_core.specs.TableSettings.{goes_past, is_compressible_in,
 use Rattle.icu_collator_core.specs.WeightFaults.{IsSoundReordering}
 use Rattle.icu_collator_core.specs.WeightRules.{is_letter_lead}
 use Rattle.icu_collator_core.proofs.weights.ReorderedHalfLemmas.{led_lead, rest_stays}
-use Rattle.icu_collator.specs.WholeLeads.{MovesWholeLeads, lead_in_place}
+use Rattle.icu_collator_core.specs.WholeLeads.{MovesWholeLeads, lead_in_place}
 
 -- what a table has at a place
 byte_at : (bytes : List ℕ) (k byte : ℕ) → All (λ byte. byte < 2 ^ 8) bytes → slice_get bytes k ≡ Some byte → byte < 2 ^ 8

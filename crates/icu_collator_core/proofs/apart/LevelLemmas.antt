@@ -31,23 +31,38 @@ abbrev AreApartOn : Level → List Element → Type 0
 AreApartOn level elements =
     (d e : Element) → Contains elements d → Contains elements e → are_apart primary_bytes (weight_on level d) (weight_on level e) ≡ true
 
-pub level_tells : (level : Level) (elements : List Element) (weights ws : List ℕ) (told : Bool) → weights ≡ map (weight_on level) elements
-    → IsPermutation weights ws → IsSorted nat_cmp ws → told ≡ are_steps_apart 0 ws → IsTrue told ↔ AreApartOn level elements
-level_tells level elements weights ws told made moved sorted answer = (
-  λ t d e c k.
+-- none of the weights begins another one
+abbrev AreAllApart : List ℕ → Type 0
+AreAllApart weights = (v w : ℕ) → Contains weights v → Contains weights w → are_apart primary_bytes v w ≡ true
+
+-- weights put in order tell whether they keep apart
+pub order_tells : (weights ws : List ℕ) (told : Bool) → IsPermutation weights ws → IsSorted nat_cmp ws → told ≡ are_steps_apart 0 ws
+    → IsTrue told ↔ AreAllApart weights
+order_tells weights ws told moved sorted answer = (
+  λ t v w c k.
       let nones = (steps_tell ws sorted).0 (sym answer ∙ t) in
-      let is_in : (f : Element) → Contains elements f → Contains ws (weight_on level f) =
-      λ f h. Contains-permutation weights ws (weight_on level f) moved
-      (subst (λ xs. Contains xs (weight_on level f)) (sym made) (mapped_in (weight_on level) elements f h)) in
-      apart_from (weight_on level d) (weight_on level e) (nones _ _ (is_in d c) (is_in e k)) (nones _ _ (is_in e k) (is_in d c)),
+      let is_in : (x : ℕ) → Contains weights x → Contains ws x = λ x h. Contains-permutation weights ws x moved h in
+      apart_from v w (nones _ _ (is_in v c) (is_in w k)) (nones _ _ (is_in w k) (is_in v c)),
   λ apart.
-      let element_of : (w : ℕ) → Contains ws w → (e : Element) × Contains elements e × (weight_on level e ≡ w) =
-      λ w h. from_mapped (weight_on level) elements w
-      (subst (λ xs. Contains xs w) made (Contains-permutation ws weights w (IsPermutation-sym weights ws moved) h)) in
-      answer ∙ (steps_tell ws sorted).1 (λ x y c k.
-      let a = element_of x c in
-      let b = element_of y k in
-      none_begun x y (subst (λ x. are_apart primary_bytes x y ≡ true) a.2 (subst (λ y. are_apart primary_bytes (weight_on level a.0) y ≡ true) b.2 (apart a.0 b.0 a.1 b.1)))),
+      let was_in : (x : ℕ) → Contains ws x → Contains weights x = λ x h. Contains-permutation ws weights x (IsPermutation-sym weights ws moved) h in
+      answer ∙ (steps_tell ws sorted).1 (λ x y c k. none_begun x y (apart x y (was_in x c) (was_in y k))),
+)
+
+-- so do the weights of elements on a level
+pub level_tells : (level : Level) (elements : List Element) (weights : List ℕ) (told : Bool) → weights ≡ map (weight_on level) elements
+    → IsTrue told ↔ AreAllApart weights → IsTrue told ↔ AreApartOn level elements
+level_tells level elements weights told made tells = (
+  λ t d e c k.
+      let is_in : (f : Element) → Contains elements f → Contains weights (weight_on level f) =
+      λ f h. subst (λ xs. Contains xs (weight_on level f)) (sym made) (mapped_in (weight_on level) elements f h) in
+      tells.0 t (weight_on level d) (weight_on level e) (is_in d c) (is_in e k),
+  λ apart.
+      let element_of : (w : ℕ) → Contains weights w → (e : Element) × Contains elements e × (weight_on level e ≡ w) =
+      λ w h. from_mapped (weight_on level) elements w (subst (λ xs. Contains xs w) made h) in
+      tells.1 (λ v w c k.
+      let a = element_of v c in
+      let b = element_of w k in
+      subst (λ v. are_apart primary_bytes v w ≡ true) a.2 (subst (λ w. are_apart primary_bytes (weight_on level a.0) w ≡ true) b.2 (apart a.0 b.0 a.1 b.1))),
 )
 
 -- all levels together

@@ -10,7 +10,7 @@ use Rattle.icu_collator_types.specs.declared.elements.word_tags.Tag.TheVariants.
 use Rattle.icu_collator_types.specs.ElementWords.{has_tag}
 use Rattle.icu_collator_core.specs.declared.check.flags.Question.{Question}
 use Rattle.icu_collator_core.specs.ContextFaults.{KeepsPrefixRules, KeepsSuffixRules, are_others, is_short, keeps_digit_rule, short_answer}
-use Rattle.icu_collator_core.specs.ContextRules.{KeepsContextRules, is_prefix, is_suffix, may_be_digit}
+use Rattle.icu_collator_core.specs.ContextRules.{KeepsContextRules, is_prefix, is_recorded_by, is_suffix, may_be_digit}
 use Rattle.icu_collator_core.specs.Pools.{elements_of_word, lone_word, suffix_word, unprefixed_word}
 use Rattle.icu_collator_core.specs.TableMeaning.{TableWord, is_primary_alone, own_primary, recorded_by, unless_own}
 
@@ -22,14 +22,16 @@ at_most n cs b e = leb-true (length cs) n (and_parts (leb (length cs) n) b e).0
 pub short_prefix : (canonical : Canonical) (digit : ℕ → Option ℕ) (cs : List ℕ) → is_prefix canonical digit cs ≡ true → length cs ≤ 7
 short_prefix canonical digit cs e = let few = at_most 3 cs _ e in omega (arith, few)
 
-pub short_suffix : (canonical : Canonical) (entry : TableWord) (c : ℕ) (cs : List ℕ) → is_suffix canonical entry c cs ≡ true → length cs ≤ 7
-short_suffix canonical entry c cs e = at_most 7 cs _ e
+pub short_suffix : (canonical : Canonical) (is_recorded : List ℕ → List ℕ → Bool) (c : ℕ) (cs : List ℕ) → is_suffix canonical is_recorded c cs ≡ true
+    → length cs ≤ 7
+short_suffix canonical is_recorded c cs e = at_most 7 cs _ e
 
 pub short_answered : (canonical : Canonical) (question : Question) (cs : List ℕ) → short_answer canonical question cs ≡ true → length cs ≤ 7
 short_answered canonical question cs e = at_most 7 cs _ e
 
-pub suffix_is_short : (canonical : Canonical) (entry : TableWord) (c : ℕ) (cs : List ℕ) → IsTrue (is_suffix canonical entry c cs) → IsTrue (is_short cs)
-suffix_is_short canonical entry c cs e = (and_parts (is_short cs) _ e).0
+pub suffix_is_short : (canonical : Canonical) (is_recorded : List ℕ → List ℕ → Bool) (c : ℕ) (cs : List ℕ) → IsTrue (is_suffix canonical is_recorded c cs)
+    → IsTrue (is_short cs)
+suffix_is_short canonical is_recorded c cs e = (and_parts (is_short cs) _ e).0
 
 -- ---- Words that record something
 
@@ -75,14 +77,14 @@ module _ (canonical : Canonical) (digit : ℕ → Option ℕ) (entry : TableWord
   rules_kept : AllRules ↔ KeepsContextRules canonical digit entry c
   rules_kept = (
     λ rules. record {
-      digits = asked (has_tag Digit entry.word) (may_be_digit canonical entry c) rules.0;
+      digits = asked (has_tag Digit entry.word) (may_be_digit canonical (is_recorded_by entry) c) rules.0;
       prefixed = λ t. (rules.1 t).0;
       prefixes = λ t. (rules.1 t).1;
       suffixes = λ t. (rules.2 t).0;
       flags = λ t. (rules.2 t).1;
     },
     λ kept. (
-      asks (has_tag Digit entry.word) (may_be_digit canonical entry c) kept.digits,
+      asks (has_tag Digit entry.word) (may_be_digit canonical (is_recorded_by entry) c) kept.digits,
       λ t. (kept.prefixed t, kept.prefixes t),
       λ t. (kept.suffixes t, kept.flags t),
     ),

@@ -12,7 +12,7 @@ use Rattle.icu_collator_types.specs.ElementWords.{has_tag}
 use Rattle.icu_collator_core.specs.declared.check.layers.Layer.{Layer}
 use Rattle.icu_collator_core.specs.declared.tables.CollationTables.{CollationTables}
 use Rattle.icu_collator_core.specs.declared.tables.data.CollationData.{CollationData}
-use Rattle.icu_collator_core.specs.ContextRules.{KeepsContextRules, is_prefix, is_suffix}
+use Rattle.icu_collator_core.specs.ContextRules.{KeepsContextRules, is_prefix, is_recorded_by, is_suffix}
 use Rattle.icu_collator_core.specs.Pools.{digit_value, elements_of_word, index_of, lone_word, offset_primary, prefix_word, suffix_word, unprefixed_word}
 use Rattle.icu_collator_core.specs.PrefixFaults.{IsAmong, IsRanged, IsRangedIn, IsSpelled, IsSpelledIn}
 use Rattle.icu_collator_core.specs.TableFaults.{HasWord}
@@ -55,8 +55,8 @@ unless_own_some c fs es h = at (is_primary_alone (own_primary c) fs) refl h
     at true is k = absurd (none-some es k)
     at false is k = let same = same_Some fs es k in (ap (is_primary_alone (own_primary c)) (sym same) ∙ is, same)
 
-suffix_short : (canonical : Canonical) (entry : TableWord) (c : ℕ) → AreShort (is_suffix canonical entry c)
-suffix_short canonical entry c cs h = leb-true (length cs) 7 (and_parts (leb (length cs) 7) _ h).0
+suffix_short : (canonical : Canonical) (is_recorded : List ℕ → List ℕ → Bool) (c : ℕ) → AreShort (is_suffix canonical is_recorded c)
+suffix_short canonical is_recorded c cs h = leb-true (length cs) 7 (and_parts (leb (length cs) 7) _ h).0
 
 pub prefix_short : (canonical : Canonical) (digit : ℕ → Option ℕ) → AreShort (is_prefix canonical digit)
 prefix_short canonical digit cs h = let three = leb-true (length cs) 3 (and_parts (leb (length cs) 3) _ h).0 in omega (arith, three)
@@ -91,8 +91,8 @@ module _
   unfolding suffix_word
   by_suffix ds one es e found told within =
       let both = asked (has_tag Contraction (unprefixed_word (pools_of source) (word_at source c))) _ one found
-      in let has = context_value (is_suffix canonical (word_in source c) c) (pools_of source) (unprefixed_word (pools_of source) (word_at source c)) ds one
-      (suffix_short canonical (word_in source c) c) (contexts.suffixes both.0) both.1
+      in let has = context_value (is_suffix canonical (is_recorded_by (word_in source c)) c) (pools_of source) (unprefixed_word (pools_of source) (word_at source c)) ds one
+      (suffix_short canonical (is_recorded_by (word_in source c)) c) (contexts.suffixes both.0) both.1
       in let passes = value_passes (pools_of source) (is_sound_in_context tables.special_primaries (pools_of source) c) (unprefixed_word (pools_of source) (word_at source c)) one (weights.1 both.0) has
       in among one es e (inr (inl (both.0, has))) told
       (context_sound tables.special_primaries es (word_sound tables.special_primaries (pools_of source) None c one es passes told)) within

@@ -14,7 +14,7 @@ use Rattle.icu_collator_types.specs.ElementWords.{has_tag}
 use Rattle.icu_collator_core.specs.declared.tables.data.CollationData.{CollationData}
 use Rattle.icu_collator_core.specs.declared.tied.texts.Side.TheVariants.{Before, Behind}
 use Rattle.icu_collator_core.specs.ContextFaults.{is_short}
-use Rattle.icu_collator_core.specs.ContextRules.{KeepsContextRules, KeysPass, is_prefix, is_suffix}
+use Rattle.icu_collator_core.specs.ContextRules.{KeepsContextRules, KeysPass, is_prefix, is_recorded_by, is_suffix}
 use Rattle.icu_collator_core.specs.Pools.{elements_of_word, index_of, prefix_word, suffix_word, unprefixed_word, word_in_context}
 use Rattle.icu_collator_core.specs.TableMeaning.{TableWord, pools_of, recorded_by, word_at, word_in}
 use Rattle.icu_collator_core.specs.TiedWords.{WordTies, names_context}
@@ -41,7 +41,7 @@ weaker_keys passes others units weaker keys = (
 pub source_short : (canonical : Canonical) (digit : ℕ → Option ℕ) (source : CollationData) (c : ℕ)
     → KeepsContextRules canonical digit (word_in source c) c → AreShortKeys (word_in source c)
 source_short canonical digit source c rules = record {
-  behind = λ yes. weaker_keys (is_suffix canonical (word_in source c) c) is_short _ (λ cs h. (and_parts (leb (length cs) 7) _ h).0) (rules.suffixes yes);
+  behind = λ yes. weaker_keys (is_suffix canonical (is_recorded_by (word_in source c)) c) is_short _ (λ cs h. (and_parts (leb (length cs) 7) _ h).0) (rules.suffixes yes);
   before = λ yes. weaker_keys (is_prefix canonical digit) is_short _ (λ cs h. le-leb (length cs) 7 (prefix_short canonical digit cs h)) (rules.prefixes yes);
 }
 

@@ -5,7 +5,7 @@ use Rattle.std.specs.Prelude.{◌==◌, ◌&&◌, leb, Some, None}
 use Rattle.std.proofs.lemmas.Bool.{and_right, cond_both, eqb-true, lt-leb, ne_eqb, or_from}
 use Rattle.std.proofs.lemmas.Option.{slice_get_past}
 use Rattle.icu_normalizer_core.specs.BuiltIn.{is_within}
-use Rattle.icu_collator_core.specs.WeightFaults.{are_sound_groups, is_sound_group, never_falls}
+use Rattle.icu_collator_core.specs.SettingRules.{are_sound_groups, is_sound_group, never_falls}
 use Rattle.icu_collator_core.specs.TableSettings.{groups_of, has_bit, has_lead_bit, is_compressible_in, is_usually_compressible}
 
 -- the first four of a list that has as many

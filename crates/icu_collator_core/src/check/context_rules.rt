@@ -3,7 +3,7 @@
 ghost use Rattle.std.specs.Prelude.{◌≡◌, ◌↔◌, IsTrue, IfOk, MatchOption};
 ghost use Rattle.icu_normalizer_core.specs.BorrowedMeaning.{borrowed_meaning};
 ghost use Rattle.icu_collator_core.specs.ContextFaults.{HasContexts, KeepsPrefixRules, KeepsSuffixRules, entry_in, keeps_digit_rule};
-ghost use Rattle.icu_collator_core.specs.ContextRules.{KeepsContextRules, may_be_digit, may_have_prefix};
+ghost use Rattle.icu_collator_core.specs.ContextRules.{KeepsContextRules, is_recorded_by, may_be_digit, may_have_prefix};
 ghost use Rattle.icu_collator_core.specs.TableFaults.{AllPassIn, IsFirstRefused};
 ghost use Rattle.icu_collator_core.specs.TableMeaning.{weights_of};
 
@@ -31,7 +31,7 @@ fn may_be_digit(
     c: char,
     word: u32,
 ) -> bool
-    ensures { result ≡ may_be_digit (borrowed_meaning canonical.entry) (entry_in source.now word) c }
+    ensures { result ≡ may_be_digit (borrowed_meaning canonical.entry) (is_recorded_by (entry_in source.now word)) c }
 {
     canonical.is_starter(c)
         && !is_jamo(c as u32)
@@ -46,7 +46,7 @@ fn may_have_prefix(
     c: char,
     word: u32,
 ) -> bool
-    ensures { result ≡ may_have_prefix (borrowed_meaning canonical.entry) (weights_of (borrowed_meaning canonical.entry) tables.now).digit (entry_in source.now word) c }
+    ensures { result ≡ may_have_prefix (borrowed_meaning canonical.entry) (weights_of (borrowed_meaning canonical.entry) tables.now).digit (is_recorded_by (entry_in source.now word)) c }
 {
     canonical.is_starter(c)
         && !is_digit(canonical, tables, c)

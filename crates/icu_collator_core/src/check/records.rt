@@ -5,7 +5,7 @@ ghost use Rattle.icu_char16trie.specs.Cursors.{answer_to, units_of};
 ghost use Rattle.icu_char16trie.specs.UnitSteps.{start};
 ghost use Rattle.icu_normalizer_core.specs.BorrowedMeaning.{borrowed_meaning};
 ghost use Rattle.icu_collator_core.specs.ContextFaults.{entry_in};
-ghost use Rattle.icu_collator_core.specs.ContextRules.{is_recorded_shorter, is_suffix};
+ghost use Rattle.icu_collator_core.specs.ContextRules.{is_recorded_by, is_recorded_shorter, is_suffix};
 ghost use Rattle.icu_collator_core.specs.KeyTexts.{text_items};
 ghost use Rattle.icu_collator_core.specs.Pools.{suffix_word, word_in_context};
 ghost use Rattle.icu_collator_core.specs.TableMeaning.{pools_of, recorded_by};
@@ -98,7 +98,7 @@ fn is_recorded_shorter(
     word: u32,
     text: &KeyText,
 ) -> bool
-    ensures { (c : ℕ) → result ≡ is_recorded_shorter (borrowed_meaning canonical.entry) (entry_in source.now word) c (text_items text.now) }
+    ensures { (c : ℕ) → result ≡ is_recorded_shorter (borrowed_meaning canonical.entry) (is_recorded_by (entry_in source.now word)) c (text_items text.now) }
 {
     if text.count <= 1 || !ends_in_mark(canonical, text) {
         return true;
@@ -114,7 +114,7 @@ pub(super) fn is_suffix(
     word: u32,
     text: &KeyText,
 ) -> bool
-    ensures { result ≡ is_suffix (borrowed_meaning canonical.entry) (entry_in source.now word) c (text_items text.now) }
+    ensures { result ≡ is_suffix (borrowed_meaning canonical.entry) (is_recorded_by (entry_in source.now word)) c (text_items text.now) }
 {
     text.count <= 7
         && has_marks_last(canonical, c, text)

@@ -3,7 +3,7 @@
 ghost use Rattle.std.specs.Prelude.{◌≡◌, ◌^◌, ◌<◌, ◌↔◌, IsTrue, IfOk};
 ghost use Rattle.icu_normalizer_core.specs.BorrowedMeaning.{borrowed_meaning};
 ghost use Rattle.icu_collator_core.specs.ContextFaults.{entry_in};
-ghost use Rattle.icu_collator_core.specs.ContextRules.{KeysPass, is_suffix};
+ghost use Rattle.icu_collator_core.specs.ContextRules.{KeysPass, is_recorded_by, is_suffix};
 ghost use Rattle.icu_collator_core.specs.Pools.{trie_of};
 
 use super::records::is_suffix;
@@ -26,9 +26,9 @@ impl<'d, 'a> TextTest for SuffixTest<'d, 'a> {
     ghost use Rattle.std.proofs.Common.{rules};
     ghost use Rattle.icu_normalizer_core.specs.BorrowedMeaning.{borrowed_meaning};
     ghost use Rattle.icu_collator_core.specs.ContextFaults.{entry_in};
-    ghost use Rattle.icu_collator_core.specs.ContextRules.{is_suffix};
+    ghost use Rattle.icu_collator_core.specs.ContextRules.{is_recorded_by, is_suffix};
 
-    ghost test = { λ suffixes. is_suffix (borrowed_meaning suffixes.canonical) (entry_in suffixes.source.now suffixes.word) suffixes.character };
+    ghost test = { λ suffixes. is_suffix (borrowed_meaning suffixes.canonical) (is_recorded_by (entry_in suffixes.source.now suffixes.word)) suffixes.character };
 
     fn passes(&self, text: &KeyText) -> bool {
         is_suffix(self.canonical, self.source, self.character, self.word, text)
@@ -47,7 +47,7 @@ pub(super) fn are_suffixes(
     place: usize,
 ) -> Result<bool, AllocError>
     requires { place < 2 ^ 32 }
-    ensures { IfOk result (λ all. IsTrue all ↔ KeysPass (is_suffix (borrowed_meaning canonical.entry) (entry_in source.now word) c) (trie_of source.now.contexts place)) }
+    ensures { IfOk result (λ all. IsTrue all ↔ KeysPass (is_suffix (borrowed_meaning canonical.entry) (is_recorded_by (entry_in source.now word)) c) (trie_of source.now.contexts place)) }
 {
     let test = SuffixTest {
         canonical,

@@ -4,8 +4,8 @@ ghost use Rattle.std.specs.List.{list_all};
 ghost use Rattle.std.specs.Prelude.{◌≡◌};
 ghost use Rattle.icu_collator_core.specs.WeightFaults.{are_sound_diacritics, is_diacritic_count, is_sound_diacritic};
 
-use super::rules::is_sound_secondary;
 use crate::tables::{CollationMetadata, CollationTables};
+use crate::weight_rules::is_sound_secondary;
 use icu_packed_vector::PackedVec;
 
 /// How many marks have a secondary in the table of the root.

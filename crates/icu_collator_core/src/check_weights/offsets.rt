@@ -3,55 +3,13 @@
 ghost use Rattle.std.specs.Prelude.{◌≡◌, ◌+◌, ◌-◌, ◌*◌, ◌/◌, ◌%◌, ◌^◌, ◌<◌};
 ghost use Rattle.icu_collator_core.specs.Defaults.{moved_primary};
 ghost use Rattle.icu_collator_core.specs.Pools.{offset_primary};
-ghost use Rattle.icu_collator_core.specs.WeightFaults.{is_sound_offset, keeps_lead, leads_of};
-ghost use Rattle.icu_collator_core.specs.WeightRules.{is_sound_ranged, lowest_second, second_count};
+ghost use Rattle.icu_collator_core.specs.WeightFaults.{is_sound_offset, leads_of};
+ghost use Rattle.icu_collator_core.specs.WeightRules.{is_sound_ranged};
 
-use super::rules::is_sound_primary;
 use crate::tables::CollationSpecialPrimaries;
-
-/// The lowest second byte under a lead.
-fn lowest_second(compressible: bool) -> u32
-    ensures low { result ≡ lowest_second compressible }
-    ensures bound { result < 5 }
-{
-    if compressible { 4 } else { 2 }
-}
-
-/// How many second bytes stand under a lead.
-fn second_count(compressible: bool) -> u32
-    ensures count { result ≡ second_count compressible }
-    ensures filled { 0 < result }
-    ensures bound { result < 255 }
-{
-    if compressible { 251 } else { 254 }
-}
-
-/// Where the third byte of a primary would be, counted from the lowest one, if there were enough of them.
-fn third_place(primary: u32, by: u32) -> u32
-    requires { by < 2 ^ 29 }
-    ensures place { result ≡ primary / 2 ^ 8 % 256 - 2 + by }
-    ensures bound { result < 2 ^ 30 }
-{
-    ((primary >> 8) & 0xff).saturating_sub(2) + by
-}
-
-/// Where the second byte would be.
-fn second_place(compressible: bool, primary: u32, by: u32) -> u32
-    requires { by < 2 ^ 29 }
-    ensures place { result ≡ primary / 2 ^ 16 % 256 - lowest_second compressible + (primary / 2 ^ 8 % 256 - 2 + by) / 254 }
-    ensures bound { result < 2 ^ 30 }
-{
-    let second = (primary >> 16) & 0xff;
-    second.saturating_sub(lowest_second(compressible)) + third_place(primary, by) / 254
-}
-
-/// Whether a primary that is moved on keeps its lead.
-fn keeps_lead(compressible: bool, primary: u32, by: u32) -> bool
-    requires { by < 2 ^ 29 }
-    ensures { result ≡ keeps_lead compressible primary by }
-{
-    second_place(compressible, primary, by) < second_count(compressible)
-}
+use crate::weight_rules::{
+    is_sound_primary, keeps_lead, lowest_second, second_count, second_place, third_place,
+};
 
 /// A primary moved on.
 #[tactic(auto, unfolding(crate::specs::Defaults::moved_primary))]

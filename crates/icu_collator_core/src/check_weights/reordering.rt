@@ -5,8 +5,8 @@ ghost use Rattle.icu_collator_core.specs.ReorderingTests.{AreAllApart, AreAlike,
 ghost use Rattle.icu_collator_core.specs.WeightFaults.{HasSoundReordering, IsSoundReordering};
 
 use super::noted::note;
-use super::rules::is_letter_lead;
 use crate::tables::{CollationReordering, CollationSpecialPrimaries, CollationTables};
+use crate::weight_rules::is_letter_lead;
 
 /// How many lead bytes there are, and how many second bytes.
 const BYTE_COUNT: usize = 256;

@@ -2,11 +2,12 @@
 
 ghost use Rattle.std.specs.Prelude.{◌≡◌, ◌↔◌, ◌∷◌, [], IsTrue};
 ghost use Rattle.std.specs.List.{list_all};
+ghost use Rattle.icu_collator_core.specs.SettingRules.{are_sound_groups, is_sound_group, never_falls};
 ghost use Rattle.icu_collator_core.specs.TableSettings.{groups_of};
-ghost use Rattle.icu_collator_core.specs.WeightFaults.{AreSoundCompressible, AreSoundSpecialPrimaries, KeepsCompressibleLead, are_sound_groups, is_sound_group, may_be_compressible, never_falls};
+ghost use Rattle.icu_collator_core.specs.WeightFaults.{AreSoundCompressible, AreSoundSpecialPrimaries, KeepsCompressibleLead, may_be_compressible};
 
-use super::rules::is_letter_lead;
 use crate::tables::CollationSpecialPrimaries;
+use crate::weight_rules::is_letter_lead;
 use icu_packed_vector::PackedVec;
 
 /// Whether a group ends where it may: not below letters, and not within numbers.

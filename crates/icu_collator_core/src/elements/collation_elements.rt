@@ -1,6 +1,6 @@
 //! The collation elements of a text.
 
-ghost use Rattle.std.specs.Prelude.{◌≡◌, ◌++◌, ◌∷◌, ℕ, List, [], Ok, IfOk, MatchOption, OnErr, OnOk};
+ghost use Rattle.std.specs.Prelude.{◌≡◌, ◌++◌, ◌∷◌, ℕ, List, [], None, Ok, IfOk, MatchOption, OnErr, OnOk};
 ghost use Rattle.std.specs.Iterator.{IsFinite};
 ghost use Rattle.icu_normalizer_core.specs.Iter.{IsFirstOf, Spells};
 
@@ -24,7 +24,7 @@ pub struct CollationElements<'t, 'a, I> {
 }
 
 impl<'t, 'a, I: Iterator<Item = char> + Drop> CollationElements<'t, 'a, I> {
-    ghost use Rattle.icu_collator_core.specs.ElementTexts.{CanBegin, GivesElement, IsBefore, IsFinished, KeepsTables, elements_to_come, end_element, numbers_of, tables_of, text_elements};
+    ghost use Rattle.icu_collator_core.specs.ElementTexts.{CanBegin, GivesElement, HasFailed, IsBefore, IsFinished, KeepsTables, elements_to_come, end_element, numbers_of, tables_of, text_elements};
 
     /// The elements of the characters of an iterator, by these tables. Where a lead byte is given, digits that stand
     /// together are read as a number, whose primaries have this lead byte. No memory is taken.
@@ -51,6 +51,8 @@ impl<'t, 'a, I: Iterator<Item = char> + Drop> CollationElements<'t, 'a, I> {
         ensures first { (before rest : List ℕ) → IsBefore I.next_gives self.old before rest
             → MatchOption result ((rest ≡ []) × IsBefore I.next_gives self.new before []) (IsFirstOf (λ s cs. IsBefore I.next_gives s before cs) rest self.new) }
         ensures ready { CanBegin I.can_next I.remaining self.new }
+        ensures none { HasFailed self.old → result ≡ None }
+        ensures stays { HasFailed self.old → HasFailed self.new }
         ensures tables { KeepsTables self.old self.new }
     {
         match &mut self.source {
@@ -59,28 +61,38 @@ impl<'t, 'a, I: Iterator<Item = char> + Drop> CollationElements<'t, 'a, I> {
         }
     }
 
-    /// Puts a character before all that is to be read, before `init`. Where memory lacks, nothing changes.
+    /// Puts a character before all that is to be read, before `init`. Fails only when out of memory, and then no element is
+    /// to come, whatever is called: `next` gives the element that ends a text, for ever.
     pub fn prepend_upcoming_before_init(&mut self, c: char) -> Result<(), AllocError>
         requires ready { CanBegin I.can_next I.remaining self.old }
         ensures before { (before rest : List ℕ) → IsBefore I.next_gives self.old before rest → OnOk result (IsBefore I.next_gives self.new (c ∷ before) rest) }
-        ensures kept { (before rest : List ℕ) → IsBefore I.next_gives self.old before rest → OnErr result (IsBefore I.next_gives self.new before rest) }
+        ensures failed { OnErr result (HasFailed self.new) }
         ensures ready { CanBegin I.can_next I.remaining self.new }
+        ensures stays { HasFailed self.old → HasFailed self.new }
         ensures tables { KeepsTables self.old self.new }
     {
-        match &mut self.source {
-            Some(source) => source.put_before(c),
-            None => Ok(()),
+        let Some(source) = &mut self.source else {
+            return Ok(());
+        };
+        match source.put_before(c) {
+            Ok(()) => Ok(()),
+            Err(error) => {
+                self.source = None;
+                self.reader.stop();
+                Err(error)
+            }
         }
     }
 
     /// Decomposes the text. Fails only when out of memory, and then no element is to come: `next` gives the element that
-    /// ends a text, for ever.
+    /// ends a text, for ever. After a refused `prepend_upcoming_before_init` it does nothing.
     pub fn init(&mut self) -> Result<(), AllocError>
         requires ready { CanBegin I.can_next I.remaining self.old }
         ensures elements { (before rest : List ℕ) → IsBefore I.next_gives self.old before rest
             → OnOk result (elements_to_come self.new ≡ text_elements (tables_of self.old) (numbers_of self.old) (before ++ rest)) }
         ensures none { OnErr result (elements_to_come self.new ≡ []) }
         ensures finished { OnErr result (IsFinished self.new) }
+        ensures stays { HasFailed self.old → HasFailed self.new }
         ensures tables { KeepsTables self.old self.new }
     {
         let Some(source) = self.source.take() else {

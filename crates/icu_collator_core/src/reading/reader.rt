@@ -90,7 +90,7 @@ impl<'t, 'a> Reader<'t, 'a> {
     }
 
     /// Drops what is left.
-    fn stop(&mut self)
+    pub(crate) fn stop(&mut self)
         ensures same { ReadsOn self.old self.new }
         ensures left { elements_left self.new ≡ [] }
         ensures ended { HasEnded self.new }

@@ -5,9 +5,10 @@ ghost use Rattle.std.specs.List.{Contains};
 ghost use Rattle.icu_collator_types.specs.declared.elements.Element.{Element};
 ghost use Rattle.icu_collator_core.specs.ElementLists.{unpacked};
 ghost use Rattle.icu_collator_core.specs.Pools.{element_of};
-ghost use Rattle.icu_collator_core.specs.WeightLists.{are_steps_apart, begins, weight_on};
+ghost use Rattle.icu_collator_core.specs.WeightLists.{weight_on};
 ghost use Rattle.icu_collator_core.specs.WeightRules.{are_apart, are_apart_elements, primary_bytes};
 
+use crate::weight_rules;
 use icu_collator_types::elements::CollationElement;
 use std::alloc::{AllocError, Global};
 
@@ -49,33 +50,6 @@ fn weights_on(
     Ok(weights)
 }
 
-/// Whether the bytes of a weight begin those of a higher one.
-fn begins(weight: u32, higher: u32) -> bool
-    ensures { result ≡ begins weight higher }
-{
-    let room = higher.saturating_sub(weight);
-    weight != 0
-        && (weight < higher
-            && ((weight % 0x100_0000 == 0 && room < 0x100_0000)
-                || ((weight % 0x1_0000 == 0 && room < 0x1_0000)
-                    || (weight % 0x100 == 0 && room < 0x100))))
-}
-
-/// Whether none of weights begins the next one.
-fn are_steps_apart(weights: &[u32]) -> bool
-    ensures { result ≡ are_steps_apart 0 weights.now }
-{
-    let mut before = 0;
-    for place in 0..weights.len() {
-        let weight = weights[place];
-        if begins(before, weight) {
-            return false;
-        }
-        before = weight;
-    }
-    true
-}
-
 /// Whether no weight of elements begins another one on a level. Fails only when out of memory.
 fn are_apart_on(
     alloc: Global,
@@ -84,9 +58,9 @@ fn are_apart_on(
 ) -> Result<bool, AllocError>
     ensures { IfOk result (λ yes. IsTrue yes ↔ ((d e : Element) → Contains (unpacked elements.now) d → Contains (unpacked elements.now) e → are_apart primary_bytes (weight_on level d) (weight_on level e) ≡ true)) }
 {
-    let mut weights = weights_on(alloc, level, elements)?;
-    weights.sort()?;
-    Ok(are_steps_apart(weights.as_slice()))
+    let weights = weights_on(alloc, level, elements)?;
+    let apart = weight_rules::are_apart(weights)?;
+    Ok(apart)
 }
 
 /// Whether three answers are all yes.

@@ -4,7 +4,7 @@ use Rattle.icu_collator_types.specs.declared.elements.word_tags.Tag.TheVariants.
 use Rattle.icu_collator_types.specs.ElementWords.{has_tag}
 use Rattle.icu_normalizer_core.specs.BorrowedMeaning.{borrowed_meaning}
 use Rattle.icu_collator_core.specs.ContextFaults.{entry_in, is_short}
-use Rattle.icu_collator_core.specs.ContextRules.{AreFlagsTrue, KeysPass, is_suffix}
+use Rattle.icu_collator_core.specs.ContextRules.{AreFlagsTrue, KeysPass, is_recorded_by, is_suffix}
 use Rattle.icu_collator_core.specs.Pools.{trie_of}
 use Rattle.icu_collator_core.proofs.checks.ContextLemmas.{suffix_is_short}
 use Rattle.icu_collator_core.proofs.checks.FlagLemmas.{keys_pass_also}
@@ -15,7 +15,7 @@ pub returns-then-not-suffixes : goal.returns-then-not-suffixes
 returns-then-not-suffixes c =
     let canonical = borrowed_meaning c.args.canonical in
     let entry = entry_in c.args.source.now c.args.word in
-    let told = subst (λ place. IsTrue c.in_ok-suffixes.suffixes ↔ KeysPass (is_suffix canonical entry c.args.c) (trie_of c.args.source.now.contexts place))
+    let told = subst (λ place. IsTrue c.in_ok-suffixes.suffixes ↔ KeysPass (is_suffix canonical (is_recorded_by entry) c.args.c) (trie_of c.args.source.now.contexts place))
     c.index_of-place.ensures.index c.in_ok-suffixes.ensures in
     refuted (λ rules. no_is c.in_ok-suffixes.suffixes c.if-not-suffixes.true told (rules (sym c.has_tag.ensures ∙ c.if-not-has_tag.false)).0)
 
@@ -23,15 +23,15 @@ pub are_flags_true-requires-clause-short : goal.are_flags_true-requires-clause-s
 are_flags_true-requires-clause-short c =
     let canonical = borrowed_meaning c.args.canonical in
     let entry = entry_in c.args.source.now c.args.word in
-    keys_pass_also (trie_of c.args.source.now.contexts c.index_of-place.result) (is_suffix canonical entry c.args.c) is_short
-    (suffix_is_short canonical entry c.args.c) (c.in_ok-suffixes.ensures.0 c.if-not-suffixes.false)
+    keys_pass_also (trie_of c.args.source.now.contexts c.index_of-place.result) (is_suffix canonical (is_recorded_by entry) c.args.c) is_short
+    (suffix_is_short canonical (is_recorded_by entry) c.args.c) (c.in_ok-suffixes.ensures.0 c.if-not-suffixes.false)
 
 pub returns : goal.returns
 returns c =
     let canonical = borrowed_meaning c.args.canonical in
     let entry = entry_in c.args.source.now c.args.word in
     let contexts = c.args.source.now.contexts in
-    let told = subst (λ place. IsTrue c.in_ok-suffixes.suffixes ↔ KeysPass (is_suffix canonical entry c.args.c) (trie_of contexts place))
+    let told = subst (λ place. IsTrue c.in_ok-suffixes.suffixes ↔ KeysPass (is_suffix canonical (is_recorded_by entry) c.args.c) (trie_of contexts place))
     c.index_of-place.ensures.index c.in_ok-suffixes.ensures in
     let flags = subst (λ place. IsTrue c.in_ok-flags.flags ↔ AreFlagsTrue canonical c.args.unprefixed (trie_of contexts place))
     c.index_of-place.ensures.index c.in_ok-flags.ensures in

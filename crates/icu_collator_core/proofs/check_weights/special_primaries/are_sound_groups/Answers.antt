@@ -1,6 +1,6 @@
 use Rattle.std.proofs.Common.{◌∙◌, ap, arith, [], ◌∷◌, ◌≤◌, length}
 use Rattle.std.specs.Prelude.{◌&&◌}
-use Rattle.icu_collator_core.specs.WeightFaults.{never_falls}
+use Rattle.icu_collator_core.specs.SettingRules.{never_falls}
 use Rattle.icu_collator_core.proofs.weights.SettingLemmas.{groups_read}
 use Rattle.icu_collator_core.proofs.check_weights.special_primaries.are_sound_groups.Goals as goal
 

@@ -1,7 +1,7 @@
 use Rattle.std.proofs.Common.{sym, ◌∙◌, ◌%◌, ◌/◌, ◌^◌}
 use Rattle.std.proofs.lemmas.Bool.{eq-eqb, ne_eqb}
 use Rattle.icu_collator_core.proofs.weights.PrimaryRestLemmas.{one_left, three_left, two_left}
-use Rattle.icu_collator_core.proofs.check_weights.rules.is_sound_rest.Goals as goal
+use Rattle.icu_collator_core.proofs.weight_rules.elements.is_sound_rest.Goals as goal
 
 pub returns-then-fourth-ne0 : goal.returns-then-fourth-ne0
 returns-then-fourth-ne0 c =

@@ -7,3 +7,8 @@ pub record AreSameSettings (a b : Collation) : Type 0 where
   pub reordered : (p : ℕ) → a.reordered p ≡ b.reordered p
   pub backward : a.backward ≡ b.backward
   pub groups : a.groups ≡ b.groups
+
+-- and set the same options, where a caller leaves them open
+pub record AreSameWithOptions (a b : Collation) : Type 0 where
+  pub settings : AreSameSettings a b
+  pub options : a.options ≡ b.options

@@ -2,6 +2,8 @@
 
 ghost use Rattle.std.specs.Prelude.{◌≡◌, option_copied};
 ghost use Rattle.icu_normalizer_core.specs.Loading.{loaded};
+ghost use Rattle.icu_collator_types.specs.Options.{resolved_options};
+ghost use Rattle.icu_collator_core.specs.TableSettings.{settings_of};
 ghost use Rattle.icu_collator.specs.Loading.{loaded_local, loaded_shared, loaded_source, loaded_tables};
 
 mod borrowed;
@@ -72,9 +74,23 @@ impl<'a> Collator<'a> {
     {
         let source = load_source(alloc, provider, prefs.locale, prefs.collation_type)?;
         let tables = checked(alloc, source)?;
+        Ok(Collator::from_tables(tables, prefs, options))
+    }
+
+    /// A collator over tables that were checked, which it owns from then on, for a locale's preferences, with a caller's
+    /// options; these are resolved by `ResolvedCollatorOptions::resolve`, with the settings of the tables' metadata. It
+    /// refuses nothing, and takes no memory.
+    pub fn from_tables(
+        tables: CheckedTables<'a>,
+        prefs: CollatorPreferences<'_>,
+        options: CollatorOptions,
+    ) -> Collator<'a>
+        ensures source { result.source ≡ tables.entry }
+        ensures resolved { result.options ≡ resolved_options options prefs.entry (settings_of tables.entry.tables.metadata) }
+    {
         let settings = tables.tables().metadata.settings();
         let options = ResolvedCollatorOptions::resolve(&options, &prefs, &settings);
-        Ok(Collator { tables, options })
+        Collator { tables, options }
     }
 
     /// The same, borrowed: that has the calls.

@@ -1,6 +1,7 @@
 //! A borrowed collator: it has the calls.
 
 ghost use Rattle.std.specs.Prelude.{◌≡◌};
+ghost use Rattle.icu_normalizer_core.specs.BorrowedMeaning.{borrowed_meaning, borrowed_tables};
 
 mod comparing;
 mod promise;
@@ -8,6 +9,7 @@ mod writing;
 
 use icu_collator_core::checked::CheckedTables;
 use icu_collator_types::options::ResolvedCollatorOptions;
+use icu_normalizer_core::canonical::CanonicalBorrowed;
 
 /// A borrowed collator: the checked tables, and the options that it goes by.
 #[derive(Clone, Copy, Debug)]
@@ -17,6 +19,7 @@ pub struct CollatorBorrowed<'d> {
 }
 
 impl<'d> CollatorBorrowed<'d> {
+    ghost use Rattle.icu_collator.specs.CollatorAnswers.{canonical_by};
     ghost use Rattle.icu_collator.specs.Collators.{borrowed_options, borrowed_source};
 
     /// A collator over checked tables.
@@ -32,5 +35,14 @@ impl<'d> CollatorBorrowed<'d> {
         ensures { result ≡ borrowed_options self.now }
     {
         self.options
+    }
+
+    /// The canonical data that texts are decomposed by. A normaliser over them changes no answer and no key
+    /// (`laws_collators`). It takes no memory.
+    pub fn canonical(&self) -> CanonicalBorrowed<'d>
+        ensures tables { borrowed_tables result ≡ (borrowed_source self.now).canonical }
+        ensures meaning { borrowed_meaning result ≡ canonical_by self.now }
+    {
+        self.tables.canonical()
     }
 }
