@@ -1,4 +1,4 @@
-pub mod lists
+pub mod comparing
 pub mod lookups
 pub mod mappings
 pub mod maps

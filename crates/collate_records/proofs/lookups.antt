@@ -1,5 +1,3 @@
 -- what is found in lines and in tables of characters
 pub mod CharacterTableLemmas
-pub mod FoundLemmas
 pub mod KeyLemmas
-pub mod LookupLemmas

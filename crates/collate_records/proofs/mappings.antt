@@ -1,12 +1,4 @@
--- mapping steps: what is built in, what lines say, what steps reach and where they end
-pub mod BuiltInFallLemmas
-pub mod CanonicalPartLemmas
+-- mapping steps of lines that keep the rules: where they end, and what composes
 pub mod ComposedPairLemmas
 pub mod DecomposingLemmas
-pub mod EndingLemmas
-pub mod ExploringLemmas
-pub mod LoopLemmas
-pub mod LoopPartLemmas
-pub mod ReachedLemmas
-pub mod SoonEndedLemmas
 pub mod StepLemmas

@@ -1,9 +1,2 @@
--- which line offends first against a rule
-pub mod BreachLemmas
+-- what lines give that keep the rules
 pub mod ClassLemmas
-pub mod LimitLemmas
-pub mod LineRuleLemmas
-pub mod MappedMarkLemmas
-pub mod NamedCharacterLemmas
-pub mod PairLemmas
-pub mod PartRuleLemmas

@@ -1,10 +1,10 @@
 -- Lines of an accepted file: what they say, and that they keep the rules.
 use Rattle.std.specs.Prelude.{◌≡◌, ℕ, ◌<◌, ◌≤◌, List, length, All, Some}
 use Rattle.std.specs.Char.{IsScalar}
-use Rattle.collate_records.specs.declared.rule.Rule.{Rule}
-use Rattle.collate_records.specs.Record.{Record, class, mapping}
-use Rattle.collate_records.specs.Known.{known_record_of}
-use Rattle.collate_records.specs.Offenders.{NoneOffends}
+use Rattle.collate_lines.specs.declared.rule.Rule.{Rule}
+use Rattle.collate_lines.specs.Record.{Record, class, mapping}
+use Rattle.collate_lines.specs.Grammar.{record_of}
+use Rattle.collate_rules.specs.Offenders.{NoneOffends}
 
 -- a class that a line gives is below 256
 abbrev pub HasSmallClass : Record → Type 0
@@ -20,9 +20,9 @@ MapsToScalars _ = Unit {0}
 abbrev pub AreScalars : List Record → Type 0
 AreScalars records = All MapsToScalars records
 
--- a line in the grammar, as far as it is known, says this
+-- a line in the grammar says this
 abbrev pub IsSaid : Record → Type 0
-IsSaid given = (line : List ℕ) × (known_record_of line ≡ Some given)
+IsSaid given = (line : List ℕ) × (record_of line ≡ Some given)
 
 -- Lines as an accepted file has them: each is in the grammar, and none offends against a rule.
 pub record AreAccepted (records : List Record) : Type 0 where

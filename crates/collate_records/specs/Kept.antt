@@ -4,7 +4,7 @@ use Rattle.icu_normalizer_core.specs.CanonicalMaps.{AreMeaning}
 use Rattle.icu_normalizer_core.specs.CanonicalMeaning.{meaning}
 use Rattle.collate_records.specs.Accepted.{AreAccepted}
 use Rattle.collate_records.specs.Maps.{maps_of}
-use Rattle.collate_records.specs.Record.{said}
+use Rattle.collate_lines.specs.Record.{said}
 use Rattle.collate_records.specs.WeightsTables.{HasWeights}
 use Rattle.collate_records.specs.declared.records.Records.TheInside.{Inside}
 

@@ -3,7 +3,7 @@ use Rattle.std.specs.Prelude.{not, false, List, [], ◌∷◌, flat_map, Some, N
 use Rattle.icu_normalizer_core.specs.declared.canonical.builder.GivenClass.{GivenClass}
 use Rattle.icu_normalizer_core.specs.declared.canonical.builder.GivenMapping.{GivenMapping}
 use Rattle.icu_normalizer_core.specs.CanonicalMaps.{CanonicalMaps}
-use Rattle.collate_records.specs.Record.{Record, class, mapping}
+use Rattle.collate_lines.specs.Record.{Record, class, mapping}
 
 -- the class that a line gives
 abbrev pub classes_in : Record → List GivenClass

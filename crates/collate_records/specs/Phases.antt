@@ -1,56 +1,42 @@
 -- The phases in which a records file is read: its lines one by one, and then one rule after another. Lines count from 0 here.
-use Rattle.std.specs.Prelude.{◌≡◌, ℕ, ◌+◌, ◌<◌, ◌⊎◌, List, length, Option, MatchOption, Result, MatchResult}
-use Rattle.collate_records.specs.declared.rule.Rule.{Rule}
-use Rattle.collate_records.specs.declared.rule.Rule.TheVariants.{Grammar, V14}
-use Rattle.collate_records.specs.declared.rule.RecordsError.{RecordsError}
-use Rattle.collate_records.specs.declared.rule.RecordsError.TheVariants.{Fault, Memory}
-use Rattle.collate_records.specs.Record.{Record}
-use Rattle.collate_records.specs.Offenders.{NoneOffends, IsFirstOffender}
-use Rattle.collate_records.specs.Rules.{Offends, Repeats, rank}
-use Rattle.collate_records.specs.Files.{IsOutside, records_in}
+use Rattle.std.specs.Prelude.{◌≡◌, ℕ, ◌+◌, ◌<◌, List, map, filter, take, Option, MatchOption, Result, MatchResult}
+use Rattle.std.specs.List.{list_any}
+use Rattle.collate_lines.specs.declared.rule.Rule.{Rule}
+use Rattle.collate_lines.specs.declared.rule.RecordsError.{RecordsError}
+use Rattle.collate_lines.specs.Record.{Record, said}
+use Rattle.collate_lines.specs.Repeats.{is_second, says_something}
+use Rattle.collate_lines.specs.Lines.{lines_of, numbers_from, numbers_of, records_in, records_of}
+use Rattle.collate_lines.specs.Seen.{is_seen}
+use Rattle.collate_rules.specs.Offenders.{NoneOffends, IsFirstOffender}
+use Rattle.collate_rules.specs.Rules.{rank}
+use Rattle.collate_records.specs.declared.reader.Reading.{Reading}
+use Rattle.collate_records.specs.Files.{Breaks, Refuses}
 
--- the first `count` lines are in the grammar, and no two are for one thing
-pub record AreSound (lines : List (List ℕ)) (count : ℕ) : Type 0 where
-  pub inside : (i : ℕ) → i < count → IsOutside lines i → ⊥
-  pub apart : (i : ℕ) → i < count → Repeats (records_in lines) i → ⊥
+-- no line before line i breaks the grammar, the size or V14
+abbrev pub AreSound : List ℕ → ℕ → Type 0
+AreSound file i = (rule : Rule) (k : ℕ) → k < i → rank rule ≡ 0 → Breaks rule file k → ⊥
 
--- Line i isn't in the grammar, or it is for the thing of an earlier line.
-abbrev pub IsUnsound : Rule → List (List ℕ) → ℕ → Type 0
-IsUnsound Grammar lines i = IsOutside lines i
-IsUnsound V14 lines i = (IsOutside lines i → ⊥) × Repeats (records_in lines) i
-IsUnsound rule lines i = ⊥
+-- The lines before line i were read: what those say that say something, their numbers, and what they were for.
+pub record IsReadTo (file : List ℕ) (i : ℕ) (reading : Reading) : Type 0 where
+  pub records : map said reading.records.items ≡ filter says_something (take i (records_in (lines_of file)))
+  pub numbers : reading.numbers.items ≡ numbers_from 0 (take i (records_in (lines_of file)))
+  pub seen : (other : Record) → is_seen reading.seen other ≡ list_any (λ s. is_second s other) (map said reading.records.items)
 
--- an error names the first unsound line of the first `count`, counted from 1, or says that memory ran out
-abbrev pub RefusesLine : List (List ℕ) → ℕ → RecordsError → Type 0
-RefusesLine lines count (Fault fault) =
-    (i : ℕ) × (fault.line ≡ i + 1) × (i < count) × IsUnsound fault.rule lines i × AreSound lines i
-RefusesLine lines count Memory = Unit {0}
+-- no line breaks a rule of a rank below the bound
+abbrev pub KeepsBelow : ℕ → List ℕ → Type 0
+KeepsBelow bound file = (rule : Rule) (i : ℕ) → rank rule < bound → Breaks rule file i → ⊥
 
--- no line breaks a rule of a rank from 1 on and below the bound
-abbrev pub KeepsBelow : ℕ → List Record → Type 0
-KeepsBelow bound records =
-    (rule : Rule) (i : ℕ) → 0 < rank rule → rank rule < bound → i < length records → Offends rule records i → ⊥
+-- the records of a file, with the numbers of their lines
+pub record AreOfFile (file : List ℕ) (records : List Record) (numbers : List ℕ) : Type 0 where
+  pub same_records : records ≡ records_of file
+  pub same_numbers : numbers ≡ numbers_of file
 
--- line i breaks a rule, no line before it does, and no line breaks a rule of a lower rank from 1 on
-pub record BreaksFirst (records : List Record) (rule : Rule) (i : ℕ) : Type 0 where
-  pub ranked : 0 < rank rule
-  pub within : i < length records
-  pub offends : Offends rule records i
-  pub least : (j : ℕ) → j < i → Offends rule records j → ⊥
-  pub lower : KeepsBelow (rank rule) records
+-- One rule was asked after those of lower ranks: what was found is the first record that offends against it.
+abbrev pub AsksRule : Rule → List ℕ → List Record → List ℕ → Option ℕ → Result (Unit {0}) RecordsError → Type 0
+AsksRule rule file records numbers found answer =
+    AreOfFile file records numbers → 0 < rank rule → MatchOption found (NoneOffends rule records) (IsFirstOffender rule records) → KeepsBelow (rank rule) file
+    → MatchResult answer (λ _. KeepsBelow (rank rule + 1) file) (Refuses file)
 
--- an error names that line, counted from 1, or says that memory ran out
-abbrev pub RefusesRecords : List Record → RecordsError → Type 0
-RefusesRecords records (Fault fault) = (i : ℕ) × (fault.line ≡ i + 1) × BreaksFirst records fault.rule i
-RefusesRecords records Memory = Unit {0}
-
--- One rule was asked after those of lower ranks: what was found is the first line that offends against it.
-abbrev pub AsksRule : Rule → List Record → Option ℕ → Result (Unit {0}) RecordsError → Type 0
-AsksRule rule records found answer =
-    0 < rank rule → MatchOption found (NoneOffends rule records) (IsFirstOffender rule records) → KeepsBelow (rank rule) records
-    → MatchResult answer (λ _. KeepsBelow (rank rule + 1) records) (RefusesRecords records)
-
--- the lines are unsound, or sound and in breach of another rule
-abbrev pub RefusesLines : List (List ℕ) → RecordsError → Type 0
-RefusesLines lines error =
-    RefusesLine lines (length lines) error ⊎ (AreSound lines (length lines) × RefusesRecords (records_in lines) error)
+-- The rules of the ranks from one on and below another were asked, after those of lower ranks.
+abbrev pub AsksRules : ℕ → ℕ → List ℕ → Result (Unit {0}) RecordsError → Type 0
+AsksRules first end file answer = KeepsBelow first file → MatchResult answer (λ _. KeepsBelow end file) (Refuses file)

@@ -5,9 +5,9 @@ use Rattle.icu_collator_types.specs.declared.elements.Element.{Element}
 use Rattle.collate_records.specs.declared.character_table.CharacterTable.{CharacterTable}
 use Rattle.collate_records.specs.declared.character_table.CharacterTableBuilder.{CharacterTableBuilder}
 use Rattle.collate_records.specs.CharacterTables.{looked_up, placed}
-use Rattle.collate_records.specs.Keys.{weights_key}
-use Rattle.collate_records.specs.Record.{Record}
-use Rattle.collate_records.specs.Meaning.{first_found, lone_elements_in}
+use Rattle.collate_lines.specs.Keys.{weights_key}
+use Rattle.collate_lines.specs.Record.{Record}
+use Rattle.collate_rules.specs.Meaning.{first_found, lone_elements_in}
 
 -- the table has the elements that the lines give to characters by themselves
 abbrev pub HasWeights : CharacterTable (Vec Element) → List Record → Type 0

@@ -5,9 +5,9 @@ ghost use Rattle.icu_normalizer_core.specs.CanonicalMaps.{AreMeaning, KeepRules}
 ghost use Rattle.icu_normalizer_core.specs.CanonicalMeaning.{meaning};
 ghost use Rattle.collate_records.specs.Accepted.{HasSmallClass};
 ghost use Rattle.collate_records.specs.Maps.{classes_in, mappings_in, maps_of};
-ghost use Rattle.collate_records.specs.Record.{said};
+ghost use Rattle.collate_lines.specs.Record.{said};
 
-use crate::record::Record;
+use collate_lines::record::Record;
 use icu_normalizer_core::canonical::{
     CanonicalData, CanonicalDataBuildError, CanonicalDataBuilder,
 };
@@ -26,7 +26,7 @@ pub(crate) fn canonical_data(
     for given in records {
         give(&mut builder, given)?;
     }
-    match builder.build_data(alloc) {
+    match builder.build_data() {
         Ok(data) => Ok(data),
         Err(CanonicalDataBuildError::Memory) => Err(AllocError),
         Err(CanonicalDataBuildError::Rules) => unreachable!(),

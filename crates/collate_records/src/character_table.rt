@@ -72,10 +72,10 @@ impl<V: Drop> CharacterTableBuilder<V> {
     }
 
     /// The table. `AllocError` where memory is refused.
-    pub(crate) fn build(self, alloc: Global) -> Result<CharacterTable<V>, AllocError>
+    pub(crate) fn build(self) -> Result<CharacterTable<V>, AllocError>
         ensures { IfOk result (λ table. (c : ℕ) → looked_up table.places table.values.items c ≡ placed self.places self.values.items c) }
     {
-        match self.places.build(alloc) {
+        match self.places.build() {
             Ok(places) => Ok(CharacterTable {
                 places,
                 values: self.values,

@@ -3,14 +3,16 @@
 ghost use Rattle.std.specs.Prelude.{ℕ, List};
 ghost use Rattle.icu_normalizer_core.specs.Canonical.{IsComposing, IsDecomposing};
 ghost use Rattle.icu_normalizer_core.specs.CanonicalMaps.{AreMeaning, KeepRules};
-ghost use Rattle.collate_records.specs.declared.rule.Rule.TheVariants.{C1, C2, C3, C4, C9};
-ghost use Rattle.collate_records.specs.Record.{Record};
+ghost use Rattle.icu_collator_core.specs.WeightRules.{AreSoundWeights};
+ghost use Rattle.collate_lines.specs.declared.rule.Rule.TheVariants.{C1, C2, C3, C4, C9};
+ghost use Rattle.collate_lines.specs.Record.{Record};
 ghost use Rattle.collate_records.specs.Maps.{maps_of};
-ghost use Rattle.collate_records.specs.Meaning.{canonical_of};
-ghost use Rattle.collate_records.specs.Offenders.{NoneOffends};
+ghost use Rattle.collate_rules.specs.Meaning.{canonical_of, weights_of};
+ghost use Rattle.collate_rules.specs.Offenders.{NoneOffends};
 ghost use Rattle.collate_records.specs.Accepted.{AreAccepted, AreScalars};
-ghost use Rattle.collate_records.specs.Known.{ArePlain};
-ghost use Rattle.collate_records.specs.Files.{IsAccepted, records_of};
+ghost use Rattle.collate_records.specs.Plain.{ArePlain, MeanPlain};
+ghost use Rattle.collate_records.specs.Files.{IsAccepted};
+ghost use Rattle.collate_lines.specs.Lines.{records_of};
 
 /// Lines of the grammar of which none breaks `C1` to `C4` or `C9` give canonical data, as far as
 /// decomposing goes: mapping steps end, and a full list has at most eight characters
@@ -50,13 +52,12 @@ pub fn accepted_records_compose()
     ensures { (records : List Record) → AreAccepted records → IsComposing (canonical_of records) }
 {}
 
-/// Records are plain so far: they give elements to single characters alone, without prefixes, digits or ranges, and all
-/// settings are the default ones (docs/RECORDS.md).
+/// Plain records give elements to single characters alone, without prefixes, digits or ranges, and all settings are the
+/// default ones (docs/RECORDS.md).
 ///
 /// It computes nothing: its contract is the law.
-#[tactic(auto, using(crate::proofs::reading::KnownRecordLemmas::accepted_plain))]
-pub fn accepted_records_are_plain()
-    ensures { (records : List Record) → AreAccepted records → ArePlain records }
+pub fn plain_records_mean_plain()
+    ensures { (records : List Record) → ArePlain records → MeanPlain records }
 {}
 
 /// An accepted file gives canonical data, as far as decomposing goes (docs/RECORDS.md; UAX 15).
@@ -82,4 +83,11 @@ pub fn accepted_records_mean_their_maps()
 /// It computes nothing: its contract is the law.
 pub fn accepted_records_keep_the_rules_of_maps()
     ensures { (records : List Record) → AreAccepted records → KeepRules (maps_of records) }
+{}
+
+/// The weights that accepted lines give are sound: what the laws of keys ask (docs/RECORDS.md, `V1` to `V6`).
+///
+/// It computes nothing: its contract is the law.
+pub fn accepted_records_have_sound_weights()
+    ensures { (records : List Record) → AreAccepted records → AreSoundWeights (weights_of records) }
 {}

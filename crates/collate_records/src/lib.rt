@@ -1,18 +1,18 @@
 //! Records files: what their lines say, and whether they keep the rules. Begin with
-//! `records::Records::read`; `class` and `mapping` then ask what the file says.
+//! `records::Records::read`; `class` and `mapping` then ask what the file says. The lines are those of `collate_lines`,
+//! the rules those of `collate_rules`.
 #![tactic(auto)]
 
+pub use collate_lines::{record, rule};
+
+mod by_lines;
 mod canonical_data;
-mod canonical_part;
+mod changes;
 mod character_table;
-mod fields;
 pub mod laws;
-mod limit;
-mod line;
+pub mod laws_changes;
+pub mod laws_order;
+mod plain_lines;
 mod reader;
-pub mod record;
 pub mod records;
-pub mod rule;
-mod rules;
-mod seen;
 mod weights_table;

@@ -1,29 +1,41 @@
 //! What an accepted records file says of characters.
 
-ghost use Rattle.std.specs.Prelude.{◌≡◌, ◌∷◌, ℕ, []};
+ghost use Rattle.std.specs.Bool.{OnFalse, OnTrue};
+ghost use Rattle.std.specs.Prelude.{◌≡◌, ◌↔◌, ◌∷◌, ℕ, [], All, IsTrue, MatchBool, false};
 ghost use Rattle.std.specs.Char.{IsScalar};
 ghost use Rattle.std.specs.Option.{option_copied};
 ghost use Rattle.icu_normalizer_core.specs.BorrowedMeaning.{borrowed_meaning};
 ghost use Rattle.icu_normalizer_core.specs.Canonical.{IsCanonical, IsComposing, IsDecomposing};
+ghost use Rattle.icu_normalizer_core.specs.Decoding.{utf8_chars};
 ghost use Rattle.icu_normalizer_core.specs.Properties.{mapped_to};
 ghost use Rattle.icu_normalizer_core.specs.Sameness.{AreSameCanonical};
 ghost use Rattle.collate_records.specs.Accepted.{AreAccepted};
-ghost use Rattle.collate_records.specs.Meaning.{canonical_of, collation_of, class_of, step_of, pair_of, first_found, lone_elements_in, recorded_in};
+ghost use Rattle.collate_rules.specs.Meaning.{canonical_of, collation_of, class_of, step_of, pair_of, first_found, lone_elements_in, recorded_in};
+ghost use Rattle.collate_records.specs.Changes.{AreSettingsEqual, IsChanged, IsUnchanged};
 ghost use Rattle.collate_records.specs.Files.{IsReadFrom};
+ghost use Rattle.collate_records.specs.Plain.{ArePlain};
+ghost use Rattle.collate_records.specs.Reaching.{ReachesNone, ReachesOne, brought_within};
 
+use crate::by_lines::file_settings;
 use crate::canonical_data::canonical_data;
+use crate::changes::{are_said_alike, are_same_mappings, are_settings_equal};
 use crate::character_table::CharacterTable;
+use crate::plain_lines::are_plain;
 use crate::reader::read_records;
-use crate::record::Record;
-use crate::rule::RecordsError;
 use crate::weights_table::weights_table;
+use collate_lines::record::Record;
+use collate_lines::rule::RecordsError;
 use icu_collator_types::elements::Element;
 use icu_collator_types::options::FileSettings;
 use icu_collections::codepointtrie::TrieType;
 use icu_normalizer_core::canonical::{CanonicalBorrowed, CanonicalData};
+use icu_normalizer_core::decoding::decode_utf8;
 use icu_normalizer_core::properties::Decomposed;
 use std::alloc::Global;
 use std::marker::Model;
+
+// No chain of mapping steps is longer than there are code points.
+const MOST_STEPS: u32 = 0x11_0000;
 
 /// What an accepted records file says of characters: a list of lines, as its contracts see it, with
 /// canonical data and a look-up table of weights made of them (docs/RECORDS.md). The lines of records are always accepted:
@@ -46,8 +58,9 @@ impl Drop for Records {
 }
 
 impl Model for Records {
-    ghost use Rattle.std.specs.Prelude.{List, map};
-    ghost use Rattle.collate_records.specs.Record.{Record as PlainRecord, said};
+    ghost use Rattle.collate_records.specs.Plain.{ArePlain};
+    ghost use Rattle.std.specs.Prelude.{◌↔◌, IsTrue, List, map};
+    ghost use Rattle.collate_lines.specs.Record.{Record as PlainRecord, said};
 
     ghost Value = { List PlainRecord };
 
@@ -59,8 +72,8 @@ impl Model for Records {
 }
 
 impl Records {
-    /// Reads a records file (docs/RECORDS.md). It is accepted exactly if no line breaks a rule; the records are what its
-    /// lines say, one for each line.
+    /// Reads a records file (docs/RECORDS.md). It is accepted exactly if no line breaks a rule; the records are what those
+    /// of its lines say that say something, in their order.
     ///
     /// Errors: `Fault` with the first fault of any other file, in the order of faults, its line counted from 1; `Memory`
     /// where memory is refused.
@@ -73,7 +86,7 @@ impl Records {
 
     /// Reads a records file, as `read` does, with the table of weights over a trie of this type: a small one takes less
     /// memory, a fast one less time a look-up.
-    #[tactic(auto, using(crate::proofs::offenders::ClassLemmas::accepted_classes, crate::proofs::lookups::KeyLemmas::accepted_once))]
+    #[tactic(auto, using(crate::proofs::reading::AcceptedLemmas::accepted_once))]
     pub fn read_over(
         alloc: Global,
         bytes: &[u8],
@@ -104,13 +117,18 @@ impl Records {
         let _ = &self.records;
     }
 
-    /// What the file sets of the options (docs/RECORDS.md). No line that sets any is read yet.
-    #[tactic(auto, using(crate::proofs::reading::KnownRecordLemmas::default_set))]
+    /// What the file sets of the options (docs/RECORDS.md): what a line says, else the default.
     pub fn settings(&self) -> FileSettings
         ensures { let collation = collation_of self.now in result ≡ collation.options }
     {
-        self.keep_rules();
-        Default::default()
+        file_settings(&self.records)
+    }
+
+    /// Whether all lines are plain: classes, mappings, and elements of single characters (docs/RECORDS.md).
+    pub fn is_plain(&self) -> bool
+        ensures { IsTrue result ↔ ArePlain self.now }
+    {
+        are_plain(&self.records)
     }
 
     /// What the file says of classes and mappings, with what is built in, as canonical data: classes, mappings, full lists
@@ -140,11 +158,12 @@ impl Records {
         self.canonical().step(c).unwrap_or(Decomposed::Default)
     }
 
-    /// The recorded elements of a code point by itself; `None` where no line gives it any.
+    /// The elements that a `w` line gives to a code point by itself, which in plain records are the recorded ones; `None`
+    /// where no such line gives it any.
     pub fn elements32(&self, c: u32) -> Option<&[Element]>
-        ensures { option_copied result ≡ recorded_in self.now [] (c ∷ []) }
+        ensures lone { option_copied result ≡ first_found (lone_elements_in c) self.now }
+        ensures recorded { ArePlain self.now → option_copied result ≡ recorded_in self.now [] (c ∷ []) }
     {
-        self.keep_rules();
         self.lone_elements(c)
     }
 
@@ -153,5 +172,64 @@ impl Records {
         ensures { option_copied result ≡ first_found (lone_elements_in c) self.now }
     {
         self.weights.get(c).map(|elements| elements.as_slice())
+    }
+
+    /// Whether two files say different things of a character: its class, its mapping, the range that holds it, its digit,
+    /// or the elements of a text that begins with it, after some prefix. It takes no memory.
+    pub fn changed(&self, other: &Records, c: char) -> bool
+        ensures { MatchBool result (IsChanged self.now other.now c) (IsUnchanged self.now other.now c) }
+    {
+        if self.class(c) != other.class(c) {
+            return true;
+        }
+        if !are_same_mappings(self.mapping(c), other.mapping(c)) {
+            return true;
+        }
+        !are_said_alike(&self.records, &other.records, c)
+    }
+
+    /// Whether two files have the same settings, by value: where none is set the default counts, compressible leads are a
+    /// set, and reordering says which lead stands in the place of each. It takes no memory.
+    pub fn settings_equal(&self, other: &Records) -> bool
+        ensures { IsTrue result ↔ AreSettingsEqual self.now other.now }
+    {
+        are_settings_equal(&self.records, &other.records)
+    }
+
+    /// Whether a text, its bytes read as UTF-8, reaches a character of which a test says yes: mapping steps, none
+    /// included, bring it in. What is damaged reads as U+FFFD. It takes no memory.
+    pub fn reaches<F: Fn(char) -> bool + Drop>(&self, text: &[u8], is_one: F) -> bool
+        requires { F.IsAlwaysCallable is_one }
+        ensures { MatchBool result (ReachesOne (step_of self.now) (F.post is_one) (utf8_chars text.now)) (ReachesNone (step_of self.now) (F.post is_one) (utf8_chars text.now)) }
+    {
+        self.keep_rules();
+        for c in decode_utf8(text) {
+            if self.reaches_within(c, MOST_STEPS, &is_one) {
+                return true;
+            }
+        }
+        false
+    }
+
+    /// Whether at most so many steps, one after another, bring such a character in for a character.
+    fn reaches_within<F: Fn(char) -> bool>(&self, c: char, steps: u32, is_one: &F) -> bool
+        requires { F.IsAlwaysCallable is_one.now }
+        ensures one { OnTrue result (ReachesOne (step_of self.now) (F.post is_one.now) (c ∷ [])) }
+        ensures none { OnFalse result (All (λ d. F.post is_one.now d false) (brought_within (step_of self.now) steps c)) }
+    {
+        if is_one(c) {
+            return true;
+        }
+        if steps == 0 {
+            return false;
+        }
+        match self.mapping(c) {
+            Decomposed::Default => false,
+            Decomposed::Singleton(d) => self.reaches_within(d, steps - 1, is_one),
+            Decomposed::Expansion(d, e) => {
+                self.reaches_within(d, steps - 1, is_one)
+                    || self.reaches_within(e, steps - 1, is_one)
+            }
+        }
     }
 }

@@ -52,6 +52,85 @@ fn accepts_lines(rt: HostRuntime) {
 }
 
 #[test]
+fn accepts_each_form_of_line(rt: HostRuntime) {
+    let alloc = rt.alloc();
+    for file in [
+        b"kmap 00B2 0032".as_slice(),
+        b"w 0061 0061 0061 0061 0061 0061 0061 0061 ;".as_slice(),
+        b"w 0062 ;\nt 0061 0061 0061 | 0062 ;".as_slice(),
+        b"w 0061 ;\nt 0061 ;".as_slice(),
+        b"range 4E00 9FFF E0020200 001".as_slice(),
+        b"w 0030 ;\ndigit 0030 9".as_slice(),
+        b"set alternate shifted\nset backward on\nset casefirst upper\nset maxvariable currency".as_slice(),
+        b"set dotabove off\nset numeric 11\nset groups 0300 0400 0500 0600".as_slice(),
+        b"set compress 2A 2A 2B\nset reorder 30 31 31 30".as_slice(),
+    ] {
+        assert_eq!(rt; fault_of(alloc, file), None);
+    }
+}
+
+#[test]
+fn refuses_forms_that_lack_a_field(rt: HostRuntime) {
+    let alloc = rt.alloc();
+    for file in [
+        b"kmap 00B2".as_slice(),
+        b"kmap 00B2 0032 x".as_slice(),
+        b"w 0061 0061 0061 0061 | 0062 ;".as_slice(),
+        b"w | 0062 ;".as_slice(),
+        b"w 0061 | ;".as_slice(),
+        b"w 0061 | 0062 | 0063 ;".as_slice(),
+        b"w ;".as_slice(),
+        b"t 0061".as_slice(),
+        b"range 4E00 9FFF E0020200".as_slice(),
+        b"range 4E00 9FFF E0020200 0001".as_slice(),
+        b"range 4E00 9FFF E002020 1".as_slice(),
+        b"digit 0030 10".as_slice(),
+        b"digit 0030".as_slice(),
+    ] {
+        assert_eq!(rt; fault_of(alloc, file), at(1, Rule::Grammar));
+    }
+}
+
+#[test]
+fn refuses_settings_outside_the_grammar(rt: HostRuntime) {
+    let alloc = rt.alloc();
+    for file in [
+        b"set".as_slice(),
+        b"set alternate".as_slice(),
+        b"set alternate off".as_slice(),
+        b"set backward On".as_slice(),
+        b"set casefirst on".as_slice(),
+        b"set numeric 1".as_slice(),
+        b"set numeric 10 10".as_slice(),
+        b"set groups 0300 0300 0300".as_slice(),
+        b"set compress".as_slice(),
+        b"set compress 2A 2b".as_slice(),
+        b"set reorder 2A 2B 2B".as_slice(),
+        b"set strength 1".as_slice(),
+    ] {
+        assert_eq!(rt; fault_of(alloc, file), at(1, Rule::Grammar));
+    }
+}
+
+#[test]
+fn refuses_a_second_line_for_one_thing(rt: HostRuntime) {
+    let alloc = rt.alloc();
+    for (file, line) in [
+        (b"set numeric 10\nset numeric 11".as_slice(), 2),
+        (b"digit 0030 0\n\ndigit 0030 1".as_slice(), 3),
+        (b"kmap 00B2 0032\nkmap 00B2 0033".as_slice(), 2),
+        (b"t 0061 ;\nw 0061 ;\nt 0061 ;".as_slice(), 3),
+        (b"w 0062 ;\nw 0061 | 0062 ;\nw 0061 | 0062 ;".as_slice(), 3),
+        (
+            b"set backward on\nset alternate shifted\nset backward off".as_slice(),
+            3,
+        ),
+    ] {
+        assert_eq!(rt; fault_of(alloc, file), at(line, Rule::V14));
+    }
+}
+
+#[test]
 fn refuses_lines_outside_the_grammar(rt: HostRuntime) {
     let alloc = rt.alloc();
     for file in [
@@ -143,6 +222,10 @@ fn keeps_the_limits_of_lines(rt: HostRuntime) -> Result<(), Fail> {
     assert_eq!(rt; fault_of(alloc, &line), None);
     line.extend_from_slice(b" [0.8000.0.0500.0]")?;
     assert_eq!(rt; fault_of(alloc, &line), at(1, Rule::Limit));
+    let text = b"w 0061 0061 0061 0061 0061 0061 0061 0061 0061 ;";
+    assert_eq!(rt; fault_of(alloc, text), at(1, Rule::Limit));
+    let mapping = b"kmap 00B2 0061 0061 0061 0061 0061 0061 0061 0061 0061";
+    assert_eq!(rt; fault_of(alloc, mapping), at(1, Rule::Limit));
     Ok(())
 }
 

@@ -3,6 +3,7 @@
 use crate::reader::{at, fault_of};
 use collate_records::records::Records;
 use collate_records::rule::Rule;
+use icu_collator_types::options::{AlternateHandling, CollationCaseFirst, MaxVariable};
 use icu_collections::codepointtrie::TrieType;
 use icu_normalizer_core::canonical::CanonicalBorrowed;
 use icu_normalizer_core::properties::Decomposed;
@@ -57,7 +58,7 @@ fn a_line_more_may_be_at_fault(rt: HostRuntime) -> Result<(), Fail> {
     let lines: [(&[u8], Rule); 3] = [
         (b"class 0301 220", Rule::C8),
         (b"w 0061 ;", Rule::V14),
-        (b"w 0061 0062 ;", Rule::Grammar),
+        (b"w 61 ;", Rule::Grammar),
     ];
     for (line, rule) in lines {
         let mut file = Vec::from_slice(alloc, LETTERS)?;
@@ -115,6 +116,32 @@ fn elements_are_those_of_the_line(rt: &impl Abort, records: &Records) {
     let elements = records.elements32(0x301).unwrap_or(&[]);
     assert_eq!(rt; elements.len(), 1);
     assert_eq!(rt; elements[0].secondary, 0x8800);
+}
+
+#[test]
+fn ok_settings(rt: HostRuntime) -> Result<(), Fail> {
+    let file = b"set maxvariable space\n\nset casefirst lower\nset alternate shifted";
+    let settings = Records::read(rt.alloc(), file)?.settings();
+    assert_eq!(rt; settings.alternate_handling, AlternateHandling::Shifted);
+    assert_eq!(rt; settings.case_first, CollationCaseFirst::Lower);
+    assert_eq!(rt; settings.max_variable, MaxVariable::Space);
+    Ok(())
+}
+
+#[test]
+fn ok_is_plain(rt: HostRuntime) -> Result<(), Fail> {
+    assert!(rt; Records::read(rt.alloc(), LETTERS)?.is_plain());
+    for file in [
+        b"t 0061 ;".as_slice(),
+        b"w 0062 ;\nw 0061 | 0062 ;".as_slice(),
+        b"w 0061 0062 ;".as_slice(),
+        b"range 4E00 9FFF E0020200 1".as_slice(),
+        b"w 0030 ;\ndigit 0030 0".as_slice(),
+        b"set alternate nonignorable".as_slice(),
+    ] {
+        assert!(rt; !Records::read(rt.alloc(), file)?.is_plain());
+    }
+    Ok(())
 }
 
 #[test]

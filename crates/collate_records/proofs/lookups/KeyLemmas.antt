@@ -13,15 +13,15 @@ use Rattle.std.proofs.lemmas.Map.Made.{length-le_from_is_member}
 use Rattle.std.proofs.lemmas.Option.{unwrap_or-slice_get}
 use Rattle.std.proofs.Math.Bool.{or-false, and-false, and-true}
 use Rattle.icu_collator_types.specs.declared.elements.Element.{Element}
-use Rattle.collate_records.specs.declared.rule.Rule.TheVariants.{Grammar, Limit, V14}
-use Rattle.collate_records.specs.Record.{Record, said, nothing, class, mapping, compatibility, weights, range, digit, setting, root, tailoring, lone_weights}
-use Rattle.collate_records.specs.Meaning.{first_found, mapping_in, lone_elements_in}
-use Rattle.collate_records.specs.Rules.{record_at, named, names_in, different, is_second, Repeats}
-use Rattle.collate_records.specs.Offenders.{NoneOffends}
-use Rattle.collate_records.specs.Files.{IsAccepted, lines_of, read_line, records_of}
-use Rattle.collate_records.specs.declared.record.Record.{Record as Line}
-use Rattle.collate_records.proofs.offenders.LimitLemmas.{said_of}
-use Rattle.collate_records.specs.Keys.{class_key, mapping_key, weights_key}
+use Rattle.collate_lines.specs.declared.rule.Rule.TheVariants.{Limit, V14}
+use Rattle.collate_lines.specs.Record.{Record, said, nothing, class, mapping, compatibility, weights, range, digit, setting, root, tailoring, lone_weights}
+use Rattle.collate_rules.specs.Meaning.{first_found, mapping_in, lone_elements_in}
+use Rattle.collate_lines.specs.Repeats.{record_at, is_second, Repeats}
+use Rattle.collate_rules.specs.Rules.{named, names_in, different}
+use Rattle.collate_rules.specs.Offenders.{NoneOffends}
+use Rattle.collate_lines.specs.declared.record.Record.{Record as Line}
+use Rattle.collate_rules.proofs.offenders.LimitLemmas.{said_of}
+use Rattle.collate_lines.specs.Keys.{class_key, mapping_key, weights_key}
 
 -- a line is for one character, which it names, as others of its kind are for theirs
 pub record IsKeyOf (key : Record → List ℕ) (s : Record) (c : ℕ) : Type 0 where
@@ -195,20 +195,6 @@ module _ (key : Record → List ℕ) (kind : IsKind key) where
       let names = names_in (take (i + 1) records) in
       let bounded : names ≤ 150 = ⊎_elim (λ (past : 150 < names). absurd (few i before (inl past))) (λ (within : names ≤ 150). within) (cases_lt 150 names) in
       subst (λ (n : ℕ). length (flat_map key (take n records)) ≤ 150) same (omega (arith, keys_few records once (i + 1) (omega arith), bounded))
-
--- in an accepted file no two lines are for the same thing
-pub accepted_once : (file : List ℕ) → IsAccepted file → NoneOffends V14 (records_of file)
-accepted_once file accepted i lt again =
-    accepted V14 i (
-      rw (← length-map (lines_of file) read_line) lt,
-      (λ outside. accepted Grammar i (inl outside)),
-      (λ past. accepted Grammar i (inr past)),
-      again,
-    )
-
--- an accepted file keeps the limits
-pub accepted_few : (file : List ℕ) → IsAccepted file → NoneOffends Limit (records_of file)
-accepted_few file accepted i lt over = accepted Limit i (rw (← length-map (lines_of file) read_line) lt, over)
 
 turned_false : (d c : ℕ) → eqb d c ≡ false → eqb c d ≡ false
 turned_false d c h = nat_eq_equiv.symm c d ∙ h

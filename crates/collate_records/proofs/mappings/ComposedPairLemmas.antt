@@ -1,5 +1,5 @@
 -- Lines that keep the rules give canonical data, as far as composing goes.
-use Rattle.std.proofs.Common.{◌≡◌, ℕ, ◌<◌, ◌≤◌, ◌⊎◌, ◌==◌, ◌&&◌, suc, inl, inr, ⊎_elim, not, cond, Bool, List, [], ◌∷◌, length, take, drop, get_or, true, false, Option, Some, None, refl, sym, ap, ◌∙◌, arith, subst, bytes_eq}
+use Rattle.std.proofs.Common.{◌≡◌, ◌≢◌, ℕ, ◌<◌, ◌≤◌, ◌⊎◌, ◌==◌, ◌&&◌, suc, inl, inr, ⊎_elim, not, cond, Bool, List, [], ◌∷◌, length, take, drop, get_or, true, false, Option, Some, None, refl, sym, ap, ◌∙◌, arith, subst, bytes_eq}
 use Rattle.std.specs.Option.{is_some, IfSome, option_or}
 use Rattle.std.specs.Char.{IsScalar}
 use Rattle.std.specs.List.{list_any}
@@ -12,29 +12,35 @@ use Rattle.std.proofs.lemmas.Slice.Eq.{bytes_eq-Decides}
 use Rattle.icu_normalizer_core.specs.BuiltIn.{syllable_of, singled_out, built_in_step, is_within}
 use Rattle.icu_normalizer_core.specs.Canonical.{IsComposing, composed}
 use Rattle.icu_normalizer_core.proofs.BuiltInFacts.{syllable_pair, syllable_scalar, syllable_unsingled, singled_mapped}
-use Rattle.collate_records.specs.declared.rule.Rule.TheVariants.{C6, C7, V14}
-use Rattle.collate_records.specs.Record.{Record, nothing, class, mapping, compatibility, weights, range, digit, setting}
-use Rattle.collate_records.specs.Meaning.{first_found, mapping_in, composed_in, is_built_in, step_of, class_of, pair_of, canonical_of}
-use Rattle.collate_records.specs.Rules.{record_at, is_second, pair_in, HasBadSecond, HasBadLow}
-use Rattle.collate_records.specs.Offenders.{NoneOffends}
-use Rattle.collate_records.proofs.lists.LowLemmas.{HasBadLow-none, none_left}
-use Rattle.collate_records.proofs.lookups.FoundLemmas.{found_at}
+use Rattle.collate_lines.specs.declared.rule.Rule.TheVariants.{C6, C7, V14}
+use Rattle.collate_lines.specs.Record.{Record, nothing, class, mapping, compatibility, weights, range, digit, setting}
+use Rattle.collate_rules.specs.Meaning.{first_found, mapping_in, composed_in, is_built_in, step_of, class_of, pair_of, canonical_of}
+use Rattle.collate_lines.specs.Repeats.{record_at, is_second}
+use Rattle.collate_rules.specs.Rules.{pair_in, HasBadSecond, HasBadLow}
+use Rattle.collate_rules.specs.Offenders.{NoneOffends}
+use Rattle.collate_rules.proofs.lists.LowLemmas.{HasBadLow-none}
+use Rattle.collate_rules.proofs.lookups.FoundLemmas.{found_at}
 use Rattle.collate_records.proofs.lookups.KeyLemmas.{mapping-absent}
 use Rattle.collate_records.proofs.mappings.StepLemmas.{step_of-built_in, some_or_none}
-use Rattle.collate_records.proofs.lookups.LookupLemmas.{first_found-append}
-use Rattle.collate_records.proofs.offenders.BreachLemmas.{none_together}
-use Rattle.collate_records.proofs.offenders.PairLemmas.{good_second}
+use Rattle.collate_rules.proofs.lookups.LookupLemmas.{first_found-append}
+use Rattle.collate_rules.proofs.offenders.BreachLemmas.{none_together}
+use Rattle.collate_rules.proofs.offenders.PairLemmas.{good_second}
+
+-- a list that isn't some is none
+none_left : (ds : List ℕ) → ((ds ≢ []) → ⊥) → ds ≡ []
+none_left [] h = refl
+none_left (d ∷ ds) h = absurd (h (λ e. omega (arith, ap length e)))
 
 -- a line that composes two characters to c
-record Composes (a b c : ℕ) (s : Record) : Type 0 where
-  line : s ≡ mapping c (a ∷ b ∷ []) false
-  free : is_built_in c ≡ false
+pub record Composes (a b c : ℕ) (s : Record) : Type 0 where
+  pub line : s ≡ mapping c (a ∷ b ∷ []) false
+  pub free : is_built_in c ≡ false
 
 composing_by : (t : Bool) (c d : ℕ) → cond t (Some c) None ≡ Some d → (t ≡ true) × (c ≡ d)
 composing_by true c d e = (refl, same_Some c d e)
 composing_by false c d e = absurd (none-some d e)
 
-composed_in-some : (a b c : ℕ) (s : Record) → composed_in a b s ≡ Some c → Composes a b c s
+pub composed_in-some : (a b c : ℕ) (s : Record) → composed_in a b s ≡ Some c → Composes a b c s
 composed_in-some a b c nothing e = absurd (none-some c e)
 composed_in-some a b c (class d l) e = absurd (none-some c e)
 composed_in-some a b c (mapping f [] x) e = absurd (none-some c e)

@@ -10,20 +10,20 @@ use Rattle.std.proofs.lemmas.List.Elements.{All-contains, All-cons, All-nil}
 use Rattle.icu_normalizer_core.specs.BuiltIn.{is_syllable, is_jamo, syllable_step, singled_out, built_in_step, built_in_compatibility_step, built_in_class}
 use Rattle.icu_normalizer_core.proofs.BuiltInFacts.{built_in_cases, all_singled_out, syllable_cases, open_syllable_cases, jamo_unmapped, syllable_mapped}
 use Rattle.icu_normalizer_core.specs.Canonical.{Reaches, stands, steps, Leaves, IsFree, IsDecomposing}
-use Rattle.collate_records.specs.Record.{Record}
-use Rattle.collate_records.specs.Meaning.{first_found, class_in, mapping_in, compatibility_in, compatibility_of, else_mapped, step_of, class_of, full_of, canonical_of, any_step}
-use Rattle.collate_records.specs.Rules.{begins_with_mark, is_mapped, MapsMark, HasLoop, HasBadList}
-use Rattle.collate_records.specs.declared.rule.Rule.TheVariants.{C1, C2, C3, C4, C9}
-use Rattle.collate_records.specs.Offenders.{NoneOffends}
+use Rattle.collate_lines.specs.Record.{Record}
+use Rattle.collate_rules.specs.Meaning.{first_found, class_in, mapping_in, compatibility_in, compatibility_of, else_mapped, step_of, class_of, full_of, canonical_of, any_step}
+use Rattle.collate_rules.specs.Rules.{begins_with_mark, is_mapped, MapsMark, HasLoop, HasBadList}
+use Rattle.collate_lines.specs.declared.rule.Rule.TheVariants.{C1, C2, C3, C4, C9}
+use Rattle.collate_rules.specs.Offenders.{NoneOffends}
 use Rattle.collate_records.specs.Accepted.{AreScalars}
-use Rattle.collate_records.proofs.mappings.EndingLemmas.{ends}
-use Rattle.collate_records.proofs.mappings.SoonEndedLemmas.{EndsSoon, unmapped-ends_soon, two-ends_soon, bounded_built_in}
+use Rattle.collate_rules.proofs.mappings.EndingLemmas.{ends}
+use Rattle.collate_rules.proofs.mappings.SoonEndedLemmas.{EndsSoon, unmapped-ends_soon, two-ends_soon, bounded_built_in}
 use Rattle.collate_records.proofs.mappings.StepLemmas.{IsMapped, step_cases, free_step_cases, step_scalars, mark_unmapped, mapped_starter, no_letters, small_class, step_of-built_in, step_of-compatibility, some_or_none}
-use Rattle.collate_records.proofs.offenders.MappedMarkLemmas.{MapsMark-none}
-use Rattle.collate_records.proofs.lists.BadListLemmas.{HasBadList-none}
-use Rattle.collate_records.proofs.lists.FullListLemmas.{expanded_unmapped}
-use Rattle.collate_records.proofs.mappings.LoopPartLemmas.{HasLoop-none}
-use Rattle.collate_records.proofs.offenders.BreachLemmas.{none_together}
+use Rattle.collate_rules.proofs.offenders.MappedMarkLemmas.{MapsMark-none}
+use Rattle.collate_rules.proofs.lists.BadListLemmas.{HasBadList-none}
+use Rattle.collate_rules.proofs.lists.FullListLemmas.{expanded_unmapped}
+use Rattle.collate_rules.proofs.mappings.LoopPartLemmas.{HasLoop-none}
+use Rattle.collate_rules.proofs.offenders.BreachLemmas.{none_together}
 
 -- what is reached from a text that has more
 reaches_from : (step : ℕ → List ℕ) (s t : List ℕ) (x : ℕ) → ((d : ℕ) → Contains s d → Contains t d) → Reaches step s x → Reaches step t x

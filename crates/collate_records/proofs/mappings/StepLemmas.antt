@@ -11,12 +11,13 @@ use Rattle.std.proofs.lemmas.List.Elements.{All-get_or, All-nil}
 use Rattle.icu_normalizer_core.specs.BuiltIn.{is_syllable, is_jamo, singled_out, built_in_step, built_in_compatibility_step, built_in_class}
 use Rattle.icu_normalizer_core.specs.Canonical.{IsFree}
 use Rattle.icu_normalizer_core.proofs.BuiltInFacts.{built_in_short, small_class as small_built_in_class}
-use Rattle.collate_records.specs.Record.{Record, nothing, class, mapping}
-use Rattle.collate_records.specs.Meaning.{is_built_in, first_found, mapping_in, class_in, step_of, class_of}
-use Rattle.collate_records.specs.Rules.{record_at, MapsMark, MapsHangul, IsBadClass, is_built_in_record}
+use Rattle.collate_lines.specs.Record.{Record, nothing, class, mapping}
+use Rattle.collate_rules.specs.Meaning.{is_built_in, first_found, mapping_in, class_in, step_of, class_of}
+use Rattle.collate_lines.specs.Repeats.{record_at}
+use Rattle.collate_rules.specs.Rules.{MapsMark, MapsHangul, IsBadClass, is_built_in_record}
 use Rattle.collate_records.specs.Accepted.{AreScalars, MapsToScalars}
-use Rattle.collate_records.proofs.mappings.EndingLemmas.{Contains-tail}
-use Rattle.collate_records.proofs.lookups.FoundLemmas.{mapping_line, class_line}
+use Rattle.collate_rules.proofs.mappings.EndingLemmas.{Contains-tail}
+use Rattle.collate_rules.proofs.lookups.FoundLemmas.{mapping_line, class_line}
 
 pub some_or_none : {A : Type 0} (o : Option A) → ((x : A) × (o ≡ Some x)) ⊎ (o ≡ None)
 some_or_none (Some x) = inl (x, refl)

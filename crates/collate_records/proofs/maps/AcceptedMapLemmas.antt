@@ -1,30 +1,32 @@
 -- The maps of accepted lines.
-use Rattle.std.proofs.Common.{◌≡◌, ◌≢◌, ℕ, ◌<◌, ◌≤◌, List, [], ◌∷◌, All, Option, length, flat_map, refl, sym, ap, ◌∙◌, arith}
+use Rattle.std.proofs.Common.{◌≡◌, ◌≢◌, ℕ, ◌<◌, ◌≤◌, ◌⊎◌, List, [], ◌∷◌, All, Option, Some, length, flat_map, refl, sym, ap, ◌∙◌, arith}
 use Rattle.std.specs.Char.{IsScalar}
-use Rattle.std.specs.Option.{unwrap_or}
+use Rattle.std.specs.Option.{unwrap_or, IfSome}
 use lib.Utf8.{low_scalar}
 use Rattle.std.proofs.lemmas.List.Elements.{All-weaker, All-cons, All-nil}
+use Rattle.icu_normalizer_core.specs.BuiltIn.{built_in_class}
 use Rattle.icu_normalizer_core.specs.Canonical.{Canonical, Leaves, composed}
 use Rattle.icu_normalizer_core.specs.CanonicalMaps.{AreMeaning, KeepRules, IsMapped, BeginsWithStarter, given_step, step_of as step_of_maps}
 use Rattle.icu_normalizer_core.specs.Sameness.{AreSameCanonical}
 use Rattle.icu_normalizer_core.proofs.LeftLemmas.{left_one}
 use Rattle.icu_normalizer_core.proofs.builder.AcceptedMapsSameLemmas.{AreAlike, composed_same, one_meaning}
-use Rattle.collate_records.specs.declared.rule.Rule.{Rule}
-use Rattle.collate_records.specs.declared.rule.Rule.TheVariants.{Limit, C3, C5, C6, C8, C9, V14}
-use Rattle.collate_records.specs.Record.{Record, nothing, class, mapping, compatibility, weights, range, digit, setting}
+use Rattle.icu_normalizer_core.proofs.builder.GivenLemmas.{counted, one_each}
+use Rattle.collate_lines.specs.declared.rule.Rule.{Rule}
+use Rattle.collate_lines.specs.declared.rule.Rule.TheVariants.{Limit, C3, C5, C6, C8, C9, V14}
+use Rattle.collate_lines.specs.Record.{Record, nothing, class, mapping, compatibility, weights, range, digit, setting}
 use Rattle.collate_records.specs.Accepted.{AreAccepted, IsSaid}
-use Rattle.collate_records.specs.Meaning.{canonical_of, step_of, pair_of, full_of}
-use Rattle.collate_records.specs.Maps.{mappings_in, maps_of}
-use Rattle.collate_records.specs.Offenders.{NoneOffends}
-use Rattle.collate_records.specs.Rules.{IsBadClass, IsBadlyComposed, MapsHangul}
+use Rattle.collate_rules.specs.Meaning.{canonical_of, step_of, pair_of, full_of}
+use Rattle.collate_records.specs.Maps.{classes_in, mappings_in, maps_of}
+use Rattle.collate_rules.specs.Offenders.{NoneOffends}
+use Rattle.collate_rules.specs.Rules.{IsBadClass, IsBadlyComposed, MapsHangul}
 use Rattle.collate_records.proofs.maps.MapLineLemmas.{MapsToFew}
 use Rattle.collate_records.proofs.maps.MapMeaningLemmas.{IsConsistent, maps_mean, class_of-maps, step_of-maps}
-use Rattle.collate_records.proofs.maps.MapNameLemmas.{maps_few, maps_one_class, maps_one_mapping}
+use Rattle.collate_records.proofs.maps.MapNameLemmas.{maps_few, maps_one_mapping}
 use Rattle.collate_records.proofs.maps.MapPairLemmas.{maps_seconds, maps_pairs}
 use Rattle.collate_records.proofs.maps.MapRuleLemmas.{maps_classes, maps_built_in_classes, maps_built_in_mappings, maps_letters}
 use Rattle.collate_records.proofs.reading.AcceptedLemmas.{accepted_decompose, accepted_compose}
 use Rattle.collate_records.proofs.reading.ScalarLemmas.{mapped_some}
-use Rattle.collate_records.proofs.offenders.LineRuleLemmas.{each_line}
+use Rattle.collate_rules.proofs.offenders.LineRuleLemmas.{each_line}
 
 -- a line that is read maps to one character or to two
 said_few : (s : Record) → IsSaid s → MapsToFew s
@@ -88,18 +90,19 @@ module _ (records : List Record) (accepted : AreAccepted records) where
       let composing = accepted_compose records accepted in
       record {
         few = maps_few records (keep Limit);
-        one_class = maps_one_class records (keep V14);
-        one_mapping = maps_one_mapping records few (keep V14);
+        one_mapping = one_each (flat_map mappings_in records) (maps_one_mapping records few (keep V14));
         starters = λ c scalar mapped. let w = mapped_step c mapped in class_of-maps records c ∙ decomposing.starters c w.0 w.1 scalar mapped.0 w.2;
         ends = λ c scalar. (full_of records c, meaning.full c scalar);
-        classes = maps_classes records (each_line (λ r. IsBadClass r → ⊥) records (keep C3));
+        classes =
+            counted (λ c g. ((0 < g.class) × (g.class ≤ 254)) ⊎ (built_in_class c ≡ Some g.class)) (flat_map classes_in records)
+            (maps_classes records (each_line (λ r. IsBadClass r → ⊥) records (keep C3)));
         full_lists = full_lists;
         pairs = maps_pairs records consistent (keep C5);
         seconds = λ a b. maps_seconds a b records (each_line (λ r. IsConsistent r × (IsBadlyComposed r → ⊥)) records (λ i lt. (keep C8 i lt, keep C6 i lt)));
         low = λ c below. class_of-maps records c ∙ composing.starters c below;
         own = own;
         unmapped = λ c below. step_same c ∙ composing.unmapped c below;
-        built_in_classes = maps_built_in_classes records consistent;
+        built_in_classes = counted (λ c g. IfSome (built_in_class c) (λ k. g.class ≡ k)) (flat_map classes_in records) (maps_built_in_classes records consistent);
         built_in_mappings = maps_built_in_mappings records consistent;
         letters = maps_letters records (each_line (λ r. MapsHangul r → ⊥) records (keep C9));
       }

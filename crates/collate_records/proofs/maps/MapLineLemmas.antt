@@ -8,10 +8,10 @@ use Rattle.std.specs.Cmp.{nat_eq_equiv}
 use Rattle.icu_normalizer_core.specs.declared.canonical.builder.GivenClass.{GivenClass}
 use Rattle.icu_normalizer_core.specs.declared.canonical.builder.GivenMapping.{GivenMapping}
 use Rattle.icu_normalizer_core.specs.CanonicalMaps.{given_class, given_step, mapping_given}
-use Rattle.collate_records.specs.Record.{Record, nothing, class, mapping, compatibility, weights, range, digit, setting}
-use Rattle.collate_records.specs.Meaning.{first_found, class_in, mapping_in}
+use Rattle.collate_lines.specs.Record.{Record, nothing, class, mapping, compatibility, weights, range, digit, setting}
+use Rattle.collate_rules.specs.Meaning.{first_found, class_in, mapping_in}
 use Rattle.collate_records.specs.Maps.{classes_in, mappings_in}
-use Rattle.collate_records.specs.Keys.{class_key, mapping_key}
+use Rattle.collate_lines.specs.Keys.{class_key, mapping_key}
 
 -- a line maps to one character or to two
 abbrev pub MapsToFew : Record → Type 0

@@ -14,12 +14,13 @@ use Rattle.icu_normalizer_core.specs.BuiltIn.{built_in_class, built_in_step, bui
 use Rattle.icu_normalizer_core.specs.Canonical.{IsDecomposing}
 use Rattle.icu_normalizer_core.specs.CanonicalMaps.{AreMeaning, given_step, given_pair, composes, class_of as class_of_maps, step_of as step_of_maps, pair_of as pair_of_maps}
 use Rattle.icu_normalizer_core.proofs.LeftLemmas.{left_same}
-use Rattle.collate_records.specs.Record.{Record, nothing, class, mapping, compatibility, weights, range, digit, setting}
-use Rattle.collate_records.specs.Meaning.{first_found, mapping_in, composed_in, is_built_in, class_of, step_of, pair_of, canonical_of}
+use Rattle.collate_lines.specs.Record.{Record, nothing, class, mapping, compatibility, weights, range, digit, setting}
+use Rattle.collate_rules.specs.Meaning.{first_found, mapping_in, composed_in, is_built_in, class_of, step_of, pair_of, canonical_of}
 use Rattle.collate_records.specs.Maps.{mappings_in, maps_of}
-use Rattle.collate_records.specs.Rules.{record_at, Contradicts}
+use Rattle.collate_lines.specs.Repeats.{record_at}
+use Rattle.collate_rules.specs.Rules.{Contradicts}
 use Rattle.collate_records.proofs.maps.MapLineLemmas.{MapsToFew, given_class-maps, given_step-maps}
-use Rattle.collate_records.proofs.lookups.FoundLemmas.{mapping_line}
+use Rattle.collate_rules.proofs.lookups.FoundLemmas.{mapping_line}
 use Rattle.collate_records.proofs.mappings.StepLemmas.{free_not_said}
 
 -- a line contradicts nothing that is built in

@@ -9,15 +9,15 @@ use Rattle.std.proofs.lemmas.List.{take_all}
 use Rattle.std.proofs.lemmas.List.Folds.{list_any-append}
 use Rattle.std.proofs.lemmas.Map.Made.{length-le_from_is_member}
 use Rattle.icu_normalizer_core.specs.CanonicalMaps.{mapping_given, named as named_by}
-use Rattle.collate_records.specs.declared.rule.Rule.TheVariants.{Limit, V14}
-use Rattle.collate_records.specs.Record.{Record, nothing, class, mapping, compatibility, weights, range, digit, setting}
+use Rattle.collate_lines.specs.declared.rule.Rule.TheVariants.{Limit, V14}
+use Rattle.collate_lines.specs.Record.{Record, nothing, class, mapping, compatibility, weights, range, digit, setting}
 use Rattle.collate_records.specs.Maps.{classes_in, mappings_in, maps_of}
-use Rattle.collate_records.specs.Rules.{named, names_in, different}
-use Rattle.collate_records.specs.Offenders.{NoneOffends}
-use Rattle.collate_records.specs.Keys.{class_key, mapping_key}
+use Rattle.collate_rules.specs.Rules.{named, names_in, different}
+use Rattle.collate_rules.specs.Offenders.{NoneOffends}
+use Rattle.collate_lines.specs.Keys.{class_key, mapping_key}
 use Rattle.collate_records.proofs.lookups.KeyLemmas.{class_kind, mapping_kind, distinct_to, key_named, different-unique, is_member-unique}
 use Rattle.collate_records.proofs.maps.MapLineLemmas.{MapsToFew, class_keys, mapping_keys}
-use Rattle.collate_records.proofs.offenders.BreachLemmas.{none_together}
+use Rattle.collate_rules.proofs.offenders.BreachLemmas.{none_together}
 
 -- ---- One class and one mapping for a character
 

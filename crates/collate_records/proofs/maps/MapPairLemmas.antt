@@ -10,15 +10,16 @@ use Rattle.std.proofs.lemmas.List.Elements.{All-contains}
 use Rattle.icu_normalizer_core.specs.declared.canonical.builder.GivenMapping.{GivenMapping}
 use Rattle.icu_normalizer_core.specs.BuiltIn.{is_within}
 use Rattle.icu_normalizer_core.specs.CanonicalMaps.{composes, ComposeAlike}
-use Rattle.collate_records.specs.Record.{Record, nothing, mapping}
-use Rattle.collate_records.specs.Meaning.{is_built_in}
+use Rattle.collate_lines.specs.Record.{Record, nothing, mapping}
+use Rattle.collate_rules.specs.Meaning.{is_built_in}
 use Rattle.collate_records.specs.Maps.{mappings_in}
-use Rattle.collate_records.specs.Rules.{record_at, IsBadlyComposed, HasBadSecond, RepeatsPair, is_same_pair, pair_in}
-use Rattle.collate_records.specs.Keys.{mapping_key}
+use Rattle.collate_lines.specs.Repeats.{record_at}
+use Rattle.collate_rules.specs.Rules.{IsBadlyComposed, HasBadSecond, RepeatsPair, is_same_pair, pair_in}
+use Rattle.collate_lines.specs.Keys.{mapping_key}
 use Rattle.collate_records.proofs.maps.MapMeaningLemmas.{IsConsistent, composes_same}
 use Rattle.collate_records.proofs.maps.MapRuleLemmas.{all_mappings}
-use Rattle.collate_records.proofs.offenders.PairLemmas.{good_second}
-use Rattle.collate_records.proofs.offenders.LineRuleLemmas.{each_line}
+use Rattle.collate_rules.proofs.offenders.PairLemmas.{good_second}
+use Rattle.collate_rules.proofs.offenders.LineRuleLemmas.{each_line}
 
 -- the line of a composed mapping is for the pair
 two_pair : (a b c d e : ℕ) (x : Bool) → IsConsistent (mapping c (d ∷ e ∷ []) x)

@@ -15,9 +15,9 @@ use Rattle.icu_normalizer_core.specs.declared.canonical.builder.GivenMapping.{Gi
 use Rattle.icu_normalizer_core.specs.BuiltIn.{built_in_class, built_in_step, is_syllable, is_jamo}
 use Rattle.icu_normalizer_core.specs.CanonicalMaps.{mapping_given, is_built_in_mapping, is_built_in as is_built_in_map}
 use Rattle.icu_normalizer_core.proofs.BuiltInFacts.{syllable_cases, syllable_mapped}
-use Rattle.collate_records.specs.Record.{Record, nothing, class, mapping, compatibility, weights, range, digit, setting}
+use Rattle.collate_lines.specs.Record.{Record, nothing, class, mapping, compatibility, weights, range, digit, setting}
 use Rattle.collate_records.specs.Maps.{classes_in, mappings_in}
-use Rattle.collate_records.specs.Rules.{is_built_in_record, IsBadClass, MapsHangul}
+use Rattle.collate_rules.specs.Rules.{is_built_in_record, IsBadClass, MapsHangul}
 use Rattle.collate_records.proofs.maps.MapLineLemmas.{All-flat_map}
 use Rattle.collate_records.proofs.maps.MapMeaningLemmas.{IsConsistent}
 

@@ -1,15 +1,14 @@
 -- what the rules on classes give
-use Rattle.std.proofs.Common.{ℕ, List, All, arith, inl, inr}
+use Rattle.std.proofs.Common.{List, All, arith, inl, inr}
 use Rattle.std.proofs.lemmas.Bool.{cases_lt}
 use Rattle.icu_normalizer_core.proofs.BuiltInFacts.{small_class}
-use Rattle.collate_records.specs.declared.rule.Rule.TheVariants.{C3}
-use Rattle.collate_records.specs.Record.{Record, nothing, class, mapping, compatibility, weights, range, digit, setting}
-use Rattle.collate_records.specs.Rules.{IsBadClass, record_at}
-use Rattle.collate_records.specs.Offenders.{NoneOffends}
-use Rattle.std.proofs.lemmas.List.{length-map}
-use Rattle.collate_records.specs.Files.{IsAccepted, lines_of, read_line, records_of}
+use Rattle.collate_lines.specs.declared.rule.Rule.TheVariants.{C3}
+use Rattle.collate_lines.specs.Record.{Record, nothing, class, mapping, compatibility, weights, range, digit, setting}
+use Rattle.collate_rules.specs.Rules.{IsBadClass}
+use Rattle.collate_lines.specs.Repeats.{record_at}
+use Rattle.collate_rules.specs.Offenders.{NoneOffends}
 use Rattle.collate_records.specs.Accepted.{HasSmallClass}
-use Rattle.collate_records.proofs.offenders.LineRuleLemmas.{each_line}
+use Rattle.collate_rules.proofs.offenders.LineRuleLemmas.{each_line}
 
 HasSmallClass-from_record : (s : Record) → (IsBadClass s → ⊥) → HasSmallClass s
 HasSmallClass-from_record nothing h = tt
@@ -25,8 +24,3 @@ HasSmallClass-from_record (setting s) h = tt
 pub All-HasSmallClass : (records : List Record) → NoneOffends C3 records → All HasSmallClass records
 All-HasSmallClass records keeps =
     each_line HasSmallClass records (λ i below. HasSmallClass-from_record (record_at records i) (keeps i below))
-
--- an accepted file gives small classes
-pub accepted_classes : (file : List ℕ) → IsAccepted file → All HasSmallClass (records_of file)
-accepted_classes file accepted =
-    All-HasSmallClass (records_of file) (λ i lt offends. accepted C3 i (rw (← length-map (lines_of file) read_line) lt, offends))

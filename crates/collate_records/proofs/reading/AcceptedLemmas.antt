@@ -1,41 +1,56 @@
 -- The lines of an accepted file are in the grammar and keep the rules, and what follows of such lines.
-use Rattle.std.proofs.Common.{◌≡◌, ℕ, ◌<◌, Bool, List, length, Option, Some, None, refl, sym, ap, ◌∙◌, subst, [], get_or, inl}
+use Rattle.std.proofs.Common.{◌≡◌, ℕ, ◌<◌, Bool, List, length, Option, Some, None, refl, sym, ap, ◌∙◌, subst, [], get_or, inl, inr, arith, All}
 use Rattle.std.specs.Char.{IsScalar}
-use Rattle.std.proofs.lemmas.Option.{unwrap_or-slice_get}
-use Rattle.std.proofs.lemmas.List.{length-map, get_or_default}
-use Rattle.std.proofs.lemmas.List.Elements.{All-get_or, All-map, All-weaker}
+use Rattle.std.specs.Option.{unwrap_or}
+use Rattle.std.proofs.lemmas.Option.{slice_get-get_or, unwrap_or-slice_get}
+use Rattle.std.proofs.lemmas.List.{get_or_default}
+use Rattle.std.proofs.lemmas.List.Elements.{All-filter, All-get_or, All-map, All-weaker}
 use Rattle.icu_normalizer_core.specs.Canonical.{IsDecomposing, IsComposing}
-use Rattle.collate_records.specs.declared.rule.Rule.{Rule}
-use Rattle.collate_records.specs.declared.rule.Rule.TheVariants.{Grammar, V14, C1, C2, C3, C4, C6, C7, C9}
-use Rattle.collate_records.specs.Known.{known_record_of}
-use Rattle.collate_records.specs.Accepted.{AreAccepted, AreScalars, IsSaid, MapsToScalars}
-use Rattle.collate_records.specs.Files.{IsAccepted, lines_of, read_line, records_of}
-use Rattle.collate_records.specs.Offenders.{NoneOffends}
-use Rattle.collate_records.specs.Rules.{record_at}
-use Rattle.collate_records.specs.Record.{Record, nothing, mapping}
-use Rattle.collate_records.specs.Meaning.{canonical_of}
+use Rattle.collate_lines.specs.declared.rule.Rule.{Rule}
+use Rattle.collate_lines.specs.declared.rule.Rule.TheVariants.{Grammar, Limit, V14, C1, C2, C3, C4, C6, C7, C9}
+use Rattle.collate_lines.specs.Grammar.{record_of}
+use Rattle.collate_records.specs.Accepted.{AreAccepted, AreScalars, HasSmallClass, IsSaid, MapsToScalars}
+use Rattle.collate_records.specs.Files.{IsAccepted}
+use Rattle.collate_lines.specs.Lines.{lines_of, numbers_of, read_line, records_in, records_of}
+use Rattle.collate_rules.specs.Offenders.{NoneOffends}
+use Rattle.collate_lines.specs.Repeats.{record_at, says_something}
+use Rattle.collate_lines.specs.Record.{Record, nothing, mapping}
+use Rattle.collate_rules.specs.Meaning.{canonical_of}
 use Rattle.collate_records.proofs.mappings.ComposedPairLemmas.{composing}
 use Rattle.collate_records.proofs.mappings.DecomposingLemmas.{decomposing}
-use Rattle.collate_records.proofs.lookups.KeyLemmas.{accepted_once}
-use Rattle.collate_records.proofs.reading.ReadLineLemmas.{known_read}
+use Rattle.collate_records.proofs.offenders.ClassLemmas.{All-HasSmallClass}
+use Rattle.collate_records.proofs.reading.FaultLemmas.{as_many}
 use Rattle.collate_records.proofs.reading.ScalarLemmas.{line_scalars, mapped_scalar}
 
--- a line that is in the grammar, as far as it is known, says what was read
-said_here : (line : List ℕ) (o : Option Record) → known_record_of line ≡ o → (o ≡ None → ⊥) → IsSaid (read_line line)
+-- a line that is in the grammar says what was read
+said_here : (line : List ℕ) (o : Option Record) → record_of line ≡ o → (o ≡ None → ⊥) → IsSaid (read_line line)
 said_here line None e inside = absurd (inside refl)
-said_here line (Some s) e inside = (line, e ∙ ap Some (sym (known_read line s e)))
+said_here line (Some s) e inside = (line, e ∙ ap Some (sym (ap (λ (o : Option Record). unwrap_or o nothing) e)))
 
--- no line of an accepted file offends against a rule
-kept : (file : List ℕ) → IsAccepted file → (rule : Rule) → NoneOffends rule (records_of file)
-kept file accepted Grammar i lt offends = offends
-kept file accepted V14 i lt offends = accepted_once file accepted i lt offends
-kept file accepted rule i lt offends = accepted rule i (rw (← length-map (lines_of file) read_line) lt, offends)
+-- no record of an accepted file offends against a rule
+pub kept : (file : List ℕ) → IsAccepted file → (rule : Rule) → NoneOffends rule (records_of file)
+kept file accepted Grammar j lt offends = offends
+kept file accepted V14 j lt offends =
+    let at = slice_get-get_or (numbers_of file) j 0 (omega (arith, as_many file)) in
+    accepted V14 (get_or (numbers_of file) j 0) ((λ past. accepted Grammar _ (inr past)), (j, at, offends))
+kept file accepted rule j lt offends =
+    let at = slice_get-get_or (numbers_of file) j 0 (omega (arith, as_many file)) in accepted rule (get_or (numbers_of file) j 0) (j, at, offends)
 
--- the lines of an accepted file
+pub accepted_once : (file : List ℕ) → IsAccepted file → NoneOffends V14 (records_of file)
+accepted_once file accepted = kept file accepted V14
+
+pub accepted_few : (file : List ℕ) → IsAccepted file → NoneOffends Limit (records_of file)
+accepted_few file accepted = kept file accepted Limit
+
+-- an accepted file gives small classes
+pub accepted_classes : (file : List ℕ) → IsAccepted file → All HasSmallClass (records_of file)
+accepted_classes file accepted = All-HasSmallClass (records_of file) (kept file accepted C3)
+
+-- the records of an accepted file
 pub accepted_lines : (file : List ℕ) → IsAccepted file → AreAccepted (records_of file)
 accepted_lines file accepted = record {
-  in_grammar = All-map IsSaid read_line (lines_of file)
-      (λ k d lt. said_here (get_or (lines_of file) k d) (known_record_of (get_or (lines_of file) k d)) refl (λ none. accepted Grammar k (inl (ap known_record_of (get_or_default (lines_of file) k [] d lt) ∙ none))));
+  in_grammar = All-filter says_something IsSaid (records_in (lines_of file)) (All-map IsSaid read_line (lines_of file)
+      (λ k d lt. said_here (get_or (lines_of file) k d) (record_of (get_or (lines_of file) k d)) refl (λ none. accepted Grammar k (inl (ap record_of (get_or_default (lines_of file) k [] d lt) ∙ none)))));
   keep_rules = kept file accepted;
 }
 

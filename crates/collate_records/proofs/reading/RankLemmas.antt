@@ -1,8 +1,8 @@
 -- The order of faults: each rule from rank 1 on has a rank of its own.
 use Rattle.std.proofs.Common.{◌≡◌, ℕ, ◌<◌, [], ◌∷◌, get_or, refl, sym, ap, ◌∙◌, arith}
-use Rattle.collate_records.specs.declared.rule.Rule.{Rule}
-use Rattle.collate_records.specs.declared.rule.Rule.TheVariants.{Grammar, Limit, Set, C1, C2, C3, C4, C5, C6, C7, C8, C9, V1, V2, V3, V4, V5, V6, V7, V8, V9, V10, V11, V12, V13, V14, V15}
-use Rattle.collate_records.specs.Rules.{rank}
+use Rattle.collate_lines.specs.declared.rule.Rule.{Rule}
+use Rattle.collate_lines.specs.declared.rule.Rule.TheVariants.{Grammar, Limit, Set, C1, C2, C3, C4, C5, C6, C7, C8, C9, V1, V2, V3, V4, V5, V6, V7, V8, V9, V10, V11, V12, V13, V14, V15}
+use Rattle.collate_rules.specs.Rules.{rank}
 
 -- the rules in the order of faults
 abbrev rule_at : ℕ → Rule
@@ -42,3 +42,8 @@ pub same_from_rank : (rule other : Rule) → 0 < rank rule → rank rule ≡ ran
 same_from_rank rule other h e =
     let g : 0 < rank other = omega arith in
     sym (rule_at-rank rule h) ∙ ap rule_at e ∙ rule_at-rank other g
+
+-- there are 26 ranks
+pub rank_below : (rule : Rule) → rank rule < 26
+rank_below Grammar = omega arith
+rank_below rule = omega arith

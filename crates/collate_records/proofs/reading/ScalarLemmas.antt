@@ -6,11 +6,9 @@ use Rattle.std.specs.List.{slice_split}
 use Rattle.std.proofs.lemmas.Option.{same_Some}
 use Rattle.std.specs.Char.{IsScalar}
 use Rattle.std.specs.Prelude.{if◌then◌else◌, codes}
-use Rattle.collate_records.specs.Known.{known_record_of}
-use Rattle.collate_records.proofs.reading.ReadLineLemmas.{known_said}
-use Rattle.collate_records.specs.Record.{Record, nothing, class, mapping, compatibility, weights, range, digit, setting, Layer, root, tailoring}
+use Rattle.collate_lines.specs.Record.{Record, nothing, class, mapping, compatibility, weights, range, digit, setting, Layer, root, tailoring}
 use Rattle.collate_records.specs.Accepted.{MapsToScalars}
-use Rattle.collate_records.specs.Grammar.{◌>>=◌, checked, class_by, class_number, code_point, compatibility_by, digit_by, digit_to, element, ending_by, hex_number, hex_of, is_scalar, is_short, key_by, listed, mapping_by, parted, range_by, record_by, record_of, set_by, setting_by, some_listed, step_number, weights_by}
+use Rattle.collate_lines.specs.Grammar.{◌>>=◌, checked, class_by, class_number, code_point, compatibility_by, digit_by, digit_to, element, ending_by, hex_number, hex_of, is_scalar, is_short, key_by, listed, mapping_by, parted, range_by, record_by, record_of, set_by, setting_by, some_listed, step_number, weights_by}
 
 scalar_test : (c : ℕ) → is_scalar c ≡ true → IsScalar c
 scalar_test c h = grind (arith, nat_tests)
@@ -152,10 +150,6 @@ record_scalars line s e =
     one_of _ _ _ s (λ none. absurd (no_none s none))
     (one_of _ _ _ s (λ is. rw (← same_Some nothing s is) tt) (fields_scalars (slice_split (λ b. b == 32) line) s)) e
 
--- so is one that is read
-read_scalars : (line : List ℕ) (s : Record) → known_record_of line ≡ Some s → HasScalars s
-read_scalars line s e = record_scalars line s (known_said (record_of line) s e)
-
 to_scalars : (s : Record) → HasScalars s → MapsToScalars s
 to_scalars nothing h = tt
 to_scalars (class c k) h = tt
@@ -167,13 +161,13 @@ to_scalars (digit c v) h = tt
 to_scalars (setting v) h = tt
 
 -- a line that is read maps to scalar values
-pub line_scalars : (line : List ℕ) (s : Record) → known_record_of line ≡ Some s → MapsToScalars s
-line_scalars line s e = to_scalars s (read_scalars line s e)
+pub line_scalars : (line : List ℕ) (s : Record) → record_of line ≡ Some s → MapsToScalars s
+line_scalars line s e = to_scalars s (record_scalars line s e)
 
 -- and maps one
-pub mapped_scalar : (line : List ℕ) (c : ℕ) (ds : List ℕ) (x : Bool) → known_record_of line ≡ Some (mapping c ds x) → IsScalar c
-mapped_scalar line c ds x e = (read_scalars line (mapping c ds x) e).0
+pub mapped_scalar : (line : List ℕ) (c : ℕ) (ds : List ℕ) (x : Bool) → record_of line ≡ Some (mapping c ds x) → IsScalar c
+mapped_scalar line c ds x e = (record_scalars line (mapping c ds x) e).0
 
 -- to one character or two
-pub mapped_some : (line : List ℕ) (c : ℕ) (ds : List ℕ) (x : Bool) → known_record_of line ≡ Some (mapping c ds x) → (length ds ≤ 2) × (1 ≤ length ds)
-mapped_some line c ds x e = let h = read_scalars line (mapping c ds x) e in (h.2, h.3)
+pub mapped_some : (line : List ℕ) (c : ℕ) (ds : List ℕ) (x : Bool) → record_of line ≡ Some (mapping c ds x) → (length ds ≤ 2) × (1 ≤ length ds)
+mapped_some line c ds x e = let h = record_scalars line (mapping c ds x) e in (h.2, h.3)

@@ -7,9 +7,9 @@ use Rattle.icu_normalizer_core.specs.CanonicalMaps.{CanonicalMaps, AreMeaning}
 use Rattle.icu_normalizer_core.specs.CanonicalMeaning.{meaning}
 use Rattle.collate_records.specs.Accepted.{HasSmallClass}
 use Rattle.collate_records.specs.Maps.{classes_in, mappings_in, maps_of}
-use Rattle.collate_records.specs.Record.{Record, said}
-use Rattle.collate_records.proofs.offenders.LimitLemmas.{given_to}
-use Rattle.collate_records.proofs.lookups.LookupLemmas.{All-map_at}
+use Rattle.collate_lines.specs.Record.{Record, said}
+use Rattle.collate_rules.proofs.offenders.LimitLemmas.{given_to}
+use Rattle.collate_rules.proofs.lookups.LookupLemmas.{All-map_at}
 use Rattle.collate_records.proofs.canonical_data.canonical_data.Goals as goal
 
 -- what all lines give is their maps

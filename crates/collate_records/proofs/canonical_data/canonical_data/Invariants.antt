@@ -1,7 +1,7 @@
 use Rattle.std.proofs.Common.{◌≡◌, take, map}
 use Rattle.std.specs.Prelude.{flat_map}
 use Rattle.collate_records.specs.Maps.{classes_in, mappings_in}
-use Rattle.collate_records.specs.Record.{said}
+use Rattle.collate_lines.specs.Record.{said}
 use Rattle.collate_records.proofs.canonical_data.canonical_data.Given as goal
 
 abbrev pub invariant-loop-given : goal.invariant-loop-given

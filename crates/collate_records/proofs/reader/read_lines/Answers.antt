@@ -1,50 +1,42 @@
-use Rattle.std.proofs.Common.{refl, ◌≡◌, ℕ, ◌<◌, ◌++◌, ◌∷◌, [], Bool, true, false, not, map, length, List, Bor, sym, ap, ◌∙◌, arith, if◌then◌else◌}
-use Rattle.std.proofs.lemmas.List.{length-map, map_push}
-use Rattle.collate_records.specs.declared.record.Record.{Record as Line}
-use Rattle.collate_records.specs.Record.{Record, said}
-use Rattle.collate_records.specs.Seen.{is_seen}
-use Rattle.collate_records.proofs.reading.ReadLineLemmas.{read_at, outside_at, refuses_at, said_to, sound_more, seen_more, repeats_here}
+use Rattle.std.proofs.Common.{◌∙◌, refl, inr, arith, rules, ap, sym}
+use Rattle.collate_lines.specs.declared.rule.Rule.TheVariants.{Grammar}
+use Rattle.std.proofs.lemmas.Bool.{false≢true}
+use Rattle.collate_lines.specs.Lines.{PassesSize, lines_left, lines_of}
+use Rattle.collate_records.specs.Files.{Refuses}
+use Rattle.collate_records.proofs.reading.FaultLemmas.{all_sound, none_read, number_small, passes_here, passes_not, read_whole, refuses_now}
+use Rattle.collate_records.proofs.reading.ReadLineLemmas.{next_line, none_left}
 use Rattle.collate_records.proofs.reader.read_lines.Goals as goal
 
-not_true : (b c : Bool) → c ≡ not b → c ≡ true → b ≡ false
-not_true true c e h = sym h ∙ e
-not_true false c e h = refl
+pub loop-left-init : goal.loop-left-init
+loop-left-init c = record { left = refl; read = c.new-reading.ensures c.args.bytes.now; sound = none_read c.args.bytes.now }
 
-not_false : (b c : Bool) → c ≡ not b → c ≡ false → b ≡ true
-not_false true c e h = refl
-not_false false c e h = sym h ∙ e
+pub returns-then-is_at : goal.returns-then-is_at
+returns-then-is_at c =
+    refuses_now c.args.bytes.now Grammar c.loop-left.number c.fault.result c.fault.ensures refl
+    (inr (passes_here c.args.bytes.now c.line_past_size-past.result c.loop-left.number c.line_past_size-past.ensures (c.is_at.ensures.0 c.if-is_at.true)))
+    c.loop-left.invariant.sound
 
-pub returns-in_default : goal.returns-in_default
-returns-in_default c =
-    let within : c.loop-i.i < length c.args.lines.now = omega arith in
-    refuses_at _ c.args.count c.loop-i.i _ _ c.fault.ensures c.loop-i-test.true
-    (outside_at c.args.lines.now c.loop-i.i _ c.in_ok-given.field-0 within c.in_ok-given.ensures c.in_default.is)
-    c.loop-i.invariant.sound
+pub returns-in_err-read_line : goal.returns-in_err-read_line
+returns-in_err-read_line c =
+    let next = next_line (lines_of c.args.bytes.now) c.loop-left.number c.in-Some.rest.now c.split_line.result.0.now (lines_left c.split_line.result.1) (c.loop-left.invariant.left ∙ ap lines_left c.in-Some.is) c.split_line.ensures in
+    let fits : PassesSize c.args.bytes.now c.loop-left.number → ⊥ = passes_not c.args.bytes.now c.line_past_size-past.result c.loop-left.number c.line_past_size-past.ensures (λ e. false≢true (sym c.if-is_at.false ∙ c.is_at.ensures.1 e)) in
+    let refused : Refuses c.args.bytes.now c.in_err-read_line.field-0.0 = c.in_err-read_line.ensures c.args.bytes.now next.within next.here fits c.loop-left.invariant.read c.loop-left.invariant.sound in
+    search (rules, refused)
 
-pub returns-then-not-is_new : goal.returns-then-not-is_new
-returns-then-not-is_new c =
-    let within : c.loop-i.i < length c.args.lines.now = omega arith in
-    let within_texts : c.loop-i.i < length (map (λ (line : Bor (List ℕ)). line.now) c.args.lines.now) = omega (arith, length-map c.args.lines.now (λ (line : Bor (List ℕ)). line.now)) in
-    refuses_at _ c.args.count c.loop-i.i _ _ c.fault-then-not-is_new.ensures c.loop-i-test.true
-    (repeats_here _ c.loop-i.i (said c.in-Some.given) c.loop-i.seen within_texts
-    (read_at c.args.lines.now c.loop-i.i _ c.in_ok-given.field-0 c.in-Some.given within c.in_ok-given.ensures c.in-Some.is)
-    c.loop-i.invariant.has
-    (not_false (is_seen c.loop-i.seen (said c.in-Some.given)) _ c.in_ok-is_new.ensures.new c.if-not-is_new.true))
-    c.loop-i.invariant.sound
+pub overflow_add-number : goal.overflow_add-number
+overflow_add-number c =
+    let next = next_line (lines_of c.args.bytes.now) c.loop-left.number c.in-Some.rest.now c.split_line.result.0.now (lines_left c.split_line.result.1) (c.loop-left.invariant.left ∙ ap lines_left c.in-Some.is) c.split_line.ensures in
+    let fits : PassesSize c.args.bytes.now c.loop-left.number → ⊥ = passes_not c.args.bytes.now c.line_past_size-past.result c.loop-left.number c.line_past_size-past.ensures (λ e. false≢true (sym c.if-is_at.false ∙ c.is_at.ensures.1 e)) in
+    omega (arith, number_small c.args.bytes.now c.loop-left.number next.within c.loop-left.invariant.sound fits)
 
-pub loop-i-preserved : goal.loop-i-preserved
-loop-i-preserved c =
-    let within : c.loop-i.i < length c.args.lines.now = omega arith in
-    let within_texts : c.loop-i.i < length (map (λ (line : Bor (List ℕ)). line.now) c.args.lines.now) = omega (arith, length-map c.args.lines.now (λ (line : Bor (List ℕ)). line.now)) in
-    let read = read_at c.args.lines.now c.loop-i.i _ c.in_ok-given.field-0 c.in-Some.given within c.in_ok-given.ensures c.in-Some.is in
-    let pushed : c.push.new.self.items ≡ c.loop-i.records.items ++ c.in-Some.given ∷ [] =
-    c.push.ensures.items ∙ ap (λ (b : Bool). if b then c.loop-i.records.items ++ c.in-Some.given ∷ [] else c.loop-i.records.items) c.if-is_err.ensures.negation in
-    record {
-      sound = sound_more _ c.loop-i.i (said c.in-Some.given) c.loop-i.seen within_texts read c.loop-i.invariant.has
-          (not_true (is_seen c.loop-i.seen (said c.in-Some.given)) _ c.in_ok-is_new.ensures.new c.if-not-is_new.false) c.loop-i.invariant.sound;
-      same = ap (λ (items : List Line). map said items) pushed
-          ∙ map_push said c.loop-i.records.items c.in-Some.given
-          ∙ ap (λ (before : List Record). before ++ said c.in-Some.given ∷ []) c.loop-i.invariant.same
-          ∙ sym (said_to _ c.loop-i.i (said c.in-Some.given) within_texts read);
-      has = seen_more _ c.loop-i.i (said c.in-Some.given) c.loop-i.seen c.insert.new.self within_texts read c.loop-i.invariant.has c.in_ok-is_new.ensures.seen;
-    }
+pub loop-left-preserved : goal.loop-left-preserved
+loop-left-preserved c =
+    let next = next_line (lines_of c.args.bytes.now) c.loop-left.number c.in-Some.rest.now c.split_line.result.0.now (lines_left c.split_line.result.1) (c.loop-left.invariant.left ∙ ap lines_left c.in-Some.is) c.split_line.ensures in
+    let fits : PassesSize c.args.bytes.now c.loop-left.number → ⊥ = passes_not c.args.bytes.now c.line_past_size-past.result c.loop-left.number c.line_past_size-past.ensures (λ e. false≢true (sym c.if-is_at.false ∙ c.is_at.ensures.1 e)) in
+    let read = c.in_ok-read_line.ensures c.args.bytes.now next.within next.here fits c.loop-left.invariant.read c.loop-left.invariant.sound in
+    record { left = next.left; read = read.0; sound = read.1 }
+
+pub returns : goal.returns
+returns c =
+    let past = none_left (lines_of c.args.bytes.now) c.loop-left.number (c.loop-left.invariant.left ∙ ap lines_left c.in_default.is) in
+    (all_sound c.args.bytes.now c.loop-left.number past c.loop-left.invariant.sound, read_whole c.args.bytes.now c.loop-left.number c.loop-left.reading past c.loop-left.invariant.read)

@@ -1,25 +1,21 @@
-use Rattle.std.proofs.Common.{ℕ, List, Bor, map, ap, ◌∙◌, arith, rules}
+use Rattle.std.proofs.Common.{ap, arith, rules, length}
+use Rattle.std.proofs.lemmas.List.{length-map}
+use Rattle.collate_lines.specs.Record.{said}
 use Rattle.collate_records.specs.Files.{Refuses}
-use Rattle.collate_records.proofs.reading.FaultLemmas.{past_small, past_lines, past_refused, past_fault, answers_within}
+use Rattle.collate_records.proofs.reading.FaultLemmas.{accepted, many_read, of_read}
 use Rattle.collate_records.proofs.reader.read_records.Goals as goal
 
-pub read_lines-requires : goal.read_lines-requires
-read_lines-requires c =
-    past_lines c.args.bytes.now _ c.in-Some.line (ap (λ (lines : List (Bor (List ℕ))). map (λ (line : Bor (List ℕ)). line.now) lines) c.deref.ensures.value ∙ c.in_ok-lines.ensures) c.in-Some.ensures
+pub keep_rules-requires : goal.keep_rules-requires
+keep_rules-requires c =
+    omega (arith, many_read c.args.bytes.now _ _ c.in_ok-reading.ensures.1, length-map c.in_ok-reading.reading.records.items said, ap length c.deref.ensures.value, ap length c.deref-2.ensures.value)
 
-pub returns-in_err-read_lines-in-Some : goal.returns-in_err-read_lines-in-Some
-returns-in_err-read_lines-in-Some c =
-    let refused : Refuses c.args.bytes.now c.in_err-read_lines-in-Some.field-0.0 =
-    past_refused c.args.bytes.now _ c.in-Some.line c.in_err-read_lines-in-Some.field-0.0 (ap (λ (lines : List (Bor (List ℕ))). map (λ (line : Bor (List ℕ)). line.now) lines) c.deref.ensures.value ∙ c.in_ok-lines.ensures) c.in-Some.ensures c.in_err-read_lines-in-Some.ensures in
+pub returns-in_err-keep_rules : goal.returns-in_err-keep_rules
+returns-in_err-keep_rules c =
+    let of = of_read c.args.bytes.now c.in_ok-reading.reading.records.items c.deref.result.now c.in_ok-reading.reading.numbers.items c.deref-2.result.now c.deref.ensures.value c.deref-2.ensures.value c.in_ok-reading.ensures.1 in
+    let refused : Refuses c.args.bytes.now c.in_err-keep_rules.field-0.0 = c.in_err-keep_rules.ensures c.args.bytes.now of c.in_ok-reading.ensures.0 in
     search (rules, refused)
-
-pub fault-requires : goal.fault-requires
-fault-requires c = omega (arith, past_small c.args.bytes.now c.in-Some.line c.in-Some.ensures)
-
-pub returns-in-Some : goal.returns-in-Some
-returns-in-Some c =
-    past_fault c.args.bytes.now _ c.in-Some.line _ (ap (λ (lines : List (Bor (List ℕ))). map (λ (line : Bor (List ℕ)). line.now) lines) c.deref.ensures.value ∙ c.in_ok-lines.ensures) c.in-Some.ensures c.in_ok-read_lines-in-Some.ensures.0 c.fault.ensures
 
 pub returns : goal.returns
 returns c =
-    answers_within (λ records. records.items) c.args.bytes.now _ c.read_within.result (ap (λ (lines : List (Bor (List ℕ))). map (λ (line : Bor (List ℕ)). line.now) lines) c.deref-in-None.ensures.value ∙ c.in_ok-lines.ensures) c.in-None.ensures c.read_within.ensures
+    let of = of_read c.args.bytes.now c.in_ok-reading.reading.records.items c.deref.result.now c.in_ok-reading.reading.numbers.items c.deref-2.result.now c.deref.ensures.value c.deref-2.ensures.value c.in_ok-reading.ensures.1 in
+    (accepted c.args.bytes.now (c.in_ok-keep_rules.ensures c.args.bytes.now of c.in_ok-reading.ensures.0), c.in_ok-reading.ensures.1.same_records)

@@ -1,11 +1,11 @@
 use Rattle.std.proofs.Common.{map, length, take, List, ◌≡◌, ◌≤◌, arith, ap, subst, sym, option_map, ◌∙◌}
 use Rattle.std.proofs.lemmas.List.{length-map, take_all}
-use Rattle.collate_records.specs.Keys.{weights_key}
-use Rattle.collate_records.specs.Meaning.{first_found, lone_elements_in}
-use Rattle.collate_records.specs.Record.{Record, said}
+use Rattle.collate_lines.specs.Keys.{weights_key}
+use Rattle.collate_rules.specs.Meaning.{first_found, lone_elements_in}
+use Rattle.collate_lines.specs.Record.{Record, said}
 use Rattle.collate_records.specs.WeightsTables.{IsFilledWith}
 use Rattle.collate_records.proofs.lookups.KeyLemmas.{weights_kind, keys_limit, fresh_at}
-use Rattle.collate_records.proofs.offenders.LimitLemmas.{lines_to}
+use Rattle.collate_rules.proofs.offenders.LimitLemmas.{lines_to}
 use Rattle.collate_records.proofs.weights_table.weights_table.Goals as goal
 
 pub add-requires : goal.add-requires

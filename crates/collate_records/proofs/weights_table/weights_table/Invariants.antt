@@ -1,5 +1,5 @@
 use Rattle.std.proofs.Common.{take, map}
-use Rattle.collate_records.specs.Record.{said}
+use Rattle.collate_lines.specs.Record.{said}
 use Rattle.collate_records.specs.WeightsTables.{IsFilledWith}
 use Rattle.collate_records.proofs.weights_table.weights_table.Given as goal
 

@@ -1,0 +1,7 @@
+-- the grammar of lines, field by field
+pub mod FormLemmas
+pub mod GrammarExamples
+pub mod NumberLemmas
+pub mod SeenLemmas
+pub mod WordLemmas
+pub mod SplitLemmas

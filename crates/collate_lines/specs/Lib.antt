@@ -1,0 +1,7 @@
+pub mod Grammar
+pub mod Keys
+pub mod Lines
+pub mod Record
+pub mod Repeats
+pub mod Rule
+pub mod Seen

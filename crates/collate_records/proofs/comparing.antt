@@ -1,0 +1,6 @@
+pub mod ChangeLemmas
+pub mod ElementLemmas
+pub mod LineOrderLemmas
+pub mod LocalityLemmas
+pub mod OneLineLemmas
+pub mod ReachingLemmas

@@ -1,5 +1,0 @@
-use Rattle.collate_records.proofs.reading.ReadLineLemmas.{many_taken}
-use Rattle.collate_records.proofs.reader.line_past_size.Goals as goal
-
-pub slice_bounds-iter-end : goal.slice_bounds-iter-end
-slice_bounds-iter-end c = many_taken 1048576 c.args.bytes.now c.if-bytes-le-FILE_LIMIT.false

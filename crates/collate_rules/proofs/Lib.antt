@@ -1,0 +1,7 @@
+pub mod lists
+pub mod lookups
+pub mod mappings
+pub mod offenders
+pub mod given
+pub mod records
+mod RecordRuleExamples

@@ -1,0 +1,9 @@
+-- which line offends first against a rule
+pub mod BreachLemmas
+pub mod LimitLemmas
+pub mod LineRuleLemmas
+pub mod MappedMarkLemmas
+pub mod NamedCharacterLemmas
+pub mod PairLemmas
+pub mod PartRuleLemmas
+pub mod ShortLineLemmas

@@ -1,0 +1,10 @@
+pub mod GrowthLemmas
+pub mod BreakLemmas
+pub mod NotedLemmas
+pub mod RecordedLemmas
+pub mod SettingLemmas
+pub mod OrderedLemmas
+pub mod DropLemmas
+pub mod ShorterLemmas
+pub mod DecomposedTextLemmas
+pub mod UnlikeDecomposedLemmas

@@ -1,0 +1,17 @@
+pub mod Breaches
+pub mod GivenWeights
+pub mod KeptSettings
+pub mod KeptWeights
+pub mod CanonicalParts
+pub mod Limits
+pub mod LineCounts
+pub mod Lists
+pub mod Meaning
+pub mod Offenders
+pub mod Places
+pub mod Reached
+pub mod Rules
+pub mod RecordRules
+pub mod SettingLines
+pub mod Breaks
+pub mod NotedLines
