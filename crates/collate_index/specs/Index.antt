@@ -1,6 +1,7 @@
 -- how an index keeps its names: in order of arrival with their keys, and their places sorted
 use Rattle.std.specs.Prelude.{◌≡◌, ℕ, ◌<◌, List, map, length, slice_index_or, []}
 use Rattle.std.specs.List.{All}
+use Rattle.collate_records.specs.Plain.{ArePlain}
 use Rattle.collate_index.specs.Meaning.{Meaning, meaning_of, order_by}
 use Rattle.collate_names.specs.Names.{in_order}
 use Rattle.collate_index.specs.Keys.{IsKeyOf}
@@ -27,8 +28,9 @@ arrivals_inside s = map text_of s.names.items
 abbrev pub catalogue_of : Inside → Catalogue
 catalogue_of s = record { meaning = meaning_inside s; arrivals = arrivals_inside s }
 
--- the options are simple, the names have their keys, none occurs twice, and the places, all of them places of names, give them in order
+-- the records are plain and the options simple, the names have their keys, none occurs twice, and the places, all of them places of names, give them in order
 pub record IsKept (s : Inside) : Type 0 where
+  pub plain : ArePlain s.records
   pub simple : AreSimple s.options
   pub keyed : All (λ n. IsKeyOf (meaning_inside s) (text_of n) n.key) s.names.items
   pub distinct : AreDistinct (arrivals_inside s)

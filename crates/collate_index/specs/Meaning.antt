@@ -9,8 +9,8 @@ use Rattle.icu_collator_core.specs.Collation.{Collation}
 use Rattle.icu_collator.specs.KeyBytes.{key_of_text}
 use Rattle.icu_collator.specs.Order.{collation_order}
 use Rattle.icu_collator.specs.Settings.{has_plain_leads}
-use Rattle.collate_records.specs.Record.{Record}
-use Rattle.collate_records.specs.Meaning.{collation_of}
+use Rattle.collate_lines.specs.Record.{Record}
+use Rattle.collate_rules.specs.Meaning.{collation_of}
 use Rattle.collate_names.specs.Names.{TextOrder}
 
 pub record Meaning : Type 0 where

@@ -5,8 +5,8 @@ ghost use Rattle.icu_normalizer_core.specs.BorrowedMeaning.{borrowed_meaning};
 ghost use Rattle.icu_normalizer_core.specs.Canonical.{decomposed};
 ghost use Rattle.icu_normalizer_core.specs.Decoding.{utf8_chars};
 ghost use Rattle.icu_collator_core.specs.Elements.{elements_of_list};
-ghost use Rattle.collate_records.specs.Accepted.{AreAccepted};
-ghost use Rattle.collate_records.specs.Meaning.{canonical_of, weights_of};
+ghost use Rattle.collate_records.specs.Plain.{ArePlain};
+ghost use Rattle.collate_rules.specs.Meaning.{canonical_of, weights_of};
 ghost use Rattle.collate_index.specs.Simple.{elements_of_character};
 
 use collate_records::records::Records;
@@ -44,15 +44,16 @@ fn decomposed_by(
     Ok(list)
 }
 
-/// The collation elements of a decomposed list (UTS 10).
+/// The collation elements of a decomposed list (UTS 10), by plain records: those that give elements to single characters
+/// alone, as `Records::is_plain` tells.
 pub fn elements_of_list(
     alloc: Global,
     records: &Records,
     list: &[u32],
 ) -> Result<Vec<Element>, AllocError>
+    requires { ArePlain records.now }
     ensures { IfOk result (λ es. es.items ≡ elements_of_list (canonical_of records.now) (weights_of records.now) false list.now) }
 {
-    records.keep_rules();
     let mut elements = Vec::new(alloc);
     for c in list {
         push_elements(records, *c, &mut elements)?;
@@ -62,7 +63,7 @@ pub fn elements_of_list(
 
 /// Adds the elements of a character at the end.
 fn push_elements(records: &Records, c: u32, elements: &mut Vec<Element>) -> Result<(), AllocError>
-    requires { AreAccepted records.now }
+    requires { ArePlain records.now }
     ensures { OnOk result (elements.new.items ≡ elements.old.items ++ elements_of_character (weights_of records.now) c) }
 {
     if let Some(primary) = special_primary(c) {

@@ -13,7 +13,8 @@ ghost use Rattle.collate_index.specs.Catalogue.{AreDistinct, opened, order_of, s
 ghost use Rattle.collate_index.specs.ServedOptions.{AreDefault, GiveStrengthOnly};
 ghost use Rattle.collate_index.specs.Search.{IsPlaceOf, stands_before};
 ghost use Rattle.collate_index.specs.Simple.{AreSimple};
-ghost use Rattle.collate_records.specs.Meaning.{settings_of};
+ghost use Rattle.collate_records.specs.Plain.{ArePlain};
+ghost use Rattle.collate_rules.specs.Meaning.{settings_of};
 ghost use Rattle.icu_collator_types.specs.Options.{resolved_options};
 
 use crate::key::IndexKey;
@@ -78,8 +79,8 @@ impl Model for Index {
 impl Index {
     ghost use Rattle.collate_index.specs.Keys.{IsKeyOf};
 
-    /// An index with no names, over records, preferences and options; what these leave open the records' settings decide.
-    /// It asks for no memory.
+    /// An index with no names, over plain records, preferences and options; what these leave open the records' settings
+    /// decide. Which records are plain `Records::is_plain` tells. It asks for no memory.
     #[tactic(auto, unfolding(collate_names::specs::Names::in_order))]
     pub fn new(
         alloc: Global,
@@ -87,6 +88,7 @@ impl Index {
         preferences: &CollatorPreferences<'_>,
         options: &CollatorOptions,
     ) -> Result<Index, AllocError>
+        requires plain { ArePlain records }
         requires preferences { AreDefault preferences.now }
         requires options { GiveStrengthOnly options.now }
         ensures { IfOk result (λ index. index ≡ opened records preferences.now options.now) }
@@ -258,12 +260,12 @@ fn resolved_over(
     preferences: &CollatorPreferences<'_>,
     options: &CollatorOptions,
 ) -> ResolvedCollatorOptions
+    requires plain { ArePlain records.now }
     requires preferences { AreDefault preferences.now }
     requires options { GiveStrengthOnly options.now }
     ensures simple { AreSimple result }
     ensures resolved { result ≡ resolved_options options.now preferences.now (settings_of records.now) }
 {
-    records.keep_rules();
     ResolvedCollatorOptions::resolve(options, preferences, &records.settings())
 }
 

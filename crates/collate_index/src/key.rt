@@ -3,6 +3,7 @@
 ghost use Rattle.std.specs.Prelude.{◌≡◌, ◌+◌, ℕ, List, [], Option, cond, filter_map, min, IfOk};
 ghost use Rattle.std.specs.Fn.{FnReturnsAt};
 ghost use Rattle.icu_collator_types.specs.declared.elements.Element.{Element};
+ghost use Rattle.collate_records.specs.Plain.{ArePlain};
 ghost use Rattle.collate_index.specs.Meaning.{Meaning, meaning_of, order_by};
 ghost use Rattle.collate_index.specs.Simple.{AreSimple};
 
@@ -34,17 +35,17 @@ impl Drop for IndexKey {
 impl IndexKey {
     ghost use Rattle.collate_index.specs.Keys.{IsKeyOf};
 
-    /// The key of a name in UTF-8 under records and options; an error if memory is refused.
+    /// The key of a name in UTF-8 under plain records and options; an error if memory is refused.
     pub fn make(
         alloc: Global,
         records: &Records,
         options: ResolvedCollatorOptions,
         name: &[u8],
     ) -> Result<IndexKey, AllocError>
-        requires { AreSimple options }
+        requires plain { ArePlain records.now }
+        requires simple { AreSimple options }
         ensures { IfOk result (IsKeyOf (meaning_of records.now options) name.now) }
     {
-        records.keep_rules();
         let list = decomposed_list(alloc, records, name)?;
         let elements = elements_of_list(alloc, records, &list)?;
         let at_second = options.strength.is_at_least(Strength::Secondary);

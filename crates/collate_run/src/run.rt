@@ -4,6 +4,7 @@ ghost use Rattle.std.specs.Prelude.{◌≡◌, ◌+◌, ◌≤◌, ◌↔◌, �
 ghost use Rattle.std.specs.Io.KnownBytes.{Consumes, Appends};
 ghost use Rattle.collate_index.specs.Catalogue.{opened};
 ghost use Rattle.collate_index.specs.ServedOptions.{AreDefault, GiveStrengthOnly};
+ghost use Rattle.collate_records.specs.Plain.{ArePlain};
 ghost use Rattle.collate_run.specs.Reading.{GivesByte, ReadsLine, is_read_fault};
 ghost use Rattle.collate_run.specs.Runs.{Ran, input_limit};
 ghost use Rattle.collate_run.specs.Sending.{Sends};
@@ -160,7 +161,7 @@ fn answer_lines<R: Read, W: Write>(
     }
 }
 
-/// Opens an index over the records and answers each line of the reader to the writer, one reply a
+/// Opens an index over plain records and answers each line of the reader to the writer, one reply a
 /// line, until the input ends (README.md, "The program").
 ///
 /// A line is `add NAME`, `find NAME` or `list`, of at most 65,536 bytes; any other line is
@@ -175,6 +176,7 @@ pub fn run<R: Read, W: Write>(
     reader: &mut Watched<R>,
     writer: &mut Watched<W>,
 ) -> Result<(), RunFault>
+    requires plain { ArePlain records }
     requires preferences { AreDefault preferences.now }
     requires options { GiveStrengthOnly options.now }
     requires reader { watched_failed reader.old ≡ false }

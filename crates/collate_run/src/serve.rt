@@ -92,8 +92,8 @@ pub fn tell_run_fault<E: Write>(errors: &mut E, fault: RunFault)
 /// reader to the writer. Answers the status of the program (README.md, "The program").
 ///
 /// Status 2 and the usage line to `errors` if `choice` is `None`, whatever `file` is. Status 1
-/// and a line that begins with `collate: ` if FILE wasn't read, its records are refused, or the
-/// run ends by a fault, in this order. Else status 0. An error of `errors` is dropped.
+/// and a line that begins with `collate: ` if FILE wasn't read, its records are refused, or not served
+/// yet (README.md, "The program"), or the run ends by a fault, in this order. Else status 0. An error of `errors` is dropped.
 /// Before the run nothing is read or written.
 pub fn serve<R: Read, W: Write, E: Write>(
     alloc: Global,
@@ -135,6 +135,10 @@ pub fn serve<R: Read, W: Write, E: Write>(
             return 1;
         }
     };
+    if !records.is_plain() {
+        tell(errors, &[b"collate: records not served yet\n"]);
+        return 1;
+    }
     let (preferences, options) = (&choice.preferences, &choice.options);
     match run(alloc, records, preferences, options, reader, writer) {
         Ok(()) => 0,

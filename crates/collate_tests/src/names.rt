@@ -1,7 +1,9 @@
 //! Names over a small records file: what an index and a run answer. Expected values come from the specification's worked
 //! examples, and from an independent reading of the file format.
 
+ghost use Rattle.std.specs.Prelude.{IfOk};
 ghost use Rattle.collate_index.specs.ServedOptions.{GiveStrengthOnly};
+ghost use Rattle.collate_records.specs.Plain.{ArePlain};
 
 use collate_index::elements::{decomposed_list, elements_of_list};
 use collate_index::index::{AddError, Index};
@@ -58,11 +60,22 @@ const TERTIARY: CollatorOptions = CollatorOptions {
     case_level: None,
 };
 
+/// The letters, which are plain records.
+fn letters(alloc: Global) -> Result<Records, Fail>
+    ensures { IfOk result ArePlain }
+{
+    let records = Records::read(alloc, LETTERS)?;
+    if !records.is_plain() {
+        return Err(Fail::from("letters are plain"));
+    }
+    Ok(records)
+}
+
 /// An index over the letters with these names.
 fn index_of(alloc: Global, options: &CollatorOptions, names: &[&[u8]]) -> Result<Index, Fail>
     requires { GiveStrengthOnly options.now }
 {
-    let records = Records::read(alloc, LETTERS)?;
+    let records = letters(alloc)?;
     let mut index = Index::new(alloc, records, &PREFERENCES, options)?;
     for name in names {
         index.add(*name)?;
@@ -190,7 +203,7 @@ fn ok_decomposed_list(rt: HostRuntime) -> Result<(), Fail> {
 #[test]
 fn ok_elements_of_list(rt: HostRuntime) -> Result<(), Fail> {
     let alloc = rt.alloc();
-    let records = Records::read(alloc, LETTERS)?;
+    let records = letters(alloc)?;
     let elements = elements_of_list(alloc, &records, &[0x61, 0x301, 0x7a, 0x1161, 0xfffe])?;
     let expected: &[u32] = &[0x2a100000, 0, 0xfe0408d4, 0xfd046300, 0x02000000];
     assert_eq!(rt; elements.len(), expected.len());
@@ -216,7 +229,9 @@ fn compared(
     records: &Records,
     first: &str,
     second: &str,
-) -> Result<(Ordering, usize), AllocError> {
+) -> Result<(Ordering, usize), AllocError>
+    requires { ArePlain records.now }
+{
     let mut count = 0;
     let first = IndexKey::make(alloc, records, AT_TERTIARY, first.as_bytes())?;
     let second = IndexKey::make(alloc, records, AT_TERTIARY, second.as_bytes())?;
@@ -226,7 +241,7 @@ fn compared(
 
 #[test]
 fn ok_make(rt: HostRuntime) -> Result<(), Fail> {
-    let records = Records::read(rt.alloc(), LETTERS)?;
+    let records = letters(rt.alloc())?;
     let (acute, circumflex) = ("cote\u{301}", "co\u{302}te");
     for (first, second, ordering) in [
         (acute, circumflex, Ordering::Less),
@@ -259,7 +274,7 @@ fn a_run_answers_in_order(rt: HostRuntime) -> Result<(), Fail> {
         ),
     ];
     for (options, commands, replies) in rows {
-        let records = Records::read(alloc, LETTERS)?;
+        let records = letters(alloc)?;
         let mut written = Vec::new(alloc);
         let mut reader = Watched::new(commands);
         let mut writer = Watched::new(&mut written);

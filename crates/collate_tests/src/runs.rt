@@ -100,6 +100,7 @@ where
     let records = Records::read(alloc, b"")
         .ok()
         .expect(rt, "no line is accepted");
+    assert!(rt; records.is_plain());
     let mut reader = Watched::new(reader);
     let mut writer = Watched::new(writer);
     let result = run::run(
@@ -251,6 +252,15 @@ fn choices_are_a_file_and_a_strength(rt: HostRuntime) -> Result<(), Fail> {
     Ok(())
 }
 
+/// Files that are accepted and not served yet: each has a line of one kind more.
+const UNSERVED: [&str; 5] = [
+    "t 0061 ; [2A100000.0500.0.0500.0]",
+    "w 0061 ; [2A100000.0500.0.0500.0]\nw 0061 0061 ; [2A200000.0500.0.0500.0]",
+    "range 4E00 4E0F E0020200 1",
+    "w 0030 ; [2A100000.0500.0.0500.0]\ndigit 0030 0",
+    "set backward on",
+];
+
 /// Serves choice with a reader and a writer that fail after some calls, and looks at the status
 /// and at what the writer of errors got.
 fn assert_served(
@@ -315,6 +325,10 @@ fn serve_answers_status_and_text(rt: HostRuntime) -> Result<(), Fail> {
     assert_served(&rt, alloc, choice, Err(FileFault::Memory), 9, 9, memory);
     let refused = (1, b"collate: refused 1 grammar\n".as_slice());
     assert_served(&rt, alloc, choice, Ok(b"x"), 9, 9, refused);
+    let unserved = (1, b"collate: records not served yet\n".as_slice());
+    for line in UNSERVED {
+        assert_served(&rt, alloc, choice, Ok(line.as_bytes()), 9, 9, unserved);
+    }
     assert_served(&rt, alloc, choice, Ok(b""), 9, 9, (0, b""));
     assert_served(&rt, alloc, choice, Ok(b""), 3, 9, (1, b"collate: read\n"));
     assert_served(&rt, alloc, choice, Ok(b""), 9, 1, (1, b"collate: write\n"));

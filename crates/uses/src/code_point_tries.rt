@@ -32,18 +32,17 @@ pub fn trie_of_char(
     ensures elsewhere { IfOk result (λ trie. (c : ℕ) → c ≤ 0x10FFFF → c ≢ character → value_at trie c ≡ Some 0) }
 {
     let map = map_of_char(alloc, character, value)?;
-    map.build(alloc)
+    map.build()
 }
 
 /// What the trie that is built from a map reads for a character: what the map has.
 pub fn read_through(
-    alloc: Global,
     map: &CodePointTrieBuilder<u16>,
     character: char,
 ) -> Result<u16, CodePointTrieBuildError>
     ensures { IfOk result (λ value. value ≡ mapped map.now character) }
 {
-    let trie = map.build(alloc)?;
+    let trie = map.build()?;
     Ok(trie.get32(character as u32))
 }
 

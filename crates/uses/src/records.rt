@@ -1,7 +1,8 @@
 //! Records files: reading one, and asking what it says.
 ghost use Rattle.std.specs.Prelude.{◌≡◌, ◌↔◌, [], IsTrue, MatchResult};
-ghost use Rattle.collate_records.specs.Files.{IsAccepted, Refuses, records_of};
-ghost use Rattle.collate_records.specs.Meaning.{class_of, step_of};
+ghost use Rattle.collate_records.specs.Files.{IsAccepted, Refuses};
+ghost use Rattle.collate_lines.specs.Lines.{records_of};
+ghost use Rattle.collate_rules.specs.Meaning.{class_of, step_of};
 
 use collate_records::records::Records;
 use collate_records::rule::RecordsError;

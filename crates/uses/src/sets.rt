@@ -20,7 +20,7 @@ pub fn set_of_ranges(
     let mut builder = CodePointInversionListBuilder::new(alloc);
     builder.add_range32(first)?;
     builder.add_range32(second)?;
-    builder.build(alloc)
+    builder.build()
 }
 
 /// Whether the set holds both characters. It takes no memory.

@@ -3,8 +3,8 @@ use Rattle.std.specs.Prelude.{◌≡◌, [], ◌∷◌, ◌++◌, length, refl, 
 use Rattle.std.specs.declared.cmp.Ordering.TheVariants.{Equal, Greater}
 use Rattle.icu_collator_types.specs.declared.options.Strength.TheVariants.{Primary, Tertiary}
 use Rattle.icu_collator_core.specs.Defaults.{primary_element}
-use Rattle.collate_records.specs.Files.{records_of}
-use Rattle.collate_records.specs.Meaning.{compatibility_of}
+use Rattle.collate_lines.specs.Lines.{records_of}
+use Rattle.collate_rules.specs.Meaning.{compatibility_of}
 use Rattle.worked_rows.specs.Files.{file}
 use Rattle.worked_rows.specs.Asked.{at_strength, order, elements}
 use Rattle.worked_rows.specs.Letters.{letters, with_ideographs}

@@ -2,8 +2,8 @@
 use Rattle.std.specs.Prelude.{ℕ, not, List, [], ◌∷◌, ◌++◌, flat_map, length, take, bytes_eq}
 use Rattle.std.specs.List.{filter}
 use Rattle.icu_collator_core.specs.Collation.{Collation}
-use Rattle.collate_records.specs.Files.{records_of}
-use Rattle.collate_records.specs.Meaning.{collation_of}
+use Rattle.collate_lines.specs.Lines.{records_of}
+use Rattle.collate_rules.specs.Meaning.{collation_of}
 
 -- the lines of a file, without their LFs
 abbrev pub Lines : Type 0

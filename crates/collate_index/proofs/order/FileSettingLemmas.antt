@@ -1,15 +1,16 @@
--- What a file sets keeps the rules on settings: no line that sets anything is read yet.
+-- What plain records set keeps the rules on settings: it is what is set by default.
 use Rattle.std.proofs.Common.{◌≡◌, ℕ, List, [], refl, sym, ◌∙◌, ap, arith}
 use Rattle.std.specs.Prelude.{◌==◌, ◌+◌, ◌*◌, ◌/◌, ◌%◌, ◌^◌, replicate}
 use Rattle.std.proofs.lemmas.Bool.{or_right}
 use Rattle.icu_collator_core.specs.Collation.{reordered_lead, with_lead}
 use Rattle.icu_collator_core.specs.WeightRules.{is_letter_lead}
 use Rattle.icu_collator_core.proofs.weights.ReorderingLemmas.{given_lead, given_rest}
-use Rattle.icu_collator.specs.Settings.{AreSoundSettings, are_sound_groups}
-use Rattle.collate_records.specs.Accepted.{AreAccepted}
-use Rattle.collate_records.specs.Record.{Record}
-use Rattle.collate_records.specs.Meaning.{collation_of, groups_in, is_compressible_in, place_among, reorder_in, set_to}
-use Rattle.collate_records.proofs.reading.KnownRecordLemmas.{accepted_plain}
+use Rattle.icu_collator_core.specs.SettingRules.{are_sound_groups}
+use Rattle.icu_collator.specs.Settings.{AreSoundSettings}
+use Rattle.collate_records.specs.Plain.{ArePlain}
+use Rattle.collate_records.proofs.reading.PlainLemmas.{plain_meaning}
+use Rattle.collate_lines.specs.Record.{Record}
+use Rattle.collate_rules.specs.Meaning.{collation_of, groups_in, is_compressible_in, place_among, reorder_in, set_to}
 
 -- where no lead is reordered, no primary is
 pub primary_stays : (place : ℕ → ℕ) → ((lead : ℕ) → place lead ≡ lead) → (p : ℕ) → with_lead place p ≡ p
@@ -19,16 +20,16 @@ primary_stays place stays p = ap (λ (lead : ℕ). lead * 2 ^ 24 + p % 2 ^ 24) (
 places : List Record → ℕ → ℕ
 places records = place_among (set_to reorder_in [] records)
 
-lead_stays : (records : List Record) → AreAccepted records → (lead : ℕ) → reordered_lead (collation_of records) lead ≡ lead
+lead_stays : (records : List Record) → ArePlain records → (lead : ℕ) → reordered_lead (collation_of records) lead ≡ lead
 unfolding places
-lead_stays records accepted lead =
-    let plain = accepted_plain records accepted in given_lead (collation_of records) (places records) (λ p. refl) lead ∙ plain.in_place lead
+lead_stays records are_plain lead =
+    let plain = plain_meaning records are_plain in given_lead (collation_of records) (places records) (λ p. refl) lead ∙ plain.in_place lead
 
-pub accepted_settings : (records : List Record) → AreAccepted records → AreSoundSettings (collation_of records)
+pub plain_settings : (records : List Record) → ArePlain records → AreSoundSettings (collation_of records)
 unfolding places
-accepted_settings records accepted =
-    let plain = accepted_plain records accepted
-    in let stay = lead_stays records accepted
+plain_settings records are_plain =
+    let plain = plain_meaning records are_plain
+    in let stay = lead_stays records are_plain
     in record {
       numeric_lead = ap is_letter_lead plain.numeric_lead;
       groups = ap (λ (lead : ℕ). are_sound_groups lead (set_to groups_in (replicate 4 0x300) records)) plain.numeric_lead

@@ -11,8 +11,8 @@ use Rattle.icu_collator_types.specs.declared.options.ResolvedCollatorOptions.{Re
 use Rattle.icu_collator_core.specs.Collation.{Collation}
 use Rattle.icu_collator.specs.Levels.{levels_of_text}
 use Rattle.icu_collator.specs.Settings.{has_plain_leads}
-use Rattle.collate_records.specs.Meaning.{collation_of, place_among, reorder_in, set_to}
-use Rattle.collate_records.proofs.reading.KnownRecordLemmas.{accepted_plain}
+use Rattle.collate_rules.specs.Meaning.{collation_of, place_among, reorder_in, set_to}
+use Rattle.collate_records.proofs.reading.PlainLemmas.{plain_meaning}
 use Rattle.collate_index.proofs.order.FileSettingLemmas.{primary_stays}
 use Rattle.collate_index.specs.Simple.{AreSimple}
 use Rattle.collate_index.specs.Keys.{IsKeyOf, elements_of_name}
@@ -49,7 +49,7 @@ keys_order m a b x y hx hy =
     in let t = no_case_bits o hx.simple
     in let la = decomposed d.canonical (utf8_chars a)
     in let lb = decomposed d.canonical (utf8_chars b)
-    in let plain = accepted_plain m.records hx.accepted
+    in let plain = plain_meaning m.records hx.plain
     in let stay : (p : ℕ) → d.reordered p ≡ p = primary_stays (place_among (set_to reorder_in [] m.records)) plain.in_place
     in let ea = elements_of_name m a
     in let eb = elements_of_name m b

@@ -58,6 +58,7 @@ kept_more s kept names order n at e f l key absent place =
     let within_arrivals : All (λ p. p < length arrivals) s.order.items = subst (λ k. All (λ p. p < k) s.order.items) (sym many) kept.within in
     let listed_many : length (in_order R arrivals) ≡ length arrivals = length-in_order R (order_total m) arrivals in
     record {
+      plain = kept.plain;
       simple = kept.simple;
       keyed = All-same (λ k. IsKeyOf m (text_of k) k.key) names.items (s.names.items ++ n ∷ []) e (All-push (λ k. IsKeyOf m (text_of k) k.key) s.names.items n kept.keyed key);
       distinct = subst AreDistinct (sym arrived)

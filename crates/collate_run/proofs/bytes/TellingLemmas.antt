@@ -1,8 +1,8 @@
 -- a text told part by part
-use Rattle.std.proofs.Common.{◌≡◌, ℕ, ◌+◌, ◌<◌, Option, Result, List, [], ◌∷◌, ◌++◌, length, take, drop, get_or, flat_map, ap, sym, ◌∙◌, append_assoc, subst}
+use Rattle.std.proofs.Common.{◌≡◌, ℕ, ◌+◌, ◌<◌, Option, Some, None, Result, List, [], ◌∷◌, ◌++◌, length, take, drop, get_or, flat_map, ap, sym, ◌∙◌, append_assoc, refl, subst}
 use Rattle.std.proofs.lemmas.List.{append-nil, take_more, take-append-drop}
 use Rattle.std.proofs.lemmas.Grind.{flat_map-append}
-use Rattle.std.specs.Io.KnownBytes.{Appends}
+use Rattle.std.specs.Io.KnownBytes.{Appends, Keeps}
 use Rattle.collate_run.specs.Sending.{Sends}
 use Rattle.collate_run.specs.Served.{Tells}
 use Rattle.collate_run.proofs.bytes.KnownBytesLemmas.{Appends-none, Appends-then}
@@ -31,3 +31,8 @@ told-all a b text h = record { told = text; untold = []; text_is = sym (append-n
 
 pub tells-nothing : (a : Option (List ℕ)) → Tells a a []
 tells-nothing a = told-all a a [] (Appends-none a)
+
+-- what isn't touched keeps its bytes
+pub keeps-same : (a : Option (List ℕ)) → Keeps a a
+keeps-same None = tt
+keeps-same (Some bytes) = refl

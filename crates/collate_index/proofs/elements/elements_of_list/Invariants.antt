@@ -1,6 +1,6 @@
 use Rattle.std.proofs.Common.{◌≡◌, take}
 use Rattle.std.specs.List.{flat_map}
-use Rattle.collate_records.specs.Meaning.{weights_of}
+use Rattle.collate_rules.specs.Meaning.{weights_of}
 use Rattle.collate_index.specs.Simple.{elements_of_character}
 use Rattle.collate_index.proofs.elements.elements_of_list.Given as goal
 
