@@ -13,7 +13,7 @@ ghost use Rattle.icu_collator_core.specs.Collation.{Collation};
 ghost use Rattle.icu_collator.specs.KeyBytes.{key_of_text};
 ghost use Rattle.icu_collator.specs.Settings.{AreSoundSettings};
 ghost use Rattle.icu_collator.specs.SoundCollation.{IsSoundCollation};
-ghost use Rattle.collate_records.specs.Accepted.{AreAccepted};
+ghost use Rattle.collate_rules.specs.Accepted.{AreAccepted};
 ghost use Rattle.collate_records.specs.Plain.{ArePlain};
 ghost use Rattle.collate_lines.specs.Record.{Record};
 ghost use Rattle.collate_rules.specs.Meaning.{collation_of};

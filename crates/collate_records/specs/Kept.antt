@@ -2,7 +2,7 @@
 use Rattle.std.specs.Prelude.{map}
 use Rattle.icu_normalizer_core.specs.CanonicalMaps.{AreMeaning}
 use Rattle.icu_normalizer_core.specs.CanonicalMeaning.{meaning}
-use Rattle.collate_records.specs.Accepted.{AreAccepted}
+use Rattle.collate_rules.specs.Accepted.{AreAccepted}
 use Rattle.collate_records.specs.Maps.{maps_of}
 use Rattle.collate_lines.specs.Record.{said}
 use Rattle.collate_records.specs.WeightsTables.{HasWeights}

@@ -1,4 +1,3 @@
-pub mod Accepted
 pub mod Changes
 pub mod CharacterTables
 pub mod Files
@@ -14,6 +13,7 @@ pub use Rattle.collate_lines.specs.Lines
 pub use Rattle.collate_lines.specs.Record
 pub use Rattle.collate_lines.specs.Repeats
 pub use Rattle.collate_lines.specs.Rule
+pub use Rattle.collate_rules.specs.Accepted
 pub use Rattle.collate_rules.specs.Meaning
 pub use Rattle.collate_rules.specs.Offenders
 pub use Rattle.collate_rules.specs.Rules

@@ -3,7 +3,7 @@
 ghost use Rattle.std.specs.Prelude.{◌≡◌, ◌++◌, All, IfOk, OnOk, map};
 ghost use Rattle.icu_normalizer_core.specs.CanonicalMaps.{AreMeaning, KeepRules};
 ghost use Rattle.icu_normalizer_core.specs.CanonicalMeaning.{meaning};
-ghost use Rattle.collate_records.specs.Accepted.{HasSmallClass};
+ghost use Rattle.collate_rules.specs.Accepted.{HasSmallClass};
 ghost use Rattle.collate_records.specs.Maps.{classes_in, mappings_in, maps_of};
 ghost use Rattle.collate_lines.specs.Record.{said};
 

@@ -9,7 +9,7 @@ ghost use Rattle.collate_lines.specs.Record.{Record};
 ghost use Rattle.collate_records.specs.Maps.{maps_of};
 ghost use Rattle.collate_rules.specs.Meaning.{canonical_of, weights_of};
 ghost use Rattle.collate_rules.specs.Offenders.{NoneOffends};
-ghost use Rattle.collate_records.specs.Accepted.{AreAccepted, AreScalars};
+ghost use Rattle.collate_rules.specs.Accepted.{AreAccepted, AreScalars};
 ghost use Rattle.collate_records.specs.Plain.{ArePlain, MeanPlain};
 ghost use Rattle.collate_records.specs.Files.{IsAccepted};
 ghost use Rattle.collate_lines.specs.Lines.{records_of};

@@ -9,7 +9,7 @@ ghost use Rattle.icu_normalizer_core.specs.Canonical.{IsCanonical, IsComposing, 
 ghost use Rattle.icu_normalizer_core.specs.Decoding.{utf8_chars};
 ghost use Rattle.icu_normalizer_core.specs.Properties.{mapped_to};
 ghost use Rattle.icu_normalizer_core.specs.Sameness.{AreSameCanonical};
-ghost use Rattle.collate_records.specs.Accepted.{AreAccepted};
+ghost use Rattle.collate_rules.specs.Accepted.{AreAccepted};
 ghost use Rattle.collate_rules.specs.Meaning.{canonical_of, collation_of, class_of, step_of, pair_of, first_found, lone_elements_in, recorded_in};
 ghost use Rattle.collate_records.specs.Changes.{AreSettingsEqual, IsChanged, IsUnchanged};
 ghost use Rattle.collate_records.specs.Files.{IsReadFrom};

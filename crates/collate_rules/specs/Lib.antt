@@ -1,3 +1,4 @@
+pub mod Accepted
 pub mod Breaches
 pub mod GivenWeights
 pub mod KeptSettings

@@ -19,7 +19,7 @@ use Rattle.icu_collator.specs.SoundCollation.{IsSoundCollation}
 use Rattle.icu_collator.proofs.keys.KeyBytesLemmas.{same_numbers}
 use Rattle.icu_collator.proofs.orders.TotalOrderLemmas.{collation_order_total}
 use Rattle.icu_collator.proofs.keys.TextKeyLemmas.{text_keys_order}
-use Rattle.collate_records.specs.Accepted.{AreAccepted}
+use Rattle.collate_rules.specs.Accepted.{AreAccepted}
 use Rattle.collate_records.specs.Plain.{ArePlain}
 use Rattle.collate_rules.specs.Meaning.{collation_of}
 use Rattle.collate_records.proofs.reading.AcceptedLemmas.{accepted_decompose}

@@ -15,7 +15,7 @@ use Rattle.collate_rules.specs.Meaning.{first_found, class_in, mapping_in, compa
 use Rattle.collate_rules.specs.Rules.{begins_with_mark, is_mapped, MapsMark, HasLoop, HasBadList}
 use Rattle.collate_lines.specs.declared.rule.Rule.TheVariants.{C1, C2, C3, C4, C9}
 use Rattle.collate_rules.specs.Offenders.{NoneOffends}
-use Rattle.collate_records.specs.Accepted.{AreScalars}
+use Rattle.collate_rules.specs.Accepted.{AreScalars}
 use Rattle.collate_rules.proofs.mappings.EndingLemmas.{ends}
 use Rattle.collate_rules.proofs.mappings.SoonEndedLemmas.{EndsSoon, unmapped-ends_soon, two-ends_soon, bounded_built_in}
 use Rattle.collate_records.proofs.mappings.StepLemmas.{IsMapped, step_cases, free_step_cases, step_scalars, mark_unmapped, mapped_starter, no_letters, small_class, step_of-built_in, step_of-compatibility, some_or_none}

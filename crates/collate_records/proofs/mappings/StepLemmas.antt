@@ -15,7 +15,7 @@ use Rattle.collate_lines.specs.Record.{Record, nothing, class, mapping}
 use Rattle.collate_rules.specs.Meaning.{is_built_in, first_found, mapping_in, class_in, step_of, class_of}
 use Rattle.collate_lines.specs.Repeats.{record_at}
 use Rattle.collate_rules.specs.Rules.{MapsMark, MapsHangul, IsBadClass, is_built_in_record}
-use Rattle.collate_records.specs.Accepted.{AreScalars, MapsToScalars}
+use Rattle.collate_rules.specs.Accepted.{AreScalars, MapsToScalars}
 use Rattle.collate_rules.proofs.mappings.EndingLemmas.{Contains-tail}
 use Rattle.collate_rules.proofs.lookups.FoundLemmas.{mapping_line, class_line}
 

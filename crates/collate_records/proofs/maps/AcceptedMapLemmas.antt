@@ -14,7 +14,7 @@ use Rattle.icu_normalizer_core.proofs.builder.GivenLemmas.{counted, one_each}
 use Rattle.collate_lines.specs.declared.rule.Rule.{Rule}
 use Rattle.collate_lines.specs.declared.rule.Rule.TheVariants.{Limit, C3, C5, C6, C8, C9, V14}
 use Rattle.collate_lines.specs.Record.{Record, nothing, class, mapping, compatibility, weights, range, digit, setting}
-use Rattle.collate_records.specs.Accepted.{AreAccepted, IsSaid}
+use Rattle.collate_rules.specs.Accepted.{AreAccepted, IsSaid}
 use Rattle.collate_rules.specs.Meaning.{canonical_of, step_of, pair_of, full_of}
 use Rattle.collate_records.specs.Maps.{classes_in, mappings_in, maps_of}
 use Rattle.collate_rules.specs.Offenders.{NoneOffends}

@@ -7,7 +7,7 @@ use Rattle.collate_lines.specs.Record.{Record, nothing, class, mapping, compatib
 use Rattle.collate_rules.specs.Rules.{IsBadClass}
 use Rattle.collate_lines.specs.Repeats.{record_at}
 use Rattle.collate_rules.specs.Offenders.{NoneOffends}
-use Rattle.collate_records.specs.Accepted.{HasSmallClass}
+use Rattle.collate_rules.specs.Accepted.{HasSmallClass}
 use Rattle.collate_rules.proofs.offenders.LineRuleLemmas.{each_line}
 
 HasSmallClass-from_record : (s : Record) → (IsBadClass s → ⊥) → HasSmallClass s

@@ -9,7 +9,7 @@ use Rattle.icu_normalizer_core.specs.Canonical.{IsDecomposing, IsComposing}
 use Rattle.collate_lines.specs.declared.rule.Rule.{Rule}
 use Rattle.collate_lines.specs.declared.rule.Rule.TheVariants.{Grammar, Limit, V14, C1, C2, C3, C4, C6, C7, C9}
 use Rattle.collate_lines.specs.Grammar.{record_of}
-use Rattle.collate_records.specs.Accepted.{AreAccepted, AreScalars, HasSmallClass, IsSaid, MapsToScalars}
+use Rattle.collate_rules.specs.Accepted.{AreAccepted, AreScalars, HasSmallClass, IsSaid, MapsToScalars}
 use Rattle.collate_records.specs.Files.{IsAccepted}
 use Rattle.collate_lines.specs.Lines.{lines_of, numbers_of, read_line, records_in, records_of}
 use Rattle.collate_rules.specs.Offenders.{NoneOffends}

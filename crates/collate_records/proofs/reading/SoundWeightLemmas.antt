@@ -8,7 +8,7 @@ use Rattle.collate_rules.specs.GivenWeights.{KeepsWidths}
 use Rattle.collate_rules.specs.Meaning.{weights_of}
 use Rattle.collate_rules.proofs.given.GrammarLemmas.{line_keeps_widths}
 use Rattle.collate_rules.proofs.given.SoundLemmas.{sound_weights}
-use Rattle.collate_records.specs.Accepted.{AreAccepted, IsSaid}
+use Rattle.collate_rules.specs.Accepted.{AreAccepted, IsSaid}
 
 -- what a line in the grammar says is of its widths
 said_keeps : (given : Record) → IsSaid given → KeepsWidths given

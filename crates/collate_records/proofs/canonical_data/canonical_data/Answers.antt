@@ -5,7 +5,7 @@ use Rattle.icu_normalizer_core.specs.declared.canonical.builder.GivenClass.{Give
 use Rattle.icu_normalizer_core.specs.declared.canonical.builder.GivenMapping.{GivenMapping}
 use Rattle.icu_normalizer_core.specs.CanonicalMaps.{CanonicalMaps, AreMeaning}
 use Rattle.icu_normalizer_core.specs.CanonicalMeaning.{meaning}
-use Rattle.collate_records.specs.Accepted.{HasSmallClass}
+use Rattle.collate_rules.specs.Accepted.{HasSmallClass}
 use Rattle.collate_records.specs.Maps.{classes_in, mappings_in, maps_of}
 use Rattle.collate_lines.specs.Record.{Record, said}
 use Rattle.collate_rules.proofs.offenders.LimitLemmas.{given_to}

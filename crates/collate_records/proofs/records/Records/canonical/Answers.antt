@@ -3,7 +3,7 @@ use Rattle.icu_normalizer_core.specs.declared.canonical.tables.CanonicalTables.{
 use Rattle.icu_normalizer_core.specs.BorrowedMeaning.{borrowed_meaning}
 use Rattle.icu_normalizer_core.specs.CanonicalMaps.{AreMeaning}
 use Rattle.icu_normalizer_core.specs.CanonicalMeaning.{meaning}
-use Rattle.collate_records.specs.Accepted.{AreAccepted}
+use Rattle.collate_rules.specs.Accepted.{AreAccepted}
 use Rattle.collate_records.specs.Maps.{maps_of}
 use Rattle.collate_lines.specs.Record.{Record}
 use Rattle.collate_records.proofs.maps.AcceptedMapLemmas.{accepted_same, accepted_steps, accepted_pairs}

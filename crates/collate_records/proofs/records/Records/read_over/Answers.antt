@@ -5,7 +5,7 @@ use Rattle.collate_rules.specs.Offenders.{NoneOffends}
 use Rattle.collate_records.specs.Maps.{maps_of}
 use Rattle.collate_lines.specs.Record.{Record, said}
 use Rattle.collate_lines.specs.Lines.{records_of}
-use Rattle.collate_records.specs.Accepted.{AreAccepted, HasSmallClass}
+use Rattle.collate_rules.specs.Accepted.{AreAccepted, HasSmallClass}
 use Rattle.collate_records.specs.WeightsTables.{HasWeights}
 use Rattle.icu_normalizer_core.specs.CanonicalMaps.{AreMeaning, KeepRules}
 use Rattle.icu_normalizer_core.specs.CanonicalMeaning.{meaning}
