@@ -1,0 +1,2 @@
+//! Collation tables, compiled of the lines of a records file.
+#![tactic(auto)]

@@ -1,0 +1,18 @@
+-- Lists of tables that grow at their ends.
+use Rattle.std.specs.Prelude.{◌≡◌, ℕ, ◌+◌, ◌*◌, ◌≤◌, List, ◌++◌, length}
+use Rattle.icu_collator_core.specs.Pools.{Pools}
+
+-- a list goes on as another
+abbrev pub IsFrontOf : List ℕ → List ℕ → Type 0
+IsFrontOf list longer = (more : List ℕ) × (longer ≡ list ++ more)
+
+pub record Grows (pools larger : Pools) : Type 0 where
+  pub ces : IsFrontOf pools.ces larger.ces
+  pub ce32s : IsFrontOf pools.ce32s larger.ce32s
+  pub contexts : IsFrontOf pools.contexts larger.contexts
+
+-- by no more than 200 items a record in each list
+pub record GrowsFor (count : ℕ) (pools larger : Pools) : Type 0 where
+  pub ces : length larger.ces ≤ length pools.ces + 200 * count
+  pub ce32s : length larger.ce32s ≤ length pools.ce32s + 200 * count
+  pub contexts : length larger.contexts ≤ length pools.contexts + 200 * count

@@ -1,0 +1,1 @@
+//! The lists that words name places in, as they grow.
