@@ -1,3 +1,4 @@
+pub mod Beginnings
 pub mod Compiled
 pub mod Layers
 pub mod LineSayings
