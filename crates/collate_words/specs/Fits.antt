@@ -1,5 +1,5 @@
 -- What can be written into tables: elements of 64 bits, short texts beside a character, and a digit that stands alone.
-use Rattle.std.specs.Prelude.{◌≡◌, ◌≢◌, ℕ, ◌*◌, ◌+◌, ◌/◌, ◌%◌, ◌^◌, ◌<◌, ◌≤◌, Bool, true, false, ◌&&◌, ltb, List, [], ◌∷◌, All, length, IsTrue, IfSome, None, is_some}
+use Rattle.std.specs.Prelude.{◌≡◌, ◌≢◌, ℕ, ◌*◌, ◌+◌, ◌/◌, ◌%◌, ◌^◌, ◌<◌, ◌≤◌, Bool, true, not, ◌&&◌, ltb, List, [], ◌∷◌, All, length, IsTrue, IfSome, None, is_some}
 use Rattle.std.specs.Char.{IsScalar}
 use Rattle.std.specs.List.{list_all, list_any}
 use Rattle.std.specs.Str.{bytes_eq}
@@ -20,7 +20,7 @@ pub record AreFit (es : List Element) : Type 0 where
 -- whether texts are different from each other
 abbrev pub are_different : List (List ℕ) → Bool
 are_different [] = true
-are_different (text ∷ texts) = list_all (λ other. bytes_eq text other == false) texts && are_different texts
+are_different (text ∷ texts) = list_all (λ other. not (bytes_eq text other)) texts && are_different texts
 
 -- what stands beside a character: not empty, at most so many characters, and elements that fit
 pub record IsBeside (most : ℕ) (said : SaidBeside) : Type 0 where
