@@ -30,7 +30,7 @@ IsJamoWord records c word =
 
 pub record AreJamoOf (records : List Record) (words : List ℕ) : Type 0 where
   pub count : length words ≡ 256
-  pub words : (i : ℕ) → i < 256 → IsJamoWord records (0x1100 + i) (slice_index words i)
+  pub each : (i : ℕ) → i < 256 → IsJamoWord records (0x1100 + i) (slice_index words i)
 
 -- ## Settings
 

@@ -1,5 +1,5 @@
 -- What lines record of the texts that begin with one character.
-use Rattle.std.specs.Prelude.{◌≡◌, ℕ, ◌+◌, ◌*◌, ◌^◌, Bool, false, cond, not, ◌==◌, ◌&&◌, List, [], ◌∷◌, All, Option, Some, None, is_some, option_map}
+use Rattle.std.specs.Prelude.{◌≡◌, ℕ, ◌+◌, ◌*◌, ◌^◌, ◌/◌, Bool, true, false, cond, not, ◌==◌, ◌&&◌, List, [], ◌∷◌, All, Option, Some, None, is_some, option_map}
 use Rattle.std.specs.List.{list_all, list_any}
 use Rattle.icu_normalizer_core.specs.BuiltIn.{is_jamo}
 use Rattle.icu_collator_core.specs.ContextRules.{begins_with_mark, ends_in_mark, holds_starter}
