@@ -1,7 +1,9 @@
 pub mod Contexts
+pub mod DigitWords
 pub mod Entries
 pub mod Fits
 pub mod Growth
 pub mod OwnWords
 pub mod Sayings
+pub mod ShortWords
 pub mod Written
