@@ -54,9 +54,9 @@ impl Provider {
         compatibility: NfkdTables<'static>,
         collation: CollationTables<'static>,
     ) -> Provider
-        ensures canonical { result.canonical ≡ canonical }
-        ensures compatibility { result.compatibility ≡ compatibility }
-        ensures collation { result.collation ≡ collation }
+        ensures canonical { result.canonical ≡ canonical.entry }
+        ensures compatibility { result.compatibility ≡ compatibility.entry }
+        ensures collation { result.collation ≡ collation.entry }
     {
         Provider {
             canonical,
