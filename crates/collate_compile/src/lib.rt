@@ -1,2 +1,4 @@
 //! Collation tables, compiled of the lines of a records file.
 #![tactic(auto)]
+
+pub mod laws;
