@@ -94,7 +94,7 @@ module _
           let count = length-reverse (b ∷ bs) in
           and_from (leb (length (reverse (b ∷ bs))) longest_prefix) _ (le-leb (length (reverse (b ∷ bs))) 3 (omega (arith, short, count)))
           (list_all-reverse (is_prefix_character canonical digit) (b ∷ bs)
-          ∙ prefix_characters (b ∷ bs) characters.before (recorded_prefix lines accepted b bs (c ∷ []) said.elements recorded)))
+          ∙ prefix_characters (b ∷ bs) characters.before (recorded_prefix lines accepted b bs (c ∷ []) said.elements recorded))
 
   prefixes_pass : IsTrue (has_tag Prefix entry.word) → KeysPass (is_prefix canonical digit) (units_named entry entry.word)
   prefixes_pass tag =

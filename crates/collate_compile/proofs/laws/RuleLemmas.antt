@@ -9,12 +9,12 @@ use Rattle.icu_normalizer_core.specs.BuiltIn.{is_jamo}
 use Rattle.icu_normalizer_core.specs.Canonical.{Canonical, is_starter}
 use Rattle.icu_collator_types.specs.declared.elements.Element.{Element}
 use Rattle.icu_collator_core.specs.ContextRules.{has_marks_last, is_prefix_character, is_recorded_in, is_recorded_shorter, may_be_digit, may_have_prefix}
-use Rattle.collate_lines.specs.declared.rule.Rule.TheVariants.{Limit, V8, V9, V10, V11, V12, V13}
+use Rattle.collate_lines.specs.declared.rule.Rule.TheVariants.{Limit, V8, V9, V10, V11, V12}
 use Rattle.collate_lines.specs.Record.{Record, nothing, class, mapping, compatibility, weights, range, digit, setting}
 use Rattle.collate_lines.specs.Repeats.{record_at}
 use Rattle.collate_rules.specs.Accepted.{AreAccepted, IsSaid}
 use Rattle.collate_rules.specs.Meaning.{canonical_of, digit_in, first_found, recorded_in, weights_of}
-use Rattle.collate_rules.specs.RecordRules.{breaks_digits, breaks_marks_last, breaks_prefixes, digit_of, has_late_starter, has_starter_behind, is_alone, is_bad_digit, is_bad_jamo_record, is_badly_prefixed, is_one_word, is_replaced, lacks_shorter, may_follow_prefix, names_special}
+use Rattle.collate_rules.specs.RecordRules.{breaks_digits, breaks_marks_last, breaks_prefixes, digit_of, has_late_starter, has_starter_behind, is_alone, is_bad_digit, is_bad_jamo_record, is_badly_prefixed, is_one_word, is_replaced, lacks_shorter, may_follow_prefix}
 use Rattle.collate_rules.specs.Rules.{IsLong}
 use Rattle.collate_rules.proofs.lookups.FoundLemmas.{found_at}
 use Rattle.collate_rules.proofs.offenders.BreachLemmas.{none_together}
