@@ -1,4 +1,5 @@
 pub mod Beginnings
+pub mod BesideLines
 pub mod Compiled
 pub mod Layers
 pub mod LineSayings

@@ -1,10 +1,10 @@
 -- What lines record of the texts that begin with one character.
-use Rattle.std.specs.Prelude.{◌≡◌, ℕ, ◌+◌, ◌*◌, ◌^◌, ◌/◌, Bool, true, false, cond, not, ◌==◌, ◌&&◌, List, [], ◌∷◌, All, Option, Some, None, is_some, option_map}
+use Rattle.std.specs.Prelude.{◌≡◌, ℕ, ◌+◌, ◌*◌, ◌^◌, ◌/◌, Bool, true, false, cond, not, ◌&&◌, List, [], ◌∷◌, All, Option, Some, None, is_some, option_map}
 use Rattle.std.specs.List.{list_all, list_any}
 use Rattle.icu_normalizer_core.specs.BuiltIn.{is_jamo}
 use Rattle.icu_collator_core.specs.ContextRules.{begins_with_mark, ends_in_mark, holds_starter}
 use Rattle.icu_collator_core.specs.Weights.{Range}
-use Rattle.collate_lines.specs.Record.{Layer, Record, is_same_layer, tailoring, weights}
+use Rattle.collate_lines.specs.Record.{Record, is_same_layer, tailoring, weights}
 use Rattle.collate_rules.specs.Meaning.{canonical_of, digit_in, first_found, is_compressible_in, range_in, recorded_in}
 use Rattle.collate_rules.specs.RecordRules.{begins_with}
 use Rattle.collate_words.specs.Sayings.{SaidBeside, Saying, elements_beside, texts_beside}

@@ -1,4 +1,9 @@
 //! Collation tables, compiled of the lines of a records file.
 #![tactic(auto)]
 
+pub mod beginnings;
+pub mod by_lines;
+pub mod entries;
+mod flags;
+mod gather;
 pub mod laws;

@@ -1,0 +1,187 @@
+//! What lines record of a character with others beside it, gathered line by line.
+
+ghost use Rattle.std.specs.Prelude.{◌≡◌, map, option_map, IfOk, OnOk};
+ghost use Rattle.collate_lines.specs.Record.{layer_of, said};
+ghost use Rattle.collate_words.specs.Entries.{said_beside};
+ghost use Rattle.collate_compile.specs.BesideLines.{gathered, has_beside, prefix_in, prefix_of, prefixes_in, suffix_in, suffix_of, suffixes_in, with_beside, with_found};
+
+use crate::by_lines::is_same_text;
+use collate_lines::record::{Layer, Record};
+use collate_words::entry::Beside;
+use icu_collator_types::elements::Element;
+use std::alloc::{AllocError, Global};
+
+/// What a key and its elements say of a character with others behind it.
+fn suffix_of<'a>(
+    c: char,
+    prefix: &[char],
+    text: &'a [char],
+    elements: &'a [Element],
+) -> Option<Beside<'a>>
+    ensures { option_map said_beside result ≡ suffix_of c prefix.now text.now elements.now }
+{
+    if !prefix.is_empty() || text.len() < 2 {
+        return None;
+    }
+    match text.split_first() {
+        Some((first, characters)) if c == *first => Some(Beside {
+            characters,
+            elements,
+        }),
+        _ => None,
+    }
+}
+
+/// What a key and its elements say of a character with others before it.
+fn prefix_of<'a>(
+    c: char,
+    prefix: &'a [char],
+    text: &[char],
+    elements: &'a [Element],
+) -> Option<Beside<'a>>
+    ensures { option_map said_beside result ≡ prefix_of c prefix.now text.now elements.now }
+{
+    if prefix.is_empty() {
+        return None;
+    }
+    match text {
+        [first] if c == *first => Some(Beside {
+            characters: prefix,
+            elements,
+        }),
+        _ => None,
+    }
+}
+
+/// What a line of a layer says of a character with others behind it.
+fn suffix_in<'a>(line: &'a Record, of_layer: Layer, c: char) -> Option<Beside<'a>>
+    ensures { option_map said_beside result ≡ suffix_in (layer_of of_layer) c (said line.now) }
+{
+    match line {
+        Record::Weights {
+            layer,
+            prefix,
+            text,
+            elements,
+        } if *layer == of_layer => suffix_of(c, prefix, text, elements),
+        _ => None,
+    }
+}
+
+/// What a line of a layer says of a character with others before it.
+fn prefix_in<'a>(line: &'a Record, of_layer: Layer, c: char) -> Option<Beside<'a>>
+    ensures { option_map said_beside result ≡ prefix_in (layer_of of_layer) c (said line.now) }
+{
+    match line {
+        Record::Weights {
+            layer,
+            prefix,
+            text,
+            elements,
+        } if *layer == of_layer => prefix_of(c, prefix, text, elements),
+        _ => None,
+    }
+}
+
+/// Whether something is said with these characters.
+fn has_beside(besides: &[Beside<'_>], characters: &[char]) -> bool
+    ensures { result ≡ has_beside (map said_beside besides.now) characters.now }
+{
+    for beside in besides {
+        if is_same_text(beside.characters, characters) {
+            return true;
+        }
+    }
+    false
+}
+
+/// Adds what is said with characters with which nothing has been said.
+///
+/// Errors: `AllocError` where memory is refused.
+fn add_beside<'a>(besides: &mut Vec<Beside<'a>>, beside: Beside<'a>) -> Result<(), AllocError>
+    ensures { OnOk result (map said_beside besides.new.items ≡ with_beside (map said_beside besides.old.items) (said_beside beside.entry)) }
+{
+    if has_beside(besides, beside.characters) {
+        return Ok(());
+    }
+    besides.push(beside)?;
+    Ok(())
+}
+
+/// Adds what was found, if something was.
+///
+/// Errors: `AllocError` where memory is refused.
+fn add_found<'a>(besides: &mut Vec<Beside<'a>>, found: Option<Beside<'a>>) -> Result<(), AllocError>
+    ensures { OnOk result (map said_beside besides.new.items ≡ with_found (map said_beside besides.old.items) (option_map said_beside found.entry)) }
+{
+    match found {
+        Some(beside) => add_beside(besides, beside),
+        None => Ok(()),
+    }
+}
+
+/// Adds what lines of a layer say of a character with others behind it.
+///
+/// Errors: `AllocError` where memory is refused.
+fn add_suffixes<'a>(
+    lines: &'a [Record],
+    layer: Layer,
+    c: char,
+    suffixes: &mut Vec<Beside<'a>>,
+) -> Result<(), AllocError>
+    ensures { OnOk result (map said_beside suffixes.new.items ≡ gathered (suffix_in (layer_of layer) c) (map said lines.now) (map said_beside suffixes.old.items)) }
+{
+    for line in lines {
+        add_found(suffixes, suffix_in(line, layer, c))?;
+    }
+    Ok(())
+}
+
+/// Adds what lines of a layer say of a character with others before it.
+///
+/// Errors: `AllocError` where memory is refused.
+fn add_prefixes<'a>(
+    lines: &'a [Record],
+    layer: Layer,
+    c: char,
+    prefixes: &mut Vec<Beside<'a>>,
+) -> Result<(), AllocError>
+    ensures { OnOk result (map said_beside prefixes.new.items ≡ gathered (prefix_in (layer_of layer) c) (map said lines.now) (map said_beside prefixes.old.items)) }
+{
+    for line in lines {
+        add_found(prefixes, prefix_in(line, layer, c))?;
+    }
+    Ok(())
+}
+
+/// What lines say of a character with others behind it; a line of the tailoring comes first.
+///
+/// Errors: `AllocError` where memory is refused.
+pub(crate) fn suffixes_in<'a>(
+    alloc: Global,
+    lines: &'a [Record],
+    c: char,
+) -> Result<Vec<Beside<'a>>, AllocError>
+    ensures { IfOk result (λ suffixes. map said_beside suffixes.items ≡ suffixes_in (map said lines.now) c) }
+{
+    let mut suffixes = Vec::new(alloc);
+    add_suffixes(lines, Layer::Tailoring, c, &mut suffixes)?;
+    add_suffixes(lines, Layer::Root, c, &mut suffixes)?;
+    Ok(suffixes)
+}
+
+/// What lines say of a character with others before it; a line of the tailoring comes first.
+///
+/// Errors: `AllocError` where memory is refused.
+pub(crate) fn prefixes_in<'a>(
+    alloc: Global,
+    lines: &'a [Record],
+    c: char,
+) -> Result<Vec<Beside<'a>>, AllocError>
+    ensures { IfOk result (λ prefixes. map said_beside prefixes.items ≡ prefixes_in (map said lines.now) c) }
+{
+    let mut prefixes = Vec::new(alloc);
+    add_prefixes(lines, Layer::Tailoring, c, &mut prefixes)?;
+    add_prefixes(lines, Layer::Root, c, &mut prefixes)?;
+    Ok(prefixes)
+}
