@@ -1,7 +1,6 @@
 -- What is gathered of lines: entries, and the characters that begin records.
 pub mod GatherLemmas
 pub mod BesideLemmas
-pub mod KeyLemmas
 pub mod AcceptedLineLemmas
 pub mod FlagLemmas
 pub mod EntryLemmas

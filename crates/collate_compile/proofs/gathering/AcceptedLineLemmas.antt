@@ -18,13 +18,13 @@ use Rattle.collate_rules.specs.Rules.{IsLong}
 use Rattle.collate_rules.proofs.given.GrammarLemmas.{line_keeps_widths}
 use Rattle.collate_rules.proofs.offenders.LineRuleLemmas.{each_line}
 use Rattle.collate_words.specs.Fits.{AreFit, fits_bits}
-use Rattle.collate_compile.proofs.gathering.KeyLemmas.{HasKey, IsKey, line_has_key}
+use Rattle.collate_compile.proofs.laws.CharacterLemmas.{AreCharacters, HasCharacters, line_has_characters}
 
 -- ---- A line
 
 -- a line's key and elements can be written
 pub record CanWrite (prefix text : List ℕ) (es : List Element) : Type 0 where
-  pub key : IsKey prefix text
+  pub key : AreCharacters prefix text
   pub short : length text ≤ 8
   pub elements : AreFit es
 
@@ -77,7 +77,7 @@ elements_fit (e ∷ es) widths kinds tertiaries =
 pub at_most : (n most : ℕ) → (most < n → ⊥) → n ≤ most
 at_most n most h = ⊎_elim (λ (more : most < n). absurd (h more)) (λ (few : n ≤ most). few) (cases_lt most n)
 
-can_write : (line : Record) → HasKey line → KeepsWidths line → (IsLong line → ⊥) → list_all is_sound_kind (elements_of line) ≡ true
+can_write : (line : Record) → HasCharacters line → KeepsWidths line → (IsLong line → ⊥) → list_all is_sound_kind (elements_of line) ≡ true
     → list_all has_sound_tertiary (elements_of line) ≡ true → CanWriteLine line
 can_write (weights layer prefix text es) key widths short kinds tertiaries = record {
   key = key;
@@ -104,7 +104,7 @@ module _ (records : List Record) (accepted : AreAccepted records) where
   pub accepted_can_write : All CanWriteLine records
   accepted_can_write =
       each_line CanWriteLine records (λ i lt.
-      can_write (record_at records i) (at_line HasKey (by_grammar HasKey line_has_key) i lt) (at_line KeepsWidths (by_grammar KeepsWidths line_keeps_widths) i lt)
+      can_write (record_at records i) (at_line HasCharacters (by_grammar HasCharacters line_has_characters) i lt) (at_line KeepsWidths (by_grammar KeepsWidths line_keeps_widths) i lt)
       (λ long. accepted.keep_rules Limit i lt (inr (inr long)))
       (true_from_ne_false _ (accepted.keep_rules V1 i lt))
       (true_from_ne_false _ (accepted.keep_rules V4 i lt)))

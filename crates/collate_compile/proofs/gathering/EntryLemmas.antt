@@ -29,6 +29,7 @@ use Rattle.collate_compile.specs.LineSayings.{IsSaidAfter, IsSaidBehind, IsSayin
 use Rattle.collate_compile.proofs.gathering.AcceptedLineLemmas.{CanWrite, CanWriteLine, accepted_can_write, accepted_digits, accepted_prefixes, accepted_widths}
 use Rattle.collate_compile.proofs.gathering.BesideLemmas.{any_weaker, few_beside, prefixes_kept, prefixes_recorded, recorded_further, suffixes_kept, suffixes_recorded}
 use Rattle.collate_compile.proofs.gathering.FlagLemmas.{AreScalarsBeside, all_begin_same, one_ends_same, one_holds_same}
+use Rattle.collate_compile.proofs.laws.MeaningLemmas.{all_scalars}
 use Rattle.collate_compile.proofs.gathering.GatherLemmas.{All-gathered, IsFoundIn}
 
 -- ---- What is found first is of a line
@@ -80,7 +81,7 @@ suffix_fits layer c (weights other prefix text es) can = at (is_same_layer layer
     here true x e ds k = record {
       some = omega arith;
       short = let short : length (x ∷ e ∷ ds) ≤ 8 = k.short in omega arith;
-      scalars = All-tail IsScalar x (e ∷ ds) k.key.text_scalars;
+      scalars = All-tail IsScalar x (e ∷ ds) (all_scalars (x ∷ e ∷ ds) k.key.whole);
       elements = k.elements;
     }
 
@@ -103,7 +104,7 @@ prefix_fits layer c (weights other prefix text es) can = at (is_same_layer layer
   where
     here : (t : Bool) (x b : ℕ) (bs : List ℕ) → CanWrite (b ∷ bs) (x ∷ []) es → IfSome (cond t (Some (record { characters = b ∷ bs; elements = es })) None) (IsBeside 3)
     here false x b bs k = tt
-    here true x b bs k = record { some = omega arith; short = k.key.short; scalars = k.key.prefix_scalars; elements = k.elements }
+    here true x b bs k = record { some = omega arith; short = k.key.short; scalars = all_scalars (b ∷ bs) k.key.before; elements = k.elements }
 
     at : (t : Bool) (before key : List ℕ) → CanWrite before key es → IfSome (cond t (prefix_of c before key es) None) (IsBeside 3)
     at false before key k = tt
