@@ -1,2 +1,3 @@
 pub mod growth
 pub mod owned
+pub mod written

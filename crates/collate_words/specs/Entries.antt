@@ -1,5 +1,5 @@
 -- What an entry says, as plain lists.
-use Rattle.std.specs.Prelude.{List, map, option_map}
+use Rattle.std.specs.Prelude.{map}
 use Rattle.std.specs.Option.{option_copied}
 use Rattle.collate_words.specs.declared.entry.Beside.{Beside}
 use Rattle.collate_words.specs.declared.entry.Entry.{Entry}

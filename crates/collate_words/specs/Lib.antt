@@ -1,9 +1,11 @@
+pub mod ContextKeys
 pub mod Contexts
 pub mod DigitWords
 pub mod Entries
 pub mod Fits
 pub mod Growth
 pub mod OwnWords
+pub mod PartSayings
 pub mod Sayings
 pub mod ShortWords
 pub mod Written

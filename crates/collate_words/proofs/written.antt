@@ -1,0 +1,9 @@
+-- Words with what stands beside a character, and contexts.
+pub mod KeyLemmas
+pub mod TrieKeyLemmas
+pub mod ContextLemmas
+pub mod WordFormLemmas
+pub mod SayingLemmas
+pub mod SameContextLemmas
+pub mod SayingGrowthLemmas
+pub mod WritingLemmas
