@@ -1,8 +1,7 @@
 -- Collation tables, as they are compiled of the lines of a records file.
-use Rattle.std.specs.Prelude.{◌≡◌, ℕ, ◌+◌, ◌*◌, ◌^◌, ◌<◌, true, false, List, [], ◌∷◌, All, IfSome, length, slice_index, IsTrue, MatchOption, Some, None, Option, is_some}
+use Rattle.std.specs.Prelude.{◌≡◌, ℕ, ◌+◌, ◌^◌, ◌<◌, true, false, List, [], ◌∷◌, All, IfSome, length, slice_index, IsTrue, MatchOption, Some, Option, is_some}
 use Rattle.icu_collator_types.specs.declared.elements.Element.{Element}
 use Rattle.icu_collator_core.specs.declared.tables.CollationTables.{CollationTables}
-use Rattle.icu_collator_core.specs.declared.tables.data.CollationData.{CollationData}
 use Rattle.icu_collator_core.specs.declared.tables.metadata.CollationMetadata.{CollationMetadata}
 use Rattle.icu_collator_core.specs.declared.tables.reordering.CollationReordering.{CollationReordering}
 use Rattle.icu_collator_core.specs.declared.tables.special_primaries.CollationSpecialPrimaries.{CollationSpecialPrimaries}

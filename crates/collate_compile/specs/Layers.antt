@@ -1,5 +1,5 @@
 -- The data of the root and of the tailoring, as they are written of lines.
-use Rattle.std.specs.Prelude.{◌≡◌, ℕ, Bool, List, IsTrue, MatchBool, MatchOption}
+use Rattle.std.specs.Prelude.{◌≡◌, ℕ, List, IsTrue, MatchBool, MatchOption}
 use Rattle.std.specs.Char.{IsScalar}
 use Rattle.icu_codepointtrie.specs.Places.{has_cell}
 use Rattle.icu_collator_core.specs.declared.tables.data.CollationData.{CollationData}

@@ -58,8 +58,10 @@ module _
 
   module _ (layer : Layer) (source : CollationData) (c : ℕ) (s : IsScalar c) where
     has_word : IsCase records layer source c → HasWord layer source c
-    has_word (IsCase.by_lines saying plain is says) = (plain_kept c (word_at source c) plain, word_of_layer layer (pools_of source) (word_at source c) says.form)
-    has_word (IsCase.by_range bits plain is says) = (plain_kept c (word_at source c) plain, word_of_layer layer (pools_of source) (word_at source c) says.form)
+    has_word (IsCase.by_lines saying plain is says) =
+        (plain_kept c (word_at source c) plain, word_of_layer layer (pools_of source) (word_at source c) says.form)
+    has_word (IsCase.by_range bits plain is says) =
+        (plain_kept c (word_at source c) plain, word_of_layer layer (pools_of source) (word_at source c) says.form)
     has_word (IsCase.by_none none) = unrecorded_is_word layer (pools_of source) c (word_at source c) none
 
     has_places : IsCase records layer source c → HasPlaces layer source c
@@ -69,21 +71,25 @@ module _
 
     has_contexts : IsCase records layer source c → HasContexts canonical tables layer source c
     has_contexts (IsCase.by_lines saying plain is says) =
-        keeps_rules records accepted canonical same (weights_of canonical tables).digit (digit_same records canonical tables accepted sound compiled) c s
+        keeps_rules records accepted canonical same (weights_of canonical tables).digit
+        (digit_same records canonical tables accepted sound compiled) c s
         (word_in source c) (saying_means records accepted sound c s (word_in source c) saying is says) saying is says
     has_contexts (IsCase.by_range bits plain is says) =
         ranged_keeps_rules canonical (weights_of canonical tables).digit (word_in source c) c bits says
     has_contexts (IsCase.by_none none) =
-        unrecorded_keeps_rules canonical (weights_of canonical tables).digit layer (pools_of source) c (word_at source c) none
+        unrecorded_keeps_rules canonical (weights_of canonical tables).digit layer (pools_of source) c
+        (word_at source c) none
 
     has_weights : IsCase records layer source c → HasWeights tables.special_primaries layer source c
     has_weights (IsCase.by_lines saying plain is says) =
         words_sound records c (pools_of source) (word_at source c) saying (saying_of_lines records c saying is) says
         tables.special_primaries compiled.special_primaries accepted sound s
     has_weights (IsCase.by_range bits plain is says) =
-        words_sound records c (pools_of source) (word_at source c) (ranged_saying bits) (range_of_lines records c bits is) says
+        words_sound records c (pools_of source) (word_at source c) (ranged_saying bits)
+        (range_of_lines records c bits is) says
         tables.special_primaries compiled.special_primaries accepted sound s
-    has_weights (IsCase.by_none none) = unrecorded_is_sound tables.special_primaries layer (pools_of source) c (word_at source c) none
+    has_weights (IsCase.by_none none) =
+        unrecorded_is_sound tables.special_primaries layer (pools_of source) c (word_at source c) none
 
   -- ---- All characters
 
@@ -98,7 +104,8 @@ module _
       at : (o : Option CollationData) → MatchOption o ((d : ℕ) → is_tailored records d ≡ false) (IsTailoringOf records)
           → IfSome o (λ source. (c : ℕ) → IsScalar c → Passes Tailoring source c)
       at None none = tt
-      at (Some source) of_source = λ c s. passes Tailoring source c s (tailoring_case records accepted c source of_source s)
+      at (Some source) of_source =
+          λ c s. passes Tailoring source c s (tailoring_case records accepted c source of_source s)
 
   all_cells : AllPassIn tables HasCell
   all_cells = (compiled.root.cells, at tables.tailoring compiled.tailoring)

@@ -47,13 +47,16 @@ unfolding is_proper_beginning
 equally_long [] [] same = refl
 equally_long [] (y ∷ ys) same = absurd (omega (arith, same))
 equally_long (x ∷ xs) [] same = refl
-equally_long (x ∷ xs) (y ∷ ys) same = and_right (x == y) (is_proper_beginning xs ys) (equally_long xs ys (omega (arith, same)))
+equally_long (x ∷ xs) (y ∷ ys) same =
+    and_right (x == y) (is_proper_beginning xs ys) (equally_long xs ys (omega (arith, same)))
 
-neither_begins : (bytes : ℕ → List ℕ) (v w : ℕ) → is_proper_beginning (bytes v) (bytes w) ≡ false → is_proper_beginning (bytes w) (bytes v) ≡ false
+neither_begins : (bytes : ℕ → List ℕ) (v w : ℕ) → is_proper_beginning (bytes v) (bytes w) ≡ false
+    → is_proper_beginning (bytes w) (bytes v) ≡ false
     → are_apart bytes v w ≡ true
 neither_begins bytes v w one other =
     or_right ((v == 0) || (w == 0)) _
-    (and_from _ _ (not_from_false (is_proper_beginning (bytes v) (bytes w)) one) (not_from_false (is_proper_beginning (bytes w) (bytes v)) other))
+    (and_from _ _ (not_from_false (is_proper_beginning (bytes v) (bytes w)) one)
+    (not_from_false (is_proper_beginning (bytes w) (bytes v)) other))
 
 leads_differ : (v w : ℕ) → v / 2 ^ 24 ≢ w / 2 ^ 24 → are_apart primary_bytes v w ≡ true
 leads_differ v w differs =
@@ -70,7 +73,8 @@ common_apart w (inl none) = (
   or_left ((w == 0) || (0x500 == 0)) _ (or_left (w == 0) (0x500 == 0) (eq-eqb w 0 none)),
 )
 common_apart w (inr (inl same)) =
-    let alike = equally_long (weight_bytes 0x500) (weight_bytes w) (sym (ap (λ (n : ℕ). length (weight_bytes n)) same)) in
+    let alike =
+    equally_long (weight_bytes 0x500) (weight_bytes w) (sym (ap (λ (n : ℕ). length (weight_bytes n)) same)) in
     let also = equally_long (weight_bytes w) (weight_bytes 0x500) (ap (λ (n : ℕ). length (weight_bytes n)) same) in
     (neither_begins weight_bytes 0x500 w alike also, neither_begins weight_bytes w 0x500 also alike)
 common_apart w (inr (inr differs)) =
@@ -79,8 +83,12 @@ common_apart w (inr (inr differs)) =
     (neither_begins weight_bytes 0x500 w one other, neither_begins weight_bytes w 0x500 other one)
 
 within_differs : (low high n : ℕ) → is_within low high n ≡ true → (5 < low) ⊎ (high < 5) → n ≢ 5
-within_differs low high n h (inl above) same = let both = and_parts (leb low n) (leb n high) h in let least = leb-true low n both.0 in omega (arith, least, above, same)
-within_differs low high n h (inr below) same = let both = and_parts (leb low n) (leb n high) h in let most = leb-true n high both.1 in omega (arith, most, below, same)
+within_differs low high n h (inl above) same =
+    let both =
+    and_parts (leb low n) (leb n high) h in let least = leb-true low n both.0 in omega (arith, least, above, same)
+within_differs low high n h (inr below) same =
+    let both =
+    and_parts (leb low n) (leb n high) h in let most = leb-true n high both.1 in omega (arith, most, below, same)
 
 secondary_lower : (w : ℕ) → ((w == 0) || is_sound_secondary w) ≡ true → IsLower w
 secondary_lower w h = at (or_cases (w == 0) (is_sound_secondary w) h)
@@ -89,7 +97,8 @@ secondary_lower w h = at (or_cases (w == 0) (is_sound_secondary w) h)
     led (inl low) = inr (inr (within_differs 3 4 (w / 256) low (inr (omega arith))))
     led (inr high) = inr (inr (within_differs 0x46 0xff (w / 256) high (inl (omega arith))))
 
-    kind : ((w == 0x500) ≡ true) ⊎ (((is_within 0x03 0x04 (w / 256) || is_within 0x46 0xff (w / 256)) && not (w % 256 == 1)) ≡ true) → IsLower w
+    kind : ((w == 0x500) ≡ true) ⊎ (((is_within 0x03 0x04 (w / 256) || is_within 0x46 0xff (w / 256)) && not (w % 256 == 1)) ≡ true)
+        → IsLower w
     kind (inl common) = inr (inl (eqb-true w 0x500 common))
     kind (inr other) = led (or_cases _ _ (and_parts _ (not (w % 256 == 1)) other).0)
 
@@ -105,7 +114,8 @@ tertiary_lower w h = at (or_cases (w == 0) (is_sound_tertiary w) h)
     led (inr high) = inr (inr (within_differs 6 0x3f (w / 256) high (inl (omega arith))))
 
     kind : ((w == 0x500) ≡ true)
-        ⊎ (((is_within 0x02 0x04 (w / 256) || is_within 0x06 0x3f (w / 256)) && leb (w % 256) 0x3f && not (w % 256 == 1)) ≡ true) → IsLower w
+        ⊎ (((is_within 0x02 0x04 (w / 256) || is_within 0x06 0x3f (w / 256)) && leb (w % 256) 0x3f && not
+        (w % 256 == 1)) ≡ true) → IsLower w
     kind (inl common) = inr (inl (eqb-true w 0x500 common))
     kind (inr other) = led (or_cases _ _ (and_parts _ _ (and_parts _ (not (w % 256 == 1)) other).0).0)
 
@@ -133,7 +143,8 @@ jamo_bytes c jamo =
     ap (λ (n : ℕ). length (p / 2 ^ 24 ∷ without_last_zeros (p / 2 ^ 16 % 256 ∷ p / 2 ^ 8 % 256 ∷ n ∷ []))) last
     ∙ ap (λ (bs : List ℕ). length (p / 2 ^ 24 ∷ bs)) (two_left (p / 2 ^ 16 % 256) (p / 2 ^ 8 % 256) third)
 
-jamo_apart : (c d : ℕ) → is_jamo c ≡ true → is_jamo d ≡ true → are_apart_elements (primary_element (jamo_primary c)) (primary_element (jamo_primary d)) ≡ true
+jamo_apart : (c d : ℕ) → is_jamo c ≡ true → is_jamo d ≡ true
+    → are_apart_elements (primary_element (jamo_primary c)) (primary_element (jamo_primary d)) ≡ true
 jamo_apart c d one other =
     let same = jamo_bytes c one ∙ sym (jamo_bytes d other) in
     let lower = common_apart 0x500 (inr (inl refl)) in
@@ -175,9 +186,11 @@ module _ (lines : List Record) (accepted : AreAccepted lines) (sound : AreSoundW
   known_apart : (d e : Element) → IsKnown d → IsKnown e → are_apart_elements d e ≡ true
   known_apart d e (inl one) (inl other) = sound.apart d e one other
   known_apart d e (inl one) (inr (c, jamo, same)) = ap (are_apart_elements d) same ∙ (jamo_beside c d jamo one).1
-  known_apart d e (inr (c, jamo, same)) (inl other) = ap (λ (f : Element). are_apart_elements f e) same ∙ (jamo_beside c e jamo other).0
+  known_apart d e (inr (c, jamo, same)) (inl other) =
+      ap (λ (f : Element). are_apart_elements f e) same ∙ (jamo_beside c e jamo other).0
   known_apart d e (inr (b, one, first)) (inr (c, other, second)) =
-      ap (λ (f : Element). are_apart_elements f e) first ∙ ap (are_apart_elements (primary_element (jamo_primary b))) second ∙ jamo_apart b c one other
+      ap (λ (f : Element). are_apart_elements f e) first
+      ∙ ap (are_apart_elements (primary_element (jamo_primary b))) second ∙ jamo_apart b c one other
 
   abbrev IsOfRange : ℕ → Type 0
   IsOfRange p = (c : ℕ) × ((weights_of lines).ranged_primary c ≡ Some p)
@@ -189,7 +202,8 @@ module _ (lines : List Record) (accepted : AreAccepted lines) (sound : AreSoundW
       (not_from_false (e.primary / 2 ^ 24 == p / 2 ^ 24) (ne_eqb _ _ differs))
     where
       letter : is_letter_lead (p / 2 ^ 24) ≡ true
-      letter = (and_parts _ _ (and_parts _ _ (and_parts _ _ (and_parts _ _ (and_parts (is_sound_primary (weights_of lines) p) _ (sound.ranged c p ranged)).0).0).0).0).0
+      letter =
+          (and_parts _ _ (and_parts _ _ (and_parts _ _ (and_parts _ _ (and_parts (is_sound_primary (weights_of lines) p) _ (sound.ranged c p ranged)).0).0).0).0).0
 
       differs : e.primary / 2 ^ 24 ≡ p / 2 ^ 24 → ⊥
       differs led =
@@ -200,21 +214,25 @@ module _ (lines : List Record) (accepted : AreAccepted lines) (sound : AreSoundW
 
   -- words that record nothing spell nothing
   abbrev SpellsNothing : Pools → ℕ → Type 0
-  SpellsNothing pools word = (one : ℕ) → IsAmong pools word one → (elements_of_word pools one ≡ None) × (has_tag Offset one ≡ false)
+  SpellsNothing pools word =
+      (one : ℕ) → IsAmong pools word one → (elements_of_word pools one ≡ None) × (has_tag Offset one ≡ false)
 
   implicit_spells : (pools : Pools) → SpellsNothing pools implicit
   unfolding lone_word unprefixed_word elements_of_word
-  implicit_spells pools one (inl same) = subst (λ (w : ℕ). (elements_of_word pools w ≡ None) × (has_tag Offset w ≡ false)) (sym same) (refl, refl)
+  implicit_spells pools one (inl same) =
+      subst (λ (w : ℕ). (elements_of_word pools w ≡ None) × (has_tag Offset w ≡ false)) (sym same) (refl, refl)
   implicit_spells pools one (inr (inl (tag, value))) = absurd (false≢true tag)
   implicit_spells pools one (inr (inr (tag, value))) = absurd (false≢true tag)
 
   fallback_spells : (pools : Pools) → SpellsNothing pools fallback
   unfolding lone_word unprefixed_word elements_of_word
-  fallback_spells pools one (inl same) = subst (λ (w : ℕ). (elements_of_word pools w ≡ None) × (has_tag Offset w ≡ false)) (sym same) (refl, refl)
+  fallback_spells pools one (inl same) =
+      subst (λ (w : ℕ). (elements_of_word pools w ≡ None) × (has_tag Offset w ≡ false)) (sym same) (refl, refl)
   fallback_spells pools one (inr (inl (tag, value))) = absurd (false≢true tag)
   fallback_spells pools one (inr (inr (tag, value))) = absurd (false≢true tag)
 
-  nothing_spelled : (layer : Layer) (pools : Pools) (word : ℕ) → records_nothing layer word ≡ true → SpellsNothing pools word
+  nothing_spelled : (layer : Layer) (pools : Pools) (word : ℕ) → records_nothing layer word ≡ true
+      → SpellsNothing pools word
   nothing_spelled layer pools word h = at layer (or_cases (word == implicit) (is_fallback layer word) h)
     where
       at : (layer : Layer) → ((word == implicit) ≡ true) ⊎ (is_fallback layer word ≡ true) → SpellsNothing pools word
@@ -229,9 +247,11 @@ module _ (lines : List Record) (accepted : AreAccepted lines) (sound : AreSoundW
       where
         at : IsCase lines layer source c → IsRecorded (weights_of lines) e
         at (IsCase.by_lines saying plain is says) =
-            (among_of_lines lines c (pools_of source) (word_at source c) saying (saying_of_lines lines c saying is) says word among).0 es told e within
+            (among_of_lines lines c (pools_of source) (word_at source c) saying
+            (saying_of_lines lines c saying is) says word among).0 es told e within
         at (IsCase.by_range bits plain is says) =
-            (among_of_lines lines c (pools_of source) (word_at source c) _ (range_of_lines lines c bits is) says word among).0 es told e within
+            (among_of_lines lines c (pools_of source) (word_at source c) _
+            (range_of_lines lines c bits is) says word among).0 es told e within
         at (IsCase.by_none none) =
             absurd (none-some es (sym (nothing_spelled layer (pools_of source) (word_at source c) none word among).0 ∙ told))
 
@@ -261,46 +281,56 @@ module _ (lines : List Record) (accepted : AreAccepted lines) (sound : AreSoundW
   jamo_known c word jamo states = at (recorded_in lines [] (c ∷ [])) refl states.told
     where
       at : (o : Option (List Element)) → recorded_in lines [] (c ∷ []) ≡ o
-          → MatchOption o (states.element ≡ primary_element (jamo_primary c)) (λ es. es ≡ states.element ∷ []) → IsKnown states.element
+          → MatchOption o (states.element ≡ primary_element (jamo_primary c)) (λ es. es ≡ states.element ∷ [])
+          → IsKnown states.element
       at None none same = inr (c, jamo, same)
       at (Some es) some same =
           inl ([], c ∷ [], es, some, subst (λ (fs : List Element). Contains fs states.element) (sym same) (first_in states.element []))
 
-  jamo_spelled : (words : List ℕ) → AreJamoOf lines words → (pools : Pools) (word : ℕ) (e : Element) → Contains words word → Spells pools word e → IsKnown e
+  jamo_spelled : (words : List ℕ) → AreJamoOf lines words → (pools : Pools) (word : ℕ) (e : Element)
+      → Contains words word → Spells pools word e → IsKnown e
   jamo_spelled words of_jamo pools word e (k, inside, at_k) (es, told, within) =
       let count = of_jamo.count in
       let lt : k < 256 = omega (arith, inside, count) in
-      let jamo : is_jamo (0x1100 + k) ≡ true = and_from _ _ (le-leb 0x1100 (0x1100 + k) (omega arith)) (le-leb (0x1100 + k) 0x11ff (omega (arith, lt))) in
+      let jamo : is_jamo (0x1100 + k) ≡ true =
+      and_from _ _ (le-leb 0x1100 (0x1100 + k) (omega arith)) (le-leb (0x1100 + k) 0x11ff (omega (arith, lt))) in
       let item = item_at words k inside in
       let same : slice_index words k ≡ word = item.1 0 ∙ sym (item.1 word) ∙ at_k in
       let states = jamo_stated lines (0x1100 + k) (slice_index words k) jamo (of_jamo.each k lt) in
       let listed : states.element ∷ [] ≡ es =
       same_Some (states.element ∷ []) es
-      (sym (stated_elements pools (slice_index words k) states.element states.stated) ∙ ap (elements_of_word pools) same ∙ told) in
-      let itself : e ≡ states.element = alone_in states.element e (subst (λ (fs : List Element). Contains fs e) (sym listed) within) in
+      (sym (stated_elements pools (slice_index words k) states.element states.stated) ∙ ap (elements_of_word pools) same
+      ∙ told) in
+      let itself : e ≡ states.element =
+      alone_in states.element e (subst (λ (fs : List Element). Contains fs e) (sym listed) within) in
       subst IsKnown (sym itself) (jamo_known (0x1100 + k) (slice_index words k) jamo states)
 
   module _ (tables : CollationTables) (compiled : AreCompiledFrom lines tables) where
     spelled_known : (e : Element) → IsSpelled tables e → IsKnown e
-    spelled_known e (inl (inl of_root)) = inl (spelled_in Root tables.root (λ c s. root_case lines accepted c tables.root compiled.root s) e of_root)
+    spelled_known e (inl (inl of_root)) =
+        inl (spelled_in Root tables.root (λ c s. root_case lines accepted c tables.root compiled.root s) e of_root)
     spelled_known e (inl (inr of_tailoring)) = at tables.tailoring compiled.tailoring of_tailoring
       where
         at : (o : Option CollationData) → MatchOption o ((d : ℕ) → is_tailored lines d ≡ false) (IsTailoringOf lines)
             → MatchOption o ⊥ (λ source. IsSpelledIn source e) → IsKnown e
         at None none is = absurd is
-        at (Some source) of_source is = inl (spelled_in Tailoring source (λ c s. tailoring_case lines accepted c source of_source s) e is)
+        at (Some source) of_source is =
+            inl (spelled_in Tailoring source (λ c s. tailoring_case lines accepted c source of_source s) e is)
     spelled_known e (inr (inl (secondary, within, spells))) =
         absurd (none_in secondary (subst (λ (xs : List ℕ). Contains xs secondary) compiled.no_diacritics within))
-    spelled_known e (inr (inr (word, within, spells))) = jamo_spelled tables.jamo.ce32s compiled.jamo (pools_of tables.root) word e within spells
+    spelled_known e (inr (inr (word, within, spells))) =
+        jamo_spelled tables.jamo.ce32s compiled.jamo (pools_of tables.root) word e within spells
 
     ranged_known : (p : ℕ) → IsRanged tables p → IsOfRange p
-    ranged_known p (inl of_root) = ranged_in Root tables.root (λ c s. root_case lines accepted c tables.root compiled.root s) p of_root
+    ranged_known p (inl of_root) =
+        ranged_in Root tables.root (λ c s. root_case lines accepted c tables.root compiled.root s) p of_root
     ranged_known p (inr of_tailoring) = at tables.tailoring compiled.tailoring of_tailoring
       where
         at : (o : Option CollationData) → MatchOption o ((d : ℕ) → is_tailored lines d ≡ false) (IsTailoringOf lines)
             → MatchOption o ⊥ (λ source. IsRangedIn source p) → IsOfRange p
         at None none is = absurd is
-        at (Some source) of_source is = ranged_in Tailoring source (λ c s. tailoring_case lines accepted c source of_source s) p is
+        at (Some source) of_source is =
+            ranged_in Tailoring source (λ c s. tailoring_case lines accepted c source of_source s) p is
 
     pub weights_apart : AreWeightsApart tables
     weights_apart = record {

@@ -1,4 +1,4 @@
--- The word that compiled data have for a character: it says what lines record of it, or what range it is in, or nothing.
+-- The word that compiled data have for a character: it says what lines record of it, what range it is in, or nothing.
 use Rattle.std.proofs.Common.{◌≡◌, ℕ, ◌<◌, ◌⊎◌, inl, inr, Bool, true, false, not, ◌==◌, leb, List, [], ◌∷◌, length, Option, Some, None, refl, sym, ap, ◌∙◌, arith}
 use Rattle.std.specs.Prelude.{MatchOption}
 use Rattle.std.specs.Bool.{IsTrue}
@@ -30,7 +30,8 @@ use Rattle.collate_compile.proofs.laws.LineLemmas.{place_of}
 
 -- the cases of a word
 pub data IsCase (lines : List Record) (layer : Layer) (source : CollationData) (c : ℕ) : Type 0 where
-  by_lines : (saying : Saying) → special_primary c ≡ None → IsSayingOf lines c saying → SaysOf (pools_of source) (word_at source c) saying
+  by_lines : (saying : Saying) → special_primary c ≡ None → IsSayingOf lines c saying
+      → SaysOf (pools_of source) (word_at source c) saying
       → IsCase lines layer source c
   by_range : (bits : ℕ) → special_primary c ≡ None → offset_of lines c ≡ Some bits
       → SaysOf (pools_of source) (word_at source c) (ranged_saying bits) → IsCase lines layer source c
@@ -66,7 +67,8 @@ special_cases c is = at (c == 0xfffd) (c == 0xfffe) refl refl
 begins_special : (c : ℕ) (line : Record) → begins_line c line ≡ true → is_special c ≡ true → names_special line ≡ true
 begins_special c (weights layer prefix [] es) h is = absurd (false≢true h)
 begins_special c (weights layer prefix (d ∷ ds) es) h is =
-    or_right (list_any is_special prefix) _ (or_left (is_special d) (list_any is_special ds) (ap is_special (sym (eqb-true c d h)) ∙ is))
+    or_right (list_any is_special prefix) _
+    (or_left (is_special d) (list_any is_special ds) (ap is_special (sym (eqb-true c d h)) ∙ is))
 begins_special c nothing h is = absurd (false≢true h)
 begins_special c (class d k) h is = absurd (false≢true h)
 begins_special c (mapping d ds x) h is = absurd (false≢true h)
@@ -85,19 +87,23 @@ tailored_begins c (range r) h = h
 tailored_begins c (digit d v) h = h
 tailored_begins c (setting s) h = h
 
-range_special : (c : ℕ) (line : Record) (r : Range) → range_in c line ≡ Some r → is_special c ≡ true → names_special line ≡ true
+range_special : (c : ℕ) (line : Record) (r : Range) → range_in c line ≡ Some r → is_special c ≡ true
+    → names_special line ≡ true
 range_special c (range t) r h is = at (special_cases c is)
   where
     holds : is_within t.first t.last c ≡ true
     holds = (cond_some (is_within t.first t.last c) (span_of t) r h).0
 
-    at : (c ≡ 0xfffd) ⊎ ((c ≡ 0xfffe) ⊎ (c ≡ 0xffff)) → list_any (is_within t.first t.last) (0xfffd ∷ 0xfffe ∷ 0xffff ∷ []) ≡ true
+    at : (c ≡ 0xfffd) ⊎ ((c ≡ 0xfffe) ⊎ (c ≡ 0xffff))
+        → list_any (is_within t.first t.last) (0xfffd ∷ 0xfffe ∷ 0xffff ∷ []) ≡ true
     at (inl e) = or_left (is_within t.first t.last 0xfffd) _ (ap (is_within t.first t.last) (sym e) ∙ holds)
     at (inr (inl e)) =
-        or_right (is_within t.first t.last 0xfffd) _ (or_left (is_within t.first t.last 0xfffe) _ (ap (is_within t.first t.last) (sym e) ∙ holds))
+        or_right (is_within t.first t.last 0xfffd) _
+        (or_left (is_within t.first t.last 0xfffe) _ (ap (is_within t.first t.last) (sym e) ∙ holds))
     at (inr (inr e)) =
         or_right (is_within t.first t.last 0xfffd) _
-        (or_right (is_within t.first t.last 0xfffe) _ (or_left (is_within t.first t.last 0xffff) _ (ap (is_within t.first t.last) (sym e) ∙ holds)))
+        (or_right (is_within t.first t.last 0xfffe) _
+        (or_left (is_within t.first t.last 0xffff) _ (ap (is_within t.first t.last) (sym e) ∙ holds)))
 range_special c nothing r h is = absurd (none-some r h)
 range_special c (class d k) r h is = absurd (none-some r h)
 range_special c (mapping d ds x) r h is = absurd (none-some r h)
@@ -110,7 +116,8 @@ module _ (lines : List Record) (accepted : AreAccepted lines) (c : ℕ) where
   begun_unspecial : (i : ℕ) → i < length lines → begins_line c (record_at lines i) ≡ true → special_primary c ≡ None
   begun_unspecial i lt begins =
       unspecial c
-      (false_from_ne_true (is_special c) (λ is. accepted.keep_rules V13 i lt (begins_special c (record_at lines i) begins is)))
+      (false_from_ne_true (is_special c)
+      (λ is. accepted.keep_rules V13 i lt (begins_special c (record_at lines i) begins is)))
 
   ranged_unspecial : (r : Range) → first_found (range_in c) lines ≡ Some r → special_primary c ≡ None
   ranged_unspecial r h =
@@ -122,14 +129,16 @@ module _ (lines : List Record) (accepted : AreAccepted lines) (c : ℕ) where
   offset_unspecial : (bits : ℕ) → offset_of lines c ≡ Some bits → special_primary c ≡ None
   offset_unspecial bits h = at (first_found (range_in c) lines) refl h
     where
-      at : (o : Option Range) → first_found (range_in c) lines ≡ o → option_map (offset_bits (is_compressible_in lines)) o ≡ Some bits
+      at : (o : Option Range) → first_found (range_in c) lines ≡ o
+          → option_map (offset_bits (is_compressible_in lines)) o ≡ Some bits
           → special_primary c ≡ None
       at None is e = absurd (none-some bits e)
       at (Some r) is e = ranged_unspecial r is
 
   -- ---- The cases of data
 
-  written_case : (layer : Layer) (source : CollationData) → special_primary c ≡ None → IsWrittenOf lines source c → IsCase lines layer source c
+  written_case : (layer : Layer) (source : CollationData) → special_primary c ≡ None → IsWrittenOf lines source c
+      → IsCase lines layer source c
   written_case layer source plain written = by_lines written.0 plain written.1 written.2
 
   pub root_case : (source : CollationData) → IsRootOf lines source → scalar c ≡ true → IsCase lines Root source c
@@ -138,7 +147,8 @@ module _ (lines : List Record) (accepted : AreAccepted lines) (c : ℕ) where
       unwritten : (o : Option ℕ) → offset_of lines c ≡ o
           → MatchOption o (word_at source c ≡ implicit) (λ bits. SaysOf (pools_of source) (word_at source c) (ranged_saying bits))
           → IsCase lines Root source c
-      unwritten None is same = by_none (or_left (word_at source c == implicit) _ (eq-eqb (word_at source c) implicit same))
+      unwritten None is same =
+          by_none (or_left (word_at source c == implicit) _ (eq-eqb (word_at source c) implicit same))
       unwritten (Some bits) is says = by_range bits (offset_unspecial bits is) is says
 
       at : (is_rooted lines c ≡ true) ⊎ (is_rooted lines c ≡ false) → IsCase lines Root source c
@@ -151,16 +161,19 @@ module _ (lines : List Record) (accepted : AreAccepted lines) (c : ℕ) where
           unwritten (offset_of lines c) refl
           (MatchBool-at_false (IsWrittenOf lines source c) (IsUnwritten lines source c) unrooted (root.words c s))
 
-  pub tailoring_case : (source : CollationData) → IsTailoringOf lines source → scalar c ≡ true → IsCase lines Tailoring source c
+  pub tailoring_case : (source : CollationData) → IsTailoringOf lines source → scalar c ≡ true
+      → IsCase lines Tailoring source c
   tailoring_case source of_source s = at (cases_Bool (is_tailored lines c))
     where
       at : (is_tailored lines c ≡ true) ⊎ (is_tailored lines c ≡ false) → IsCase lines Tailoring source c
       at (inl tailored) =
           let place = place_of (begins_tailored_line c) lines (and_parts (not (is_jamo c)) _ tailored).1 in
-          written_case Tailoring source (begun_unspecial place.0 place.1 (tailored_begins c (record_at lines place.0) place.2))
+          written_case Tailoring source
+          (begun_unspecial place.0 place.1 (tailored_begins c (record_at lines place.0) place.2))
           (MatchBool-at_true (IsWrittenOf lines source c) (word_at source c ≡ fallback) tailored (of_source.words c s))
       at (inr untailored) =
           by_none
           (or_right (word_at source c == implicit) _
           (eq-eqb (word_at source c) fallback
-          (MatchBool-at_false (IsWrittenOf lines source c) (word_at source c ≡ fallback) untailored (of_source.words c s))))
+          (MatchBool-at_false (IsWrittenOf lines source c) (word_at source c ≡ fallback) untailored
+          (of_source.words c s))))

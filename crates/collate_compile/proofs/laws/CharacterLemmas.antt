@@ -1,5 +1,5 @@
--- What the grammar gives of the texts and prefixes of lines: their characters are scalar values, a text has one at least, and a
--- prefix at most three.
+-- What the grammar gives of the texts and prefixes of lines: their characters are scalar values, a text has one at least,
+-- and a prefix at most three.
 use Rattle.std.proofs.Common.{◌≡◌, ℕ, ◌<◌, ◌≤◌, Bool, true, leb, List, [], ◌∷◌, length, Option, Some, None, refl, arith}
 use Rattle.std.specs.Prelude.{◌==◌, codes, if◌then◌else◌, option_and_then}
 use Rattle.std.specs.List.{slice_split}
@@ -32,7 +32,8 @@ IsCharacter c = scalar c ≡ true
 one_character : (field : List ℕ) → Gives IsCharacter (code_point field)
 one_character field =
     gives_either IsCharacter (is_short 4 6 field) _ None
-    (λ short. gives_bound IsCharacter (hex_number field) _ (λ c is. gives_checked IsCharacter (is_scalar c) c (scalar_read c)))
+    (λ short. gives_bound IsCharacter (hex_number field) _
+    (λ c is. gives_checked IsCharacter (is_scalar c) c (scalar_read c)))
     (gives_none IsCharacter)
 
 abbrev AreScalars : List ℕ → Type 0
@@ -43,7 +44,8 @@ characters [] = gives_some AreScalars [] refl
 characters (field ∷ fields) =
     gives_bound AreScalars (code_point field) _ (λ c is.
     gives_bound AreScalars (listed code_point fields) _ (λ cs are.
-    gives_some AreScalars (c ∷ cs) (and_from (scalar c) (scalars cs) (one_character field c is) (characters fields cs are))))
+    gives_some AreScalars (c ∷ cs)
+    (and_from (scalar c) (scalars cs) (one_character field c is) (characters fields cs are))))
 
 -- one character at least
 abbrev AreSome : List ℕ → Type 0
@@ -54,7 +56,8 @@ some_characters [] = gives_none AreSome
 some_characters (field ∷ fields) =
     gives_bound AreSome (code_point field) _ (λ c is.
     gives_bound AreSome (listed code_point fields) _ (λ cs are.
-    gives_some AreSome (c ∷ cs) (and_from (scalar c) (scalars cs) (one_character field c is) (characters fields cs are), omega arith)))
+    gives_some AreSome (c ∷ cs)
+    (and_from (scalar c) (scalars cs) (one_character field c is) (characters fields cs are), omega arith)))
 
 -- ---- Keys
 
@@ -69,12 +72,14 @@ key_read fields = at (parted (codes "|") fields)
         (elim o [
           | None ↦ option_and_then (λ text. Some ([], text)) (some_listed code_point fields)
           | Some parts ↦ option_and_then
-              (λ prefix. option_and_then (λ text. checked (leb (length prefix) 3) (prefix, text)) (some_listed code_point parts.1))
+              (λ prefix. option_and_then (λ text. checked (leb (length prefix) 3) (prefix, text))
+              (some_listed code_point parts.1))
               (some_listed code_point parts.0)
         ])
     at None =
         gives_bound IsKey (some_listed code_point fields) _
-        (λ text is. gives_some IsKey ([], text) (let told = some_characters fields text is in record { before = refl; whole = told.0; some = told.1; short = omega arith }))
+        (λ text is. gives_some IsKey ([], text)
+        (let told = some_characters fields text is in record { before = refl; whole = told.0; some = told.1; short = omega arith }))
     at (Some parts) =
         gives_bound IsKey (some_listed code_point parts.0) _ (λ prefix is.
         gives_bound IsKey (some_listed code_point parts.1) _ (λ text also.
@@ -94,13 +99,15 @@ Keeps given = Gives HasCharacters given
 no_line : Keeps None
 no_line = gives_none HasCharacters
 
-bound : {A : Type 0} (given : Option A) (f : A → Option Record) → ((a : A) → given ≡ Some a → Keeps (f a)) → Keeps (option_and_then f given)
+bound : {A : Type 0} (given : Option A) (f : A → Option Record) → ((a : A) → given ≡ Some a → Keeps (f a))
+    → Keeps (option_and_then f given)
 bound given f h = gives_bound HasCharacters given f h
 
 class_keeps : (fields : List (List ℕ)) → Keeps (class_by fields)
 class_keeps [] = no_line
 class_keeps (c ∷ []) = no_line
-class_keeps (c ∷ n ∷ []) = bound (code_point c) _ (λ d is. bound (class_number n) _ (λ k are. gives_some HasCharacters (class d k) tt))
+class_keeps (c ∷ n ∷ []) =
+    bound (code_point c) _ (λ d is. bound (class_number n) _ (λ k are. gives_some HasCharacters (class d k) tt))
 class_keeps (c ∷ n ∷ x ∷ xs) = no_line
 
 mapping_keeps : (fields : List (List ℕ)) → Keeps (mapping_by fields)
@@ -114,13 +121,15 @@ mapping_keeps (c ∷ d ∷ fields) =
 compatibility_keeps : (fields : List (List ℕ)) → Keeps (compatibility_by fields)
 compatibility_keeps [] = no_line
 compatibility_keeps (c ∷ fields) =
-    bound (code_point c) _ (λ a is. bound (some_listed code_point fields) _ (λ ds are. gives_some HasCharacters (compatibility a ds) tt))
+    bound (code_point c) _
+    (λ a is. bound (some_listed code_point fields) _ (λ ds are. gives_some HasCharacters (compatibility a ds) tt))
 
 weights_keep : (layer : Layer) (fields : List (List ℕ)) → Keeps (weights_by layer fields)
 weights_keep layer fields =
     bound (parted (codes ";") fields) _ (λ parts are.
     bound (key_by parts.0) _ (λ key is.
-    bound (listed element parts.1) _ (λ es read. gives_some HasCharacters (weights layer key.0 key.1 es) (key_read parts.0 key is))))
+    bound (listed element parts.1) _
+    (λ es read. gives_some HasCharacters (weights layer key.0 key.1 es) (key_read parts.0 key is))))
 
 range_keeps : (fields : List (List ℕ)) → Keeps (range_by fields)
 range_keeps [] = no_line
@@ -131,13 +140,15 @@ range_keeps (c ∷ d ∷ p ∷ n ∷ []) =
     bound (code_point c) _ (λ a is.
     bound (code_point d) _ (λ b also.
     bound (hex_of 8 p) _ (λ q has.
-    bound (step_number n) _ (λ m steps. gives_some HasCharacters (range (record { first = a; last = b; primary = q; step = m })) tt))))
+    bound (step_number n) _
+    (λ m steps. gives_some HasCharacters (range (record { first = a; last = b; primary = q; step = m })) tt))))
 range_keeps (c ∷ d ∷ p ∷ n ∷ x ∷ xs) = no_line
 
 digit_keeps : (fields : List (List ℕ)) → Keeps (digit_by fields)
 digit_keeps [] = no_line
 digit_keeps (c ∷ []) = no_line
-digit_keeps (c ∷ n ∷ []) = bound (code_point c) _ (λ a is. bound (digit_to 9 n) _ (λ v has. gives_some HasCharacters (digit a v) tt))
+digit_keeps (c ∷ n ∷ []) =
+    bound (code_point c) _ (λ a is. bound (digit_to 9 n) _ (λ v has. gives_some HasCharacters (digit a v) tt))
 digit_keeps (c ∷ n ∷ x ∷ xs) = no_line
 
 set_keeps : (fields : List (List ℕ)) → Keeps (set_by fields)

@@ -39,7 +39,8 @@ module _ (p : ℕ) (some : 0 < p) (low : p % 256 ≡ 0) where
 
   contained : self_contained of_primary ≡ Some (p * 2 ^ 32 + 0x500 * 2 ^ 16 + 0x500)
   contained =
-      cond-false (has_tag LongSecondary of_primary) _ _ (no_tag LongSecondary of_primary (λ same. omega (arith, same, low)))
+      cond-false (has_tag LongSecondary of_primary) _ _
+      (no_tag LongSecondary of_primary (λ same. omega (arith, same, low)))
       ∙ cond-true (is_special of_primary) _ _ special
       ∙ cond-true (of_primary % 2 ^ 8 == 0xc1) _ _ first
       ∙ ap (λ (n : ℕ). Some (n * 2 ^ 32 + 0x500 * 2 ^ 16 + 0x500)) (let back : of_primary - 0xc1 ≡ p = omega arith in back)
@@ -52,7 +53,8 @@ module _ (p : ℕ) (some : 0 < p) (low : p % 256 ≡ 0) where
   primary_stated =
       cond-false (of_primary == 0) _ _ (ne_eqb of_primary 0 (λ same. omega (arith, same)))
       ∙ ap (option_map element_of) contained
-      ∙ ap (λ (e : Element). Some e) (build _ _ _ _ _ (omega arith) (omega arith) (omega arith) (omega arith) (omega arith))
+      ∙ ap (λ (e : Element). Some e)
+      (build _ _ _ _ _ (omega arith) (omega arith) (omega arith) (omega arith) (omega arith))
 
   pub primary_states : states_element of_primary ≡ true
   primary_states =
@@ -65,7 +67,8 @@ module _ (p : ℕ) (some : 0 < p) (low : p % 256 ≡ 0) where
 
 jamo_parts : (c : ℕ) → is_jamo c ≡ true → (0 < jamo_primary c) × (jamo_primary c % 256 ≡ 0)
 unfolding jamo_primary
-jamo_parts c jamo = let bounds = jamo_bounds c jamo in (omega (arith, bounds.0, bounds.1), omega (arith, bounds.0, bounds.1))
+jamo_parts c jamo =
+    let bounds = jamo_bounds c jamo in (omega (arith, bounds.0, bounds.1), omega (arith, bounds.0, bounds.1))
 
 jamo_unspecial : (c : ℕ) → is_jamo c ≡ true → special_primary c ≡ None
 unfolding special_primary
@@ -78,7 +81,8 @@ jamo_unspecial c jamo =
 
 pub jamo_own : (c : ℕ) → is_jamo c ≡ true → own_primary c ≡ jamo_primary c
 jamo_own c jamo =
-    ap (λ (o : Option ℕ). unwrap_or o (cond (is_jamo c) (jamo_primary c) (implicit_primary c))) (jamo_unspecial c jamo) ∙ cond-true (is_jamo c) _ _ jamo
+    ap (λ (o : Option ℕ). unwrap_or o (cond (is_jamo c) (jamo_primary c) (implicit_primary c))) (jamo_unspecial c jamo)
+    ∙ cond-true (is_jamo c) _ _ jamo
 
 pub alone_itself : (p : ℕ) → is_primary_alone p (primary_element p ∷ []) ≡ true
 alone_itself p = rw (eq-eqb p p refl) refl
@@ -90,10 +94,12 @@ pub record StatesJamo (lines : List Record) (c word : ℕ) : Type 0 where
   pub states : IsTrue (states_element word)
   pub told : MatchOption (recorded_in lines [] (c ∷ [])) (element ≡ primary_element (jamo_primary c)) (λ es. es ≡ element ∷ [])
 
-pub jamo_stated : (lines : List Record) (c word : ℕ) → is_jamo c ≡ true → IsJamoWord lines c word → StatesJamo lines c word
+pub jamo_stated : (lines : List Record) (c word : ℕ) → is_jamo c ≡ true → IsJamoWord lines c word
+    → StatesJamo lines c word
 jamo_stated lines c word jamo is = at (recorded_in lines [] (c ∷ [])) refl is.1
   where
-    at : (o : Option (List Element)) → recorded_in lines [] (c ∷ []) ≡ o → MatchOption o (word ≡ jamo_primary c + 0xc1) (StatesAlone word)
+    at : (o : Option (List Element)) → recorded_in lines [] (c ∷ []) ≡ o
+        → MatchOption o (word ≡ jamo_primary c + 0xc1) (StatesAlone word)
         → StatesJamo lines c word
     at None none same =
         let parts = jamo_parts c jamo in
@@ -101,13 +107,15 @@ jamo_stated lines c word jamo is = at (recorded_in lines [] (c ∷ [])) refl is.
           element = primary_element (jamo_primary c);
           stated = ap stated_element same ∙ primary_stated (jamo_primary c) parts.0 parts.1;
           states = ap states_element same ∙ primary_states (jamo_primary c) parts.0 parts.1;
-          told = subst (λ (o : Option (List Element)). MatchOption o (primary_element (jamo_primary c) ≡ primary_element (jamo_primary c)) (λ es. es ≡ primary_element (jamo_primary c) ∷ [])) (sym none) refl;
+          told =
+              subst (λ (o : Option (List Element)). MatchOption o (primary_element (jamo_primary c) ≡ primary_element (jamo_primary c)) (λ es. es ≡ primary_element (jamo_primary c) ∷ [])) (sym none) refl;
         }
     at (Some es) some stated = record {
       element = stated.0;
       stated = stated.3;
       states = stated.2;
-      told = subst (λ (o : Option (List Element)). MatchOption o (stated.0 ≡ primary_element (jamo_primary c)) (λ fs. fs ≡ stated.0 ∷ [])) (sym some) stated.1;
+      told =
+          subst (λ (o : Option (List Element)). MatchOption o (stated.0 ≡ primary_element (jamo_primary c)) (λ fs. fs ≡ stated.0 ∷ [])) (sym some) stated.1;
     }
 
 -- ---- What it means
@@ -145,11 +153,13 @@ module _
       ∙ at (recorded_in lines [] (c ∷ [])) refl says.told
     where
       at : (o : Option (List Element)) → recorded_in lines [] (c ∷ []) ≡ o
-          → MatchOption o (says.element ≡ primary_element (jamo_primary c)) (λ es. es ≡ says.element ∷ []) → unless_own c (says.element ∷ []) ≡ o
+          → MatchOption o (says.element ≡ primary_element (jamo_primary c)) (λ es. es ≡ says.element ∷ [])
+          → unless_own c (says.element ∷ []) ≡ o
       at None none same =
           cond-true (is_primary_alone (own_primary c) (says.element ∷ [])) None (Some (says.element ∷ []))
           (ap (λ (e : Element). is_primary_alone (own_primary c) (e ∷ [])) same
-          ∙ ap (λ (p : ℕ). is_primary_alone p (primary_element (jamo_primary c) ∷ [])) (jamo_own c jamo) ∙ alone_itself (jamo_primary c))
+          ∙ ap (λ (p : ℕ). is_primary_alone p (primary_element (jamo_primary c) ∷ [])) (jamo_own c jamo)
+          ∙ alone_itself (jamo_primary c))
       at (Some es) some same =
           cond-false (is_primary_alone (own_primary c) (says.element ∷ [])) None (Some (says.element ∷ []))
           (ap (is_primary_alone (own_primary c)) (sym same) ∙ recorded_not_own lines c [] (c ∷ []) es sound some)
@@ -177,8 +187,10 @@ module _
       → recorded_by entry c prefix suffix ≡ recorded_in lines prefix (c ∷ suffix)
   unfolding recorded_by
   recorded_means [] [] p q = by_itself
-  recorded_means [] (d ∷ ds) p q = ap (option_and_then (elements_of_word pools)) (no_suffix (d ∷ ds)) ∙ sym (unrecorded [] (d ∷ ds) refl)
-  recorded_means (b ∷ bs) [] p q = ap (option_and_then (elements_of_word pools)) (no_context (b ∷ bs)) ∙ sym (unrecorded (b ∷ bs) [] refl)
+  recorded_means [] (d ∷ ds) p q =
+      ap (option_and_then (elements_of_word pools)) (no_suffix (d ∷ ds)) ∙ sym (unrecorded [] (d ∷ ds) refl)
+  recorded_means (b ∷ bs) [] p q =
+      ap (option_and_then (elements_of_word pools)) (no_context (b ∷ bs)) ∙ sym (unrecorded (b ∷ bs) [] refl)
   recorded_means (b ∷ bs) (d ∷ ds) p q = sym (prefixed_alone lines accepted b bs c d ds)
 
   undigital : digit_of lines c ≡ None

@@ -17,7 +17,8 @@ use Rattle.collate_words.specs.Contexts.{AreKeys}
 
 -- ---- Items of mapped lists
 
-pub mapped_from : {X Y : Type 0} (f : X → Y) (xs : List X) (y : Y) → Contains (map f xs) y → (x : X) × Contains xs x × (f x ≡ y)
+pub mapped_from : {X Y : Type 0} (f : X → Y) (xs : List X) (y : Y) → Contains (map f xs) y
+    → (x : X) × Contains xs x × (f x ≡ y)
 mapped_from f [] y within = absurd (none_in y within)
 mapped_from f (x ∷ xs) y within =
     ⊎_elim (λ (same : f x ≡ y). (x, first_in x xs, same))
@@ -51,7 +52,8 @@ module _ (units : List ℕ) where
 
   empty_key : (spot : Spot) (key : List ℕ) (number : ℤ) → MapsKey units spot key number → IsEmptyAt spot key
   empty_key _ _ _ (MapsKey.ends place value next node) = (value, next, node)
-  empty_key _ _ _ (MapsKey.goes_on place value next key number node rest) = behind place next key (empty_key (at_state next) key number rest)
+  empty_key _ _ _ (MapsKey.goes_on place value next key number node rest) =
+      behind place next key (empty_key (at_state next) key number rest)
   empty_key _ _ _ (MapsKey.run_on run unit key number read more rest) = tt
   empty_key _ _ _ (MapsKey.run_out run unit key number read few rest) = tt
   empty_key _ _ _ (MapsKey.branch_value branch unit value leads) = tt
@@ -99,7 +101,8 @@ module _ (units : List ℕ) (texts : List (List ℕ)) (keys : AreKeys units text
   texts_filled within =
       let found = keys.spelled [] within in
       let empty = empty_units found.0 found.3 in
-      no_empty_key units found.1 keys.grammar (subst (λ (key : List ℕ). MapsKey units (at_node 0) key found.1) empty found.2)
+      no_empty_key units found.1 keys.grammar
+      (subst (λ (key : List ℕ). MapsKey units (at_node 0) key found.1) empty found.2)
 
   -- what all texts pass, all keys do
   pub keys_pass : (p : List ℕ → Bool) → ((text : List ℕ) → Contains texts text → p text ≡ true) → KeysPass p units
@@ -126,7 +129,8 @@ module _ (units : List ℕ) (texts : List (List ℕ)) (keys : AreKeys units text
     all_not [] none text within = absurd (none_in text within)
     all_not (x ∷ xs) none text within =
         let both = or_parts (q x) (list_any q xs) none in
-        ⊎_elim (λ (same : x ≡ text). ap q (sym same) ∙ both.0) (λ later. all_not xs both.1 text later) (first_or_later x text xs within)
+        ⊎_elim (λ (same : x ≡ text). ap q (sym same) ∙ both.0) (λ later. all_not xs both.1 text later)
+        (first_or_later x text xs within)
 
     some_in : (xs : List (List ℕ)) → list_any q xs ≡ true → (text : List ℕ) × Contains xs text × (q text ≡ true)
     some_in [] some = absurd (false≢true some)

@@ -58,7 +58,8 @@ module _ (lines : List Record) (special : CollationSpecialPrimaries) (alike : Ar
     -- recorded elements do
     pub all_spelled : (es : List Element) → ((e : Element) → Contains es e → IsRecorded (weights_of lines) e)
         → list_all (is_sound_spelled special) es ≡ true
-    all_spelled es recorded = list_all_from (is_sound_spelled special) es (λ e within. recorded_spelled e (recorded e within))
+    all_spelled es recorded =
+        list_all_from (is_sound_spelled special) es (λ e within. recorded_spelled e (recorded e within))
 
     -- what moves the primary of a range to its characters keeps the rules
     module _ (accepted : AreAccepted lines) (c : ℕ) (s : scalar c ≡ true) where
@@ -68,9 +69,11 @@ module _ (lines : List Record) (special : CollationSpecialPrimaries) (alike : Ar
       kept_lead : (b : Bool) (p by to : ℕ) → by ≤ to → keeps_lead b p to ≡ true → keeps_lead b p by ≡ true
       kept_lead b p by to less h =
           lt-ltb _ _
-          (second_less (p / 2 ^ 16 % 256) (lowest_second b) (p / 2 ^ 8 % 256) to by (second_count b) less (ltb-true _ _ h))
+          (second_less (p / 2 ^ 16 % 256) (lowest_second b) (p / 2 ^ 8 % 256) to by (second_count b) less
+          (ltb-true _ _ h))
 
-      of_range : (r : Range) → first_found (range_in c) lines ≡ Some r → is_sound_offset special (offset_bits (is_compressible_in lines) r) c ≡ true
+      of_range : (r : Range) → first_found (range_in c) lines ≡ Some r
+          → is_sound_offset special (offset_bits (is_compressible_in lines) r) c ≡ true
       unfolding is_sound_offset
       of_range r is =
           let k = is_compressible_in lines in
@@ -85,9 +88,12 @@ module _ (lines : List Record) (special : CollationSpecialPrimaries) (alike : Ar
           let by : (c - r.first) * r.step ≤ (r.last - r.first) * r.step = mul-le-mul_right r.step near in
           and_from _ _
           (and_from _ _
-          (ap (λ (n : ℕ). leb n c) (first_part r.primary r.first r.step compressible narrow small) ∙ le-leb r.first c low)
-          (ap (λ (b : Bool). keeps_lead b (bits / 2 ^ 32) (moved_by bits c)) (compressible_part r.primary r.first r.step compressible narrow small)
-          ∙ ap (λ (n : ℕ). keeps_lead compressible n (moved_by bits c)) (primary_part r.primary r.first r.step compressible narrow small)
+          (ap (λ (n : ℕ). leb n c) (first_part r.primary r.first r.step compressible narrow small)
+          ∙ le-leb r.first c low)
+          (ap (λ (b : Bool). keeps_lead b (bits / 2 ^ 32) (moved_by bits c))
+          (compressible_part r.primary r.first r.step compressible narrow small)
+          ∙ ap (λ (n : ℕ). keeps_lead compressible n (moved_by bits c))
+          (primary_part r.primary r.first r.step compressible narrow small)
           ∙ ap (keeps_lead compressible r.primary) (range_moved_by k r narrow small c)
           ∙ kept_lead compressible r.primary ((c - r.first) * r.step) ((r.last - r.first) * r.step) by kept.stays))
           (ap (is_sound_ranged (leads_of special)) (offset_moved k r narrow small c)
@@ -98,7 +104,8 @@ module _ (lines : List Record) (special : CollationSpecialPrimaries) (alike : Ar
       pub offset_sound : (bits : ℕ) → offset_of lines c ≡ Some bits → is_sound_offset special bits c ≡ true
       offset_sound bits h = at (first_found (range_in c) lines) refl h
         where
-          at : (o : Option Range) → first_found (range_in c) lines ≡ o → option_map (offset_bits (is_compressible_in lines)) o ≡ Some bits
+          at : (o : Option Range) → first_found (range_in c) lines ≡ o
+              → option_map (offset_bits (is_compressible_in lines)) o ≡ Some bits
               → is_sound_offset special bits c ≡ true
           at None is told = absurd (cc)
           at (Some r) is told =

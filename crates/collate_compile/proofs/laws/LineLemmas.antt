@@ -25,7 +25,8 @@ same_layer root tailoring h = absurd (false≢true h)
 same_layer tailoring root h = absurd (false≢true h)
 
 -- the line that gives a text its elements
-elements_line : (layer : Layer) (prefix text : List ℕ) (line : Record) (es : List Element) → elements_in layer prefix text line ≡ Some es
+elements_line : (layer : Layer) (prefix text : List ℕ) (line : Record) (es : List Element)
+    → elements_in layer prefix text line ≡ Some es
     → line ≡ weights layer prefix text es
 elements_line layer prefix text (weights other before key fs) es h =
     let told = cond_some (is_same_layer layer other && bytes_eq prefix before && bytes_eq text key) fs es h in
@@ -55,9 +56,16 @@ found_line : (layer : Layer) (lines : List Record) (prefix text : List ℕ) (es 
     → first_found (elements_in layer prefix text) lines ≡ Some es → IsLine lines prefix text es
 found_line layer lines prefix text es h =
     let w = found_at (elements_in layer prefix text) lines es h in
-    record { layer = layer; place = w.0; inside = w.1; says = elements_line layer prefix text (record_at lines w.0) es w.2 }
+    record {
+      layer = layer;
+      place = w.0;
+      inside = w.1;
+      says = elements_line layer prefix text
+          (record_at lines w.0) es w.2;
+    }
 
-pub recorded_line : (lines : List Record) (prefix text : List ℕ) (es : List Element) → recorded_in lines prefix text ≡ Some es
+pub recorded_line : (lines : List Record) (prefix text : List ℕ) (es : List Element)
+    → recorded_in lines prefix text ≡ Some es
     → IsLine lines prefix text es
 recorded_line lines prefix text es h = at (first_found (elements_in tailoring prefix text) lines) refl h
   where
@@ -73,19 +81,26 @@ pub none_at : (test : Record → Bool) (lines : List Record) (i : ℕ) → (list
 none_at test lines i none lt h =
     none (list_any_at test lines i nothing lt (ap test (sym (unwrap_or-slice_get lines i nothing)) ∙ h))
 
-pub any_at : (test : Record → Bool) (lines : List Record) (i : ℕ) → i < length lines → test (record_at lines i) ≡ true → list_any test lines ≡ true
+pub any_at : (test : Record → Bool) (lines : List Record) (i : ℕ) → i < length lines → test (record_at lines i) ≡ true
+    → list_any test lines ≡ true
 any_at test lines i lt h = list_any_at test lines i nothing lt (ap test (sym (unwrap_or-slice_get lines i nothing)) ∙ h)
 
 -- a line that passes, where one does
-pub place_of : (test : Record → Bool) (lines : List Record) → list_any test lines ≡ true → (i : ℕ) × (i < length lines) × (test (record_at lines i) ≡ true)
+pub place_of : (test : Record → Bool) (lines : List Record) → list_any test lines ≡ true
+    → (i : ℕ) × (i < length lines) × (test (record_at lines i) ≡ true)
 place_of test [] h = absurd (false≢true h)
 place_of test (line ∷ lines) h =
     ⊎_elim (λ (here : test line ≡ true). (0, omega arith, here))
-    (λ (there : list_any test lines ≡ true). let w = place_of test lines there in (suc w.0, (let inside = w.1 in omega (arith, inside)), w.2))
+    (λ (there : list_any test lines ≡ true). let w = place_of test lines there in (
+      suc w.0,
+      (let inside = w.1 in omega (arith, inside)),
+      w.2,
+    ))
     (or_cases (test line) (list_any test lines) h)
 
 -- nothing is recorded of what begins no line
-pub unbegun : (lines : List Record) (c : ℕ) (prefix cs : List ℕ) → list_any (begins_line c) lines ≡ false → recorded_in lines prefix (c ∷ cs) ≡ None
+pub unbegun : (lines : List Record) (c : ℕ) (prefix cs : List ℕ) → list_any (begins_line c) lines ≡ false
+    → recorded_in lines prefix (c ∷ cs) ≡ None
 unbegun lines c prefix cs none = at (recorded_in lines prefix (c ∷ cs)) refl
   where
     at : (o : Option (List Element)) → recorded_in lines prefix (c ∷ cs) ≡ o → o ≡ None
@@ -94,4 +109,5 @@ unbegun lines c prefix cs none = at (recorded_in lines prefix (c ∷ cs)) refl
         let line = recorded_line lines prefix (c ∷ cs) es is in
         absurd
         (true≢false
-        (sym (any_at (begins_line c) lines line.place line.inside (ap (begins_line c) line.says ∙ eq-eqb c c refl)) ∙ none))
+        (sym (any_at (begins_line c) lines line.place line.inside (ap (begins_line c) line.says ∙ eq-eqb c c refl))
+        ∙ none))

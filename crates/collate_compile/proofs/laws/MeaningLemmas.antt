@@ -39,14 +39,17 @@ pub record Means (lines : List Record) (c : ℕ) (entry : TableWord) : Type 0 wh
 
 pub all_scalars : (cs : List ℕ) → scalars cs ≡ true → All IsScalar cs
 all_scalars [] h = All-nil IsScalar
-all_scalars (c ∷ cs) h = let both = and_parts (scalar c) (scalars cs) h in All-cons IsScalar c cs both.0 (all_scalars cs both.1)
+all_scalars (c ∷ cs) h =
+    let both = and_parts (scalar c) (scalars cs) h in All-cons IsScalar c cs both.0 (all_scalars cs both.1)
 
 -- what is recorded isn't what a character is by itself
-pub recorded_not_own : (lines : List Record) (c : ℕ) (prefix text : List ℕ) (es : List Element) → AreSoundWeights (weights_of lines)
+pub recorded_not_own : (lines : List Record) (c : ℕ) (prefix text : List ℕ) (es : List Element)
+    → AreSoundWeights (weights_of lines)
     → recorded_in lines prefix text ≡ Some es → is_primary_alone (own_primary c) es ≡ false
 recorded_not_own lines c prefix text es sound h =
     not_own (weights_of lines) c es
-    (λ e is. sound.elements e (prefix, text, es, h, subst (λ (fs : List Element). Contains fs e) (sym is) (first_in e [])))
+    (λ e is. sound.elements e
+    (prefix, text, es, h, subst (λ (fs : List Element). Contains fs e) (sym is) (first_in e [])))
 
 mapped : {A B : Type 0} (b : Bool) (f : A → B) (x : A) → cond b (Some (f x)) None ≡ option_map f (cond b (Some x) None)
 mapped true f x = refl
@@ -63,24 +66,30 @@ module _ (lines : List Record) (accepted : AreAccepted lines) (sound : AreSoundW
       at None is = refl
       at (Some r) is =
           ap (λ (p : ℕ). Some p)
-          (offset_moved (is_compressible_in lines) r (range_narrow lines accepted c r s is) (range_kept lines accepted c r is).small c)
+          (offset_moved (is_compressible_in lines) r (range_narrow lines accepted c r s is)
+          (range_kept lines accepted c r is).small c)
 
   module _ (entry : TableWord) (saying : Saying) (is : IsSayingOf lines c saying) (says : SaysOf entry.pools entry.word saying) where
     kept : (o : Option (List Element)) → recorded_in lines [] (c ∷ []) ≡ o → option_and_then (unless_own c) o ≡ o
     kept None told = refl
-    kept (Some es) told = cond-false (is_primary_alone (own_primary c) es) None (Some es) (recorded_not_own lines c [] (c ∷ []) es sound told)
+    kept (Some es) told =
+        cond-false (is_primary_alone (own_primary c) es) None (Some es)
+        (recorded_not_own lines c [] (c ∷ []) es sound told)
 
     recorded_means : (prefix suffix : List ℕ) → scalars prefix ≡ true → scalars suffix ≡ true
         → recorded_by entry c prefix suffix ≡ recorded_in lines prefix (c ∷ suffix)
     unfolding recorded_by
-    recorded_means [] [] p q = ap (option_and_then (unless_own c)) (says.lone.says ∙ is.own) ∙ kept (recorded_in lines [] (c ∷ [])) refl
+    recorded_means [] [] p q =
+        ap (option_and_then (unless_own c)) (says.lone.says ∙ is.own) ∙ kept (recorded_in lines [] (c ∷ [])) refl
     recorded_means [] (d ∷ ds) p q = says.suffixes d ds (all_scalars (d ∷ ds) q) ∙ is.suffixes d ds
     recorded_means (b ∷ bs) [] p q = says.prefixes b bs (all_scalars (b ∷ bs) p) ∙ is.prefixes b bs
     recorded_means (b ∷ bs) (d ∷ ds) p q = sym (prefixed_alone lines accepted b bs c d ds)
 
-    offset_told : recorded_in lines [] (c ∷ []) ≡ None → offset_named entry.pools (lone_word entry.pools entry.word) ≡ offset_of lines c
+    offset_told : recorded_in lines [] (c ∷ []) ≡ None
+        → offset_named entry.pools (lone_word entry.pools entry.word) ≡ offset_of lines c
     offset_told none =
-        says.lone.ranged ∙ is.offset ∙ ap (λ (o : Option (List Element)). cond (is_some o) None (offset_of lines c)) none
+        says.lone.ranged ∙ is.offset
+        ∙ ap (λ (o : Option (List Element)). cond (is_some o) None (offset_of lines c)) none
 
     ranged_means : recorded_in lines [] (c ∷ []) ≡ None → ranged_by entry c ≡ (weights_of lines).ranged_primary c
     unfolding ranged_by
@@ -94,7 +103,8 @@ module _ (lines : List Record) (accepted : AreAccepted lines) (sound : AreSoundW
 
   -- the word of a character of which lines say nothing
   pub implicit_means : (entry : TableWord) → entry.word ≡ implicit
-      → ((prefix suffix : List ℕ) → recorded_in lines prefix (c ∷ suffix) ≡ None) → digit_of lines c ≡ None → first_found (range_in c) lines ≡ None
+      → ((prefix suffix : List ℕ) → recorded_in lines prefix (c ∷ suffix) ≡ None) → digit_of lines c ≡ None
+      → first_found (range_in c) lines ≡ None
       → Means lines c entry
   unfolding recorded_by suffix_word prefix_word ranged_by lone_word unprefixed_word elements_of_word
   implicit_means entry is none no_digit no_range =
@@ -102,7 +112,8 @@ module _ (lines : List Record) (accepted : AreAccepted lines) (sound : AreSoundW
       record {
         recorded = unrecorded;
         digit = sym no_digit;
-        ranged = λ _. sym (ap (λ (o : Option Range). elim o as (λ _. Option ℕ) [ Some r ↦ Some (range_primary (is_compressible_in lines) r c) | None ↦ None ]) no_range);
+        ranged =
+            λ _. sym (ap (λ (o : Option Range). elim o as (λ _. Option ℕ) [ Some r ↦ Some (range_primary (is_compressible_in lines) r c) | None ↦ None ]) no_range);
       }
     where
       unrecorded : (prefix suffix : List ℕ) → scalars prefix ≡ true → scalars suffix ≡ true

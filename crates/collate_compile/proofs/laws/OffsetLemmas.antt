@@ -30,7 +30,9 @@ module _ (p f s : ℕ) (b : Bool) (narrow : f < 2 ^ 24) (small : s < 2 ^ 7) wher
     where
       at : (b : Bool) → ((p * 2 ^ 32 + f * 2 ^ 8 + cond b (2 ^ 7) 0 + s) / 2 ^ 7 % 2 == 1) ≡ b
       at true = eq-eqb _ 1 (omega (arith, narrow, small))
-      at false = let none : (p * 2 ^ 32 + f * 2 ^ 8 + 0 + s) / 2 ^ 7 % 2 ≡ 0 = omega (arith, narrow, small) in ap (λ (n : ℕ). n == 1) none
+      at false =
+          let none : (p * 2 ^ 32 + f * 2 ^ 8 + 0 + s) / 2 ^ 7 % 2 ≡ 0 =
+          omega (arith, narrow, small) in ap (λ (n : ℕ). n == 1) none
 
   pub step_part : bits % 2 ^ 7 ≡ s
   step_part = at b
@@ -55,6 +57,8 @@ module _ (k : ℕ → Bool) (r : Range) (narrow : r.first < 2 ^ 24) (small : r.s
   pub offset_moved : (c : ℕ) → offset_primary of_range c ≡ range_primary k r c
   unfolding offset_primary range_primary
   offset_moved c =
-      ap (λ (b : Bool). moved_primary b (of_range / 2 ^ 32) (moved_by of_range c)) (compressible_part r.primary r.first r.step is_led narrow small)
-      ∙ ap (λ (n : ℕ). moved_primary is_led n (moved_by of_range c)) (primary_part r.primary r.first r.step is_led narrow small)
+      ap (λ (b : Bool). moved_primary b (of_range / 2 ^ 32) (moved_by of_range c))
+      (compressible_part r.primary r.first r.step is_led narrow small)
+      ∙ ap (λ (n : ℕ). moved_primary is_led n (moved_by of_range c))
+      (primary_part r.primary r.first r.step is_led narrow small)
       ∙ ap (moved_primary is_led r.primary) (range_moved_by c)

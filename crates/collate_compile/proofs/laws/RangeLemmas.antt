@@ -22,14 +22,16 @@ use Rattle.collate_rules.proofs.offenders.BreachLemmas.{none_together}
 use Rattle.collate_compile.proofs.laws.OwnPrimaryLemmas.{jamo_bounds}
 
 -- a line's range that holds a character
-range_of_line : (c : ℕ) (line : Record) (r : Range) → range_in c line ≡ Some r → (is_within r.first r.last c ≡ true) × Contains (ranges_of line) r
+range_of_line : (c : ℕ) (line : Record) (r : Range) → range_in c line ≡ Some r
+    → (is_within r.first r.last c ≡ true) × Contains (ranges_of line) r
 range_of_line c (range t) r h = at (is_within t.first t.last c) refl h
   where
     at : (b : Bool) → is_within t.first t.last c ≡ b → cond b (Some (span_of t)) None ≡ Some r
         → (is_within r.first r.last c ≡ true) × Contains (span_of t ∷ []) r
     at true is e =
         let same : span_of t ≡ r = cc in
-        subst (λ (s : Range). (is_within s.first s.last c ≡ true) × Contains (span_of t ∷ []) s) same (is, first_in (span_of t) [])
+        subst (λ (s : Range). (is_within s.first s.last c ≡ true) × Contains (span_of t ∷ []) s) same
+        (is, first_in (span_of t) [])
     at false is e = absurd (cc)
 range_of_line c nothing r h = absurd (none-some r h)
 range_of_line c (class d k) r h = absurd (none-some r h)
@@ -44,7 +46,8 @@ found_range : (c : ℕ) (lines : List Record) (r : Range) → first_found (range
 found_range c [] r h = absurd (none-some r h)
 found_range c (line ∷ lines) r h = at (range_in c line) refl h (found_range c lines r)
   where
-    at : (o : Option Range) → range_in c line ≡ o → (elim o [ Some s ↦ Some s | None ↦ first_found (range_in c) lines ]) ≡ Some r
+    at : (o : Option Range) → range_in c line ≡ o
+        → (elim o [ Some s ↦ Some s | None ↦ first_found (range_in c) lines ]) ≡ Some r
         → (first_found (range_in c) lines ≡ Some r → (is_within r.first r.last c ≡ true) × Contains (given_ranges lines) r)
         → (is_within r.first r.last c ≡ true) × Contains (given_ranges (line ∷ lines)) r
     at (Some s) is e later =

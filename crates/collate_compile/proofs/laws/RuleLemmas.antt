@@ -43,10 +43,12 @@ digit_line c v (setting s) h = absurd (none-some v h)
 -- ---- Marks last
 
 late_starters : (canonical : Canonical) (text : List ℕ)
-    → list_any (λ c. not (not (is_starter canonical c))) text ≡ false → list_all (λ m. not (is_starter canonical m)) text ≡ true
+    → list_any (λ c. not (not (is_starter canonical c))) text ≡ false
+    → list_all (λ m. not (is_starter canonical m)) text ≡ true
 late_starters canonical [] h = refl
 late_starters canonical (c ∷ cs) h =
-    let both = or_parts (not (not (is_starter canonical c))) (list_any (λ c. not (not (is_starter canonical c))) cs) h in
+    let both =
+    or_parts (not (not (is_starter canonical c))) (list_any (λ c. not (not (is_starter canonical c))) cs) h in
     and_from (not (is_starter canonical c)) (list_all (λ m. not (is_starter canonical m)) cs)
     (not-false (not (is_starter canonical c)) both.0) (late_starters canonical cs both.1)
 
@@ -63,7 +65,8 @@ marks_stay_last canonical (c ∷ cs) h =
     (or_parts (not (is_starter canonical c) && list_any (λ c. not (not (is_starter canonical c))) cs)
     (has_starter_behind (λ c. not (is_starter canonical c)) (λ c. not (not (is_starter canonical c))) cs) h).1)
   where
-    by : (starter : Bool) → (not starter && list_any (λ c. not (not (is_starter canonical c))) cs) ≡ false → has_marks_last canonical cs ≡ true
+    by : (starter : Bool) → (not starter && list_any (λ c. not (not (is_starter canonical c))) cs) ≡ false
+        → has_marks_last canonical cs ≡ true
         → cond starter (has_marks_last canonical cs) (list_all (λ m. not (is_starter canonical m)) cs) ≡ true
     by true g later = later
     by false g later = late_starters canonical cs g
@@ -78,7 +81,8 @@ module _ (lines : List Record) (accepted : AreAccepted lines) where
   is_recorded = is_recorded_in (weights_of lines)
 
   -- what is recorded is of characters
-  pub recorded_characters : (prefix text : List ℕ) (es : List Element) → recorded_in lines prefix text ≡ Some es → AreCharacters prefix text
+  pub recorded_characters : (prefix text : List ℕ) (es : List Element) → recorded_in lines prefix text ≡ Some es
+      → AreCharacters prefix text
   recorded_characters prefix text es h =
       let line = recorded_line lines prefix text es h in
       let said = All-get_or IsSaid lines line.place nothing line.inside accepted.in_grammar in
@@ -87,25 +91,31 @@ module _ (lines : List Record) (accepted : AreAccepted lines) where
       subst HasCharacters line.says at
 
   -- a text has at most eight characters
-  pub recorded_short : (prefix text : List ℕ) (es : List Element) → recorded_in lines prefix text ≡ Some es → length text ≤ 8
+  pub recorded_short : (prefix text : List ℕ) (es : List Element) → recorded_in lines prefix text ≡ Some es
+      → length text ≤ 8
   recorded_short prefix text es h =
       let line = recorded_line lines prefix text es h in
       ⊎_elim
-      (λ (long : 8 < length text). absurd (accepted.keep_rules Limit line.place line.inside (inr (inr (subst IsLong (sym line.says) (inl long))))))
+      (λ (long : 8 < length text). absurd
+      (accepted.keep_rules Limit line.place line.inside (inr (inr (subst IsLong (sym line.says) (inl long))))))
       (λ few. few)
       (cases_lt 8 (length text))
 
   -- V8
-  pub recorded_marks_last : (prefix text : List ℕ) (es : List Element) → recorded_in lines prefix text ≡ Some es → has_marks_last canonical text ≡ true
+  pub recorded_marks_last : (prefix text : List ℕ) (es : List Element) → recorded_in lines prefix text ≡ Some es
+      → has_marks_last canonical text ≡ true
   recorded_marks_last prefix text es h =
       let line = recorded_line lines prefix text es h in
-      let none = none_together (λ ls. IsTrue (breaks_marks_last lines ls)) (λ e. false≢true e) lines (accepted.keep_rules V8) in
+      let none =
+      none_together (λ ls. IsTrue (breaks_marks_last lines ls)) (λ e. false≢true e) lines (accepted.keep_rules V8) in
       marks_stay_last canonical text
       (false_from_ne_true _
-      (λ late. none_at (has_late_starter lines lines) lines line.place none line.inside (ap (has_late_starter lines lines) line.says ∙ late)))
+      (λ late. none_at (has_late_starter lines lines) lines line.place none line.inside
+      (ap (has_late_starter lines lines) line.says ∙ late)))
 
   -- V9
-  pub recorded_shorter : (prefix : List ℕ) (c : ℕ) (suffix : List ℕ) (es : List Element) → recorded_in lines prefix (c ∷ suffix) ≡ Some es
+  pub recorded_shorter : (prefix : List ℕ) (c : ℕ) (suffix : List ℕ) (es : List Element)
+      → recorded_in lines prefix (c ∷ suffix) ≡ Some es
       → is_recorded_shorter canonical is_recorded c suffix ≡ true
   recorded_shorter prefix c suffix es h =
       let line = recorded_line lines prefix (c ∷ suffix) es h in
@@ -118,9 +128,11 @@ module _ (lines : List Record) (accepted : AreAccepted lines) where
       → (list_all (is_prefix_character canonical (digit_of lines)) (b ∷ bs) && may_follow_prefix lines lines text) ≡ true
   prefix_kept b bs text es h =
       let line = recorded_line lines (b ∷ bs) text es h in
-      let none = none_together (λ ls. IsTrue (breaks_prefixes lines ls)) (λ e. false≢true e) lines (accepted.keep_rules V10) in
+      let none =
+      none_together (λ ls. IsTrue (breaks_prefixes lines ls)) (λ e. false≢true e) lines (accepted.keep_rules V10) in
       true_from_ne_false _
-      (λ bad. none_at (is_badly_prefixed lines lines) lines line.place none line.inside (ap (is_badly_prefixed lines lines) line.says ∙ ap not bad))
+      (λ bad. none_at (is_badly_prefixed lines lines) lines line.place none line.inside
+      (ap (is_badly_prefixed lines lines) line.says ∙ ap not bad))
 
   pub recorded_prefix : (b : ℕ) (bs text : List ℕ) (es : List Element) → recorded_in lines (b ∷ bs) text ≡ Some es
       → list_all (is_prefix_character canonical (digit_of lines)) (b ∷ bs) ≡ true
@@ -128,7 +140,9 @@ module _ (lines : List Record) (accepted : AreAccepted lines) where
 
   pub recorded_after : (b : ℕ) (bs : List ℕ) (c : ℕ) (es : List Element) → recorded_in lines (b ∷ bs) (c ∷ []) ≡ Some es
       → may_have_prefix canonical (digit_of lines) is_recorded c ≡ true
-  recorded_after b bs c es h = (and_parts (list_all (is_prefix_character canonical (digit_of lines)) (b ∷ bs)) _ (prefix_kept b bs (c ∷ []) es h)).1
+  recorded_after b bs c es h =
+      (and_parts (list_all (is_prefix_character canonical (digit_of lines)) (b ∷ bs)) _
+      (prefix_kept b bs (c ∷ []) es h)).1
 
   -- no longer text stands after a prefix
   pub prefixed_alone : (b : ℕ) (bs : List ℕ) (c d : ℕ) (ds : List ℕ) → recorded_in lines (b ∷ bs) (c ∷ d ∷ ds) ≡ None
@@ -143,16 +157,20 @@ module _ (lines : List Record) (accepted : AreAccepted lines) where
   digit_kept : (c v : ℕ) → first_found (digit_in c) lines ≡ Some v → is_bad_digit lines lines (digit c v) ≡ false
   digit_kept c v h =
       let found = found_at (digit_in c) lines v h in
-      let none = none_together (λ ls. IsTrue (breaks_digits lines ls)) (λ e. false≢true e) lines (accepted.keep_rules V11) in
+      let none =
+      none_together (λ ls. IsTrue (breaks_digits lines ls)) (λ e. false≢true e) lines (accepted.keep_rules V11) in
       false_from_ne_true _
       (λ bad. none_at (is_bad_digit lines lines) lines found.0 none found.1
       (ap (is_bad_digit lines lines) (digit_line c v (record_at lines found.0) found.2) ∙ bad))
 
   pub digit_may_be : (c v : ℕ) → first_found (digit_in c) lines ≡ Some v → may_be_digit canonical is_recorded c ≡ true
-  digit_may_be c v h = not-false (may_be_digit canonical is_recorded c) (or_parts (not (may_be_digit canonical is_recorded c)) _ (digit_kept c v h)).0
+  digit_may_be c v h =
+      not-false (may_be_digit canonical is_recorded c)
+      (or_parts (not (may_be_digit canonical is_recorded c)) _ (digit_kept c v h)).0
 
   -- V12
-  pub jamo_alone : (prefix : List ℕ) (c : ℕ) (cs : List ℕ) (es : List Element) → is_jamo c ≡ true → recorded_in lines prefix (c ∷ cs) ≡ Some es
+  pub jamo_alone : (prefix : List ℕ) (c : ℕ) (cs : List ℕ) (es : List Element) → is_jamo c ≡ true
+      → recorded_in lines prefix (c ∷ cs) ≡ Some es
       → is_alone prefix (c ∷ cs) ≡ true
   jamo_alone prefix c cs es jamo h =
       let line = recorded_line lines prefix (c ∷ cs) es h in

@@ -20,7 +20,8 @@ use Rattle.collate_compile.proofs.laws.TableMeaningLemmas.{counting_means}
 
 pub scalars_of : (cs : List ℕ) → All IsScalar cs → scalars cs ≡ true
 scalars_of [] all = refl
-scalars_of (c ∷ cs) all = and_from (scalar c) (scalars cs) (All-head IsScalar c cs all) (scalars_of cs (All-tail IsScalar c cs all))
+scalars_of (c ∷ cs) all =
+    and_from (scalar c) (scalars cs) (All-head IsScalar c cs all) (scalars_of cs (All-tail IsScalar c cs all))
 
 module _
     (records : List Record)
@@ -35,7 +36,8 @@ module _
     where
       at : (o : Option (List Element)) → lines.recorded_in records prefix [] ≡ o → o ≡ None
       at None is = refl
-      at (Some es) is = let some = (recorded_characters records accepted prefix [] es is).some in absurd (omega (arith, some))
+      at (Some es) is =
+          let some = (recorded_characters records accepted prefix [] es is).some in absurd (omega (arith, some))
 
   pub recorded_same : (prefix text : List ℕ) → All IsScalar prefix → All IsScalar text
       → (weights_of canonical tables).recorded prefix text ≡ (lines.weights_of records).recorded prefix text
@@ -71,7 +73,8 @@ module _
     dot_above = compiled.settings.dot_above;
   }
 
-pub same_settings : (records : List Record) (canonical : Canonical) (tables : CollationTables) → AreCompiledFrom records tables
+pub same_settings : (records : List Record) (canonical : Canonical) (tables : CollationTables)
+    → AreCompiledFrom records tables
     → AreSameWithOptions (collation_of canonical tables) (lines.collation_of records)
 same_settings records canonical tables compiled = record {
   settings = record {

@@ -26,7 +26,8 @@ use Rattle.collate_compile.proofs.laws.JamoLemmas.{StatesJamo, alone_itself, jam
 use Rattle.collate_compile.proofs.laws.LeadLemmas.{recorded_spelled}
 
 module _ (records : List Record) (soundly : AreSoundlySet records) where
-  pub primaries_pass : (special : CollationSpecialPrimaries) → ArePrimariesOf records special → AreSoundSpecialPrimaries special
+  pub primaries_pass : (special : CollationSpecialPrimaries) → ArePrimariesOf records special
+      → AreSoundSpecialPrimaries special
   primaries_pass special alike = record {
     groups =
         ap (λ (n : ℕ). are_sound_groups n (groups_of special.last_primaries)) alike.numeric
@@ -52,7 +53,8 @@ module _ (records : List Record) (soundly : AreSoundlySet records) where
       at : (l : ℕ) → (l * 2 ^ 24 + p % 2 ^ 24) / 2 ^ 24 ≡ l
       at l = omega arith
 
-  same_halves : (p q a b : ℕ) → a * 2 ^ 8 + p % 2 ^ 24 / 2 ^ 16 ≡ b * 2 ^ 8 + q % 2 ^ 24 / 2 ^ 16 → (a ≡ b) × (p % 2 ^ 24 / 2 ^ 16 ≡ q % 2 ^ 24 / 2 ^ 16)
+  same_halves : (p q a b : ℕ) → a * 2 ^ 8 + p % 2 ^ 24 / 2 ^ 16 ≡ b * 2 ^ 8 + q % 2 ^ 24 / 2 ^ 16
+      → (a ≡ b) × (p % 2 ^ 24 / 2 ^ 16 ≡ q % 2 ^ 24 / 2 ^ 16)
   same_halves p q a b same = (omega (arith, same), omega (arith, same))
 
   joined : (p q : ℕ) → p / 2 ^ 24 ≡ q / 2 ^ 24 → p % 2 ^ 24 / 2 ^ 16 ≡ q % 2 ^ 24 / 2 ^ 16 → p / 2 ^ 16 ≡ q / 2 ^ 16
@@ -107,7 +109,8 @@ module _ (records : List Record) (soundly : AreSoundlySet records) where
 
 -- ---- Diacritics
 
-pub diacritics_pass : (records : List Record) (tables : CollationTables) → AreCompiledFrom records tables → are_sound_diacritics tables ≡ true
+pub diacritics_pass : (records : List Record) (tables : CollationTables) → AreCompiledFrom records tables
+    → are_sound_diacritics tables ≡ true
 diacritics_pass records tables compiled =
     ap (λ (list : List ℕ). is_diacritic_count tables.metadata (length list) && list_all is_sound_diacritic list) compiled.no_diacritics
     ∙ and_from _ _ (or_left (has_bit 4 tables.metadata.bits) _ compiled.settings.diacritics) refl
@@ -126,18 +129,26 @@ module _ (records : List Record) (sound : AreSoundWeights (lines.weights_of reco
       at None none same =
           or_left (is_own_alone (Some (own_primary c)) (states.element ∷ [])) _
           (ap (λ (e : Element). is_primary_alone (own_primary c) (e ∷ [])) same
-          ∙ ap (λ (p : ℕ). is_primary_alone p (primary_element (jamo_primary c) ∷ [])) (jamo_own c jamo) ∙ alone_itself (jamo_primary c))
+          ∙ ap (λ (p : ℕ). is_primary_alone p (primary_element (jamo_primary c) ∷ [])) (jamo_own c jamo)
+          ∙ alone_itself (jamo_primary c))
       at (Some es) some same =
           or_right (is_own_alone (Some (own_primary c)) (states.element ∷ [])) _
           (and_from (is_sound_spelled tables.special_primaries states.element) true
-          (recorded_spelled records tables.special_primaries compiled.special_primaries sound states.element
-          ([], c ∷ [], es, some, subst (λ (fs : List Element). Contains fs states.element) (sym same) (first_in states.element []))) refl)
+          (recorded_spelled records tables.special_primaries compiled.special_primaries sound states.element (
+            [],
+            c ∷ [],
+            es,
+            some,
+            subst (λ (fs : List Element). Contains fs states.element) (sym same)
+                (first_in states.element []),
+          )) refl)
 
   jamo_passes : (k : ℕ) → k < 256 → is_sound_jamo tables k ≡ true
   unfolding is_sound_jamo
   jamo_passes k lt =
       let word = slice_index tables.jamo.ce32s k in
-      let jamo : is_jamo (0x1100 + k) ≡ true = and_from _ _ (le-leb 0x1100 (0x1100 + k) (omega arith)) (le-leb (0x1100 + k) 0x11ff (omega (arith, lt))) in
+      let jamo : is_jamo (0x1100 + k) ≡ true =
+      and_from _ _ (le-leb 0x1100 (0x1100 + k) (omega arith)) (le-leb (0x1100 + k) 0x11ff (omega (arith, lt))) in
       let states = jamo_stated records (0x1100 + k) word jamo (compiled.jamo.each k lt) in
       and_from (states_element word) _ states.states
       (ap

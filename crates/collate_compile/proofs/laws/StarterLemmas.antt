@@ -9,13 +9,15 @@ use Rattle.icu_normalizer_core.specs.Sameness.{AreSameCanonical}
 use Rattle.icu_collator_core.specs.ContextRules.{begins_with_mark, ends_in_mark, has_marks_last, holds_starter}
 use Rattle.icu_collator_core.proofs.lookups.PrefixLemmas.{scalars_back}
 
-all_same : (p q : ℕ → Bool) → ((c : ℕ) → scalar c ≡ true → p c ≡ q c) → (cs : List ℕ) → scalars cs ≡ true → list_all p cs ≡ list_all q cs
+all_same : (p q : ℕ → Bool) → ((c : ℕ) → scalar c ≡ true → p c ≡ q c) → (cs : List ℕ) → scalars cs ≡ true
+    → list_all p cs ≡ list_all q cs
 all_same p q same [] s = refl
 all_same p q same (c ∷ cs) s =
     let both = and_parts (scalar c) (scalars cs) s in
     ap (λ (b : Bool). b && list_all p cs) (same c both.0) ∙ ap (λ (b : Bool). q c && b) (all_same p q same cs both.1)
 
-any_same : (p q : ℕ → Bool) → ((c : ℕ) → scalar c ≡ true → p c ≡ q c) → (cs : List ℕ) → scalars cs ≡ true → list_any p cs ≡ list_any q cs
+any_same : (p q : ℕ → Bool) → ((c : ℕ) → scalar c ≡ true → p c ≡ q c) → (cs : List ℕ) → scalars cs ≡ true
+    → list_any p cs ≡ list_any q cs
 any_same p q same [] s = refl
 any_same p q same (c ∷ cs) s =
     let both = and_parts (scalar c) (scalars cs) s in

@@ -59,7 +59,8 @@ module _ (lines : List Record) (accepted : AreAccepted lines) (sound : AreSoundW
           absurd (false≢true (sym (ap (λ (o : Option (List Element)). is_some o) (none [] [])) ∙ may))
 
   -- what is said of a character of a range that begins no line
-  ranged_says : (bits : ℕ) → ((prefix cs : List ℕ) → recorded_in lines prefix (c ∷ cs) ≡ None) → offset_of lines c ≡ Some bits
+  ranged_says : (bits : ℕ) → ((prefix cs : List ℕ) → recorded_in lines prefix (c ∷ cs) ≡ None)
+      → offset_of lines c ≡ Some bits
       → IsSayingOf lines c (ranged_saying bits)
   ranged_says bits none is = record {
     own = sym (none [] []);
@@ -77,7 +78,8 @@ module _ (lines : List Record) (accepted : AreAccepted lines) (sound : AreSoundW
   written_means : (source : CollationData) → IsWrittenOf lines source c → Means lines c (word_in source c)
   written_means source written = saying_means lines accepted sound c s (word_in source c) written.0 written.1 written.2
 
-  unwritten_means : (source : CollationData) → list_any (begins_line c) lines ≡ false → IsUnwritten lines source c → Means lines c (word_in source c)
+  unwritten_means : (source : CollationData) → list_any (begins_line c) lines ≡ false → IsUnwritten lines source c
+      → Means lines c (word_in source c)
   unwritten_means source unbegins unwritten = at (offset_of lines c) refl unwritten
     where
       none : (prefix cs : List ℕ) → recorded_in lines prefix (c ∷ cs) ≡ None
@@ -89,12 +91,15 @@ module _ (lines : List Record) (accepted : AreAccepted lines) (sound : AreSoundW
       at None is same =
           implicit_means lines accepted sound c s (word_in source c) same none (no_digit none)
           (no_range (is_compressible_in lines) (first_found (range_in c) lines) is)
-      at (Some bits) is says = saying_means lines accepted sound c s (word_in source c) (ranged_saying bits) (ranged_says bits none is) says
+      at (Some bits) is says =
+          saying_means lines accepted sound c s (word_in source c) (ranged_saying bits) (ranged_says bits none is) says
 
-  root_means : (source : CollationData) → IsRootOf lines source → is_jamo c ≡ false → is_tailored lines c ≡ false → Means lines c (word_in source c)
+  root_means : (source : CollationData) → IsRootOf lines source → is_jamo c ≡ false → is_tailored lines c ≡ false
+      → Means lines c (word_in source c)
   root_means source root other untailored =
       ⊎_elim
-      (λ rooted. written_means source (MatchBool-at_true (IsWrittenOf lines source c) (IsUnwritten lines source c) rooted (root.words c s)))
+      (λ rooted. written_means source
+      (MatchBool-at_true (IsWrittenOf lines source c) (IsUnwritten lines source c) rooted (root.words c s)))
       (λ unrooted.
       unwritten_means source (unbegins unrooted)
       (MatchBool-at_false (IsWrittenOf lines source c) (IsUnwritten lines source c) unrooted (root.words c s)))
@@ -106,9 +111,11 @@ module _ (lines : List Record) (accepted : AreAccepted lines) (sound : AreSoundW
           (λ begins.
           true≢false
           (sym (and_from (not (is_jamo c)) _ (not_from_false (is_jamo c) other)
-          (and_from (not (is_tailored lines c)) (list_any (begins_line c) lines) (not_from_false (is_tailored lines c) untailored) begins)) ∙ unrooted))
+          (and_from (not (is_tailored lines c)) (list_any (begins_line c) lines)
+          (not_from_false (is_tailored lines c) untailored) begins)) ∙ unrooted))
 
-  tailored_means : (tables : CollationTables) → AreCompiledFrom lines tables → is_jamo c ≡ false → Means lines c (tailored_word tables c)
+  tailored_means : (tables : CollationTables) → AreCompiledFrom lines tables → is_jamo c ≡ false
+      → Means lines c (tailored_word tables c)
   tailored_means tables compiled other = at tables.tailoring compiled.tailoring
     where
       at : (o : Option CollationData) → MatchOption o ((d : ℕ) → is_tailored lines d ≡ false) (IsTailoringOf lines)
@@ -120,33 +127,43 @@ module _ (lines : List Record) (accepted : AreAccepted lines) (sound : AreSoundW
       at (Some source) of_source =
           ⊎_elim
           (λ tailored.
-          let written = MatchBool-at_true (IsWrittenOf lines source c) (word_at source c ≡ fallback) tailored (of_source.words c s) in
+          let written =
+          MatchBool-at_true (IsWrittenOf lines source c) (word_at source c ≡ fallback) tailored (of_source.words c s) in
           subst (Means lines c)
           (sym (cond-false (word_at source c == fallback) (word_in tables.root c) (word_in source c) (not_fallback (pools_of source) (word_at source c) (written.2).form)))
           (written_means source written))
           (λ untailored.
-          let left = MatchBool-at_false (IsWrittenOf lines source c) (word_at source c ≡ fallback) untailored (of_source.words c s) in
+          let left =
+          MatchBool-at_false (IsWrittenOf lines source c) (word_at source c ≡ fallback) untailored
+          (of_source.words c s) in
           subst (Means lines c)
           (sym (cond-true (word_at source c == fallback) (word_in tables.root c) (word_in source c) (eq-eqb (word_at source c) fallback left)))
           (root_means tables.root compiled.root other untailored))
           (cases_Bool (is_tailored lines c))
 
-  jamo_word_means : (tables : CollationTables) → AreCompiledFrom lines tables → is_jamo c ≡ true → Means lines c (jamo_word tables c)
+  jamo_word_means : (tables : CollationTables) → AreCompiledFrom lines tables → is_jamo c ≡ true
+      → Means lines c (jamo_word tables c)
   jamo_word_means tables compiled jamo =
       let bounds = jamo_bounds c jamo in
       let inside : c - 0x1100 < 256 = omega (arith, bounds.0, bounds.1) in
       let back : 0x1100 + (c - 0x1100) ≡ c = omega (arith, bounds.0) in
-      let is = subst (λ (d : ℕ). IsJamoWord lines d (slice_index tables.jamo.ce32s (c - 0x1100))) back (compiled.jamo.each (c - 0x1100) inside) in
+      let is =
+      subst (λ (d : ℕ). IsJamoWord lines d (slice_index tables.jamo.ce32s (c - 0x1100))) back
+      (compiled.jamo.each (c - 0x1100) inside) in
       jamo_means lines accepted sound c jamo (jamo_word tables c) (jamo_stated lines c _ jamo is)
 
   no_mark : (canonical : Canonical) (secondaries : List ℕ) → secondaries ≡ [] → diacritic canonical secondaries c ≡ None
   no_mark canonical secondaries none =
       ap (λ (list : List ℕ). diacritic canonical list c) none
-      ∙ cond_both (leb 0x300 c && not (is_starter canonical c)) None None (λ (o : Option ℕ). o ≡ None) (λ _. refl) (λ _. refl)
+      ∙ cond_both (leb 0x300 c && not (is_starter canonical c)) None None (λ (o : Option ℕ). o ≡ None) (λ _. refl)
+      (λ _. refl)
 
-  pub counting_means : (canonical : Canonical) (tables : CollationTables) → AreCompiledFrom lines tables → Means lines c (counting_word canonical tables c)
+  pub counting_means : (canonical : Canonical) (tables : CollationTables) → AreCompiledFrom lines tables
+      → Means lines c (counting_word canonical tables c)
   unfolding counting_word
-  counting_means canonical tables compiled = at (diacritic canonical tables.diacritics.secondaries c) (no_mark canonical tables.diacritics.secondaries compiled.no_diacritics)
+  counting_means canonical tables compiled =
+      at (diacritic canonical tables.diacritics.secondaries c)
+      (no_mark canonical tables.diacritics.secondaries compiled.no_diacritics)
     where
       at : (o : Option ℕ) → o ≡ None
           → Means lines c (elim o as (λ _. TableWord) [

@@ -36,21 +36,27 @@ AreRecorded lines es = (e : Element) → Contains es e → IsRecorded (weights_o
 pub record IsOfLines (lines : List Record) (c : ℕ) (saying : Saying) : Type 0 where
   pub own : (es : List Element) → saying.own ≡ Some es → AreRecorded lines es
   pub offset : (bits : ℕ) → saying.offset ≡ Some bits → offset_of lines c ≡ Some bits
-  pub beside : (said : SaidBeside) → Contains saying.suffixes said ⊎ Contains saying.prefixes said → AreRecorded lines said.elements
+  pub beside : (said : SaidBeside) → Contains saying.suffixes said ⊎ Contains saying.prefixes said
+      → AreRecorded lines said.elements
 
-pub recorded_elements : (lines : List Record) (prefix text : List ℕ) (es : List Element) → recorded_in lines prefix text ≡ Some es → AreRecorded lines es
+pub recorded_elements : (lines : List Record) (prefix text : List ℕ) (es : List Element)
+    → recorded_in lines prefix text ≡ Some es → AreRecorded lines es
 recorded_elements lines prefix text es h e within = (prefix, text, es, h, within)
 
-pub saying_of_lines : (lines : List Record) (c : ℕ) (saying : Saying) → IsSayingOf lines c saying → IsOfLines lines c saying
+pub saying_of_lines : (lines : List Record) (c : ℕ) (saying : Saying) → IsSayingOf lines c saying
+    → IsOfLines lines c saying
 saying_of_lines lines c saying is = record {
   own = λ es told. recorded_elements lines [] (c ∷ []) es (sym is.own ∙ told);
-  offset = λ bits told. ranged (is_some (recorded_in lines [] (c ∷ []))) (offset_of lines c) bits (sym is.offset ∙ told);
+  offset =
+      λ bits told. ranged (is_some (recorded_in lines [] (c ∷ []))) (offset_of lines c) bits (sym is.offset ∙ told);
   beside = λ said within.
       ⊎_elim
       (λ (behind : Contains saying.suffixes said).
-      recorded_elements lines [] (c ∷ said.characters) said.elements (All-contains (IsSaidBehind lines c) saying.suffixes said is.behind behind))
+      recorded_elements lines [] (c ∷ said.characters) said.elements
+      (All-contains (IsSaidBehind lines c) saying.suffixes said is.behind behind))
       (λ (after : Contains saying.prefixes said).
-      recorded_elements lines said.characters (c ∷ []) said.elements (All-contains (IsSaidAfter lines c) saying.prefixes said is.after after))
+      recorded_elements lines said.characters (c ∷ []) said.elements
+      (All-contains (IsSaidAfter lines c) saying.prefixes said is.after after))
       within;
 }
   where
@@ -58,7 +64,8 @@ saying_of_lines lines c saying is = record {
     ranged true o bits e = absurd (none-some bits e)
     ranged false o bits e = e
 
-pub range_of_lines : (lines : List Record) (c bits : ℕ) → offset_of lines c ≡ Some bits → IsOfLines lines c (ranged_saying bits)
+pub range_of_lines : (lines : List Record) (c bits : ℕ) → offset_of lines c ≡ Some bits
+    → IsOfLines lines c (ranged_saying bits)
 range_of_lines lines c bits is = record {
   own = λ es told. absurd (none-some es told);
   offset = λ other told. is ∙ told;
@@ -85,7 +92,8 @@ module _ (lines : List Record) (c : ℕ) (pools : Pools) (word : ℕ) (saying : 
       ⊎_elim
       (λ (alone : one ≡ lone_word pools word). subst IsOwnOfLines (sym alone) lone_of_lines)
       (λ beside. (
-        λ es told. subst (AreRecorded lines) (same_Some beside.0.elements es (sym beside.2.says ∙ told)) (of_lines.beside beside.0 beside.1),
+        λ es told. subst (AreRecorded lines) (same_Some beside.0.elements es (sym beside.2.says ∙ told))
+            (of_lines.beside beside.0 beside.1),
         λ bits told. absurd (none-some bits (sym beside.2.ranged ∙ told)),
       ))
       (says.within one is)
@@ -93,7 +101,8 @@ module _ (lines : List Record) (c : ℕ) (pools : Pools) (word : ℕ) (saying : 
   named : (one : ℕ) → has_tag Offset one ≡ true → offset_named pools one ≡ Some (slice_index pools.ces (index_of one))
   named one tag = cond-true (has_tag Offset one) (Some (slice_index pools.ces (index_of one))) None tag
 
-  pub ranged_among : (one : ℕ) → IsAmong pools word one → has_tag Offset one ≡ true → offset_of lines c ≡ Some (slice_index pools.ces (index_of one))
+  pub ranged_among : (one : ℕ) → IsAmong pools word one → has_tag Offset one ≡ true
+      → offset_of lines c ≡ Some (slice_index pools.ces (index_of one))
   ranged_among one is tag = (among_of_lines one is).1 (slice_index pools.ces (index_of one)) (named one tag)
 
   module _
@@ -106,7 +115,8 @@ module _ (lines : List Record) (c : ℕ) (pools : Pools) (word : ℕ) (saying : 
     unfolding is_sound_word
     among_sound own one is =
         cond_both (has_tag Offset one) _ _ (λ b. b ≡ true)
-        (λ tag. offset_sound lines special alike sound accepted c s (slice_index pools.ces (index_of one)) (ranged_among one is tag))
+        (λ tag. offset_sound lines special alike sound accepted c s (slice_index pools.ces (index_of one))
+        (ranged_among one is tag))
         (λ other. at (elements_of_word pools one) refl)
       where
         at : (o : Option (List Element)) → elements_of_word pools one ≡ o
@@ -119,6 +129,8 @@ module _ (lines : List Record) (c : ℕ) (pools : Pools) (word : ℕ) (saying : 
     pub words_sound : HasSoundWords special pools c word
     words_sound = (
       among_sound (Some (own_primary c)) (lone_word pools word) (inl refl),
-      λ tag readable key number maps. among_sound None (cast_unsigned w32 number) (inr (inl (tag, (key, number, readable, maps, refl)))),
-      λ tag readable key number maps. among_sound None (cast_unsigned w32 number) (inr (inr (tag, (key, number, readable, maps, refl)))),
+      λ tag readable key number maps. among_sound None (cast_unsigned w32 number)
+          (inr (inl (tag, (key, number, readable, maps, refl)))),
+      λ tag readable key number maps. among_sound None (cast_unsigned w32 number)
+          (inr (inr (tag, (key, number, readable, maps, refl)))),
     )
