@@ -9,6 +9,7 @@ ghost use Rattle.icu_collator_core.specs.SameSettings.{AreSameWithOptions};
 ghost use Rattle.icu_collator_core.specs.Sameness.{AreSameWeights};
 ghost use Rattle.icu_collator_core.specs.TableMeaning.{collation_of as collation_of_tables, weights_of as weights_of_tables};
 ghost use Rattle.icu_collator_core.specs.WeightRules.{AreSoundWeights};
+ghost use Rattle.icu_collator_core.specs.WholeLeads.{MovesOnlyWholeLeads};
 ghost use Rattle.icu_collator_core.specs.declared.tables.CollationTables.{CollationTables};
 ghost use Rattle.collate_lines.specs.Record.{Record};
 ghost use Rattle.collate_rules.specs.Accepted.{AreAccepted};
@@ -33,4 +34,10 @@ pub fn compiled_tables_mean_their_lines()
     ensures settings { (records : List Record) (canonical : Canonical) (tables : CollationTables)
         → AreCompiledFrom records tables
         → AreSameWithOptions (collation_of_tables canonical tables) (collation_of records) }
+{}
+
+/// They move primaries with their whole leads, each to a place as compressible as its own: what the laws of keys ask.
+pub fn compiled_tables_move_whole_leads()
+    ensures { (records : List Record) (tables : CollationTables)
+        → AreSoundlySet records → AreCompiledFrom records tables → MovesOnlyWholeLeads tables }
 {}

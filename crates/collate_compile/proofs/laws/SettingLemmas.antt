@@ -1,5 +1,5 @@
 -- Settings, reordering, diacritics and jamo of compiled tables pass their checks.
-use Rattle.std.proofs.Common.{◌≡◌, ℕ, ◌+◌, ◌*◌, ◌/◌, ◌%◌, ◌^◌, ◌<◌, Bool, true, false, ◌&&◌, List, [], ◌∷◌, length, Option, Some, None, refl, sym, ap, subst, ◌∙◌, arith}
+use Rattle.std.proofs.Common.{◌≡◌, ℕ, ◌+◌, ◌*◌, ◌/◌, ◌%◌, ◌^◌, ◌<◌, Bool, true, false, ◌&&◌, List, [], ◌∷◌, length, Option, Some, None, refl, sym, ap, subst, ◌∙◌, arith, All}
 use Rattle.std.specs.Prelude.{slice_index, IfSome, MatchOption}
 use Rattle.std.specs.List.{Contains, list_all}
 use Rattle.std.proofs.lemmas.Bool.{and_from, le-leb, or_left, or_right}
@@ -15,6 +15,7 @@ use Rattle.icu_collator_core.specs.TableMeaning.{is_primary_alone, own_primary}
 use Rattle.icu_collator_core.specs.TableSettings.{groups_of, has_bit, is_compressible_in, reordered_by, reordered_in}
 use Rattle.icu_collator_core.specs.WeightFaults.{AreSoundJamo, AreSoundSpecialPrimaries, HasSoundReordering, IsSoundReordering, are_sound_diacritics, are_sound_spelled, is_diacritic_count, is_own_alone, is_primary_element, is_sound_diacritic, is_sound_jamo, is_sound_spelled}
 use Rattle.icu_collator_core.specs.WeightRules.{AreSoundWeights, is_letter_lead}
+use Rattle.icu_collator_core.specs.WholeLeads.{MovesOnlyWholeLeads, MovesWholeLeads, lead_in_place}
 use Rattle.icu_collator_core.specs.WordForms.{states_element}
 use Rattle.icu_collator_core.proofs.apart.GrowthLemmas.{first_in}
 use Rattle.collate_lines.specs.Record.{Record}
@@ -106,6 +107,31 @@ module _ (records : List Record) (soundly : AreSoundlySet records) where
           → IfSome o (λ r. length r.reorder_table ≡ 256) → IfSome o (IsSoundReordering tables.special_primaries)
       at None moved count = count
       at (Some reordering) moved count = reordering_sound tables.special_primaries reordering moved count
+
+-- ---- Whole leads
+
+module _ (records : List Record) (soundly : AreSoundlySet records) (tables : CollationTables) (compiled : AreCompiledFrom records tables) where
+  pub whole_leads : MovesOnlyWholeLeads tables
+  whole_leads = at tables.reordering compiled.reordering.moved compiled.reordering.bytes
+    where
+      at : (o : Option CollationReordering) → ((p : ℕ) → reordered_in o p ≡ with_lead (place records soundly) p)
+          → IfSome o (λ r. All (λ byte. byte < 2 ^ 8) r.reorder_table) → IfSome o (MovesWholeLeads tables.special_primaries)
+      at None moved bytes = bytes
+      at (Some reordering) moved bytes =
+          let special = tables.special_primaries in
+          let in_place : (lead : ℕ) → lead_in_place reordering lead ≡ place records soundly lead =
+          λ lead.
+          its_lead records soundly special reordering moved (lead * 2 ^ 24)
+          ∙ ap (place records soundly) (let back : lead * 2 ^ 24 / 2 ^ 24 ≡ lead = omega arith in back) in
+          record {
+            bytes = bytes;
+            whole = λ p _. its_lead records soundly special reordering moved p ∙ sym (in_place (p / 2 ^ 24));
+            alike = λ lead _.
+                compiled.special_primaries.compressible (lead_in_place reordering lead)
+                ∙ ap (lines.is_compressible_in records) (in_place lead)
+                ∙ soundly.leads.alike lead
+                ∙ sym (compiled.special_primaries.compressible lead);
+          }
 
 -- ---- Diacritics
 
