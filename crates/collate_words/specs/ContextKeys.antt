@@ -1,7 +1,8 @@
 -- What stands beside a character, as keys of a context, and contexts that have just these keys.
 use Rattle.std.specs.Prelude.{◌≡◌, ℕ, ℤ, ◌+◌, ◌%◌, ◌^◌, ◌<◌, ◌≤◌, Bool, cond, List, flat_map, length, reverse, Some, None}
 use Rattle.std.specs.Int.{cast_signed, cast_unsigned, w32}
-use Rattle.std.specs.List.{AllZip, Contains}
+use Rattle.std.specs.List.{AllZip, Contains, count_by}
+use Rattle.std.specs.Str.{bytes_eq}
 use Rattle.icu_char16trie.specs.Cursors.{units_of}
 use Rattle.icu_char16trie.specs.UnitGrammar.{IsUnitTrie}
 use Rattle.icu_char16trie.specs.UnitMaps.{MapsKey, at_node}
@@ -15,17 +16,24 @@ use Rattle.collate_words.specs.Sayings.{SaidBeside}
 abbrev pub pair_of : ContextKey → List ℕ × ℕ
 pair_of key = (key.units.items, key.word)
 
--- a key that fits a context: at most 14 units, and a word of 32 bits
+-- a key that fits a context: one unit to 14, and a word of 32 bits
 pub record FitsContext (key : ContextKey) : Type 0 where
+  pub some : 0 < length key.units.items
   pub short : length key.units.items ≤ 14
   pub word : key.word < 2 ^ 32
+
+-- no two keys have the same units
+abbrev pub AreKeysOnce : List ContextKey → Type 0
+AreKeysOnce keys = (units : List ℕ) → count_by (λ key. bytes_eq key.units.items units) keys ≤ 1
 
 -- the keys of a unit trie, which has some, are these, and their values are these words
 pub record HasKeys (units : List ℕ) (keys : List (List ℕ × ℕ)) : Type 0 where
   pub some : 0 < length units
   pub grammar : IsUnitTrie units
-  pub read : (key : List ℕ) (number : ℤ) → MapsKey units (at_node 0) key number → Contains keys (key, cast_unsigned w32 number)
-  pub spelled : (key : List ℕ) (word : ℕ) → Contains keys (key, word) → MapsKey units (at_node 0) key (cast_signed w32 word)
+  pub read : (key : List ℕ) (number : ℤ) → MapsKey units (at_node 0) key number
+      → Contains keys (key, cast_unsigned w32 number)
+  pub spelled : (key : List ℕ) (word : ℕ) → Contains keys (key, word)
+      → MapsKey units (at_node 0) key (cast_signed w32 word)
 
 -- characters in the order of keys: the nearest first, where they stand before the character
 abbrev pub key_text : Bool → List ℕ → List ℕ

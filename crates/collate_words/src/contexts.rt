@@ -5,7 +5,7 @@ ghost use Rattle.std.specs.Int.{cast_signed, w32};
 ghost use Rattle.icu_char16trie.specs.WrittenUnits.{keyed};
 ghost use Rattle.icu_collator_types.specs.declared.elements.Element.{Element};
 ghost use Rattle.icu_collator_core.specs.Pools.{index_of};
-ghost use Rattle.collate_words.specs.ContextKeys.{AreKeysOf, FitsContext, HasFields, HasKeys, IsContext, pair_of};
+ghost use Rattle.collate_words.specs.ContextKeys.{AreKeysOf, AreKeysOnce, FitsContext, HasFields, HasKeys, IsContext, pair_of};
 ghost use Rattle.collate_words.specs.Entries.{said_beside};
 ghost use Rattle.collate_words.specs.Fits.{AreBeside, HasRoom, IsBeside};
 ghost use Rattle.collate_words.specs.Growth.{Grows, GrowsFor, IsFrontOf};
@@ -18,7 +18,7 @@ use crate::entry::{Beside, SuffixFlags};
 use crate::pools::{Pools, naming};
 use crate::units::units_of_key;
 use icu_char16trie::laws::values_stay_in_longer_units;
-use icu_char16trie::write_units;
+use icu_char16trie::{WriteUnitsError, write_units};
 use std::alloc::{AllocError, Global};
 
 /// What the words of contexts have in their low byte.
@@ -29,7 +29,7 @@ const CONTRACTION: u32 = 0xc9;
 /// The units of what stands beside a character, and the word of the character there.
 #[derive(Drop)]
 pub struct ContextKey {
-    /// The units: at most 14.
+    /// The units: one to 14.
     pub units: Vec<u16>,
     /// The word.
     pub word: u32,
@@ -37,7 +37,8 @@ pub struct ContextKey {
 
 /// Keys and words, as the writer of unit tries takes them.
 fn pairs_of(alloc: Global, keys: &[ContextKey]) -> Result<Vec<(&[u16], i32)>, AllocError>
-    ensures { IfOk result (λ pairs. keyed pairs.items ≡ map (λ key. (key.units.items, cast_signed w32 key.word)) keys.now) }
+    ensures { IfOk result
+        (λ pairs. keyed pairs.items ≡ map (λ key. (key.units.items, cast_signed w32 key.word)) keys.now) }
 {
     let mut pairs = Vec::new(alloc);
     for key in keys {
@@ -50,7 +51,8 @@ fn pairs_of(alloc: Global, keys: &[ContextKey]) -> Result<Vec<(&[u16], i32)>, Al
 fn append_context(contexts: &mut Vec<u16>, default: u32, units: &[u16]) -> Result<(), AllocError>
     ensures grows { IsFrontOf contexts.old.items contexts.new.items }
     ensures size { length contexts.new.items ≤ length contexts.old.items + (2 + length units.now) }
-    ensures units { OnOk result (contexts.new.items ≡ contexts.old.items ++ (default / 2 ^ 16 ∷ default % 2 ^ 16 ∷ units.now)) }
+    ensures units { OnOk result
+        (contexts.new.items ≡ contexts.old.items ++ (default / 2 ^ 16 ∷ default % 2 ^ 16 ∷ units.now)) }
 {
     contexts.push((default / 0x1_0000) as u16)?;
     contexts.push((default % 0x1_0000) as u16)?;
@@ -58,10 +60,22 @@ fn append_context(contexts: &mut Vec<u16>, default: u32, units: &[u16]) -> Resul
     Ok(())
 }
 
-/// The units of a unit trie of keys with their words, in whatever order they are given.
+/// What is left of the errors of the writer of unit tries where keys are sorted, and neither empty nor too long.
+fn out_of_memory(error: WriteUnitsError) -> AllocError
+    requires { error ≡ WriteUnitsError.Memory }
+{
+    match error {
+        WriteUnitsError::Memory => AllocError,
+        _ => unreachable!(),
+    }
+}
+
+/// The units of a unit trie of different keys with their words, in whatever order they are given.
 fn units_of_keys(alloc: Global, keys: &mut Vec<ContextKey>) -> Result<Vec<u16>, AllocError>
     requires some { 0 < length keys.old.items }
+    requires few { length keys.old.items ≤ 2 ^ 19 }
     requires fit { All FitsContext keys.old.items }
+    requires once { AreKeysOnce keys.old.items }
     ensures keys { IfOk result (λ units. HasKeys units.items (map pair_of keys.old.items)) }
     ensures size { IfOk result (λ units. length units.items ≤ 143 * length keys.old.items) }
 {
@@ -69,7 +83,7 @@ fn units_of_keys(alloc: Global, keys: &mut Vec<ContextKey>) -> Result<Vec<u16>, 
     let pairs = pairs_of(alloc, keys.as_slice())?;
     match write_units(alloc, pairs.as_slice()) {
         Ok(units) => Ok(units),
-        Err(_) => Err(AllocError),
+        Err(error) => Err(out_of_memory(error)),
     }
 }
 
@@ -110,7 +124,8 @@ impl Pools {
         ensures size { GrowsFor (length besides.now) self.old self.new }
         ensures count { IfOk result (λ keys. length keys.items ≡ length besides.now) }
         ensures fit { IfOk result (λ keys. All FitsContext keys.items) }
-        ensures says { IfOk result (λ keys. AreKeysOf self.new backward (map said_beside besides.now) (map pair_of keys.items)) }
+        ensures says { IfOk result
+            (λ keys. AreKeysOf self.new backward (map said_beside besides.now) (map pair_of keys.items)) }
     {
         let mut keys = Vec::new(alloc);
         for beside in besides {
@@ -129,7 +144,9 @@ impl Pools {
         mut keys: Vec<ContextKey>,
     ) -> Result<usize, AllocError>
         requires some { 0 < length keys.items }
+        requires few { length keys.items ≤ 2 ^ 19 }
         requires fit { All FitsContext keys.items }
+        requires once { AreKeysOnce keys.items }
         ensures grows { Grows self.old self.new }
         ensures ces { self.new.ces ≡ self.old.ces }
         ensures ce32s { self.new.ce32s ≡ self.old.ce32s }
@@ -155,7 +172,8 @@ impl Pools {
         requires room { HasRoom self.old (length suffixes.now) }
         ensures grows { Grows self.old self.new }
         ensures size { GrowsFor (length suffixes.now) self.old self.new }
-        ensures says { IfOk result (λ word. (alone : Option (List Element)) (offset : Option ℕ) → IsOwnWord self.old own alone offset
+        ensures says { IfOk result (λ word. (alone : Option (List Element)) (offset : Option ℕ)
+            → IsOwnWord self.old own alone offset
             → SaysOf self.new word (saying_behind alone offset (map said_beside suffixes.now) flags)) }
     {
         if suffixes.is_empty() {
@@ -177,7 +195,8 @@ impl Pools {
         requires room { HasRoom self.old (length prefixes.now) }
         ensures grows { Grows self.old self.new }
         ensures size { GrowsFor (length prefixes.now) self.old self.new }
-        ensures says { IfOk result (λ word. (saying : Saying) → SaysOf self.old behind saying → saying.prefixes ≡ [] → saying.digit ≡ None
+        ensures says { IfOk result (λ word. (saying : Saying)
+            → SaysOf self.old behind saying → saying.prefixes ≡ [] → saying.digit ≡ None
             → SaysOf self.new word (saying_before saying (map said_beside prefixes.now))) }
     {
         if prefixes.is_empty() {

@@ -14,8 +14,8 @@ use icu_char16trie::laws::values_stay_in_longer_units;
 use std::alloc::{AllocError, Global};
 
 impl Pools {
-    /// The word of a character: it says just what the entry does. All that it names is written at the ends of the lists,
-    /// which grow by at most 200 items a record each.
+    /// The word of a character: it says just what the entry does. All that it names is written at the ends of the
+    /// lists, which grow by at most 200 items a record each. Fails only when out of memory.
     pub fn write_entry(&mut self, alloc: Global, entry: &Entry<'_>) -> Result<u32, AllocError>
         requires fit { IsFit (saying_of entry.now) }
         requires room { HasRoom self.old (record_count (saying_of entry.now)) }
@@ -38,7 +38,8 @@ impl Pools {
 
 /// What a word says stays said when the lists grow.
 pub fn words_say_the_same_in_longer_lists()
-    ensures { (pools larger : Lists) (word : ℕ) (saying : Saying) → Grows pools larger → SaysOf pools word saying → SaysOf larger word saying }
+    ensures { (pools larger : Lists) (word : ℕ) (saying : Saying)
+        → Grows pools larger → SaysOf pools word saying → SaysOf larger word saying }
 {
     values_stay_in_longer_units();
 }

@@ -29,17 +29,20 @@ use Rattle.collate_words.proofs.written.KeyLemmas.{found_by_text, found_in, in_m
 -- ---- Values of keys
 
 -- the value of a key is what the units map it to
-pub value_maps : (units key : List ℕ) (number : ℤ) → IsUnitTrie units → value_of_key units key ≡ Some number → MapsKey units (at_node 0) key number
+pub value_maps : (units key : List ℕ) (number : ℤ) → IsUnitTrie units → value_of_key units key ≡ Some number
+    → MapsKey units (at_node 0) key number
 value_maps units key number trie e = (start-spells units trie key number).0 ((value_spelled units key number).0 e)
 
-pub maps_value : (units key : List ℕ) (number : ℤ) → IsUnitTrie units → MapsKey units (at_node 0) key number → value_of_key units key ≡ Some number
+pub maps_value : (units key : List ℕ) (number : ℤ) → IsUnitTrie units → MapsKey units (at_node 0) key number
+    → value_of_key units key ≡ Some number
 maps_value units key number trie maps = (value_spelled units key number).1 ((start-spells units trie key number).1 maps)
 
 -- a word that a context has for characters is a value of it
 pub value_in : (pools : Pools) (word : ℕ) (cs : List ℕ) (one : ℕ) → AreReadable (trie_of pools.contexts (index_of word))
     → word_in_context pools.contexts (index_of word) cs ≡ Some one → HasValue pools word one
 unfolding word_in_context
-value_in pools word cs one readable e = at (value_of_key (trie_of pools.contexts (index_of word)) (flat_map units_of cs)) refl e
+value_in pools word cs one readable e = at (value_of_key (trie_of pools.contexts (index_of word))
+    (flat_map units_of cs)) refl e
   where
     at : (o : Option ℤ) → value_of_key (trie_of pools.contexts (index_of word)) (flat_map units_of cs) ≡ o
         → option_map (cast_unsigned w32) o ≡ Some one → HasValue pools word one
@@ -74,15 +77,20 @@ module _
   pub value_of : (key : List ℕ) (number : ℤ) → MapsKey (trie_of pools.contexts (index_of word)) (at_node 0) key number
       → IsValueOf pools backward saids key (cast_unsigned w32 number)
   value_of key number maps =
-      let w = zip_back (IsKeyOf pools backward) saids keys (key, cast_unsigned w32 number) keyed (context.trie.read key number maps) in
+      let w = zip_back (IsKeyOf pools backward) saids keys (key, cast_unsigned w32 number) keyed
+      (context.trie.read key number maps) in
       record { said = w.0; within = w.1; units = w.2.units; word = w.2.word }
 
   pub value_for : (said : SaidBeside) → Contains saids said
-      → (number : ℤ) × MapsKey (trie_of pools.contexts (index_of word)) (at_node 0) (flat_map units_of (key_text backward said.characters)) number
+      → (number : ℤ) × MapsKey (trie_of pools.contexts (index_of word)) (at_node 0)
+      (flat_map units_of (key_text backward said.characters)) number
   value_for said has =
       let w = zip_forth (IsKeyOf pools backward) saids keys said keyed has in
-      let number = cast_signed w32 w.0.1 in
-      (number, subst (λ key. MapsKey (trie_of pools.contexts (index_of word)) (at_node 0) key number) w.2.units (context.trie.spelled w.0.0 w.0.1 w.1))
+      let number = cast_signed w32 w.0.1 in (
+        number,
+        subst (λ key. MapsKey (trie_of pools.contexts (index_of word)) (at_node 0) key number) w.2.units
+            (context.trie.spelled w.0.0 w.0.1 w.1),
+      )
 
   counted : IsWithin (trie_of pools.contexts (index_of word)) (2 ^ 64 - 1)
   counted key number maps =
@@ -106,7 +114,8 @@ module _
   values_inside readable key number maps = (value_of key number maps).word.inside
 
   -- the keys are the texts
-  pub keys_are : AreKeys (trie_of pools.contexts (index_of word)) (map (λ said. key_text backward said.characters) saids)
+  pub keys_are : AreKeys (trie_of pools.contexts (index_of word))
+      (map (λ said. key_text backward said.characters) saids)
   keys_are = record {
     grammar = context.trie.grammar;
     counted = counted;
@@ -137,24 +146,29 @@ module _
       let v = value_for said w.0 in
       let units = trie_of pools.contexts (index_of word) in
       let maps = subst (λ cs. MapsKey units (at_node 0) (flat_map units_of (key_text backward cs)) v.0) same v.1 in
-      absurd (none-some v.0 (sym none ∙ maps_value units (flat_map units_of (key_text backward text)) v.0 context.trie.grammar maps))
+      absurd (none-some v.0 (sym none ∙ maps_value units (flat_map units_of
+      (key_text backward text)) v.0 context.trie.grammar maps))
 
   -- the elements of the character beside a text
   pub elements_by : (text : List ℕ) → All IsScalar text
-      → option_and_then (elements_of_word pools) (word_in_context pools.contexts (index_of word) (key_text backward text)) ≡ elements_beside saids text
+      → option_and_then (elements_of_word pools) (word_in_context pools.contexts (index_of word)
+      (key_text backward text)) ≡ elements_beside saids text
   unfolding word_in_context
   elements_by text scalar =
       at (value_of_key (trie_of pools.contexts (index_of word)) (flat_map units_of (key_text backward text))) refl
     where
-      at : (o : Option ℤ) → value_of_key (trie_of pools.contexts (index_of word)) (flat_map units_of (key_text backward text)) ≡ o
+      at : (o : Option ℤ) → value_of_key (trie_of pools.contexts (index_of word))
+          (flat_map units_of (key_text backward text)) ≡ o
           → option_and_then (elements_of_word pools) (option_map (cast_unsigned w32) o) ≡ elements_beside saids text
       at None is = sym (none_found text (find (λ said. bytes_eq said.characters text) saids) refl is)
       at (Some number) is =
           let units = trie_of pools.contexts (index_of word) in
           let key = flat_map units_of (key_text backward text) in
           let w = value_of key number (value_maps units key number context.trie.grammar is) in
-          let same : text ≡ w.said.characters = same_text backward text w.said.characters scalar (scalars_in w.said w.within) w.units in
+          let same : text ≡ w.said.characters = same_text backward text w.said.characters scalar
+          (scalars_in w.said w.within) w.units in
           w.word.says
           ∙ sym (ap (option_map (λ said. said.elements)) (
-          ap (λ cs. find (λ said. bytes_eq said.characters cs) saids) same ∙ found_by_text saids w.said beside.different w.within
+          ap (λ cs. find (λ said. bytes_eq said.characters cs) saids) same
+          ∙ found_by_text saids w.said beside.different w.within
           ))

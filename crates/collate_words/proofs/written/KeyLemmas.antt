@@ -1,5 +1,5 @@
 -- What stands beside a character, and keys: with each there is the other, and a key spells one text.
-use Rattle.std.proofs.Common.{◌≡◌, ⊎_elim, ℕ, ◌*◌, ◌≤◌, Bool, true, false, cond, not, List, [], ◌∷◌, length, map, reverse, Some, refl, ap, sym, subst, ◌∙◌, arith}
+use Rattle.std.proofs.Common.{◌≡◌, ⊎_elim, ℕ, ◌*◌, ◌<◌, ◌≤◌, Bool, true, false, cond, not, List, [], ◌∷◌, length, map, reverse, Some, refl, ap, sym, subst, ◌∙◌, arith}
 use Rattle.std.specs.Prelude.{flat_map, All}
 use Rattle.std.specs.Char.{IsScalar}
 use Rattle.std.specs.List.{AllZip, Contains, find, list_all}
@@ -61,7 +61,8 @@ in_map f (y ∷ ys) x has =
     (λ (later : Contains ys x). later_in (f y) (f x) (map f ys) (in_map f ys x later))
     (first_or_later y x ys has)
 
-pub of_map : {A B : Type 0} (f : A → B) (xs : List A) (b : B) → Contains (map f xs) b → (x : A) × Contains xs x × (f x ≡ b)
+pub of_map : {A B : Type 0} (f : A → B) (xs : List A) (b : B) → Contains (map f xs) b → (x : A) × Contains xs x
+    × (f x ≡ b)
 of_map f [] b has = absurd (none_in b has)
 of_map f (y ∷ ys) b has =
     ⊎_elim
@@ -69,7 +70,8 @@ of_map f (y ∷ ys) b has =
     (λ (later : Contains (map f ys) b). let w = of_map f ys b later in (w.0, later_in y w.0 ys w.1, w.2))
     (first_or_later (f y) b (map f ys) has)
 
-all_pass : {A B : Type 0} (p : B → Bool) (f : A → B) (xs : List A) (x : A) → list_all p (map f xs) ≡ true → Contains xs x → p (f x) ≡ true
+all_pass : {A B : Type 0} (p : B → Bool) (f : A → B) (xs : List A) (x : A) → list_all p (map f xs) ≡ true
+    → Contains xs x → p (f x) ≡ true
 all_pass p f [] x h has = absurd (none_in x has)
 all_pass p f (y ∷ ys) x h has =
     let both = and_parts (p (f y)) (list_all p (map f ys)) h in
@@ -80,7 +82,8 @@ all_pass p f (y ∷ ys) x h has =
 
 -- ---- The first that passes a test
 
-found_step : {A : Type 0} (p : A → Bool) (y x : A) (ys : List A) (b : Bool) → p y ≡ b → cond b (Some y) (find p ys) ≡ Some x
+found_step : {A : Type 0} (p : A → Bool) (y x : A) (ys : List A) (b : Bool) → p y ≡ b → cond b (Some y) (find p ys)
+    ≡ Some x
     → (find p ys ≡ Some x → Contains ys x × (p x ≡ true)) → Contains (y ∷ ys) x × (p x ≡ true)
 found_step p y x ys true is h later =
     let same = same_Some y x h in (subst (λ z. Contains (y ∷ ys) z) same (first_in y ys), ap p (sym same) ∙ is)
@@ -91,11 +94,13 @@ found_in p [] x e = absurd (none-some x e)
 found_in p (y ∷ ys) x e = found_step p y x ys (p y) refl e (λ h. found_in p ys x h)
 
 -- where texts are different, what has a text is found by it
-pub found_by_text : (saids : List SaidBeside) (said : SaidBeside) → are_different (texts_beside saids) ≡ true → Contains saids said
+pub found_by_text : (saids : List SaidBeside) (said : SaidBeside) → are_different (texts_beside saids) ≡ true
+    → Contains saids said
     → find (λ other. bytes_eq other.characters said.characters) saids ≡ Some said
 found_by_text [] said different has = absurd (none_in said has)
 found_by_text (first ∷ saids) said different has =
-    let both = and_parts (list_all (λ other. not (bytes_eq first.characters other)) (texts_beside saids)) (are_different (texts_beside saids)) different in
+    let both = and_parts (list_all (λ other. not (bytes_eq first.characters other)) (texts_beside saids))
+    (are_different (texts_beside saids)) different in
     ⊎_elim
     (λ (same : first ≡ said).
     ap (λ b. cond b (Some first) (find (λ other. bytes_eq other.characters said.characters) saids))
@@ -112,10 +117,12 @@ found_by_text (first ∷ saids) said different has =
 
 scalars_of : (cs : List ℕ) → All IsScalar cs → scalars cs ≡ true
 scalars_of [] all = refl
-scalars_of (c ∷ cs) all = and_from (scalar c) (scalars cs) (All-head IsScalar c cs all) (scalars_of cs (All-tail IsScalar c cs all))
+scalars_of (c ∷ cs) all = and_from (scalar c) (scalars cs) (All-head IsScalar c cs all)
+    (scalars_of cs (All-tail IsScalar c cs all))
 
 turned_scalars : (backward : Bool) (cs : List ℕ) → All IsScalar cs → scalars (key_text backward cs) ≡ true
-turned_scalars true cs all = scalars_of (reverse cs) (All-permutation IsScalar cs (reverse cs) (IsPermutation-reverse cs) all)
+turned_scalars true cs all = scalars_of (reverse cs) (All-permutation IsScalar cs (reverse cs)
+    (IsPermutation-reverse cs) all)
 turned_scalars false cs all = scalars_of cs all
 
 turned_twice : (backward : Bool) (cs : List ℕ) → key_text backward (key_text backward cs) ≡ cs
@@ -141,8 +148,23 @@ same_text backward cs ds first second e =
     sym (turned_twice backward cs) ∙ ap (key_text backward) turned ∙ turned_twice backward ds
 
 -- a key has at most two units a character
-pub key_short : (backward : Bool) (cs : List ℕ) → All IsScalar cs → length (flat_map units_of (key_text backward cs)) ≤ 2 * length cs
+pub key_short : (backward : Bool) (cs : List ℕ) → All IsScalar cs
+    → length (flat_map units_of (key_text backward cs)) ≤ 2 * length cs
 key_short backward cs all =
-    let bound = key_length (flat_map units_of (key_text backward cs)) (key_text backward cs) (key_spells backward cs all) in
+    let bound = key_length (flat_map units_of (key_text backward cs)) (key_text backward cs)
+    (key_spells backward cs all) in
     let same = turned_length backward cs in
     omega (arith, bound, same)
+
+-- and at least one, where there is a character
+no_units : (key cs : List ℕ) → characters_of_units key ≡ Some cs → 0 < length cs → 0 < length key
+unfolding characters_of_units
+no_units [] cs e some = absurd (let none = ap length (same_Some [] cs e) in omega (arith, none, some))
+no_units (unit ∷ units) cs e some = omega arith
+
+pub key_some : (backward : Bool) (cs : List ℕ) → All IsScalar cs → 0 < length cs
+    → 0 < length (flat_map units_of (key_text backward cs))
+key_some backward cs all some =
+    let same = turned_length backward cs in
+    no_units (flat_map units_of (key_text backward cs)) (key_text backward cs) (key_spells backward cs all)
+    (omega (arith, same, some))

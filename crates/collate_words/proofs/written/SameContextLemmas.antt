@@ -24,30 +24,37 @@ use Rattle.collate_words.proofs.written.WordFormLemmas.{not_both}
 -- what unit tries keep when other units follow them
 pub record AreKeptLonger : Type 0 where
   pub grammar : (units more : List ℕ) → IsUnitTrie units → units ≢ [] → IsUnitTrie (units ++ more)
-  pub values : (units more key : List ℕ) → IsUnitTrie units → units ≢ [] → value_of_key (units ++ more) key ≡ value_of_key units key
+  pub values : (units more key : List ℕ) → IsUnitTrie units → units ≢ [] → value_of_key (units ++ more) key
+      ≡ value_of_key units key
 
 -- a context reads the same in a longer list
 pub record IsSameContext (contexts longer : List ℕ) (place : ℕ) : Type 0 where
   pub default_is : default_word longer place ≡ default_word contexts place
   pub grammar : IsUnitTrie (trie_of longer place)
   pub words : (cs : List ℕ) → word_in_context longer place cs ≡ word_in_context contexts place cs
-  pub maps : (key : List ℕ) (number : ℤ) → MapsKey (trie_of longer place) (at_node 0) key number ↔ MapsKey (trie_of contexts place) (at_node 0) key number
+  pub maps : (key : List ℕ) (number : ℤ) → MapsKey (trie_of longer place) (at_node 0) key number ↔ MapsKey
+      (trie_of contexts place) (at_node 0) key number
 
-pub same_context : AreKeptLonger → (contexts longer : List ℕ) (place : ℕ) → IsFrontOf contexts longer → place + 2 < length contexts
+pub same_context : AreKeptLonger → (contexts longer : List ℕ) (place : ℕ) → IsFrontOf contexts longer
+    → place + 2 < length contexts
     → IsUnitTrie (trie_of contexts place) → IsSameContext contexts longer place
 unfolding word_in_context
 same_context kept contexts longer place front inside trie =
     let units = trie_of contexts place in
     let is : trie_of longer place ≡ units ++ front.0 =
     ap (drop (place + 2)) front.1 ∙ drop-append-le (place + 2) contexts front.0 (omega (arith, inside)) in
-    let some : units ≢ [] = λ none. (let l = ap length none in let d = length-drop (place + 2) contexts in omega (arith, l, d, inside)) in
-    let grammar : IsUnitTrie (trie_of longer place) = subst IsUnitTrie (sym is) (kept.grammar units front.0 trie some) in
+    let some : units ≢ [] = λ none. (let l = ap length none in let d = length-drop (place + 2) contexts in omega
+    (arith, l, d, inside)) in
+    let grammar : IsUnitTrie (trie_of longer place) = subst IsUnitTrie (sym is)
+    (kept.grammar units front.0 trie some) in
     let same : (key : List ℕ) → value_of_key (trie_of longer place) key ≡ value_of_key units key =
     λ key. (ap (λ us. value_of_key us key) is ∙ kept.values units front.0 key trie some) in
     record {
       default_is =
-          ap (λ (n : ℕ). n * 2 ^ 16 + slice_index longer (place + 1)) (slice_index-front contexts longer place front (omega (arith, inside)))
-          ∙ ap (λ (n : ℕ). slice_index contexts place * 2 ^ 16 + n) (slice_index-front contexts longer (place + 1) front (omega (arith, inside)));
+          ap (λ (n : ℕ). n * 2 ^ 16 + slice_index longer (place + 1))
+          (slice_index-front contexts longer place front (omega (arith, inside)))
+          ∙ ap (λ (n : ℕ). slice_index contexts place * 2 ^ 16 + n)
+          (slice_index-front contexts longer (place + 1) front (omega (arith, inside)));
       grammar = grammar;
       words = λ cs. ap (option_map (cast_unsigned w32)) (same (flat_map units_of cs));
       maps = λ key number. (
@@ -72,11 +79,13 @@ below_longer n len more few h = let inside = ltb-true n len h in lt-ltb n more (
 
 module _ (pools larger : Pools) (grows : Grows pools larger) where
   -- the word of a digit is in the list
-  pub digit_inside : (word : ℕ) → has_tag Digit word ≡ true → has_digit_word pools word ≡ true → index_of word < length pools.ce32s
+  pub digit_inside : (word : ℕ) → has_tag Digit word ≡ true → has_digit_word pools word ≡ true
+      → index_of word < length pools.ce32s
   digit_inside word tag h =
       ⊎_elim
       (λ (none : not (has_tag Digit word) ≡ true). not_both (not (has_tag Digit word)) none (ap not tag))
-      (λ (some : (ltb (index_of word) (length pools.ce32s) && has_items pools (slice_index pools.ce32s (index_of word))) ≡ true).
+      (λ (some : (ltb (index_of word) (length pools.ce32s) && has_items pools
+      (slice_index pools.ce32s (index_of word))) ≡ true).
       ltb-true (index_of word) (length pools.ce32s) (and_parts (ltb (index_of word) (length pools.ce32s)) _ some).0)
       (or_cases (not (has_tag Digit word)) _ h)
 
@@ -84,16 +93,21 @@ module _ (pools larger : Pools) (grows : Grows pools larger) where
   digit_longer word h =
       ⊎_elim
       (λ (none : not (has_tag Digit word) ≡ true). or_left (not (has_tag Digit word)) _ none)
-      (λ (some : (ltb (index_of word) (length pools.ce32s) && has_items pools (slice_index pools.ce32s (index_of word))) ≡ true).
+      (λ (some : (ltb (index_of word) (length pools.ce32s) && has_items pools
+      (slice_index pools.ce32s (index_of word))) ≡ true).
       let both = and_parts (ltb (index_of word) (length pools.ce32s)) _ some in
       let inside = ltb-true (index_of word) (length pools.ce32s) both.0 in
       or_right (not (has_tag Digit word)) _
-      (and_from (ltb (index_of word) (length larger.ce32s)) (has_items larger (slice_index larger.ce32s (index_of word)))
-      (below_longer (index_of word) (length pools.ce32s) (length larger.ce32s) (length-front pools.ce32s larger.ce32s grows.ce32s) both.0)
-      (subst (λ one. has_items larger one ≡ true) (sym (slice_index-front pools.ce32s larger.ce32s (index_of word) grows.ce32s inside))
+      (and_from (ltb (index_of word) (length larger.ce32s)) (has_items larger
+      (slice_index larger.ce32s (index_of word)))
+      (below_longer (index_of word) (length pools.ce32s) (length larger.ce32s)
+      (length-front pools.ce32s larger.ce32s grows.ce32s) both.0)
+      (subst (λ one. has_items larger one ≡ true) (sym (slice_index-front pools.ce32s larger.ce32s
+      (index_of word) grows.ce32s inside))
       (has_items-larger pools larger grows (slice_index pools.ce32s (index_of word)) both.1))))
       (or_cases (not (has_tag Digit word)) _ h)
 
   pub context_longer : (word : ℕ) → has_context pools word ≡ true → has_context larger word ≡ true
   context_longer word h =
-      below_longer (index_of word + 2) (length pools.contexts) (length larger.contexts) (length-front pools.contexts larger.contexts grows.contexts) h
+      below_longer (index_of word + 2) (length pools.contexts) (length larger.contexts)
+      (length-front pools.contexts larger.contexts grows.contexts) h

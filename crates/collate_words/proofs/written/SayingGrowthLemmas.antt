@@ -47,7 +47,8 @@ module _
   unprefixed_longer = at (has_tag Prefix word) refl
     where
       at : (b : Bool) → has_tag Prefix word ≡ b → unprefixed_word larger word ≡ unprefixed_word pools word
-      at true t = unprefixed_default larger word t ∙ (prefix_context t).default_is ∙ sym (unprefixed_default pools word t)
+      at true t = unprefixed_default larger word t ∙ (prefix_context t).default_is
+          ∙ sym (unprefixed_default pools word t)
       at false f = unprefixed_same larger word f ∙ sym (unprefixed_same pools word f)
 
   -- the word where no prefix counts
@@ -83,26 +84,37 @@ module _
   lone_longer : lone_word larger word ≡ lone_word pools word
   lone_longer = at (has_tag Contraction behind) (has_tag Digit behind) refl refl
     where
-      at : (b d : Bool) → has_tag Contraction behind ≡ b → has_tag Digit behind ≡ d → lone_word larger word ≡ lone_word pools word
+      at : (b d : Bool) → has_tag Contraction behind ≡ b → has_tag Digit behind ≡ d → lone_word larger word
+          ≡ lone_word pools word
       at true d t is =
-          lone_default larger word behind is_behind_longer t ∙ (suffix_context t).default_is ∙ sym (lone_default pools word behind is_behind t)
+          lone_default larger word behind is_behind_longer t ∙ (suffix_context t).default_is
+          ∙ sym (lone_default pools word behind is_behind t)
       at false true f is =
-          let inside = digit_inside pools larger grows behind is (and_parts (has_items pools behind) (has_digit_word pools behind) behind_inside.0).1 in
+          let inside = digit_inside pools larger grows behind is
+          (and_parts (has_items pools behind) (has_digit_word pools behind) behind_inside.0).1 in
           lone_digit larger word behind is_behind_longer f is
           ∙ slice_index-front pools.ce32s larger.ce32s (index_of behind) grows.ce32s inside
           ∙ sym (lone_digit pools word behind is_behind f is)
-      at false false f is = lone_plain larger word behind is_behind_longer f is ∙ sym (lone_plain pools word behind is_behind f is)
+      at false false f is = lone_plain larger word behind is_behind_longer f is
+          ∙ sym (lone_plain pools word behind is_behind f is)
 
   lone_says : IsOwnWord larger (lone_word larger word) saying.own saying.offset
   lone_says =
-      subst (λ w. IsOwnWord larger w saying.own saying.offset) (sym lone_longer) (stay (lone_word pools word) saying.own saying.offset says.lone)
+      subst (λ w. IsOwnWord larger w saying.own saying.offset) (sym lone_longer)
+      (stay (lone_word pools word) saying.own saying.offset says.lone)
 
-  own_among : (one : ℕ) → IsAmong pools word one → (elements : Option (List Element)) × (offset : Option ℕ) × IsOwnWord pools one elements offset
+  own_among : (one : ℕ) → IsAmong pools word one → (elements : Option (List Element)) × (offset : Option ℕ)
+      × IsOwnWord pools one elements offset
   own_among one among = at (says.within one among)
     where
       at : (one ≡ lone_word pools word) ⊎ IsBesideWord pools saying one
           → (elements : Option (List Element)) × (offset : Option ℕ) × IsOwnWord pools one elements offset
-      at (inl e) = (saying.own, saying.offset, subst (λ w. IsOwnWord pools w saying.own saying.offset) (sym e) says.lone)
+      at (inl e) = (
+        saying.own,
+        saying.offset,
+        subst (λ w. IsOwnWord pools w saying.own saying.offset)
+            (sym e) says.lone,
+      )
       at (inr beside) = (Some beside.0.elements, None, beside.2)
 
   elements_longer : (one : ℕ) → IsAmong pools word one → elements_of_word larger one ≡ elements_of_word pools one
@@ -116,7 +128,11 @@ module _
 
   among_behind : has_tag Contraction behind ≡ true → (one : ℕ) → HasValue pools behind one → IsAmong pools word one
   among_behind t one has =
-      inr (inl (subst (λ w. IsTrue (has_tag Contraction w)) (sym is_behind) t, subst (λ w. HasValue pools w one) (sym is_behind) has))
+      inr (inl (
+        subst (λ w. IsTrue (has_tag Contraction w)) (sym is_behind) t,
+        subst (λ w. HasValue pools w one)
+            (sym is_behind) has,
+      ))
 
   among_before : has_tag Prefix word ≡ true → (one : ℕ) → HasValue pools word one → IsAmong pools word one
   among_before t one has = inr (inr (t, has))
@@ -128,31 +144,48 @@ module _
   readable_before t = ((says.before.keys t).grammar, (says.before.keys t).counted)
 
   value_behind : (t : has_tag Contraction behind ≡ true) (key : List ℕ) (number : ℤ)
-      → MapsKey (trie_of larger.contexts (index_of behind)) (at_node 0) key number → IsAmong pools word (cast_unsigned w32 number)
+      → MapsKey (trie_of larger.contexts (index_of behind)) (at_node 0) key number
+      → IsAmong pools word (cast_unsigned w32 number)
   value_behind t key number maps =
-      among_behind t (cast_unsigned w32 number) (key, number, readable_behind t, ((suffix_context t).maps key number).0 maps, refl)
+      among_behind t (cast_unsigned w32 number) (
+        key,
+        number,
+        readable_behind t,
+        ((suffix_context t).maps key number).0 maps,
+        refl,
+      )
 
   value_before : (t : has_tag Prefix word ≡ true) (key : List ℕ) (number : ℤ)
-      → MapsKey (trie_of larger.contexts (index_of word)) (at_node 0) key number → IsAmong pools word (cast_unsigned w32 number)
+      → MapsKey (trie_of larger.contexts (index_of word)) (at_node 0) key number
+      → IsAmong pools word (cast_unsigned w32 number)
   value_before t key number maps =
-      among_before t (cast_unsigned w32 number) (key, number, readable_before t, ((prefix_context t).maps key number).0 maps, refl)
+      among_before t (cast_unsigned w32 number) (
+        key,
+        number,
+        readable_before t,
+        ((prefix_context t).maps key number).0 maps,
+        refl,
+      )
 
   -- ---- Its form
 
   -- the word behind, by itself
   own_behind : has_tag Contraction behind ≡ true → IsOwnWord larger (default_of larger behind) saying.own saying.offset
-  own_behind t = subst (λ w. IsOwnWord larger w saying.own saying.offset) (lone_default larger word behind is_behind_longer t) lone_says
+  own_behind t = subst (λ w. IsOwnWord larger w saying.own saying.offset)
+      (lone_default larger word behind is_behind_longer t) lone_says
 
   form_behind : IsUnprefixed pools behind → IsUnprefixed larger behind
   form_behind (inl own) =
       let contraction = untagged pools behind Contraction (omega arith) (omega arith) own in
       let digit = untagged pools behind Digit (omega arith) (omega arith) own in
-      inl (subst (λ w. is_own_word larger w ≡ true) (lone_plain larger word behind is_behind_longer contraction digit) lone_says.form)
+      inl (subst (λ w. is_own_word larger w ≡ true)
+      (lone_plain larger word behind is_behind_longer contraction digit) lone_says.form)
   form_behind (inr (form, values)) =
       let has_form_too = (and_parts (has_form Contraction behind) _ form).0 in
       let t = tag_of_form Contraction behind has_form_too in
       inr (
-        and_from (has_form Contraction behind) (is_own_word larger (default_of larger behind)) has_form_too (own_behind t).form,
+        and_from (has_form Contraction behind) (is_own_word larger (default_of larger behind)) has_form_too
+            (own_behind t).form,
         λ readable key number maps. form_longer (cast_unsigned w32 number) (value_behind t key number maps),
       )
 
@@ -167,8 +200,10 @@ module _
       let digit = and_parts (has_form Digit word) _ h in
       let t = tag_of_form Digit word digit.0 in
       let prefix : has_tag Prefix word ≡ false = other_tag Prefix Digit word t (λ same. omega (arith, same)) in
-      let contraction : has_tag Contraction word ≡ false = other_tag Contraction Digit word t (λ same. omega (arith, same)) in
-      let own = subst (λ w. is_own_word larger w ≡ true) (lone_digit larger word word (unprefixed_same larger word prefix) contraction t) lone_says.form in
+      let contraction : has_tag Contraction word ≡ false = other_tag Contraction Digit word t
+      (λ same. omega (arith, same)) in
+      let own = subst (λ w. is_own_word larger w ≡ true) (lone_digit larger word word
+      (unprefixed_same larger word prefix) contraction t) lone_says.form in
       inl (and_from (has_form Digit word) _ digit.0 (and_from _ _ (and_parts _ _ digit.1).0 own))
   word_longer (inr (inl h)) = at (has_tag Prefix word) refl
     where
@@ -176,10 +211,12 @@ module _
       at true t = absurd (unprefixed_tag h)
         where
           unprefixed_tag : IsUnprefixed pools word → ⊥
-          unprefixed_tag (inl own) = not_both (has_tag Prefix word) t (untagged pools word Prefix (omega arith) (omega arith) own)
+          unprefixed_tag (inl own) = not_both (has_tag Prefix word) t
+              (untagged pools word Prefix (omega arith) (omega arith) own)
           unprefixed_tag (inr (form, values)) =
               not_both (has_tag Prefix word) t
-              (other_tag Prefix Contraction word (tag_of_form Contraction word (and_parts (has_form Contraction word) _ form).0) (λ same. omega (arith, same)))
+              (other_tag Prefix Contraction word (tag_of_form Contraction word
+              (and_parts (has_form Contraction word) _ form).0) (λ same. omega (arith, same)))
       at false f =
           let same : behind ≡ word = sym is_behind ∙ unprefixed_same pools word f in
           inr (inl (subst (IsUnprefixed larger) same (form_behind (subst (IsUnprefixed pools) (sym same) h))))
@@ -187,23 +224,28 @@ module _
       let t = tag_of_form Prefix word form in
       inr (inr (
         form,
-        subst (IsUnprefixed larger) (sym (default_is_behind_longer t)) (form_behind (subst (IsUnprefixed pools) (default_is_behind t) unprefixed)),
+        subst (IsUnprefixed larger) (sym (default_is_behind_longer t))
+            (form_behind (subst (IsUnprefixed pools) (default_is_behind t) unprefixed)),
         λ readable key number maps. form_longer (cast_unsigned w32 number) (value_before t key number maps),
       ))
 
   -- ---- What it names
 
-  items_and_digit : (one : ℕ) → (has_items pools one && has_digit_word pools one) ≡ true → (has_items larger one && has_digit_word larger one) ≡ true
+  items_and_digit : (one : ℕ) → (has_items pools one && has_digit_word pools one) ≡ true
+      → (has_items larger one && has_digit_word larger one) ≡ true
   items_and_digit one h =
       let both = and_parts (has_items pools one) (has_digit_word pools one) h in
-      and_from (has_items larger one) (has_digit_word larger one) (has_items-larger pools larger grows one both.0) (digit_longer pools larger grows one both.1)
+      and_from (has_items larger one) (has_digit_word larger one) (has_items-larger pools larger grows one both.0)
+      (digit_longer pools larger grows one both.1)
 
   behind_inside_longer : IsUnprefixedInside larger behind
   behind_inside_longer = (
     items_and_digit behind behind_inside.0,
     λ t.
-        let both = and_parts (has_context pools behind) (has_items pools (default_of pools behind)) (behind_inside.1 t).0 in (
-          and_from (has_context larger behind) (has_items larger (default_of larger behind)) (context_longer pools larger grows behind both.0) (own_behind t).inside,
+        let both = and_parts (has_context pools behind) (has_items pools (default_of pools behind))
+        (behind_inside.1 t).0 in (
+          and_from (has_context larger behind) (has_items larger (default_of larger behind))
+              (context_longer pools larger grows behind both.0) (own_behind t).inside,
           λ readable key number maps. inside_longer (cast_unsigned w32 number) (value_behind t key number maps),
         ),
   )
@@ -218,7 +260,8 @@ module _
       at true t = (
         (
           items_and_digit word says.inside.0.0,
-          λ h. not_both (has_tag Contraction word) h (other_tag Contraction Prefix word t (λ same. omega (arith, same))),
+          λ h. not_both (has_tag Contraction word) h (other_tag Contraction Prefix word t
+              (λ same. omega (arith, same))),
         ),
         λ h. (
           context_longer pools larger grows word (says.inside.1 t).0,
@@ -234,7 +277,8 @@ module _
       → option_and_then (elements_of_word larger) (word_in_context larger.contexts place cs)
       ≡ option_and_then (elements_of_word pools) (word_in_context pools.contexts place cs)
   context_elements place cs same among =
-      ap (option_and_then (elements_of_word larger)) (same.words cs) ∙ at (word_in_context pools.contexts place cs) among
+      ap (option_and_then (elements_of_word larger)) (same.words cs)
+      ∙ at (word_in_context pools.contexts place cs) among
     where
       at : (o : Option ℕ) → ((one : ℕ) → o ≡ Some one → IsAmong pools word one)
           → option_and_then (elements_of_word larger) o ≡ option_and_then (elements_of_word pools) o
@@ -246,10 +290,12 @@ module _
   suffixes_longer cs = at (has_tag Contraction behind) refl
     where
       at : (b : Bool) → has_tag Contraction behind ≡ b
-          → option_and_then (elements_of_word larger) (suffix_word larger word cs) ≡ option_and_then (elements_of_word pools) (suffix_word pools word cs)
+          → option_and_then (elements_of_word larger) (suffix_word larger word cs)
+          ≡ option_and_then (elements_of_word pools) (suffix_word pools word cs)
       at true t =
           ap (option_and_then (elements_of_word larger)) (suffix_some larger word behind is_behind_longer cs t)
-          ∙ context_elements (index_of behind) cs (suffix_context t) (λ one e. among_behind t one (value_in pools behind cs one (readable_behind t) e))
+          ∙ context_elements (index_of behind) cs (suffix_context t)
+          (λ one e. among_behind t one (value_in pools behind cs one (readable_behind t) e))
           ∙ sym (ap (option_and_then (elements_of_word pools)) (suffix_some pools word behind is_behind cs t))
       at false f =
           ap (option_and_then (elements_of_word larger)) (suffix_none larger word behind is_behind_longer cs f)
@@ -260,7 +306,8 @@ module _
   prefixes_longer cs = at (has_tag Prefix word) refl
     where
       at : (b : Bool) → has_tag Prefix word ≡ b
-          → option_and_then (elements_of_word larger) (prefix_word larger word cs) ≡ option_and_then (elements_of_word pools) (prefix_word pools word cs)
+          → option_and_then (elements_of_word larger) (prefix_word larger word cs)
+          ≡ option_and_then (elements_of_word pools) (prefix_word pools word cs)
       at true t =
           ap (option_and_then (elements_of_word larger)) (prefix_some larger word cs t)
           ∙ context_elements (index_of word) (reverse cs) (prefix_context t)
@@ -284,7 +331,8 @@ module _
       let has = subst (λ w. HasValue larger w one) is_behind_longer among.1 in
       within_said one (says.within one (subst (IsAmong pools word) has.4 (value_behind t has.0 has.1 has.3)))
   within_longer one (inr (inr among)) =
-      within_said one (says.within one (subst (IsAmong pools word) among.1.4 (value_before among.0 among.1.0 among.1.1 among.1.3)))
+      within_said one (says.within one (subst (IsAmong pools word) among.1.4
+      (value_before among.0 among.1.0 among.1.1 among.1.3)))
 
   pub says_longer : SaysOf larger word saying
   says_longer = record {
@@ -295,13 +343,16 @@ module _
     digit = says.digit;
     suffixes = λ d ds scalars. suffixes_longer (d ∷ ds) ∙ says.suffixes d ds scalars;
     prefixes = λ b bs scalars. prefixes_longer (b ∷ bs) ∙ says.prefixes b bs scalars;
-    behind = subst (λ w. HasContext larger Contraction w (texts_beside saying.suffixes)) (sym is_behind_longer) (record {
-      some = keys_behind.some;
-      keys = λ t. keys_same pools.contexts larger.contexts (index_of behind) (texts_beside saying.suffixes) (suffix_context t) (keys_behind.keys t);
-    });
+    behind = subst (λ w. HasContext larger Contraction w (texts_beside saying.suffixes)) (sym is_behind_longer)
+        (record {
+          some = keys_behind.some;
+          keys = λ t. keys_same pools.contexts larger.contexts (index_of behind) (texts_beside saying.suffixes)
+              (suffix_context t) (keys_behind.keys t);
+        });
     before = record {
       some = says.before.some;
-      keys = λ t. keys_same pools.contexts larger.contexts (index_of word) (texts_backward saying.prefixes) (prefix_context t) (says.before.keys t);
+      keys = λ t. keys_same pools.contexts larger.contexts (index_of word) (texts_backward saying.prefixes)
+          (prefix_context t) (says.before.keys t);
     };
     flags = subst (λ w. IsTrue (has_tag Contraction w) → HasFlags w saying) (sym unprefixed_longer) says.flags;
     within = within_longer;

@@ -29,13 +29,18 @@ use Rattle.collate_words.proofs.written.WordFormLemmas.{form_of_low, lone_defaul
 
 -- ---- Words that name no context
 
-module _ (pools : Pools) (word : ℕ) (saying : Saying) (prefix : has_tag Prefix word ≡ false) (contraction : has_tag Contraction word ≡ false) where
+module _ (pools : Pools) (word : ℕ) (saying : Saying) (prefix : has_tag Prefix word ≡ false)
+    (contraction : has_tag Contraction word ≡ false) where
   no_contraction : has_tag Contraction (unprefixed_word pools word) ≡ false
   no_contraction = ap (has_tag Contraction) (unprefixed_same pools word prefix) ∙ contraction
 
   bare_inside : has_items pools word ≡ true → has_digit_word pools word ≡ true → IsInside pools word
   bare_inside items digit = (
-    (and_from (has_items pools word) (has_digit_word pools word) items digit, λ h. not_both (has_tag Contraction word) h contraction),
+    (
+      and_from (has_items pools word) (has_digit_word pools word) items digit,
+      λ h. not_both
+          (has_tag Contraction word) h contraction,
+    ),
     λ h. not_both (has_tag Prefix word) h prefix,
   )
 
@@ -44,8 +49,10 @@ module _ (pools : Pools) (word : ℕ) (saying : Saying) (prefix : has_tag Prefix
   bare_within one (inr (inl among)) = not_both (has_tag Contraction (unprefixed_word pools word)) among.0 no_contraction
   bare_within one (inr (inr among)) = not_both (has_tag Prefix word) among.0 prefix
 
-  bare_says : word < 2 ^ 32 → IsWord Root pools word → IsInside pools word → IsOwnWord pools (lone_word pools word) saying.own saying.offset
-      → cond (has_tag Digit word) (Some (digit_value word)) None ≡ saying.digit → saying.suffixes ≡ [] → saying.prefixes ≡ [] → SaysOf pools word saying
+  bare_says : word < 2 ^ 32 → IsWord Root pools word → IsInside pools word
+      → IsOwnWord pools (lone_word pools word) saying.own saying.offset
+      → cond (has_tag Digit word) (Some (digit_value word)) None ≡ saying.digit → saying.suffixes ≡ []
+      → saying.prefixes ≡ [] → SaysOf pools word saying
   bare_says fits form inside lone digit behind before = record {
     fits = fits;
     form = form;
@@ -53,7 +60,8 @@ module _ (pools : Pools) (word : ℕ) (saying : Saying) (prefix : has_tag Prefix
     lone = lone;
     digit = digit;
     suffixes = λ d ds scalars.
-        ap (option_and_then (elements_of_word pools)) (suffix_none pools word word (unprefixed_same pools word prefix) (d ∷ ds) contraction)
+        ap (option_and_then (elements_of_word pools)) (suffix_none pools word word (unprefixed_same pools word prefix)
+        (d ∷ ds) contraction)
         ∙ sym (ap (λ saids. elements_beside saids (d ∷ ds)) behind);
     prefixes = λ b bs scalars.
         ap (option_and_then (elements_of_word pools)) (prefix_none pools word (b ∷ bs) prefix)
@@ -62,7 +70,11 @@ module _ (pools : Pools) (word : ℕ) (saying : Saying) (prefix : has_tag Prefix
       some = λ h. not_both (has_tag Contraction (unprefixed_word pools word)) h no_contraction;
       keys = λ h. not_both (has_tag Contraction (unprefixed_word pools word)) h no_contraction;
     };
-    before = record { some = λ h. not_both (has_tag Prefix word) h prefix; keys = λ h. not_both (has_tag Prefix word) h prefix };
+    before = record {
+      some = λ h. not_both (has_tag Prefix word) h prefix;
+      keys = λ h. not_both
+          (has_tag Prefix word) h prefix;
+    };
     flags = λ h. not_both (has_tag Contraction (unprefixed_word pools word)) h no_contraction;
     within = bare_within;
   }
@@ -72,23 +84,28 @@ pub own_says : (pools : Pools) (word : ℕ) (own : Option (List Element)) (offse
     → IsOwnWord pools word own offset → SaysOf pools word (saying_behind own offset [] flags)
 own_says pools word own offset flags is =
     let prefix : has_tag Prefix word ≡ false = untagged pools word Prefix (omega arith) (omega arith) is.form in
-    let contraction : has_tag Contraction word ≡ false = untagged pools word Contraction (omega arith) (omega arith) is.form in
+    let contraction : has_tag Contraction word ≡ false = untagged pools word Contraction (omega arith)
+    (omega arith) is.form in
     let digit : has_tag Digit word ≡ false = untagged pools word Digit (omega arith) (omega arith) is.form in
     bare_says pools word (saying_behind own offset [] flags) prefix contraction is.fits
     (inr (inl (inl is.form)))
-    (bare_inside pools word (saying_behind own offset [] flags) prefix contraction is.inside (no_digit_word pools word digit))
-    (subst (λ one. IsOwnWord pools one own offset) (sym (lone_plain pools word word (unprefixed_same pools word prefix) contraction digit)) is)
+    (bare_inside pools word (saying_behind own offset [] flags) prefix contraction is.inside
+    (no_digit_word pools word digit))
+    (subst (λ one. IsOwnWord pools one own offset) (sym (lone_plain pools word word
+    (unprefixed_same pools word prefix) contraction digit)) is)
     (cond-false (has_tag Digit word) (Some (digit_value word)) None digit)
     refl refl
 
 -- the word of a digit
 pub digit_says : (pools : Pools) (word value one : ℕ) (saying : Saying) → IsDigitOver pools word value one → value ≤ 9
-    → IsOwnWord pools one saying.own saying.offset → saying.digit ≡ Some value → saying.suffixes ≡ [] → saying.prefixes ≡ []
+    → IsOwnWord pools one saying.own saying.offset → saying.digit ≡ Some value → saying.suffixes ≡ []
+    → saying.prefixes ≡ []
     → SaysOf pools word saying
 digit_says pools word value one saying is low own digit behind before =
     let tag : has_tag Digit word ≡ true = tag_of_form Digit word is.form in
     let prefix : has_tag Prefix word ≡ false = other_tag Prefix Digit word tag (λ same. omega (arith, same)) in
-    let contraction : has_tag Contraction word ≡ false = other_tag Contraction Digit word tag (λ same. omega (arith, same)) in
+    let contraction : has_tag Contraction word ≡ false = other_tag Contraction Digit word tag
+    (λ same. omega (arith, same)) in
     let over : IsOwnWord pools (slice_index pools.ce32s (index_of word)) saying.own saying.offset =
     subst (λ w. IsOwnWord pools w saying.own saying.offset) (sym is.over) own in
     bare_says pools word saying prefix contraction is.fits
@@ -97,18 +114,23 @@ digit_says pools word value one saying is low own digit behind before =
     (le-leb (digit_value word) 9 (let says = is.says in omega (arith, says, low))) over.form)))
     (bare_inside pools word saying prefix contraction
     (no_items pools word Digit (omega arith) (omega arith) tag)
-    (or_right _ _ (and_from (ltb (index_of word) (length pools.ce32s)) (has_items pools (slice_index pools.ce32s (index_of word)))
+    (or_right _ _ (and_from (ltb (index_of word) (length pools.ce32s))
+    (has_items pools (slice_index pools.ce32s (index_of word)))
     (lt-ltb (index_of word) (length pools.ce32s) is.inside) over.inside)))
-    (subst (λ w. IsOwnWord pools w saying.own saying.offset) (sym (lone_digit pools word word (unprefixed_same pools word prefix) contraction tag)) over)
+    (subst (λ w. IsOwnWord pools w saying.own saying.offset)
+    (sym (lone_digit pools word word (unprefixed_same pools word prefix) contraction tag)) over)
     (cond-true (has_tag Digit word) (Some (digit_value word)) None tag ∙ ap (λ n. Some n) is.says ∙ sym digit)
     behind before
 
 -- ---- Words over contexts
 
 -- the word of a character that others stand behind
-pub contraction_says : (pools : Pools) (word one : ℕ) (own : Option (List Element)) (offset : Option ℕ) (saids : List SaidBeside) (flags : SuffixFlags)
-    (keys : List (List ℕ × ℕ)) → word < 2 ^ 32 → HasFields word (index_of word) 0xc9 flags.all_begin flags.one_ends flags.one_holds
-    → IsOwnWord pools one own offset → AreBeside 7 saids → saids ≢ [] → IsContext pools.contexts (index_of word) one keys → AreKeysOf pools false saids keys
+pub contraction_says : (pools : Pools) (word one : ℕ) (own : Option (List Element)) (offset : Option ℕ)
+    (saids : List SaidBeside) (flags : SuffixFlags)
+    (keys : List (List ℕ × ℕ)) → word < 2 ^ 32
+    → HasFields word (index_of word) 0xc9 flags.all_begin flags.one_ends flags.one_holds
+    → IsOwnWord pools one own offset → AreBeside 7 saids → saids ≢ []
+    → IsContext pools.contexts (index_of word) one keys → AreKeysOf pools false saids keys
     → SaysOf pools word (saying_behind own offset saids flags)
 contraction_says pools word one own offset saids flags keys small fields is beside some context keyed =
     record {
@@ -136,7 +158,11 @@ contraction_says pools word one own offset saids flags keys small fields is besi
           ∙ elements_by pools word one 7 false saids keys few beside context keyed (d ∷ ds) scalars;
       prefixes = λ b bs scalars. ap (option_and_then (elements_of_word pools)) (prefix_none pools word (b ∷ bs) prefix);
       behind = subst (λ w. HasContext pools Contraction w (texts_beside saids)) (sym same) behind;
-      before = record { some = λ h. not_both (has_tag Prefix word) h prefix; keys = λ h. not_both (has_tag Prefix word) h prefix };
+      before = record {
+        some = λ h. not_both (has_tag Prefix word) h prefix;
+        keys = λ h. not_both
+            (has_tag Prefix word) h prefix;
+      };
       flags = subst (λ w. IsTrue (has_tag Contraction w) → HasFlags w (saying_behind own offset saids flags)) (sym same)
           (λ h. record { all_begin = fields.first; one_ends = fields.second; one_holds = fields.third });
       within = within;
@@ -176,17 +202,22 @@ contraction_says pools word one own offset saids flags keys small fields is besi
       keys = λ h. keys_are pools word one 7 false saids keys few beside context keyed;
     }
 
-    within : (other : ℕ) → IsAmong pools word other → (other ≡ lone_word pools word) ⊎ IsBesideWord pools (saying_behind own offset saids flags) other
+    within : (other : ℕ) → IsAmong pools word other → (other ≡ lone_word pools word)
+        ⊎ IsBesideWord pools (saying_behind own offset saids flags) other
     within other (inl e) = inl e
     within other (inr (inl among)) =
-        let has = value_said pools word one 7 false saids keys few beside context keyed other (subst (λ w. HasValue pools w other) same among.1) in
+        let has = value_said pools word one 7 false saids keys few beside context keyed other
+        (subst (λ w. HasValue pools w other) same among.1) in
         inr (has.0, inl has.1, has.2)
     within other (inr (inr among)) = not_both (has_tag Prefix word) among.0 prefix
 
 -- the word of a character that others stand before
-pub prefix_says : (pools : Pools) (word one : ℕ) (saying : Saying) (saids : List SaidBeside) (keys : List (List ℕ × ℕ)) → word < 2 ^ 32
-    → word % 2 ^ 8 ≡ 0xc8 → SaysOf pools one saying → saying.prefixes ≡ [] → saying.digit ≡ None → AreBeside 3 saids → saids ≢ []
-    → IsContext pools.contexts (index_of word) one keys → AreKeysOf pools true saids keys → SaysOf pools word (saying_before saying saids)
+pub prefix_says : (pools : Pools) (word one : ℕ) (saying : Saying) (saids : List SaidBeside)
+    (keys : List (List ℕ × ℕ)) → word < 2 ^ 32
+    → word % 2 ^ 8 ≡ 0xc8 → SaysOf pools one saying → saying.prefixes ≡ [] → saying.digit ≡ None → AreBeside 3 saids
+    → saids ≢ []
+    → IsContext pools.contexts (index_of word) one keys → AreKeysOf pools true saids keys
+    → SaysOf pools word (saying_before saying saids)
 prefix_says pools word one saying saids keys small low says before digit beside some context keyed =
     record {
       fits = small;
@@ -210,13 +241,19 @@ prefix_says pools word one saying saids keys small low says before digit beside 
       prefixes = λ b bs scalars.
           ap (option_and_then (elements_of_word pools)) (prefix_some pools word (b ∷ bs) tag)
           ∙ elements_by pools word one 3 true saids keys few beside context keyed (b ∷ bs) scalars;
-      behind = subst (λ w. HasContext pools Contraction w (texts_beside saying.suffixes)) (sym unprefixed_too) says.behind;
+      behind = subst (λ w. HasContext pools Contraction w (texts_beside saying.suffixes))
+          (sym unprefixed_too) says.behind;
       before = record {
         some = λ h e. some (none saids e);
         keys = λ h. keys_are pools word one 3 true saids keys few beside context keyed;
       };
       flags = subst (λ w. IsTrue (has_tag Contraction w) → HasFlags w (saying_before saying saids)) (sym unprefixed_too)
-          (λ h. let flags = says.flags h in record { all_begin = flags.all_begin; one_ends = flags.one_ends; one_holds = flags.one_holds });
+          (λ h. let flags = says.flags h in record {
+            all_begin = flags.all_begin;
+            one_ends = flags.one_ends;
+            one_holds
+                = flags.one_holds;
+          });
       within = within;
     }
   where
@@ -263,7 +300,8 @@ prefix_says pools word one saying saids keys small low says before digit beside 
     default_form = subst (IsUnprefixed pools) (sym context.default_is) (by_form says.form)
       where
         by_form : IsWord Root pools one → IsUnprefixed pools one
-        by_form (inl h) = not_both (has_tag Digit one) (tag_of_form Digit one (and_parts (has_form Digit one) _ h).0) one_digit
+        by_form (inl h) = not_both (has_tag Digit one) (tag_of_form Digit one
+            (and_parts (has_form Digit one) _ h).0) one_digit
         by_form (inr (inl unprefixed)) = unprefixed
         by_form (inr (inr prefixed)) = not_both (has_tag Prefix one) (tag_of_form Prefix one prefixed.0) one_prefix
 
@@ -272,7 +310,8 @@ prefix_says pools word one saying saids keys small low says before digit beside 
       where
         at : (b : Bool) → has_tag Contraction one ≡ b → lone_word pools word ≡ lone_word pools one
         at true h = lone_default pools word one unprefixed_is h ∙ sym (lone_default pools one one one_same h)
-        at false h = lone_plain pools word one unprefixed_is h one_digit ∙ sym (lone_plain pools one one one_same h one_digit)
+        at false h = lone_plain pools word one unprefixed_is h one_digit
+            ∙ sym (lone_plain pools one one one_same h one_digit)
 
     suffix_same : (cs : List ℕ) → suffix_word pools word cs ≡ suffix_word pools one cs
     suffix_same cs = at (has_tag Contraction one) refl
@@ -290,9 +329,11 @@ prefix_says pools word one saying saids keys small low says before digit beside 
         → (other ≡ lone_word pools word) ⊎ IsBesideWord pools (saying_before saying saids) other
     behind_within other (inl e) = inl (e ∙ sym lone_same)
     behind_within other (inr (said, inl has, is)) = inr (said, inl has, is)
-    behind_within other (inr (said, inr has, is)) = absurd (none_in said (subst (λ list. Contains list said) before has))
+    behind_within other (inr (said, inr has, is)) = absurd (none_in said
+        (subst (λ list. Contains list said) before has))
 
-    within : (other : ℕ) → IsAmong pools word other → (other ≡ lone_word pools word) ⊎ IsBesideWord pools (saying_before saying saids) other
+    within : (other : ℕ) → IsAmong pools word other → (other ≡ lone_word pools word)
+        ⊎ IsBesideWord pools (saying_before saying saids) other
     within other (inl e) = inl e
     within other (inr (inl among)) =
         behind_within other (says.within other (inr (inl (

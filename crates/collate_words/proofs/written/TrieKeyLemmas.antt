@@ -23,17 +23,20 @@ signed_pair key = (key.units.items, cast_signed w32 key.word)
 
 -- ---- Pairs
 
-pub has_word : (keys : List ContextKey) (key : List ℕ) (number : ℤ) → All FitsContext keys → Has (map signed_pair keys) key number
+pub has_word : (keys : List ContextKey) (key : List ℕ) (number : ℤ) → All FitsContext keys
+    → Has (map signed_pair keys) key number
     → Contains (map pair_of keys) (key, cast_unsigned w32 number)
 has_word [] key number fit has = absurd has
 has_word (first ∷ keys) key number fit (inl same) =
     let bound = (All-head FitsContext first keys fit).word in
-    let word : first.word ≡ cast_unsigned w32 number = sym (of_z-to_z w32 first.word bound) ∙ ap (cast_unsigned w32) same.1 in
+    let word : first.word ≡ cast_unsigned w32 number = sym (of_z-to_z w32 first.word bound)
+    ∙ ap (cast_unsigned w32) same.1 in
     subst (λ pair. Contains (map pair_of (first ∷ keys)) pair)
     (ap (λ (units : List ℕ). (units, first.word)) same.0 ∙ ap (λ (w : ℕ). (key, w)) word)
     (first_in (pair_of first) (map pair_of keys))
 has_word (first ∷ keys) key number fit (inr later) =
-    later_in (pair_of first) (key, cast_unsigned w32 number) (map pair_of keys) (has_word keys key number (All-tail FitsContext first keys fit) later)
+    later_in (pair_of first) (key, cast_unsigned w32 number) (map pair_of keys)
+    (has_word keys key number (All-tail FitsContext first keys fit) later)
 
 pub word_has : (keys : List ContextKey) (key : List ℕ) (word : ℕ) → Contains (map pair_of keys) (key, word)
     → Has (map signed_pair keys) key (cast_signed w32 word)
@@ -67,7 +70,8 @@ some_units [] some = absurd (some refl)
 some_units (unit ∷ units) some = omega arith
 
 some_key : (keys : List ContextKey) (units : List ℕ) → 0 < length keys
-    → ((key : List ℕ) (number : ℤ) → Has (map signed_pair keys) key number → MapsKey units (at_node 0) key number) → 0 < length units
+    → ((key : List ℕ) (number : ℤ) → Has (map signed_pair keys) key number → MapsKey units (at_node 0) key number)
+    → 0 < length units
 some_key [] units some spelled = absurd (omega (arith, some))
 some_key (first ∷ keys) units some spelled =
     some_units units
@@ -77,24 +81,30 @@ some_key (first ∷ keys) units some spelled =
     (spelled first.units.items (cast_signed w32 first.word) (inl (refl, refl)))))
 
 -- the units that are written of keys in another order
-pub keys_written : (old new : List ContextKey) (pairs : List (List ℕ × ℤ)) (units : List ℕ) → IsPermutation old new → 0 < length old
+pub keys_written : (old new : List ContextKey) (pairs : List (List ℕ × ℤ)) (units : List ℕ) → IsPermutation old new
+    → 0 < length old
     → length new ≡ length old → All FitsContext new → pairs ≡ map signed_pair new → IsUnitTrie units
-    → ((key : List ℕ) (number : ℤ) → MapsKey units (at_node 0) key number ↔ Has pairs key number) → HasKeys units (map pair_of old)
+    → ((key : List ℕ) (number : ℤ) → MapsKey units (at_node 0) key number ↔ Has pairs key number)
+    → HasKeys units (map pair_of old)
 keys_written old new pairs units permutation some same fit are grammar entries =
-    let entries_too = subst (λ ps. (key : List ℕ) (number : ℤ) → MapsKey units (at_node 0) key number ↔ Has ps key number) are entries in
+    let entries_too = subst (λ ps. (key : List ℕ) (number : ℤ)
+    → MapsKey units (at_node 0) key number ↔ Has ps key number) are entries in
     let moved = IsPermutation-map pair_of old new permutation in
     record {
       some = some_key new units (omega (arith, some, same)) (λ key number has. (entries_too key number).1 has);
       grammar = grammar;
       read = λ key number maps.
           Contains-permutation (map pair_of new) (map pair_of old) (key, cast_unsigned w32 number)
-          (IsPermutation-sym (map pair_of old) (map pair_of new) moved) (has_word new key number fit ((entries_too key number).0 maps));
+          (IsPermutation-sym (map pair_of old) (map pair_of new) moved)
+          (has_word new key number fit ((entries_too key number).0 maps));
       spelled = λ key word has.
-          (entries_too key (cast_signed w32 word)).1 (word_has new key word (Contains-permutation (map pair_of old) (map pair_of new) (key, word) moved has));
+          (entries_too key (cast_signed w32 word)).1 (word_has new key word
+          (Contains-permutation (map pair_of old) (map pair_of new) (key, word) moved has));
     }
 
 -- and how many they are
-pub written_few : (old new : List ContextKey) (pairs : List (List ℕ × ℤ)) (count size : ℕ) → length new ≡ length old → All FitsContext new
+pub written_few : (old new : List ContextKey) (pairs : List (List ℕ × ℤ)) (count size : ℕ) → length new ≡ length old
+    → All FitsContext new
     → pairs ≡ map signed_pair new → length pairs ≡ count → size ≤ 10 * total pairs + 3 * count → size ≤ 143 * length old
 written_few old new pairs count size same fit are counted bound =
     let short = total_short new fit in

@@ -22,14 +22,15 @@ use Rattle.collate_words.specs.PartSayings.{saying_before, saying_behind}
 use Rattle.collate_words.specs.Sayings.{SaidBeside, Saying}
 use Rattle.collate_words.specs.Written.{SaysOf}
 use Rattle.collate_words.proofs.growth.OwnGrowthLemmas.{IsOwnWord-larger}
-use Rattle.collate_words.proofs.written.KeyLemmas.{key_short, zip_weaker}
+use Rattle.collate_words.proofs.written.KeyLemmas.{key_short, key_some, zip_weaker}
 use Rattle.collate_words.proofs.written.SameContextLemmas.{AreKeptLonger}
 use Rattle.collate_words.proofs.written.SayingGrowthLemmas.{says_longer}
 use Rattle.collate_words.proofs.written.SayingLemmas.{contraction_says, own_says, prefix_says}
 
 -- ---- Growth
 
-pub grows_for_along : (m n : ℕ) (pools larger largest : Pools) → GrowsFor m pools larger → GrowsFor n larger largest → GrowsFor (m + n) pools largest
+pub grows_for_along : (m n : ℕ) (pools larger largest : Pools) → GrowsFor m pools larger → GrowsFor n larger largest
+    → GrowsFor (m + n) pools largest
 grows_for_along m n pools larger largest first second =
     let a = first.ces in
     let b = second.ces in
@@ -40,7 +41,8 @@ grows_for_along m n pools larger largest first second =
     record { ces = omega (arith, a, b); ce32s = omega (arith, c, d); contexts = omega (arith, e, f) }
 
 -- room for so many records, after others
-pub room_left : (m n count : ℕ) (pools larger : Pools) → m + n ≤ count → HasRoom pools count → GrowsFor m pools larger → HasRoom larger n
+pub room_left : (m n count : ℕ) (pools larger : Pools) → m + n ≤ count → HasRoom pools count → GrowsFor m pools larger
+    → HasRoom larger n
 room_left m n count pools larger few room grown =
     let a = room.ces in
     let b = grown.ces in
@@ -60,24 +62,32 @@ zip_push R (z ∷ xs) [] x y all is = absurd all
 zip_push R (z ∷ xs) (w ∷ ys) x y all is = (all.0, zip_push R xs ys x y all.1 is)
 
 -- keys stay those of what stands beside a character
-pub keys_longer : (pools larger : Pools) (backward : Bool) → Grows pools larger → (saids : List SaidBeside) (keys : List (List ℕ × ℕ))
+pub keys_longer : (pools larger : Pools) (backward : Bool) → Grows pools larger
+    → (saids : List SaidBeside) (keys : List (List ℕ × ℕ))
     → AreKeysOf pools backward saids keys → AreKeysOf larger backward saids keys
 keys_longer pools larger backward grows saids keys are =
     zip_weaker (IsKeyOf pools backward) (IsKeyOf larger backward)
-    (λ said key is. record { units = is.units; word = IsOwnWord-larger pools larger grows key.1 (Some said.elements) None is.word }) saids keys are
+    (λ said key is. record {
+      units = is.units;
+      word = IsOwnWord-larger pools larger grows key.1
+          (Some said.elements) None is.word;
+    }) saids keys are
 
-pub keys_more : (pools larger : Pools) (backward : Bool) → Grows pools larger → (saids : List SaidBeside) (keys : List (List ℕ × ℕ))
+pub keys_more : (pools larger : Pools) (backward : Bool) → Grows pools larger
+    → (saids : List SaidBeside) (keys : List (List ℕ × ℕ))
     (said : SaidBeside) (key : List ℕ × ℕ) → AreKeysOf pools backward saids keys → IsKeyOf larger backward said key
     → AreKeysOf larger backward (saids ++ said ∷ []) (keys ++ key ∷ [])
 keys_more pools larger backward grows saids keys said key are is =
     zip_push (IsKeyOf larger backward) saids keys said key (keys_longer pools larger backward grows saids keys are) is
 
 -- what is true of what stands beside a character, by its place
-pub beside_at : (most : ℕ) (besides : List Beside) (place : ℕ) (d : Beside) → place < length besides → All (IsBeside most) (map said_beside besides)
+pub beside_at : (most : ℕ) (besides : List Beside) (place : ℕ) (d : Beside) → place < length besides
+    → All (IsBeside most) (map said_beside besides)
     → IsBeside most (said_beside (get_or besides place d))
 beside_at most besides place d inside all =
     let mapped = length-map besides said_beside in
-    subst (IsBeside most) (get_or-map said_beside besides place d (said_beside d) inside) (all place (said_beside d) (omega (arith, inside, mapped)))
+    subst (IsBeside most) (get_or-map said_beside besides place d (said_beside d) inside)
+    (all place (said_beside d) (omega (arith, inside, mapped)))
 
 pub key_fits : (backward : Bool) (said : SaidBeside) (key : ContextKey) → IsBeside 7 said
     → key.units.items ≡ flat_map units_of (key_text backward said.characters) → key.word < 2 ^ 32 → FitsContext key
@@ -85,51 +95,71 @@ key_fits backward said key is units word =
     let bound = key_short backward said.characters is.scalars in
     let few = is.short in
     let same = ap length units in
-    record { short = omega (arith, bound, few, same); word = word }
+    let some = key_some backward said.characters is.scalars is.some in
+    record { some = omega (arith, some, same); short = omega (arith, bound, few, same); word = word }
 
 -- an entry of a list that says nothing, for what stands past the end
 abbrev pub no_beside : Beside
-no_beside = record { characters = record { ref_ptr = (0, 0); now = [] }; elements = record { ref_ptr = (0, 0); now = [] } }
+no_beside = record {
+  characters = record { ref_ptr = (0, 0); now = [] };
+  elements = record {
+    ref_ptr =
+        (0, 0);
+    now = [];
+  };
+}
 
-pub pushed_count : (before after : List ContextKey) (key : ContextKey) (count : ℕ) → after ≡ before ++ key ∷ [] → length before ≡ count
+pub pushed_count : (before after : List ContextKey) (key : ContextKey) (count : ℕ) → after ≡ before ++ key ∷ []
+    → length before ≡ count
     → length after ≡ count + 1
 pushed_count before after key count is counted = ap length is ∙ length_push before key ∙ ap (λ (n : ℕ). n + 1) counted
 
-pub pushed_fit : (before after : List ContextKey) (key : ContextKey) → after ≡ before ++ key ∷ [] → All FitsContext before → FitsContext key
+pub pushed_fit : (before after : List ContextKey) (key : ContextKey) → after ≡ before ++ key ∷ []
+    → All FitsContext before → FitsContext key
     → All FitsContext after
 pushed_fit before after key is fit one = subst (All FitsContext) (sym is) (All-push FitsContext before key fit one)
 
-pub pushed_keys : (pools larger : Pools) (backward : Bool) → Grows pools larger → (besides : List Beside) (place : ℕ) (d : Beside)
+pub pushed_keys : (pools larger : Pools) (backward : Bool) → Grows pools larger
+    → (besides : List Beside) (place : ℕ) (d : Beside)
     → place < length besides → (before after : List ContextKey) (key : ContextKey) → after ≡ before ++ key ∷ []
     → AreKeysOf pools backward (map said_beside (take place besides)) (map pair_of before)
     → IsKeyOf larger backward (said_beside (get_or besides place d)) (pair_of key)
     → AreKeysOf larger backward (map said_beside (take (place + 1) besides)) (map pair_of after)
 pushed_keys pools larger backward grows besides place d inside before after key is are one =
-    let pushed : map pair_of after ≡ map pair_of before ++ pair_of key ∷ [] = ap (map pair_of) is ∙ map_push pair_of before key in
-    subst (λ saids. AreKeysOf larger backward saids (map pair_of after)) (sym (map_more said_beside besides place d inside))
-    (subst (λ keys. AreKeysOf larger backward (map said_beside (take place besides) ++ said_beside (get_or besides place d) ∷ []) keys) (sym pushed)
-    (keys_more pools larger backward grows (map said_beside (take place besides)) (map pair_of before) (said_beside (get_or besides place d)) (pair_of key) are one))
+    let pushed : map pair_of after ≡ map pair_of before ++ pair_of key ∷ [] = ap (map pair_of) is
+    ∙ map_push pair_of before key in
+    subst (λ saids. AreKeysOf larger backward saids (map pair_of after))
+    (sym (map_more said_beside besides place d inside))
+    (subst (λ keys. AreKeysOf larger backward (map said_beside (take place besides) ++ said_beside
+    (get_or besides place d) ∷ []) keys) (sym pushed)
+    (keys_more pools larger backward grows (map said_beside (take place besides)) (map pair_of before)
+    (said_beside (get_or besides place d)) (pair_of key) are one))
 
 -- ---- A context at the end
 
-pub context_appended : (contexts longer : List ℕ) (place default : ℕ) (units : List ℕ) (keys : List (List ℕ × ℕ)) → place ≡ length contexts
-    → longer ≡ contexts ++ (default / 2 ^ 16 ∷ default % 2 ^ 16 ∷ units) → HasKeys units keys → IsContext longer place default keys
+pub context_appended : (contexts longer : List ℕ) (place default : ℕ) (units : List ℕ) (keys : List (List ℕ × ℕ))
+    → place ≡ length contexts
+    → longer ≡ contexts ++ (default / 2 ^ 16 ∷ default % 2 ^ 16 ∷ units) → HasKeys units keys
+    → IsContext longer place default keys
 context_appended contexts longer place default units keys at_end is has =
     let written = default / 2 ^ 16 ∷ default % 2 ^ 16 ∷ units in
     let some = has.some in
     let both = length-append contexts written in
     let count = ap length is in
     let first : slice_index longer place ≡ default / 2 ^ 16 =
-    ap (λ (xs : List ℕ). slice_index xs place) is ∙ ap (λ (n : ℕ). slice_index (contexts ++ written) n) (at_end ∙ (omega arith))
+    ap (λ (xs : List ℕ). slice_index xs place) is ∙ ap (λ (n : ℕ). slice_index (contexts ++ written) n)
+    (at_end ∙ (omega arith))
     ∙ get_or-append-add contexts written 0 0 in
     let second : slice_index longer (place + 1) ≡ default % 2 ^ 16 =
-    ap (λ (xs : List ℕ). slice_index xs (place + 1)) is ∙ ap (λ (n : ℕ). slice_index (contexts ++ written) (n + 1)) at_end
+    ap (λ (xs : List ℕ). slice_index xs (place + 1)) is ∙ ap (λ (n : ℕ). slice_index (contexts ++ written)
+    (n + 1)) at_end
     ∙ get_or-append-add contexts written 1 0 in
     let split : longer ≡ (contexts ++ (default / 2 ^ 16 ∷ default % 2 ^ 16 ∷ [])) ++ units =
     is ∙ sym (append_assoc contexts (default / 2 ^ 16 ∷ default % 2 ^ 16 ∷ []) units) in
     let front = length-append contexts (default / 2 ^ 16 ∷ default % 2 ^ 16 ∷ []) in
     let trie : trie_of longer place ≡ units =
-    ap (drop (place + 2)) split ∙ drop_at (contexts ++ (default / 2 ^ 16 ∷ default % 2 ^ 16 ∷ [])) units (place + 2) (omega (arith, front, at_end)) in
+    ap (drop (place + 2)) split ∙ drop_at (contexts ++ (default / 2 ^ 16 ∷ default % 2 ^ 16 ∷ [])) units (place + 2)
+    (omega (arith, front, at_end)) in
     record {
       inside = omega (arith, some, both, count, at_end);
       default_is = omega (arith, first, second);
@@ -148,31 +178,45 @@ pub suffixes_none : (pools : Pools) (own : ℕ) (besides : List Beside) (flags :
 suffixes_none pools own [] flags none alone offset is = own_says pools own alone offset flags is
 suffixes_none pools own (first ∷ besides) flags none alone offset is = absurd (omega (arith, none))
 
-pub suffixes_written : (old middle new : Pools) (place word own : ℕ) (besides : List Beside) (flags : SuffixFlags) (keys : List (List ℕ × ℕ))
-    → Grows old new → Grows middle new → word < 2 ^ 32 → HasFields word place 0xc9 flags.all_begin flags.one_ends flags.one_holds
+pub suffixes_written : (old middle new : Pools) (place word own : ℕ) (besides : List Beside) (flags : SuffixFlags)
+    (keys : List (List ℕ × ℕ))
+    → Grows old new → Grows middle new → word < 2 ^ 32
+    → HasFields word place 0xc9 flags.all_begin flags.one_ends flags.one_holds
     → AreBeside 7 (map said_beside besides) → 0 < length besides → IsContext new.contexts place own keys
     → AreKeysOf middle false (map said_beside besides) keys
     → (alone : Option (List Element)) (offset : Option ℕ) → IsOwnWord old own alone offset
     → SaysOf new word (saying_behind alone offset (map said_beside besides) flags)
-suffixes_written old middle new place word own besides flags keys grows grows_too small fields beside some context are alone offset is =
+suffixes_written old middle new place word own besides flags keys grows grows_too small fields beside some context are
+    alone offset is =
     contraction_says new word own alone offset (map said_beside besides) flags keys small
-    (record { place_is = refl; low_is = fields.low_is; first = fields.first; second = fields.second; third = fields.third })
+    (record {
+      place_is = refl;
+      low_is = fields.low_is;
+      first = fields.first;
+      second = fields.second;
+      third =
+          fields.third;
+    })
     (IsOwnWord-larger old new grows own alone offset is) beside (none_mapped besides some)
     (subst (λ p. IsContext new.contexts p own keys) (sym fields.place_is) context)
     (keys_longer middle new false grows_too (map said_beside besides) keys are)
 
 pub prefixes_none : (pools : Pools) (behind : ℕ) (besides : List Beside) → length besides ≡ 0
-    → (saying : Saying) → SaysOf pools behind saying → saying.prefixes ≡ [] → SaysOf pools behind (saying_before saying (map said_beside besides))
-prefixes_none pools behind [] none saying says before = subst (λ saids. SaysOf pools behind (saying_before saying saids)) before says
+    → (saying : Saying) → SaysOf pools behind saying → saying.prefixes ≡ []
+    → SaysOf pools behind (saying_before saying (map said_beside besides))
+prefixes_none pools behind [] none saying says before = subst
+    (λ saids. SaysOf pools behind (saying_before saying saids)) before says
 prefixes_none pools behind (first ∷ besides) none saying says before = absurd (omega (arith, none))
 
-pub prefixes_written : AreKeptLonger → (old middle new : Pools) (place word behind : ℕ) (besides : List Beside) (keys : List (List ℕ × ℕ))
+pub prefixes_written : AreKeptLonger → (old middle new : Pools) (place word behind : ℕ) (besides : List Beside)
+    (keys : List (List ℕ × ℕ))
     → Grows old new → Grows middle new → word < 2 ^ 32 → index_of word ≡ place → word % 2 ^ 8 ≡ 0xc8
     → AreBeside 3 (map said_beside besides) → 0 < length besides → IsContext new.contexts place behind keys
     → AreKeysOf middle true (map said_beside besides) keys
     → (saying : Saying) → SaysOf old behind saying → saying.prefixes ≡ [] → saying.digit ≡ None
     → SaysOf new word (saying_before saying (map said_beside besides))
-prefixes_written kept old middle new place word behind besides keys grows grows_too small at_place low beside some context are saying says before digit =
+prefixes_written kept old middle new place word behind besides keys grows grows_too small at_place low beside some
+    context are saying says before digit =
     prefix_says new word behind saying (map said_beside besides) keys small low
     (says_longer kept old new grows behind saying says) before digit beside (none_mapped besides some)
     (subst (λ p. IsContext new.contexts p behind keys) (sym at_place) context)
@@ -189,14 +233,17 @@ some_counted (suc n) b is other = omega arith
 
 -- ---- Whole entries
 
-pub digit_alone : (saying : Saying) (value : ℕ) → saying.digit ≡ Some value → IfSome saying.digit (IsDigitAlone saying) → IsDigitAlone saying value
+pub digit_alone : (saying : Saying) (value : ℕ) → saying.digit ≡ Some value
+    → IfSome saying.digit (IsDigitAlone saying) → IsDigitAlone saying value
 digit_alone saying value is alone = let P : Option ℕ → Type 0 = λ o. IfSome o (IsDigitAlone saying) in subst P is alone
 
 -- what is said of a character with suffixes and prefixes is what its entry says
-pub entry_said : (pools : Pools) (word : ℕ) (entry : Entry) (suffixes prefixes : List Beside) → suffixes ≡ entry.suffixes.items
+pub entry_said : (pools : Pools) (word : ℕ) (entry : Entry) (suffixes prefixes : List Beside) → suffixes
+    ≡ entry.suffixes.items
     → prefixes ≡ entry.prefixes.items → entry.digit ≡ None
     → SaysOf pools word
-    (saying_before (saying_behind (option_copied entry.own) entry.offset (map said_beside suffixes) entry.flags) (map said_beside prefixes))
+    (saying_before (saying_behind (option_copied entry.own) entry.offset (map said_beside suffixes) entry.flags)
+    (map said_beside prefixes))
     → SaysOf pools word (saying_of entry)
 entry_said pools word entry suffixes prefixes of_suffixes of_prefixes none says =
     let make : List Beside → List Beside → Option ℕ → Saying = λ behind before digit. record {

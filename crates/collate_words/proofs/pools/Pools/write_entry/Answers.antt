@@ -15,11 +15,13 @@ pub returns-in-Some-clause-says : goal.returns-in-Some-clause-says
 returns-in-Some-clause-says c =
     let saying = saying_of c.args.entry.now in
     let alone = digit_alone saying c.in-Some.value c.in-Some.is c.requires.fit.digit in
-    let own = IsOwnWord-larger c.write_own.new.self c.write_digit.new.self c.write_digit.ensures.grows c.in_ok-own.own saying.own saying.offset
+    let own = IsOwnWord-larger c.write_own.new.self c.write_digit.new.self c.write_digit.ensures.grows c.in_ok-own.own
+    saying.own saying.offset
     c.in_ok-own.ensures.says in
     IfOk-weaker c.write_digit.result (λ word. IsDigitOver c.write_digit.new.self word c.in-Some.value c.in_ok-own.own)
     (λ word. SaysOf c.write_digit.new.self word saying)
-    (λ word is. digit_says c.write_digit.new.self word c.in-Some.value c.in_ok-own.own saying is alone.low own c.in-Some.is alone.no_suffixes alone.no_prefixes)
+    (λ word is. digit_says c.write_digit.new.self word c.in-Some.value c.in_ok-own.own saying is alone.low own
+    c.in-Some.is alone.no_suffixes alone.no_prefixes)
     c.write_digit.ensures.says
 
 pub returns-in_ok-behind-in-None-clause-says : goal.returns-in_ok-behind-in-None-clause-says
@@ -30,10 +32,12 @@ returns-in_ok-behind-in-None-clause-says c =
     let behind = saying_behind (option_copied entry.own) entry.offset (map said_beside suffixes) entry.flags in
     let says = c.in_ok-behind-in-None.ensures.says (option_copied entry.own) entry.offset c.in_ok-own.ensures.says in
     IfOk-weaker c.write_prefixes.result
-    (λ word. (saying : Saying) → SaysOf c.write_suffixes.new.self c.in_ok-behind-in-None.behind saying → saying.prefixes ≡ [] → saying.digit ≡ None
+    (λ word. (saying : Saying) → SaysOf c.write_suffixes.new.self c.in_ok-behind-in-None.behind saying
+    → saying.prefixes ≡ [] → saying.digit ≡ None
     → SaysOf c.write_prefixes.new.self word (saying_before saying (map said_beside prefixes)))
     (λ word. SaysOf c.write_prefixes.new.self word (saying_of entry))
     (λ word told.
-    entry_said c.write_prefixes.new.self word entry suffixes prefixes c.as_slice-suffixes.ensures.value c.as_slice-prefixes.ensures.value
+    entry_said c.write_prefixes.new.self word entry suffixes prefixes c.as_slice-suffixes.ensures.value
+    c.as_slice-prefixes.ensures.value
     c.in-None.is (told behind says refl refl))
     c.write_prefixes.ensures.says

@@ -8,15 +8,18 @@ use Rattle.collate_words.proofs.pools.Pools.write_keys.Goals as goal
 
 pub write_own-requires-clause-fit : goal.write_own-requires-clause-fit
 write_own-requires-clause-fit c =
-    (beside_at 7 c.args.besides.now c.loop-beside.beside-index no_beside c.loop-beside-test.true c.requires.beside).elements
+    (beside_at 7 c.args.besides.now c.loop-beside.beside-index no_beside c.loop-beside-test.true
+    c.requires.beside).elements
 
 pub returns-in_err-units-clause-grows : goal.returns-in_err-units-clause-grows
 returns-in_err-units-clause-grows c =
-    Grows-trans c.args.self.now c.loop-beside.self c.write_own.new.self c.loop-beside.invariant.grows c.write_own.ensures.grows
+    Grows-trans c.args.self.now c.loop-beside.self c.write_own.new.self c.loop-beside.invariant.grows
+    c.write_own.ensures.grows
 
 pub returns-in_err-push-clause-grows : goal.returns-in_err-push-clause-grows
 returns-in_err-push-clause-grows c =
-    Grows-trans c.args.self.now c.loop-beside.self c.write_own.new.self c.loop-beside.invariant.grows c.write_own.ensures.grows
+    Grows-trans c.args.self.now c.loop-beside.self c.write_own.new.self c.loop-beside.invariant.grows
+    c.write_own.ensures.grows
 
 pub loop-beside-preserved : goal.loop-beside-preserved
 loop-beside-preserved c =
@@ -30,11 +33,15 @@ loop-beside-preserved c =
     record {
       grows = Grows-trans c.args.self.now c.loop-beside.self c.write_own.new.self c.loop-beside.invariant.grows grown;
       contexts = c.write_own.ensures.contexts ∙ c.loop-beside.invariant.contexts;
-      size = grows_for_along place 1 c.args.self.now c.loop-beside.self c.write_own.new.self c.loop-beside.invariant.size c.write_own.ensures.size;
+      size = grows_for_along place 1 c.args.self.now c.loop-beside.self c.write_own.new.self
+          c.loop-beside.invariant.size c.write_own.ensures.size;
       count = pushed_count before after key place c.in_ok-push.ensures.items c.loop-beside.invariant.count;
       fit = pushed_fit before after key c.in_ok-push.ensures.items c.loop-beside.invariant.fit
-          (key_fits c.args.backward (said_beside beside) key (beside_at 7 c.args.besides.now place no_beside inside c.requires.beside)
+          (key_fits c.args.backward (said_beside beside) key
+          (beside_at 7 c.args.besides.now place no_beside inside c.requires.beside)
           c.in_ok-units.ensures c.in_ok-word.ensures.says.fits);
-      says = pushed_keys c.loop-beside.self c.write_own.new.self c.args.backward grown c.args.besides.now place no_beside inside before after key
-          c.in_ok-push.ensures.items c.loop-beside.invariant.says (record { units = c.in_ok-units.ensures; word = c.in_ok-word.ensures.says });
+      says = pushed_keys c.loop-beside.self c.write_own.new.self c.args.backward grown c.args.besides.now place
+          no_beside inside before after key
+          c.in_ok-push.ensures.items c.loop-beside.invariant.says
+          (record { units = c.in_ok-units.ensures; word = c.in_ok-word.ensures.says });
     }
