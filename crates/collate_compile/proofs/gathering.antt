@@ -6,3 +6,4 @@ pub mod FlagLemmas
 pub mod EntryLemmas
 pub mod BeginningLemmas
 pub mod NameLemmas
+pub mod JamoLineLemmas

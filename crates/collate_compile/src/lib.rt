@@ -6,4 +6,5 @@ pub mod by_lines;
 pub mod entries;
 mod flags;
 mod gather;
+pub mod jamo;
 pub mod laws;

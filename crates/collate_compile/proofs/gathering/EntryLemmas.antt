@@ -59,7 +59,7 @@ elements_fit layer prefix text (range r) es can h = cc
 elements_fit layer prefix text (digit c v) es can h = cc
 elements_fit layer prefix text (setting s) es can h = cc
 
-recorded_fit : (lines : List Record) (prefix text : List ℕ) → All CanWriteLine lines → IfSome (recorded_in lines prefix text) AreFit
+pub recorded_fit : (lines : List Record) (prefix text : List ℕ) → All CanWriteLine lines → IfSome (recorded_in lines prefix text) AreFit
 recorded_fit lines prefix text all = at (first_found (elements_in tailoring prefix text) lines) refl
   where
     by_root : (o : Option (List Element)) → first_found (elements_in root prefix text) lines ≡ o → IfSome o AreFit

@@ -25,7 +25,7 @@ same_layer root tailoring h = absurd (false≢true h)
 same_layer tailoring root h = absurd (false≢true h)
 
 -- the line that gives a text its elements
-elements_line : (layer : Layer) (prefix text : List ℕ) (line : Record) (es : List Element)
+pub elements_line : (layer : Layer) (prefix text : List ℕ) (line : Record) (es : List Element)
     → elements_in layer prefix text line ≡ Some es
     → line ≡ weights layer prefix text es
 elements_line layer prefix text (weights other before key fs) es h =
