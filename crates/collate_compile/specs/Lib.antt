@@ -1,5 +1,6 @@
 pub mod Beginnings
 pub mod BesideLines
 pub mod Compiled
+pub mod LayerBuilds
 pub mod Layers
 pub mod LineSayings

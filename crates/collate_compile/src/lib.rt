@@ -8,3 +8,5 @@ mod flags;
 mod gather;
 pub mod jamo;
 pub mod laws;
+mod layer_builder;
+pub mod layers;
