@@ -1,4 +1,5 @@
 pub mod comparing
+pub mod compiled
 pub mod lookups
 pub mod mappings
 pub mod maps

@@ -1,5 +1,6 @@
 pub mod Changes
 pub mod CharacterTables
+pub mod CompiledOf
 pub mod Files
 pub mod Kept
 pub mod Maps

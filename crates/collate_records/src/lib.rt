@@ -4,11 +4,13 @@
 #![tactic(auto)]
 
 pub use collate_lines::{record, rule};
+pub use collate_provider as provider;
 
 mod by_lines;
 mod canonical_data;
 mod changes;
 mod character_table;
+pub mod compile;
 pub mod laws;
 pub mod laws_changes;
 pub mod laws_order;

@@ -1,0 +1,2 @@
+-- tables that are compiled of lines
+pub mod CompiledOfLemmas
