@@ -13,14 +13,12 @@ ghost use Rattle.collate_records.specs.Files.{IsAccepted};
 ghost use Rattle.collate_rules.specs.Meaning.{canonical_of, collation_of, weights_of};
 
 /// Accepted lines are accepted in every order (docs/RECORDS.md).
-#[tactic(auto, using(crate::proofs::reordering::AcceptedMovedLemmas::accepted_moved))]
 pub fn accepted_lines_are_accepted_in_another_order()
     ensures { (a b : List Record) → IsPermutation a b → AreAccepted a → AreAccepted b }
 {}
 
 /// A file that has the lines of an accepted file in another order, and is no longer than a file may be, is accepted
 /// (docs/RECORDS.md).
-#[tactic(auto, using(crate::proofs::reordering::AcceptedMovedLemmas::file_accepted))]
 pub fn files_in_another_order_are_accepted()
     ensures { (a b : List ℕ) → IsAccepted a → IsPermutation (lines_of a) (lines_of b) → length b ≤ size_limit → IsAccepted b }
 {}

@@ -11,20 +11,17 @@ ghost use Rattle.collate_rules.specs.Meaning.{any_step};
 
 /// The classes and the mappings of both kinds that accepted lines give keep, as maps, all rules on them, so that
 /// compatibility tables of them can be built (docs/RECORDS.md, `C1` to `C9`).
-#[tactic(auto, using(crate::proofs::maps::AllMapLemmas::keep_all))]
 pub fn accepted_records_keep_the_rules_of_all_maps()
     ensures { (records : List Record) (maps : AllMaps) → AreAccepted records → AreAllMapsOf records maps → KeepAllRules maps }
 {}
 
 /// They map each character as the lines do (docs/RECORDS.md).
-#[tactic(auto, using(crate::proofs::maps::AllMapLemmas::all_steps_same))]
 pub fn accepted_records_mean_all_their_maps()
     ensures { (records : List Record) (maps : AllMaps) → AreAccepted records → AreAllMapsOf records maps
         → (c : ℕ) → all_steps_of maps c ≡ any_step records c }
 {}
 
 /// So compatibility words that mean the maps say what the lines say (docs/RECORDS.md).
-#[tactic(auto, using(crate::proofs::maps::AllMapLemmas::words_of_maps))]
 pub fn words_of_all_maps_are_of_their_records()
     ensures { (records : List Record) (maps : AllMaps) (words : WordLists) → AreAccepted records → AreAllMapsOf records maps
         → AreMeaningOf maps words → AreWordsOf records words }

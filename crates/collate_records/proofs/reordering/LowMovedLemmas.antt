@@ -1,14 +1,15 @@
 -- A character below U+0300 that is its own composed list by all lines of a file is so by fewer of them: what it is composed of by all
 -- is a chain of pairs, of which fewer lines leave the end.
 use Rattle.std.proofs.Common.{◌≡◌, ◌≢◌, ◌⊎◌, ℕ, ◌<◌, inl, inr, ⊎_elim, Bool, true, false, cond, not, ◌==◌, ◌&&◌, ◌||◌, ltb, List, [], ◌∷◌, ◌++◌, length, get_or, drop, Option, Some, None, refl, sym, ap, ◌∙◌, subst, arith, append_assoc, append-nil}
-use Rattle.std.proofs.lemmas.Bool.{and_from, and_parts, and_right, cases_eq, false_from_ne_true, false≢true, ltb-true, or_from, or_parts}
-use Rattle.std.proofs.lemmas.Bool.Decides.{nat_tests}
-use Rattle.std.proofs.lemmas.Option.{none-some}
+use Rattle.std.proofs.lemmas.Bool.{and_from, and_parts, and_right, cases_eq, cases_lt, false_from_ne_true, false≢true, ltb-true, or_from, or_parts}
 use Rattle.icu_normalizer_core.specs.Canonical.{Canonical, Leaves, composed, composing, marks_in_order, put_in_order, recomposed}
 use Rattle.icu_normalizer_core.proofs.CompositionLemmas.{composed_one, composing_end, composing_joined, mark_first, not_one, recomposed_nothing, recomposed_starter}
 use Rattle.icu_normalizer_core.proofs.DecomposedLemmas.{AreUnmapped, order_unmapped, unmapped_left}
 use Rattle.icu_normalizer_core.proofs.LeftLemmas.{left_alone, left_double, left_one}
 use Rattle.collate_rules.specs.RecordRules.{is_disordered}
+
+above_zero : (k : ℕ) → k ≢ 0 → 0 < k
+above_zero k some = ⊎_elim (λ lt. lt) (λ le. absurd (some (omega (arith, le)))) (cases_lt 0 k)
 
 -- ---- Lists whose marks are in order
 
@@ -171,10 +172,8 @@ module _ (p w : Canonical) (fewer : IsFewer p w) where
   own_before c zero all_ends ends own = by (marks_in_order w.class (w.full c)) refl
     where
       no_mark : (s : ℕ) → w.class s ≡ 0 → p.class s ≡ 0
-      no_mark s none = ⊎_elim (λ e. e) (λ mark. absurd (some s none (p.class s) refl mark)) (cases_eq (p.class s) 0)
-        where
-          some : (x : ℕ) → w.class x ≡ 0 → (k : ℕ) → p.class x ≡ k → k ≢ 0 → ⊥
-          some x e k is mark = let above : 0 < p.class x = omega (arith, is, mark) in mark (sym is ∙ fewer.classes x above ∙ e)
+      no_mark s none =
+          ⊎_elim (λ e. e) (λ mark. absurd (mark (fewer.classes s (above_zero (p.class s) mark) ∙ none))) (cases_eq (p.class s) 0)
 
       by : (sorted : List ℕ) → marks_in_order w.class (w.full c) ≡ sorted → composed p (c ∷ []) ≡ c ∷ []
       by [] e = let off : [] ≡ c ∷ [] = sym (recomposed_nothing w) ∙ ap (recomposed w) (sym e) ∙ sym (composed_one w c) ∙ own in absurd (cc)

@@ -4,9 +4,7 @@ use Rattle.std.specs.Prelude.{replicate}
 use Rattle.std.specs.List.{list_all, list_any}
 use Rattle.std.specs.List.Sorted.{IsPermutation}
 use Rattle.std.specs.Option.{unwrap_or}
-use Rattle.std.proofs.Math.Bool.{and-false}
-use Rattle.std.proofs.lemmas.Bool.{and_cases, and_from, and_parts, and_right, cases_Bool, eq-eqb, false_from_ne_true, false≢true, not-false, not_from_true, or_from, or_parts}
-use Rattle.std.proofs.lemmas.Bool.Decides.{nat_tests}
+use Rattle.std.proofs.lemmas.Bool.{and_cases, and_from, and_parts, and_right, eq-eqb, false_from_ne_true, false≢true, leb-true, ne_eqb, not-false, or_from, or_parts}
 use Rattle.std.proofs.lemmas.List.{take-append-drop}
 use Rattle.icu_collator_core.specs.SettingRules.{are_alike, are_among, are_distinct, is_amid_numbers, is_exchange, keep_compressible}
 use Rattle.icu_collator_core.specs.WeightRules.{is_letter_lead}
@@ -60,7 +58,12 @@ kept_of_parts counted n gs ls ps kept =
 
 -- the default groups don't end amid numbers
 amid_none : (counted : ℕ) → is_amid_numbers counted 0x300 ≡ false
-amid_none counted = false_from_ne_true (is_amid_numbers counted 0x300) (λ t. grind (arith, nat_tests))
+amid_none counted =
+    false_from_ne_true (is_amid_numbers counted 0x300) (λ t.
+    let both = and_parts (leb (counted * 2 ^ 8 + 1) 0x300) (leb 0x300 (counted * 2 ^ 8 + 0xff)) t in
+    let low = leb-true (counted * 2 ^ 8 + 1) 0x300 both.0 in
+    let high = leb-true 0x300 (counted * 2 ^ 8 + 0xff) both.1 in
+    omega (arith, low, high))
 
 default_amid : (counted : ℕ) → list_any (is_amid_numbers counted) (replicate 4 0x300) ≡ false
 default_amid counted =
@@ -79,7 +82,9 @@ letters_alike (p ∷ ps) h k =
     (letters_alike ps first.1 second.1)
   where
     plain : (lead : ℕ) → is_letter_lead lead ≡ true → is_compressible_by [] lead ≡ false
-    plain lead letter = grind (arith, nat_tests)
+    plain lead letter =
+        let most = leb-true lead 0xfc (and_parts (leb 0x03 lead) (leb lead 0xfc) letter).1 in
+        or_from (lead == 0xfe) false (ne_eqb lead 0xfe (λ e. omega (arith, most, e))) refl
 
 exchange_alike : (ps : List (ℕ × ℕ)) → not (is_exchange ps) ≡ false → keep_compressible (is_compressible_by []) ps ≡ true
 exchange_alike ps h =
