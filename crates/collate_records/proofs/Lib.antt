@@ -5,3 +5,4 @@ pub mod mappings
 pub mod maps
 pub mod offenders
 pub mod reading
+pub mod reordering

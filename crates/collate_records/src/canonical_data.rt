@@ -1,52 +1,47 @@
 //! Canonical data of lines: their classes and mappings, built with what is built in.
 
-ghost use Rattle.std.specs.Prelude.{◌≡◌, ◌++◌, All, IfOk, OnOk, map};
-ghost use Rattle.icu_normalizer_core.specs.CanonicalMaps.{AreMeaning, KeepRules};
-ghost use Rattle.icu_normalizer_core.specs.CanonicalMeaning.{meaning};
-ghost use Rattle.collate_rules.specs.Accepted.{HasSmallClass};
-ghost use Rattle.collate_records.specs.Maps.{classes_in, mappings_in, maps_of};
+ghost use Rattle.std.specs.Prelude.{IfOk, map};
+ghost use Rattle.icu_normalizer_core.specs.CanonicalFaults.{IsAccepted};
+ghost use Rattle.icu_normalizer_core.specs.CanonicalMaps.{AreMeaning};
+ghost use Rattle.icu_normalizer_core.specs.CanonicalMeaning.{lists_of, meaning};
+ghost use Rattle.collate_rules.specs.Accepted.{AreAccepted};
+ghost use Rattle.collate_records.specs.Maps.{maps_of};
 ghost use Rattle.collate_lines.specs.Record.{said};
 
+use crate::given_maps::given_maps;
 use collate_lines::record::Record;
-use icu_normalizer_core::canonical::{
-    CanonicalData, CanonicalDataBuildError, CanonicalDataBuilder,
-};
+use icu_normalizer_core::canonical::{CanonicalData, CanonicalDataBuildError, CanonicalTables};
 use std::alloc::{AllocError, Global};
 
-/// Canonical data of lines that keep the rules. `AllocError` where memory is refused.
+/// Canonical data of accepted lines. `AllocError` where memory is refused.
 pub(crate) fn canonical_data(
     alloc: Global,
     records: &[Record],
 ) -> Result<CanonicalData<'static>, AllocError>
-    requires classes { All HasSmallClass (map said records.now) }
-    requires rules { KeepRules (maps_of (map said records.now)) }
+    requires { AreAccepted (map said records.now) }
     ensures { IfOk result (λ made. AreMeaning (maps_of (map said records.now)) (meaning made)) }
 {
-    let mut builder = CanonicalDataBuilder::new(alloc);
-    for given in records {
-        give(&mut builder, given)?;
-    }
-    match builder.build_data() {
+    let maps = given_maps(alloc, records)?;
+    match maps.build_data() {
         Ok(data) => Ok(data),
         Err(CanonicalDataBuildError::Memory) => Err(AllocError),
         Err(CanonicalDataBuildError::Rules) => unreachable!(),
     }
 }
 
-/// Gives what a line says of a class or a mapping, if it does. `AllocError` where memory is refused.
-fn give(builder: &mut CanonicalDataBuilder, given: &Record) -> Result<(), AllocError>
-    requires { HasSmallClass (said given.now) }
-    ensures classes { OnOk result (builder.new.canonical.classes ≡ builder.old.canonical.classes ++ classes_in (said given.now)) }
-    ensures mappings { OnOk result (builder.new.canonical.mappings ≡ builder.old.canonical.mappings ++ mappings_in (said given.now)) }
+/// Their canonical tables, which pass every check. `AllocError` where memory is refused.
+pub(crate) fn canonical_tables(
+    alloc: Global,
+    records: &[Record],
+) -> Result<CanonicalTables<'static>, AllocError>
+    requires { AreAccepted (map said records.now) }
+    ensures means { IfOk result (λ made. AreMeaning (maps_of (map said records.now)) (meaning made)) }
+    ensures accepted { IfOk result (λ made. IsAccepted (lists_of made)) }
 {
-    match given {
-        Record::Class { character, class } => builder.class(*character, *class as u8),
-        Record::Map {
-            character,
-            first,
-            second,
-            is_excluded,
-        } => builder.map(*character, *first, *second, !*is_excluded),
-        _ => Ok(()),
+    let maps = given_maps(alloc, records)?;
+    match maps.build() {
+        Ok(tables) => Ok(tables),
+        Err(CanonicalDataBuildError::Memory) => Err(AllocError),
+        Err(CanonicalDataBuildError::Rules) => unreachable!(),
     }
 }

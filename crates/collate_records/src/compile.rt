@@ -1,14 +1,14 @@
 //! Records, compiled to tables from which normalisers and collators answer.
 
-ghost use Rattle.std.specs.Prelude.{◌≡◌, IfOk};
+ghost use Rattle.std.specs.Prelude.{IfOk};
 ghost use Rattle.collate_records.specs.CompiledOf.{IsCompiledOf};
 
+use crate::canonical_data::canonical_tables;
 use crate::compatibility_data::compatibility_data;
 use crate::records::Records;
 use collate_compile::tables::compile_tables;
 use collate_provider::Provider;
 use icu_codepointtrie::TrieType;
-use icu_normalizer_core::canonical::CanonicalTables;
 use std::alloc::{AllocError, Global};
 
 /// The tables of a records file, with collation tries of this type: a small one takes less memory, a fast one less time a
@@ -22,29 +22,8 @@ pub fn compile(
 ) -> Result<Provider, AllocError>
     ensures { IfOk result (IsCompiledOf records.now) }
 {
-    let canonical = copied(alloc, records.canonical_tables())?;
+    let canonical = canonical_tables(alloc, records.lines())?;
     let compatibility = compatibility_data(alloc, records.lines())?;
     let collation = compile_tables(alloc, records.lines(), &records.canonical(), trie_type)?;
     Ok(Provider::of_tables(canonical, compatibility, collation))
-}
-
-/// The same canonical tables once more. `AllocError` where memory is refused.
-fn copied(
-    alloc: Global,
-    tables: &CanonicalTables<'static>,
-) -> Result<CanonicalTables<'static>, AllocError>
-    ensures { IfOk result (λ copy. copy ≡ tables.now) }
-{
-    let trie = tables.trie.clone(alloc)?;
-    let scalars16 = tables.scalars16.clone(alloc)?;
-    let scalars24 = tables.scalars24.clone(alloc)?;
-    let steps = tables.steps.clone(alloc)?;
-    let pairs = tables.pairs.clone(alloc)?;
-    Ok(CanonicalTables {
-        trie,
-        scalars16,
-        scalars24,
-        steps,
-        pairs,
-    })
 }

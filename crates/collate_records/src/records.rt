@@ -5,11 +5,7 @@ ghost use Rattle.std.specs.Prelude.{◌≡◌, ◌↔◌, ◌∷◌, ℕ, [], Al
 ghost use Rattle.std.specs.Char.{IsScalar};
 ghost use Rattle.std.specs.Option.{option_copied};
 ghost use Rattle.icu_normalizer_core.specs.BorrowedMeaning.{borrowed_meaning};
-ghost use Rattle.icu_normalizer_core.specs.CanonicalFaults.{IsAccepted as IsAcceptedCanonical};
-ghost use Rattle.icu_normalizer_core.specs.CanonicalMaps.{AreMeaning};
-ghost use Rattle.icu_normalizer_core.specs.CanonicalMeaning.{lists_of, meaning};
 ghost use Rattle.collate_lines.specs.Record.{said};
-ghost use Rattle.collate_records.specs.Maps.{maps_of};
 ghost use Rattle.icu_normalizer_core.specs.Canonical.{IsCanonical, IsComposing, IsDecomposing};
 ghost use Rattle.icu_normalizer_core.specs.Decoding.{utf8_chars};
 ghost use Rattle.icu_normalizer_core.specs.Properties.{mapped_to};
@@ -33,7 +29,7 @@ use collate_lines::rule::RecordsError;
 use icu_collator_types::elements::Element;
 use icu_collator_types::options::FileSettings;
 use icu_collections::codepointtrie::TrieType;
-use icu_normalizer_core::canonical::{CanonicalBorrowed, CanonicalData, CanonicalTables};
+use icu_normalizer_core::canonical::{CanonicalBorrowed, CanonicalData};
 use icu_normalizer_core::decoding::decode_utf8;
 use icu_normalizer_core::properties::Decomposed;
 use std::alloc::Global;
@@ -129,14 +125,6 @@ impl Records {
     {
         self.keep_rules();
         &self.records
-    }
-
-    /// The canonical tables that are made of the lines.
-    pub(crate) fn canonical_tables(&self) -> &CanonicalTables<'static>
-        ensures accepted { IsAcceptedCanonical (lists_of result.now) }
-        ensures meant { AreMeaning (maps_of self.now) (meaning result.now) }
-    {
-        self.canonical.tables()
     }
 
     /// What the file sets of the options (docs/RECORDS.md): what a line says, else the default.

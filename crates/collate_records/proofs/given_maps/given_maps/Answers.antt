@@ -1,0 +1,40 @@
+use Rattle.std.proofs.Common.{ℕ, ◌++◌, List, map, refl, ap, sym, subst, ◌∙◌, arith}
+use Rattle.std.proofs.lemmas.List.{length-map, take_all}
+use Rattle.icu_normalizer_core.specs.declared.canonical.builder.GivenClass.{GivenClass}
+use Rattle.icu_normalizer_core.specs.declared.canonical.builder.GivenMapping.{GivenMapping}
+use Rattle.icu_normalizer_core.specs.CanonicalMaps.{CanonicalMaps}
+use Rattle.icu_normalizer_core.specs.CompatibilityMaps.{AreAcceptedOver}
+use Rattle.icu_normalizer_core.specs.CompatibilityMeaning.{nfkd_lists}
+use Rattle.collate_rules.specs.Accepted.{HasSmallClass}
+use Rattle.collate_records.specs.Maps.{AreAllMapsOf, MapsToSome, classes_in, compatibilities_in, mappings_in}
+use Rattle.collate_lines.specs.declared.rule.Rule.TheVariants.{C3}
+use Rattle.collate_lines.specs.Record.{said}
+use Rattle.collate_rules.proofs.offenders.LimitLemmas.{given_to}
+use Rattle.collate_rules.proofs.lookups.LookupLemmas.{All-map_at}
+use Rattle.collate_records.proofs.maps.AllMapLemmas.{words_of_maps}
+use Rattle.collate_records.proofs.maps.AnyStepLemmas.{accepted_some}
+use Rattle.collate_records.proofs.maps.MapLineLemmas.{all_given}
+use Rattle.collate_records.proofs.offenders.ClassLemmas.{All-HasSmallClass}
+use Rattle.collate_records.proofs.given_maps.given_maps.Goals as goal
+
+pub give-requires : goal.give-requires
+give-requires c =
+    let lines = map said c.args.records.now in
+    record {
+      classes = All-map_at HasSmallClass said c.args.records.now c.args.records.now c.loop-given.given-index c.given-item.result refl c.loop-given-test.true c.given-item.is
+          (All-HasSmallClass lines (c.requires.keep_rules C3));
+      mappings = All-map_at MapsToSome said c.args.records.now c.args.records.now c.loop-given.given-index c.given-item.result refl c.loop-given-test.true c.given-item.is
+          (accepted_some lines c.requires);
+    }
+
+pub loop-given-preserved : goal.loop-given-preserved
+loop-given-preserved c =
+    let lines = c.args.records.now in
+    let i = c.loop-given.given-index in (
+      c.in_ok-give.ensures.classes ∙ ap (λ (gs : List GivenClass). gs ++ classes_in (said c.given-item.result)) c.loop-given.invariant.0
+          ∙ sym (given_to classes_in lines i c.given-item.result c.loop-given-test.true c.given-item.is),
+      c.in_ok-give.ensures.mappings ∙ ap (λ (gs : List GivenMapping). gs ++ mappings_in (said c.given-item.result)) c.loop-given.invariant.1
+          ∙ sym (given_to mappings_in lines i c.given-item.result c.loop-given-test.true c.given-item.is),
+      c.in_ok-give.ensures.compatibilities ∙ ap (λ (ps : List (ℕ × List ℕ)). ps ++ compatibilities_in (said c.given-item.result)) c.loop-given.invariant.2
+          ∙ sym (given_to compatibilities_in lines i c.given-item.result c.loop-given-test.true c.given-item.is),
+    )
