@@ -1,10 +1,10 @@
-use Rattle.std.proofs.Common.{◌≡◌, ◌↔◌, sym, subst, true, Bool}
+use Rattle.std.proofs.Common.{◌≡◌, ◌↔◌, ◌*◌, ◌^◌, sym, subst, true, Bool}
 use Rattle.std.specs.List.{Contains}
 use Rattle.icu_collator_types.specs.declared.elements.Element.{Element}
-use Rattle.icu_collator_core.specs.declared.check.apart.levels.Level.TheVariants.{Primary, Secondary, Tertiary}
 use Rattle.icu_collator_core.specs.WeightRules.{are_apart_elements}
-use Rattle.icu_collator_core.proofs.apart.LevelLemmas.{all_levels, level_tells}
+use Rattle.icu_collator_core.proofs.apart.LevelLemmas.{all_levels}
 use Rattle.collate_rules.proofs.given.ListLemmas.{apart_told}
+use Rattle.collate_weight_rules.proofs.soundness.ApartLemmas.{told_by}
 use Rattle.collate_weight_rules.proofs.apart.are_all_apart.Goals as goal
 
 pub returns : goal.returns
@@ -15,6 +15,6 @@ returns c =
     (λ (told : Bool). (told ≡ true) ↔ ((d e : Element) → Contains es d → Contains es e → are_apart_elements d e ≡ true))
     (sym c.are_all.ensures)
     (all_levels es c.in_ok-primaries.primaries c.in_ok-secondaries.secondaries c.in_ok-tertiaries.tertiaries
-    (level_tells Primary es _ c.in_ok-primaries.primaries c.in_ok-primaries_of.ensures c.in_ok-primaries.ensures)
-    (level_tells Secondary es _ c.in_ok-secondaries.secondaries c.in_ok-secondaries_of.ensures c.in_ok-secondaries.ensures)
-    (level_tells Tertiary es _ c.in_ok-tertiaries.tertiaries c.in_ok-tertiaries_of.ensures c.in_ok-tertiaries.ensures)))
+    (told_by (λ e. e.primary) es _ c.in_ok-primaries.primaries c.in_ok-primaries_of.ensures c.in_ok-primaries.ensures)
+    (told_by (λ e. e.secondary * 2 ^ 16) es _ c.in_ok-secondaries.secondaries c.in_ok-secondaries_of.ensures c.in_ok-secondaries.ensures)
+    (told_by (λ e. e.tertiary * 2 ^ 16) es _ c.in_ok-tertiaries.tertiaries c.in_ok-tertiaries_of.ensures c.in_ok-tertiaries.ensures)))
