@@ -37,6 +37,6 @@ AsksRule rule file records numbers found answer =
     AreOfFile file records numbers → 0 < rank rule → MatchOption found (NoneOffends rule records) (IsFirstOffender rule records) → KeepsBelow (rank rule) file
     → MatchResult answer (λ _. KeepsBelow (rank rule + 1) file) (Refuses file)
 
--- The rules of the ranks from one on and below another were asked, after those of lower ranks.
-abbrev pub AsksRules : ℕ → ℕ → List ℕ → Result (Unit {0}) RecordsError → Type 0
-AsksRules first end file answer = KeepsBelow first file → MatchResult answer (λ _. KeepsBelow end file) (Refuses file)
+-- The rules from the limits on were asked, after the grammar and V14.
+abbrev pub AsksRules : List ℕ → Result (Unit {0}) RecordsError → Type 0
+AsksRules file answer = KeepsBelow 1 file → MatchResult answer (λ _. KeepsBelow 26 file) (Refuses file)

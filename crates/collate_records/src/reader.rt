@@ -1,8 +1,11 @@
 //! A records file, from its bytes to what its lines say.
 
-ghost use Rattle.std.specs.Prelude.{◌≡◌, ℕ, ◌+◌, ◌<◌, ◌↔◌, List, Some, IsTrue, map, length, IfSome, MatchResult, None, OnOk};
+ghost use Rattle.std.specs.Prelude.{◌≡◌, ℕ, ◌+◌, ◌<◌, ◌↔◌, List, All, Some, IsTrue, map, length, IfOk, IfSome, MatchOption, MatchResult, None, OnOk};
 ghost use Rattle.collate_lines.specs.Lines.{PassesSize, line_at, lines_of, records_of};
 ghost use Rattle.collate_lines.specs.Record.{Record as PlainRecord, said};
+ghost use Rattle.collate_rules.specs.CanonicalParts.{IsShort};
+ghost use Rattle.collate_rules.specs.Offenders.{IsFirstOffender, NoneOffends};
+ghost use Rattle.collate_rules.specs.Rules.{rank};
 ghost use Rattle.collate_records.specs.Files.{IsAccepted, Refuses};
 ghost use Rattle.collate_records.specs.Phases.{AreOfFile, AreSound, AsksRule, AsksRules, IsReadTo, KeepsBelow};
 
@@ -11,24 +14,24 @@ use collate_lines::lines::{line_past_size, split_line};
 use collate_lines::record::Record;
 use collate_lines::rule::{RecordFault, RecordsError, Rule};
 use collate_lines::seen::Seen;
+use collate_mapping_rules::lines::{first_bad_class, first_contradiction, first_mapped_hangul};
+use collate_mapping_rules::lists::first_bad_list;
+use collate_mapping_rules::loops::first_loop;
+use collate_mapping_rules::low::first_bad_low;
+use collate_mapping_rules::marks::first_mapped_mark;
+use collate_mapping_rules::pairs::{first_bad_second, first_repeated_pair};
+use collate_record_rules::decomposed::first_undecomposed;
+use collate_record_rules::digits::{first_bad_digit, first_bad_dotted};
+use collate_record_rules::named::{first_bad_jamo, first_special};
+use collate_record_rules::prefixes::first_bad_prefix;
+use collate_record_rules::settings::first_bad_setting;
+use collate_record_rules::texts::{first_lacking_shorter, first_late_starter};
 use collate_rules::limit::first_over_limit;
-use collate_rules::rules::apart::first_begun_weight;
-use collate_rules::rules::decomposed::first_undecomposed;
-use collate_rules::rules::digits::{first_bad_digit, first_bad_dotted};
-use collate_rules::rules::lines::{first_bad_class, first_contradiction, first_mapped_hangul};
-use collate_rules::rules::lists::first_bad_list;
-use collate_rules::rules::loops::first_loop;
-use collate_rules::rules::low::first_bad_low;
-use collate_rules::rules::marks::first_mapped_mark;
-use collate_rules::rules::named::{first_bad_jamo, first_special};
-use collate_rules::rules::pairs::{first_bad_second, first_repeated_pair};
-use collate_rules::rules::prefixes::first_bad_prefix;
-use collate_rules::rules::primaries::first_bad_primary;
-use collate_rules::rules::ranges::first_bad_range;
-use collate_rules::rules::settings::first_bad_setting;
-use collate_rules::rules::texts::{first_lacking_shorter, first_late_starter};
-use collate_rules::rules::weights::{first_bad_kind, first_bad_secondary, first_bad_tertiary};
-use std::alloc::Global;
+use collate_weight_rules::apart::first_begun_weight;
+use collate_weight_rules::primaries::first_bad_primary;
+use collate_weight_rules::ranges::first_bad_range;
+use collate_weight_rules::weights::{first_bad_kind, first_bad_secondary, first_bad_tertiary};
+use std::alloc::{AllocError, Global};
 
 /// Reads a records file (docs/RECORDS.md): what its lines say that say something, in their order.
 ///
@@ -121,65 +124,89 @@ impl Reading {
 /// Asks the rules in the order of faults, from the limits on.
 fn keep_rules(alloc: Global, records: &[Record], numbers: &[u32]) -> Result<(), RecordsError>
     requires { length records.now ≡ length numbers.now }
-    ensures { (file : List ℕ) → AreOfFile file (map said records.now) numbers.now → AsksRules 1 26 file result }
+    ensures { (file : List ℕ) → AreOfFile file (map said records.now) numbers.now → AsksRules file result }
 {
-    keep_canonical_rules(alloc, records, numbers)?;
-    keep_weight_rules(alloc, records, numbers)?;
-    keep_record_rules(alloc, records, numbers)?;
+    let over = first_over_limit(alloc, records)?;
+    refuse(Rule::Limit, over, numbers)?;
+    for rank in 2..26 {
+        let rule = rule_of_rank(rank);
+        let found = first_offender(alloc, rule, records)?;
+        refuse(rule, found, numbers)?;
+    }
     Ok(())
 }
 
-/// Asks the limits and the rules on classes and mappings.
-fn keep_canonical_rules(
+/// The rule of a rank in the order of faults, from C1 on.
+fn rule_of_rank(number: u8) -> Rule
+    requires after_limit { 1 < number }
+    requires within { number < 26 }
+    ensures { rank result ≡ number }
+{
+    match number {
+        2 => Rule::C1,
+        3 => Rule::C2,
+        4 => Rule::C3,
+        5 => Rule::C4,
+        6 => Rule::C5,
+        7 => Rule::C6,
+        8 => Rule::C7,
+        9 => Rule::C8,
+        10 => Rule::C9,
+        11 => Rule::V1,
+        12 => Rule::V2,
+        13 => Rule::V3,
+        14 => Rule::V4,
+        15 => Rule::V5,
+        16 => Rule::V6,
+        17 => Rule::V7,
+        18 => Rule::V8,
+        19 => Rule::V9,
+        20 => Rule::V10,
+        21 => Rule::V11,
+        22 => Rule::V12,
+        23 => Rule::V13,
+        24 => Rule::V15,
+        _ => Rule::Set,
+    }
+}
+
+/// The first record that offends against a rule from C1 on, if one does. `AllocError` where memory is refused.
+fn first_offender(
     alloc: Global,
+    rule: Rule,
     records: &[Record],
-    numbers: &[u32],
-) -> Result<(), RecordsError>
-    requires { length records.now ≡ length numbers.now }
-    ensures { (file : List ℕ) → AreOfFile file (map said records.now) numbers.now → AsksRules 1 11 file result }
+) -> Result<Option<usize>, AllocError>
+    requires after_limit { 1 < rank rule }
+    requires short { All IsShort (map said records.now) }
+    ensures { IfOk result (λ found. MatchOption found (NoneOffends rule (map said records.now)) (IsFirstOffender rule (map said records.now))) }
 {
-    refuse(Rule::Limit, first_over_limit(alloc, records)?, numbers)?;
-    refuse(Rule::C1, first_mapped_mark(alloc, records)?, numbers)?;
-    refuse(Rule::C2, first_loop(alloc, records)?, numbers)?;
-    refuse(Rule::C3, first_bad_class(records), numbers)?;
-    refuse(Rule::C4, first_bad_list(alloc, records)?, numbers)?;
-    refuse(Rule::C5, first_repeated_pair(records), numbers)?;
-    refuse(Rule::C6, first_bad_second(records), numbers)?;
-    refuse(Rule::C7, first_bad_low(alloc, records)?, numbers)?;
-    refuse(Rule::C8, first_contradiction(records), numbers)?;
-    refuse(Rule::C9, first_mapped_hangul(records), numbers)?;
-    Ok(())
-}
-
-/// Asks the rules on weights.
-fn keep_weight_rules(alloc: Global, records: &[Record], numbers: &[u32]) -> Result<(), RecordsError>
-    requires { length records.now ≡ length numbers.now }
-    ensures { (file : List ℕ) → AreOfFile file (map said records.now) numbers.now → AsksRules 11 17 file result }
-{
-    refuse(Rule::V1, first_bad_kind(records), numbers)?;
-    refuse(Rule::V2, first_bad_primary(alloc, records)?, numbers)?;
-    refuse(Rule::V3, first_bad_secondary(records), numbers)?;
-    refuse(Rule::V4, first_bad_tertiary(records), numbers)?;
-    refuse(Rule::V5, first_begun_weight(alloc, records)?, numbers)?;
-    refuse(Rule::V6, first_bad_range(alloc, records)?, numbers)?;
-    Ok(())
-}
-
-/// Asks the rules on texts, prefixes, digits and settings.
-fn keep_record_rules(alloc: Global, records: &[Record], numbers: &[u32]) -> Result<(), RecordsError>
-    requires { length records.now ≡ length numbers.now }
-    ensures { (file : List ℕ) → AreOfFile file (map said records.now) numbers.now → AsksRules 17 26 file result }
-{
-    refuse(Rule::V7, first_undecomposed(alloc, records)?, numbers)?;
-    refuse(Rule::V8, first_late_starter(alloc, records)?, numbers)?;
-    refuse(Rule::V9, first_lacking_shorter(alloc, records)?, numbers)?;
-    refuse(Rule::V10, first_bad_prefix(alloc, records)?, numbers)?;
-    refuse(Rule::V11, first_bad_digit(alloc, records)?, numbers)?;
-    refuse(Rule::V12, first_bad_jamo(records), numbers)?;
-    refuse(Rule::V13, first_special(records), numbers)?;
-    refuse(Rule::V15, first_bad_dotted(alloc, records)?, numbers)?;
-    refuse(Rule::Set, first_bad_setting(alloc, records)?, numbers)?;
-    Ok(())
+    match rule {
+        Rule::C1 => first_mapped_mark(alloc, records),
+        Rule::C2 => first_loop(alloc, records),
+        Rule::C3 => Ok(first_bad_class(records)),
+        Rule::C4 => first_bad_list(alloc, records),
+        Rule::C5 => Ok(first_repeated_pair(records)),
+        Rule::C6 => Ok(first_bad_second(records)),
+        Rule::C7 => first_bad_low(alloc, records),
+        Rule::C8 => Ok(first_contradiction(records)),
+        Rule::C9 => Ok(first_mapped_hangul(records)),
+        Rule::V1 => Ok(first_bad_kind(records)),
+        Rule::V2 => first_bad_primary(alloc, records),
+        Rule::V3 => Ok(first_bad_secondary(records)),
+        Rule::V4 => Ok(first_bad_tertiary(records)),
+        Rule::V5 => first_begun_weight(alloc, records),
+        Rule::V6 => first_bad_range(alloc, records),
+        Rule::V7 => first_undecomposed(alloc, records),
+        Rule::V8 => first_late_starter(alloc, records),
+        Rule::V9 => first_lacking_shorter(alloc, records),
+        Rule::V10 => first_bad_prefix(alloc, records),
+        Rule::V11 => first_bad_digit(alloc, records),
+        Rule::V12 => Ok(first_bad_jamo(records)),
+        Rule::V13 => Ok(first_special(records)),
+        Rule::V15 => first_bad_dotted(alloc, records),
+        Rule::Set => first_bad_setting(alloc, records),
+        Rule::Grammar | Rule::V14 | Rule::Limit => unreachable!(),
+    }
 }
 
 /// Refuses a file for the first record that offends against a rule, if there is one.

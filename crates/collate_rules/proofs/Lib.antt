@@ -4,4 +4,3 @@ pub mod mappings
 pub mod offenders
 pub mod given
 pub mod records
-mod RecordRuleExamples

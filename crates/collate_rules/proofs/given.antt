@@ -1,14 +1,7 @@
--- What lines give of weights, and the rules V1 to V6 on them.
-pub mod ListLemmas
-pub mod ApartLemmas
-pub mod StayLemmas
-pub mod LeadLemmas
-pub mod RangeLemmas
-pub mod PlaceLemmas
-pub mod SaidLemmas
-pub mod SoundLemmas
-pub mod GrammarLemmas
+-- What lines give of weights and counts.
 pub mod CountLemmas
-pub mod ExchangeLemmas
-pub mod SoundSettingLemmas
-mod WeightExamples
+pub mod GivesLemmas
+pub mod GrammarLemmas
+pub mod ListLemmas
+pub mod PlaceLemmas
+pub mod SoundLemmas

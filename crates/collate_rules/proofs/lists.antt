@@ -2,4 +2,3 @@
 pub mod BadListLemmas
 pub mod FullListLemmas
 pub mod LowLemmas
-pub mod OrderLemmas

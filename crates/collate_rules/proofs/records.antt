@@ -1,10 +1,4 @@
-pub mod GrowthLemmas
+-- what lines note of characters and record of texts
 pub mod BreakLemmas
 pub mod NotedLemmas
 pub mod RecordedLemmas
-pub mod SettingLemmas
-pub mod OrderedLemmas
-pub mod DropLemmas
-pub mod ShorterLemmas
-pub mod DecomposedTextLemmas
-pub mod UnlikeDecomposedLemmas

@@ -1,8 +1,8 @@
 -- Full lists, as far as they are looked at.
 use Rattle.std.specs.Prelude.{◌≡◌, ℕ, Bool, false, List, length, min, Option, Some, None, not, ◌==◌, slice_get}
-use Rattle.collate_rules.specs.declared.rules.lists.Front.{Front}
-use Rattle.collate_rules.specs.declared.rules.lists.Mappings.{Mappings}
-use Rattle.collate_rules.specs.declared.rules.lists.Mappings.TheVariants.{Canonical, All}
+use Rattle.collate_rules.specs.declared.full_list.Front.{Front}
+use Rattle.collate_rules.specs.declared.full_list.Mappings.{Mappings}
+use Rattle.collate_rules.specs.declared.full_list.Mappings.TheVariants.{Canonical, All}
 use Rattle.collate_lines.specs.Record.{Record}
 use Rattle.collate_rules.specs.Meaning.{class_of, step_of, any_step}
 

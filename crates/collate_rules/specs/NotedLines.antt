@@ -9,11 +9,6 @@ use Rattle.icu_collator_core.specs.ContextRules.{is_recorded_in}
 use Rattle.collate_rules.specs.Meaning.{class_in, digit_in, first_found, mapping_in, weights_of}
 use Rattle.collate_rules.specs.RecordRules.{is_mark}
 
--- what was found, or else another
-abbrev pub unless_found : {A : Type 0} → Option A → Option A → Option A
-unless_found (Some x) other = Some x
-unless_found None other = other
-
 -- the character to which a line gives a class, and the class
 abbrev pub class_line : Record → Option (ℕ × ℕ)
 class_line (class c k) = Some (c, k)

@@ -8,7 +8,7 @@ ghost use Rattle.collate_rules.specs.Meaning.{class_in, mapping_in, compatibilit
 ghost use Rattle.collate_rules.specs.Rules.{is_mapped, is_mapped_twice};
 ghost use Rattle.collate_rules.specs.CanonicalParts.{in_full, IsShort, SaysSame, step_items};
 
-use crate::rules::lines::is_built_in;
+use crate::built_in::is_built_in;
 use crate::step::Step;
 use collate_lines::record::Record;
 use icu_normalizer_core::built_in::{
@@ -18,7 +18,7 @@ use icu_normalizer_core::properties::Decomposed;
 
 /// What a line says of a character's class or mapping.
 #[derive(Clone, Copy, Debug)]
-pub(crate) enum CanonicalPart {
+pub enum CanonicalPart {
     /// The character's canonical combining class.
     Class {
         character: char,
@@ -122,21 +122,21 @@ fn is_mapped_compatibly(parts: &[CanonicalPart], c: u32) -> bool
 }
 
 /// Whether parts map a character, canonically or by compatibility.
-pub(crate) fn is_mapped(parts: &[CanonicalPart], c: u32) -> bool
+pub fn is_mapped(parts: &[CanonicalPart], c: u32) -> bool
     ensures { result ≡ is_mapped (map in_full parts.now) c }
 {
     is_mapped_canonically(parts, c) || is_mapped_compatibly(parts, c)
 }
 
 /// Whether parts map a character both canonically and by compatibility.
-pub(crate) fn is_mapped_twice(parts: &[CanonicalPart], c: u32) -> bool
+pub fn is_mapped_twice(parts: &[CanonicalPart], c: u32) -> bool
     ensures { result ≡ is_mapped_twice (map in_full parts.now) c }
 {
     is_mapped_canonically(parts, c) && is_mapped_compatibly(parts, c)
 }
 
 /// The class of a character: what is built in, else what a part says, else 0.
-pub(crate) fn class_of(parts: &[CanonicalPart], c: u32) -> u16
+pub fn class_of(parts: &[CanonicalPart], c: u32) -> u16
     ensures { result ≡ class_of (map in_full parts.now) c }
 {
     match built_in_class(c) {
@@ -146,7 +146,7 @@ pub(crate) fn class_of(parts: &[CanonicalPart], c: u32) -> u16
 }
 
 /// The canonical mapping of a character: what is built in, else what a part says, else none.
-pub(crate) fn step_of(parts: &[CanonicalPart], c: u32) -> Decomposed
+pub fn step_of(parts: &[CanonicalPart], c: u32) -> Decomposed
     ensures { mapped_to result ≡ step_of (map in_full parts.now) c }
 {
     let step = if is_built_in(c) {
@@ -158,7 +158,7 @@ pub(crate) fn step_of(parts: &[CanonicalPart], c: u32) -> Decomposed
 }
 
 /// The compatibility mapping that a part says of a character, where nothing is built in.
-pub(crate) fn compatibility_of(parts: &[CanonicalPart], c: u32) -> Step
+pub fn compatibility_of(parts: &[CanonicalPart], c: u32) -> Step
     ensures { step_items result ≡ compatibility_of (map in_full parts.now) c }
 {
     if is_built_in(c) {
@@ -171,7 +171,7 @@ pub(crate) fn compatibility_of(parts: &[CanonicalPart], c: u32) -> Step
 }
 
 /// The mapping of a character of either kind, canonical or compatibility.
-pub(crate) fn any_step(parts: &[CanonicalPart], c: u32) -> Step
+pub fn any_step(parts: &[CanonicalPart], c: u32) -> Step
     ensures { step_items result ≡ any_step (map in_full parts.now) c }
 {
     match built_in_compatibility_step(c) {
@@ -193,7 +193,7 @@ fn given_step(parts: &[CanonicalPart], c: u32) -> Step
 }
 
 /// What two characters compose to: a syllable, or what a part says.
-pub(crate) fn pair_of(parts: &[CanonicalPart], first: u32, second: u32) -> Option<u32>
+pub fn pair_of(parts: &[CanonicalPart], first: u32, second: u32) -> Option<u32>
     ensures { result ≡ pair_of (map in_full parts.now) first second }
 {
     match syllable_of(first, second) {
@@ -268,7 +268,7 @@ impl CanonicalPart {
     ghost use Rattle.collate_rules.specs.CanonicalParts.{subject_of};
 
     /// The character of which it says something.
-    pub(crate) fn character(self) -> u32
+    pub fn character(self) -> u32
         ensures { result ≡ subject_of self }
     {
         match self {

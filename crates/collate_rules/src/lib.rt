@@ -1,10 +1,16 @@
-//! The rules of a records file: for each, the first of its lines that offends against it. What the lines mean together
-//! stands in specs/Meaning.antt, the rules in specs/Rules.antt.
+//! What the lines of a records file mean together, and the rules that they keep: the definitions (specs/Meaning.antt,
+//! specs/Rules.antt), the limits, and what the crates of rules share. Lines count from 0 here.
 #![tactic(auto)]
 
-mod canonical_part;
+pub mod breaks;
+pub mod built_in;
+pub mod canonical_part;
+pub mod full_list;
 pub mod laws;
 pub mod limit;
-pub mod rules;
-mod step;
+pub mod noted;
+pub mod parts;
+pub mod places;
+pub mod recorded;
+pub mod step;
 mod steps;

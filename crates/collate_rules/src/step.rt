@@ -4,7 +4,7 @@ ghost use Rattle.std.specs.Prelude.{◌≤◌};
 
 /// The characters that a mapping gives, at most eight; none where there is no mapping.
 #[derive(Clone, Copy, Debug)]
-pub(crate) struct Step {
+pub struct Step {
     pub(crate) characters: [char; 8],
     pub(crate) count: usize,
     ghost fits: { count ≤ 8 },

@@ -34,7 +34,7 @@ impl Step {
     }
 
     /// A canonical or a built-in mapping.
-    pub(crate) fn of(step: Decomposed) -> Step
+    pub fn of(step: Decomposed) -> Step
         ensures { step_items result ≡ mapped_to step }
     {
         match step {
@@ -57,14 +57,14 @@ impl Step {
     }
 
     /// The characters, in their order.
-    pub(crate) fn characters(&self) -> &[char]
+    pub fn characters(&self) -> &[char]
         ensures { result.now ≡ step_items self.now }
     {
         &self.characters[..self.count]
     }
 
     /// Whether there is no mapping.
-    pub(crate) fn is_none(&self) -> bool
+    pub fn is_none(&self) -> bool
         ensures { IsTrue result ↔ (step_items self.now ≡ []) }
     {
         self.characters().is_empty()

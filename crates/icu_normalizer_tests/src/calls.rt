@@ -3,7 +3,8 @@
 ghost use Rattle.std.specs.Iterator.{IsFinite};
 
 use crate::encoded::{EncodedCall, Encoding, gives_encoded};
-use crate::sinks::{SinkCall, is_cut_at_each};
+use crate::long::{LONG_ROWS, LongRow, joined, writes_in_pieces};
+use crate::sinks::writes_of;
 use icu_normalizer::composing::{ComposingNormalizer, ComposingNormalizerBorrowed};
 use icu_normalizer::decomposing::{DecomposingNormalizer, DecomposingNormalizerBorrowed};
 use icu_normalizer_core::provider::DataError;
@@ -12,7 +13,7 @@ use std::alloc::{AllocError, Global};
 use std::borrow::CowStr;
 
 /// A text, its decomposed form, and its composed one.
-pub type Row = (&'static str, &'static str, &'static str);
+pub type Row<'r> = (&'r str, &'r str, &'r str);
 
 /// A call by which a form comes or is known.
 #[derive(Clone, Copy)]
@@ -23,6 +24,7 @@ pub enum Call {
     WriteComposed,
     IsNormalized,
     SplitNormalized,
+    WriteInPieces,
 }
 
 /// By which data a text is brought to a form: to NFD and NFC, or to NFKD and NFKC.
@@ -32,13 +34,13 @@ pub enum Kind {
     Compatibility,
 }
 
-/// What is asked of normalisers to both forms: that a call gives these texts' forms, or one for an encoding those of its
-/// rows, or one that writes to a sink hands on the sink's errors, at a text with these forms.
+/// What is asked of normalisers to both forms: that calls give these texts' forms, or those of long texts, or that a call
+/// for an encoding gives those of its rows.
 #[derive(Clone, Copy)]
 pub enum Ask<'r> {
-    Texts(Call, &'r [Row]),
+    Texts(&'r [Call], &'r [Row<'r>]),
+    Long(&'r [Call]),
     Encoded(Encoding, EncodedCall),
-    Limited(SinkCall, Row),
 }
 
 /// A normaliser to each form, over the same data.
@@ -64,26 +66,31 @@ fn is_split(parts: Result<(&str, &str), AllocError>, text: &str, want: &str) -> 
     }
 }
 
-/// Whether a normaliser writes this decomposed form to a sink.
-fn writes_decomposed(
-    alloc: Global,
-    decomposing: DecomposingNormalizerBorrowed<'_>,
-    text: &str,
-    want: &str,
-) -> bool {
-    let mut sink = String::new(alloc);
-    decomposing.normalize_to(alloc, text, &mut sink).is_ok() && sink.as_str() == want
+/// A normaliser, by its call that writes the form of a text.
+pub trait WritesTexts {
+    /// How many writes bring what it writes to a sink, if that is this, and the errors of each sink that fails sooner are
+    /// handed on.
+    fn writes_text(&self, alloc: Global, text: &str, want: &str) -> Option<usize>;
 }
 
-/// Whether one writes this composed form.
-fn writes_composed(
-    alloc: Global,
-    composing: ComposingNormalizerBorrowed<'_>,
-    text: &str,
-    want: &str,
-) -> bool {
-    let mut sink = String::new(alloc);
-    composing.normalize_to(alloc, text, &mut sink).is_ok() && sink.as_str() == want
+impl WritesTexts for DecomposingNormalizerBorrowed<'_> {
+    fn writes_text(&self, alloc: Global, text: &str, want: &str) -> Option<usize> {
+        writes_of(
+            alloc,
+            want.as_bytes(),
+            |sink| self.normalize_to(alloc, text, sink),
+        )
+    }
+}
+
+impl WritesTexts for ComposingNormalizerBorrowed<'_> {
+    fn writes_text(&self, alloc: Global, text: &str, want: &str) -> Option<usize> {
+        writes_of(
+            alloc,
+            want.as_bytes(),
+            |sink| self.normalize_to(alloc, text, sink),
+        )
+    }
 }
 
 /// Whether what an iterator gave is the next character that is wanted.
@@ -128,12 +135,26 @@ fn iterates_composed(
     are_chars(composing.normalize_iter(alloc, text.chars()), want)
 }
 
+/// Whether both write the forms of a text in several writes, where it isn't in the form.
+fn write_in_pieces(
+    alloc: Global,
+    normalizers: Normalizers<'_>,
+    (text, decomposed, composed): Row<'_>,
+) -> bool {
+    let Normalizers {
+        decomposing,
+        composing,
+    } = normalizers;
+    writes_in_pieces(alloc, &decomposing, text, decomposed) == Some(true)
+        && writes_in_pieces(alloc, &composing, text, composed) == Some(true)
+}
+
 /// Whether a call gives these forms of a text, or knows whether it is in them.
 fn gives_row(
     alloc: Global,
     normalizers: Normalizers<'_>,
     call: Call,
-    (text, decomposed, composed): Row,
+    (text, decomposed, composed): Row<'_>,
 ) -> bool {
     let Normalizers {
         decomposing,
@@ -148,8 +169,8 @@ fn gives_row(
             iterates_decomposed(alloc, decomposing, text, decomposed)
                 && iterates_composed(alloc, composing, text, composed)
         }
-        Call::WriteDecomposed => writes_decomposed(alloc, decomposing, text, decomposed),
-        Call::WriteComposed => writes_composed(alloc, composing, text, composed),
+        Call::WriteDecomposed => decomposing.writes_text(alloc, text, decomposed).is_some(),
+        Call::WriteComposed => composing.writes_text(alloc, text, composed).is_some(),
         Call::IsNormalized => {
             decomposing.is_normalized(text) == (text == decomposed)
                 && composing.is_normalized(alloc, text).ok() == Some(text == composed)
@@ -158,13 +179,53 @@ fn gives_row(
             is_split(Ok(decomposing.split_normalized(text)), text, decomposed)
                 && is_split(composing.split_normalized(alloc, text), text, composed)
         }
+        Call::WriteInPieces => write_in_pieces(alloc, normalizers, (text, decomposed, composed)),
     }
 }
 
-/// Whether it does so of each row.
-fn gives_rows(alloc: Global, normalizers: Normalizers<'_>, call: Call, rows: &[Row]) -> bool {
+/// Whether each of these calls does so.
+fn give_row(alloc: Global, normalizers: Normalizers<'_>, calls: &[Call], row: Row<'_>) -> bool {
+    for call in calls {
+        if !gives_row(alloc, normalizers, *call, row) {
+            return false;
+        }
+    }
+    true
+}
+
+/// Whether they do so of each row.
+fn give_rows(
+    alloc: Global,
+    normalizers: Normalizers<'_>,
+    calls: &[Call],
+    rows: &[Row<'_>],
+) -> bool {
     for row in rows {
-        if !gives_row(alloc, normalizers, call, *row) {
+        if !give_row(alloc, normalizers, calls, *row) {
+            return false;
+        }
+    }
+    true
+}
+
+/// Whether calls give the forms of a long text; `None` where memory is refused.
+fn give_long_row(
+    alloc: Global,
+    normalizers: Normalizers<'_>,
+    calls: &[Call],
+    (text, decomposed, composed): LongRow,
+) -> Option<bool> {
+    let text = joined(alloc, text)?;
+    let decomposed = joined(alloc, decomposed)?;
+    let composed = joined(alloc, composed)?;
+    let row = (text.as_str(), decomposed.as_str(), composed.as_str());
+    Some(give_row(alloc, normalizers, calls, row))
+}
+
+/// Whether they do so of each.
+fn give_long_rows(alloc: Global, normalizers: Normalizers<'_>, calls: &[Call]) -> bool {
+    for row in LONG_ROWS {
+        if give_long_row(alloc, normalizers, calls, row) != Some(true) {
             return false;
         }
     }
@@ -186,23 +247,12 @@ fn give_encoded(
         && gives_encoded(alloc, &composing, encoding, call)
 }
 
-/// Whether both hand on the errors of a sink that takes some writes and then fails.
-fn hand_on(
-    alloc: Global,
-    normalizers: Normalizers<'_>,
-    call: SinkCall,
-    (text, decomposed, composed): Row,
-) -> bool {
-    is_cut_at_each(alloc, &normalizers.decomposing, call, (text, decomposed))
-        && is_cut_at_each(alloc, &normalizers.composing, call, (text, composed))
-}
-
 /// Whether they give what is asked for.
 fn give(alloc: Global, normalizers: Normalizers<'_>, ask: Ask<'_>) -> bool {
     match ask {
-        Ask::Texts(call, rows) => gives_rows(alloc, normalizers, call, rows),
+        Ask::Texts(calls, rows) => give_rows(alloc, normalizers, calls, rows),
+        Ask::Long(calls) => give_long_rows(alloc, normalizers, calls),
         Ask::Encoded(encoding, call) => give_encoded(alloc, normalizers, encoding, call),
-        Ask::Limited(call, row) => hand_on(alloc, normalizers, call, row),
     }
 }
 

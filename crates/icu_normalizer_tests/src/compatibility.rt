@@ -5,7 +5,7 @@ use crate::given::gives_given;
 use std::alloc::Global;
 
 /// A text, its NFKD and its NFKC, as an independent reading of the definitions gives them.
-const ROWS: [Row; 30] = [
+const ROWS: [Row<'static>; 30] = [
     ("", "", ""),
     ("x", "x", "x"),
     ("\u{b2}", "2", "2"),
@@ -63,7 +63,7 @@ const ROWS: [Row; 30] = [
 ];
 
 /// A text, its NFD and its NFC, as the same reading gives them: what is mapped by compatibility stays.
-const KEPT: [Row; 10] = [
+const KEPT: [Row<'static>; 10] = [
     ("\u{b2}", "\u{b2}", "\u{b2}"),
     ("\u{ff9e}", "\u{ff9e}", "\u{ff9e}"),
     ("\u{304b}\u{ff9e}", "\u{304b}\u{ff9e}", "\u{304b}\u{ff9e}"),
@@ -80,39 +80,37 @@ const KEPT: [Row; 10] = [
     ("\u{11099}\u{110ba}", "\u{11099}\u{110ba}", "\u{1109a}"),
 ];
 
-/// Whether a call gives the NFKD and NFKC of each row.
-fn has_rows(alloc: Global, call: Call) -> bool {
-    gives_given(alloc, Kind::Compatibility, Ask::Texts(call, &ROWS))
+/// Whether calls give the NFKD and NFKC of each row.
+fn have_rows(alloc: Global, calls: &[Call]) -> bool {
+    gives_given(alloc, Kind::Compatibility, Ask::Texts(calls, &ROWS))
 }
 
-/// Whether one gives the NFD and NFC of each row of what stays.
-fn keeps_rows(alloc: Global, call: Call) -> bool {
-    gives_given(alloc, Kind::Canonical, Ask::Texts(call, &KEPT))
+/// Whether they give the NFD and NFC of each row of what stays.
+fn keep_rows(alloc: Global, calls: &[Call]) -> bool {
+    gives_given(alloc, Kind::Canonical, Ask::Texts(calls, &KEPT))
 }
 
 #[test]
 fn ok_try_new_nfkd_unstable(rt: HostRuntime) {
-    assert!(rt; has_rows(rt.alloc(), Call::WriteDecomposed));
+    assert!(rt; have_rows(rt.alloc(), &[Call::WriteDecomposed]));
 }
 
 #[test]
 fn ok_try_new_nfkc_unstable(rt: HostRuntime) {
-    assert!(rt; has_rows(rt.alloc(), Call::WriteComposed));
+    assert!(rt; have_rows(rt.alloc(), &[Call::WriteComposed]));
 }
 
 #[test]
 fn compatible_forms(rt: HostRuntime) {
-    assert!(rt; has_rows(rt.alloc(), Call::Normalize));
-    assert!(rt; has_rows(rt.alloc(), Call::Iterate));
+    assert!(rt; have_rows(rt.alloc(), &[Call::Normalize, Call::Iterate]));
 }
 
 #[test]
 fn compatible_texts(rt: HostRuntime) {
-    assert!(rt; has_rows(rt.alloc(), Call::IsNormalized));
-    assert!(rt; has_rows(rt.alloc(), Call::SplitNormalized));
+    assert!(rt; have_rows(rt.alloc(), &[Call::IsNormalized, Call::SplitNormalized]));
 }
 
 #[test]
 fn canonical_forms_keep_characters(rt: HostRuntime) {
-    assert!(rt; keeps_rows(rt.alloc(), Call::Normalize));
+    assert!(rt; keep_rows(rt.alloc(), &[Call::Normalize]));
 }

@@ -12,8 +12,9 @@ pub trait NormalizesUnits<U> {
     /// Whether what it makes of a text is this.
     fn makes(&self, alloc: Global, text: &[U], want: &[U]) -> bool;
 
-    /// Whether what it writes to a sink is.
-    fn writes(&self, alloc: Global, text: &[U], want: &[U]) -> bool;
+    /// How many writes bring what it writes to a sink, if that is this, and the errors of each sink that fails sooner are
+    /// handed on.
+    fn writes(&self, alloc: Global, text: &[U], want: &[U]) -> Option<usize>;
 
     /// Whether a text is in the form; `None` where memory is refused.
     fn is_form(&self, alloc: Global, text: &[U]) -> Option<bool>;
@@ -104,7 +105,7 @@ fn gives<U: PartialEq, N: NormalizesUnits<U>>(
 ) -> bool {
     match call {
         EncodedCall::Normalize => normalizer.makes(alloc, text, want),
-        EncodedCall::Write => normalizer.writes(alloc, text, want),
+        EncodedCall::Write => normalizer.writes(alloc, text, want).is_some(),
         EncodedCall::IsNormalized => normalizer.is_form(alloc, text) == Some(text == want),
         EncodedCall::SplitNormalized => splits(alloc, normalizer, text, want),
     }

@@ -4,6 +4,7 @@ use crate::calls::{Ask, Kind};
 use crate::damaged::Row;
 use crate::encoded::{EncodedCall, Encoding, NormalizesUnits, are_bytes, are_units};
 use crate::given::gives_given;
+use crate::sinks::writes_of;
 use icu_normalizer::composing::ComposingNormalizerBorrowed;
 use icu_normalizer::decomposing::DecomposingNormalizerBorrowed;
 use std::alloc::Global;
@@ -17,9 +18,12 @@ impl NormalizesUnits<u8> for DecomposingNormalizerBorrowed<'_> {
         are_bytes(self.normalize_utf8(alloc, text), want)
     }
 
-    fn writes(&self, alloc: Global, text: &[u8], want: &[u8]) -> bool {
-        let mut sink = String::new(alloc);
-        self.normalize_utf8_to(alloc, text, &mut sink).is_ok() && sink.as_bytes() == want
+    fn writes(&self, alloc: Global, text: &[u8], want: &[u8]) -> Option<usize> {
+        writes_of(
+            alloc,
+            want,
+            |sink| self.normalize_utf8_to(alloc, text, sink),
+        )
     }
 
     fn is_form(&self, _alloc: Global, text: &[u8]) -> Option<bool> {
@@ -41,9 +45,12 @@ impl NormalizesUnits<u16> for DecomposingNormalizerBorrowed<'_> {
         are_units(self.normalize_utf16(alloc, text), want)
     }
 
-    fn writes(&self, alloc: Global, text: &[u16], want: &[u16]) -> bool {
-        let mut sink = Vec::new(alloc);
-        self.normalize_utf16_to(alloc, text, &mut sink).is_ok() && sink.as_slice() == want
+    fn writes(&self, alloc: Global, text: &[u16], want: &[u16]) -> Option<usize> {
+        writes_of(
+            alloc,
+            want,
+            |sink| self.normalize_utf16_to(alloc, text, sink),
+        )
     }
 
     fn is_form(&self, _alloc: Global, text: &[u16]) -> Option<bool> {
@@ -64,9 +71,12 @@ impl NormalizesUnits<u8> for ComposingNormalizerBorrowed<'_> {
         are_bytes(self.normalize_utf8(alloc, text), want)
     }
 
-    fn writes(&self, alloc: Global, text: &[u8], want: &[u8]) -> bool {
-        let mut sink = String::new(alloc);
-        self.normalize_utf8_to(alloc, text, &mut sink).is_ok() && sink.as_bytes() == want
+    fn writes(&self, alloc: Global, text: &[u8], want: &[u8]) -> Option<usize> {
+        writes_of(
+            alloc,
+            want,
+            |sink| self.normalize_utf8_to(alloc, text, sink),
+        )
     }
 
     fn is_form(&self, alloc: Global, text: &[u8]) -> Option<bool> {
@@ -88,9 +98,12 @@ impl NormalizesUnits<u16> for ComposingNormalizerBorrowed<'_> {
         are_units(self.normalize_utf16(alloc, text), want)
     }
 
-    fn writes(&self, alloc: Global, text: &[u16], want: &[u16]) -> bool {
-        let mut sink = Vec::new(alloc);
-        self.normalize_utf16_to(alloc, text, &mut sink).is_ok() && sink.as_slice() == want
+    fn writes(&self, alloc: Global, text: &[u16], want: &[u16]) -> Option<usize> {
+        writes_of(
+            alloc,
+            want,
+            |sink| self.normalize_utf16_to(alloc, text, sink),
+        )
     }
 
     fn is_form(&self, alloc: Global, text: &[u16]) -> Option<bool> {

@@ -17,6 +17,8 @@ mod forms;
 #[cfg(test)]
 mod given;
 #[cfg(test)]
+mod long;
+#[cfg(test)]
 mod mapper;
 #[cfg(test)]
 mod refusals;

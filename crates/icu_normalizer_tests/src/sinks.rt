@@ -1,12 +1,8 @@
 //! Sinks of text and of units: what they hold after writes, and sinks that take some writes and then fail, under each call
 //! that writes a normal form.
 
-ghost use Rattle.std.specs.Prelude.{⊤, string_bytes};
+ghost use Rattle.std.specs.Prelude.{◌≡◌, ◌++◌, ⊤, OnOk, OnErr};
 
-use crate::calls::{Ask, Kind};
-use crate::given::gives_given;
-use icu_normalizer::composing::ComposingNormalizerBorrowed;
-use icu_normalizer::decomposing::DecomposingNormalizerBorrowed;
 use icu_normalizer::sinks::{NormError, TextSink, UnitSink};
 use std::alloc::{AllocError, Global};
 
@@ -19,275 +15,133 @@ pub enum Refused {
     Memory,
 }
 
-/// A text that takes some writes, and then fails at each.
-pub struct LimitedText {
-    left: usize,
-    text: String,
-}
-
-/// Units that do.
-pub struct LimitedUnits {
-    left: usize,
-    units: Vec<u16>,
+/// A sink that takes some writes, and then fails at each.
+pub struct Limited<U> {
+    /// How many it takes.
+    limit: usize,
+    /// How many units it held as each write that it took began.
+    starts: Vec<usize>,
+    held: Vec<U>,
 }
 
 // (let go of as one, and not part by part, so that what owns one is proved sooner)
-impl Drop for LimitedText {
+impl<U: Drop> Drop for Limited<U> {
     fn drop(self) {
-        let LimitedText { left: _, text: _ } = self;
+        let Limited {
+            limit: _,
+            starts: _,
+            held: _,
+        } = self;
     }
 }
 
-impl Drop for LimitedUnits {
-    fn drop(self) {
-        let LimitedUnits { left: _, units: _ } = self;
+impl<U: Copy> Limited<U> {
+    /// One that holds nothing.
+    fn new(alloc: Global, limit: usize) -> Limited<U> {
+        Limited {
+            limit,
+            starts: Vec::new(alloc),
+            held: Vec::new(alloc),
+        }
+    }
+
+    /// Takes what is written, if a write is left.
+    fn take(&mut self, units: &[U]) -> Result<(), Refused>
+        ensures ok { OnOk result (self.new.held.items ≡ self.old.held.items ++ units.now) }
+        ensures err { OnErr result (self.new.held.items ≡ self.old.held.items) }
+    {
+        if self.starts.len() == self.limit {
+            return Err(Refused::Full);
+        }
+        let start = self.held.len();
+        if self.starts.push(start).is_err() {
+            return Err(Refused::Memory);
+        }
+        match self.held.extend_from_slice(units) {
+            Ok(()) => Ok(()),
+            Err(_) => Err(Refused::Memory),
+        }
     }
 }
 
-impl TextSink for LimitedText {
+impl TextSink for Limited<u8> {
     type Error = Refused;
 
-    ghost contents = { λ s. string_bytes s.text };
+    ghost contents = { λ s. s.held.items };
 
     ghost takes = { λ _ _. ⊤ };
 
     ghost fails = { λ _ _ _. ⊤ };
 
     fn write_str(&mut self, text: &str) -> Result<(), Refused> {
-        if self.left == 0 {
-            return Err(Refused::Full);
-        }
-        self.left -= 1;
-        match self.text.push_str(text) {
-            Ok(()) => Ok(()),
-            Err(_) => Err(Refused::Memory),
-        }
+        self.take(text.as_bytes())
     }
 
     fn write_char(&mut self, c: char) -> Result<(), Refused> {
-        if self.left == 0 {
-            return Err(Refused::Full);
-        }
-        self.left -= 1;
-        match self.text.push(c) {
-            Ok(()) => Ok(()),
-            Err(_) => Err(Refused::Memory),
-        }
+        let mut bytes = [0; 4];
+        let text = c.encode_utf8(&mut bytes);
+        self.take(text.as_bytes())
     }
 }
 
-impl UnitSink for LimitedUnits {
+impl UnitSink for Limited<u16> {
     type Error = Refused;
 
-    ghost contents = { λ s. s.units.items };
+    ghost contents = { λ s. s.held.items };
 
     ghost takes = { λ _ _. ⊤ };
 
     ghost fails = { λ _ _ _. ⊤ };
 
     fn write_slice(&mut self, units: &[u16]) -> Result<(), Refused> {
-        if self.left == 0 {
-            return Err(Refused::Full);
-        }
-        self.left -= 1;
-        match self.units.extend_from_slice(units) {
-            Ok(()) => Ok(()),
-            Err(_) => Err(Refused::Memory),
-        }
+        self.take(units)
     }
 
     fn write_char(&mut self, c: char) -> Result<(), Refused> {
-        if self.left == 0 {
-            return Err(Refused::Full);
-        }
-        self.left -= 1;
-        match UnitSink::write_char(&mut self.units, c) {
-            Ok(()) => Ok(()),
-            Err(_) => Err(Refused::Memory),
-        }
+        let mut units = [0; 2];
+        let units = c.encode_utf16(&mut units);
+        self.take(units)
     }
 }
 
-/// A call that writes a normal form to a sink.
-#[derive(Clone, Copy)]
-pub enum SinkCall {
-    NormalizeTo,
-    NormalizeUtf8To,
-    NormalizeUtf16To,
-}
-
-/// A normaliser, by its calls that write to a sink.
-pub trait WritesForm {
-    /// Writes the form of a text, or of its bytes.
-    fn write_text(
-        &self,
-        alloc: Global,
-        text: &str,
-        is_bytes: bool,
-        sink: &mut LimitedText,
-    ) -> Result<(), NormError<Refused>>;
-
-    /// Writes that of units.
-    fn write_units(
-        &self,
-        alloc: Global,
-        units: &[u16],
-        sink: &mut LimitedUnits,
-    ) -> Result<(), NormError<Refused>>;
-}
-
-impl WritesForm for DecomposingNormalizerBorrowed<'_> {
-    fn write_text(
-        &self,
-        alloc: Global,
-        text: &str,
-        is_bytes: bool,
-        sink: &mut LimitedText,
-    ) -> Result<(), NormError<Refused>> {
-        if is_bytes {
-            self.normalize_utf8_to(alloc, text.as_bytes(), sink)
-        } else {
-            self.normalize_to(alloc, text, sink)
-        }
-    }
-
-    fn write_units(
-        &self,
-        alloc: Global,
-        units: &[u16],
-        sink: &mut LimitedUnits,
-    ) -> Result<(), NormError<Refused>> {
-        self.normalize_utf16_to(alloc, units, sink)
-    }
-}
-
-impl WritesForm for ComposingNormalizerBorrowed<'_> {
-    fn write_text(
-        &self,
-        alloc: Global,
-        text: &str,
-        is_bytes: bool,
-        sink: &mut LimitedText,
-    ) -> Result<(), NormError<Refused>> {
-        if is_bytes {
-            self.normalize_utf8_to(alloc, text.as_bytes(), sink)
-        } else {
-            self.normalize_to(alloc, text, sink)
-        }
-    }
-
-    fn write_units(
-        &self,
-        alloc: Global,
-        units: &[u16],
-        sink: &mut LimitedUnits,
-    ) -> Result<(), NormError<Refused>> {
-        self.normalize_utf16_to(alloc, units, sink)
-    }
-}
-
-/// What came of a call.
-#[derive(Clone, Copy, PartialEq, Eq)]
-enum Outcome {
-    /// The whole form was written.
-    Whole,
-    /// The sink's error came, once it had taken all the writes that it takes, and it holds a part of the form.
-    Cut,
-    /// Neither.
-    Wrong,
-}
-
-/// What came of it, by the answer and by whether the sink is full, and holds the form or begins it.
-fn judged(
-    answer: Result<(), NormError<Refused>>,
-    is_full: bool,
-    is_whole: bool,
-    is_begun: bool,
-) -> Outcome {
-    match answer {
-        Ok(()) if is_whole => Outcome::Whole,
-        Err(NormError::Sink(Refused::Full)) if is_full && is_begun && !is_whole => Outcome::Cut,
-        _ => Outcome::Wrong,
-    }
-}
-
-/// What comes of writing a form to a text that takes some writes.
-fn text_outcome<N: WritesForm>(
+/// Whether a call hands on the error of a sink that takes so many writes, and has given it just these units by then.
+fn is_cut<U: Copy + PartialEq, F: Fn(&mut Limited<U>) -> Result<(), NormError<Refused>>>(
     alloc: Global,
-    normalizer: &N,
-    (text, want): (&str, &str),
-    is_bytes: bool,
+    part: &[U],
     writes: usize,
-) -> Outcome {
-    let mut sink = LimitedText {
-        left: writes,
-        text: String::new(alloc),
-    };
-    let answer = normalizer.write_text(alloc, text, is_bytes, &mut sink);
-    let held = sink.text.as_str();
-    judged(answer, sink.left == 0, held == want, want.starts_with(held))
-}
-
-/// The units of a text; `None` where memory is refused.
-fn units_of(alloc: Global, text: &str) -> Option<Vec<u16>> {
-    let mut units = Vec::new(alloc);
-    for c in text.chars() {
-        UnitSink::write_char(&mut units, c).ok()?;
-    }
-    Some(units)
-}
-
-/// What comes of writing one to units that take some writes.
-fn units_outcome<N: WritesForm>(
-    alloc: Global,
-    normalizer: &N,
-    (text, want): (&str, &str),
-    writes: usize,
-) -> Option<Outcome> {
-    let text = units_of(alloc, text)?;
-    let want = units_of(alloc, want)?;
-    let mut sink = LimitedUnits {
-        left: writes,
-        units: Vec::new(alloc),
-    };
-    let answer = normalizer.write_units(alloc, &text, &mut sink);
-    let held = sink.units.as_slice();
-    let is_whole = held == want.as_slice();
-    let is_begun = want.as_slice().starts_with(held);
-    Some(judged(answer, sink.left == 0, is_whole, is_begun))
-}
-
-/// What comes of a call with a sink that takes some writes.
-fn call_outcome<N: WritesForm>(
-    alloc: Global,
-    normalizer: &N,
-    call: SinkCall,
-    row: (&str, &str),
-    writes: usize,
-) -> Option<Outcome> {
-    match call {
-        SinkCall::NormalizeTo => Some(text_outcome(alloc, normalizer, row, false, writes)),
-        SinkCall::NormalizeUtf8To => Some(text_outcome(alloc, normalizer, row, true, writes)),
-        SinkCall::NormalizeUtf16To => units_outcome(alloc, normalizer, row, writes),
+    call: &F,
+) -> bool
+    requires { F.IsAlwaysCallable call.now }
+{
+    let mut sink = Limited::new(alloc, writes);
+    match call(&mut sink) {
+        Err(NormError::Sink(Refused::Full)) => {
+            sink.starts.len() == writes && sink.held.as_slice() == part
+        }
+        _ => false,
     }
 }
 
-/// Whether a sink's error is handed on from each write in turn, up to the number of writes with which a call succeeds:
-/// two at least.
-pub fn is_cut_at_each<N: WritesForm>(
+/// How many writes a call makes, which writes just these units. With a sink that takes fewer it hands on the error of that,
+/// and has given it what the whole call had by then. `None` where anything else comes.
+pub fn writes_of<U: Copy + PartialEq, F: Fn(&mut Limited<U>) -> Result<(), NormError<Refused>>>(
     alloc: Global,
-    normalizer: &N,
-    call: SinkCall,
-    row: (&str, &str),
-) -> bool {
-    for writes in 0..16 {
-        match call_outcome(alloc, normalizer, call, row, writes) {
-            Some(Outcome::Cut) => {}
-            Some(Outcome::Whole) => return writes >= 2,
-            Some(Outcome::Wrong) | None => return false,
+    want: &[U],
+    call: F,
+) -> Option<usize>
+    requires { F.IsAlwaysCallable call }
+{
+    let mut whole = Limited::new(alloc, usize::MAX);
+    call(&mut whole).ok()?;
+    if whole.held.as_slice() != want {
+        return None;
+    }
+    for (writes, start) in whole.starts.iter().enumerate() {
+        if !is_cut(alloc, want.get(..*start)?, writes, &call) {
+            return None;
         }
     }
-    false
+    Some(whole.starts.len())
 }
 
 #[test]

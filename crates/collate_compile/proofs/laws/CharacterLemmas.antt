@@ -8,7 +8,7 @@ use Rattle.std.proofs.lemmas.Bool.Decides.{nat_tests}
 use lib.Utf8.{scalar, scalars}
 use Rattle.collate_lines.specs.Record.{Record, nothing, class, mapping, compatibility, weights, range, digit, setting, Layer, root, tailoring}
 use Rattle.collate_lines.specs.Grammar.{checked, class_by, class_number, code_point, compatibility_by, digit_by, digit_to, element, ending_by, hex_number, hex_of, is_scalar, is_short, key_by, listed, mapping_by, parted, range_by, record_by, record_of, set_by, setting_by, some_listed, step_number, weights_by}
-use Rattle.collate_rules.proofs.given.GrammarLemmas.{Gives, gives_bound, gives_checked, gives_either, gives_none, gives_some}
+use Rattle.collate_rules.proofs.given.GivesLemmas.{Gives, gives_bound, gives_checked, gives_either, gives_none, gives_some}
 
 -- the characters of a line's text and prefix
 pub record AreCharacters (prefix text : List ℕ) : Type 0 where

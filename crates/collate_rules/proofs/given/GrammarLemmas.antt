@@ -1,5 +1,6 @@
--- What the grammar gives of numbers: the weights of a line's elements are of their widths, and a digit is at most 9.
-use Rattle.std.proofs.Common.{◌≡◌, ℕ, ◌+◌, ◌-◌, ◌*◌, ◌^◌, ◌<◌, ◌≤◌, Bool, true, false, ◌==◌, leb, ltb, List, [], ◌∷◌, length, Option, Some, None, refl, sym, ap, ◌∙◌, subst, arith, lit<}
+-- What the grammar gives of numbers and counts: the weights of a line's elements are of their widths, a digit is at most 9, a
+-- mapping is to one character at least, and groups are four.
+use Rattle.std.proofs.Common.{◌≡◌, ℕ, ◌+◌, ◌-◌, ◌*◌, ◌^◌, ◌<◌, ◌≤◌, Bool, true, ◌==◌, leb, ltb, List, [], ◌∷◌, length, Option, Some, None, refl, sym, ap, ◌∙◌, subst, arith, lit<}
 use Rattle.std.specs.Prelude.{if◌then◌else◌, codes, option_and_then}
 use Rattle.std.specs.List.{list_all, slice_split}
 use Rattle.std.proofs.Math.Nat.{mul-le-mul_right, mul_assoc, mul_comm, pow-suc}
@@ -9,31 +10,9 @@ use Rattle.icu_collator_core.specs.WeightRules.{has_widths}
 use Rattle.collate_lines.specs.Record.{Record, nothing, class, mapping, compatibility, weights, range, digit, setting, Layer, root, tailoring}
 use Rattle.collate_lines.specs.Grammar.{checked, class_by, class_number, code_point, compatibility_by, decimal_digit, digit_by, digit_to, element, element_by, ending_by, hex_digit, hex_number, hex_of, in_brackets, is_within, key_by, listed, mapping_by, number_after, parted, primary, range_by, record_by, record_of, set_by, setting_by, some_listed, step_number, weights_by}
 use Rattle.collate_rules.specs.GivenWeights.{KeepsWidths}
-
--- ---- What is given, if something is
-
-abbrev pub Gives : {R : Type 0} → (R → Type 0) → Option R → Type 0
-Gives {R} P given = (r : R) → given ≡ Some r → P r
-
-module _ {R : Type 0} (P : R → Type 0) where
-  pub gives_none : Gives P None
-  gives_none r e = cc
-
-  pub gives_some : (x : R) → P x → Gives P (Some x)
-  gives_some x h r e = let same : x ≡ r = cc in subst P same h
-
-  pub gives_either : (b : Bool) (x y : Option R) → (b ≡ true → Gives P x) → Gives P y → Gives P (if b then x else y)
-  gives_either true x y h k = h refl
-  gives_either false x y h k = k
-
-  pub gives_bound : {A : Type 0} (given : Option A) (f : A → Option R) → ((a : A) → given ≡ Some a → Gives P (f a))
-      → Gives P (option_and_then f given)
-  gives_bound None f h = gives_none
-  gives_bound (Some a) f h = h a refl
-
-  pub gives_checked : (b : Bool) (x : R) → (b ≡ true → P x) → Gives P (checked b x)
-  gives_checked true x h = gives_some x (h refl)
-  gives_checked false x h = gives_none
+use Rattle.collate_rules.specs.LineCounts.{KeepsCounts}
+use Rattle.collate_rules.proofs.given.CountLemmas.{setting_counted}
+use Rattle.collate_rules.proofs.given.GivesLemmas.{Gives, gives_none, gives_some, gives_either, gives_bound, gives_checked}
 
 -- ---- Digits and numbers
 
@@ -129,19 +108,27 @@ elements_widths (field ∷ fields) =
 
 -- ---- Lines
 
+-- what the grammar gives of a line
+abbrev KeepsBoth : Record → Type 0
+KeepsBoth line = KeepsWidths line × KeepsCounts line
+
 abbrev Keeps : Option Record → Type 0
-Keeps given = Gives KeepsWidths given
+Keeps given = Gives KeepsBoth given
 
 no_line : Keeps None
-no_line = gives_none KeepsWidths
+no_line = gives_none KeepsBoth
+
+-- a line that keeps both
+keeping : (line : Record) → KeepsWidths line → KeepsCounts line → Keeps (Some line)
+keeping line widths counts = gives_some KeepsBoth line (widths, counts)
 
 bound : {A : Type 0} (given : Option A) (f : A → Option Record) → ((a : A) → given ≡ Some a → Keeps (f a)) → Keeps (option_and_then f given)
-bound given f h = gives_bound KeepsWidths given f h
+bound given f h = gives_bound KeepsBoth given f h
 
 class_keeps : (fields : List (List ℕ)) → Keeps (class_by fields)
 class_keeps [] = no_line
 class_keeps (c ∷ []) = no_line
-class_keeps (c ∷ n ∷ []) = bound (code_point c) _ (λ d is. bound (class_number n) _ (λ k are. gives_some KeepsWidths (class d k) tt))
+class_keeps (c ∷ n ∷ []) = bound (code_point c) _ (λ d is. bound (class_number n) _ (λ k are. keeping (class d k) tt tt))
 class_keeps (c ∷ n ∷ x ∷ xs) = no_line
 
 mapping_keeps : (fields : List (List ℕ)) → Keeps (mapping_by fields)
@@ -150,18 +137,18 @@ mapping_keeps (c ∷ []) = no_line
 mapping_keeps (c ∷ d ∷ fields) =
     bound (code_point c) _ (λ a is.
     bound (code_point d) _ (λ b also.
-    bound (ending_by fields) _ (λ ending ends. gives_some KeepsWidths (mapping a (b ∷ ending.0) ending.1) tt)))
+    bound (ending_by fields) _ (λ ending ends. keeping (mapping a (b ∷ ending.0) ending.1) tt (omega arith))))
 
 compatibility_keeps : (fields : List (List ℕ)) → Keeps (compatibility_by fields)
 compatibility_keeps [] = no_line
 compatibility_keeps (c ∷ fields) =
-    bound (code_point c) _ (λ a is. bound (some_listed code_point fields) _ (λ ds are. gives_some KeepsWidths (compatibility a ds) tt))
+    bound (code_point c) _ (λ a is. bound (some_listed code_point fields) _ (λ ds are. keeping (compatibility a ds) tt tt))
 
 weights_keep : (layer : Layer) (fields : List (List ℕ)) → Keeps (weights_by layer fields)
 weights_keep layer fields =
     bound (parted (codes ";") fields) _ (λ parts are.
     bound (key_by parts.0) _ (λ key is.
-    bound (listed element parts.1) _ (λ es read. gives_some KeepsWidths (weights layer key.0 key.1 es) (elements_widths parts.1 es read))))
+    bound (listed element parts.1) _ (λ es read. keeping (weights layer key.0 key.1 es) (elements_widths parts.1 es read) tt)))
 
 range_keeps : (fields : List (List ℕ)) → Keeps (range_by fields)
 range_keeps [] = no_line
@@ -172,23 +159,24 @@ range_keeps (c ∷ d ∷ p ∷ n ∷ []) =
     bound (code_point c) _ (λ a is.
     bound (code_point d) _ (λ b also.
     bound (hex_of 8 p) _ (λ q has.
-    bound (step_number n) _ (λ m steps. gives_some KeepsWidths (range (record { first = a; last = b; primary = q; step = m })) tt))))
+    bound (step_number n) _ (λ m steps. keeping (range (record { first = a; last = b; primary = q; step = m })) tt tt))))
 range_keeps (c ∷ d ∷ p ∷ n ∷ x ∷ xs) = no_line
 
 digit_keeps : (fields : List (List ℕ)) → Keeps (digit_by fields)
 digit_keeps [] = no_line
 digit_keeps (c ∷ []) = no_line
 digit_keeps (c ∷ n ∷ []) =
-    bound (code_point c) _ (λ a is. bound (digit_to 9 n) _ (λ v has. gives_some KeepsWidths (digit a v) (digit_most 9 n v has)))
+    bound (code_point c) _ (λ a is. bound (digit_to 9 n) _ (λ v has. keeping (digit a v) (digit_most 9 n v has) tt))
 digit_keeps (c ∷ n ∷ x ∷ xs) = no_line
 
 set_keeps : (fields : List (List ℕ)) → Keeps (set_by fields)
 set_keeps [] = no_line
-set_keeps (name ∷ values) = bound (setting_by name values) _ (λ s is. gives_some KeepsWidths (setting s) tt)
+set_keeps (name ∷ values) =
+    bound (setting_by name values) _ (λ s is. keeping (setting s) tt (setting_counted name values s is))
 
 -- one of two forms, by a word
 one_of : (b : Bool) (x y : Option Record) → Keeps x → Keeps y → Keeps (if b then x else y)
-one_of b x y h k = gives_either KeepsWidths b x y (λ _. h) k
+one_of b x y h k = gives_either KeepsBoth b x y (λ _. h) k
 
 fields_keep : (fields : List (List ℕ)) → Keeps (record_by fields)
 fields_keep [] = no_line
@@ -202,8 +190,13 @@ fields_keep (word ∷ fields) =
     (one_of _ _ _ (digit_keeps fields)
     (one_of _ _ _ (set_keeps fields) no_line)))))))
 
+line_keeps : (line : List ℕ) → Keeps (record_of line)
+line_keeps line = one_of _ _ _ no_line (one_of _ _ _ (keeping nothing tt tt) (fields_keep (slice_split (λ b. b == 32) line)))
+
 -- a line in the grammar has elements of their widths, and digits up to 9
 pub line_keeps_widths : (line : List ℕ) (given : Record) → record_of line ≡ Some given → KeepsWidths given
-line_keeps_widths line =
-    one_of _ _ _ no_line
-    (one_of _ _ _ (gives_some KeepsWidths nothing tt) (fields_keep (slice_split (λ b. b == 32) line)))
+line_keeps_widths line given is = (line_keeps line given is).0
+
+-- a line in the grammar maps to one character at least, and sets four groups
+pub line_keeps_counts : (line : List ℕ) (given : Record) → record_of line ≡ Some given → KeepsCounts given
+line_keeps_counts line given is = (line_keeps line given is).1

@@ -1,0 +1,7 @@
+use Rattle.std.proofs.Common.{ℕ, ◌<◌, map}
+use Rattle.collate_lines.specs.Record.{said}
+use Rattle.collate_rules.specs.Rules.{RepeatsPair}
+use Rattle.collate_mapping_rules.proofs.pairs.first_repeated_pair.Given as goal
+
+abbrev pub invariant-loop-i : goal.invariant-loop-i
+invariant-loop-i l = (k : ℕ) → k < l.i → RepeatsPair (map said l.records) k → ⊥

@@ -1,0 +1,10 @@
+//! The rules of a records file on classes and mappings, C1 to C9: for each, the first of its lines that offends against it.
+//! Lines count from 0 here.
+#![tactic(auto)]
+
+pub mod lines;
+pub mod lists;
+pub mod loops;
+pub mod low;
+pub mod marks;
+pub mod pairs;

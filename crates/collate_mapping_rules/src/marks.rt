@@ -1,0 +1,49 @@
+//! The rule that a mapping stands on a starter that has no other (C1).
+
+ghost use Rattle.std.specs.Prelude.{All, ◌≡◌, ℕ, ◌↔◌, map, true, IsTrue, IfOk, MatchOption};
+ghost use Rattle.collate_lines.specs.Record.{said};
+ghost use Rattle.collate_rules.specs.CanonicalParts.{in_full, IsShort};
+ghost use Rattle.collate_rules.specs.Rules.{IsMappedMark, MapsMark};
+ghost use Rattle.collate_rules.specs.Breaches.{AnswersBreach, earlier};
+ghost use Rattle.collate_rules.specs.Offenders.{NoneOffends, IsFirstOffender};
+
+use collate_lines::record::Record;
+use collate_lines::rule::Rule;
+use collate_rules::built_in::is_built_in;
+use collate_rules::canonical_part::{CanonicalPart, class_of, is_mapped, is_mapped_twice};
+use collate_rules::parts::first_breach;
+use std::alloc::{AllocError, Global};
+
+/// The first line with which a character that isn't built in has a mapping, and another one or a class other than
+/// 0 (rule C1, docs/RECORDS.md). Lines count from 0; `None` where no line offends.
+///
+/// Errors: `AllocError` where memory is refused.
+pub fn first_mapped_mark(alloc: Global, records: &[Record]) -> Result<Option<usize>, AllocError>
+    requires { All IsShort (map said records.now) }
+    ensures { IfOk result (λ found. MatchOption found (NoneOffends Rule.C1 (map said records.now)) (λ i. IsFirstOffender Rule.C1 (map said records.now) i)) }
+{
+    first_breach(
+        alloc,
+        records,
+        |parts: &[CanonicalPart]|
+            ensures { AnswersBreach Rule.C1 parts.now result }
+        { Ok(maps_mark(parts)) },
+    )
+}
+
+/// Whether parts map a mark, where those before the last map none.
+fn maps_mark(parts: &[CanonicalPart]) -> bool
+    ensures { (MapsMark (map in_full (earlier parts.now)) → ⊥) → IsTrue result ↔ MapsMark (map in_full parts.now) }
+{
+    match parts.split_last() {
+        Some((part, _)) => is_mapped_mark(parts, part.character()),
+        None => false,
+    }
+}
+
+/// Whether a character that isn't built in has a mapping, and another one or a class other than 0.
+fn is_mapped_mark(parts: &[CanonicalPart], c: u32) -> bool
+    ensures { IsTrue result ↔ IsMappedMark (map in_full parts.now) c }
+{
+    is_mapped(parts, c) && !is_built_in(c) && (class_of(parts, c) != 0 || is_mapped_twice(parts, c))
+}

@@ -1,0 +1,91 @@
+//! The rules on composed pairs: no two lines compose the same two characters (C5), and the second of the two is from
+//! U+0300 on, and no vowel or final consonant of Hangul (C6).
+
+ghost use Rattle.std.specs.Prelude.{◌≡◌, ◌<◌, ◌⊎◌, ◌↔◌, map, true, IsTrue, Some, MatchOption};
+ghost use Rattle.std.specs.List.{list_any};
+ghost use Rattle.icu_normalizer_core.specs.BuiltIn.{is_within};
+ghost use Rattle.collate_lines.specs.Record.{said};
+ghost use Rattle.collate_rules.specs.Rules.{IsBadlyComposed, is_same_pair, pair_in};
+ghost use Rattle.collate_rules.specs.Offenders.{NoneOffends, IsFirstOffender};
+
+use collate_lines::record::Record;
+use collate_lines::rule::Rule;
+use collate_rules::built_in::is_built_in;
+
+/// The first line that composes two characters which an earlier line composes (rule C5, docs/RECORDS.md). Lines count
+/// from 0; `None` where no line offends.
+pub fn first_repeated_pair(records: &[Record]) -> Option<usize>
+    ensures { MatchOption result (NoneOffends Rule.C5 (map said records.now)) (λ i. IsFirstOffender Rule.C5 (map said records.now) i) }
+{
+    for i in 0..records.len() {
+        if repeats_pair(&records[..i], &records[i]) {
+            return Some(i);
+        }
+    }
+    None
+}
+
+/// The first line that composes two characters of which the second is below U+0300, or a vowel or final consonant of
+/// Hangul (rule C6, docs/RECORDS.md). Lines count from 0; `None` where no line offends.
+pub fn first_bad_second(records: &[Record]) -> Option<usize>
+    ensures { MatchOption result (NoneOffends Rule.C6 (map said records.now)) (λ i. IsFirstOffender Rule.C6 (map said records.now) i) }
+{
+    records.iter().position(is_badly_composed)
+}
+
+/// Whether one of the lines before a line composes the same two characters.
+fn repeats_pair(before: &[Record], given: &Record) -> bool
+    ensures { result ≡ list_any (λ s. is_same_pair (pair_in s) (pair_in (said given.now))) (map said before.now) }
+{
+    let Some((first, second)) = composed_pair(given) else {
+        return false;
+    };
+    for line in before {
+        if composes(line, first, second) {
+            return true;
+        }
+    }
+    false
+}
+
+/// Whether a line composes these two characters.
+fn composes(line: &Record, first: char, second: char) -> bool
+    ensures { result ≡ is_same_pair (pair_in (said line.now)) (Some (first, second)) }
+{
+    match composed_pair(line) {
+        Some((other, further)) => other == first && further == second,
+        None => false,
+    }
+}
+
+/// Whether a line composes two characters of which the second is below U+0300, or a vowel or final consonant of Hangul.
+fn is_badly_composed(given: &Record) -> bool
+    ensures { IsTrue result ↔ IsBadlyComposed (said given.now) }
+{
+    match composed_pair(given) {
+        Some((_, second)) => is_bad_second(second as u32),
+        None => false,
+    }
+}
+
+/// Whether a character is below U+0300, or a vowel or final consonant of Hangul.
+fn is_bad_second(c: u32) -> bool
+    ensures { IsTrue result ↔ ((c < 0x300) ⊎ IsTrue (is_within 0x1161 0x11ff c)) }
+{
+    c < 0x300 || (0x1161..=0x11ff).contains(&c)
+}
+
+/// The two characters that a line composes, unless what it says of them is built in.
+fn composed_pair(given: &Record) -> Option<(char, char)>
+    ensures { result ≡ pair_in (said given.now) }
+{
+    match given {
+        Record::Map {
+            character,
+            first,
+            second: Some(second),
+            is_excluded: false,
+        } if !is_built_in(*character as u32) => Some((*first, *second)),
+        _ => None,
+    }
+}

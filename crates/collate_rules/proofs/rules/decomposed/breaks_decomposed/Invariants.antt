@@ -1,8 +1,0 @@
-use Rattle.std.proofs.Common.{◌≡◌, drop, map}
-use Rattle.std.specs.List.{list_any}
-use Rattle.collate_lines.specs.Record.{said}
-use Rattle.collate_rules.specs.RecordRules.{is_undecomposed}
-use Rattle.collate_rules.proofs.rules.decomposed.breaks_decomposed.Given as goal
-
-abbrev pub invariant-loop-line : goal.invariant-loop-line
-invariant-loop-line l = list_any (is_undecomposed (map said l.lines)) (map said (drop l.line-index l.lines)) ≡ list_any (is_undecomposed (map said l.lines)) (map said l.lines)

@@ -1,5 +1,0 @@
-use Rattle.collate_rules.proofs.records.GrowthLemmas.{decomposed_stays}
-use Rattle.collate_rules.proofs.rules.decomposed.first_undecomposed.Goals as goal
-
-pub returns : goal.returns
-returns c = c.in_ok-found.ensures (decomposed_stays)

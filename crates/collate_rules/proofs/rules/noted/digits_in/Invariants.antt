@@ -1,7 +1,0 @@
-use Rattle.std.proofs.Common.{map, take}
-use Rattle.collate_lines.specs.Record.{said}
-use Rattle.collate_rules.specs.NotedLines.{HasDigits}
-use Rattle.collate_rules.proofs.rules.noted.digits_in.Given as goal
-
-abbrev pub invariant-loop-line : goal.invariant-loop-line
-invariant-loop-line l = HasDigits l.digits (map said (take l.line-index l.lines))

@@ -1,7 +1,0 @@
-use Rattle.std.proofs.Common.{ℕ, ◌<◌, map}
-use Rattle.collate_lines.specs.Record.{said}
-use Rattle.collate_rules.specs.Rules.{RepeatsPair}
-use Rattle.collate_rules.proofs.rules.pairs.first_repeated_pair.Given as goal
-
-abbrev pub invariant-loop-i : goal.invariant-loop-i
-invariant-loop-i l = (k : ℕ) → k < l.i → RepeatsPair (map said l.records) k → ⊥

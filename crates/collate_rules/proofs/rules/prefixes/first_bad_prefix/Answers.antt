@@ -1,7 +1,0 @@
-use Rattle.std.proofs.Common.{map}
-use Rattle.collate_lines.specs.Record.{said}
-use Rattle.collate_rules.proofs.records.GrowthLemmas.{prefixes_stay}
-use Rattle.collate_rules.proofs.rules.prefixes.first_bad_prefix.Goals as goal
-
-pub returns : goal.returns
-returns c = c.in_ok-found.ensures (prefixes_stay (map said c.args.records.now))

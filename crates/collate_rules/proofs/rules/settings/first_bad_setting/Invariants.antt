@@ -1,5 +1,0 @@
-use Rattle.collate_rules.proofs.records.SettingLemmas.{IsKept}
-use Rattle.collate_rules.proofs.rules.settings.first_bad_setting.Given as goal
-
-abbrev pub invariant-loop-i : goal.invariant-loop-i
-invariant-loop-i l = IsKept l.lead l.records l.i

@@ -1,9 +1,0 @@
-use Rattle.std.proofs.Common.{◌≡◌, drop, map}
-use Rattle.collate_lines.specs.Record.{said}
-use Rattle.collate_rules.specs.SettingLines.{numeric_of}
-use Rattle.collate_rules.proofs.rules.settings.numeric_of.Given as goal
-
-abbrev pub invariant-loop-line : goal.invariant-loop-line
-invariant-loop-line l =
-    numeric_of (map said (drop l.line-index l.lines))
-    ≡ numeric_of (map said l.lines)

@@ -1,0 +1,10 @@
+use Rattle.std.proofs.Common.{◌+◌, ◌↔◌, List, subst, IsTrue}
+use Rattle.collate_lines.specs.Record.{Record}
+use Rattle.collate_rules.specs.GivenWeights.{BreakApart}
+use Rattle.collate_weight_rules.proofs.soundness.SaidLemmas.{said_to}
+use Rattle.collate_weight_rules.proofs.apart.ApartTestPlaceTest.holds.Goals as goal
+
+pub returns : goal.returns
+returns c =
+    subst (λ (lines : List Record). IsTrue c.in_ok-yes.yes ↔ BreakApart lines) (said_to c.args.self.now.records.now (c.args.place + 1))
+    c.in_ok-yes.ensures
