@@ -1,2 +1,3 @@
 pub mod building
 pub mod gathering
+pub mod setting

@@ -38,11 +38,13 @@ prefix_of c _ _ es = None
 
 -- what a line of a layer says so
 abbrev pub suffix_in : Layer → ℕ → Record → Option SaidBeside
-suffix_in layer c (weights of_layer prefix text es) = cond (is_same_layer layer of_layer) (suffix_of c prefix text es) None
+suffix_in layer c (weights of_layer prefix text es) =
+    cond (is_same_layer layer of_layer) (suffix_of c prefix text es) None
 suffix_in layer c _ = None
 
 abbrev pub prefix_in : Layer → ℕ → Record → Option SaidBeside
-prefix_in layer c (weights of_layer prefix text es) = cond (is_same_layer layer of_layer) (prefix_of c prefix text es) None
+prefix_in layer c (weights of_layer prefix text es) =
+    cond (is_same_layer layer of_layer) (prefix_of c prefix text es) None
 prefix_in layer c _ = None
 
 -- what all lines say so; a line of the tailoring comes first

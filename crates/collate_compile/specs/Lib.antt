@@ -4,3 +4,4 @@ pub mod Compiled
 pub mod LayerBuilds
 pub mod Layers
 pub mod LineSayings
+pub mod SettingBits

@@ -113,7 +113,8 @@ fn add_character(
     characters: &mut Vec<char>,
     c: char,
 ) -> Result<(), AllocError>
-    ensures { OnOk result (characters.new.items ≡ with_character (is_begun (layer_of layer) (map said lines.now)) characters.old.items (Some c)) }
+    ensures { OnOk result (characters.new.items
+        ≡ with_character (is_begun (layer_of layer) (map said lines.now)) characters.old.items (Some c)) }
 {
     let is_new = is_begun(lines, layer, c) && !is_among(c, characters.as_slice());
     if is_new {
@@ -131,7 +132,8 @@ fn add_found(
     characters: &mut Vec<char>,
     found: Option<char>,
 ) -> Result<(), AllocError>
-    ensures { OnOk result (characters.new.items ≡ with_character (is_begun (layer_of layer) (map said lines.now)) characters.old.items found) }
+    ensures { OnOk result (characters.new.items
+        ≡ with_character (is_begun (layer_of layer) (map said lines.now)) characters.old.items found) }
 {
     match found {
         Some(c) => add_character(lines, layer, characters, c),
@@ -144,7 +146,8 @@ fn add_found(
 /// Errors: `AllocError` where memory is refused.
 pub fn beginnings(alloc: Global, lines: &[Record], layer: Layer) -> Result<Vec<char>, AllocError>
     requires accepted { AreAccepted (map said lines.now) }
-    ensures characters { IfOk result (λ characters. AreBeginnings (layer_of layer) (map said lines.now) characters.items) }
+    ensures characters { IfOk result
+        (λ characters. AreBeginnings (layer_of layer) (map said lines.now) characters.items) }
     ensures few { IfOk result (λ characters. AreFew (map said lines.now) characters.items) }
 {
     let mut characters = Vec::new(alloc);

@@ -44,7 +44,8 @@ fn first_elements<'a>(
     prefix: &[char],
     text: &[char],
 ) -> Option<&'a [Element]>
-    ensures { option_copied result ≡ first_found (elements_in (layer_of layer) prefix.now text.now) (map said records.now) }
+    ensures { option_copied result
+        ≡ first_found (elements_in (layer_of layer) prefix.now text.now) (map said records.now) }
 {
     for record in records {
         if let Some(elements) = elements_in(record, layer, prefix, text) {

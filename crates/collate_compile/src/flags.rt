@@ -44,7 +44,8 @@ fn holds_starter(canonical: &CanonicalBorrowed<'_>, characters: &[char]) -> bool
 
 /// Whether all suffixes begin with a mark.
 fn all_begin(canonical: &CanonicalBorrowed<'_>, suffixes: &[Beside<'_>]) -> bool
-    ensures { result ≡ list_all (begins_with_mark (borrowed_meaning canonical.now)) (texts_beside (map said_beside suffixes.now)) }
+    ensures { result
+        ≡ list_all (begins_with_mark (borrowed_meaning canonical.now)) (texts_beside (map said_beside suffixes.now)) }
 {
     for suffix in suffixes {
         if !begins_with_mark(canonical, suffix.characters) {
@@ -56,7 +57,8 @@ fn all_begin(canonical: &CanonicalBorrowed<'_>, suffixes: &[Beside<'_>]) -> bool
 
 /// Whether one of the suffixes ends in a mark.
 fn one_ends(canonical: &CanonicalBorrowed<'_>, suffixes: &[Beside<'_>]) -> bool
-    ensures { result ≡ list_any (ends_in_mark (borrowed_meaning canonical.now)) (texts_beside (map said_beside suffixes.now)) }
+    ensures { result
+        ≡ list_any (ends_in_mark (borrowed_meaning canonical.now)) (texts_beside (map said_beside suffixes.now)) }
 {
     for suffix in suffixes {
         if ends_in_mark(canonical, suffix.characters) {
@@ -68,7 +70,8 @@ fn one_ends(canonical: &CanonicalBorrowed<'_>, suffixes: &[Beside<'_>]) -> bool
 
 /// Whether one of the suffixes holds a starter.
 fn one_holds(canonical: &CanonicalBorrowed<'_>, suffixes: &[Beside<'_>]) -> bool
-    ensures { result ≡ list_any (holds_starter (borrowed_meaning canonical.now)) (texts_beside (map said_beside suffixes.now)) }
+    ensures { result
+        ≡ list_any (holds_starter (borrowed_meaning canonical.now)) (texts_beside (map said_beside suffixes.now)) }
 {
     for suffix in suffixes {
         if holds_starter(canonical, suffix.characters) {
@@ -80,9 +83,12 @@ fn one_holds(canonical: &CanonicalBorrowed<'_>, suffixes: &[Beside<'_>]) -> bool
 
 /// What is true of suffixes.
 pub(crate) fn flags_of(canonical: &CanonicalBorrowed<'_>, suffixes: &[Beside<'_>]) -> SuffixFlags
-    ensures all_begin { result.all_begin ≡ list_all (begins_with_mark (borrowed_meaning canonical.now)) (texts_beside (map said_beside suffixes.now)) }
-    ensures one_ends { result.one_ends ≡ list_any (ends_in_mark (borrowed_meaning canonical.now)) (texts_beside (map said_beside suffixes.now)) }
-    ensures one_holds { result.one_holds ≡ list_any (holds_starter (borrowed_meaning canonical.now)) (texts_beside (map said_beside suffixes.now)) }
+    ensures all_begin { result.all_begin
+        ≡ list_all (begins_with_mark (borrowed_meaning canonical.now)) (texts_beside (map said_beside suffixes.now)) }
+    ensures one_ends { result.one_ends
+        ≡ list_any (ends_in_mark (borrowed_meaning canonical.now)) (texts_beside (map said_beside suffixes.now)) }
+    ensures one_holds { result.one_holds
+        ≡ list_any (holds_starter (borrowed_meaning canonical.now)) (texts_beside (map said_beside suffixes.now)) }
 {
     SuffixFlags {
         all_begin: all_begin(canonical, suffixes),

@@ -99,7 +99,8 @@ fn has_beside(besides: &[Beside<'_>], characters: &[char]) -> bool
 ///
 /// Errors: `AllocError` where memory is refused.
 fn add_beside<'a>(besides: &mut Vec<Beside<'a>>, beside: Beside<'a>) -> Result<(), AllocError>
-    ensures { OnOk result (map said_beside besides.new.items ≡ with_beside (map said_beside besides.old.items) (said_beside beside.entry)) }
+    ensures { OnOk result (map said_beside besides.new.items
+        ≡ with_beside (map said_beside besides.old.items) (said_beside beside.entry)) }
 {
     if has_beside(besides, beside.characters) {
         return Ok(());
@@ -112,7 +113,8 @@ fn add_beside<'a>(besides: &mut Vec<Beside<'a>>, beside: Beside<'a>) -> Result<(
 ///
 /// Errors: `AllocError` where memory is refused.
 fn add_found<'a>(besides: &mut Vec<Beside<'a>>, found: Option<Beside<'a>>) -> Result<(), AllocError>
-    ensures { OnOk result (map said_beside besides.new.items ≡ with_found (map said_beside besides.old.items) (option_map said_beside found.entry)) }
+    ensures { OnOk result (map said_beside besides.new.items
+        ≡ with_found (map said_beside besides.old.items) (option_map said_beside found.entry)) }
 {
     match found {
         Some(beside) => add_beside(besides, beside),
@@ -129,7 +131,8 @@ fn add_suffixes<'a>(
     c: char,
     suffixes: &mut Vec<Beside<'a>>,
 ) -> Result<(), AllocError>
-    ensures { OnOk result (map said_beside suffixes.new.items ≡ gathered (suffix_in (layer_of layer) c) (map said lines.now) (map said_beside suffixes.old.items)) }
+    ensures { OnOk result (map said_beside suffixes.new.items
+        ≡ gathered (suffix_in (layer_of layer) c) (map said lines.now) (map said_beside suffixes.old.items)) }
 {
     for line in lines {
         add_found(suffixes, suffix_in(line, layer, c))?;
@@ -146,7 +149,8 @@ fn add_prefixes<'a>(
     c: char,
     prefixes: &mut Vec<Beside<'a>>,
 ) -> Result<(), AllocError>
-    ensures { OnOk result (map said_beside prefixes.new.items ≡ gathered (prefix_in (layer_of layer) c) (map said lines.now) (map said_beside prefixes.old.items)) }
+    ensures { OnOk result (map said_beside prefixes.new.items
+        ≡ gathered (prefix_in (layer_of layer) c) (map said lines.now) (map said_beside prefixes.old.items)) }
 {
     for line in lines {
         add_found(prefixes, prefix_in(line, layer, c))?;

@@ -10,3 +10,8 @@ pub mod jamo;
 pub mod laws;
 mod layer_builder;
 pub mod layers;
+mod reordering;
+pub mod set_lines;
+mod settings;
+mod special_primaries;
+pub mod tables;

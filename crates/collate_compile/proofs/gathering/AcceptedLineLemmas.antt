@@ -32,6 +32,19 @@ abbrev pub CanWriteLine : Record → Type 0
 CanWriteLine (weights layer prefix text es) = CanWrite prefix text es
 CanWriteLine _ = Unit {0}
 
+-- whether a lead is one that tertiaries have, other than the common one
+abbrev is_free : ℕ → Bool
+is_free lead = (leb 0x02 lead && leb lead 0x04) || (leb 0x06 lead && leb lead 0x3f)
+
+free_below : (lead : ℕ) → is_free lead ≡ true → lead < 64
+free_below lead h = ⊎_elim low high (or_cases (leb 0x02 lead && leb lead 0x04) (leb 0x06 lead && leb lead 0x3f) h)
+  where
+    low : (leb 0x02 lead && leb lead 0x04) ≡ true → lead < 64
+    low k = let most = leb-true lead 0x04 (and_parts (leb 0x02 lead) (leb lead 0x04) k).1 in omega (arith, most)
+
+    high : (leb 0x06 lead && leb lead 0x3f) ≡ true → lead < 64
+    high k = let most = leb-true lead 0x3f (and_parts (leb 0x06 lead) (leb lead 0x3f) k).1 in omega (arith, most)
+
 tertiary_fits : (t : ℕ) → ((t == 0) || is_sound_tertiary t) ≡ true → (t / 256 < 64) × (t % 256 < 64)
 tertiary_fits t h = ⊎_elim none some (or_cases (t == 0) (is_sound_tertiary t) h)
   where
@@ -41,31 +54,29 @@ tertiary_fits t h = ⊎_elim none some (or_cases (t == 0) (is_sound_tertiary t) 
     common : (t == 0x500) ≡ true → (t / 256 < 64) × (t % 256 < 64)
     common e = let same = eqb-true t 0x500 e in (omega (arith, same), omega (arith, same))
 
-    within : ((leb 0x02 (t / 256) && leb (t / 256) 0x04) || (leb 0x06 (t / 256) && leb (t / 256) 0x3f)) ≡ true → t / 256 < 64
-    within k =
-        ⊎_elim
-        (λ (low : (leb 0x02 (t / 256) && leb (t / 256) 0x04) ≡ true). let most = leb-true (t / 256) 0x04 (and_parts (leb 0x02 (t / 256)) (leb (t / 256) 0x04) low).1 in omega (arith, most))
-        (λ (high : (leb 0x06 (t / 256) && leb (t / 256) 0x3f) ≡ true). let most = leb-true (t / 256) 0x3f (and_parts (leb 0x06 (t / 256)) (leb (t / 256) 0x3f) high).1 in omega (arith, most))
-        (or_cases (leb 0x02 (t / 256) && leb (t / 256) 0x04) (leb 0x06 (t / 256) && leb (t / 256) 0x3f) k)
-
-    free : (((leb 0x02 (t / 256) && leb (t / 256) 0x04) || (leb 0x06 (t / 256) && leb (t / 256) 0x3f)) && leb (t % 256) 0x3f && not (t % 256 == 1)) ≡ true → (t / 256 < 64) × (t % 256 < 64)
+    free : (is_free (t / 256) && leb (t % 256) 0x3f && not (t % 256 == 1)) ≡ true → (t / 256 < 64) × (t % 256 < 64)
     free k =
-        let two = and_parts (((leb 0x02 (t / 256) && leb (t / 256) 0x04) || (leb 0x06 (t / 256) && leb (t / 256) 0x3f)) && leb (t % 256) 0x3f) (not (t % 256 == 1)) k in
-        let one = and_parts ((leb 0x02 (t / 256) && leb (t / 256) 0x04) || (leb 0x06 (t / 256) && leb (t / 256) 0x3f)) (leb (t % 256) 0x3f) two.0 in
+        let two = and_parts (is_free (t / 256) && leb (t % 256) 0x3f) (not (t % 256 == 1)) k in
+        let one = and_parts (is_free (t / 256)) (leb (t % 256) 0x3f) two.0 in
         let most = leb-true (t % 256) 0x3f one.1 in
-        (within one.0, omega (arith, most))
+        (free_below (t / 256) one.0, omega (arith, most))
 
     some : is_sound_tertiary t ≡ true → (t / 256 < 64) × (t % 256 < 64)
-    some k = ⊎_elim common free (or_cases (t == 0x500) _ k)
+    some k =
+        ⊎_elim common free (or_cases (t == 0x500) (is_free (t / 256) && leb (t % 256) 0x3f && not (t % 256 == 1)) k)
 
-element_fits : (e : Element) → has_widths e ≡ true → is_sound_kind e ≡ true → has_sound_tertiary e ≡ true → fits_bits e ≡ true
+element_fits : (e : Element) → has_widths e ≡ true → is_sound_kind e ≡ true → has_sound_tertiary e ≡ true
+    → fits_bits e ≡ true
 element_fits e widths kind tertiary =
     let most = tertiary_fits e.tertiary tertiary in
-    and_from (has_widths e) (is_sound_kind e && (ltb (e.tertiary / 2 ^ 8) (2 ^ 6) && ltb (e.tertiary % 2 ^ 8) (2 ^ 6))) widths
+    and_from (has_widths e) (is_sound_kind e && (ltb (e.tertiary / 2 ^ 8) (2 ^ 6) && ltb (e.tertiary % 2 ^ 8) (2 ^ 6)))
+    widths
     (and_from (is_sound_kind e) (ltb (e.tertiary / 2 ^ 8) (2 ^ 6) && ltb (e.tertiary % 2 ^ 8) (2 ^ 6)) kind
-    (and_from (ltb (e.tertiary / 2 ^ 8) (2 ^ 6)) (ltb (e.tertiary % 2 ^ 8) (2 ^ 6)) (lt-ltb (e.tertiary / 2 ^ 8) (2 ^ 6) most.0) (lt-ltb (e.tertiary % 2 ^ 8) (2 ^ 6) most.1)))
+    (and_from (ltb (e.tertiary / 2 ^ 8) (2 ^ 6)) (ltb (e.tertiary % 2 ^ 8) (2 ^ 6))
+    (lt-ltb (e.tertiary / 2 ^ 8) (2 ^ 6) most.0) (lt-ltb (e.tertiary % 2 ^ 8) (2 ^ 6) most.1)))
 
-elements_fit : (es : List Element) → list_all has_widths es ≡ true → list_all is_sound_kind es ≡ true → list_all has_sound_tertiary es ≡ true
+elements_fit : (es : List Element) → list_all has_widths es ≡ true → list_all is_sound_kind es ≡ true
+    → list_all has_sound_tertiary es ≡ true
     → list_all fits_bits es ≡ true
 elements_fit [] widths kinds tertiaries = refl
 elements_fit (e ∷ es) widths kinds tertiaries =
@@ -77,12 +88,14 @@ elements_fit (e ∷ es) widths kinds tertiaries =
 pub at_most : (n most : ℕ) → (most < n → ⊥) → n ≤ most
 at_most n most h = ⊎_elim (λ (more : most < n). absurd (h more)) (λ (few : n ≤ most). few) (cases_lt most n)
 
-can_write : (line : Record) → HasCharacters line → KeepsWidths line → (IsLong line → ⊥) → list_all is_sound_kind (elements_of line) ≡ true
+can_write : (line : Record) → HasCharacters line → KeepsWidths line → (IsLong line → ⊥)
+    → list_all is_sound_kind (elements_of line) ≡ true
     → list_all has_sound_tertiary (elements_of line) ≡ true → CanWriteLine line
 can_write (weights layer prefix text es) key widths short kinds tertiaries = record {
   key = key;
   short = at_most (length text) 8 (λ more. short (inl more));
-  elements = record { few = at_most (length es) 8 (λ more. short (inr more)); bits = elements_fit es widths kinds tertiaries };
+  elements =
+      record { few = at_most (length es) 8 (λ more. short (inr more)); bits = elements_fit es widths kinds tertiaries };
 }
 can_write nothing key widths short kinds tertiaries = tt
 can_write (class c k) key widths short kinds tertiaries = tt
@@ -95,7 +108,8 @@ can_write (setting s) key widths short kinds tertiaries = tt
 -- ---- All lines
 
 module _ (records : List Record) (accepted : AreAccepted records) where
-  by_grammar : (P : Record → Type 0) → ((line : List ℕ) (given : Record) → record_of line ≡ Some given → P given) → All P records
+  by_grammar : (P : Record → Type 0) → ((line : List ℕ) (given : Record) → record_of line ≡ Some given → P given)
+      → All P records
   by_grammar P each = All-weaker IsSaid P (λ given said. each said.0 given said.1) records accepted.in_grammar
 
   at_line : (P : Record → Type 0) → All P records → (i : ℕ) → i < length records → P (record_at records i)
@@ -104,7 +118,8 @@ module _ (records : List Record) (accepted : AreAccepted records) where
   pub accepted_can_write : All CanWriteLine records
   accepted_can_write =
       each_line CanWriteLine records (λ i lt.
-      can_write (record_at records i) (at_line HasCharacters (by_grammar HasCharacters line_has_characters) i lt) (at_line KeepsWidths (by_grammar KeepsWidths line_keeps_widths) i lt)
+      can_write (record_at records i) (at_line HasCharacters (by_grammar HasCharacters line_has_characters) i lt)
+      (at_line KeepsWidths (by_grammar KeepsWidths line_keeps_widths) i lt)
       (λ long. accepted.keep_rules Limit i lt (inr (inr long)))
       (true_from_ne_false _ (accepted.keep_rules V1 i lt))
       (true_from_ne_false _ (accepted.keep_rules V4 i lt)))
@@ -113,7 +128,8 @@ module _ (records : List Record) (accepted : AreAccepted records) where
   accepted_widths = by_grammar KeepsWidths line_keeps_widths
 
 -- what the lines up to none break, all lines keep
-unbroken : (breaks : List Record → Bool) → breaks [] ≡ false → (records : List Record) → ((i : ℕ) → i < length records → breaks (take (i + 1) records) ≡ true → ⊥)
+unbroken : (breaks : List Record → Bool) → breaks [] ≡ false → (records : List Record)
+    → ((i : ℕ) → i < length records → breaks (take (i + 1) records) ≡ true → ⊥)
     → breaks records ≡ false
 unbroken breaks empty [] keeps = empty
 unbroken breaks empty (line ∷ records) keeps =
@@ -130,8 +146,11 @@ accepted_digits records accepted = unbroken (breaks_digits records) refl records
 pub accepted_few : (records : List Record) → AreAccepted records → length (filter says_something records) ≤ 1000
 accepted_few records accepted = by records (λ i lt over. accepted.keep_rules Limit i lt (inr (inl over)))
   where
-    by : (lines : List Record) → ((i : ℕ) → i < length lines → 1000 < length (filter says_something (take (i + 1) lines)) → ⊥) → length (filter says_something lines) ≤ 1000
+    by : (lines : List Record)
+        → ((i : ℕ) → i < length lines → 1000 < length (filter says_something (take (i + 1) lines)) → ⊥)
+        → length (filter says_something lines) ≤ 1000
     by [] keeps = omega arith
     by (line ∷ lines) keeps =
-        subst (λ (ls : List Record). length (filter says_something ls) ≤ 1000) (take_all (length lines + 1) (line ∷ lines) (omega arith))
+        subst (λ (ls : List Record). length (filter says_something ls) ≤ 1000)
+        (take_all (length lines + 1) (line ∷ lines) (omega arith))
         (at_most _ 1000 (keeps (length lines) (omega arith)))

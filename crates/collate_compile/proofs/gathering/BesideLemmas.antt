@@ -25,38 +25,45 @@ bytes_eq-swap xs ys =
 
 -- a text or a prefix of other characters
 module _ (key : List ℕ) where
-  no_key : (s t : Bool) (es : List Element) → option_and_then (elements_at key) (cond s None None) ≡ cond (s && true && (t && false)) (Some es) None
+  no_key : (s t : Bool) (es : List Element)
+      → option_and_then (elements_at key) (cond s None None) ≡ cond (s && true && (t && false)) (Some es) None
   no_key false t es = refl
   no_key true false es = refl
   no_key true true es = refl
 
-  no_prefix : (s t : Bool) (es : List Element) → option_and_then (elements_at key) (cond s None None) ≡ cond (s && false && t) (Some es) None
+  no_prefix : (s t : Bool) (es : List Element)
+      → option_and_then (elements_at key) (cond s None None) ≡ cond (s && false && t) (Some es) None
   no_prefix false t es = refl
   no_prefix true t es = refl
 
-  no_text : (s t : Bool) (es : List Element) → option_and_then (elements_at key) (cond s None None) ≡ cond (s && t && false) (Some es) None
+  no_text : (s t : Bool) (es : List Element)
+      → option_and_then (elements_at key) (cond s None None) ≡ cond (s && t && false) (Some es) None
   no_text false t es = refl
   no_text true false es = refl
   no_text true true es = refl
 
-  no_one : (s t u : Bool) (es : List Element) → option_and_then (elements_at key) (cond s None None) ≡ cond (s && t && (u && false)) (Some es) None
+  no_one : (s t u : Bool) (es : List Element)
+      → option_and_then (elements_at key) (cond s None None) ≡ cond (s && t && (u && false)) (Some es) None
   no_one false t u es = refl
   no_one true false u es = refl
   no_one true true false es = refl
   no_one true true true es = refl
 
 suffix_here : (key : List ℕ) (s t : Bool) (said : SaidBeside)
-    → option_and_then (elements_at key) (cond s (cond t (Some said) None) None) ≡ cond (s && true && (t && bytes_eq key said.characters)) (Some said.elements) None
+    → option_and_then (elements_at key) (cond s (cond t (Some said) None) None) ≡ cond
+    (s && true && (t && bytes_eq key said.characters)) (Some said.elements) None
 suffix_here key false t said = refl
 suffix_here key true false said = refl
 suffix_here key true true said = ap (λ (b : Bool). cond b (Some said.elements) None) (bytes_eq-swap said.characters key)
 
-suffix_found : (layer : Layer) (c d : ℕ) (ds : List ℕ) (line : Record) → said_of (suffix_in layer c) (d ∷ ds) line ≡ elements_in layer [] (c ∷ d ∷ ds) line
+suffix_found : (layer : Layer) (c d : ℕ) (ds : List ℕ) (line : Record)
+    → said_of (suffix_in layer c) (d ∷ ds) line ≡ elements_in layer [] (c ∷ d ∷ ds) line
 suffix_found layer c d ds (weights other [] [] es) = no_text (d ∷ ds) (is_same_layer layer other) true es
 suffix_found layer c d ds (weights other [] (x ∷ []) es) = no_key (d ∷ ds) (is_same_layer layer other) (c == x) es
 suffix_found layer c d ds (weights other [] (x ∷ y ∷ ys) es) =
     suffix_here (d ∷ ds) (is_same_layer layer other) (c == x) (record { characters = y ∷ ys; elements = es })
-suffix_found layer c d ds (weights other (b ∷ bs) text es) = no_prefix (d ∷ ds) (is_same_layer layer other) (bytes_eq (c ∷ d ∷ ds) text) es
+suffix_found layer c d ds (weights other (b ∷ bs) text es) =
+    no_prefix (d ∷ ds) (is_same_layer layer other) (bytes_eq (c ∷ d ∷ ds) text) es
 suffix_found layer c d ds nothing = refl
 suffix_found layer c d ds (class e k) = refl
 suffix_found layer c d ds (mapping e es x) = refl
@@ -66,22 +73,28 @@ suffix_found layer c d ds (digit e v) = refl
 suffix_found layer c d ds (setting s) = refl
 
 prefix_here : (key : List ℕ) (s t : Bool) (said : SaidBeside)
-    → option_and_then (elements_at key) (cond s (cond t (Some said) None) None) ≡ cond (s && bytes_eq key said.characters && (t && true)) (Some said.elements) None
+    → option_and_then (elements_at key) (cond s (cond t (Some said) None) None) ≡ cond
+    (s && bytes_eq key said.characters && (t && true)) (Some said.elements) None
 prefix_here key false t said = refl
 prefix_here key true false said = no_text key true (bytes_eq key said.characters) said.elements
 prefix_here key true true said =
-    ap (λ (b : Bool). cond b (Some said.elements) None) (bytes_eq-swap said.characters key ∙ as_is (bytes_eq key said.characters))
+    ap (λ (b : Bool). cond b (Some said.elements) None)
+    (bytes_eq-swap said.characters key ∙ as_is (bytes_eq key said.characters))
   where
     as_is : (b : Bool) → b ≡ (b && true)
     as_is true = refl
     as_is false = refl
 
-prefix_found : (layer : Layer) (c b : ℕ) (bs : List ℕ) (line : Record) → said_of (prefix_in layer c) (b ∷ bs) line ≡ elements_in layer (b ∷ bs) (c ∷ []) line
-prefix_found layer c b bs (weights other [] text es) = no_prefix (b ∷ bs) (is_same_layer layer other) (bytes_eq (c ∷ []) text) es
-prefix_found layer c b bs (weights other (x ∷ xs) [] es) = no_text (b ∷ bs) (is_same_layer layer other) (bytes_eq (b ∷ bs) (x ∷ xs)) es
+prefix_found : (layer : Layer) (c b : ℕ) (bs : List ℕ) (line : Record)
+    → said_of (prefix_in layer c) (b ∷ bs) line ≡ elements_in layer (b ∷ bs) (c ∷ []) line
+prefix_found layer c b bs (weights other [] text es) =
+    no_prefix (b ∷ bs) (is_same_layer layer other) (bytes_eq (c ∷ []) text) es
+prefix_found layer c b bs (weights other (x ∷ xs) [] es) =
+    no_text (b ∷ bs) (is_same_layer layer other) (bytes_eq (b ∷ bs) (x ∷ xs)) es
 prefix_found layer c b bs (weights other (x ∷ xs) (d ∷ []) es) =
     prefix_here (b ∷ bs) (is_same_layer layer other) (c == d) (record { characters = x ∷ xs; elements = es })
-prefix_found layer c b bs (weights other (x ∷ xs) (d ∷ e ∷ ds) es) = no_one (b ∷ bs) (is_same_layer layer other) (bytes_eq (b ∷ bs) (x ∷ xs)) (c == d) es
+prefix_found layer c b bs (weights other (x ∷ xs) (d ∷ e ∷ ds) es) =
+    no_one (b ∷ bs) (is_same_layer layer other) (bytes_eq (b ∷ bs) (x ∷ xs)) (c == d) es
 prefix_found layer c b bs nothing = refl
 prefix_found layer c b bs (class e k) = refl
 prefix_found layer c b bs (mapping e es x) = refl
@@ -92,7 +105,8 @@ prefix_found layer c b bs (setting s) = refl
 
 -- ---- All lines
 
-first_found-same : {A B : Type 0} (f g : A → Option B) (xs : List A) → ((x : A) → f x ≡ g x) → first_found f xs ≡ first_found g xs
+first_found-same : {A B : Type 0} (f g : A → Option B) (xs : List A) → ((x : A) → f x ≡ g x)
+    → first_found f xs ≡ first_found g xs
 first_found-same f g [] same = refl
 first_found-same {A} {B} f g (x ∷ xs) same =
     ap (λ (o : Option B). elim o [ Some y ↦ Some y | None ↦ first_found f xs ]) (same x)
@@ -105,26 +119,38 @@ else_found (Some x) p = refl
 -- what two layers say one after the other
 module _ (of_layer : Layer → Record → Option SaidBeside) (prefix text key : List ℕ)
     (found : (layer : Layer) (line : Record) → said_of (of_layer layer) key line ≡ elements_in layer prefix text line) where
-  recorded : (lines : List Record) → elements_beside (gathered (of_layer root) lines (gathered (of_layer tailoring) lines [])) key ≡ recorded_in lines prefix text
+  recorded : (lines : List Record)
+      → elements_beside (gathered (of_layer root) lines (gathered (of_layer tailoring) lines [])) key ≡ recorded_in
+      lines prefix text
   recorded lines =
       let of_root = first_found (elements_in root prefix text) lines in
       gathered-beside (of_layer root) lines (gathered (of_layer tailoring) lines []) key
-      ∙ ap (λ (o : Option (List Element)). option_or o (first_found (said_of (of_layer root) key) lines)) (gathered-beside (of_layer tailoring) lines [] key)
-      ∙ ap (λ (o : Option (List Element)). option_or o (first_found (said_of (of_layer root) key) lines)) (first_found-same (said_of (of_layer tailoring) key) (elements_in tailoring prefix text) lines (found tailoring))
-      ∙ ap (option_or (first_found (elements_in tailoring prefix text) lines)) (first_found-same (said_of (of_layer root) key) (elements_in root prefix text) lines (found root))
+      ∙ ap (λ (o : Option (List Element)). option_or o (first_found (said_of (of_layer root) key) lines))
+      (gathered-beside (of_layer tailoring) lines [] key)
+      ∙ ap (λ (o : Option (List Element)). option_or o (first_found (said_of (of_layer root) key) lines))
+      (first_found-same (said_of (of_layer tailoring) key) (elements_in tailoring prefix text) lines (found tailoring))
+      ∙ ap (option_or (first_found (elements_in tailoring prefix text) lines))
+      (first_found-same (said_of (of_layer root) key) (elements_in root prefix text) lines (found root))
       ∙ else_found (first_found (elements_in tailoring prefix text) lines) of_root
 
-pub suffixes_recorded : (lines : List Record) (c d : ℕ) (ds : List ℕ) → elements_beside (suffixes_in lines c) (d ∷ ds) ≡ recorded_in lines [] (c ∷ d ∷ ds)
-suffixes_recorded lines c d ds = recorded (λ layer. suffix_in layer c) [] (c ∷ d ∷ ds) (d ∷ ds) (λ layer line. suffix_found layer c d ds line) lines
+pub suffixes_recorded : (lines : List Record) (c d : ℕ) (ds : List ℕ)
+    → elements_beside (suffixes_in lines c) (d ∷ ds) ≡ recorded_in lines [] (c ∷ d ∷ ds)
+suffixes_recorded lines c d ds =
+    recorded (λ layer. suffix_in layer c) [] (c ∷ d ∷ ds) (d ∷ ds) (λ layer line. suffix_found layer c d ds line) lines
 
-pub prefixes_recorded : (lines : List Record) (c b : ℕ) (bs : List ℕ) → elements_beside (prefixes_in lines c) (b ∷ bs) ≡ recorded_in lines (b ∷ bs) (c ∷ [])
-prefixes_recorded lines c b bs = recorded (λ layer. prefix_in layer c) (b ∷ bs) (c ∷ []) (b ∷ bs) (λ layer line. prefix_found layer c b bs line) lines
+pub prefixes_recorded : (lines : List Record) (c b : ℕ) (bs : List ℕ)
+    → elements_beside (prefixes_in lines c) (b ∷ bs) ≡ recorded_in lines (b ∷ bs) (c ∷ [])
+prefixes_recorded lines c b bs =
+    recorded (λ layer. prefix_in layer c) (b ∷ bs) (c ∷ []) (b ∷ bs)
+    (λ layer line. prefix_found layer c b bs line) lines
 
 pub suffixes_kept : (lines : List Record) (c : ℕ) → AreKept (suffixes_in lines c)
-suffixes_kept lines c = gathered_kept (suffix_in root c) lines _ (gathered_kept (suffix_in tailoring c) lines [] kept_none)
+suffixes_kept lines c =
+    gathered_kept (suffix_in root c) lines _ (gathered_kept (suffix_in tailoring c) lines [] kept_none)
 
 pub prefixes_kept : (lines : List Record) (c : ℕ) → AreKept (prefixes_in lines c)
-prefixes_kept lines c = gathered_kept (prefix_in root c) lines _ (gathered_kept (prefix_in tailoring c) lines [] kept_none)
+prefixes_kept lines c =
+    gathered_kept (prefix_in root c) lines _ (gathered_kept (prefix_in tailoring c) lines [] kept_none)
 
 -- ---- How many there are
 
@@ -133,7 +159,8 @@ counts_of c line =
     (cond (is_some (suffix_in root c line)) 1 0 + cond (is_some (suffix_in tailoring c line)) 1 0)
     + (cond (is_some (prefix_in root c line)) 1 0 + cond (is_some (prefix_in tailoring c line)) 1 0)
 
-by_layer : (layer : Layer) (n : ℕ) (f : Bool → ℕ) → f false ≡ 0 → f true ≤ n → f (is_same_layer root layer) + f (is_same_layer tailoring layer) ≤ n
+by_layer : (layer : Layer) (n : ℕ) (f : Bool → ℕ) → f false ≡ 0 → f true ≤ n
+    → f (is_same_layer root layer) + f (is_same_layer tailoring layer) ≤ n
 by_layer root n f none one = omega arith
 by_layer tailoring n f none one = omega arith
 
@@ -149,7 +176,9 @@ counted_once c (weights layer prefix text es) =
     of_same true said = omega arith
     of_same false said = omega arith
 
-    of_key : (prefix text : List ℕ) → cond (is_some (suffix_of c prefix text es)) 1 0 + cond (is_some (prefix_of c prefix text es)) 1 0 ≤ cond (begins_with c text) 1 0
+    of_key : (prefix text : List ℕ)
+        → cond (is_some (suffix_of c prefix text es)) 1 0 + cond (is_some (prefix_of c prefix text es)) 1 0 ≤ cond
+        (begins_with c text) 1 0
     of_key [] [] = omega arith
     of_key [] (x ∷ []) = omega arith
     of_key [] (x ∷ y ∷ ys) = omega (arith, of_same (c == x) (record { characters = y ∷ ys; elements = es }))
@@ -165,8 +194,10 @@ counted_once c (digit e v) = omega arith
 counted_once c (setting s) = omega arith
 
 counted : (lines : List Record) (c : ℕ)
-    → (count_by (λ line. is_some (suffix_in root c line)) lines + count_by (λ line. is_some (suffix_in tailoring c line)) lines)
-    + (count_by (λ line. is_some (prefix_in root c line)) lines + count_by (λ line. is_some (prefix_in tailoring c line)) lines)
+    → (count_by (λ line. is_some (suffix_in root c line)) lines + count_by
+    (λ line. is_some (suffix_in tailoring c line)) lines)
+    + (count_by (λ line. is_some (prefix_in root c line)) lines + count_by
+    (λ line. is_some (prefix_in tailoring c line)) lines)
     ≤ count_by (begins_line c) lines
 counted [] c = omega arith
 counted (line ∷ lines) c =
@@ -182,7 +213,8 @@ counted (line ∷ lines) c =
     )
 
 -- as many records as lines that begin with the character
-pub few_beside : (lines : List Record) (c : ℕ) → length (suffixes_in lines c) + length (prefixes_in lines c) ≤ count_by (begins_line c) lines
+pub few_beside : (lines : List Record) (c : ℕ)
+    → length (suffixes_in lines c) + length (prefixes_in lines c) ≤ count_by (begins_line c) lines
 few_beside lines c =
     omega (
       arith,
@@ -200,7 +232,8 @@ or_more true b c d f g h = or_left c d (f refl)
 or_more false true c d f g h = or_right c d (g refl)
 or_more false false c d f g h = absurd (false≢true h)
 
-pub any_weaker : {A : Type 0} (p q : A → Bool) (xs : List A) → ((x : A) → p x ≡ true → q x ≡ true) → list_any p xs ≡ true → list_any q xs ≡ true
+pub any_weaker : {A : Type 0} (p q : A → Bool) (xs : List A) → ((x : A) → p x ≡ true → q x ≡ true)
+    → list_any p xs ≡ true → list_any q xs ≡ true
 any_weaker p q [] f h = absurd (false≢true h)
 any_weaker p q (x ∷ xs) f h = or_more (p x) (list_any p xs) (q x) (list_any q xs) (f x) (any_weaker p q xs f) h
 
@@ -208,10 +241,12 @@ some_of_cond : {B : Type 0} (b : Bool) (x : B) → is_some (cond b (Some x) None
 some_of_cond true x h = refl
 some_of_cond false x h = h
 
-module _ (records : List Record) (c : ℕ) (prefix text : List ℕ) (begins : begins_with c text ≡ true) (beside : is_alone prefix text ≡ false) where
+module _ (records : List Record) (c : ℕ) (prefix text : List ℕ) (begins : begins_with c text ≡ true)
+    (beside : is_alone prefix text ≡ false) where
   -- at a line of these keys
   at_key : (layer : Layer) (before key : List ℕ) (es : List Element) → is_replaced records layer prefix text ≡ false
-      → bytes_eq prefix before ≡ true → bytes_eq text key ≡ true → is_further records c (weights layer before key es) ≡ true
+      → bytes_eq prefix before ≡ true → bytes_eq text key ≡ true
+      → is_further records c (weights layer before key es) ≡ true
   at_key layer before key es kept p t =
       let same_prefix : prefix ≡ before = (bytes_eq-Decides prefix before).0 p in
       let same_text : text ≡ key = (bytes_eq-Decides text key).0 t in
@@ -221,12 +256,15 @@ module _ (records : List Record) (c : ℕ) (prefix text : List ℕ) (begins : be
       (and_from (begins_with c text) (not (is_alone prefix text)) begins (not_from_false (is_alone prefix text) beside))
       (not_from_false (is_replaced records layer prefix text) kept)))
 
-  further_line : (layer : Layer) → is_replaced records layer prefix text ≡ false → (line : Record) → is_some (elements_in layer prefix text line) ≡ true
+  further_line : (layer : Layer) → is_replaced records layer prefix text ≡ false → (line : Record)
+      → is_some (elements_in layer prefix text line) ≡ true
       → is_further records c line ≡ true
   further_line root kept (weights root before key es) h =
-      let parts = and_parts (true && bytes_eq prefix before) (bytes_eq text key) (some_of_cond _ es h) in at_key root before key es kept parts.0 parts.1
+      let parts = and_parts (true && bytes_eq prefix before) (bytes_eq text key)
+      (some_of_cond _ es h) in at_key root before key es kept parts.0 parts.1
   further_line tailoring kept (weights tailoring before key es) h =
-      let parts = and_parts (true && bytes_eq prefix before) (bytes_eq text key) (some_of_cond _ es h) in at_key tailoring before key es kept parts.0 parts.1
+      let parts = and_parts (true && bytes_eq prefix before) (bytes_eq text key)
+      (some_of_cond _ es h) in at_key tailoring before key es kept parts.0 parts.1
   further_line root kept (weights tailoring before key es) h = absurd (false≢true h)
   further_line tailoring kept (weights root before key es) h = absurd (false≢true h)
   further_line layer kept nothing h = absurd (false≢true h)
@@ -238,9 +276,15 @@ module _ (records : List Record) (c : ℕ) (prefix text : List ℕ) (begins : be
   further_line layer kept (setting s) h = absurd (false≢true h)
 
   -- what is recorded beside the character is a further record
-  pub recorded_further : (is_given tailoring prefix text records || is_given root prefix text records) ≡ true → list_any (is_further records c) records ≡ true
+  pub recorded_further : (is_given tailoring prefix text records || is_given root prefix text records) ≡ true
+      → list_any (is_further records c) records ≡ true
   recorded_further h = by (is_given tailoring prefix text records) refl h
     where
-      by : (b : Bool) → is_given tailoring prefix text records ≡ b → (b || is_given root prefix text records) ≡ true → list_any (is_further records c) records ≡ true
-      by true e k = any_weaker (λ line. is_some (elements_in tailoring prefix text line)) (is_further records c) records (further_line tailoring refl) e
-      by false e k = any_weaker (λ line. is_some (elements_in root prefix text line)) (is_further records c) records (further_line root e) k
+      by : (b : Bool) → is_given tailoring prefix text records ≡ b → (b || is_given root prefix text records) ≡ true
+          → list_any (is_further records c) records ≡ true
+      by true e k =
+          any_weaker (λ line. is_some (elements_in tailoring prefix text line)) (is_further records c) records
+          (further_line tailoring refl) e
+      by false e k =
+          any_weaker (λ line. is_some (elements_in root prefix text line)) (is_further records c) records
+          (further_line root e) k

@@ -34,7 +34,8 @@ use Rattle.collate_compile.proofs.gathering.GatherLemmas.{All-gathered, IsFoundI
 
 -- ---- What is found first is of a line
 
-found_of : {B : Type 0} (f : Record → Option B) (P : Record → Type 0) (Q : B → Type 0) (lines : List Record) → ((line : Record) (y : B) → P line → f line ≡ Some y → Q y)
+found_of : {B : Type 0} (f : Record → Option B) (P : Record → Type 0) (Q : B → Type 0) (lines : List Record)
+    → ((line : Record) (y : B) → P line → f line ≡ Some y → Q y)
     → All P lines → (y : B) → first_found f lines ≡ Some y → Q y
 found_of f P Q [] each all y = λ e. cc
 found_of {B} f P Q (line ∷ lines) each all y =
@@ -45,8 +46,10 @@ found_of {B} f P Q (line ∷ lines) each all y =
 
 -- ---- What is recorded can be written
 
-elements_fit : (layer : Layer) (prefix text : List ℕ) (line : Record) (es : List Element) → CanWriteLine line → elements_in layer prefix text line ≡ Some es → AreFit es
-elements_fit layer prefix text (weights other before key fs) es can h = at (is_same_layer layer other && bytes_eq prefix before && bytes_eq text key) h
+elements_fit : (layer : Layer) (prefix text : List ℕ) (line : Record) (es : List Element) → CanWriteLine line
+    → elements_in layer prefix text line ≡ Some es → AreFit es
+elements_fit layer prefix text (weights other before key fs) es can h =
+    at (is_same_layer layer other && bytes_eq prefix before && bytes_eq text key) h
   where
     at : (b : Bool) → cond b (Some fs) None ≡ Some es → AreFit es
     at true e = let same : fs ≡ es = cc in subst AreFit same can.elements
@@ -59,24 +62,29 @@ elements_fit layer prefix text (range r) es can h = cc
 elements_fit layer prefix text (digit c v) es can h = cc
 elements_fit layer prefix text (setting s) es can h = cc
 
-pub recorded_fit : (lines : List Record) (prefix text : List ℕ) → All CanWriteLine lines → IfSome (recorded_in lines prefix text) AreFit
+pub recorded_fit : (lines : List Record) (prefix text : List ℕ) → All CanWriteLine lines
+    → IfSome (recorded_in lines prefix text) AreFit
 recorded_fit lines prefix text all = at (first_found (elements_in tailoring prefix text) lines) refl
   where
     by_root : (o : Option (List Element)) → first_found (elements_in root prefix text) lines ≡ o → IfSome o AreFit
     by_root None e = tt
-    by_root (Some es) e = found_of (elements_in root prefix text) CanWriteLine AreFit lines (elements_fit root prefix text) all es e
+    by_root (Some es) e =
+        found_of (elements_in root prefix text) CanWriteLine AreFit lines (elements_fit root prefix text) all es e
 
     at : (o : Option (List Element)) → first_found (elements_in tailoring prefix text) lines ≡ o
         → IfSome (elim o [ Some fs ↦ Some fs | None ↦ first_found (elements_in root prefix text) lines ]) AreFit
     at None e = by_root (first_found (elements_in root prefix text) lines) refl
-    at (Some es) e = found_of (elements_in tailoring prefix text) CanWriteLine AreFit lines (elements_fit tailoring prefix text) all es e
+    at (Some es) e =
+        found_of (elements_in tailoring prefix text) CanWriteLine AreFit lines
+        (elements_fit tailoring prefix text) all es e
 
 -- ---- What stands beside can be written
 
 suffix_fits : (layer : Layer) (c : ℕ) (line : Record) → CanWriteLine line → IfSome (suffix_in layer c line) (IsBeside 7)
 suffix_fits layer c (weights other prefix text es) can = at (is_same_layer layer other) prefix text can
   where
-    here : (b : Bool) (x e : ℕ) (ds : List ℕ) → CanWrite [] (x ∷ e ∷ ds) es → IfSome (cond b (Some (record { characters = e ∷ ds; elements = es })) None) (IsBeside 7)
+    here : (b : Bool) (x e : ℕ) (ds : List ℕ) → CanWrite [] (x ∷ e ∷ ds) es
+        → IfSome (cond b (Some (record { characters = e ∷ ds; elements = es })) None) (IsBeside 7)
     here false x e ds k = tt
     here true x e ds k = record {
       some = omega arith;
@@ -85,7 +93,8 @@ suffix_fits layer c (weights other prefix text es) can = at (is_same_layer layer
       elements = k.elements;
     }
 
-    at : (b : Bool) (before key : List ℕ) → CanWrite before key es → IfSome (cond b (suffix_of c before key es) None) (IsBeside 7)
+    at : (b : Bool) (before key : List ℕ) → CanWrite before key es
+        → IfSome (cond b (suffix_of c before key es) None) (IsBeside 7)
     at false before key k = tt
     at true [] [] k = tt
     at true [] (x ∷ []) k = tt
@@ -102,11 +111,19 @@ suffix_fits layer c (setting s) can = tt
 prefix_fits : (layer : Layer) (c : ℕ) (line : Record) → CanWriteLine line → IfSome (prefix_in layer c line) (IsBeside 3)
 prefix_fits layer c (weights other prefix text es) can = at (is_same_layer layer other) prefix text can
   where
-    here : (t : Bool) (x b : ℕ) (bs : List ℕ) → CanWrite (b ∷ bs) (x ∷ []) es → IfSome (cond t (Some (record { characters = b ∷ bs; elements = es })) None) (IsBeside 3)
+    here : (t : Bool) (x b : ℕ) (bs : List ℕ) → CanWrite (b ∷ bs) (x ∷ []) es
+        → IfSome (cond t (Some (record { characters = b ∷ bs; elements = es })) None) (IsBeside 3)
     here false x b bs k = tt
-    here true x b bs k = record { some = omega arith; short = k.key.short; scalars = all_scalars (b ∷ bs) k.key.before; elements = k.elements }
+    here true x b bs k =
+        record {
+          some = omega arith;
+          short = k.key.short;
+          scalars = all_scalars (b ∷ bs) k.key.before;
+          elements = k.elements;
+        }
 
-    at : (t : Bool) (before key : List ℕ) → CanWrite before key es → IfSome (cond t (prefix_of c before key es) None) (IsBeside 3)
+    at : (t : Bool) (before key : List ℕ) → CanWrite before key es
+        → IfSome (cond t (prefix_of c before key es) None) (IsBeside 3)
     at false before key k = tt
     at true [] key k = tt
     at true (b ∷ bs) [] k = tt
@@ -122,13 +139,19 @@ prefix_fits layer c (setting s) can = tt
 
 suffixes_fit : (lines : List Record) (c : ℕ) → All CanWriteLine lines → All (IsBeside 7) (suffixes_in lines c)
 suffixes_fit lines c all =
-    All-gathered (suffix_in root c) (IsBeside 7) lines (gathered (suffix_in tailoring c) lines []) (All-weaker CanWriteLine (λ line. IfSome (suffix_in root c line) (IsBeside 7)) (suffix_fits root c) lines all)
-    (All-gathered (suffix_in tailoring c) (IsBeside 7) lines [] (All-weaker CanWriteLine (λ line. IfSome (suffix_in tailoring c line) (IsBeside 7)) (suffix_fits tailoring c) lines all) (All-nil (IsBeside 7)))
+    All-gathered (suffix_in root c) (IsBeside 7) lines (gathered (suffix_in tailoring c) lines [])
+    (All-weaker CanWriteLine (λ line. IfSome (suffix_in root c line) (IsBeside 7)) (suffix_fits root c) lines all)
+    (All-gathered (suffix_in tailoring c) (IsBeside 7) lines []
+    (All-weaker CanWriteLine (λ line. IfSome (suffix_in tailoring c line) (IsBeside 7))
+    (suffix_fits tailoring c) lines all) (All-nil (IsBeside 7)))
 
 prefixes_fit : (lines : List Record) (c : ℕ) → All CanWriteLine lines → All (IsBeside 3) (prefixes_in lines c)
 prefixes_fit lines c all =
-    All-gathered (prefix_in root c) (IsBeside 3) lines (gathered (prefix_in tailoring c) lines []) (All-weaker CanWriteLine (λ line. IfSome (prefix_in root c line) (IsBeside 3)) (prefix_fits root c) lines all)
-    (All-gathered (prefix_in tailoring c) (IsBeside 3) lines [] (All-weaker CanWriteLine (λ line. IfSome (prefix_in tailoring c line) (IsBeside 3)) (prefix_fits tailoring c) lines all) (All-nil (IsBeside 3)))
+    All-gathered (prefix_in root c) (IsBeside 3) lines (gathered (prefix_in tailoring c) lines [])
+    (All-weaker CanWriteLine (λ line. IfSome (prefix_in root c line) (IsBeside 3)) (prefix_fits root c) lines all)
+    (All-gathered (prefix_in tailoring c) (IsBeside 3) lines []
+    (All-weaker CanWriteLine (λ line. IfSome (prefix_in tailoring c line) (IsBeside 3))
+    (prefix_fits tailoring c) lines all) (All-nil (IsBeside 3)))
 
 -- ---- What is said beside is recorded
 
@@ -137,10 +160,13 @@ both P Q xs p q = λ k d lt. (p k d lt, q k d lt)
 
 behind_said : (lines : List Record) (c : ℕ) → All CanWriteLine lines → All (IsSaidBehind lines c) (suffixes_in lines c)
 behind_said lines c all =
-    All-weaker (λ said. IsBeside 7 said × IsFoundIn (suffixes_in lines c) said) (IsSaidBehind lines c) at (suffixes_in lines c)
-    (both (IsBeside 7) (IsFoundIn (suffixes_in lines c)) (suffixes_in lines c) (suffixes_fit lines c all) (suffixes_kept lines c).found)
+    All-weaker (λ said. IsBeside 7 said × IsFoundIn (suffixes_in lines c) said) (IsSaidBehind lines c) at
+    (suffixes_in lines c)
+    (both (IsBeside 7) (IsFoundIn (suffixes_in lines c)) (suffixes_in lines c) (suffixes_fit lines c all)
+    (suffixes_kept lines c).found)
   where
-    by : (characters : List ℕ) (es : List Element) → 0 < length characters → elements_beside (suffixes_in lines c) characters ≡ Some es → recorded_in lines [] (c ∷ characters) ≡ Some es
+    by : (characters : List ℕ) (es : List Element) → 0 < length characters
+        → elements_beside (suffixes_in lines c) characters ≡ Some es → recorded_in lines [] (c ∷ characters) ≡ Some es
     by [] es some e = absurd (omega arith)
     by (d ∷ ds) es some e = sym (suffixes_recorded lines c d ds) ∙ e
 
@@ -149,10 +175,13 @@ behind_said lines c all =
 
 after_said : (lines : List Record) (c : ℕ) → All CanWriteLine lines → All (IsSaidAfter lines c) (prefixes_in lines c)
 after_said lines c all =
-    All-weaker (λ said. IsBeside 3 said × IsFoundIn (prefixes_in lines c) said) (IsSaidAfter lines c) at (prefixes_in lines c)
-    (both (IsBeside 3) (IsFoundIn (prefixes_in lines c)) (prefixes_in lines c) (prefixes_fit lines c all) (prefixes_kept lines c).found)
+    All-weaker (λ said. IsBeside 3 said × IsFoundIn (prefixes_in lines c) said) (IsSaidAfter lines c) at
+    (prefixes_in lines c)
+    (both (IsBeside 3) (IsFoundIn (prefixes_in lines c)) (prefixes_in lines c) (prefixes_fit lines c all)
+    (prefixes_kept lines c).found)
   where
-    by : (characters : List ℕ) (es : List Element) → 0 < length characters → elements_beside (prefixes_in lines c) characters ≡ Some es → recorded_in lines characters (c ∷ []) ≡ Some es
+    by : (characters : List ℕ) (es : List Element) → 0 < length characters
+        → elements_beside (prefixes_in lines c) characters ≡ Some es → recorded_in lines characters (c ∷ []) ≡ Some es
     by [] es some e = absurd (omega arith)
     by (b ∷ bs) es some e = sym (prefixes_recorded lines c b bs) ∙ e
 
@@ -176,7 +205,8 @@ given_by lines prefix text es e = recorded_given lines prefix text ∙ ap (λ (o
 -- ---- V11: a digit stands alone
 
 -- a digit of whom that were so would break the rule
-digit_breaks : (lines : List Record) (c v : ℕ) → breaks_digits lines lines ≡ false → first_found (digit_in c) lines ≡ Some v
+digit_breaks : (lines : List Record) (c v : ℕ) → breaks_digits lines lines ≡ false
+    → first_found (digit_in c) lines ≡ Some v
     → ((w : ℕ) → is_bad_digit lines lines (digit c w) ≡ true) → ⊥
 digit_breaks lines c v keeps e bad =
     false≢true (sym keeps ∙ any_weaker (λ line. is_some (digit_in c line)) (is_bad_digit lines lines) lines at
@@ -185,7 +215,8 @@ digit_breaks lines c v keeps e bad =
     at : (line : Record) → is_some (digit_in c line) ≡ true → is_bad_digit lines lines line ≡ true
     at (digit d w) h = by (c == d) refl h
       where
-        by : (b : Bool) → (c == d) ≡ b → is_some (cond b (Some w) None) ≡ true → is_bad_digit lines lines (digit d w) ≡ true
+        by : (b : Bool) → (c == d) ≡ b → is_some (cond b (Some w) None) ≡ true
+            → is_bad_digit lines lines (digit d w) ≡ true
         by true is k = subst (λ (x : ℕ). is_bad_digit lines lines (digit x w) ≡ true) (eqb-true c d is) (bad w)
         by false is k = absurd (false≢true k)
     at nothing h = absurd (false≢true h)
@@ -196,7 +227,8 @@ digit_breaks lines c v keeps e bad =
     at (range r) h = absurd (false≢true h)
     at (setting s) h = absurd (false≢true h)
 
-digit_low : (lines : List Record) (c : ℕ) → All KeepsWidths lines → (v : ℕ) → first_found (digit_in c) lines ≡ Some v → v ≤ 9
+digit_low : (lines : List Record) (c : ℕ) → All KeepsWidths lines → (v : ℕ) → first_found (digit_in c) lines ≡ Some v
+    → v ≤ 9
 digit_low lines c all = found_of (digit_in c) KeepsWidths (λ v. v ≤ 9) lines at all
   where
     at : (line : Record) (v : ℕ) → KeepsWidths line → digit_in c line ≡ Some v → v ≤ 9
@@ -216,13 +248,18 @@ digit_low lines c all = found_of (digit_in c) KeepsWidths (λ v. v ≤ 9) lines 
 -- ---- V10: what has prefixes is recorded alone
 
 last_false : (p s d j r : Bool) → r ≡ false → not (p && (s && (d && (j && r)))) ≡ true
-last_false p s d j r e = not_from_false (p && (s && (d && (j && r)))) (and_right p (s && (d && (j && r))) (and_right s (d && (j && r)) (and_right d (j && r) (and_right j r e))))
+last_false p s d j r e =
+    not_from_false (p && (s && (d && (j && r))))
+    (and_right p (s && (d && (j && r))) (and_right s (d && (j && r)) (and_right d (j && r) (and_right j r e))))
 
-prefix_breaks : (lines : List Record) (c b : ℕ) (bs : List ℕ) (es : List Element) → breaks_prefixes lines lines ≡ false → recorded_in lines (b ∷ bs) (c ∷ []) ≡ Some es
+prefix_breaks : (lines : List Record) (c b : ℕ) (bs : List ℕ) (es : List Element) → breaks_prefixes lines lines ≡ false
+    → recorded_in lines (b ∷ bs) (c ∷ []) ≡ Some es
     → is_recorded_in (weights_of lines) [] (c ∷ []) ≡ false → ⊥
-prefix_breaks lines c b bs es keeps recorded alone = by (is_given tailoring (b ∷ bs) (c ∷ []) lines) refl (given_by lines (b ∷ bs) (c ∷ []) es recorded)
+prefix_breaks lines c b bs es keeps recorded alone =
+    by (is_given tailoring (b ∷ bs) (c ∷ []) lines) refl (given_by lines (b ∷ bs) (c ∷ []) es recorded)
   where
-    bad : (layer of_layer : Layer) (before key : List ℕ) (fs : List Element) → (is_same_layer layer of_layer && bytes_eq (b ∷ bs) before && bytes_eq (c ∷ []) key) ≡ true
+    bad : (layer of_layer : Layer) (before key : List ℕ) (fs : List Element)
+        → (is_same_layer layer of_layer && bytes_eq (b ∷ bs) before && bytes_eq (c ∷ []) key) ≡ true
         → is_badly_prefixed lines lines (weights of_layer before key fs) ≡ true
     bad layer of_layer before key fs h =
         let outer = and_parts (is_same_layer layer of_layer && bytes_eq (b ∷ bs) before) (bytes_eq (c ∷ []) key) h in
@@ -231,11 +268,15 @@ prefix_breaks lines c b bs es keeps recorded alone = by (is_given tailoring (b �
         let same_text : c ∷ [] ≡ key = (bytes_eq-Decides (c ∷ []) key).0 outer.1 in
         subst (λ (ds : List ℕ). is_badly_prefixed lines lines (weights of_layer before ds fs) ≡ true) same_text
         (subst (λ (ps : List ℕ). is_badly_prefixed lines lines (weights of_layer ps (c ∷ []) fs) ≡ true) same_prefix
-        (last_false (list_all (is_prefix_character (canonical_of lines) (digit_of lines)) (b ∷ bs)) (is_starter (canonical_of lines) c) (not (is_some (digit_of lines c))) (not (is_jamo c))
+        (last_false (list_all (is_prefix_character (canonical_of lines) (digit_of lines)) (b ∷ bs))
+        (is_starter (canonical_of lines) c) (not (is_some (digit_of lines c))) (not (is_jamo c))
         (is_recorded_in (weights_of lines) [] (c ∷ [])) alone))
 
-    at : (layer : Layer) (line : Record) → is_some (elements_in layer (b ∷ bs) (c ∷ []) line) ≡ true → is_badly_prefixed lines lines line ≡ true
-    at layer (weights of_layer before key fs) h = bad layer of_layer before key fs (some_of (is_same_layer layer of_layer && bytes_eq (b ∷ bs) before && bytes_eq (c ∷ []) key) h)
+    at : (layer : Layer) (line : Record) → is_some (elements_in layer (b ∷ bs) (c ∷ []) line) ≡ true
+        → is_badly_prefixed lines lines line ≡ true
+    at layer (weights of_layer before key fs) h =
+        bad layer of_layer before key fs
+        (some_of (is_same_layer layer of_layer && bytes_eq (b ∷ bs) before && bytes_eq (c ∷ []) key) h)
       where
         some_of : (t : Bool) → is_some (cond t (Some fs) None) ≡ true → t ≡ true
         some_of true k = refl
@@ -248,9 +289,14 @@ prefix_breaks lines c b bs es keeps recorded alone = by (is_given tailoring (b �
     at layer (digit d w) h = absurd (false≢true h)
     at layer (setting s) h = absurd (false≢true h)
 
-    by : (t : Bool) → is_given tailoring (b ∷ bs) (c ∷ []) lines ≡ t → (t || is_given root (b ∷ bs) (c ∷ []) lines) ≡ true → ⊥
-    by true e h = false≢true (sym keeps ∙ any_weaker (λ line. is_some (elements_in tailoring (b ∷ bs) (c ∷ []) line)) (is_badly_prefixed lines lines) lines (at tailoring) e)
-    by false e h = false≢true (sym keeps ∙ any_weaker (λ line. is_some (elements_in root (b ∷ bs) (c ∷ []) line)) (is_badly_prefixed lines lines) lines (at root) h)
+    by : (t : Bool) → is_given tailoring (b ∷ bs) (c ∷ []) lines ≡ t
+        → (t || is_given root (b ∷ bs) (c ∷ []) lines) ≡ true → ⊥
+    by true e h =
+        false≢true (sym keeps ∙ any_weaker (λ line. is_some (elements_in tailoring (b ∷ bs) (c ∷ []) line))
+        (is_badly_prefixed lines lines) lines (at tailoring) e)
+    by false e h =
+        false≢true (sym keeps ∙ any_weaker (λ line. is_some (elements_in root (b ∷ bs) (c ∷ []) line))
+        (is_badly_prefixed lines lines) lines (at root) h)
 
 -- ---- An entry
 
@@ -266,21 +312,29 @@ pub record AreParts (canonical : Canonical) (lines : List Record) (c : ℕ) (say
   pub one_ends : saying.one_ends ≡ list_any (ends_in_mark canonical) (texts_beside saying.suffixes)
   pub one_holds : saying.one_holds ≡ list_any (holds_starter canonical) (texts_beside saying.suffixes)
 
-module _ (canonical : Canonical) (lines : List Record) (accepted : AreAccepted lines) (same : AreSameCanonical canonical (canonical_of lines))
+module _ (canonical : Canonical) (lines : List Record) (accepted : AreAccepted lines)
+    (same : AreSameCanonical canonical (canonical_of lines))
     (c : ℕ) (saying : Saying) (parts : AreParts canonical lines c saying) where
   abbrev can : All CanWriteLine lines
   can = accepted_can_write lines accepted
 
   scalars : All AreScalarsBeside saying.suffixes
-  scalars = subst (All AreScalarsBeside) (sym parts.suffixes) (All-weaker (IsBeside 7) AreScalarsBeside (λ said fit. fit.scalars) (suffixes_in lines c) (suffixes_fit lines c can))
+  scalars =
+      subst (All AreScalarsBeside) (sym parts.suffixes)
+      (All-weaker (IsBeside 7) AreScalarsBeside (λ said fit. fit.scalars) (suffixes_in lines c)
+      (suffixes_fit lines c can))
 
   pub entry_says : IsSayingOf lines c saying
   entry_says = record {
     own = parts.own;
     offset = parts.offset;
     digit = parts.digit;
-    suffixes = λ d ds. ap (λ (saids : List SaidBeside). elements_beside saids (d ∷ ds)) parts.suffixes ∙ suffixes_recorded lines c d ds;
-    prefixes = λ b bs. ap (λ (saids : List SaidBeside). elements_beside saids (b ∷ bs)) parts.prefixes ∙ prefixes_recorded lines c b bs;
+    suffixes =
+        λ d ds. ap (λ (saids : List SaidBeside). elements_beside saids (d ∷ ds)) parts.suffixes
+        ∙ suffixes_recorded lines c d ds;
+    prefixes =
+        λ b bs. ap (λ (saids : List SaidBeside). elements_beside saids (b ∷ bs)) parts.prefixes
+        ∙ prefixes_recorded lines c b bs;
     behind = subst (All (IsSaidBehind lines c)) (sym parts.suffixes) (behind_said lines c can);
     after = subst (All (IsSaidAfter lines c)) (sym parts.prefixes) (after_said lines c can);
     all_begin = parts.all_begin ∙ all_begin_same canonical (canonical_of lines) same saying.suffixes scalars;
@@ -289,18 +343,22 @@ module _ (canonical : Canonical) (lines : List Record) (accepted : AreAccepted l
   }
 
   -- what stands beside a digit would be a further record of it
-  further_breaks : (v : ℕ) → first_found (digit_in c) lines ≡ Some v → (prefix text : List ℕ) (es : List Element) → begins_with c text ≡ true → is_alone prefix text ≡ false
+  further_breaks : (v : ℕ) → first_found (digit_in c) lines ≡ Some v → (prefix text : List ℕ) (es : List Element)
+      → begins_with c text ≡ true → is_alone prefix text ≡ false
       → recorded_in lines prefix text ≡ Some es → ⊥
   further_breaks v e prefix text es begins beside recorded =
       digit_breaks lines c v (accepted_digits lines accepted) e
-      (λ w. or_right _ (list_any (is_further lines c) lines) (recorded_further lines c prefix text begins beside (given_by lines prefix text es recorded)))
+      (λ w. or_right _ (list_any (is_further lines c) lines)
+      (recorded_further lines c prefix text begins beside (given_by lines prefix text es recorded)))
 
   own_alone : (v : ℕ) → first_found (digit_in c) lines ≡ Some v → is_some saying.own ≡ true
   own_alone v e =
       true_from_ne_false _ (λ none.
       digit_breaks lines c v (accepted_digits lines accepted) e
       (λ w. or_left (not (may_be_digit (canonical_of lines) (is_recorded_in (weights_of lines)) c)) _
-      (not_from_false _ (and_right _ _ (and_right _ (is_recorded_in (weights_of lines) [] (c ∷ [])) (sym (ap (λ (o : Option (List Element)). is_some o) parts.own) ∙ none))))))
+      (not_from_false _ (and_right _ _
+      (and_right _ (is_recorded_in (weights_of lines) [] (c ∷ []))
+      (sym (ap (λ (o : Option (List Element)). is_some o) parts.own) ∙ none))))))
 
   digit_alone : (o : Option ℕ) → first_found (digit_in c) lines ≡ o → IfSome o (IsDigitAlone saying)
   digit_alone None e = tt
@@ -308,19 +366,23 @@ module _ (canonical : Canonical) (lines : List Record) (accepted : AreAccepted l
     low = digit_low lines c (accepted_widths lines accepted) v e;
     own = own_alone v e;
     no_suffixes = parts.suffixes ∙ none_of (λ said. IsBeside 7 said × IsSaidBehind lines c said) (suffixes_in lines c)
-        (both (IsBeside 7) (IsSaidBehind lines c) (suffixes_in lines c) (suffixes_fit lines c can) (behind_said lines c can)) (λ said h. no_suffix said.characters said.elements h.0.some h.1);
+        (both (IsBeside 7) (IsSaidBehind lines c) (suffixes_in lines c) (suffixes_fit lines c can)
+        (behind_said lines c can)) (λ said h. no_suffix said.characters said.elements h.0.some h.1);
     no_prefixes = parts.prefixes ∙ none_of (λ said. IsBeside 3 said × IsSaidAfter lines c said) (prefixes_in lines c)
-        (both (IsBeside 3) (IsSaidAfter lines c) (prefixes_in lines c) (prefixes_fit lines c can) (after_said lines c can)) (λ said h. no_prefix said.characters said.elements h.0.some h.1);
+        (both (IsBeside 3) (IsSaidAfter lines c) (prefixes_in lines c) (prefixes_fit lines c can)
+        (after_said lines c can)) (λ said h. no_prefix said.characters said.elements h.0.some h.1);
   }
     where
-      no_suffix : (characters : List ℕ) (es : List Element) → 0 < length characters → recorded_in lines [] (c ∷ characters) ≡ Some es → ⊥
+      no_suffix : (characters : List ℕ) (es : List Element) → 0 < length characters
+          → recorded_in lines [] (c ∷ characters) ≡ Some es → ⊥
       no_suffix [] es some is = absurd (omega arith)
       no_suffix (d ∷ ds) es some is = further_breaks v e [] (c ∷ d ∷ ds) es (c_is c) refl is
         where
           c_is : (n : ℕ) → (n == n) ≡ true
           c_is n = grind arith
 
-      no_prefix : (characters : List ℕ) (es : List Element) → 0 < length characters → recorded_in lines characters (c ∷ []) ≡ Some es → ⊥
+      no_prefix : (characters : List ℕ) (es : List Element) → 0 < length characters
+          → recorded_in lines characters (c ∷ []) ≡ Some es → ⊥
       no_prefix [] es some is = absurd (omega arith)
       no_prefix (b ∷ bs) es some is = further_breaks v e (b ∷ bs) (c ∷ []) es (c_is c) refl is
         where
@@ -330,10 +392,13 @@ module _ (canonical : Canonical) (lines : List Record) (accepted : AreAccepted l
   prefixed_alone : saying.prefixes ≢ [] → is_some saying.own ≡ true
   prefixed_alone some =
       let one = one_of (λ said. IsBeside 3 said × IsSaidAfter lines c said) (prefixes_in lines c)
-      (both (IsBeside 3) (IsSaidAfter lines c) (prefixes_in lines c) (prefixes_fit lines c can) (after_said lines c can)) (λ none. some (parts.prefixes ∙ none)) in
-      true_from_ne_false _ (λ alone. at one.0.characters one.0.elements one.1.0.some one.1.1 (sym (ap (λ (o : Option (List Element)). is_some o) parts.own) ∙ alone))
+      (both (IsBeside 3) (IsSaidAfter lines c) (prefixes_in lines c) (prefixes_fit lines c can)
+      (after_said lines c can)) (λ none. some (parts.prefixes ∙ none)) in
+      true_from_ne_false _ (λ alone. at one.0.characters one.0.elements one.1.0.some one.1.1
+      (sym (ap (λ (o : Option (List Element)). is_some o) parts.own) ∙ alone))
     where
-      at : (characters : List ℕ) (es : List Element) → 0 < length characters → recorded_in lines characters (c ∷ []) ≡ Some es → is_recorded_in (weights_of lines) [] (c ∷ []) ≡ false → ⊥
+      at : (characters : List ℕ) (es : List Element) → 0 < length characters
+          → recorded_in lines characters (c ∷ []) ≡ Some es → is_recorded_in (weights_of lines) [] (c ∷ []) ≡ false → ⊥
       at [] es more is alone = absurd (omega arith)
       at (b ∷ bs) es more is alone = prefix_breaks lines c b bs es (accepted_prefixes lines accepted) is alone
 
@@ -341,10 +406,18 @@ module _ (canonical : Canonical) (lines : List Record) (accepted : AreAccepted l
   entry_fits = record {
     own = subst (λ (o : Option (List Element)). IfSome o AreFit) (sym parts.own) (recorded_fit lines [] (c ∷ []) can);
     offset = parts.small;
-    own_first = λ some. parts.offset ∙ cond-true _ None (offset_of lines c) (sym (ap (λ (o : Option (List Element)). is_some o) parts.own) ∙ some);
-    digit = subst (λ (o : Option ℕ). IfSome o (IsDigitAlone saying)) (sym parts.digit) (digit_alone (first_found (digit_in c) lines) refl);
-    suffixes = subst (AreBeside 7) (sym parts.suffixes) (record { each = suffixes_fit lines c can; different = (suffixes_kept lines c).different });
-    prefixes = subst (AreBeside 3) (sym parts.prefixes) (record { each = prefixes_fit lines c can; different = (prefixes_kept lines c).different });
+    own_first =
+        λ some. parts.offset
+        ∙ cond-true _ None (offset_of lines c) (sym (ap (λ (o : Option (List Element)). is_some o) parts.own) ∙ some);
+    digit =
+        subst (λ (o : Option ℕ). IfSome o (IsDigitAlone saying)) (sym parts.digit)
+        (digit_alone (first_found (digit_in c) lines) refl);
+    suffixes =
+        subst (AreBeside 7) (sym parts.suffixes)
+        (record { each = suffixes_fit lines c can; different = (suffixes_kept lines c).different });
+    prefixes =
+        subst (AreBeside 3) (sym parts.prefixes)
+        (record { each = prefixes_fit lines c can; different = (prefixes_kept lines c).different });
     prefixed = prefixed_alone;
   }
 
@@ -357,10 +430,13 @@ some_copied : {A : Type 0} (o : Option (Bor A)) → is_some (option_copied o) �
 some_copied None = refl
 some_copied (Some x) = refl
 
-module _ (canonical : Canonical) (lines : List Record) (c : ℕ) (entry : Entry) (is_recorded : Bool) (suffixes : List Beside) where
-  pub entry_parts : option_copied entry.own ≡ recorded_in lines [] (c ∷ []) → is_recorded ≡ is_some entry.own → entry.offset ≡ cond is_recorded None (offset_of lines c)
+module _ (canonical : Canonical) (lines : List Record) (c : ℕ) (entry : Entry) (is_recorded : Bool)
+    (suffixes : List Beside) where
+  pub entry_parts : option_copied entry.own ≡ recorded_in lines [] (c ∷ []) → is_recorded ≡ is_some entry.own
+      → entry.offset ≡ cond is_recorded None (offset_of lines c)
       → IfSome entry.offset (λ bits. bits < 2 ^ 64) → entry.digit ≡ first_found (digit_in c) lines
-      → map said_beside entry.suffixes.items ≡ suffixes_in lines c → map said_beside entry.prefixes.items ≡ prefixes_in lines c → suffixes ≡ entry.suffixes.items
+      → map said_beside entry.suffixes.items ≡ suffixes_in lines c
+      → map said_beside entry.prefixes.items ≡ prefixes_in lines c → suffixes ≡ entry.suffixes.items
       → entry.flags.all_begin ≡ list_all (begins_with_mark canonical) (texts_beside (map said_beside suffixes))
       → entry.flags.one_ends ≡ list_any (ends_in_mark canonical) (texts_beside (map said_beside suffixes))
       → entry.flags.one_holds ≡ list_any (holds_starter canonical) (texts_beside (map said_beside suffixes))
@@ -368,12 +444,24 @@ module _ (canonical : Canonical) (lines : List Record) (c : ℕ) (entry : Entry)
   entry_parts own told offset small value behind before same begin end hold =
       record {
         own = own;
-        offset = offset ∙ ap (λ (b : Bool). cond b None (offset_of lines c)) (told ∙ sym (some_copied entry.own) ∙ ap (λ (o : Option (List Element)). is_some o) own);
+        offset =
+            offset
+            ∙ ap (λ (b : Bool). cond b None (offset_of lines c))
+            (told ∙ sym (some_copied entry.own) ∙ ap (λ (o : Option (List Element)). is_some o) own);
         small = small;
         digit = value;
         suffixes = behind;
         prefixes = before;
-        all_begin = begin ∙ ap (λ (saids : List Beside). list_all (begins_with_mark canonical) (texts_beside (map said_beside saids))) same;
-        one_ends = end ∙ ap (λ (saids : List Beside). list_any (ends_in_mark canonical) (texts_beside (map said_beside saids))) same;
-        one_holds = hold ∙ ap (λ (saids : List Beside). list_any (holds_starter canonical) (texts_beside (map said_beside saids))) same;
+        all_begin =
+            begin
+            ∙ ap (λ (saids : List Beside). list_all (begins_with_mark canonical) (texts_beside (map said_beside saids)))
+            same;
+        one_ends =
+            end
+            ∙ ap (λ (saids : List Beside). list_any (ends_in_mark canonical) (texts_beside (map said_beside saids)))
+            same;
+        one_holds =
+            hold
+            ∙ ap (λ (saids : List Beside). list_any (holds_starter canonical) (texts_beside (map said_beside saids)))
+            same;
       }

@@ -29,7 +29,9 @@ one_if b = cond b 1 0
 none_same : (d c : ℕ) (cs : List ℕ) → All (λ y. nat_eq c y ≡ false) cs → c ≡ d → sum_by (λ y. cond (y == d) 1 0) cs ≡ 0
 none_same d c [] all e = refl
 none_same d c (y ∷ ys) all e =
-    let apart : (y == d) ≡ false = false_from_ne_true (y == d) (λ same. false≢true (sym (All-head (λ z. nat_eq c z ≡ false) y ys all) ∙ eq-eqb c y (e ∙ sym (eqb-true y d same)))) in
+    let apart : (y == d) ≡ false = false_from_ne_true (y == d)
+    (λ same. false≢true (sym (All-head (λ z. nat_eq c z ≡ false) y ys all)
+    ∙ eq-eqb c y (e ∙ sym (eqb-true y d same)))) in
     let zero = ap one_if apart in
     let later = none_same d c ys (All-tail (λ z. nat_eq c z ≡ false) y ys all) e in
     omega (arith, zero, later, sum_by-cons (λ z. cond (z == d) 1 0) y ys)
@@ -39,10 +41,12 @@ pub one_same : (d : ℕ) (cs : List ℕ) → IsDistinct nat_eq cs → sum_by (λ
 one_same d [] once = omega arith
 one_same d (c ∷ cs) once = by (c == d) refl (one_same d cs (IsDistinct-tail nat_eq c cs once))
   where
-    by : (b : Bool) → (c == d) ≡ b → sum_by (λ y. cond (y == d) 1 0) cs ≤ 1 → sum_by (λ y. cond (y == d) 1 0) (c ∷ cs) ≤ 1
+    by : (b : Bool) → (c == d) ≡ b → sum_by (λ y. cond (y == d) 1 0) cs ≤ 1
+        → sum_by (λ y. cond (y == d) 1 0) (c ∷ cs) ≤ 1
     by true e later =
         let one = ap one_if e in
-        let none = none_same d c cs (All-from_recursion (λ y. nat_eq c y ≡ false) cs (IsDistinct-head nat_eq c cs once)) (eqb-true c d e) in
+        let none = none_same d c cs (All-from_recursion (λ y. nat_eq c y ≡ false) cs (IsDistinct-head nat_eq c cs once))
+        (eqb-true c d e) in
         omega (arith, one, none, sum_by-cons (λ y. cond (y == d) 1 0) c cs)
     by false e later =
         let zero = ap one_if e in
@@ -52,7 +56,8 @@ one_same d (c ∷ cs) once = by (c == d) refl (one_same d cs (IsDistinct-tail na
 
 two_sums : (f g : ℕ → ℕ) (cs : List ℕ) → sum_by (λ c. f c + g c) cs ≡ sum_by f cs + sum_by g cs
 two_sums f g [] = refl
-two_sums f g (c ∷ cs) = omega (arith, two_sums f g cs, sum_by-cons (λ d. f d + g d) c cs, sum_by-cons f c cs, sum_by-cons g c cs)
+two_sums f g (c ∷ cs) =
+    omega (arith, two_sums f g cs, sum_by-cons (λ d. f d + g d) c cs, sum_by-cons f c cs, sum_by-cons g c cs)
 
 either_one : (a b : Bool) → one_if (a || b) ≤ one_if a + one_if b
 either_one true b = omega arith
@@ -63,7 +68,8 @@ only_later true b f = omega (arith, ap one_if (f refl))
 only_later false b f = omega arith
 
 -- of different characters as many at most are among others as these are different
-among_few : (cs : List ℕ) → IsDistinct nat_eq cs → (xs : List ℕ) → sum_by (λ c. one_if (is_among c xs)) cs ≤ different xs
+among_few : (cs : List ℕ) → IsDistinct nat_eq cs → (xs : List ℕ)
+    → sum_by (λ c. one_if (is_among c xs)) cs ≤ different xs
 unfolding different
 among_few cs once [] = omega (arith, zeros cs)
   where
@@ -79,7 +85,8 @@ among_few cs once (x ∷ xs) = by (is_among x xs) refl (among_few cs once xs)
           arith,
           few,
           sum_by-le-sum_by (λ c. one_if (is_among c (x ∷ xs))) (λ c. one_if (is_among c xs)) cs
-              (λ c. only_later (c == x) (is_among c xs) (λ same. subst (λ (y : ℕ). is_among y xs ≡ true) (sym (eqb-true c x same)) e)),
+              (λ c. only_later (c == x) (is_among c xs)
+              (λ same. subst (λ (y : ℕ). is_among y xs ≡ true) (sym (eqb-true c x same)) e)),
         )
     by false e few =
         omega (
@@ -87,7 +94,8 @@ among_few cs once (x ∷ xs) = by (is_among x xs) refl (among_few cs once xs)
           few,
           one_same x cs once,
           two_sums (λ c. one_if (c == x)) (λ c. one_if (is_among c xs)) cs,
-          sum_by-le-sum_by (λ c. one_if (is_among c (x ∷ xs))) (λ c. one_if (c == x) + one_if (is_among c xs)) cs (λ c. either_one (c == x) (is_among c xs)),
+          sum_by-le-sum_by (λ c. one_if (is_among c (x ∷ xs))) (λ c. one_if (c == x) + one_if (is_among c xs)) cs
+              (λ c. either_one (c == x) (is_among c xs)),
         )
 
 all_among : (xs cs : List ℕ) → All (λ c. is_among c xs ≡ true) cs → length cs ≤ sum_by (λ c. one_if (is_among c xs)) cs
@@ -117,11 +125,13 @@ named_among c (range r) h = h
 named_among c (digit d v) h = absurd (false≢true h)
 named_among c (setting s) h = h
 
-names_among : (c : ℕ) (lines : List Record) → list_any (begins_line c) lines ≡ true → is_among c (flat_map named lines) ≡ true
+names_among : (c : ℕ) (lines : List Record) → list_any (begins_line c) lines ≡ true
+    → is_among c (flat_map named lines) ≡ true
 names_among c [] h = h
 names_among c (line ∷ lines) h =
     list_any-append (λ d. c == d) (named line) (flat_map named lines)
-    ∙ either (begins_line c line) (list_any (begins_line c) lines) (is_among c (named line)) (is_among c (flat_map named lines)) (named_among c line) (names_among c lines) h
+    ∙ either (begins_line c line) (list_any (begins_line c) lines) (is_among c (named line))
+    (is_among c (flat_map named lines)) (named_among c line) (names_among c lines) h
   where
     either : (a b p q : Bool) → (a ≡ true → p ≡ true) → (b ≡ true → q ≡ true) → (a || b) ≡ true → (p || q) ≡ true
     either true b p q f g k = or_left p q (f refl)
@@ -135,13 +145,15 @@ none_named = omega arith
 few_named : (lines : List Record) → AreAccepted lines → names_in lines ≤ 150
 few_named lines accepted = by lines (λ i lt over. accepted.keep_rules Limit i lt (inl over))
   where
-    by : (some : List Record) → ((i : ℕ) → i < length some → 150 < names_in (take (i + 1) some) → ⊥) → names_in some ≤ 150
+    by : (some : List Record) → ((i : ℕ) → i < length some → 150 < names_in (take (i + 1) some) → ⊥)
+        → names_in some ≤ 150
     by [] keeps = none_named
     by (line ∷ some) keeps =
         subst (λ (ls : List Record). names_in ls ≤ 150) (take_all (length some + 1) (line ∷ some) (omega arith))
         (at_most _ 150 (keeps (length some) (omega arith)))
 
-pub names_few : (lines : List Record) → AreAccepted lines → (cs : List ℕ) → IsDistinct nat_eq cs → All (λ c. list_any (begins_line c) lines ≡ true) cs
+pub names_few : (lines : List Record) → AreAccepted lines → (cs : List ℕ) → IsDistinct nat_eq cs
+    → All (λ c. list_any (begins_line c) lines ≡ true) cs
     → length cs + count_by is_range lines ≤ 150
 names_few lines accepted cs once all =
     omega (

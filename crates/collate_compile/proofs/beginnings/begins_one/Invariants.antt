@@ -5,4 +5,5 @@ use Rattle.collate_compile.specs.LineSayings.{begins_line}
 use Rattle.collate_compile.proofs.beginnings.begins_one.Given as goal
 
 abbrev pub invariant-loop-line : goal.invariant-loop-line
-invariant-loop-line l = list_any (begins_line l.c) (map said (drop l.line-index l.lines)) ≡ list_any (begins_line l.c) (map said l.lines)
+invariant-loop-line l =
+    list_any (begins_line l.c) (map said (drop l.line-index l.lines)) ≡ list_any (begins_line l.c) (map said l.lines)

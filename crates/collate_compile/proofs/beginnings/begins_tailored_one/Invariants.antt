@@ -5,4 +5,6 @@ use Rattle.collate_compile.specs.LineSayings.{begins_tailored_line}
 use Rattle.collate_compile.proofs.beginnings.begins_tailored_one.Given as goal
 
 abbrev pub invariant-loop-line : goal.invariant-loop-line
-invariant-loop-line l = list_any (begins_tailored_line l.c) (map said (drop l.line-index l.lines)) ≡ list_any (begins_tailored_line l.c) (map said l.lines)
+invariant-loop-line l =
+    list_any (begins_tailored_line l.c) (map said (drop l.line-index l.lines)) ≡ list_any (begins_tailored_line l.c)
+    (map said l.lines)

@@ -4,4 +4,6 @@ use Rattle.collate_lines.specs.Record.{said}
 use Rattle.collate_compile.proofs.by_lines.range_of.Given as goal
 
 abbrev pub invariant-loop-record : goal.invariant-loop-record
-invariant-loop-record l = first_found (range_in l.c) (map said (drop l.record-index l.records)) ≡ first_found (range_in l.c) (map said l.records)
+invariant-loop-record l =
+    first_found (range_in l.c) (map said (drop l.record-index l.records)) ≡ first_found (range_in l.c)
+    (map said l.records)

@@ -19,11 +19,15 @@ returns c =
       flags = c.flags_of-flags.result;
     } in
     let parts =
-    entry_parts canonical lines c.args.character entry c.is_some.result c.as_slice.result.now c.recorded-own.ensures c.is_some.ensures c.offset_unless-offset.ensures.offset
-    c.offset_unless-offset.ensures.small c.digit_of-digit.ensures c.in_ok-suffixes.ensures c.in_ok-prefixes.ensures c.as_slice.ensures.value
+    entry_parts canonical lines c.args.character entry c.is_some.result c.as_slice.result.now c.recorded-own.ensures
+    c.is_some.ensures c.offset_unless-offset.ensures.offset
+    c.offset_unless-offset.ensures.small c.digit_of-digit.ensures c.in_ok-suffixes.ensures c.in_ok-prefixes.ensures
+    c.as_slice.ensures.value
     c.flags_of-flags.ensures.all_begin c.flags_of-flags.ensures.one_ends c.flags_of-flags.ensures.one_holds in
     record {
-      says = entry_says canonical lines c.requires.accepted c.requires.canonical c.args.character (saying_of entry) parts;
-      fit = entry_fits canonical lines c.requires.accepted c.requires.canonical c.args.character (saying_of entry) parts;
+      says =
+          entry_says canonical lines c.requires.accepted c.requires.canonical c.args.character (saying_of entry) parts;
+      fit =
+          entry_fits canonical lines c.requires.accepted c.requires.canonical c.args.character (saying_of entry) parts;
       few = entry_few canonical lines c.requires.accepted c.requires.canonical c.args.character (saying_of entry) parts;
     }

@@ -8,5 +8,6 @@ use Rattle.collate_compile.proofs.flags.one_ends.Given as goal
 
 abbrev pub invariant-loop-suffix : goal.invariant-loop-suffix
 invariant-loop-suffix l =
-    list_any (ends_in_mark (borrowed_meaning l.canonical)) (texts_beside (map said_beside (drop l.suffix-index l.suffixes)))
+    list_any (ends_in_mark (borrowed_meaning l.canonical))
+    (texts_beside (map said_beside (drop l.suffix-index l.suffixes)))
     ≡ list_any (ends_in_mark (borrowed_meaning l.canonical)) (texts_beside (map said_beside l.suffixes))

@@ -6,5 +6,6 @@ use Rattle.collate_compile.proofs.gather.add_prefixes.Given as goal
 
 abbrev pub invariant-loop-line : goal.invariant-loop-line
 invariant-loop-line l =
-    gathered (prefix_in (layer_of l.layer) l.c) (map said (drop l.line-index l.lines)) (map said_beside l.prefixes.items)
+    gathered (prefix_in (layer_of l.layer) l.c) (map said (drop l.line-index l.lines))
+    (map said_beside l.prefixes.items)
     ≡ gathered (prefix_in (layer_of l.layer) l.c) (map said l.lines) (map said_beside l.initial.prefixes.items)

@@ -6,5 +6,6 @@ use Rattle.collate_compile.proofs.gather.add_suffixes.Given as goal
 
 abbrev pub invariant-loop-line : goal.invariant-loop-line
 invariant-loop-line l =
-    gathered (suffix_in (layer_of l.layer) l.c) (map said (drop l.line-index l.lines)) (map said_beside l.suffixes.items)
+    gathered (suffix_in (layer_of l.layer) l.c) (map said (drop l.line-index l.lines))
+    (map said_beside l.suffixes.items)
     ≡ gathered (suffix_in (layer_of l.layer) l.c) (map said l.lines) (map said_beside l.initial.suffixes.items)

@@ -5,4 +5,5 @@ use Rattle.collate_compile.proofs.gather.has_beside.Given as goal
 
 abbrev pub invariant-loop-beside : goal.invariant-loop-beside
 invariant-loop-beside l =
-    has_beside (map said_beside (drop l.beside-index l.besides)) l.characters ≡ has_beside (map said_beside l.besides) l.characters
+    has_beside (map said_beside (drop l.beside-index l.besides)) l.characters ≡ has_beside
+    (map said_beside l.besides) l.characters
