@@ -5,7 +5,7 @@ use Rattle.collate_lines.specs.Record.{Record}
 use Rattle.collate_rules.specs.Accepted.{AreAccepted}
 use Rattle.collate_rules.specs.KeptSettings.{AreSoundlySet}
 use Rattle.collate_rules.proofs.given.CountLemmas.{line_keeps_counts}
-use Rattle.collate_rules.proofs.given.SoundSettingLemmas.{soundly_set}
+use Rattle.collate_record_rules.proofs.records.SoundSettingLemmas.{soundly_set}
 
 -- it is sound
 pub accepted_soundly_set : (lines : List Record) → AreAccepted lines → AreSoundlySet lines
