@@ -1,3 +1,4 @@
 pub mod building
 pub mod gathering
+pub mod laws
 pub mod setting

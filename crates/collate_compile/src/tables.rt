@@ -5,6 +5,7 @@ ghost use Rattle.icu_normalizer_core.specs.BorrowedMeaning.{borrowed_meaning};
 ghost use Rattle.icu_normalizer_core.specs.Sameness.{AreSameCanonical};
 ghost use Rattle.collate_lines.specs.Record.{said};
 ghost use Rattle.collate_rules.specs.Accepted.{AreAccepted};
+ghost use Rattle.collate_rules.specs.KeptSettings.{AreSoundlySet};
 ghost use Rattle.collate_rules.specs.Meaning.{canonical_of};
 ghost use Rattle.collate_compile.specs.Compiled.{AreCompiledFrom};
 
@@ -20,7 +21,8 @@ use icu_normalizer_core::canonical::CanonicalBorrowed;
 use icu_packed_vector::PackedVec;
 use std::alloc::{AllocError, Global};
 
-/// The tables of accepted lines, with tries of this type.
+/// The tables of accepted lines, with tries of this type. Accepted lines set what is sound: `collate_record_rules` has the
+/// law.
 ///
 /// Errors: `AllocError` where memory is refused.
 pub fn compile_tables(
@@ -30,6 +32,7 @@ pub fn compile_tables(
     trie_type: TrieType,
 ) -> Result<CollationTables<'static>, AllocError>
     requires accepted { AreAccepted (map said lines.now) }
+    requires settings { AreSoundlySet (map said lines.now) }
     requires canonical { AreSameCanonical (borrowed_meaning canonical.now) (canonical_of (map said lines.now)) }
     ensures { IfOk result (AreCompiledFrom (map said lines.now)) }
 {

@@ -10,7 +10,7 @@ use Rattle.collate_provider.specs.Provided.{Provided}
 use Rattle.collate_rules.specs.Accepted.{AreAccepted}
 use Rattle.collate_compile.specs.Compiled.{AreCompiledFrom}
 use Rattle.collate_compile.proofs.laws.AcceptedLemmas.{compiled_accepted}
-use Rattle.collate_compile.proofs.setting.AcceptedSettingLemmas.{accepted_soundly_set}
+use Rattle.collate_records.proofs.reading.SoundSettingLemmas.{accepted_soundly_set}
 use Rattle.collate_compile.proofs.laws.SettingLemmas.{whole_leads}
 use Rattle.collate_compile.proofs.laws.SamenessLemmas.{same_settings, same_weights}
 use Rattle.collate_records.specs.CompiledOf.{IsCompiledOf}
