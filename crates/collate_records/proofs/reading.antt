@@ -6,4 +6,5 @@ pub mod PlainLemmas
 pub mod RankLemmas
 pub mod ReadLineLemmas
 pub mod ScalarLemmas
+pub mod SoundSettingLemmas
 pub mod SoundWeightLemmas

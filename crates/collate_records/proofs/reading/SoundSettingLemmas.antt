@@ -4,7 +4,7 @@ use Rattle.collate_lines.specs.declared.rule.Rule.TheVariants.{Set}
 use Rattle.collate_lines.specs.Record.{Record}
 use Rattle.collate_rules.specs.Accepted.{AreAccepted}
 use Rattle.collate_rules.specs.KeptSettings.{AreSoundlySet}
-use Rattle.collate_rules.proofs.given.CountLemmas.{line_keeps_counts}
+use Rattle.collate_rules.proofs.given.GrammarLemmas.{line_keeps_counts}
 use Rattle.collate_record_rules.proofs.records.SoundSettingLemmas.{soundly_set}
 
 pub accepted_soundly_set : (lines : List Record) → AreAccepted lines → AreSoundlySet lines
