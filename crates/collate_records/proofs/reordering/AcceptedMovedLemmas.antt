@@ -66,7 +66,7 @@ module _ (a b : List Record) (moved : IsPermutation a b) (accepted : AreAccepted
       (subst (λ (lines : List Record). HasBadLow lines → ⊥) whole no_low)
 
   rules_moved : (rule : Rule) → NoneOffends rule b
-  rules_moved Grammar i lt offends = offends
+  rules_moved Grammar = λ i lt offends. offends
   rules_moved V14 = repeats_moved a b moved (keep V14)
   rules_moved Limit = limit_moved a b moved (keep Limit)
   rules_moved C1 = starters_moved a b moved accepted.in_grammar (keep V14) (keep C5) (keep C1) (keep C2)

@@ -123,13 +123,13 @@ module _ (lines more : List Record) (said : All IsSaid (lines ++ more)) (unmarke
 
 module _ (a b : List Record) (moved : IsPermutation a b) (said : All IsSaid a) (once : NoneOffends V14 a) (pairs : NoneOffends C5 a)
     (starters : NoneOffends C1 a) (ends : NoneOffends C2 a) where
-  same : SaysSame b a
+  pub same : SaysSame b a
   same = SaysSame-sym a b (says_same a b moved once pairs)
 
-  unmarked : MapsMark b → ⊥
+  pub unmarked : MapsMark b → ⊥
   unmarked bad = none_together MapsMark MapsMark-none a starters (MapsMark-same b a same bad)
 
-  loopless : HasLoop b → ⊥
+  pub loopless : HasLoop b → ⊥
   loopless loop = none_together HasLoop HasLoop-none a ends (HasLoop-same b a same loop)
 
   whole : (i : ℕ) → take (i + 1) b ++ drop (i + 1) b ≡ b

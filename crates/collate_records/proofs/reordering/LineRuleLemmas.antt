@@ -5,7 +5,7 @@ use Rattle.std.specs.Cmp.{nat_eq_equiv}
 use Rattle.std.specs.List.{list_any}
 use Rattle.std.specs.List.Sorted.{IsPermutation}
 use Rattle.std.proofs.Math.Path.{fun_ext}
-use Rattle.std.proofs.lemmas.Bool.{and_parts}
+use Rattle.std.proofs.lemmas.Bool.{false≢true}
 use Rattle.std.proofs.lemmas.List.Elements.{All-get_or}
 use Rattle.std.proofs.lemmas.List.Sorted.{All-permutation}
 use Rattle.std.proofs.lemmas.Option.{unwrap_or-slice_get}
@@ -38,22 +38,30 @@ layer_flip root tailoring = refl
 layer_flip tailoring root = refl
 layer_flip tailoring tailoring = refl
 
-second_flips : (s t : Record) → is_second s t ≡ is_second t s
-second_flips (class c k) (class d l) = nat_eq_equiv.symm c d
-second_flips (mapping c cs x) (mapping d ds y) = nat_eq_equiv.symm c d
-second_flips (compatibility c cs) (compatibility d ds) = nat_eq_equiv.symm c d
-second_flips (weights l p t es) (weights m q u fs) =
+weights_flip : (l m : Layer) (p q t u : List ℕ) → (is_same_layer l m && bytes_eq p q && bytes_eq t u) ≡ (is_same_layer m l && bytes_eq q p && bytes_eq u t)
+weights_flip l m p q t u =
     ap (λ (b : Bool). b && bytes_eq p q && bytes_eq t u) (layer_flip l m)
     ∙ ap (λ (b : Bool). is_same_layer m l && b && bytes_eq t u) (bytes_flip p q)
     ∙ ap (λ (b : Bool). is_same_layer m l && bytes_eq q p && b) (bytes_flip t u)
-second_flips (digit c v) (digit d w) = nat_eq_equiv.symm c d
-second_flips (setting s) (setting r) = bytes_flip (setting_name s) (setting_name r)
-second_flips _ _ = refl
+
+second_turned : (s t : Record) → is_second s t ≡ true → is_second t s ≡ true
+second_turned (class c k) (class d l) h = sym (nat_eq_equiv.symm c d) ∙ h
+second_turned (mapping c cs x) (mapping d ds y) h = sym (nat_eq_equiv.symm c d) ∙ h
+second_turned (compatibility c cs) (compatibility d ds) h = sym (nat_eq_equiv.symm c d) ∙ h
+second_turned (weights l p t es) (weights m q u fs) h = sym (weights_flip l m p q t u) ∙ h
+second_turned (digit c v) (digit d w) h = sym (nat_eq_equiv.symm c d) ∙ h
+second_turned (setting s) (setting r) h = sym (bytes_flip (setting_name s) (setting_name r)) ∙ h
+second_turned _ _ h = absurd (false≢true h)
+
+second_flips : (s t : Record) → is_second s t ≡ is_second t s
+second_flips s t = same_answer (is_second s t) (is_second t s) (second_turned s t) (second_turned t s)
 
 pair_flips : (o p : Option (ℕ × ℕ)) → is_same_pair o p ≡ is_same_pair p o
 pair_flips (Some p) (Some q) =
     ap (λ (b : Bool). b && (p.1 == q.1)) (nat_eq_equiv.symm p.0 q.0) ∙ ap (λ (b : Bool). (q.0 == p.0) && b) (nat_eq_equiv.symm p.1 q.1)
-pair_flips _ _ = refl
+pair_flips (Some p) None = refl
+pair_flips None (Some q) = refl
+pair_flips None None = refl
 
 module _ (a b : List Record) (moved : IsPermutation a b) where
   -- what holds of each line by its place

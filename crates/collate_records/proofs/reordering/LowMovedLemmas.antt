@@ -1,7 +1,7 @@
 -- A character below U+0300 that is its own composed list by all lines of a file is so by fewer of them: what it is composed of by all
 -- is a chain of pairs, of which fewer lines leave the end.
 use Rattle.std.proofs.Common.{◌≡◌, ◌≢◌, ◌⊎◌, ℕ, ◌<◌, inl, inr, ⊎_elim, Bool, true, false, cond, not, ◌==◌, ◌&&◌, ◌||◌, ltb, List, [], ◌∷◌, ◌++◌, length, get_or, drop, Option, Some, None, refl, sym, ap, ◌∙◌, subst, arith, append_assoc, append-nil}
-use Rattle.std.proofs.lemmas.Bool.{and_from, and_parts, and_right, cases_eq, cases_lt, false_from_ne_true, false≢true, ltb-true, or_from, or_parts}
+use Rattle.std.proofs.lemmas.Bool.{and_from, and_parts, and_right, cases_eq, cases_lt, false_from_ne_true, false≢true, le-ltb, ltb-true, or_from, or_parts}
 use Rattle.icu_normalizer_core.specs.Canonical.{Canonical, Leaves, composed, composing, marks_in_order, put_in_order, recomposed}
 use Rattle.icu_normalizer_core.proofs.CompositionLemmas.{composed_one, composing_end, composing_joined, mark_first, not_one, recomposed_nothing, recomposed_starter}
 use Rattle.icu_normalizer_core.proofs.DecomposedLemmas.{AreUnmapped, order_unmapped, unmapped_left}
@@ -64,7 +64,7 @@ behind_starter : (class : ℕ → ℕ) (x : ℕ) (list : List ℕ) → class x �
 behind_starter class x [] zero h = refl
 behind_starter class x (y ∷ list) zero h =
     or_from (ltb 0 (class y) && ltb (class y) (class x)) (is_disordered class (y ∷ list))
-    (and_right (ltb 0 (class y)) (ltb (class y) (class x)) (ap (ltb (class y)) zero)) h
+    (and_right (ltb 0 (class y)) (ltb (class y) (class x)) (le-ltb (class y) (class x) (omega (arith, zero)))) h
 
 -- where fewer characters are marks, of the same classes, fewer are out of order
 ordered_before : (p q : ℕ → ℕ) → ((c : ℕ) → 0 < p c → p c ≡ q c) → (list : List ℕ) → is_disordered q list ≡ false → is_disordered p list ≡ false

@@ -61,6 +61,10 @@ unfolding IsDistinct
 disjoint_of_distinct [] h = refl
 disjoint_of_distinct (r ∷ rs) h = and_from (list_all (are_disjoint r) rs) (are_all_disjoint rs) (all_of_none r rs h.0) (disjoint_of_distinct rs h.1)
 
+-- whether a line records a mark otherwise than alone with a common secondary
+abbrev is_otherwise : List Record → ℕ → Record → Bool
+is_otherwise records c line = is_further records c line || is_other_mark records c line
+
 -- ---- Breaches that last
 
 module _ (a b : List Record) (moved : IsPermutation a b) where
@@ -102,7 +106,7 @@ module _ (a b : List Record) (moved : IsPermutation a b) where
         (any_moved (is_undecomposed a) (is_undecomposed b) undecomposed_same) false≢true
 
     marks_same : is_mark a ≡ is_mark b
-    marks_same = ap (λ (class : ℕ → ℕ) (c : ℕ). not (class c == 0)) (classes_same a b moved once)
+    marks_same = fun_ext (λ c. ap (λ (class : ℕ → ℕ). not (class c == 0)) (classes_same a b moved once))
 
     late_same : has_late_starter a a ≡ has_late_starter b b
     late_same = fun_ext by
@@ -172,10 +176,10 @@ module _ (a b : List Record) (moved : IsPermutation a b) where
         together (λ lines. breaks_digits b lines ≡ true) (λ lines. breaks_digits a lines ≡ true) (digits_stay b)
         (any_moved (is_bad_digit a a) (is_bad_digit b b) digit_same) false≢true
 
-    otherwise_same : (c : ℕ) → (λ (line : Record). is_further a c line || is_other_mark a c line) ≡ (λ (line : Record). is_further b c line || is_other_mark b c line)
+    otherwise_same : (c : ℕ) → is_otherwise a c ≡ is_otherwise b c
     otherwise_same c = fun_ext by
       where
-        by : (r : Record) → (is_further a c r || is_other_mark a c r) ≡ (is_further b c r || is_other_mark b c r)
+        by : (r : Record) → is_otherwise a c r ≡ is_otherwise b c r
         by (weights layer prefix text es) =
             ap (λ (is : Layer → List ℕ → List ℕ → Bool).
             (begins_with c text && not (is_alone prefix text) && not (is layer prefix text))
@@ -188,9 +192,9 @@ module _ (a b : List Record) (moved : IsPermutation a b) where
       where
         by : (c : ℕ) → is_bad_dotted a a c ≡ is_bad_dotted b b c
         by c =
-            ap (λ (is_recorded : List ℕ → List ℕ → Bool). not (is_recorded [] (c ∷ [])) || list_any (λ line. is_further a c line || is_other_mark a c line) a) (recorded_same a b moved once)
+            ap (λ (is_recorded : List ℕ → List ℕ → Bool). not (is_recorded [] (c ∷ [])) || list_any (is_otherwise a c) a) (recorded_same a b moved once)
             ∙ ap (λ (t : Bool). not (is_recorded_in (weights_of b) [] (c ∷ [])) || t)
-            (list_any-IsPermutation (λ line. is_further a c line || is_other_mark a c line) a b moved
+            (list_any-IsPermutation (is_otherwise a c) a b moved
             ∙ ap (λ (test : Record → Bool). list_any test b) (otherwise_same c))
 
     dot_above_same : breaks_dot_above b b ≡ true → breaks_dot_above a a ≡ true
