@@ -15,7 +15,8 @@ use Rattle.collate_lines.specs.Record.{Record, mapping, compatibility}
 use Rattle.collate_rules.specs.Meaning.{any_step, class_in, class_of, compatibility_in, compatibility_of, else_mapped, expanded, first_found, full_of, is_built_in, mapping_in, step_of}
 use Rattle.collate_rules.specs.RecordRules.{is_mark}
 use Rattle.collate_rules.specs.Rules.{HasBadList, HasLoop, IsBadList, MapsMark, begins_with_mark, compatibility_full_of, is_mapped}
-use Rattle.collate_rules.proofs.records.GrowthLemmas.{first_found-append, mark_stays}
+use Rattle.collate_rules.proofs.lookups.LookupLemmas.{first_found-append}
+use Rattle.collate_record_rules.proofs.records.GrowthLemmas.{mark_stays}
 use Rattle.collate_records.proofs.mappings.DecomposingLemmas.{reaches_from, reaches_wider}
 use Rattle.collate_records.proofs.maps.AnyStepLemmas.{any_built_in, any_by_lines}
 
