@@ -1,4 +1,3 @@
 pub mod building
 pub mod gathering
-pub mod laws
 pub mod setting
