@@ -4,3 +4,4 @@ pub mod mappings
 pub mod maps
 pub mod offenders
 pub mod reading
+pub mod reordering

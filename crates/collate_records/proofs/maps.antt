@@ -1,5 +1,8 @@
--- what lines say, as maps of canonical data
+-- what lines say, as maps of canonical data and of compatibility data
 pub mod AcceptedMapLemmas
+pub mod AllMapLemmas
+pub mod AnyStepLemmas
+pub mod CompatibilityLineLemmas
 pub mod MapLineLemmas
 pub mod MapMeaningLemmas
 pub mod MapNameLemmas

@@ -24,7 +24,7 @@ pub(crate) fn canonical_data(
 {
     let mut builder = CanonicalDataBuilder::new(alloc);
     for given in records {
-        give(&mut builder, given)?;
+        give_canonical(&mut builder, given)?;
     }
     match builder.build_data() {
         Ok(data) => Ok(data),
@@ -33,11 +33,15 @@ pub(crate) fn canonical_data(
     }
 }
 
-/// Gives what a line says of a class or a mapping, if it does. `AllocError` where memory is refused.
-fn give(builder: &mut CanonicalDataBuilder, given: &Record) -> Result<(), AllocError>
+/// Gives what a line says of a class or a canonical mapping, if it does. `AllocError` where memory is refused.
+pub(crate) fn give_canonical(
+    builder: &mut CanonicalDataBuilder,
+    given: &Record,
+) -> Result<(), AllocError>
     requires { HasSmallClass (said given.now) }
     ensures classes { OnOk result (builder.new.canonical.classes ≡ builder.old.canonical.classes ++ classes_in (said given.now)) }
     ensures mappings { OnOk result (builder.new.canonical.mappings ≡ builder.old.canonical.mappings ++ mappings_in (said given.now)) }
+    ensures compatibilities { OnOk result (builder.new.compatibilities ≡ builder.old.compatibilities) }
 {
     match given {
         Record::Class { character, class } => builder.class(*character, *class as u8),

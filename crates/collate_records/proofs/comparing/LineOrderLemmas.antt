@@ -56,7 +56,7 @@ pair_some x y k s e =
     let w = composed_in-some x y k s e in
     ap pair_in w.line ∙ ap (λ (b : Bool). cond {A = Option (ℕ × ℕ)} b None (Some (x, y))) w.free
 
-pair_second : (x y : ℕ) (s t : Record) (k l : ℕ) → composed_in x y s ≡ Some k → composed_in x y t ≡ Some l → is_same_pair (pair_in s) (pair_in t) ≡ true
+pub pair_second : (x y : ℕ) (s t : Record) (k l : ℕ) → composed_in x y s ≡ Some k → composed_in x y t ≡ Some l → is_same_pair (pair_in s) (pair_in t) ≡ true
 pair_second x y s t k l e g =
     rw (pair_some x y k s e, pair_some x y l t g)
     (and_from (x == x) (y == y) ((Decides-eqb x x).1 refl) ((Decides-eqb y y).1 refl))
@@ -114,11 +114,11 @@ all_apart records keeps =
 
 module _ (a b : List Record) (moved : IsPermutation a b) (new : NoneOffends V14 a) where
   -- what a line says for one thing is found alike
-  said_alike : {B : Type 0} (f : Record → Option B)
+  pub said_alike : {B : Type 0} (f : Record → Option B)
       → ((s t : Record) (u v : B) → f s ≡ Some u → f t ≡ Some v → is_second s t ≡ true) → first_found f a ≡ first_found f b
   said_alike f tell = found_alike f a b moved (says_once f is_second tell a new)
 
-  set_alike : {B : Type 0} (f : Record → Option B) (name : List ℕ) → ((s : Record) (u : B) → f s ≡ Some u → Sets name s)
+  pub set_alike : {B : Type 0} (f : Record → Option B) (name : List ℕ) → ((s : Record) (u : B) → f s ≡ Some u → Sets name s)
       → (default : B) → set_to f default a ≡ set_to f default b
   set_alike {B} f name named default =
       ap (λ (o : Option B). unwrap_or o default) (said_alike f (setting_second f name named))
@@ -143,10 +143,13 @@ module _ (a b : List Record) (moved : IsPermutation a b) (new : NoneOffends V14 
   pub same_composing : NoneOffends C5 a → AreSameComposing (canonical_of a) (canonical_of b)
   same_composing once = record { same = same_characters; pair = λ x y first second. pair_alike once x y }
 
-  compress_alike : set_to compress_in [] a ≡ set_to compress_in [] b
+  pub numeric_alike : first_found numeric_in a ≡ first_found numeric_in b
+  numeric_alike = said_alike numeric_in (setting_second numeric_in (codes "numeric") sets_numeric)
+
+  pub compress_alike : set_to compress_in [] a ≡ set_to compress_in [] b
   compress_alike = set_alike compress_in (codes "compress") sets_compress []
 
-  reorder_alike : set_to reorder_in [] a ≡ set_to reorder_in [] b
+  pub reorder_alike : set_to reorder_in [] a ≡ set_to reorder_in [] b
   reorder_alike = set_alike reorder_in (codes "reorder") sets_reorder []
 
   options_alike : settings_of a ≡ settings_of b
@@ -157,7 +160,7 @@ module _ (a b : List Record) (moved : IsPermutation a b) (new : NoneOffends V14 
       rw (of_alternate, of_case_first, of_max_variable) refl
 
   -- the same settings by value
-  equal_settings : AreSettingsEqual a b
+  pub equal_settings : AreSettingsEqual a b
   equal_settings = record {
     values = record {
       options = options_alike;
@@ -173,7 +176,7 @@ module _ (a b : List Record) (moved : IsPermutation a b) (new : NoneOffends V14 
   pub same_settings : AreSameWithOptions (collation_of a) (collation_of b)
   same_settings = settings_alike a b equal_settings
 
-  recorded_alike : (prefix text : List ℕ) → recorded_in a prefix text ≡ recorded_in b prefix text
+  pub recorded_alike : (prefix text : List ℕ) → recorded_in a prefix text ≡ recorded_in b prefix text
   recorded_alike prefix text =
       let layer_alike : (layer : Layer) → first_found (elements_in layer prefix text) a ≡ first_found (elements_in layer prefix text) b =
       λ layer. said_alike (elements_in layer prefix text) (elements_second layer prefix text) in

@@ -14,10 +14,10 @@ use Rattle.icu_collator_types.specs.declared.elements.Element.{Element}
 use Rattle.icu_normalizer_core.specs.BuiltIn.{is_within}
 use Rattle.icu_collator_core.specs.Weights.{Range}
 use Rattle.icu_collator_core.specs.WeightRules.{are_disjoint}
-use Rattle.collate_lines.specs.Record.{Record, nothing, class, mapping, weights, range, digit, setting, Layer, root, tailoring, is_same_layer}
+use Rattle.collate_lines.specs.Record.{Record, nothing, class, mapping, compatibility, weights, range, digit, setting, Layer, root, tailoring, is_same_layer}
 use Rattle.collate_lines.specs.Repeats.{is_second, record_at, setting_name}
 use Rattle.collate_rules.specs.GivenWeights.{are_all_disjoint, given_ranges, ranges_of}
-use Rattle.collate_rules.specs.Meaning.{class_in, digit_in, elements_in, first_found, mapping_in, range_in, span_of}
+use Rattle.collate_rules.specs.Meaning.{class_in, compatibility_in, digit_in, elements_in, first_found, mapping_in, range_in, span_of}
 use Rattle.collate_rules.proofs.lookups.FoundLemmas.{found_at}
 
 -- ## What one line at most says
@@ -28,11 +28,11 @@ module _ {B : Type 0} (f : Record → Option B) where
   SaysOnce lines = (i j : ℕ) (u v : B) → i < j → j < length lines
       → f (record_at lines i) ≡ Some u → f (record_at lines j) ≡ Some v → ⊥
 
-  contains_at : (lines : List Record) (i : ℕ) → i < length lines → Contains lines (record_at lines i)
+  pub contains_at : (lines : List Record) (i : ℕ) → i < length lines → Contains lines (record_at lines i)
   contains_at lines i within =
       subst (Contains lines) (sym (unwrap_or-slice_get lines i nothing)) (Contains-get_or lines i nothing within)
 
-  place_of : (lines : List Record) (s : Record) → Contains lines s → (k : ℕ) × (k < length lines) × (record_at lines k ≡ s)
+  pub place_of : (lines : List Record) (s : Record) → Contains lines s → (k : ℕ) × (k < length lines) × (record_at lines k ≡ s)
   place_of lines s c =
       (c.0, c.1, unwrap_or-slice_get lines c.0 nothing ∙ get_or_default lines c.0 nothing s c.1 ∙ c.2)
 
@@ -42,19 +42,19 @@ module _ {B : Type 0} (f : Record → Option B) where
   none_by_head s lines later (Some z) e found = absurd (none-some z (sym found))
   none_by_head s lines later None e found = All-cons (λ t. f t ≡ None) s lines e (later found)
 
-  none_found : (lines : List Record) → first_found f lines ≡ None → All (λ t. f t ≡ None) lines
+  pub none_found : (lines : List Record) → first_found f lines ≡ None → All (λ t. f t ≡ None) lines
   none_found [] e = All-nil (λ t. f t ≡ None)
   none_found (s ∷ lines) e = none_by_head s lines (none_found lines) (f s) refl e
 
   -- where it is found in lines, it is found in others that have all of them
-  not_lost : (a b : List Record) (u : B) → ((s : Record) → Contains a s → Contains b s)
+  pub not_lost : (a b : List Record) (u : B) → ((s : Record) → Contains a s → Contains b s)
       → first_found f a ≡ Some u → first_found f b ≡ None → ⊥
   not_lost a b u within found none =
       let w = found_at f a u found in
       let here = All-contains (λ t. f t ≡ None) b (record_at a w.0) (none_found b none) (within (record_at a w.0) (contains_at a w.0 w.1)) in
       none-some u (sym here ∙ w.2)
 
-  same_line : (a : List Record) → SaysOnce a → (i k : ℕ) (u v : B) → i < length a → k < length a
+  pub same_line : (a : List Record) → SaysOnce a → (i k : ℕ) (u v : B) → i < length a → k < length a
       → f (record_at a i) ≡ Some u → f (record_at a k) ≡ Some v → u ≡ v
   same_line a once i k u v before within e g =
       ⊎_elim
@@ -118,6 +118,13 @@ mapping_some c ds _ e = absurd (none-some ds e)
 
 pub mapping_second : (c : ℕ) (s t : Record) (ds es : List ℕ) → mapping_in c s ≡ Some ds → mapping_in c t ≡ Some es → is_second s t ≡ true
 mapping_second c s t ds es e g = rw ((mapping_some c ds s e).1, (mapping_some c es t g).1) (own c)
+
+compatibility_some : (c : ℕ) (ds : List ℕ) (s : Record) → compatibility_in c s ≡ Some ds → s ≡ compatibility c ds
+compatibility_some c ds (compatibility d es) e = let w = cond_some (c == d) es ds e in let same : c ≡ d = eqb-true c d w.0 in let equal : es ≡ ds = w.1 in cc
+compatibility_some c ds _ e = absurd (none-some ds e)
+
+pub compatibility_second : (c : ℕ) (s t : Record) (ds es : List ℕ) → compatibility_in c s ≡ Some ds → compatibility_in c t ≡ Some es → is_second s t ≡ true
+compatibility_second c s t ds es e g = rw (compatibility_some c ds s e, compatibility_some c es t g) (own c)
 
 digit_some : (c v : ℕ) (s : Record) → digit_in c s ≡ Some v → s ≡ digit c v
 digit_some c v (digit d w) e = let x = cond_some (c == d) w v e in let same : c ≡ d = eqb-true c d x.0 in let equal : w ≡ v = x.1 in cc

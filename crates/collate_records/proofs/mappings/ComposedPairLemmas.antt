@@ -66,12 +66,12 @@ composed_in-some a b c (setting s) e = absurd (none-some c e)
 
 module _ (records : List Record) where
   -- a pair is a syllable's, or a line composes it
-  record IsOfLine (a b c : ℕ) : Type 0 where
-    unbuilt : syllable_of a b ≡ None
-    i : ℕ
-    within : i < length records
-    line : record_at records i ≡ mapping c (a ∷ b ∷ []) false
-    free : is_built_in c ≡ false
+  pub record IsOfLine (a b c : ℕ) : Type 0 where
+    pub unbuilt : syllable_of a b ≡ None
+    pub i : ℕ
+    pub within : i < length records
+    pub line : record_at records i ≡ mapping c (a ∷ b ∷ []) false
+    pub free : is_built_in c ≡ false
 
   pair_by : (a b c : ℕ) (o : Option ℕ) → syllable_of a b ≡ o → elim o as (λ _. Option ℕ) [ Some z ↦ Some z | None ↦ first_found (composed_in a b) records ] ≡ Some c
       → (syllable_of a b ≡ Some c) ⊎ IsOfLine a b c
@@ -81,10 +81,10 @@ module _ (records : List Record) where
       let s = composed_in-some a b c (record_at records w.0) w.2 in
       inr (record { unbuilt = e; i = w.0; within = w.1; line = s.line; free = s.free })
 
-  pair_cases : (a b c : ℕ) → pair_of records a b ≡ Some c → (syllable_of a b ≡ Some c) ⊎ IsOfLine a b c
+  pub pair_cases : (a b c : ℕ) → pair_of records a b ≡ Some c → (syllable_of a b ≡ Some c) ⊎ IsOfLine a b c
   pair_cases a b c e = pair_by a b c (syllable_of a b) refl e
 
-  not_built_in : (c : ℕ) → is_built_in c ≡ false → built_in_step c ≡ None
+  pub not_built_in : (c : ℕ) → is_built_in c ≡ false → built_in_step c ≡ None
   not_built_in c e =
       ⊎_elim (λ w. let some : is_some (built_in_step c) ≡ true = ap is_some w.1 in absurd (false≢true (sym (or_parts (is_some (built_in_step c)) _ e).0 ∙ some))) (λ n. n) (some_or_none (built_in_step c))
 

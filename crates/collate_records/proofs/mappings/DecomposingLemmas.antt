@@ -26,12 +26,12 @@ use Rattle.collate_rules.proofs.mappings.LoopPartLemmas.{HasLoop-none}
 use Rattle.collate_rules.proofs.offenders.BreachLemmas.{none_together}
 
 -- what is reached from a text that has more
-reaches_from : (step : ℕ → List ℕ) (s t : List ℕ) (x : ℕ) → ((d : ℕ) → Contains s d → Contains t d) → Reaches step s x → Reaches step t x
+pub reaches_from : (step : ℕ → List ℕ) (s t : List ℕ) (x : ℕ) → ((d : ℕ) → Contains s d → Contains t d) → Reaches step s x → Reaches step t x
 reaches_from step s t x more (stands u d h) = stands t d (more d h)
 reaches_from step s t x more (steps u d e h r) = steps t d e (more d h) r
 
 -- what is reached by steps of which there are more
-reaches_wider : (step later : ℕ → List ℕ) → ((c d : ℕ) → Contains (step c) d → Contains (later c) d) → (t : List ℕ) (x : ℕ)
+pub reaches_wider : (step later : ℕ → List ℕ) → ((c d : ℕ) → Contains (step c) d → Contains (later c) d) → (t : List ℕ) (x : ℕ)
     → Reaches step t x → Reaches later t x
 reaches_wider step later more t x (stands s d h) = stands s d h
 reaches_wider step later more t x (steps s d e h r) =
@@ -132,7 +132,7 @@ module _ (records : List Record) where
       (still_mapped (step_of records c) (compatibility_of records c) d h))
       (some_or_none (built_in_compatibility_step c))
 
-  ends_without_loop : AreScalars records → (HasLoop records → ⊥) → (c : ℕ) → IsScalar c → Leaves (step_of records) (c ∷ []) (full_of records c)
+  pub ends_without_loop : AreScalars records → (HasLoop records → ⊥) → (c : ℕ) → IsScalar c → Leaves (step_of records) (c ∷ []) (full_of records c)
   ends_without_loop scalars loops c scalar =
       ends (step_of records) 0x110000 IsScalar
       (λ d p. ⊎_elim (λ low. omega arith) (λ high. high.1) (scalar_cases d p))

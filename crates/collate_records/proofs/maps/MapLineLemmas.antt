@@ -1,16 +1,17 @@
 -- What a line gives to the maps of its file.
-use Rattle.std.proofs.Common.{◌≡◌, ℕ, ◌≤◌, Bool, true, false, not, cond, ◌==◌, eqb, List, [], ◌∷◌, length, map, All, Option, Some, None, refl, ap, arith}
+use Rattle.std.proofs.Common.{◌≡◌, ℕ, ◌≤◌, Bool, true, false, not, cond, ◌==◌, eqb, List, [], ◌∷◌, length, map, take, All, Option, Some, None, refl, ap, ◌∙◌, arith}
 use Rattle.std.specs.Prelude.{flat_map}
 use Rattle.std.specs.List.{find}
 use Rattle.std.specs.Option.{unwrap_or}
+use Rattle.std.proofs.lemmas.List.{take_all}
 use Rattle.std.proofs.lemmas.List.Elements.{All-nil, All-head, All-tail, All-append}
 use Rattle.std.specs.Cmp.{nat_eq_equiv}
 use Rattle.icu_normalizer_core.specs.declared.canonical.builder.GivenClass.{GivenClass}
 use Rattle.icu_normalizer_core.specs.declared.canonical.builder.GivenMapping.{GivenMapping}
-use Rattle.icu_normalizer_core.specs.CanonicalMaps.{given_class, given_step, mapping_given}
+use Rattle.icu_normalizer_core.specs.CanonicalMaps.{CanonicalMaps, given_class, given_step, mapping_given}
 use Rattle.collate_lines.specs.Record.{Record, nothing, class, mapping, compatibility, weights, range, digit, setting}
 use Rattle.collate_rules.specs.Meaning.{first_found, class_in, mapping_in}
-use Rattle.collate_records.specs.Maps.{classes_in, mappings_in}
+use Rattle.collate_records.specs.Maps.{classes_in, mappings_in, maps_of}
 use Rattle.collate_lines.specs.Keys.{class_key, mapping_key}
 
 -- a line maps to one character or to two
@@ -106,3 +107,13 @@ mapping_keys (weights l p t es ∷ rs) few = mapping_keys rs (All-tail MapsToFew
 mapping_keys (range r ∷ rs) few = mapping_keys rs (All-tail MapsToFew _ rs few)
 mapping_keys (digit d v ∷ rs) few = mapping_keys rs (All-tail MapsToFew _ rs few)
 mapping_keys (setting s ∷ rs) few = mapping_keys rs (All-tail MapsToFew _ rs few)
+
+-- ---- All lines
+
+-- what all lines give is their maps
+pub all_given : (lines : List Record) (i : ℕ) (maps : CanonicalMaps) → length lines ≤ i
+    → maps.classes ≡ flat_map classes_in (take i lines) → maps.mappings ≡ flat_map mappings_in (take i lines) → maps ≡ maps_of lines
+all_given lines i maps whole classes mappings =
+    let all : take i lines ≡ lines = take_all i lines whole in
+    ap (λ (gs : List GivenClass). record { classes = gs; mappings = maps.mappings }) (classes ∙ ap (flat_map classes_in) all)
+    ∙ ap (λ (gs : List GivenMapping). record { classes = flat_map classes_in lines; mappings = gs }) (mappings ∙ ap (flat_map mappings_in) all)

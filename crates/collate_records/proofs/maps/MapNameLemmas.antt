@@ -4,14 +4,14 @@ use Rattle.std.specs.Prelude.{flat_map}
 use Rattle.std.specs.Cmp.{nat_eq_equiv}
 use Rattle.std.specs.List.{list_any, AllByRecursion, IsDistinct}
 use Rattle.std.specs.Set.{distinct_count, is_member, unique_keys}
-use Rattle.std.proofs.lemmas.Bool.{cases_lt, or_right, false≢true, or_parts}
+use Rattle.std.proofs.lemmas.Bool.{cases_lt, or_right, false≢true, or_cases, or_parts}
 use Rattle.std.proofs.lemmas.List.{take_all}
 use Rattle.std.proofs.lemmas.List.Folds.{list_any-append}
 use Rattle.std.proofs.lemmas.Map.Made.{length-le_from_is_member}
 use Rattle.icu_normalizer_core.specs.CanonicalMaps.{mapping_given, named as named_by}
 use Rattle.collate_lines.specs.declared.rule.Rule.TheVariants.{Limit, V14}
 use Rattle.collate_lines.specs.Record.{Record, nothing, class, mapping, compatibility, weights, range, digit, setting}
-use Rattle.collate_records.specs.Maps.{classes_in, mappings_in, maps_of}
+use Rattle.collate_records.specs.Maps.{classes_in, compatibilities_in, mappings_in, maps_of}
 use Rattle.collate_rules.specs.Rules.{named, names_in, different}
 use Rattle.collate_rules.specs.Offenders.{NoneOffends}
 use Rattle.collate_lines.specs.Keys.{class_key, mapping_key}
@@ -37,7 +37,7 @@ none_among : (x : ℕ) (ys : List ℕ) → list_any (λ y. eqb x y) ys ≡ false
 none_among x [] h = tt
 none_among x (y ∷ ys) h = let w = or_parts (eqb x y) _ h in (w.0, none_among x ys w.1)
 
-unique_distinct : (xs : List ℕ) → IsDistinct eqb (unique_keys eqb xs)
+pub unique_distinct : (xs : List ℕ) → IsDistinct eqb (unique_keys eqb xs)
 unfolding IsDistinct
 unique_distinct [] = tt
 unique_distinct (x ∷ xs) = by (is_member eqb xs x) refl (unique_distinct xs)
@@ -91,10 +91,46 @@ names_limit records few =
     (λ (within : names_in records ≤ 150). within) (cases_lt 150 (names_in records)) in
     omega arith
 
-pub maps_few : (records : List Record) → NoneOffends Limit records → distinct_count eqb (named_by (maps_of records)) ≤ 150
-maps_few records few =
-    let names = named_by (maps_of records) in
+-- numbers that lines name are few
+few_among : (records : List Record) (names : List ℕ) → NoneOffends Limit records
+    → ((q : ℕ) → list_any (λ d. eqb q d) names ≡ true → list_any (λ d. eqb q d) (flat_map named records) ≡ true) → distinct_count eqb names ≤ 150
+few_among records names few within =
     let lines = flat_map named records in
     let below = length-le_from_is_member nat_eq_equiv (unique_keys eqb names) (unique_keys eqb lines) (unique_distinct names)
-    (λ q is. is_member-unique q lines ∙ all_named q records (sym (is_member-unique q names) ∙ is)) in
+    (λ q is. is_member-unique q lines ∙ within q (sym (is_member-unique q names) ∙ is)) in
     omega (arith, below, different-unique lines, names_limit records few)
+
+pub maps_few : (records : List Record) → NoneOffends Limit records → distinct_count eqb (named_by (maps_of records)) ≤ 150
+maps_few records few = few_among records (named_by (maps_of records)) few (λ q is. all_named q records is)
+
+-- ---- With compatibility mappings
+
+-- the characters that compatibility mappings name
+abbrev pub pair_names : List (ℕ × List ℕ) → List ℕ
+pair_names pairs = flat_map (λ p. p.0 ∷ p.1) pairs
+
+either_list : (q : ℕ) (xs ys zs : List ℕ) → (list_any (λ d. eqb q d) ys ≡ true → list_any (λ d. eqb q d) zs ≡ true)
+    → list_any (λ d. eqb q d) (xs ++ ys) ≡ true → list_any (λ d. eqb q d) (xs ++ zs) ≡ true
+either_list q [] ys zs later h = later h
+either_list q (x ∷ xs) ys zs later h = either_here (eqb q x) _ _ (either_list q xs ys zs later) h
+
+compatibility_named : (q : ℕ) (records : List Record) → list_any (λ d. eqb q d) (pair_names (flat_map compatibilities_in records)) ≡ true
+    → list_any (λ d. eqb q d) (flat_map named records) ≡ true
+compatibility_named q [] h = h
+compatibility_named q (nothing ∷ rs) h = compatibility_named q rs h
+compatibility_named q (class c k ∷ rs) h = behind q (class c k) rs (compatibility_named q rs h)
+compatibility_named q (mapping c ds x ∷ rs) h = behind q (mapping c ds x) rs (compatibility_named q rs h)
+compatibility_named q (compatibility c ds ∷ rs) h = either_list q (c ∷ ds) _ (flat_map named rs) (compatibility_named q rs) h
+compatibility_named q (weights l p t es ∷ rs) h = behind q (weights l p t es) rs (compatibility_named q rs h)
+compatibility_named q (range r ∷ rs) h = compatibility_named q rs h
+compatibility_named q (digit c v ∷ rs) h = behind q (digit c v) rs (compatibility_named q rs h)
+compatibility_named q (setting s ∷ rs) h = compatibility_named q rs h
+
+pub all_maps_few : (records : List Record) → NoneOffends Limit records
+    → distinct_count eqb (named_by (maps_of records) ++ pair_names (flat_map compatibilities_in records)) ≤ 150
+all_maps_few records few =
+    let first = named_by (maps_of records) in
+    let others = pair_names (flat_map compatibilities_in records) in
+    few_among records (first ++ others) few
+    (λ q is. ⊎_elim (λ here. all_named q records here) (λ later. compatibility_named q records later)
+    (or_cases _ _ (sym (list_any-append (λ d. eqb q d) first others) ∙ is)))

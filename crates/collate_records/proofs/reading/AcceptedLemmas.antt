@@ -54,10 +54,12 @@ accepted_lines file accepted = record {
   keep_rules = kept file accepted;
 }
 
--- lines that are accepted map to scalar values
+-- lines in the grammar map to scalar values
+pub said_scalars : (records : List Record) → All IsSaid records → AreScalars records
+said_scalars records said = All-weaker IsSaid MapsToScalars (λ s h. line_scalars (h.0) s (h.1)) records said
+
 pub accepted_scalars : (records : List Record) → AreAccepted records → AreScalars records
-accepted_scalars records accepted =
-    All-weaker IsSaid MapsToScalars (λ s h. line_scalars (h.0) s (h.1)) records accepted.in_grammar
+accepted_scalars records accepted = said_scalars records accepted.in_grammar
 
 -- and give canonical data, as far as decomposing goes
 pub accepted_decompose : (records : List Record) → AreAccepted records → IsDecomposing (canonical_of records)

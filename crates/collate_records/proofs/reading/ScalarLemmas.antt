@@ -57,9 +57,10 @@ ending_scalars (f ∷ []) ending e = elim (either _ _ _ _ e) [ inl p ↦ none_en
 ending_scalars (f ∷ x ∷ []) ending e = one_ends f true ending (either_none _ _ _ e)
 ending_scalars (f ∷ x ∷ y ∷ fs) ending e = absurd (cc)
 
--- a line maps a scalar value to scalar values, one or two
+-- a line maps a scalar value to scalar values, canonically to one or two, by compatibility to one or more
 abbrev HasScalars : Record → Type 0
 HasScalars (mapping c ds is_excluded) = IsScalar c × All IsScalar ds × (length ds ≤ 2) × (1 ≤ length ds)
+HasScalars (compatibility c ds) = IsScalar c × All IsScalar ds × (1 ≤ length ds)
 HasScalars _ = Unit {0}
 
 -- a mapping that is read is so
@@ -83,12 +84,27 @@ class_scalars (c ∷ n ∷ []) s e =
     in rw (← same_Some _ _ b.2) tt
 class_scalars (c ∷ n ∷ x ∷ fs) s e = absurd (cc)
 
+listed_scalars : (fields : List (List ℕ)) (ds : List ℕ) → listed code_point fields ≡ Some ds → All IsScalar ds
+listed_scalars [] ds e = rw (← same_Some _ _ e) (All-nil IsScalar)
+listed_scalars (f ∷ fields) ds e =
+    let a = bind_some (code_point f) _ ds e
+    in let b = bind_some (listed code_point fields) _ ds a.2
+    in rw (← same_Some _ _ b.2) (All-cons IsScalar a.0 b.0 (code_point_scalar f a.0 a.1) (listed_scalars fields b.0 b.1))
+
+some_listed_scalars : (fields : List (List ℕ)) (ds : List ℕ) → some_listed code_point fields ≡ Some ds → All IsScalar ds × (1 ≤ length ds)
+some_listed_scalars [] ds e = absurd (cc)
+some_listed_scalars (f ∷ fields) ds e =
+    let a = bind_some (code_point f) _ ds e
+    in let b = bind_some (listed code_point fields) _ ds a.2
+    in (listed_scalars (f ∷ fields) ds e, rw (← same_Some _ _ b.2) (omega arith))
+
 compatibility_scalars : (fields : List (List ℕ)) (s : Record) → compatibility_by fields ≡ Some s → HasScalars s
 compatibility_scalars [] s e = absurd (cc)
 compatibility_scalars (c ∷ fields) s e =
     let a = bind_some (code_point c) _ s e
     in let b = bind_some (some_listed code_point fields) _ s a.2
-    in rw (← same_Some _ _ b.2) tt
+    in let listed_here = some_listed_scalars fields b.0 b.1
+    in rw (← same_Some _ _ b.2) (code_point_scalar c a.0 a.1, listed_here.0, listed_here.1)
 
 weights_scalars : (layer : Layer) (fields : List (List ℕ)) (s : Record) → weights_by layer fields ≡ Some s → HasScalars s
 weights_scalars layer fields s e =
@@ -171,3 +187,11 @@ mapped_scalar line c ds x e = (record_scalars line (mapping c ds x) e).0
 -- to one character or two
 pub mapped_some : (line : List ℕ) (c : ℕ) (ds : List ℕ) (x : Bool) → record_of line ≡ Some (mapping c ds x) → (length ds ≤ 2) × (1 ≤ length ds)
 mapped_some line c ds x e = let h = record_scalars line (mapping c ds x) e in (h.2, h.3)
+
+-- a compatibility mapping that is read is to scalar values, one or more
+pub compatibility_some : (line : List ℕ) (c : ℕ) (ds : List ℕ) → record_of line ≡ Some (compatibility c ds) → All IsScalar ds × (1 ≤ length ds)
+compatibility_some line c ds e = let h = record_scalars line (compatibility c ds) e in (h.1, h.2)
+
+-- of a scalar value
+pub compatibility_scalar : (line : List ℕ) (c : ℕ) (ds : List ℕ) → record_of line ≡ Some (compatibility c ds) → IsScalar c
+compatibility_scalar line c ds e = (record_scalars line (compatibility c ds) e).0

@@ -1,0 +1,77 @@
+use Rattle.std.proofs.Common.{◌≡◌, ℕ, ◌≤◌, ◌++◌, ⊎_elim, List, length, map, take, refl, ap, sym, subst, ◌∙◌, arith}
+use Rattle.std.specs.Prelude.{flat_map}
+use Rattle.std.proofs.lemmas.List.{length-map, take_all}
+use Rattle.icu_normalizer_core.specs.declared.canonical.builder.CanonicalDataBuildError.{CanonicalDataBuildError}
+use Rattle.icu_normalizer_core.specs.declared.canonical.builder.CanonicalDataBuildError.TheVariants.{Rules, Memory}
+use Rattle.icu_normalizer_core.specs.declared.canonical.builder.GivenClass.{GivenClass}
+use Rattle.icu_normalizer_core.specs.declared.canonical.builder.GivenMapping.{GivenMapping}
+use Rattle.icu_normalizer_core.specs.CanonicalMaps.{CanonicalMaps}
+use Rattle.icu_normalizer_core.specs.CompatibilityMaps.{AllMaps, AreAcceptedOver}
+use Rattle.icu_normalizer_core.specs.CompatibilityMeaning.{nfkd_lists}
+use Rattle.collate_rules.specs.Accepted.{HasSmallClass}
+use Rattle.collate_records.specs.Maps.{AreAllMapsOf, MapsToSome, classes_in, compatibilities_in, compatibility_pair, mappings_in}
+use Rattle.collate_lines.specs.declared.rule.Rule.TheVariants.{C3}
+use Rattle.collate_lines.specs.Record.{Record, said}
+use Rattle.collate_rules.proofs.offenders.LimitLemmas.{given_to}
+use Rattle.collate_rules.proofs.lookups.LookupLemmas.{All-map_at}
+use Rattle.collate_records.proofs.maps.AllMapLemmas.{keep_all, words_of_maps}
+use Rattle.collate_records.proofs.maps.AnyStepLemmas.{accepted_some}
+use Rattle.collate_records.proofs.maps.MapLineLemmas.{all_given}
+use Rattle.collate_records.proofs.offenders.ClassLemmas.{All-HasSmallClass}
+use Rattle.collate_records.proofs.compatibility_data.compatibility_data.Goals as goal
+
+-- what all lines gave is their maps
+all_maps : (lines : List Record) (i : ℕ) (maps : AllMaps) → length lines ≤ i
+    → maps.canonical.classes ≡ flat_map classes_in (take i lines) → maps.canonical.mappings ≡ flat_map mappings_in (take i lines)
+    → map compatibility_pair maps.compatibilities ≡ flat_map compatibilities_in (take i lines) → AreAllMapsOf lines maps
+all_maps lines i maps whole classes mappings compatibilities = record {
+  canonical = all_given lines i maps.canonical whole classes mappings;
+  compatibilities = compatibilities ∙ ap (flat_map compatibilities_in) (take_all i lines whole);
+}
+
+not_both : (e : CanonicalDataBuildError) → e ≡ Rules → e ≡ Memory → ⊥
+not_both Rules is memory = cc
+not_both Memory is memory = cc
+
+pub give-requires : goal.give-requires
+give-requires c =
+    let lines = map said c.args.records.now in
+    record {
+      classes = All-map_at HasSmallClass said c.args.records.now c.args.records.now c.loop-given.given-index c.given-item.result refl c.loop-given-test.true c.given-item.is
+          (All-HasSmallClass lines (c.requires.keep_rules C3));
+      mappings = All-map_at MapsToSome said c.args.records.now c.args.records.now c.loop-given.given-index c.given-item.result refl c.loop-given-test.true c.given-item.is
+          (accepted_some lines c.requires);
+    }
+
+pub loop-given-preserved : goal.loop-given-preserved
+loop-given-preserved c =
+    let lines = c.args.records.now in
+    let i = c.loop-given.given-index in (
+      c.in_ok-give.ensures.classes ∙ ap (λ (gs : List GivenClass). gs ++ classes_in (said c.given-item.result)) c.loop-given.invariant.0
+          ∙ sym (given_to classes_in lines i c.given-item.result c.loop-given-test.true c.given-item.is),
+      c.in_ok-give.ensures.mappings ∙ ap (λ (gs : List GivenMapping). gs ++ mappings_in (said c.given-item.result)) c.loop-given.invariant.1
+          ∙ sym (given_to mappings_in lines i c.given-item.result c.loop-given-test.true c.given-item.is),
+      c.in_ok-give.ensures.compatibilities ∙ ap (λ (ps : List (ℕ × List ℕ)). ps ++ compatibilities_in (said c.given-item.result)) c.loop-given.invariant.2
+          ∙ sym (given_to compatibilities_in lines i c.given-item.result c.loop-given-test.true c.given-item.is),
+    )
+
+pub returns-in-Ok-clause-means : goal.returns-in-Ok-clause-means
+returns-in-Ok-clause-means c =
+    let lines = map said c.args.records.now in
+    let whole : length lines ≤ c.loop-given.given-index = omega (arith, length-map c.args.records.now said, c.loop-given-test.false) in
+    let are = all_maps lines c.loop-given.given-index c.loop-given.builder whole c.loop-given.invariant.0 c.loop-given.invariant.1 c.loop-given.invariant.2 in
+    words_of_maps lines c.loop-given.builder c.requires are (nfkd_lists c.in-Ok.tables) c.in-Ok.ensures.means
+
+pub returns-in-Ok-clause-accepted : goal.returns-in-Ok-clause-accepted
+returns-in-Ok-clause-accepted c =
+    let lines = map said c.args.records.now in
+    let whole : length lines ≤ c.loop-given.given-index = omega (arith, length-map c.args.records.now said, c.loop-given-test.false) in
+    let are = all_maps lines c.loop-given.given-index c.loop-given.builder whole c.loop-given.invariant.0 c.loop-given.invariant.1 c.loop-given.invariant.2 in
+    subst (λ (maps : CanonicalMaps). AreAcceptedOver maps (nfkd_lists c.in-Ok.tables)) are.canonical c.in-Ok.ensures.accepted
+
+pub unreachable-requires : goal.unreachable-requires
+unreachable-requires c =
+    let lines = map said c.args.records.now in
+    let whole : length lines ≤ c.loop-given.given-index = omega (arith, length-map c.args.records.now said, c.loop-given-test.false) in
+    let are = all_maps lines c.loop-given.given-index c.loop-given.builder whole c.loop-given.invariant.0 c.loop-given.invariant.1 c.loop-given.invariant.2 in
+    ⊎_elim (λ memory. not_both c.in-Err-Rules.field-0 c.in-Err-Rules.field-0-is memory) (λ w. w.1 (keep_all lines c.loop-given.builder c.requires are)) c.in-Err-Rules.ensures.refused
