@@ -16,17 +16,22 @@ use std::alloc::AllocError;
 /// The word that says that there is no element.
 const NO_ELEMENT: u32 = 0;
 
-/// What a word has in its low byte, by its form.
+/// The low byte of a word that is a primary of three bytes.
 const LONG_PRIMARY: u32 = 0xc1;
 
+/// The low byte of a word that is a secondary of two bytes and a tertiary of one.
 const LONG_SECONDARY: u32 = 0xc2;
 
+/// The low byte of a word that names a list of words.
 const EXPANSION_OF_WORDS: u32 = 0xc5;
 
+/// The low byte of a word that names a list of elements.
 const EXPANSION_OF_ELEMENTS: u32 = 0xc6;
 
+/// The low byte of the word of a digit.
 const DIGIT: u32 = 0xca;
 
+/// The low byte of the word of a character in a range.
 const OFFSET: u32 = 0xce;
 
 /// The word of a character whose primary its code point gives.

@@ -6,4 +6,5 @@ pub mod TextExamples
 pub mod LetterDigitsLemmas
 pub mod KeyExamples
 pub mod SameTablesLemmas
+pub mod ChangedTableLemmas
 pub mod LevelExamples

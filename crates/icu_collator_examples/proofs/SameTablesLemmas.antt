@@ -7,7 +7,7 @@ use Rattle.std.specs.Option.{unwrap_or}
 use Rattle.icu_normalizer_core.specs.BuiltIn.{built_in_class, is_within}
 use Rattle.icu_collator_core.specs.Defaults.{moved_primary, range_primary}
 use Rattle.icu_normalizer_core.specs.Sameness.{AreSameCanonical}
-use Rattle.icu_collator_core.specs.Sameness.{AreSameWeights}
+use Rattle.icu_collator_core.specs.Sameness.{AreSameLeads, AreSameWeights}
 use Rattle.icu_collator_core.specs.SameSettings.{AreSameSettings}
 use Rattle.icu_collator_examples.specs.Tables.{class_of, recorded_of}
 use Rattle.icu_collator_examples.specs.SameTables.{ranged_collation, other_collation}
@@ -74,3 +74,6 @@ same_weights =
 
 pub same_settings : AreSameSettings other_collation ranged_collation
 same_settings = record { reordered = λ p. refl; backward = refl; groups = refl }
+
+pub same_leads : AreSameLeads other_collation.weights ranged_collation.weights
+same_leads lead = refl

@@ -1,9 +1,10 @@
--- Two tables that say the same in other lines.
-use Rattle.std.specs.Prelude.{[], ◌∷◌, reverse}
+-- Two tables that say the same in other lines, and a third with a record that has changed.
+use Rattle.std.specs.Prelude.{◌≢◌, ℕ, List, [], ◌∷◌, reverse}
+use Rattle.icu_normalizer_core.specs.Canonical.{Reaches}
 use Rattle.icu_collator_core.specs.Collation.{Collation}
 use Rattle.icu_collator_examples.specs.Tables.{Table, collation_of}
 use Rattle.icu_collator_examples.specs.LetterTables.{text_at, with_records}
-use Rattle.icu_collator_examples.specs.Letters.{digits_table, ideographs}
+use Rattle.icu_collator_examples.specs.Letters.{digits_table, ideographs, letters}
 
 -- a range whose first character has a record of its own, which counts before the range
 abbrev pub ranged_table : Table
@@ -22,3 +23,11 @@ ranged_collation = collation_of ranged_table
 
 abbrev pub other_collation : Collation
 other_collation = collation_of other_table
+
+-- another record of "b", which counts before its own
+abbrev pub changed_collation : Collation
+changed_collation = collation_of (with_records (text_at (0x62 ∷ []) 0x2a28 ∷ []) ranged_table)
+
+-- no "b" stands in a text or comes of it by mappings
+abbrev pub ReachesNoB : List ℕ → Type 0
+ReachesNoB text = (c : ℕ) → Reaches letters.step text c → c ≢ 0x62

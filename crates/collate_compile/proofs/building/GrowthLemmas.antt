@@ -1,9 +1,8 @@
 -- How far a layer in the making has grown.
-use Rattle.std.proofs.Common.{◌≡◌, ℕ, ◌+◌, ◌*◌, ◌<◌, ◌≤◌, List, [], ◌∷◌, ◌++◌, length, take, get_or, sym, ap, ◌∙◌, subst, arith}
+use Rattle.std.proofs.Common.{◌≡◌, ℕ, ◌+◌, ◌<◌, ◌≤◌, List, [], ◌∷◌, ◌++◌, length, take, get_or, sym, ap, ◌∙◌, subst, arith}
 use Rattle.std.specs.Prelude.{sum_by}
 use Rattle.std.proofs.lemmas.List.{take_more}
 use Rattle.std.proofs.lemmas.List.Sums.{sum_by_more, sum_by_more_le}
-use Rattle.icu_codepointtrie.specs.Blocks.{different_blocks}
 use Rattle.icu_collator_core.specs.Pools.{Pools}
 use Rattle.collate_words.specs.Fits.{HasRoom}
 use Rattle.collate_words.specs.Growth.{GrowsFor}

@@ -1,5 +1,5 @@
 -- What a layer in the making has after a write.
-use Rattle.std.proofs.Common.{◌≡◌, ℕ, ◌≤◌, ◌<◌, ◌⊎◌, ⊎_elim, Bool, true, false, cond, not, ◌&&◌, ◌||◌, eqb, List, [], ◌∷◌, ◌++◌, Option, Some, None, Result, Ok, Err, refl, sym, ap, ◌∙◌, subst, arith}
+use Rattle.std.proofs.Common.{◌≡◌, ℕ, ◌≤◌, ⊎_elim, Bool, true, false, cond, ◌||◌, eqb, List, [], ◌∷◌, ◌++◌, Option, Some, None, Result, Ok, Err, refl, sym, ap, ◌∙◌, subst, arith}
 use Rattle.std.specs.Prelude.{MatchBool, MatchOption, OnOk, option_map}
 use Rattle.std.specs.Char.{IsScalar}
 use Rattle.std.specs.List.{list_any}
@@ -7,7 +7,7 @@ use Rattle.std.proofs.lemmas.Bool.{eqb-true}
 use Rattle.std.proofs.lemmas.Bool.Decides.{nat_tests}
 use Rattle.std.proofs.lemmas.List.Folds.{list_any-append}
 use lib.Utf8.{scalar_cases}
-use Rattle.icu_codepointtrie.specs.CodePointMaps.{CodePointMap, IsWritten, mapped}
+use Rattle.icu_codepointtrie.specs.CodePointMaps.{mapped}
 use Rattle.icu_normalizer_core.specs.BuiltIn.{is_within}
 use Rattle.icu_collator_core.specs.Pools.{Pools, elements_of_word, lone_word, unprefixed_word}
 use Rattle.icu_collator_core.specs.TableMeaning.{fallback}
@@ -16,7 +16,6 @@ use Rattle.collate_lines.specs.declared.record.Range.{Range}
 use Rattle.collate_lines.specs.Record.{Layer, Record, root, tailoring, range}
 use Rattle.collate_rules.specs.Meaning.{first_found, is_compressible_in, range_in, recorded_in, span_of}
 use Rattle.collate_words.specs.Growth.{Grows}
-use Rattle.collate_words.specs.OwnWords.{IsOwnWord}
 use Rattle.collate_words.specs.Sayings.{Saying}
 use Rattle.collate_words.specs.Written.{SaysOf}
 use Rattle.collate_compile.specs.declared.layer_builder.LayerBuilder.{LayerBuilder}

@@ -1,6 +1,6 @@
 -- Lines from the last on.
-use Rattle.std.proofs.Common.{◌≡◌, ℕ, suc, ◌+◌, ◌-◌, ◌<◌, ◌≤◌, List, [], ◌∷◌, length, refl, map, drop, get_or, sym, ap, ◌∙◌, subst, add-one, arith, cond}
-use Rattle.std.specs.Prelude.{count_by, sum_by}
+use Rattle.std.proofs.Common.{◌≡◌, ℕ, suc, ◌+◌, ◌-◌, ◌<◌, ◌≤◌, List, [], ◌∷◌, length, map, drop, get_or, ap, ◌∙◌, arith, cond}
+use Rattle.std.specs.Prelude.{count_by}
 use Rattle.std.proofs.Common.{drop-cons}
 use Rattle.std.proofs.lemmas.List.{length-map}
 use Rattle.std.proofs.Math.ListN.{drop_of_length-le}

@@ -1,5 +1,5 @@
 -- What a map has after a write.
-use Rattle.std.proofs.Common.{◌≡◌, ℕ, ◌≤◌, ◌<◌, ◌⊎◌, Bool, true, false, not, cond, ◌&&◌, eqb, refl, sym, ap, ◌∙◌, eq-eqb, subst, Result, Ok, Err, ⊎_elim, arith}
+use Rattle.std.proofs.Common.{◌≡◌, ℕ, ◌≤◌, Bool, true, false, not, cond, ◌&&◌, eqb, refl, sym, ap, ◌∙◌, eq-eqb, subst, Result, Ok, Err}
 use Rattle.std.specs.Prelude.{MatchResult, nat_le}
 use Rattle.std.specs.declared.ops.RangeInclusive.{RangeInclusive}
 use Rattle.icu_codepointtrie.specs.CodePointMaps.{CodePointMap, covers, mapped, IsWritten}

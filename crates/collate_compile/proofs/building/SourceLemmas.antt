@@ -7,14 +7,14 @@ use Rattle.icu_collator_core.specs.declared.tables.data.CollationData.{Collation
 use Rattle.icu_collator_core.specs.Pools.{Pools}
 use Rattle.icu_collator_core.specs.TableMeaning.{fallback, pools_of, word_at}
 use Rattle.icu_collator_core.specs.UnrecordedWords.{implicit}
-use Rattle.collate_lines.specs.Record.{Layer, Record, root, tailoring}
+use Rattle.collate_lines.specs.Record.{Record, root, tailoring}
 use Rattle.collate_words.specs.Sayings.{Saying}
 use Rattle.collate_words.specs.Written.{SaysOf}
-use Rattle.collate_compile.specs.Beginnings.{AreBeginnings, is_begun}
+use Rattle.collate_compile.specs.Beginnings.{AreBeginnings}
 use Rattle.collate_compile.specs.declared.layer_builder.LayerBuilder.{LayerBuilder}
 use Rattle.collate_compile.specs.LayerBuilds.{AreWritten, IsGiven, IsLeft, word_of}
 use Rattle.collate_compile.specs.Layers.{IsRootOf, IsTailoringOf, IsUnwritten, IsWrittenOf}
-use Rattle.collate_compile.specs.LineSayings.{is_rooted, is_tailored, offset_of, ranged_saying}
+use Rattle.collate_compile.specs.LineSayings.{offset_of, ranged_saying}
 
 module _ (lines : List Record) (layer : LayerBuilder) (source : CollationData) (c : ℕ) (word : word_at source c ≡ word_of layer c) (pools : pools_of source ≡ layer.pools) where
   says_built : (saying : Saying) → SaysOf layer.pools (word_of layer c) saying → SaysOf (pools_of source) (word_at source c) saying

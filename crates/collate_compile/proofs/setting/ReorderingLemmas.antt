@@ -1,5 +1,5 @@
 -- The table of the leads that take the place of others.
-use Rattle.std.proofs.Common.{◌≡◌, ℕ, ◌+◌, ◌*◌, ◌/◌, ◌%◌, ◌^◌, ◌<◌, ◌≤◌, ◌⊎◌, ⊎_elim, Bool, true, false, cond, ◌||◌, eqb, leb, List, [], ◌∷◌, length, get_or, Option, Some, None, refl, sym, ap, ◌∙◌, subst, arith}
+use Rattle.std.proofs.Common.{◌≡◌, ℕ, ◌+◌, ◌*◌, ◌/◌, ◌%◌, ◌^◌, ◌<◌, ◌≤◌, ⊎_elim, Bool, true, false, cond, ◌||◌, eqb, leb, List, [], length, get_or, Option, Some, None, refl, sym, ap, ◌∙◌, subst, arith}
 use Rattle.std.specs.Prelude.{All, slice_get}
 use Rattle.std.proofs.lemmas.Bool.{cases_lt, eqb-true}
 use Rattle.std.proofs.lemmas.List.{get_or_default}
@@ -7,7 +7,7 @@ use Rattle.std.proofs.lemmas.Bool.Decides.{nat_tests}
 use Rattle.std.proofs.lemmas.Option.{slice_get-get_or, slice_get_past}
 use Rattle.icu_collator_core.specs.declared.tables.reordering.CollationReordering.{CollationReordering}
 use Rattle.icu_collator_core.specs.Collation.{with_lead}
-use Rattle.icu_collator_core.specs.TableSettings.{led_by, moved_in_parts, reordered_by, reordered_in, without_byte}
+use Rattle.icu_collator_core.specs.TableSettings.{led_by, moved_in_parts, reordered_by, without_byte}
 use Rattle.icu_collator_core.specs.WeightRules.{is_letter_lead}
 use Rattle.collate_lines.specs.Record.{Record}
 use Rattle.collate_rules.specs.KeptSettings.{AreSoundlySet, ExchangesLeads}

@@ -8,7 +8,7 @@ use Rattle.icu_collator_types.specs.declared.options.FileSettings.{FileSettings}
 use Rattle.icu_collator_types.specs.declared.options.MaxVariable.{MaxVariable}
 use Rattle.icu_collator_types.specs.declared.options.MaxVariable.TheVariants.{Space, Punctuation, Symbol, Currency}
 use Rattle.icu_collator_core.specs.declared.tables.metadata.CollationMetadata.{CollationMetadata}
-use Rattle.icu_collator_core.specs.TableSettings.{alternate_of, case_first_of, has_bit, max_variable_of, settings_of}
+use Rattle.icu_collator_core.specs.TableSettings.{case_first_of, has_bit, max_variable_of, settings_of}
 use Rattle.collate_lines.specs.Record.{Record}
 use Rattle.collate_rules.specs.Meaning as set
 use Rattle.collate_compile.specs.Compiled.{AreSettingsOf}

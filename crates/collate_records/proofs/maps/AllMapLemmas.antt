@@ -1,5 +1,5 @@
 -- The maps of both kinds of accepted lines: what they mean, and the rules that they keep.
-use Rattle.std.proofs.Common.{◌≡◌, ◌≢◌, ℕ, ◌<◌, ◌≤◌, inl, inr, ⊎_elim, Bool, true, false, ◌||◌, ◌&&◌, List, [], ◌∷◌, ◌++◌, length, map, All, Option, Some, None, refl, sym, ap, ◌∙◌, arith, subst}
+use Rattle.std.proofs.Common.{◌≡◌, ℕ, ◌≤◌, inl, inr, ⊎_elim, Bool, true, false, ◌||◌, ◌&&◌, List, [], ◌∷◌, ◌++◌, length, All, Option, Some, None, refl, sym, ap, ◌∙◌, arith, subst}
 use Rattle.std.specs.Prelude.{flat_map, nat_eq}
 use Rattle.std.specs.Char.{IsScalar}
 use Rattle.std.specs.List.{list_any}
@@ -7,17 +7,14 @@ use Rattle.std.specs.Option.{is_some, unwrap_or}
 use Rattle.std.specs.Set.{distinct_count}
 use Rattle.std.specs.Str.{bytes_eq}
 use Rattle.std.proofs.lemmas.Bool.{cases_eq, cond-false, cond-true, false_from_ne_true, or_left, or_right, true_from_ne_false}
-use Rattle.std.proofs.lemmas.Option.{none-some}
 use Rattle.std.proofs.lemmas.List.Elements.{All-weaker}
 use Rattle.std.proofs.lemmas.List.Folds.{flat_map-map}
-use Rattle.icu_normalizer_core.specs.declared.canonical.builder.GivenCompatibility.{GivenCompatibility}
 use Rattle.icu_normalizer_core.specs.declared.canonical.builder.GivenMapping.{GivenMapping}
 use Rattle.icu_normalizer_core.specs.BuiltIn.{built_in_compatibility_step, built_in_step, is_jamo, is_syllable}
 use Rattle.icu_normalizer_core.specs.Canonical.{Leaves}
 use Rattle.icu_normalizer_core.specs.CanonicalMaps.{BeginsWithStarter, CanonicalMaps, KeepRules, class_of as class_of_maps, first_mapping, is_built_in as is_built_in_map, mapping_given, named as named_by, step_of as step_of_maps}
 use Rattle.icu_normalizer_core.specs.CompatibilityMaps.{AllMaps, AreApart, AreMeaningOf, HaveOneCompatibility, IsMappedAtAll, KeepAllRules, KeepCompatibilityRules, all_named, all_steps_of, compatibility_step, else_mapped, given_compatibility, is_built_in_compatibility}
 use Rattle.icu_normalizer_core.specs.Words.{WordLists}
-use Rattle.icu_normalizer_core.proofs.BuiltInFacts.{low_free}
 use Rattle.icu_normalizer_core.proofs.LeftLemmas.{left_one, left_same}
 use Rattle.icu_normalizer_core.proofs.builder.AllStepLemmas.{all_second, cases_step, step_apart, step_fixed, step_given, unbound}
 use Rattle.collate_lines.specs.declared.rule.Rule.TheVariants.{C9, Limit, V14}

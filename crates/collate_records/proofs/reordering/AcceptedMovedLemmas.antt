@@ -1,5 +1,5 @@
 -- The lines of an accepted file in another order are those of an accepted file.
-use Rattle.std.proofs.Common.{◌≡◌, ℕ, ◌+◌, ◌<◌, ◌≤◌, inl, inr, ⊎_elim, List, [], ◌++◌, length, take, drop, get_or, map, All, Some, None, refl, sym, ap, ◌∙◌, subst, arith}
+use Rattle.std.proofs.Common.{◌≡◌, ℕ, ◌+◌, ◌<◌, ◌≤◌, inl, ⊎_elim, List, [], ◌++◌, length, take, drop, get_or, All, None, sym, ap, ◌∙◌, subst, arith}
 use Rattle.std.specs.Bool.{IsTrue}
 use Rattle.std.specs.List.Sorted.{IsPermutation}
 use Rattle.std.proofs.lemmas.Bool.{cases_lt}
@@ -7,7 +7,7 @@ use Rattle.std.proofs.lemmas.List.{get_or_past, take-append-drop}
 use Rattle.std.proofs.lemmas.List.Elements.{All-from_get_or, All-get_or, All-take}
 use Rattle.std.proofs.lemmas.List.Sorted.{All-permutation, IsPermutation-map}
 use Rattle.std.proofs.lemmas.Option.{none-some, slice_get_within}
-use Rattle.icu_normalizer_core.specs.Canonical.{Canonical, IsComposing, IsDecomposing}
+use Rattle.icu_normalizer_core.specs.Canonical.{IsComposing, IsDecomposing}
 use Rattle.icu_collator_core.specs.WeightRules.{is_sound_kind}
 use Rattle.collate_lines.specs.declared.rule.Rule.{Rule}
 use Rattle.collate_lines.specs.declared.rule.Rule.TheVariants.{Grammar, Limit, Set, C1, C2, C3, C4, C5, C6, C7, C8, C9, V1, V2, V3, V4, V5, V6, V7, V8, V9, V10, V11, V12, V13, V14, V15}
@@ -23,7 +23,7 @@ use Rattle.collate_rules.specs.Rules.{Contradicts, HasBadLow, HasLoop, IsBadClas
 use Rattle.collate_rules.proofs.lists.LowLemmas.{HasBadLow-none, HasBadLow-same}
 use Rattle.collate_rules.proofs.offenders.BreachLemmas.{none_together}
 use Rattle.collate_rules.specs.Accepted.{AreAccepted, IsSaid}
-use Rattle.collate_records.specs.Files.{Breaks, IsAccepted, OffendsIn}
+use Rattle.collate_records.specs.Files.{IsAccepted, OffendsIn}
 use Rattle.collate_records.proofs.reading.AcceptedLemmas.{accepted_compose, accepted_decompose, accepted_lines, said_scalars}
 use Rattle.collate_records.proofs.reading.FaultLemmas.{as_many}
 use Rattle.collate_records.proofs.reordering.CanonicalMovedLemmas.{lists_moved, loopless, loops_moved, same, starters_moved, unmarked}

@@ -1,10 +1,10 @@
 -- The rules on classes and mappings that lines break together, of the same lines in another order: C1, C2 and C4.
-use Rattle.std.proofs.Common.{◌≡◌, ◌≢◌, ℕ, ◌+◌, ◌<◌, ⊎_elim, inl, inr, Bool, true, false, cond, List, [], ◌∷◌, ◌++◌, length, take, drop, All, Option, refl, sym, ap, ◌∙◌, subst}
+use Rattle.std.proofs.Common.{◌≡◌, ◌≢◌, ℕ, ◌+◌, ⊎_elim, inl, inr, true, List, [], ◌∷◌, ◌++◌, length, take, drop, All, sym, ap, ◌∙◌, subst}
 use Rattle.std.specs.Char.{IsScalar}
 use Rattle.std.specs.List.Sorted.{IsPermutation}
 use Rattle.std.specs.Option.{unwrap_or}
 use Rattle.std.proofs.Math.Seq.{take-append_seam}
-use Rattle.std.proofs.lemmas.Bool.{cases_Bool, cond-true, false≢true}
+use Rattle.std.proofs.lemmas.Bool.{cases_Bool, cond-true}
 use Rattle.std.proofs.lemmas.List.{take-append-drop}
 use Rattle.std.proofs.lemmas.List.Elements.{All-cons, All-nil, All-take, All-weaker}
 use Rattle.std.proofs.lemmas.List.Sorted.{All-permutation}
@@ -15,7 +15,7 @@ use Rattle.collate_lines.specs.Record.{Record}
 use Rattle.collate_rules.specs.CanonicalParts.{SaysSame}
 use Rattle.collate_rules.specs.Meaning.{any_step, class_of, compatibility_of, else_mapped, full_of, is_built_in, step_of}
 use Rattle.collate_rules.specs.Offenders.{NoneOffends}
-use Rattle.collate_rules.specs.Rules.{HasBadList, HasLoop, MapsMark, compatibility_full_of, is_mapped}
+use Rattle.collate_rules.specs.Rules.{HasBadList, HasLoop, MapsMark, compatibility_full_of}
 use Rattle.collate_rules.proofs.lists.BadListLemmas.{HasBadList-none, HasBadList-same}
 use Rattle.collate_rules.proofs.lists.FullListLemmas.{expanded_unmapped}
 use Rattle.collate_rules.proofs.mappings.CanonicalPartLemmas.{SaysSame-sym}

@@ -1,22 +1,17 @@
 -- What fewer lines of a file mean of canonical data: their steps are steps of all lines, and full lists grow with further lines.
-use Rattle.std.proofs.Common.{◌≡◌, ◌≢◌, ◌⊎◌, ℕ, ◌+◌, ◌<◌, ◌≤◌, inl, inr, ⊎_elim, Bool, true, false, cond, not, ◌==◌, ◌&&◌, ◌||◌, List, [], ◌∷◌, ◌++◌, length, flat_map, take, drop, get_or, All, Contains, Option, Some, None, refl, sym, ap, ◌∙◌, subst, arith, length-append, append-nil}
-use Rattle.std.specs.Bool.{IsTrue}
-use Rattle.std.specs.Char.{IsScalar}
+use Rattle.std.proofs.Common.{◌≡◌, ◌≢◌, ℕ, ◌≤◌, inl, inr, ⊎_elim, true, false, not, ◌==◌, ◌&&◌, List, [], ◌∷◌, ◌++◌, length, flat_map, All, Contains, Option, Some, None, refl, sym, ap, ◌∙◌, subst, arith, length-append}
 use Rattle.std.specs.Option.{is_some, unwrap_or}
-use lib.Utf8.{scalar_cases}
-use Rattle.std.proofs.lemmas.Bool.{and_from, and_parts, cases_Bool, cases_eq, cond-false, cond-true, eqb-true, false≢true, ne_eqb, not_from_true, or_cases, or_left, or_right}
-use Rattle.std.proofs.lemmas.Option.{none-some, unwrap_or-slice_get}
-use Rattle.std.proofs.lemmas.List.Elements.{All-contains, All-get_or, All-head, All-tail}
+use Rattle.std.proofs.lemmas.Bool.{and_from, and_parts, cases_Bool, cond-false, cond-true, false≢true, ne_eqb, or_cases, or_left, or_right}
+use Rattle.std.proofs.lemmas.List.Elements.{All-head, All-tail}
 use Rattle.icu_normalizer_core.specs.BuiltIn.{built_in_compatibility_step, built_in_step}
-use Rattle.icu_normalizer_core.specs.Canonical.{Leaves, Reaches, mapped, nothing, unmapped}
+use Rattle.icu_normalizer_core.specs.Canonical.{Leaves, mapped, nothing, unmapped}
 use Rattle.icu_normalizer_core.proofs.LeftLemmas.{all_unmapped, left_append, left_one, unmapped_left}
-use Rattle.icu_normalizer_core.proofs.builder.AllStepLemmas.{cases_list, cases_step, left_through}
-use Rattle.collate_lines.specs.Record.{Record, mapping, compatibility}
-use Rattle.collate_rules.specs.Meaning.{any_step, class_in, class_of, compatibility_in, compatibility_of, else_mapped, expanded, first_found, full_of, is_built_in, mapping_in, step_of}
+use Rattle.icu_normalizer_core.proofs.builder.AllStepLemmas.{cases_step, left_through}
+use Rattle.collate_lines.specs.Record.{Record}
+use Rattle.collate_rules.specs.Meaning.{any_step, class_of, compatibility_in, compatibility_of, else_mapped, first_found, is_built_in, mapping_in, step_of}
 use Rattle.collate_rules.specs.RecordRules.{is_mark}
-use Rattle.collate_rules.specs.Rules.{HasBadList, HasLoop, IsBadList, MapsMark, begins_with_mark, compatibility_full_of, is_mapped}
-use Rattle.collate_rules.proofs.lookups.LookupLemmas.{first_found-append}
-use Rattle.collate_record_rules.proofs.records.GrowthLemmas.{mark_stays}
+use Rattle.collate_rules.specs.Rules.{HasLoop, IsBadList, MapsMark, begins_with_mark, is_mapped}
+use Rattle.collate_record_rules.proofs.records.GrowthLemmas.{first_found-append, mark_stays}
 use Rattle.collate_records.proofs.mappings.DecomposingLemmas.{reaches_from, reaches_wider}
 use Rattle.collate_records.proofs.maps.AnyStepLemmas.{any_built_in, any_by_lines}
 
@@ -132,9 +127,11 @@ module _ (lines more : List Record) where
     -- so does a loop
     pub loops_last : HasLoop lines → HasLoop (lines ++ more)
     loops_last loop =
-        let c = loop.0 in
-        (c, reaches_from (any_step (lines ++ more)) (any_step lines c) (any_step (lines ++ more) c) c (any_wider c)
-          (reaches_wider (any_step lines) (any_step (lines ++ more)) any_wider (any_step lines c) c loop.1))
+        let c = loop.0 in (
+          c,
+          reaches_from (any_step (lines ++ more)) (any_step lines c) (any_step (lines ++ more) c) c (any_wider c)
+              (reaches_wider (any_step lines) (any_step (lines ++ more)) any_wider (any_step lines c) c loop.1),
+        )
 
 -- ---- Full lists
 

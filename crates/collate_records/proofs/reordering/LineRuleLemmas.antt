@@ -1,5 +1,5 @@
 -- The rules on single lines, and those on two lines for one thing, of the same lines in another order.
-use Rattle.std.proofs.Common.{◌≡◌, ℕ, ◌<◌, Bool, true, false, not, ◌&&◌, ◌||◌, ◌==◌, List, [], ◌∷◌, length, take, get_or, All, Option, Some, None, refl, sym, ap, ◌∙◌, subst, bytes_eq}
+use Rattle.std.proofs.Common.{◌≡◌, ℕ, ◌<◌, Bool, true, not, ◌&&◌, ◌||◌, ◌==◌, List, ◌∷◌, length, take, Option, Some, None, refl, sym, ap, ◌∙◌, subst, bytes_eq}
 use Rattle.std.specs.Bool.{IsTrue}
 use Rattle.std.specs.Cmp.{nat_eq_equiv}
 use Rattle.std.specs.List.{list_any}
@@ -14,15 +14,15 @@ use Rattle.icu_normalizer_core.specs.BuiltIn.{is_jamo}
 use Rattle.icu_normalizer_core.specs.Canonical.{Canonical}
 use Rattle.icu_collator_core.specs.ContextRules.{is_recorded_in, is_recorded_shorter}
 use Rattle.collate_lines.specs.declared.rule.Rule.TheVariants.{C5, V9, V12, V14}
-use Rattle.collate_lines.specs.Record.{Record, nothing, class, mapping, compatibility, weights, range, digit, setting, Layer, root, tailoring, is_same_layer}
+use Rattle.collate_lines.specs.Record.{Record, nothing, class, mapping, compatibility, weights, digit, setting, Layer, root, tailoring, is_same_layer}
 use Rattle.collate_lines.specs.Repeats.{is_second, record_at, setting_name}
 use Rattle.collate_rules.specs.Meaning.{canonical_of, weights_of}
 use Rattle.collate_rules.specs.Offenders.{NoneOffends}
-use Rattle.collate_rules.specs.RecordRules.{is_alone, is_bad_jamo_record, is_one_word, is_replaced, lacks_shorter}
+use Rattle.collate_rules.specs.RecordRules.{is_alone, is_bad_jamo_record, is_one_word, lacks_shorter}
 use Rattle.collate_rules.specs.Rules.{is_same_pair, pair_in}
 use Rattle.collate_rules.proofs.given.ListLemmas.{same_answer}
 use Rattle.collate_rules.proofs.offenders.LineRuleLemmas.{each_line}
-use Rattle.collate_records.proofs.reordering.MovedListLemmas.{IsNew, new_moved}
+use Rattle.collate_records.proofs.reordering.MovedListLemmas.{new_moved}
 use Rattle.collate_records.proofs.reordering.SameSayingLemmas.{canonical_same, recorded_same, replaced_same}
 
 -- ---- Which lines are alike goes both ways

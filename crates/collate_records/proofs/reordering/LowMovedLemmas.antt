@@ -1,6 +1,6 @@
 -- A character below U+0300 that is its own composed list by all lines of a file is so by fewer of them: what it is composed of by all
 -- is a chain of pairs, of which fewer lines leave the end.
-use Rattle.std.proofs.Common.{◌≡◌, ◌≢◌, ◌⊎◌, ℕ, ◌<◌, inl, inr, ⊎_elim, Bool, true, false, cond, not, ◌==◌, ◌&&◌, ◌||◌, ltb, List, [], ◌∷◌, ◌++◌, length, get_or, drop, Option, Some, None, refl, sym, ap, ◌∙◌, subst, arith, append_assoc, append-nil}
+use Rattle.std.proofs.Common.{◌≡◌, ◌≢◌, ◌⊎◌, ℕ, ◌<◌, ⊎_elim, Bool, true, false, cond, ◌&&◌, ltb, List, [], ◌∷◌, ◌++◌, get_or, drop, Option, Some, None, refl, sym, ap, ◌∙◌, subst, arith, append_assoc, append-nil}
 use Rattle.std.proofs.lemmas.Bool.{and_from, and_parts, and_right, cases_eq, cases_lt, false_from_ne_true, false≢true, le-ltb, ltb-true, or_from, or_parts}
 use Rattle.icu_normalizer_core.specs.Canonical.{Canonical, Leaves, composed, composing, marks_in_order, put_in_order, recomposed}
 use Rattle.icu_normalizer_core.proofs.CompositionLemmas.{composed_one, composing_end, composing_joined, mark_first, not_one, recomposed_nothing, recomposed_starter}

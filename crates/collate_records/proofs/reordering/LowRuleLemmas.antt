@@ -1,13 +1,13 @@
 -- The rule on characters below U+0300, C7, of fewer lines and of the same lines in another order.
-use Rattle.std.proofs.Common.{◌≡◌, ◌≢◌, ◌⊎◌, ℕ, ◌+◌, ◌<◌, ◌≤◌, inl, inr, ⊎_elim, Bool, true, false, cond, not, ◌==◌, ◌&&◌, List, [], ◌∷◌, ◌++◌, length, take, drop, get_or, All, Option, Some, None, refl, sym, ap, ◌∙◌, subst, arith, length-append}
-use Rattle.std.specs.Option.{is_some, unwrap_or}
+use Rattle.std.proofs.Common.{◌≡◌, ◌≢◌, ◌⊎◌, ℕ, ◌<◌, ◌≤◌, inl, inr, ⊎_elim, Bool, true, false, cond, not, ◌==◌, ◌&&◌, List, [], ◌∷◌, ◌++◌, length, get_or, Option, Some, None, refl, sym, ap, ◌∙◌, arith, length-append}
+use Rattle.std.specs.Option.{unwrap_or}
 use lib.Utf8.{low_scalar}
 use Rattle.std.proofs.lemmas.Bool.{cases_eq, cases_lt, cond-false}
 use Rattle.std.proofs.lemmas.Bool.Decides.{Decides-eqb, nat_tests}
 use Rattle.std.proofs.lemmas.List.{get_or_append_left}
 use Rattle.std.proofs.lemmas.List.Elements.{All-get_or}
-use Rattle.std.proofs.lemmas.Option.{none-some, same_Some, unwrap_or-slice_get}
-use Rattle.icu_normalizer_core.specs.BuiltIn.{built_in_class, is_syllable, syllable_of}
+use Rattle.std.proofs.lemmas.Option.{none-some, unwrap_or-slice_get}
+use Rattle.icu_normalizer_core.specs.BuiltIn.{built_in_class, is_syllable}
 use Rattle.icu_normalizer_core.specs.Canonical.{IsComposing, IsDecomposing}
 use Rattle.icu_normalizer_core.proofs.BuiltInFacts.{syllable_pair}
 use Rattle.icu_normalizer_core.proofs.builder.AllStepLemmas.{cases_list}
@@ -18,7 +18,7 @@ use Rattle.collate_rules.specs.Meaning.{canonical_of, class_in, class_of, compat
 use Rattle.collate_rules.specs.Offenders.{NoneOffends}
 use Rattle.collate_rules.specs.Rules.{HasBadLow, HasLoop, MapsMark}
 use Rattle.collate_rules.proofs.lookups.FoundLemmas.{mapping_line}
-use Rattle.collate_rules.proofs.lookups.LookupLemmas.{first_found-append}
+use Rattle.collate_record_rules.proofs.records.GrowthLemmas.{first_found-append}
 use Rattle.collate_rules.specs.Accepted.{AreScalars}
 use Rattle.collate_records.proofs.comparing.OneLineLemmas.{mapping_second, none_found, says_once}
 use Rattle.collate_records.proofs.mappings.ComposedPairLemmas.{IsOfLine, not_built_in, pair_cases}

@@ -1,5 +1,5 @@
 -- The rule on settings, of the same lines in another order.
-use Rattle.std.proofs.Common.{◌≡◌, ◌⊎◌, ℕ, ◌+◌, ◌*◌, ◌^◌, ◌<◌, inl, inr, ⊎_elim, Bool, true, false, not, cond, ◌==◌, ◌&&◌, ◌||◌, leb, List, [], ◌∷◌, ◌++◌, length, map, take, drop, Option, Some, None, refl, sym, ap, ◌∙◌, subst, arith}
+use Rattle.std.proofs.Common.{◌≡◌, ◌⊎◌, ℕ, ◌+◌, ◌*◌, ◌^◌, inl, inr, ⊎_elim, Bool, true, false, not, cond, ◌==◌, ◌&&◌, leb, List, [], ◌∷◌, ◌++◌, map, take, drop, Option, Some, None, refl, sym, ap, ◌∙◌, arith}
 use Rattle.std.specs.Prelude.{replicate}
 use Rattle.std.specs.List.{list_all, list_any}
 use Rattle.std.specs.List.Sorted.{IsPermutation}
@@ -14,7 +14,7 @@ use Rattle.collate_rules.specs.Meaning.{compress_in, first_found, groups_in, num
 use Rattle.collate_rules.specs.Offenders.{NoneOffends}
 use Rattle.collate_rules.specs.SettingLines.{are_bad_groups, are_bad_settings, breaks_settings, compress_of, groups_of, is_compressible_by, numeric_of, reorder_of}
 use Rattle.collate_rules.proofs.offenders.BreachLemmas.{none_together}
-use Rattle.collate_rules.proofs.lookups.LookupLemmas.{first_found-append}
+use Rattle.collate_record_rules.proofs.records.GrowthLemmas.{first_found-append}
 use Rattle.collate_record_rules.proofs.records.SettingLemmas.{none_set}
 use Rattle.collate_records.proofs.comparing.LineOrderLemmas.{compress_alike, equal_settings, reorder_alike}
 

@@ -1,6 +1,5 @@
 -- The rules on weights, records and settings that lines break together, of the same lines in another order.
-use Rattle.std.proofs.Common.{◌≡◌, ℕ, ◌+◌, ◌-◌, ◌<◌, ◌≤◌, Bool, true, false, cond, not, ◌&&◌, ◌||◌, ◌==◌, ltb, List, [], ◌∷◌, ◌++◌, length, take, drop, Contains, Option, Some, refl, sym, ap, ◌∙◌, subst, arith, take_all}
-use Rattle.std.specs.Bool.{IsTrue}
+use Rattle.std.proofs.Common.{◌≡◌, ℕ, ◌+◌, ◌-◌, ◌<◌, Bool, true, false, cond, not, ◌&&◌, ◌||◌, ◌==◌, ltb, List, [], ◌∷◌, ◌++◌, length, take, drop, Contains, Option, refl, sym, ap, ◌∙◌, subst, arith, take_all}
 use Rattle.std.specs.List.{AllByRecursion, IsDistinct, list_all, list_any}
 use Rattle.std.specs.List.Sorted.{IsPermutation}
 use Rattle.std.specs.Option.{is_some, unwrap_or}
@@ -17,12 +16,12 @@ use Rattle.icu_collator_core.specs.PlainLeads.{leads_alone}
 use Rattle.icu_collator_core.specs.Weights.{Range, Weights}
 use Rattle.icu_collator_core.specs.WeightRules.{are_disjoint, is_of_other_lead, is_sound_range}
 use Rattle.collate_lines.specs.declared.rule.Rule.TheVariants.{C5, V2, V5, V6, V7, V8, V10, V11, V14, V15}
-use Rattle.collate_lines.specs.Record.{Record, nothing, class, mapping, compatibility, weights, range, digit, setting, Layer}
-use Rattle.collate_rules.specs.GivenWeights.{BreakApart, BreakPrimaries, BreakRanges, are_all_apart, are_all_disjoint, are_sound_ranges, elements_of, given_elements, given_ranges, has_sound_primary, leads_to, numeric_to, ranges_of}
-use Rattle.collate_rules.specs.Meaning.{canonical_of, class_of, dot_above_in, first_found, is_compressible_in, numeric_in, set_to, weights_of}
+use Rattle.collate_lines.specs.Record.{Record, weights, digit, Layer}
+use Rattle.collate_rules.specs.GivenWeights.{BreakApart, BreakPrimaries, BreakRanges, are_all_disjoint, are_sound_ranges, elements_of, given_elements, given_ranges, has_sound_primary, leads_to, numeric_to, ranges_of}
+use Rattle.collate_rules.specs.Meaning.{canonical_of, class_of, dot_above_in, is_compressible_in, set_to, weights_of}
 use Rattle.collate_rules.specs.Offenders.{NoneOffends}
 use Rattle.collate_rules.specs.Places.{Stays}
-use Rattle.collate_rules.specs.RecordRules.{begins_with, breaks_decomposed, breaks_digits, breaks_dot_above, breaks_marks_last, breaks_prefixes, digit_of, dotted_marks, has_late_starter, has_mapping, has_starter_behind, is_alone, is_bad_digit, is_bad_dotted, is_badly_prefixed, is_common_secondary, is_disordered, is_further, is_mark, is_other_mark, is_replaced, is_undecomposed, may_follow_prefix}
+use Rattle.collate_rules.specs.RecordRules.{begins_with, breaks_decomposed, breaks_digits, breaks_dot_above, breaks_marks_last, breaks_prefixes, digit_of, dotted_marks, has_late_starter, has_mapping, has_starter_behind, is_alone, is_bad_digit, is_bad_dotted, is_badly_prefixed, is_common_secondary, is_disordered, is_further, is_mark, is_other_mark, is_undecomposed, may_follow_prefix}
 use Rattle.collate_rules.proofs.given.ListLemmas.{apart_from, apart_tells, list_all_from, list_all_tells}
 use Rattle.collate_weight_rules.proofs.soundness.StayLemmas.{apart_stays, primaries_stay, ranges_stay_broken}
 use Rattle.collate_rules.proofs.offenders.BreachLemmas.{none_together}

@@ -1,4 +1,4 @@
-use Rattle.std.proofs.Common.{◌≡◌, ℕ, ◌+◌, ◌<◌, ◌≤◌, List, length, map, take, take_all, refl, subst, sym, arith}
+use Rattle.std.proofs.Common.{◌≡◌, ℕ, ◌+◌, ◌≤◌, List, length, map, take, take_all, refl, subst, arith}
 use Rattle.std.specs.Prelude.{sum_by}
 use Rattle.collate_lines.specs.Record.{said}
 use Rattle.collate_compile.specs.Beginnings.{lines_of}

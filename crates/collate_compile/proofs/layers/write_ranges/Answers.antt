@@ -1,4 +1,4 @@
-use Rattle.std.proofs.Common.{◌≡◌, ◌+◌, ◌-◌, ◌*◌, ◌<◌, ◌≤◌, List, drop, length, map, subst, sym, arith, cond}
+use Rattle.std.proofs.Common.{◌+◌, ◌-◌, ◌*◌, ◌<◌, ◌≤◌, List, drop, length, map, subst, sym, arith, cond}
 use Rattle.std.specs.Prelude.{count_by}
 use Rattle.collate_lines.specs.Record.{Record, said}
 use Rattle.collate_rules.specs.Rules.{is_range}

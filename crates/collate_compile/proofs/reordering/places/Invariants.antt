@@ -1,4 +1,4 @@
-use Rattle.std.proofs.Common.{◌≡◌, ℕ, ◌<◌, ◌^◌, All, get_or, length}
+use Rattle.std.proofs.Common.{◌≡◌, ℕ, ◌<◌, get_or, length}
 use Rattle.collate_rules.specs.Meaning.{place_among}
 use Rattle.collate_compile.proofs.reordering.places.Given as goal
 

@@ -1,4 +1,4 @@
-use Rattle.std.proofs.Common.{ℕ, List, ap, map, refl, ◌∙◌}
+use Rattle.std.proofs.Common.{ap, map, refl, ◌∙◌}
 use Rattle.collate_lines.specs.Record.{said}
 use Rattle.collate_rules.specs.Meaning.{place_among}
 use Rattle.collate_compile.proofs.setting.ReorderingLemmas.{reordering_is}

@@ -1,21 +1,37 @@
-use Rattle.std.proofs.Common.{ℕ, ◌++◌, List, map, refl, ap, sym, subst, ◌∙◌, arith}
+use Rattle.std.proofs.Common.{◌≡◌, ℕ, ◌≤◌, ◌++◌, ⊎_elim, List, length, map, take, refl, ap, sym, subst, ◌∙◌, arith}
+use Rattle.std.specs.Prelude.{flat_map}
 use Rattle.std.proofs.lemmas.List.{length-map, take_all}
+use Rattle.icu_normalizer_core.specs.declared.canonical.builder.CanonicalDataBuildError.{CanonicalDataBuildError}
+use Rattle.icu_normalizer_core.specs.declared.canonical.builder.CanonicalDataBuildError.TheVariants.{Rules, Memory}
 use Rattle.icu_normalizer_core.specs.declared.canonical.builder.GivenClass.{GivenClass}
 use Rattle.icu_normalizer_core.specs.declared.canonical.builder.GivenMapping.{GivenMapping}
 use Rattle.icu_normalizer_core.specs.CanonicalMaps.{CanonicalMaps}
-use Rattle.icu_normalizer_core.specs.CompatibilityMaps.{AreAcceptedOver}
+use Rattle.icu_normalizer_core.specs.CompatibilityMaps.{AllMaps, AreAcceptedOver}
 use Rattle.icu_normalizer_core.specs.CompatibilityMeaning.{nfkd_lists}
 use Rattle.collate_rules.specs.Accepted.{HasSmallClass}
-use Rattle.collate_records.specs.Maps.{AreAllMapsOf, MapsToSome, classes_in, compatibilities_in, mappings_in}
+use Rattle.collate_records.specs.Maps.{AreAllMapsOf, MapsToSome, classes_in, compatibilities_in, compatibility_pair, mappings_in}
 use Rattle.collate_lines.specs.declared.rule.Rule.TheVariants.{C3}
-use Rattle.collate_lines.specs.Record.{said}
+use Rattle.collate_lines.specs.Record.{Record, said}
 use Rattle.collate_rules.proofs.offenders.LimitLemmas.{given_to}
 use Rattle.collate_rules.proofs.lookups.LookupLemmas.{All-map_at}
-use Rattle.collate_records.proofs.maps.AllMapLemmas.{words_of_maps}
+use Rattle.collate_records.proofs.maps.AllMapLemmas.{keep_all, words_of_maps}
 use Rattle.collate_records.proofs.maps.AnyStepLemmas.{accepted_some}
 use Rattle.collate_records.proofs.maps.MapLineLemmas.{all_given}
 use Rattle.collate_records.proofs.offenders.ClassLemmas.{All-HasSmallClass}
 use Rattle.collate_records.proofs.given_maps.given_maps.Goals as goal
+
+-- what all lines gave is their maps
+all_maps : (lines : List Record) (i : ℕ) (maps : AllMaps) → length lines ≤ i
+    → maps.canonical.classes ≡ flat_map classes_in (take i lines) → maps.canonical.mappings ≡ flat_map mappings_in (take i lines)
+    → map compatibility_pair maps.compatibilities ≡ flat_map compatibilities_in (take i lines) → AreAllMapsOf lines maps
+all_maps lines i maps whole classes mappings compatibilities = record {
+  canonical = all_given lines i maps.canonical whole classes mappings;
+  compatibilities = compatibilities ∙ ap (flat_map compatibilities_in) (take_all i lines whole);
+}
+
+not_both : (e : CanonicalDataBuildError) → e ≡ Rules → e ≡ Memory → ⊥
+not_both Rules is memory = cc
+not_both Memory is memory = cc
 
 pub give-requires : goal.give-requires
 give-requires c =
@@ -38,3 +54,9 @@ loop-given-preserved c =
       c.in_ok-give.ensures.compatibilities ∙ ap (λ (ps : List (ℕ × List ℕ)). ps ++ compatibilities_in (said c.given-item.result)) c.loop-given.invariant.2
           ∙ sym (given_to compatibilities_in lines i c.given-item.result c.loop-given-test.true c.given-item.is),
     )
+
+pub returns : goal.returns
+returns c =
+    let lines = map said c.args.records.now in
+    let whole : length lines ≤ c.loop-given.given-index = omega (arith, length-map c.args.records.now said, c.loop-given-test.false) in
+    all_maps lines c.loop-given.given-index c.loop-given.maps whole c.loop-given.invariant.0 c.loop-given.invariant.1 c.loop-given.invariant.2

@@ -1,4 +1,4 @@
-use Rattle.std.proofs.Common.{◌≡◌, ◌≤◌, ◌<◌, false, ⊎_elim, arith, ◌∙◌}
+use Rattle.std.proofs.Common.{◌≡◌, ◌≤◌, ◌<◌, ⊎_elim, arith, ◌∙◌}
 use Rattle.std.specs.Range.{range_inclusive_start, range_inclusive_end}
 use Rattle.collate_compile.proofs.building.MapLemmas.{made_from, written_within}
 use Rattle.collate_compile.proofs.layer_builder.LayerBuilder.write_range.Goals as goal
