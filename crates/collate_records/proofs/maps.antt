@@ -2,6 +2,7 @@
 pub mod AcceptedMapLemmas
 pub mod AllMapLemmas
 pub mod AnyStepLemmas
+pub mod BuildErrorLemmas
 pub mod CompatibilityLineLemmas
 pub mod MapLineLemmas
 pub mod MapMeaningLemmas

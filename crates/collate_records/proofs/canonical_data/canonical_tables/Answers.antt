@@ -2,6 +2,7 @@ use Rattle.std.proofs.Common.{◌≡◌, List, map, subst, ⊎_elim}
 use Rattle.icu_normalizer_core.specs.CanonicalMaps.{AreMeaning, CanonicalMaps}
 use Rattle.icu_normalizer_core.specs.CanonicalMeaning.{meaning}
 use Rattle.collate_lines.specs.Record.{said}
+use Rattle.collate_records.proofs.maps.BuildErrorLemmas.{not_both}
 use Rattle.collate_records.proofs.maps.AllMapLemmas.{keep_all}
 use Rattle.collate_records.proofs.canonical_data.canonical_tables.Goals as goal
 

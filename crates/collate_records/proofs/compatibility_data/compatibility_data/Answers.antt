@@ -3,6 +3,7 @@ use Rattle.icu_normalizer_core.specs.CanonicalMaps.{CanonicalMaps}
 use Rattle.icu_normalizer_core.specs.CompatibilityMaps.{AreAcceptedOver}
 use Rattle.icu_normalizer_core.specs.CompatibilityMeaning.{nfkd_lists}
 use Rattle.collate_lines.specs.Record.{said}
+use Rattle.collate_records.proofs.maps.BuildErrorLemmas.{not_both}
 use Rattle.collate_records.proofs.maps.AllMapLemmas.{keep_all, words_of_maps}
 use Rattle.collate_records.proofs.compatibility_data.compatibility_data.Goals as goal
 

@@ -1,20 +1,16 @@
 use Rattle.std.proofs.Common.{◌≡◌, ℕ, ◌≤◌, ◌++◌, ⊎_elim, List, length, map, take, refl, ap, sym, subst, ◌∙◌, arith}
 use Rattle.std.specs.Prelude.{flat_map}
 use Rattle.std.proofs.lemmas.List.{length-map, take_all}
-use Rattle.icu_normalizer_core.specs.declared.canonical.builder.CanonicalDataBuildError.{CanonicalDataBuildError}
-use Rattle.icu_normalizer_core.specs.declared.canonical.builder.CanonicalDataBuildError.TheVariants.{Rules, Memory}
 use Rattle.icu_normalizer_core.specs.declared.canonical.builder.GivenClass.{GivenClass}
 use Rattle.icu_normalizer_core.specs.declared.canonical.builder.GivenMapping.{GivenMapping}
 use Rattle.icu_normalizer_core.specs.CanonicalMaps.{CanonicalMaps}
-use Rattle.icu_normalizer_core.specs.CompatibilityMaps.{AllMaps, AreAcceptedOver}
-use Rattle.icu_normalizer_core.specs.CompatibilityMeaning.{nfkd_lists}
+use Rattle.icu_normalizer_core.specs.CompatibilityMaps.{AllMaps}
 use Rattle.collate_rules.specs.Accepted.{HasSmallClass}
 use Rattle.collate_records.specs.Maps.{AreAllMapsOf, MapsToSome, classes_in, compatibilities_in, compatibility_pair, mappings_in}
 use Rattle.collate_lines.specs.declared.rule.Rule.TheVariants.{C3}
 use Rattle.collate_lines.specs.Record.{Record, said}
 use Rattle.collate_rules.proofs.offenders.LimitLemmas.{given_to}
 use Rattle.collate_rules.proofs.lookups.LookupLemmas.{All-map_at}
-use Rattle.collate_records.proofs.maps.AllMapLemmas.{keep_all, words_of_maps}
 use Rattle.collate_records.proofs.maps.AnyStepLemmas.{accepted_some}
 use Rattle.collate_records.proofs.maps.MapLineLemmas.{all_given}
 use Rattle.collate_records.proofs.offenders.ClassLemmas.{All-HasSmallClass}
@@ -28,10 +24,6 @@ all_maps lines i maps whole classes mappings compatibilities = record {
   canonical = all_given lines i maps.canonical whole classes mappings;
   compatibilities = compatibilities ∙ ap (flat_map compatibilities_in) (take_all i lines whole);
 }
-
-not_both : (e : CanonicalDataBuildError) → e ≡ Rules → e ≡ Memory → ⊥
-not_both Rules is memory = cc
-not_both Memory is memory = cc
 
 pub give-requires : goal.give-requires
 give-requires c =
