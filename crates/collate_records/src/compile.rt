@@ -14,7 +14,6 @@ use std::alloc::{AllocError, Global};
 /// The tables of a records file, with collation tries of this type: a small one takes less memory, a fast one less time a
 /// look-up. They pass every check, and say what the file says (docs/RECORDS.md): of characters, of weights and of settings.
 /// `AllocError` where memory is refused, and for nothing else.
-#[tactic(auto, using(crate::proofs::compiled::CompiledOfLemmas::compiled_of))]
 pub fn compile(
     alloc: Global,
     records: &Records,
