@@ -22,7 +22,8 @@ word_of builder c = mapped builder.words c
 
 -- the word of a character says all that lines record of it
 abbrev pub IsGiven : List Record → LayerBuilder → ℕ → Type 0
-IsGiven lines builder c = (saying : Saying) × IsSayingOf lines c saying × SaysOf builder.pools (word_of builder c) saying
+IsGiven lines builder c =
+    (saying : Saying) × IsSayingOf lines c saying × SaysOf builder.pools (word_of builder c) saying
 
 -- what moves the primary of the range that holds a character, among some of the lines
 abbrev pub offset_among : List Record → List Record → ℕ → Option ℕ
@@ -31,7 +32,8 @@ offset_among lines some c = option_map (offset_bits (is_compressible_in lines)) 
 -- the word of a character says what range it is in, if any
 abbrev pub IsRanged : List Record → List Record → LayerBuilder → ℕ → Type 0
 IsRanged lines some builder c =
-    MatchOption (offset_among lines some c) (word_of builder c ≡ implicit) (λ bits. SaysOf builder.pools (word_of builder c) (ranged_saying bits))
+    MatchOption (offset_among lines some c) (word_of builder c ≡ implicit)
+    (λ bits. SaysOf builder.pools (word_of builder c) (ranged_saying bits))
 
 -- the word of a character that nothing is written for
 abbrev pub unwritten_word : Layer → ℕ
@@ -51,7 +53,8 @@ pub record AreRangesWritten (lines some : List Record) (builder : LayerBuilder) 
 -- What is recorded of these characters is written, and no other character's word.
 pub record AreWritten (layer : Layer) (lines : List Record) (cs : List ℕ) (builder : LayerBuilder) : Type 0 where
   pub unwritten : builder.words.default ≡ unwritten_word layer
-  pub words : (c : ℕ) → IsScalar c → MatchBool (list_any (λ d. c == d) cs) (IsGiven lines builder c) (IsLeft layer lines builder c)
+  pub words : (c : ℕ) → IsScalar c
+      → MatchBool (list_any (λ d. c == d) cs) (IsGiven lines builder c) (IsLeft layer lines builder c)
 
 -- ## Writes
 
@@ -65,4 +68,5 @@ pub record GivesWord (old new : LayerBuilder) (covers : ℕ → Bool) (saying : 
 -- a layer grows for so many records, and by so many different blocks of a width at most
 pub record GrowsBy (record_count block_count : ℕ) (old new : LayerBuilder) : Type 0 where
   pub pools : GrowsFor record_count old.pools new.pools
-  pub blocks : (width : ℕ) → different_blocks (λ n. n) width new.words.values ≤ different_blocks (λ n. n) width old.words.values + block_count
+  pub blocks : (width : ℕ)
+      → different_blocks (λ n. n) width new.words.values ≤ different_blocks (λ n. n) width old.words.values + block_count

@@ -61,8 +61,10 @@ fn write_range(
     layer: &mut LayerBuilder,
 ) -> Result<(), AllocError>
     requires { HasRoom layer.old.pools (cond (is_range (said line.now)) 1 0) }
-    ensures written { (some : List PlainRecord) → AreRangesWritten (map said lines.now) some layer.old → OnOk result (AreRangesWritten (map said lines.now) (said line.now ∷ some) layer.new) }
-    ensures size { OnOk result (GrowsBy (cond (is_range (said line.now)) 1 0) (3 * cond (is_range (said line.now)) 1 0) layer.old layer.new) }
+    ensures written { (some : List PlainRecord) → AreRangesWritten (map said lines.now) some layer.old
+        → OnOk result (AreRangesWritten (map said lines.now) (said line.now ∷ some) layer.new) }
+    ensures size { let count = cond (is_range (said line.now)) 1 0
+        in OnOk result (GrowsBy count (3 * count) layer.old layer.new) }
 {
     match line {
         Record::Range(range) => {
@@ -81,7 +83,8 @@ fn write_ranges(alloc: Global, lines: &[Record], layer: &mut LayerBuilder) -> Re
     requires room { HasRoom layer.old.pools (count_by is_range (map said lines.now)) }
     requires none { AreRangesWritten (map said lines.now) [] layer.old }
     ensures written { OnOk result (AreRangesWritten (map said lines.now) (map said lines.now) layer.new) }
-    ensures size { OnOk result (GrowsBy (count_by is_range (map said lines.now)) (3 * count_by is_range (map said lines.now)) layer.old layer.new) }
+    ensures size { let count = count_by is_range (map said lines.now)
+        in OnOk result (GrowsBy count (3 * count) layer.old layer.new) }
 {
     for i in 0..lines.len() {
         let line = &lines[lines.len() - 1 - i];
@@ -103,7 +106,8 @@ fn write_character(
     requires accepted { AreAccepted (map said lines.now) }
     requires canonical { AreSameCanonical (borrowed_meaning canonical.now) (canonical_of (map said lines.now)) }
     requires room { HasRoom layer.old.pools (1 + lines_of (map said lines.now) character) }
-    ensures written { OnOk result ((saying : Saying) × IsSayingOf (map said lines.now) character saying × GivesWord layer.old layer.new (λ c. c == character) saying) }
+    ensures written { OnOk result ((saying : Saying) × IsSayingOf (map said lines.now) character saying
+        × GivesWord layer.old layer.new (λ c. c == character) saying) }
     ensures size { OnOk result (GrowsBy (1 + lines_of (map said lines.now) character) 1 layer.old layer.new) }
 {
     let entry = entry_of(alloc, lines, character, canonical)?;
@@ -124,8 +128,10 @@ fn write_characters(
     requires accepted { AreAccepted (map said lines.now) }
     requires canonical { AreSameCanonical (borrowed_meaning canonical.now) (canonical_of (map said lines.now)) }
     requires room { HasRoom layer.old.pools (sum_by (λ c. 1 + lines_of (map said lines.now) c) characters.now) }
-    ensures written { (which : PlainLayer) → AreWritten which (map said lines.now) [] layer.old → OnOk result (AreWritten which (map said lines.now) characters.now layer.new) }
-    ensures size { OnOk result (GrowsBy (sum_by (λ c. 1 + lines_of (map said lines.now) c) characters.now) (length characters.now) layer.old layer.new) }
+    ensures written { (which : PlainLayer) → AreWritten which (map said lines.now) [] layer.old
+        → OnOk result (AreWritten which (map said lines.now) characters.now layer.new) }
+    ensures size { OnOk result (GrowsBy (sum_by (λ c. 1 + lines_of (map said lines.now) c) characters.now)
+        (length characters.now) layer.old layer.new) }
 {
     words_say_the_same_in_longer_lists();
     for character in characters {
@@ -166,7 +172,9 @@ pub fn write_tailoring(
 ) -> Result<Option<CollationData<'static>>, AllocError>
     requires accepted { AreAccepted (map said lines.now) }
     requires canonical { AreSameCanonical (borrowed_meaning canonical.now) (canonical_of (map said lines.now)) }
-    ensures { IfOk result (λ tailoring. MatchOption tailoring ((c : ℕ) → is_tailored (map said lines.now) c ≡ false) (IsTailoringOf (map said lines.now))) }
+    ensures { IfOk result (λ tailoring. MatchOption tailoring
+        ((c : ℕ) → is_tailored (map said lines.now) c ≡ false)
+        (IsTailoringOf (map said lines.now))) }
 {
     let characters = beginnings(alloc, lines, Layer::Tailoring)?;
     if characters.is_empty() {

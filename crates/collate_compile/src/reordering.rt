@@ -17,7 +17,8 @@ use std::alloc::{AllocError, Global};
 /// Errors: `AllocError` where memory is refused.
 fn places(alloc: Global, pairs: &[(u8, u8)]) -> Result<Vec<u8>, AllocError>
     ensures count { IfOk result (λ bytes. length bytes.items ≡ 256) }
-    ensures places { IfOk result (λ bytes. (lead : ℕ) → lead < 256 → slice_index bytes.items lead ≡ place_among pairs.now lead) }
+    ensures places { IfOk result (λ bytes. (lead : ℕ) → lead < 256
+        → slice_index bytes.items lead ≡ place_among pairs.now lead) }
 {
     let mut bytes = Vec::new(alloc);
     for lead in 0..256u16 {

@@ -21,8 +21,8 @@ use icu_normalizer_core::canonical::CanonicalBorrowed;
 use icu_packed_vector::PackedVec;
 use std::alloc::{AllocError, Global};
 
-/// The tables of accepted lines, with tries of this type. Accepted lines set what is sound: `collate_record_rules` has the
-/// law.
+/// The tables of accepted lines, with tries of this type. That what accepted lines set is sound is a law of
+/// `collate_record_rules`.
 ///
 /// Errors: `AllocError` where memory is refused.
 pub fn compile_tables(

@@ -1,7 +1,7 @@
 //! Words of collation tables, written of what is recorded of the texts that begin with one character.
 #![tactic(auto)]
 
-pub mod contexts;
+mod contexts;
 pub mod entry;
 pub mod own_words;
 pub mod pools;

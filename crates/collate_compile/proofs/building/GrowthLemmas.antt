@@ -15,7 +15,8 @@ grown_none layer = record {
   blocks = λ width. omega arith;
 }
 
-pub grown_more : (a x b y n m : ℕ) (old mid new : LayerBuilder) → GrowsBy a x old mid → GrowsBy b y mid new → a + b ≡ n → x + y ≡ m → GrowsBy n m old new
+pub grown_more : (a x b y n m : ℕ) (old mid new : LayerBuilder) → GrowsBy a x old mid → GrowsBy b y mid new
+    → a + b ≡ n → x + y ≡ m → GrowsBy n m old new
 grown_more a x b y n m old mid new first second e f = record {
   pools = record {
     ces = omega (arith, first.pools.ces, second.pools.ces);
@@ -36,7 +37,8 @@ grown_to a x n old new grown few = record {
 }
 
 -- the room that is left
-pub room_left : (total done more : ℕ) (old new : Pools) → HasRoom old total → GrowsFor done old new → done + more ≤ total → HasRoom new more
+pub room_left : (total done more : ℕ) (old new : Pools) → HasRoom old total → GrowsFor done old new
+    → done + more ≤ total → HasRoom new more
 room_left total done more old new room grown few = record {
   ces = omega (arith, room.ces, grown.ces);
   ce32s = omega (arith, room.ce32s, grown.ce32s);

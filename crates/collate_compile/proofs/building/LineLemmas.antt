@@ -30,9 +30,11 @@ from_line lines i x h e =
 
 -- how many of them are ranges
 pub ranges_from : (lines : List Line) (i : ℕ) (x : Line) → i < length lines → x ≡ get_or lines (length lines - 1 - i) x
-    → count_by is_range (drop (length lines - (i + 1)) (map said lines)) ≡ count_by is_range (drop (length lines - i) (map said lines)) + cond (is_range (said x)) 1 0
+    → count_by is_range (drop (length lines - (i + 1)) (map said lines)) ≡ count_by is_range
+    (drop (length lines - i) (map said lines)) + cond (is_range (said x)) 1 0
 ranges_from lines i x h e =
-    ap (count_by is_range) (from_line lines i x h e) ∙ omega (arith, sum_by-cons (λ s. cond (is_range s) 1 0) (said x) (drop (length lines - i) (map said lines)))
+    ap (count_by is_range) (from_line lines i x h e)
+    ∙ omega (arith, sum_by-cons (λ s. cond (is_range s) 1 0) (said x) (drop (length lines - i) (map said lines)))
 
 pub ranges_few : (lines : List Record) (n : ℕ) → count_by is_range (drop n lines) ≤ count_by is_range lines
 ranges_few lines n = omega (arith, sum_by-take-drop (λ s. cond (is_range s) 1 0) lines n)
@@ -42,7 +44,8 @@ pub lines_none : (lines : List Line) → drop (length lines - 0) (map said lines
 lines_none lines = drop_of_length-le (map said lines) (omega (arith, length-map lines said))
 
 -- from the first line on there are all
-pub lines_all : (lines : List Line) (i : ℕ) → length lines ≤ i → drop (length lines - i) (map said lines) ≡ map said lines
+pub lines_all : (lines : List Line) (i : ℕ) → length lines ≤ i
+    → drop (length lines - i) (map said lines) ≡ map said lines
 lines_all lines i h = ap (λ (n : ℕ). drop n (map said lines)) here
   where
     here : length lines - i ≡ 0

@@ -45,14 +45,16 @@ pub record AreHighest (is_compressible : ℕ → Bool) (part i bits : ℕ) : Typ
 pub highest_none : (is_compressible : ℕ → Bool) (part : ℕ) → AreHighest is_compressible part 0 0
 highest_none is_compressible part = record { few = omega arith; small = omega arith; bit = λ k h. absurd (omega arith) }
 
-pub highest_small : (is_compressible : ℕ → Bool) (part i bits : ℕ) → AreHighest is_compressible part i bits → i < 16 → bits < 2 ^ 15
+pub highest_small : (is_compressible : ℕ → Bool) (part i bits : ℕ) → AreHighest is_compressible part i bits → i < 16
+    → bits < 2 ^ 15
 highest_small is_compressible part i bits highest h =
     let two : 0 < 2 = omega arith in
     let most : i ≤ 15 = omega arith in
     let power : 2 ^ i ≤ 2 ^ 15 = pow-le-pow_right {n = 2} two {i = i} {j = 15} most in
     omega (arith, highest.small, power)
 
-pub highest_more : (is_compressible : ℕ → Bool) (part i bits more lead : ℕ) (b : Bool) → AreHighest is_compressible part i bits → i < 16 → lead ≡ 16 * part + (15 - i)
+pub highest_more : (is_compressible : ℕ → Bool) (part i bits more lead : ℕ) (b : Bool)
+    → AreHighest is_compressible part i bits → i < 16 → lead ≡ 16 * part + (15 - i)
     → b ≡ is_compressible lead → more ≡ cond b 1 0 → AreHighest is_compressible part (i + 1) (bits * 2 + more)
 highest_more is_compressible part i bits more lead b highest h e f g = record {
   few = omega arith;
@@ -82,7 +84,8 @@ highest_more is_compressible part i bits more lead b highest h e f g = record {
 
 pub highest_all : (is_compressible : ℕ → Bool) (part i bits : ℕ) → AreHighest is_compressible part i bits → 16 ≤ i
     → (place : ℕ) → place < 16 → has_bit place bits ≡ is_compressible (16 * part + place)
-highest_all is_compressible part i bits highest h place lt = let last : 16 * part + (16 - i + place) ≡ 16 * part + place = omega (arith, highest.few) in
+highest_all is_compressible part i bits highest h place lt =
+    let last : 16 * part + (16 - i + place) ≡ 16 * part + place = omega (arith, highest.few) in
     highest.bit place (omega (arith, highest.few)) ∙ ap is_compressible last
 
 -- ## Words of 16 bits behind the groups
@@ -90,7 +93,8 @@ highest_all is_compressible part i bits highest h place lt = let last : 16 * par
 pub record AreParts (lines : List Record) (ends values : List ℕ) (parts : ℕ) : Type 0 where
   pub count : length values ≡ 4 + parts
   pub groups : take 4 values ≡ ends
-  pub bits : (part place : ℕ) → part < parts → place < 16 → has_bit place (get_or values (4 + part) 0) ≡ is_compressible_in lines (16 * part + place)
+  pub bits : (part place : ℕ) → part < parts → place < 16
+      → has_bit place (get_or values (4 + part) 0) ≡ is_compressible_in lines (16 * part + place)
 
 pub parts_none : (lines : List Record) (groups : List ℕ) → length groups ≡ 4 → AreParts lines groups groups 0
 parts_none lines groups four = record {
@@ -100,7 +104,8 @@ parts_none lines groups four = record {
 }
 
 pub parts_more : (lines : List Record) (groups values : List ℕ) (parts word : ℕ) → AreParts lines groups values parts
-    → ((place : ℕ) → place < 16 → has_bit place word ≡ is_compressible_in lines (16 * parts + place)) → AreParts lines groups (values ++ word ∷ []) (parts + 1)
+    → ((place : ℕ) → place < 16 → has_bit place word ≡ is_compressible_in lines (16 * parts + place))
+    → AreParts lines groups (values ++ word ∷ []) (parts + 1)
 parts_more lines groups values parts word so_far says = record {
   count = omega (arith, length-append values (word ∷ []), so_far.count);
   groups = take-append-le 4 values (word ∷ []) (omega (arith, so_far.count)) ∙ so_far.groups;
@@ -119,11 +124,13 @@ parts_more lines groups values parts word so_far says = record {
 lead_below : (lead : ℕ) → (is_letter_lead lead || eqb lead 0xfe) ≡ true → lead < 256
 lead_below lead h = grind (arith, nat_tests)
 
-pub parts_all : (lines : List Record) (groups values : List ℕ) (parts : ℕ) → AreSoundlySet lines → AreParts lines groups values parts → parts ≡ 16
+pub parts_all : (lines : List Record) (groups values : List ℕ) (parts : ℕ) → AreSoundlySet lines
+    → AreParts lines groups values parts → parts ≡ 16
     → (lead : ℕ) → is_compressible_by values lead ≡ is_compressible_in lines lead
 unfolding is_compressible_by
 parts_all lines groups values parts sound all e lead =
-    ap (λ (b : Bool). cond b (has_lead_bit values lead) (is_usually_compressible lead)) twenty ∙ ⊎_elim within past (cases_lt lead 256)
+    ap (λ (b : Bool). cond b (has_lead_bit values lead) (is_usually_compressible lead)) twenty
+    ∙ ⊎_elim within past (cases_lt lead 256)
   where
     twenty : eqb (length values) 20 ≡ true
     twenty = let count : length values ≡ 20 = omega (arith, all.count) in ap (λ (n : ℕ). eqb n 20) count
@@ -143,10 +150,14 @@ parts_all lines groups values parts sound all e lead =
     past : 256 ≤ lead → has_lead_bit values lead ≡ is_compressible_in lines lead
     past h =
         ap bit_at (slice_get_past values (4 + lead / 16) (omega (arith, all.count)))
-        ∙ sym (false_from_ne_true (is_compressible_in lines lead) (λ is. omega (arith, lead_below lead (sound.compressible lead is))))
+        ∙ sym (false_from_ne_true (is_compressible_in lines lead)
+        (λ is. omega (arith, lead_below lead (sound.compressible lead is))))
 
 -- there are four groups
 pub four_groups : (lines : List Record) → AreSoundlySet lines → length (groups_of lines) ≡ 4
 four_groups lines sound =
-    let both = and_parts (eqb (length (groups_of lines)) 4 && list_all (is_sound_group (numeric_of lines)) (groups_of lines)) (never_falls (groups_of lines)) sound.groups in
-    eqb-true (length (groups_of lines)) 4 (and_parts (eqb (length (groups_of lines)) 4) (list_all (is_sound_group (numeric_of lines)) (groups_of lines)) both.0).0
+    let both = and_parts (eqb (length (groups_of lines)) 4 && list_all (is_sound_group (numeric_of lines))
+    (groups_of lines)) (never_falls (groups_of lines)) sound.groups in
+    eqb-true (length (groups_of lines)) 4
+    (and_parts (eqb (length (groups_of lines)) 4)
+    (list_all (is_sound_group (numeric_of lines)) (groups_of lines)) both.0).0

@@ -51,10 +51,13 @@ is_one false = refl
 bit_is : (n : ℕ) (b : Bool) → n ≡ cond b 1 0 → eqb n 1 ≡ b
 bit_is n b e = ap (λ (k : ℕ). eqb k 1) e ∙ is_one b
 
-max_is : (n : ℕ) (v : MaxVariable) → n ≡ max_variable_bits v → cond (eqb n 0) Space (cond (eqb n 1) Punctuation (cond (eqb n 2) Symbol Currency)) ≡ v
-max_is n v e = ap (λ (k : ℕ). cond (eqb k 0) Space (cond (eqb k 1) Punctuation (cond (eqb k 2) Symbol Currency))) e ∙ by v
+max_is : (n : ℕ) (v : MaxVariable) → n ≡ max_variable_bits v
+    → cond (eqb n 0) Space (cond (eqb n 1) Punctuation (cond (eqb n 2) Symbol Currency)) ≡ v
+max_is n v e = ap (λ (k : ℕ). cond (eqb k 0) Space (cond (eqb k 1) Punctuation (cond (eqb k 2) Symbol Currency))) e
+    ∙ by v
   where
-    by : (w : MaxVariable) → cond (eqb (max_variable_bits w) 0) Space (cond (eqb (max_variable_bits w) 1) Punctuation (cond (eqb (max_variable_bits w) 2) Symbol Currency)) ≡ w
+    by : (w : MaxVariable) → cond (eqb (max_variable_bits w) 0) Space
+        (cond (eqb (max_variable_bits w) 1) Punctuation (cond (eqb (max_variable_bits w) 2) Symbol Currency)) ≡ w
     by Space = refl
     by Punctuation = refl
     by Symbol = refl
@@ -67,10 +70,13 @@ alternate_is n a e = ap (λ (k : ℕ). cond (eqb k 1) Shifted NonIgnorable) e �
     by NonIgnorable = refl
     by Shifted = refl
 
-case_first_is : (n k : ℕ) (f : CollationCaseFirst) → n ≡ case_first_bits f % 2 → k ≡ case_first_bits f / 2 → cond (eqb n 1) (cond (eqb k 1) Upper Lower) NoCaseFirst ≡ f
-case_first_is n k f e g = ap (λ (i : ℕ). cond (eqb i 1) (cond (eqb k 1) Upper Lower) NoCaseFirst) e ∙ ap (λ (j : ℕ). cond (eqb (case_first_bits f % 2) 1) (cond (eqb j 1) Upper Lower) NoCaseFirst) g ∙ by f
+case_first_is : (n k : ℕ) (f : CollationCaseFirst) → n ≡ case_first_bits f % 2 → k ≡ case_first_bits f / 2
+    → cond (eqb n 1) (cond (eqb k 1) Upper Lower) NoCaseFirst ≡ f
+case_first_is n k f e g = ap (λ (i : ℕ). cond (eqb i 1) (cond (eqb k 1) Upper Lower) NoCaseFirst) e
+    ∙ ap (λ (j : ℕ). cond (eqb (case_first_bits f % 2) 1) (cond (eqb j 1) Upper Lower) NoCaseFirst) g ∙ by f
   where
-    by : (w : CollationCaseFirst) → cond (eqb (case_first_bits w % 2) 1) (cond (eqb (case_first_bits w / 2) 1) Upper Lower) NoCaseFirst ≡ w
+    by : (w : CollationCaseFirst) → cond (eqb (case_first_bits w % 2) 1)
+        (cond (eqb (case_first_bits w / 2) 1) Upper Lower) NoCaseFirst ≡ w
     by NoCaseFirst = refl
     by Lower = refl
     by Upper = refl
@@ -89,16 +95,42 @@ module _ (bits m t r d b s f : ℕ) (packed : ArePacked bits m t r d b s f) wher
   bit_6 = omega (arith, packed.sum, packed.max_variable, packed.tailored, packed.reordering, packed.dot_above)
 
   bit_7 : bits / 2 ^ 7 % 2 ≡ b
-  bit_7 = omega (arith, packed.sum, packed.max_variable, packed.tailored, packed.reordering, packed.dot_above, packed.backward)
+  bit_7 = omega (
+    arith,
+    packed.sum,
+    packed.max_variable,
+    packed.tailored,
+    packed.reordering,
+    packed.dot_above,
+    packed.backward,
+  )
 
   bit_8 : bits / 2 ^ 8 % 2 ≡ s
-  bit_8 = omega (arith, packed.sum, packed.max_variable, packed.tailored, packed.reordering, packed.dot_above, packed.backward, packed.alternate)
+  bit_8 = omega (
+    arith,
+    packed.sum,
+    packed.max_variable,
+    packed.tailored,
+    packed.reordering,
+    packed.dot_above,
+    packed.backward,
+    packed.alternate,
+  )
 
   two_low : bits % 4 ≡ m
   two_low = omega (arith, packed.sum, packed.max_variable)
 
   bits_high : bits / 2 ^ 9 ≡ f
-  bits_high = omega (arith, packed.sum, packed.max_variable, packed.tailored, packed.reordering, packed.dot_above, packed.backward, packed.alternate)
+  bits_high = omega (
+    arith,
+    packed.sum,
+    packed.max_variable,
+    packed.tailored,
+    packed.reordering,
+    packed.dot_above,
+    packed.backward,
+    packed.alternate,
+  )
 
   bit_9 : bits / 2 ^ 9 % 2 ≡ f % 2
   bit_9 = ap (λ (n : ℕ). n % 2) bits_high
@@ -121,26 +153,35 @@ module _ (bits m t r d b s f : ℕ) (packed : ArePacked bits m t r d b s f) wher
   pub backward_bit : (w : Bool) → b ≡ cond w 1 0 → has_bit 7 bits ≡ w
   backward_bit w e = bit_is (bits / 2 ^ 7 % 2) w (bit_7 ∙ e)
 
-  pub settings_bits : (settings : FileSettings) → m ≡ max_variable_bits settings.max_variable → s ≡ alternate_bit settings.alternate_handling → f ≡ case_first_bits settings.case_first
+  pub settings_bits : (settings : FileSettings) → m ≡ max_variable_bits settings.max_variable
+      → s ≡ alternate_bit settings.alternate_handling → f ≡ case_first_bits settings.case_first
       → (metadata : CollationMetadata) → metadata.bits ≡ bits → settings_of metadata ≡ settings
   settings_bits settings e g h metadata is =
       ap (λ (n : ℕ). settings_of (record { bits = n })) is
-      ∙ ap (λ (a : AlternateHandling). packed_as a (case_first_of bits) (max_variable_of bits)) (alternate_is (bits / 2 ^ 8 % 2) settings.alternate_handling (bit_8 ∙ g))
-      ∙ ap (λ (c : CollationCaseFirst). packed_as settings.alternate_handling c (max_variable_of bits)) (case_first_is (bits / 2 ^ 9 % 2) (bits / 2 ^ 10 % 2) settings.case_first (bit_9 ∙ ap (λ (n : ℕ). n % 2) h) (bit_10 ∙ ap (λ (n : ℕ). n / 2) h))
-      ∙ ap (packed_as settings.alternate_handling settings.case_first) (max_is (bits % 4) settings.max_variable (two_low ∙ e))
+      ∙ ap (λ (a : AlternateHandling). packed_as a (case_first_of bits) (max_variable_of bits))
+      (alternate_is (bits / 2 ^ 8 % 2) settings.alternate_handling (bit_8 ∙ g))
+      ∙ ap (λ (c : CollationCaseFirst). packed_as settings.alternate_handling c (max_variable_of bits))
+      (case_first_is (bits / 2 ^ 9 % 2) (bits / 2 ^ 10 % 2) settings.case_first (bit_9 ∙ ap (λ (n : ℕ). n % 2) h)
+      (bit_10 ∙ ap (λ (n : ℕ). n / 2) h))
+      ∙ ap (packed_as settings.alternate_handling settings.case_first)
+      (max_is (bits % 4) settings.max_variable (two_low ∙ e))
     where
       packed_as : AlternateHandling → CollationCaseFirst → MaxVariable → FileSettings
       packed_as a c v = record { alternate_handling = a; case_first = c; max_variable = v }
 
 -- what is packed is read again, and nothing of it lost
-pub settings_are : (lines : List Record) (m t r d b s f : ℕ) (settings : FileSettings) (is_tailored is_reordering dot_above backward : Bool)
-    → m ≡ max_variable_bits settings.max_variable → t ≡ cond is_tailored 1 0 → r ≡ cond is_reordering 1 0 → d ≡ cond dot_above 1 0 → b ≡ cond backward 1 0
+pub settings_are : (lines : List Record) (m t r d b s f : ℕ) (settings : FileSettings)
+    (is_tailored is_reordering dot_above backward : Bool)
+    → m ≡ max_variable_bits settings.max_variable → t ≡ cond is_tailored 1 0 → r ≡ cond is_reordering 1 0
+    → d ≡ cond dot_above 1 0 → b ≡ cond backward 1 0
     → s ≡ alternate_bit settings.alternate_handling → f ≡ case_first_bits settings.case_first
-    → settings ≡ set.settings_of lines → dot_above ≡ set.set_to set.dot_above_in false lines → backward ≡ set.set_to set.backward_in false lines
+    → settings ≡ set.settings_of lines → dot_above ≡ set.set_to set.dot_above_in false lines
+    → backward ≡ set.set_to set.backward_in false lines
     → AreSettingsOf lines (record {
       bits = m + (t * 8 % 4294967296 + 16 + r * 32 % 4294967296) + (d * 64 % 4294967296 + b * 128 % 4294967296) + s * 256 % 4294967296 + f * 512 % 4294967296;
     })
-settings_are lines m t r d b s f settings is_tailored is_reordering dot_above backward em et er ed eb es ef options dots backs =
+settings_are lines m t r d b s f settings is_tailored is_reordering dot_above backward em et er ed eb es ef options
+    dots backs =
     let m3 : m ≤ 3 = omega (arith, em, at_most_three settings.max_variable) in
     let t1 : t ≤ 1 = omega (arith, et, at_most_one is_tailored) in
     let r1 : r ≤ 1 = omega (arith, er, at_most_one is_reordering) in

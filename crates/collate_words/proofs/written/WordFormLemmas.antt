@@ -1,5 +1,5 @@
 -- The forms of words that are written, and the words within them, by their tags.
-use Rattle.std.proofs.Common.{◌≡◌, ◌≢◌, ◌⊎◌, inl, inr, ⊎_elim, ℕ, ◌+◌, ◌*◌, ◌/◌, ◌%◌, ◌^◌, ◌<◌, ◌≤◌, Bool, true, false, cond, List, None, ap, ◌∙◌, arith}
+use Rattle.std.proofs.Common.{◌≡◌, ◌≢◌, ◌⊎◌, inl, inr, ⊎_elim, ℕ, ◌+◌, ◌%◌, ◌^◌, ◌<◌, Bool, true, false, cond, List, None, ap, ◌∙◌, arith}
 use Rattle.std.specs.Prelude.{◌==◌, ◌||◌, not, leb, length, reverse, slice_index}
 use Rattle.std.proofs.lemmas.Bool.{and_from, and_left, and_parts, both_ways, cond-false, cond-true, eq-eqb, le-leb, not-true, not_from_false, or_cases, or_left}
 use Rattle.icu_collator_types.specs.declared.elements.word_tags.Tag.{Tag}
@@ -9,7 +9,6 @@ use Rattle.icu_collator_core.specs.Pools.{Pools, default_word, index_of, lone_wo
 use Rattle.icu_collator_core.specs.WordForms.{has_form, is_list_of_words, is_other_own, is_own_word, states_element}
 use Rattle.icu_collator_core.specs.WordPlaces.{has_digit_word, has_items, has_list}
 use Rattle.icu_collator_core.proofs.meaning.WordTagLemmas.{other_tag}
-use Rattle.collate_words.specs.ContextKeys.{HasFields}
 
 -- ---- Tags
 
@@ -129,35 +128,3 @@ pub prefix_none : (pools : Pools) (word : ℕ) (cs : List ℕ) → has_tag Prefi
     ≡ None
 unfolding prefix_word
 prefix_none pools word cs h = cond-false (has_tag Prefix word) _ _ h
-
--- ---- Fields of words
-
-abbrev pub bit : Bool → ℕ
-bit true = 1
-bit false = 0
-
-flag_is : (n : ℕ) (b : Bool) → n ≡ bit b → (n == 1) ≡ b
-flag_is n true e = eq-eqb n 1 e
-flag_is n false e = ap (λ m. m == 1) e
-
-bit_small : (b : Bool) → bit b ≤ 1
-bit_small true = omega arith
-bit_small false = omega arith
-
--- a word of a place, three flags, and a low byte
-abbrev pub flagged : ℕ → Bool → Bool → Bool → ℕ → ℕ
-flagged place a b c low = place * 2 ^ 13 + (bit a * 2 ^ 9 + bit b * 2 ^ 10 + bit c * 2 ^ 11 + low)
-
-pub fields_of : (word place : ℕ) (a b c : Bool) (low : ℕ) → low < 2 ^ 8 → word ≡ flagged place a b c low
-    → HasFields word place low a b c
-fields_of word place a b c low small is =
-    let x = bit_small a in
-    let y = bit_small b in
-    let z = bit_small c in
-    record {
-      place_is = omega (arith, is, x, y, z, small);
-      low_is = omega (arith, is, x, y, z, small);
-      first = flag_is (word / 2 ^ 9 % 2) a (omega (arith, is, x, y, z, small));
-      second = flag_is (word / 2 ^ 10 % 2) b (omega (arith, is, x, y, z, small));
-      third = flag_is (word / 2 ^ 11 % 2) c (omega (arith, is, x, y, z, small));
-    }

@@ -1,5 +1,5 @@
 -- Lists that grow step by step, and words that are written one after another.
-use Rattle.std.proofs.Common.{◌≡◌, ◌≢◌, ℕ, suc, zero, ◌+◌, ◌==◌, ◌/◌, ◌%◌, ◌^◌, ◌<◌, ◌≤◌, Bool, true, false, List, [], ◌∷◌, ◌++◌, length, map, take, get_or, drop, Option, Some, None, refl, ap, sym, subst, ◌∙◌, arith, append_assoc, length-append}
+use Rattle.std.proofs.Common.{◌≡◌, ◌≢◌, ℕ, suc, zero, ◌+◌, ◌==◌, ◌/◌, ◌%◌, ◌^◌, ◌<◌, Bool, true, false, List, [], ◌∷◌, ◌++◌, length, map, take, get_or, drop, Option, Some, None, refl, ap, sym, subst, ◌∙◌, arith, append_assoc, length-append}
 use Rattle.std.specs.Prelude.{All, IfSome, flat_map, slice_index}
 use Rattle.std.specs.Option.{option_copied}
 use Rattle.std.specs.List.{AllZip}
@@ -15,7 +15,7 @@ use Rattle.collate_words.specs.declared.entry.Entry.{Entry}
 use Rattle.collate_words.specs.declared.entry.SuffixFlags.{SuffixFlags}
 use Rattle.collate_words.specs.ContextKeys.{AreKeysOf, FitsContext, HasFields, HasKeys, IsContext, IsKeyOf, key_text, pair_of}
 use Rattle.collate_words.specs.Entries.{said_beside, saying_of}
-use Rattle.collate_words.specs.Fits.{AreBeside, HasRoom, IsBeside, IsDigitAlone}
+use Rattle.collate_words.specs.Fits.{AreBeside, IsBeside, IsDigitAlone}
 use Rattle.collate_words.specs.Growth.{Grows, GrowsFor}
 use Rattle.collate_words.specs.OwnWords.{IsOwnWord}
 use Rattle.collate_words.specs.PartSayings.{saying_before, saying_behind}
@@ -39,18 +39,6 @@ grows_for_along m n pools larger largest first second =
     let e = first.contexts in
     let f = second.contexts in
     record { ces = omega (arith, a, b); ce32s = omega (arith, c, d); contexts = omega (arith, e, f) }
-
--- room for so many records, after others
-pub room_left : (m n count : ℕ) (pools larger : Pools) → m + n ≤ count → HasRoom pools count → GrowsFor m pools larger
-    → HasRoom larger n
-room_left m n count pools larger few room grown =
-    let a = room.ces in
-    let b = grown.ces in
-    let c = room.ce32s in
-    let d = grown.ce32s in
-    let e = room.contexts in
-    let f = grown.contexts in
-    record { ces = omega (arith, a, b, few); ce32s = omega (arith, c, d, few); contexts = omega (arith, e, f, few) }
 
 -- ---- Keys
 

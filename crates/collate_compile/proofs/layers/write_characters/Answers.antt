@@ -15,7 +15,8 @@ write_character-requires-clause-room c =
     let cs = c.args.characters.now in
     let i = c.loop-character.character-index in
     let f : ℕ → ℕ = λ q. 1 + lines_of (map said c.args.lines.now) q in
-    room_left (sum_by f cs) (sum_by f (take i cs)) (f c.character-item.result) c.args.layer.now.pools c.loop-character.layer.pools c.requires.room c.loop-character.invariant.size.pools
+    room_left (sum_by f cs) (sum_by f (take i cs)) (f c.character-item.result) c.args.layer.now.pools
+    c.loop-character.layer.pools c.requires.room c.loop-character.invariant.size.pools
     (next_within f cs i c.character-item.result c.loop-character-test.true c.character-item.is)
 
 pub loop-character-preserved : goal.loop-character-preserved
@@ -29,9 +30,12 @@ loop-character-preserved c =
     let new = c.write_character.new.layer in
     let done = c.in_ok-write_character.ensures.written in
     record {
-      written = λ which none. subst (λ (ds : List ℕ). AreWritten which (map said c.args.lines.now) ds c.write_character.new.layer) (next_taken f cs i x c.loop-character-test.true c.character-item.is)
-          (characters_more c.words_say_the_same_in_longer_lists.ensures which lines (take i cs) old new x done.0 done.1 (c.loop-character.invariant.written which none) done.2);
-      size = grown_more _ _ _ _ _ _ c.args.layer.now old new c.loop-character.invariant.size c.in_ok-write_character.ensures.size
+      written = λ which none. subst (λ (ds : List ℕ). AreWritten which (map said c.args.lines.now) ds
+          c.write_character.new.layer) (next_taken f cs i x c.loop-character-test.true c.character-item.is)
+          (characters_more c.words_say_the_same_in_longer_lists.ensures which lines (take i cs) old new x done.0
+          done.1 (c.loop-character.invariant.written which none) done.2);
+      size = grown_more _ _ _ _ _ _ c.args.layer.now old new c.loop-character.invariant.size
+          c.in_ok-write_character.ensures.size
           (next_summed f cs i x c.loop-character-test.true c.character-item.is) refl;
     }
 
@@ -39,7 +43,8 @@ pub returns-clause-written : goal.returns-clause-written
 returns-clause-written c = λ which none.
     let cs = c.args.characters.now in
     let past : length cs ≤ c.loop-character.character-index = omega arith in
-    subst (λ (ds : List ℕ). AreWritten which (map said c.args.lines.now) ds c.loop-character.layer) (take_all c.loop-character.character-index cs past) (c.loop-character.invariant.written which none)
+    subst (λ (ds : List ℕ). AreWritten which (map said c.args.lines.now) ds c.loop-character.layer)
+    (take_all c.loop-character.character-index cs past) (c.loop-character.invariant.written which none)
 
 pub returns-clause-size : goal.returns-clause-size
 returns-clause-size c =
@@ -49,4 +54,5 @@ returns-clause-size c =
     let all : i ≡ length cs = omega arith in
     let f : ℕ → ℕ = λ q. 1 + lines_of (map said c.args.lines.now) q in
     subst (λ (n : ℕ). GrowsBy (sum_by f cs) n c.args.layer.now c.loop-character.layer) all
-    (subst (λ (ds : List ℕ). GrowsBy (sum_by f ds) i c.args.layer.now c.loop-character.layer) (take_all i cs past) c.loop-character.invariant.size)
+    (subst (λ (ds : List ℕ). GrowsBy (sum_by f ds) i c.args.layer.now c.loop-character.layer) (take_all i cs past)
+    c.loop-character.invariant.size)

@@ -7,6 +7,8 @@ use Rattle.collate_compile.proofs.layers.write_characters.Given as goal
 
 abbrev pub invariant-loop-character : goal.invariant-loop-character
 invariant-loop-character l = record {
-  written : (which : Layer) → AreWritten which (map said l.lines) [] l.initial.layer → AreWritten which (map said l.lines) (take l.character-index l.characters) l.layer;
-  size : GrowsBy (sum_by (λ c. 1 + lines_of (map said l.lines) c) (take l.character-index l.characters)) l.character-index l.initial.layer l.layer;
+  written : (which : Layer) → AreWritten which (map said l.lines) [] l.initial.layer
+      → AreWritten which (map said l.lines) (take l.character-index l.characters) l.layer;
+  size : GrowsBy (sum_by (λ c. 1 + lines_of (map said l.lines) c) (take l.character-index l.characters))
+      l.character-index l.initial.layer l.layer;
 }

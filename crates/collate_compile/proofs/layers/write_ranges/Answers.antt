@@ -12,8 +12,10 @@ loop-i-init c =
     let layer = c.args.layer.now in
     let none = lines_none c.args.lines.now in
     record {
-      written = subst (λ (ls : List Record). AreRangesWritten (map said c.args.lines.now) ls layer) (sym none) c.requires.none;
-      size = subst (λ (ls : List Record). GrowsBy (count_by is_range ls) (3 * count_by is_range ls) layer layer) (sym none) (grown_none layer);
+      written = subst (λ (ls : List Record). AreRangesWritten (map said c.args.lines.now) ls layer) (sym none)
+          c.requires.none;
+      size = subst (λ (ls : List Record). GrowsBy (count_by is_range ls) (3 * count_by is_range ls) layer layer)
+          (sym none) (grown_none layer);
     }
 
 pub write_range-requires : goal.write_range-requires
@@ -22,9 +24,15 @@ write_range-requires c =
     let i = c.loop-i.i in
     let x = c.index-lines-lines.result in
     let within : i < length lines = omega arith in
-    room_left (count_by is_range (map said lines)) (count_by is_range (drop (length lines - i) (map said lines))) (cond (is_range (said x)) 1 0) c.args.layer.now.pools c.loop-i.layer.pools
+    room_left (count_by is_range (map said lines)) (count_by is_range (drop (length lines - i) (map said lines)))
+    (cond (is_range (said x)) 1 0) c.args.layer.now.pools c.loop-i.layer.pools
     c.requires.room c.loop-i.invariant.size.pools
-    (omega (arith, ranges_from lines i x within c.index-lines-lines.is, ranges_few (map said lines) (length lines - (i + 1))))
+    (omega (
+      arith,
+      ranges_from lines i x within c.index-lines-lines.is,
+      ranges_few (map said lines)
+          (length lines - (i + 1)),
+    ))
 
 pub loop-i-preserved : goal.loop-i-preserved
 loop-i-preserved c =
@@ -34,19 +42,23 @@ loop-i-preserved c =
     let within : i < length lines = omega arith in
     let more = ranges_from lines i x within c.index-lines-lines.is in
     record {
-      written = subst (λ (ls : List Record). AreRangesWritten (map said lines) ls c.write_range.new.layer) (sym (from_line lines i x within c.index-lines-lines.is))
+      written = subst (λ (ls : List Record). AreRangesWritten (map said lines) ls c.write_range.new.layer)
+          (sym (from_line lines i x within c.index-lines-lines.is))
           (c.in_ok-write_range.ensures.written (drop (length lines - i) (map said lines)) c.loop-i.invariant.written);
-      size = grown_more _ _ _ _ _ _ c.args.layer.now c.loop-i.layer c.write_range.new.layer c.loop-i.invariant.size c.in_ok-write_range.ensures.size (sym more) (omega (arith, more));
+      size = grown_more _ _ _ _ _ _ c.args.layer.now c.loop-i.layer c.write_range.new.layer c.loop-i.invariant.size
+          c.in_ok-write_range.ensures.size (sym more) (omega (arith, more));
     }
 
 pub returns-clause-written : goal.returns-clause-written
 returns-clause-written c =
     let lines = c.args.lines.now in
     let past : length lines ≤ c.loop-i.i = omega arith in
-    subst (λ (ls : List Record). AreRangesWritten (map said lines) ls c.loop-i.layer) (lines_all lines c.loop-i.i past) c.loop-i.invariant.written
+    subst (λ (ls : List Record). AreRangesWritten (map said lines) ls c.loop-i.layer)
+    (lines_all lines c.loop-i.i past) c.loop-i.invariant.written
 
 pub returns-clause-size : goal.returns-clause-size
 returns-clause-size c =
     let lines = c.args.lines.now in
     let past : length lines ≤ c.loop-i.i = omega arith in
-    subst (λ (ls : List Record). GrowsBy (count_by is_range ls) (3 * count_by is_range ls) c.args.layer.now c.loop-i.layer) (lines_all lines c.loop-i.i past) c.loop-i.invariant.size
+    subst (λ (ls : List Record). GrowsBy (count_by is_range ls) (3 * count_by is_range ls) c.args.layer.now
+    c.loop-i.layer) (lines_all lines c.loop-i.i past) c.loop-i.invariant.size

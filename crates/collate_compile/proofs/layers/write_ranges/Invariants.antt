@@ -8,5 +8,6 @@ use Rattle.collate_compile.proofs.layers.write_ranges.Given as goal
 abbrev pub invariant-loop-i : goal.invariant-loop-i
 invariant-loop-i l = record {
   written : AreRangesWritten (map said l.lines) (drop (length l.lines - l.i) (map said l.lines)) l.layer;
-  size : GrowsBy (count_by is_range (drop (length l.lines - l.i) (map said l.lines))) (3 * count_by is_range (drop (length l.lines - l.i) (map said l.lines))) l.initial.layer l.layer;
+  size : GrowsBy (count_by is_range (drop (length l.lines - l.i) (map said l.lines)))
+      (3 * count_by is_range (drop (length l.lines - l.i) (map said l.lines))) l.initial.layer l.layer;
 }

@@ -5,4 +5,5 @@ use Rattle.collate_rules.specs.Meaning.{max_variable_in, set_to}
 use Rattle.collate_compile.proofs.set_lines.max_variable.Given as goal
 
 abbrev pub invariant-loop-line : goal.invariant-loop-line
-invariant-loop-line l = set_to max_variable_in default_settings.max_variable (map said (drop l.line-index l.lines)) ≡ set_to max_variable_in default_settings.max_variable (map said l.lines)
+invariant-loop-line l = set_to max_variable_in default_settings.max_variable
+    (map said (drop l.line-index l.lines)) ≡ set_to max_variable_in default_settings.max_variable (map said l.lines)

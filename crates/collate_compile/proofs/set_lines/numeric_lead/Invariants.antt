@@ -4,4 +4,5 @@ use Rattle.collate_rules.specs.Meaning.{numeric_in, set_to}
 use Rattle.collate_compile.proofs.set_lines.numeric_lead.Given as goal
 
 abbrev pub invariant-loop-line : goal.invariant-loop-line
-invariant-loop-line l = set_to numeric_in 0x10 (map said (drop l.line-index l.lines)) ≡ set_to numeric_in 0x10 (map said l.lines)
+invariant-loop-line l = set_to numeric_in 0x10 (map said (drop l.line-index l.lines)) ≡ set_to numeric_in 0x10
+    (map said l.lines)

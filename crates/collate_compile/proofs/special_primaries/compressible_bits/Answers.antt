@@ -20,14 +20,22 @@ pub overflow_mul-bits : goal.overflow_mul-bits
 overflow_mul-bits c = omega (arith, highest_small _ _ _ _ c.loop-i.invariant c.loop-i-test.true)
 
 pub overflow_add-bits : goal.overflow_add-bits
-overflow_add-bits c = omega (arith, highest_small _ _ _ _ c.loop-i.invariant c.loop-i-test.true, c.from.ensures, byte_most c.is_compressible.result)
+overflow_add-bits c = omega (
+  arith,
+  highest_small _ _ _ _ c.loop-i.invariant c.loop-i-test.true,
+  c.from.ensures,
+  byte_most c.is_compressible.result,
+)
 
 pub loop-i-preserved : goal.loop-i-preserved
 loop-i-preserved c =
-    highest_more (is_compressible_in (map said c.args.lines.now)) c.args.part c.loop-i.i c.loop-i.bits c.from.result (c.args.part * 16 + (15 - c.loop-i.i)) c.is_compressible.result
-    c.loop-i.invariant c.loop-i-test.true (omega arith) c.is_compressible.ensures (c.from.ensures ∙ byte_is c.is_compressible.result)
+    highest_more (is_compressible_in (map said c.args.lines.now)) c.args.part c.loop-i.i c.loop-i.bits c.from.result
+    (c.args.part * 16 + (15 - c.loop-i.i)) c.is_compressible.result
+    c.loop-i.invariant c.loop-i-test.true (omega arith) c.is_compressible.ensures
+    (c.from.ensures ∙ byte_is c.is_compressible.result)
 
 pub returns : goal.returns
 returns c =
     let past : 16 ≤ c.loop-i.i = omega arith in
-    highest_all (is_compressible_in (map said c.args.lines.now)) c.args.part c.loop-i.i c.loop-i.bits c.loop-i.invariant past
+    highest_all (is_compressible_in (map said c.args.lines.now)) c.args.part c.loop-i.i c.loop-i.bits
+    c.loop-i.invariant past

@@ -5,4 +5,5 @@ use Rattle.collate_compile.proofs.setting.LeadBitLemmas.{AreParts}
 use Rattle.collate_compile.proofs.special_primaries.special_primaries.Given as goal
 
 abbrev pub invariant-loop-part : goal.invariant-loop-part
-invariant-loop-part l = AreParts (map said l.lines) (set_to groups_in (replicate 4 0x300) (map said l.lines)) l.values.items l.part
+invariant-loop-part l = AreParts (map said l.lines) (set_to groups_in (replicate 4 0x300) (map said l.lines))
+    l.values.items l.part

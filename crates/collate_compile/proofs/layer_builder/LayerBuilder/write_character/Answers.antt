@@ -8,6 +8,8 @@ returns-clause-word c =
     record {
       word = c.in_ok-word.word;
       says = c.in_ok-word.ensures.says;
-      written = rw (← c.from.ensures) (made_from _ _ _ _ c.set_value.result c.set_value.ensures.written c.set_value.ensures.refused (λ e h. omega (arith, h.1)));
+      written = rw (← c.from.ensures)
+          (made_from _ _ _ _ c.set_value.result c.set_value.ensures.written c.set_value.ensures.refused
+          (λ e h. omega (arith, h.1)));
       grows = c.write_entry.ensures.grows;
     }

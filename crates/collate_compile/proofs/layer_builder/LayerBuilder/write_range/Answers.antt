@@ -14,7 +14,9 @@ returns-clause-word c =
       word = c.in_ok-word.word;
       says = c.in_ok-word.ensures.says;
       written = written_within _ _ range _ _ _ first last c.new-range.ensures.exhausted
-          (made_from _ _ _ _ c.set_range_value.result c.set_range_value.ensures.written c.set_range_value.ensures.refused
-          (λ e h. ⊎_elim (λ (p : 0x10_FFFF < range_inclusive_start range). omega arith) (λ (q : 0x10_FFFF < range_inclusive_end range). omega arith) h.1));
+          (made_from _ _ _ _ c.set_range_value.result c.set_range_value.ensures.written
+          c.set_range_value.ensures.refused
+          (λ e h. ⊎_elim (λ (p : 0x10_FFFF < range_inclusive_start range). omega arith)
+          (λ (q : 0x10_FFFF < range_inclusive_end range). omega arith) h.1));
       grows = c.write_entry.ensures.grows;
     }
