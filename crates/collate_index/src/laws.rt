@@ -57,3 +57,9 @@ pub fn keys_order_as_names_of_records()
 pub fn records_have_sound_settings()
     ensures { (records : List Record) → ArePlain records → AreSoundSettings (collation_of records) }
 {}
+
+/// The settings of accepted lines, as those of all records are, keep the rules on settings: what the laws of keys ask
+/// (docs/RECORDS.md, `set`).
+pub fn accepted_records_have_sound_settings()
+    ensures { (records : List Record) → AreAccepted records → AreSoundSettings (collation_of records) }
+{}
