@@ -60,7 +60,6 @@ pub fn records_have_sound_settings()
 
 /// The settings of accepted lines, as those of all records are, keep the rules on settings: what the laws of keys ask
 /// (docs/RECORDS.md, `set`).
-#[tactic(auto, using(crate::proofs::order::FileSettingLemmas::accepted_settings))]
 pub fn accepted_records_have_sound_settings()
     ensures { (records : List Record) → AreAccepted records → AreSoundSettings (collation_of records) }
 {}

@@ -8,13 +8,15 @@ use Rattle.icu_collator_core.specs.WeightRules.{is_letter_lead}
 use Rattle.icu_collator_core.proofs.weights.ReorderingLemmas.{given_lead, given_rest}
 use Rattle.icu_collator_core.specs.SettingRules.{are_sound_groups}
 use Rattle.icu_collator.specs.Settings.{AreSoundSettings}
-use Rattle.collate_records.proofs.reading.SoundSettingLemmas.{accepted_soundly_set}
 use Rattle.collate_rules.specs.Accepted.{AreAccepted, IsSaid}
 use Rattle.collate_records.specs.Plain.{ArePlain}
 use Rattle.collate_records.proofs.reading.PlainLemmas.{plain_meaning}
+use Rattle.collate_lines.specs.declared.rule.Rule.TheVariants.{Set}
 use Rattle.collate_lines.specs.Record.{Record}
 use Rattle.collate_rules.specs.LineCounts.{KeepsCounts}
 use Rattle.collate_rules.specs.Meaning.{collation_of, groups_in, is_compressible_in, place_among, reorder_in, set_to}
+use Rattle.collate_rules.proofs.given.GrammarLemmas.{line_keeps_counts}
+use Rattle.collate_record_rules.proofs.records.SoundSettingLemmas.{soundly_set}
 
 -- where no lead is reordered, no primary is
 pub primary_stays : (place : ℕ → ℕ) → ((lead : ℕ) → place lead ≡ lead) → (p : ℕ) → with_lead place p ≡ p
@@ -47,10 +49,14 @@ plain_settings records are_plain =
       alike = λ lead. ap (is_compressible_in records) (stay lead);
     }
 
+-- what a line in the grammar says lists as many things as it must
+said_counts : (given : Record) → IsSaid given → KeepsCounts given
+said_counts given said = line_keeps_counts said.0 given said.1
+
 pub accepted_settings : (records : List Record) → AreAccepted records → AreSoundSettings (collation_of records)
 unfolding places
 accepted_settings records accepted =
-    let set = accepted_soundly_set records accepted in
+    let set = soundly_set records (All-weaker IsSaid KeepsCounts said_counts records accepted.in_grammar) (accepted.keep_rules Set) in
     let lead : (n : ℕ) → reordered_lead (collation_of records) n ≡ places records n = given_lead (collation_of records) (places records) (λ p. refl) in
     record {
       numeric_lead = set.numeric_lead;
