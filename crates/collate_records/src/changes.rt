@@ -7,13 +7,20 @@ ghost use Rattle.collate_records.specs.Changes.{AreSettingsEqual, AreValuesEqual
 ghost use Rattle.collate_rules.specs.Meaning.{is_compressible_in, recorded_in, span_of};
 ghost use Rattle.collate_lines.specs.Record.{said};
 
-use crate::by_lines::{
-    compressed, digit_of, drops_dot_above, file_settings, group_ends, is_backward, is_compressible,
-    numeric_lead, place_of, range_of, recorded, reordered,
+use collate_compile::by_lines::{compressed, digit_of, is_compressible, range_of, recorded};
+use collate_compile::set_lines::{
+    drops_dot_above, file_settings, group_ends, is_backward, numeric_lead, place_among, reordered,
 };
 use collate_lines::record::{Range, Record};
 use icu_collator_types::elements::Element;
 use icu_normalizer_core::properties::Decomposed;
+
+/// The lead that takes the place of another, or that one itself.
+fn place_of(records: &[Record], lead: u8) -> u8
+    ensures { result ≡ place_of (map said records.now) lead }
+{
+    place_among(reordered(records), lead)
+}
 
 /// Whether two mappings are the same.
 pub(crate) fn are_same_mappings(a: Decomposed, b: Decomposed) -> bool

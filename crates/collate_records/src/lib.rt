@@ -6,7 +6,6 @@
 pub use collate_lines::{record, rule};
 pub use collate_provider as provider;
 
-mod by_lines;
 mod canonical_data;
 mod changes;
 mod character_table;

@@ -17,13 +17,13 @@ ghost use Rattle.collate_records.specs.Files.{IsReadFrom};
 ghost use Rattle.collate_records.specs.Plain.{ArePlain};
 ghost use Rattle.collate_records.specs.Reaching.{ReachesNone, ReachesOne, brought_within};
 
-use crate::by_lines::file_settings;
 use crate::canonical_data::canonical_data;
 use crate::changes::{are_said_alike, are_same_mappings, are_settings_equal};
 use crate::character_table::CharacterTable;
 use crate::plain_lines::are_plain;
 use crate::reader::read_records;
 use crate::weights_table::weights_table;
+use collate_compile::set_lines::file_settings;
 use collate_lines::record::Record;
 use collate_lines::rule::RecordsError;
 use icu_collator_types::elements::Element;
