@@ -1,5 +1,4 @@
-//! The rules on texts: they equal their decomposed lists (V7), after a mark stand only marks (V8), and what ends in a mark is
-//! recorded without it too (V9).
+//! The rules on texts: after a mark stand only marks (V8), and what ends in a mark is recorded without it too (V9).
 
 ghost use Rattle.std.specs.Prelude.{◌≡◌, ◌==◌, ◌&&◌, ◌||◌, not, ℕ, List, [], ◌∷◌, map, IfOk, MatchOption};
 ghost use Rattle.std.specs.List.{list_any};

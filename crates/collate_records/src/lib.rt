@@ -1,6 +1,7 @@
 //! Records files: what their lines say, and whether they keep the rules. Begin with
 //! `records::Records::read`; `class` and `mapping` then ask what the file says. The lines are those of `collate_lines`,
-//! the rules those of `collate_rules`.
+//! what they mean and which rules they keep stands in `collate_rules`, and the rules are asked by `collate_mapping_rules`,
+//! `collate_weight_rules` and `collate_record_rules`.
 #![tactic(auto)]
 
 pub use collate_lines::{record, rule};
