@@ -17,7 +17,9 @@ use Rattle.icu_collator_core.specs.declared.tables.CollationTables.{CollationTab
 use Rattle.icu_collator_core.specs.declared.tables.data.CollationData.{CollationData}
 use Rattle.icu_collator_core.specs.Acceptance.{IsAccepted, IsFirstFault}
 use Rattle.icu_collator_core.specs.WeightFaults.{IsJamoFault}
-use Rattle.icu_collator_core.specs.TableFaults.{AllPass, AllPassIn, IsFirstRefused, IsLeastRefused}
+use Rattle.icu_collator_core.specs.ContextFaults.{HasContexts}
+use Rattle.icu_collator_core.specs.WordWeights.{HasWeights}
+use Rattle.icu_collator_core.specs.TableFaults.{AllPass, AllPassIn, HasCell, HasPlaces, HasWord, IsFirstRefused, IsLeastRefused}
 
 -- words that are accepted have none
 pub word_fault_refutes : (lists : CanonicalLists) (words : WordLists) (fault : CanonicalFault)
@@ -48,11 +50,11 @@ refused_refutes tables Passes c is all =
 -- tables that are accepted have none
 pub table_fault_refutes : (canonical : Canonical) (tables : CollationTables) (fault : TableFault)
     → IsFirstFault canonical tables fault → IsAccepted canonical tables → ⊥
-table_fault_refutes canonical tables (Trie c) is a = refused_refutes tables _ c is a.characters.cells
-table_fault_refutes canonical tables (Word c) (n, is) a = refused_refutes tables _ c is a.characters.words
-table_fault_refutes canonical tables (Index c) (n, m, is) a = refused_refutes tables _ c is a.characters.places
-table_fault_refutes canonical tables (Context c) (n, m, p, is) a = refused_refutes tables _ c is a.characters.contexts
-table_fault_refutes canonical tables (Weight c) (n, m, p, q, is) a = refused_refutes tables _ c is a.characters.weights
+table_fault_refutes canonical tables (Trie c) is a = refused_refutes tables HasCell c is a.characters.cells
+table_fault_refutes canonical tables (Word c) (n, is) a = refused_refutes tables HasWord c is a.characters.words
+table_fault_refutes canonical tables (Index c) (n, m, is) a = refused_refutes tables HasPlaces c is a.characters.places
+table_fault_refutes canonical tables (Context c) (n, m, p, is) a = refused_refutes tables (HasContexts canonical tables) c is a.characters.contexts
+table_fault_refutes canonical tables (Weight c) (n, m, p, q, is) a = refused_refutes tables (HasWeights tables.special_primaries) c is a.characters.weights
 table_fault_refutes canonical tables PrefixOfWeight (h, none) a = none a.apart
 table_fault_refutes canonical tables Diacritics (h, p, none) a = true≢false (sym a.diacritics ∙ none)
 table_fault_refutes canonical tables (Jamo place) (h, p, d, is) a = jamo_refutes is

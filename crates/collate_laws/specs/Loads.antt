@@ -9,8 +9,6 @@ use Rattle.icu_normalizer_core.specs.CompatibilityMeaning.{CompatibilityTables}
 use Rattle.icu_normalizer_core.specs.Loading.{loaded}
 use Rattle.icu_collator_core.specs.declared.tables.data.CollationData.{CollationData}
 use Rattle.icu_collator_core.specs.declared.tables.reordering.CollationReordering.{CollationReordering}
-use Rattle.icu_collator.specs.declared.comparison.loading.SourceTables.{SourceTables}
-use Rattle.icu_collator.specs.Loading.{loaded_local, loaded_shared, loaded_source, loaded_tables}
 use Rattle.collate_provider.specs.Provided.{Provided}
 
 -- what the load of a tailoring gives
@@ -36,12 +34,3 @@ compatibility_loads provided =
     loaded_both (canonical_loads provided)
     (loaded_words (Ok provided.compatibility.trie)
     (Ok (record { scalars16 = provided.compatibility.scalars16; scalars24 = provided.compatibility.scalars24 })))
-
--- its canonical tables and those of a collation
-abbrev pub collation_loads : Provided → Result SourceTables DataError
-collation_loads provided =
-    loaded_source (canonical_loads provided)
-    (loaded_tables
-    (loaded_shared (Ok provided.collation.root) (Ok provided.collation.jamo) (Ok provided.collation.special_primaries))
-    (loaded_local (Ok provided.collation.metadata) (Ok provided.collation.diacritics)
-    (tailoring_load provided.collation.tailoring) (reordering_load provided.collation.reordering)))

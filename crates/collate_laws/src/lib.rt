@@ -3,7 +3,7 @@
 #![tactic(auto)]
 
 ghost use Rattle.std.specs.Char.{IsScalar};
-ghost use Rattle.std.specs.Prelude.{◌≡◌, ℕ, All, List, MatchResult, Result};
+ghost use Rattle.std.specs.Prelude.{◌≡◌, ℕ, All, List, MatchResult, Ok, Result};
 ghost use Rattle.icu_normalizer_core.specs.declared.provider.error.DataError.{DataError};
 ghost use Rattle.icu_normalizer_core.specs.declared.provider.error.DataError.TheVariants.{Memory as NoMemory};
 ghost use Rattle.icu_normalizer.specs.NormalizerTables.{IsMadeOfBoth, IsMadeOfCanonical, NormalizerTables};
@@ -11,6 +11,7 @@ ghost use Rattle.icu_collator_types.specs.Options.{resolved_options};
 ghost use Rattle.icu_collator_types.specs.declared.options.CollatorOptions.{CollatorOptions};
 ghost use Rattle.icu_collator_types.specs.declared.options.CollatorPreferences.{CollatorPreferences};
 ghost use Rattle.icu_collator.specs.Collators.{CollatorParts, MadeMemoryAside, source_collation};
+ghost use Rattle.icu_collator.specs.Loading.{loaded_local, loaded_shared, loaded_source, loaded_tables};
 ghost use Rattle.icu_collator.specs.KeyBytes.{key_of_text};
 ghost use Rattle.icu_collator.specs.Order.{collation_order};
 ghost use Rattle.icu_collator.specs.declared.comparison.error.CollatorError.{CollatorError};
@@ -20,21 +21,24 @@ ghost use Rattle.collate_provider.specs.Provided.{Provided};
 ghost use Rattle.collate_records.specs.CompiledOf.{IsCompiledOf};
 ghost use Rattle.collate_rules.specs.Accepted.{AreAccepted};
 ghost use Rattle.collate_rules.specs.Meaning.{collation_of, settings_of};
-ghost use Rattle.collate_laws.specs.Loads.{canonical_loads, collation_loads, compatibility_loads};
+ghost use Rattle.collate_laws.specs.Loads.{canonical_loads, compatibility_loads, reordering_load, tailoring_load};
 ghost use Rattle.collate_laws.specs.OverRecords.{IsCanonicalNormalizerOf, IsCollatorOf, IsCompatibilityNormalizerOf};
 
 /// `Collator::try_new_unstable` over a provider of compiled tables is refused for want of memory alone; else the collator
 /// says what the file says, and the options that the caller leaves open are the file's.
-#[tactic(auto, using(crate::proofs::MadeLemmas::collator_made))]
 pub fn compiled_tables_make_collators()
     ensures { (records : List Record) (provided : Provided) (options : CollatorOptions) (preferences : CollatorPreferences) (result : Result CollatorParts CollatorError)
         → AreAccepted records → IsCompiledOf records provided
-        → MadeMemoryAside options preferences (collation_loads provided) result
+        → MadeMemoryAside options preferences
+        (loaded_source (canonical_loads provided)
+        (loaded_tables
+        (loaded_shared (Ok provided.collation.root) (Ok provided.collation.jamo) (Ok provided.collation.special_primaries))
+        (loaded_local (Ok provided.collation.metadata) (Ok provided.collation.diacritics)
+        (tailoring_load provided.collation.tailoring) (reordering_load provided.collation.reordering)))) result
         → MatchResult result (IsCollatorOf records options preferences) (λ error. error ≡ Memory) }
 {}
 
 /// `try_new_nfd_unstable` and `try_new_nfc_unstable` over such a provider are refused for want of memory alone.
-#[tactic(auto, using(crate::proofs::MadeLemmas::canonical_made))]
 pub fn compiled_tables_make_canonical_normalizers()
     ensures { (records : List Record) (provided : Provided) (result : Result NormalizerTables DataError)
         → AreAccepted records → IsCompiledOf records provided → IsMadeOfCanonical result (canonical_loads provided)
@@ -42,7 +46,6 @@ pub fn compiled_tables_make_canonical_normalizers()
 {}
 
 /// `try_new_nfkd_unstable` and `try_new_nfkc_unstable` likewise.
-#[tactic(auto, using(crate::proofs::MadeLemmas::compatibility_made))]
 pub fn compiled_tables_make_compatibility_normalizers()
     ensures { (records : List Record) (provided : Provided) (result : Result NormalizerTables DataError)
         → AreAccepted records → IsCompiledOf records provided → IsMadeOfBoth result (compatibility_loads provided)
