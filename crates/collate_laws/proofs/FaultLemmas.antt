@@ -46,7 +46,6 @@ refused_refutes tables Passes c is all =
     ⊎_elim (λ root. least_refutes (Passes Root tables.root) c root all.0)
     (λ behind. tailoring_refutes Passes c tables.tailoring behind.1 all.1) is
 
-
 -- tables that are accepted have none
 pub table_fault_refutes : (canonical : Canonical) (tables : CollationTables) (fault : TableFault)
     → IsFirstFault canonical tables fault → IsAccepted canonical tables → ⊥
