@@ -4,8 +4,8 @@ pub mod Index
 pub mod Keys
 pub mod Listing
 pub mod Meaning
-pub mod Search
 pub mod ServedOptions
 pub mod Simple
 pub mod Strengths
 pub use Rattle.collate_names.specs.Names
+pub use Rattle.collate_names.specs.Search

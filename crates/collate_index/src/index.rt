@@ -11,7 +11,7 @@ ghost use Rattle.collate_index.specs.AddErrors.{add_error_text};
 ghost use Rattle.collate_names.specs.Names.{equal_names};
 ghost use Rattle.collate_index.specs.Catalogue.{AreDistinct, opened, order_of, sorted_names, with_name};
 ghost use Rattle.collate_index.specs.ServedOptions.{AreDefault, GiveStrengthOnly};
-ghost use Rattle.collate_index.specs.Search.{IsPlaceOf, stands_before};
+ghost use Rattle.collate_names.specs.Search.{IsPlaceOf, stands_before};
 ghost use Rattle.collate_index.specs.Simple.{AreSimple};
 ghost use Rattle.collate_records.specs.Plain.{ArePlain};
 ghost use Rattle.collate_rules.specs.Meaning.{settings_of};
@@ -181,7 +181,7 @@ impl Index {
         requires key { IsKeyOf self.old.meaning name.bytes.items name.key }
         requires bound { at ≤ length (sorted_names self.old) }
         requires new { ¬ Contains self.old.arrivals name.bytes.items }
-        requires place { IsPlaceOf (order_of self.old) name.bytes.items true (sorted_names self.old) at }
+        requires place { IsPlaceOf (λ other. order_of self.old other name.bytes.items) true (sorted_names self.old) at }
         ensures added { OnOk result (self.new ≡ with_name name.bytes.items self.old) }
         ensures unchanged { OnErr result (self.new ≡ self.old) }
     {
@@ -194,8 +194,8 @@ impl Index {
     /// Whether a name is there, byte for byte. The places are those of the names that are equal to it.
     fn holds(&self, places: &Range<usize>, name: &[u8]) -> bool
         requires bound { places.now.end ≤ length (sorted_names self.now) }
-        requires start { IsPlaceOf (order_of self.now) name.now false (sorted_names self.now) places.now.start }
-        requires end { IsPlaceOf (order_of self.now) name.now true (sorted_names self.now) places.now.end }
+        requires start { IsPlaceOf (λ other. order_of self.now other name.now) false (sorted_names self.now) places.now.start }
+        requires end { IsPlaceOf (λ other. order_of self.now other name.now) true (sorted_names self.now) places.now.end }
         ensures { IsTrue result ↔ Contains self.now.arrivals name.now }
     {
         for place in places.start..places.end {
@@ -212,8 +212,8 @@ impl Index {
         requires { IsKeyOf self.now.meaning sought.now.bytes.now sought.now.key }
         ensures range { result.start ≤ result.end }
         ensures bound { result.end ≤ length (sorted_names self.now) }
-        ensures start { IsPlaceOf (order_of self.now) sought.now.bytes.now false (sorted_names self.now) result.start }
-        ensures end { IsPlaceOf (order_of self.now) sought.now.bytes.now true (sorted_names self.now) result.end }
+        ensures start { IsPlaceOf (λ other. order_of self.now other sought.now.bytes.now) false (sorted_names self.now) result.start }
+        ensures end { IsPlaceOf (λ other. order_of self.now other sought.now.bytes.now) true (sorted_names self.now) result.end }
         ensures equal { slice_range (sorted_names self.now) result.start result.end ≡ equal_names (order_of self.now) sought.now.bytes.now (sorted_names self.now) }
         ensures few { (digits : ℕ) → length (sorted_names self.now) < 2 ^ digits → count.new ≤ count.old + 2 * digits }
     {
@@ -226,7 +226,7 @@ impl Index {
     fn place(&self, sought: &Sought<'_>, past_equal: bool, count: &mut usize) -> usize
         requires { IsKeyOf self.now.meaning sought.now.bytes.now sought.now.key }
         ensures bound { result ≤ length (sorted_names self.now) }
-        ensures place { IsPlaceOf (order_of self.now) sought.now.bytes.now past_equal (sorted_names self.now) result }
+        ensures place { IsPlaceOf (λ other. order_of self.now other sought.now.bytes.now) past_equal (sorted_names self.now) result }
         ensures few { (digits : ℕ) → length (sorted_names self.now) < 2 ^ digits → count.new ≤ count.old + digits }
     {
         let mut low = 0;

@@ -1,1 +1,3 @@
 pub mod NamesLemmas
+pub mod SearchLemmas
+pub mod PlaceLemmas

@@ -13,7 +13,7 @@ use Rattle.std.specs.declared.cmp.Ordering.TheVariants.{Equal}
 use Rattle.collate_names.specs.Names.{TextOrder, in_order}
 use Rattle.collate_index.specs.Meaning.{Meaning, order_by}
 use Rattle.collate_index.specs.Keys.{IsKeyOf}
-use Rattle.collate_index.specs.Search.{IsPlaceOf, stands_before}
+use Rattle.collate_names.specs.Search.{IsPlaceOf, stands_before}
 use Rattle.collate_index.specs.Catalogue.{Catalogue, AreDistinct, sorted_names, order_of}
 use Rattle.std.specs.declared.cmp.Ordering.{Ordering}
 use Rattle.collate_index.specs.declared.key.IndexKey.{IndexKey}
@@ -21,8 +21,8 @@ use Rattle.collate_index.specs.Index.{text_of, names_at, meaning_inside, arrival
 use Rattle.collate_index.specs.declared.index.Name.{Name}
 use Rattle.collate_index.specs.declared.index.Index.TheInside.{Inside}
 use Rattle.collate_index.proofs.order.NameOrderLemmas.{order_total}
-use Rattle.collate_names.proofs.NamesLemmas.{in_order_is_permutation, length-in_order, in_order_more}
-use Rattle.collate_index.proofs.search.SearchLemmas.{after_at}
+use Rattle.collate_names.proofs.NamesLemmas.{in_order_is_permutation, length-in_order}
+use Rattle.collate_names.proofs.PlaceLemmas.{in_order_append}
 
 -- ---- places stay where they are when one more name arrives
 
@@ -45,7 +45,7 @@ names_at_more arrivals text places at h =
     ∙ ap (λ names. take at (map f places) ++ text ∷ names) back
 
 -- one more name at its place
-pub kept_more : (s : Inside) → IsKept s → (names : Vec Name Global) (order : Vec ℕ Global) (n : Name) (at : ℕ) → names.items ≡ s.names.items ++ n ∷ [] → order.items ≡ insert s.order.items at (length s.names.items) → at ≤ length s.names.items → IsKeyOf (meaning_inside s) (text_of n) n.key → (Contains (arrivals_inside s) (text_of n) → ⊥) → IsPlaceOf (order_by (meaning_inside s)) (text_of n) true (in_order (order_by (meaning_inside s)) (arrivals_inside s)) at → IsKept (record s { names = names; order = order })
+pub kept_more : (s : Inside) → IsKept s → (names : Vec Name Global) (order : Vec ℕ Global) (n : Name) (at : ℕ) → names.items ≡ s.names.items ++ n ∷ [] → order.items ≡ insert s.order.items at (length s.names.items) → at ≤ length s.names.items → IsKeyOf (meaning_inside s) (text_of n) n.key → (Contains (arrivals_inside s) (text_of n) → ⊥) → IsPlaceOf (λ other. order_by (meaning_inside s) other (text_of n)) true (in_order (order_by (meaning_inside s)) (arrivals_inside s)) at → IsKept (record s { names = names; order = order })
 kept_more s kept names order n at e f l key absent place =
     let m : Meaning = meaning_inside s in
     let arrivals : List (List ℕ) = arrivals_inside s in
@@ -56,7 +56,7 @@ kept_more s kept names order n at e f l key absent place =
     let here : (p : ℕ) → p < length s.names.items → p < length names.items = λ p h. omega (arith, longer) in
     let kept_within : All (λ p. p < length names.items) s.order.items = All-weaker (λ p. p < length s.names.items) (λ p. p < length names.items) here s.order.items kept.within in
     let within_arrivals : All (λ p. p < length arrivals) s.order.items = subst (λ k. All (λ p. p < k) s.order.items) (sym many) kept.within in
-    let listed_many : length (in_order R arrivals) ≡ length arrivals = length-in_order R (order_total m) arrivals in
+    let listed_many : length (in_order R arrivals) ≡ length arrivals = length-in_order R arrivals in
     record {
       plain = kept.plain;
       simple = kept.simple;
@@ -72,14 +72,13 @@ kept_more s kept names order n at e f l key absent place =
           ∙ ap (names_at (arrivals ++ text_of n ∷ [])) (f ∙ ap (insert s.order.items at) (sym many))
           ∙ names_at_more arrivals (text_of n) s.order.items at within_arrivals
           ∙ ap (λ names. insert names at (text_of n)) kept.sorted
-          ∙ sym (after_at R (text_of n) (in_order R arrivals) at (omega arith) place)
-          ∙ sym (in_order_more R (order_total m) arrivals (text_of n))
+          ∙ sym (in_order_append R (order_total m) arrivals (text_of n) at place)
           ∙ sym (ap (in_order R) arrived);
     }
 
 -- as many names stand in order as arrived
 pub length_listed : (now : Catalogue) → length (sorted_names now) ≡ length now.arrivals
-length_listed now = length-in_order (order_of now) (order_total now.meaning) now.arrivals
+length_listed now = length-in_order (order_of now) now.arrivals
 
 module _ (s : Inside) (kept : IsKept s) where
   -- as many places as names
@@ -87,7 +86,7 @@ module _ (s : Inside) (kept : IsKept s) where
   length_order =
       sym (length-map s.order.items (λ place. get_or (arrivals_inside s) place []))
       ∙ ap length kept.sorted
-      ∙ length-in_order (order_by (meaning_inside s)) (order_total (meaning_inside s)) (arrivals_inside s)
+      ∙ length-in_order (order_by (meaning_inside s)) (arrivals_inside s)
       ∙ length-map s.names.items text_of
 
   -- a place of the order is that of a name
@@ -135,15 +134,15 @@ module _ (s : Inside) (kept : IsKept s) where
 pub arrived_from_listed : (now : Catalogue) (text : List ℕ) (k : ℕ) → slice_get (sorted_names now) k ≡ Some text → Contains now.arrivals text
 arrived_from_listed now text k e =
     let names : List (List ℕ) = sorted_names now in
-    let moved : IsPermutation names now.arrivals = IsPermutation-sym now.arrivals names (in_order_is_permutation (order_of now) (order_total now.meaning) now.arrivals) in
+    let moved : IsPermutation names now.arrivals = IsPermutation-sym now.arrivals names (in_order_is_permutation (order_of now) now.arrivals) in
     Contains-permutation names now.arrivals text moved (k, slice_get_within names k text e, get_or_from_slice_get names k text text e)
 
 -- a name that has arrived stands between the places of the equal ones
-pub listed_from_arrived : (now : Catalogue) (text : List ℕ) (start end : ℕ) → end ≤ length (sorted_names now) → IsPlaceOf (order_of now) text false (sorted_names now) start → IsPlaceOf (order_of now) text true (sorted_names now) end → Contains now.arrivals text → (k : ℕ) × (start ≤ k) × (k < end) × (slice_get (sorted_names now) k ≡ Some text)
+pub listed_from_arrived : (now : Catalogue) (text : List ℕ) (start end : ℕ) → end ≤ length (sorted_names now) → IsPlaceOf (λ other. order_of now other text) false (sorted_names now) start → IsPlaceOf (λ other. order_of now other text) true (sorted_names now) end → Contains now.arrivals text → (k : ℕ) × (start ≤ k) × (k < end) × (slice_get (sorted_names now) k ≡ Some text)
 listed_from_arrived now text start end l s e h =
     let names : List (List ℕ) = sorted_names now in
     let R : TextOrder = order_of now in
-    let found : Contains names text = Contains-permutation now.arrivals names text (in_order_is_permutation R (order_total now.meaning) now.arrivals) h in
+    let found : Contains names text = Contains-permutation now.arrivals names text (in_order_is_permutation R now.arrivals) h in
     let k : ℕ = found.0 in
     let level : R (get_or names k text) text ≡ Equal = ap (λ other. R other text) found.2 ∙ tied_itself (order_total now.meaning) text in
     let past_start : start ≤ k = ⊎_elim (λ (b : k < start). absurd (true≢false (sym (s.0 k text (omega arith) b) ∙ ap (stands_before false) level))) (λ (b : start ≤ k). b) (cases_lt k start) in
