@@ -1,3 +1,4 @@
+pub mod ChangeLemmas
 pub mod NamesLemmas
-pub mod SearchLemmas
 pub mod PlaceLemmas
+pub mod SearchLemmas

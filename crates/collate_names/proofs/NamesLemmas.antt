@@ -100,11 +100,12 @@ module _ {A : Type 0} (R : A → A → Ordering) (o : IsTotalOrder R) where
   -- ---- sorted
 
   -- x isn't above the first of these
-  abbrev starts_above : A → List A → Type 0
+  abbrev pub starts_above : A → List A → Type 0
   starts_above x [] = Unit {0}
   starts_above x (y ∷ ys) = is_greater (R x y) ≡ false
 
-  abbrev Rises : List A → Type 0
+  -- none of these is above the next
+  abbrev pub Rises : List A → Type 0
   Rises [] = Unit {0}
   Rises (x ∷ xs) = starts_above x xs × Rises xs
 
@@ -125,7 +126,7 @@ module _ {A : Type 0} (R : A → A → Ordering) (o : IsTotalOrder R) where
       [ true ↦ λ e. (starts_above-placed_before y x ys (not_both x y e) r.0, Rises-placed_before x ys r.1) | false ↦ λ e. (e, r) ]
       in step (is_greater (R x y)) refl
 
-  Rises-in_order : (xs : List A) → Rises (in_order R xs)
+  pub Rises-in_order : (xs : List A) → Rises (in_order R xs)
   unfolding in_order
   Rises-in_order [] = tt
   Rises-in_order (x ∷ xs) = Rises-placed_before x (in_order R xs) (Rises-in_order xs)
@@ -172,7 +173,7 @@ module _ {A : Type 0} (R : A → A → Ordering) (o : IsTotalOrder R) where
   NotBelowAll y zs = All (λ z. is_greater (R y z) ≡ false) zs
 
   -- the first of elements in order isn't above any other
-  first_upto : (y : A) (zs : List A) → starts_above y zs → Rises zs → NotBelowAll y zs
+  pub first_upto : (y : A) (zs : List A) → starts_above y zs → Rises zs → NotBelowAll y zs
   first_upto y [] h r = All-nil (λ z. is_greater (R y z) ≡ false)
   first_upto y (z ∷ zs) h r =
       All-cons (λ w. is_greater (R y w) ≡ false) z zs h
