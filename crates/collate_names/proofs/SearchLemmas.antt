@@ -1,5 +1,5 @@
 -- a search by halves in a list in order: what one comparison tells, how far the search has come, and the part that is equal; compared says how an element compares with what is looked for
-use Rattle.std.proofs.Common.{◌≡◌, ℕ, zero, suc, ◌+◌, ◌-◌, ◌*◌, ◌/◌, ◌^◌, ◌<◌, ◌≤◌, Bool, true, false, cond, List, [], ◌∷◌, ◌++◌, length, take, drop, get_or, slice_range, refl, sym, ap, ◌∙◌, subst, arith, true≢false, pow-suc, ⊎_elim}
+use Rattle.std.proofs.Common.{◌≡◌, ℕ, zero, suc, ◌+◌, ◌-◌, ◌*◌, ◌/◌, ◌^◌, ◌<◌, ◌≤◌, Bool, true, false, cond, not, ◌&&◌, List, [], ◌∷◌, ◌++◌, length, take, drop, get_or, slice_range, refl, sym, ap, ◌∙◌, subst, arith, true≢false, pow-suc, ⊎_elim}
 use Rattle.std.proofs.lemmas.Bool.{cases_lt, false_from_ne_true}
 use Rattle.std.specs.List.{filter, All, AllWithin}
 use Rattle.std.specs.List.Sorted.{IsNonDecreasingBy, IsPartitionedBy}
@@ -11,7 +11,8 @@ use Rattle.std.proofs.lemmas.List.{get_or-take, get_or-drop, length-take-le, len
 use Rattle.std.proofs.lemmas.List.Elements.{All-head, All-tail, filter-append}
 use Rattle.std.proofs.lemmas.List.Edits.{split_between}
 use Rattle.std.proofs.lemmas.List.Sorted.{searchable_from_sorted}
-use Rattle.collate_names.specs.Names.{is_equal, in_order}
+use Rattle.std.proofs.Math.Bool.{and-false}
+use Rattle.collate_names.specs.Names.{is_less, is_greater, is_equal, in_order}
 use Rattle.collate_names.specs.Search.{stands_before, IsPlaceOf}
 use Rattle.collate_names.proofs.NamesLemmas.{in_order_is_sorted}
 
@@ -129,13 +130,15 @@ ends_ordered compared [] start end l s e = omega arith
 ends_ordered compared (x ∷ xs) start end l s e =
     ⊎_elim (λ (h : end < start). absurd (both_ways (compared (get_or (x ∷ xs) end x)) (s.0 end x (omega arith) h) (e.1 end x (omega arith) (omega arith)))) (λ (h : start ≤ end). h) (cases_lt end start)
 
-filter_all : {A : Type 0} (p : A → Bool) (xs : List A) → All (λ x. p x ≡ true) xs → filter p xs ≡ xs
+-- all pass
+pub filter_all : {A : Type 0} (p : A → Bool) (xs : List A) → All (λ x. p x ≡ true) xs → filter p xs ≡ xs
 filter_all p [] h = refl
 filter_all p (x ∷ xs) h =
     ap (λ b. cond b (x ∷ filter p xs) (filter p xs)) (All-head (λ y. p y ≡ true) x xs h)
     ∙ ap (λ ys. x ∷ ys) (filter_all p xs (All-tail (λ y. p y ≡ true) x xs h))
 
-filter_none : {A : Type 0} (p : A → Bool) (xs : List A) → All (λ x. p x ≡ false) xs → filter p xs ≡ []
+-- none passes
+pub filter_none : {A : Type 0} (p : A → Bool) (xs : List A) → All (λ x. p x ≡ false) xs → filter p xs ≡ []
 filter_none p [] h = refl
 filter_none p (x ∷ xs) h =
     ap (λ b. cond b (x ∷ filter p xs) (filter p xs)) (All-head (λ y. p y ≡ false) x xs h)
@@ -197,3 +200,65 @@ equal_part compared xs start end l k s e =
     (λ i d low high. below_unequal (compared (get_or xs i d)) (s.0 i d low high))
     (λ i d low high. between_equal (compared (get_or xs i d)) (s.1 i d low (omega arith)) (e.0 i d (omega arith) high))
     (λ i d low high. above_unequal (compared (get_or xs i d)) (e.1 i d low high))
+
+-- ---- the elements between two
+
+below_first : (r : Ordering) → stands_before false r ≡ true → is_less r ≡ true
+below_first Less h = refl
+below_first Equal h = cc
+below_first Greater h = cc
+
+from_first : (r : Ordering) → stands_before false r ≡ false → is_less r ≡ false
+from_first Less h = cc
+from_first Equal h = refl
+from_first Greater h = refl
+
+upto_last : (r : Ordering) → stands_before true r ≡ true → is_greater r ≡ false
+upto_last Less h = refl
+upto_last Equal h = refl
+upto_last Greater h = cc
+
+above_last : (r : Ordering) → stands_before true r ≡ false → is_greater r ≡ true
+above_last Less h = cc
+above_last Equal h = cc
+above_last Greater h = refl
+
+is_between : Ordering → Ordering → Bool
+is_between r s = not (is_less r) && not (is_greater s)
+
+between_not_low : (r s : Ordering) → is_less r ≡ true → is_between r s ≡ false
+unfolding is_between
+between_not_low r s h = ap (λ b. not b && not (is_greater s)) h
+
+between_not_high : (r s : Ordering) → is_greater s ≡ true → is_between r s ≡ false
+unfolding is_between
+between_not_high r s h = ap (λ b. not (is_less r) && not b) h ∙ and-false (not (is_less r))
+
+between_both : (r s : Ordering) → is_less r ≡ false → is_greater s ≡ false → is_between r s ≡ true
+unfolding is_between
+between_both r s h k = ap (λ b. not b && not (is_greater s)) h ∙ ap not k
+
+-- first says how an element compares with the first of two, last with the last
+module _ {A : Type 0} (first last : A → Ordering) (xs : List A) (start end : ℕ) (s : IsPlaceOf first false xs start) (e : IsPlaceOf last true xs end) where
+  -- the elements from the first that isn't below the first of two to the first that is above the last are those between them, as names_between has them
+  pub between_part : start ≤ end → end ≤ length xs → slice_range xs start end ≡ filter (λ other. not (is_less (first other)) && not (is_greater (last other))) xs
+  unfolding is_between
+  between_part l k =
+      passing_part (λ other. not (is_less (first other)) && not (is_greater (last other))) xs start end l k
+      (λ i d low high. between_not_low (first (get_or xs i d)) (last (get_or xs i d)) (below_first (first (get_or xs i d)) (s.0 i d low high)))
+      (λ i d low high.
+      between_both (first (get_or xs i d)) (last (get_or xs i d))
+      (from_first (first (get_or xs i d)) (s.1 i d low (omega arith)))
+      (upto_last (last (get_or xs i d)) (e.0 i d (omega arith) high)))
+      (λ i d low high. between_not_high (first (get_or xs i d)) (last (get_or xs i d)) (above_last (last (get_or xs i d)) (e.1 i d low high)))
+
+  -- no element is between them where the place past the last isn't behind the place of the first
+  pub between_none : end ≤ start → filter (λ other. not (is_less (first other)) && not (is_greater (last other))) xs ≡ []
+  unfolding is_between
+  between_none l =
+      filter_none (λ other. not (is_less (first other)) && not (is_greater (last other))) xs
+      (λ i d h.
+      ⊎_elim
+      (λ (b : i < end). between_not_low (first (get_or xs i d)) (last (get_or xs i d)) (below_first (first (get_or xs i d)) (s.0 i d (omega arith) (omega arith))))
+      (λ (b : end ≤ i). between_not_high (first (get_or xs i d)) (last (get_or xs i d)) (above_last (last (get_or xs i d)) (e.1 i d b h)))
+      (cases_lt i end))
