@@ -1,14 +1,15 @@
 -- laws of elements in order: sorted, with the same elements, stable; and one more element at the end
 use Rattle.std.proofs.Common.{◌≡◌, ℕ, zero, suc, ◌+◌, ◌<◌, Bool, true, false, cond, not, ◌&&◌, List, [], ◌∷◌, ◌++◌, length, get_or, refl, sym, ap, ◌∙◌, subst, arith, add-one, true≢false, ◌≢◌}
-use Rattle.std.specs.List.{All, filter}
+use Rattle.std.specs.List.{All, AllPairs, filter}
 use Rattle.std.specs.List.Sorted.{IsPermutation, IsSorted, IsStable, ties}
 use Rattle.std.specs.Cmp.{IsTotalOrder}
 use Rattle.std.specs.Ordering.{is_lt, is_gt, ordering_reverse}
 use Rattle.std.specs.declared.cmp.Ordering.{Ordering}
 use Rattle.std.specs.declared.cmp.Ordering.TheVariants.{Less, Equal, Greater}
 use Rattle.std.proofs.lemmas.Cmp.{upto}
-use Rattle.std.proofs.lemmas.List.Sorted.{IsPermutation-refl, IsPermutation-cons, IsPermutation-trans, IsPermutation-sym, IsPermutation-middle}
-use Rattle.std.proofs.lemmas.List.Elements.{All-nil, All-cons, All-weaker}
+use Rattle.std.proofs.lemmas.List.Sorted.{All-permutation, IsPermutation-refl, IsPermutation-cons, IsPermutation-trans, IsPermutation-sym, IsPermutation-middle}
+use Rattle.std.proofs.lemmas.List.Elements.{All-nil, All-cons, All-head, All-tail, All-weaker}
+use Rattle.std.proofs.lemmas.List.Kept.{AllPairs-cons}
 use Rattle.collate_names.specs.Insertion.{IsInserted}
 use Rattle.collate_names.specs.Names.{is_greater, placed_before, in_order}
 
@@ -70,6 +71,30 @@ module _ {A : Type 0} (R : A → A → Ordering) where
   in_order_is_permutation (x ∷ xs) =
       IsPermutation-trans (x ∷ xs) (x ∷ in_order R xs) (placed_before R x (in_order R xs))
       (IsPermutation-cons x xs (in_order R xs) (in_order_is_permutation xs)) (IsPermutation-placed_before x (in_order R xs))
+
+  -- ---- the same pairs
+
+  placed_before_pairs : (P : A → A → Type 0) → ((x y : A) → P x y → P y x) → (x : A) (ys : List A) → All (P x) ys → AllPairs P ys → AllPairs P (placed_before R x ys)
+  unfolding placed_before
+  placed_before_pairs P turns x [] h r = AllPairs-cons P x [] h r
+  placed_before_pairs P turns x (y ∷ ys) h r =
+      let head : All (P y) ys = λ k d l. r 0 (suc k) d (omega arith) (omega arith) in
+      let tail : AllPairs P ys = λ i j d l m. r (suc i) (suc j) d (omega arith) (omega arith) in
+      let later : All (P y) (placed_before R x ys) =
+      All-permutation (P y) (x ∷ ys) (placed_before R x ys) (IsPermutation-placed_before x ys) (All-cons (P y) x ys (turns x y (All-head (P x) y ys h)) head) in
+      elim (is_greater (R x y)) as (λ b. AllPairs P (cond b (y ∷ placed_before R x ys) (x ∷ y ∷ ys))) [
+        | true ↦ AllPairs-cons P y (placed_before R x ys) later (placed_before_pairs P turns x ys (All-tail (P x) y ys h) tail)
+        | false ↦ AllPairs-cons P x (y ∷ ys) h r
+      ]
+
+  -- what holds both ways of each two that arrived, as that they differ, holds of each two in order
+  pub in_order_pairs : (P : A → A → Type 0) → ((x y : A) → P x y → P y x) → (xs : List A) → AllPairs P xs → AllPairs P (in_order R xs)
+  unfolding in_order
+  in_order_pairs P turns [] h = h
+  in_order_pairs P turns (x ∷ xs) h =
+      let head : All (P x) xs = λ k d l. h 0 (suc k) d (omega arith) (omega arith) in
+      let tail : AllPairs P xs = λ i j d l m. h (suc i) (suc j) d (omega arith) (omega arith) in
+      placed_before_pairs P turns x (in_order R xs) (All-permutation (P x) xs (in_order R xs) (in_order_is_permutation xs) head) (in_order_pairs P turns xs tail)
 
 module _ {A : Type 0} (R : A → A → Ordering) (o : IsTotalOrder R) where
   pub turned : (x y : A) (r : Ordering) → R y x ≡ r → R x y ≡ ordering_reverse r

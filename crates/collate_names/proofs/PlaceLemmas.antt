@@ -1,11 +1,11 @@
 -- where an element stands in a list in order: where a new one goes, where one is found, and what is left without it
-use Rattle.std.proofs.Common.{◌≡◌, ℕ, zero, suc, ◌+◌, ◌<◌, ◌≤◌, Bool, true, false, cond, List, [], ◌∷◌, ◌++◌, length, map, get_or, refl, sym, ap, ◌∙◌, arith, true≢false, ⊎_elim}
-use Rattle.std.specs.List.{All, AllWithin, HoldsAt, Contains, filter, insert, remove}
+use Rattle.std.proofs.Common.{◌≡◌, ℕ, zero, suc, ◌+◌, ◌<◌, ◌≤◌, Bool, true, false, cond, List, [], ◌∷◌, ◌++◌, length, map, get_or, refl, sym, ap, ◌∙◌, arith, true≢false, ◌≢◌, ⊎_elim}
+use Rattle.std.specs.List.{All, AllPairs, AllWithin, HoldsAt, Contains, filter, insert, remove}
 use Rattle.std.specs.List.Sorted.{IsPartitionedBy, IsPermutation}
 use Rattle.std.specs.Cmp.{IsTotalOrder}
 use Rattle.std.specs.declared.cmp.Ordering.{Ordering}
 use Rattle.std.specs.declared.cmp.Ordering.TheVariants.{Less, Equal, Greater}
-use Rattle.std.proofs.lemmas.Bool.{cases_lt}
+use Rattle.std.proofs.lemmas.Bool.{cases_lt, true_from_ne_false}
 use Rattle.std.proofs.lemmas.Cmp.{tied_itself}
 use Rattle.std.proofs.lemmas.List.{length-map, get_or-map, get_or_default}
 use Rattle.std.proofs.lemmas.List.Elements.{Contains-get_or}
@@ -104,3 +104,11 @@ remove_is_filter p (x ∷ xs) (suc at) l before here behind =
     ap (λ ys. x ∷ ys)
     (remove_is_filter p xs at (omega arith) (λ k d low high. before (suc k) d (omega arith) (omega arith)) here (λ k d low high. behind (suc k) d (omega arith) (omega arith)))
     ∙ sym (ap (λ b. cond b (x ∷ filter p xs) (filter p xs)) (before 0 x (omega arith) (omega arith)))
+
+-- the same where no two elements are the same and p fails at one alone
+pub remove_distinct : {A : Type 0} (p : A → Bool) (xs : List A) (at : ℕ) → at < length xs → AllPairs (λ x y. x ≢ y) xs → HoldsAt (λ x. p x ≡ false) xs at → ((x y : A) → p x ≡ false → p y ≡ false → x ≡ y) → remove xs at ≡ filter p xs
+remove_distinct p xs at l distinct here alone =
+    remove_is_filter p xs at l
+    (λ k d low high. true_from_ne_false (p (get_or xs k d)) (λ h. distinct k at d high l (alone (get_or xs k d) (get_or xs at d) h (here d))))
+    here
+    (λ k d low high. true_from_ne_false (p (get_or xs k d)) (λ h. distinct at k d (omega arith) high (alone (get_or xs at d) (get_or xs k d) (here d) h)))
