@@ -1,8 +1,7 @@
 -- Tables that are accepted have no first fault.
-use Rattle.std.proofs.Common.{◌≡◌, ℕ, ◌<◌, sym, ◌∙◌, arith, Option, Some, None, ⊎_elim}
-use Rattle.std.specs.Prelude.{◌⊎◌, true, false, IfSome, MatchOption}
+use Rattle.std.proofs.Common.{ℕ, sym, ◌∙◌, Option, Some, None, ⊎_elim}
+use Rattle.std.specs.Prelude.{IfSome, MatchOption}
 use Rattle.std.proofs.lemmas.Bool.{true≢false}
-use Rattle.std.specs.Char.{IsScalar}
 use Rattle.icu_normalizer_core.specs.declared.canonical.tables.CanonicalFault.{CanonicalFault}
 use Rattle.icu_normalizer_core.specs.declared.canonical.tables.CanonicalFault.TheVariants.{BadValue, BadList, Loop, BuiltIn, BadPair}
 use Rattle.icu_normalizer_core.specs.CanonicalLists.{CanonicalLists}

@@ -1,15 +1,19 @@
 -- Collators and normalisers over compiled tables are made, unless memory is refused.
-use Rattle.std.proofs.Common.{◌≡◌, ℕ, List, Option, Some, None, Bool, true, false, refl, sym, ap, subst, ◌∙◌, inl, inr, ⊎_elim}
-use Rattle.std.specs.Prelude.{◌⊎◌, is_some, Result, Ok, Err, MatchResult, MatchOption}
+use Rattle.std.proofs.Common.{◌≡◌, List, Option, Some, None, Bool, refl, sym, ap, subst, ◌∙◌, inl, inr, ⊎_elim}
+use Rattle.std.specs.Prelude.{is_some, Result, Ok, Err, MatchResult, MatchOption}
+use Rattle.icu_normalizer_core.specs.Canonical.{IsCanonical}
 use Rattle.icu_normalizer_core.specs.CanonicalMeaning.{lists_of, meaning}
 use Rattle.icu_normalizer_core.specs.CompatibilityLoading.{BothCheckedMemoryAside}
 use Rattle.icu_normalizer_core.specs.CompatibilityMeaning.{CompatibilityTables, compatibility_meaning, nfkd_lists}
+use Rattle.icu_normalizer_core.specs.Forming.{IsSaidOver}
 use Rattle.icu_normalizer_core.specs.Loading.{CheckedMemoryAside}
 use Rattle.icu_normalizer_core.specs.Sameness.{AreSameComposing}
 use Rattle.icu_normalizer_core.specs.declared.canonical.tables.CanonicalTables.{CanonicalTables}
 use Rattle.icu_normalizer_core.specs.declared.compatibility.tables.NfkdTables.{NfkdTables}
 use Rattle.icu_normalizer_core.specs.declared.provider.error.DataError.{DataError}
 use Rattle.icu_normalizer_core.specs.declared.provider.error.DataError.TheVariants.{Canonical as Fault, Invalid, Missing, Memory as NoMemory}
+use Rattle.icu_normalizer_core.proofs.AcceptedPairs.{canonical as accepted_canonical}
+use Rattle.icu_normalizer_core.proofs.AcceptedWords.{compatible}
 use Rattle.icu_normalizer_core.proofs.builder.BuiltTableLemmas.{fault_refutes}
 use Rattle.icu_normalizer.specs.NormalizerTables.{IsMadeOfBoth, IsMadeOfCanonical, NormalizerTables, both_tables}
 use Rattle.icu_collator_types.specs.declared.options.CollatorOptions.{CollatorOptions}
@@ -17,7 +21,7 @@ use Rattle.icu_collator_types.specs.declared.options.CollatorPreferences.{Collat
 use Rattle.icu_collator_core.specs.TableSettings.{has_bit}
 use Rattle.icu_collator_core.specs.declared.tables.data.CollationData.{CollationData}
 use Rattle.icu_collator_core.specs.declared.tables.reordering.CollationReordering.{CollationReordering}
-use Rattle.icu_collator.specs.Collators.{CollatorParts, IsMade, MadeMemoryAside, source_collation}
+use Rattle.icu_collator.specs.Collators.{CollatorParts, IsMade, MadeMemoryAside}
 use Rattle.icu_collator.specs.declared.comparison.error.CollatorError.{CollatorError}
 use Rattle.icu_collator.specs.declared.comparison.error.CollatorError.TheVariants.{Data, Memory, Table}
 use Rattle.icu_collator.specs.Loading.{loaded_choices, loaded_local, loaded_shared, loaded_source, loaded_tables, loaded_where}
@@ -163,6 +167,20 @@ module _ (records : List Record) (provided : Provided) (accepted : AreAccepted r
         full = λ c scalar. is.compatibility.meant.full c scalar;
       })
 
+  -- which keep what data of both kinds promise
+  promise_at : (canonical : CanonicalTables) (nfkd : Option NfkdTables) → MatchOption nfkd ⊥ (BothAside canonical) → IsCanonical (meaning canonical)
+  promise_at canonical None none = absurd none
+  promise_at canonical (Some nfkd) aside =
+      subst (λ (both : CompatibilityTables). IsCanonical (meaning both.canonical)) (sym (same_both canonical nfkd aside))
+      (accepted_canonical (lists_of provided.canonical) is.canonical.accepted)
+
+  over_at : (canonical : CanonicalTables) (nfkd : Option NfkdTables) → MatchOption nfkd ⊥ (BothAside canonical)
+      → IsSaidOver (meaning canonical) (elim nfkd [ None ↦ meaning canonical | Some words ↦ compatibility_meaning (both_tables canonical words) ])
+  over_at canonical None none = absurd none
+  over_at canonical (Some nfkd) aside =
+      subst (λ (both : CompatibilityTables). IsSaidOver (meaning both.canonical) (compatibility_meaning both)) (sym (same_both canonical nfkd aside))
+      (inr (compatible (lists_of provided.canonical) (nfkd_lists provided.compatibility) is.canonical.accepted is.compatibility.accepted))
+
   refused_both : (error : DataError) → BothCheckedMemoryAside (Err error) (Ok (both_tables provided.canonical provided.compatibility)) → error ≡ NoMemory
   refused_both error (inl none) = ap (λ (r : Result CompatibilityTables DataError). error_of r) none
   refused_both (Missing name) (inr none) = absurd none
@@ -181,4 +199,6 @@ module _ (records : List Record) (provided : Provided) (accepted : AreAccepted r
   compatibility_made (Ok tables) aside = record {
     canonical = canonical_at tables.canonical tables.nfkd aside;
     both = both_at tables.canonical tables.nfkd aside;
+    promise = promise_at tables.canonical tables.nfkd aside;
+    over = over_at tables.canonical tables.nfkd aside;
   }

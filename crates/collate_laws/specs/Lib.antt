@@ -1,2 +1,4 @@
+pub mod Alike
 pub mod Loads
 pub mod OverRecords
+pub mod Unchanged

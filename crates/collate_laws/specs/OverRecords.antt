@@ -1,8 +1,9 @@
 -- Collators and normalisers over the tables of a records file.
-use Rattle.std.specs.Prelude.{◌≡◌, ℕ, List, [], ◌∷◌, Some, None}
+use Rattle.std.specs.Prelude.{◌≡◌, ℕ, List, [], ◌∷◌, None}
 use Rattle.std.specs.Char.{IsScalar}
-use Rattle.icu_normalizer_core.specs.Canonical.{Canonical, Leaves}
+use Rattle.icu_normalizer_core.specs.Canonical.{Canonical, IsCanonical, Leaves}
 use Rattle.icu_normalizer_core.specs.CanonicalMeaning.{meaning}
+use Rattle.icu_normalizer_core.specs.Forming.{IsSaidOver}
 use Rattle.icu_normalizer_core.specs.Sameness.{AreSameComposing}
 use Rattle.icu_normalizer.specs.NormalizerTables.{NormalizerTables, tables_meaning}
 use Rattle.icu_collator_types.specs.Options.{resolved_options}
@@ -33,7 +34,9 @@ pub record AreBothOf (records : List Record) (canonical : Canonical) : Type 0 wh
   pub class : (c : ℕ) → IsScalar c → canonical.class c ≡ class_of records c
   pub full : (c : ℕ) → IsScalar c → Leaves (any_step records) (c ∷ []) (canonical.full c)
 
--- a normaliser to compatibility forms says of mappings of both kinds what a file says
+-- a normaliser to compatibility forms says of mappings of both kinds what a file says, and keeps what data of both kinds promise
 pub record IsCompatibilityNormalizerOf (records : List Record) (tables : NormalizerTables) : Type 0 where
   pub canonical : AreSameComposing (meaning tables.canonical) (canonical_of records)
   pub both : AreBothOf records (tables_meaning tables)
+  pub promise : IsCanonical (meaning tables.canonical)
+  pub over : IsSaidOver (meaning tables.canonical) (tables_meaning tables)

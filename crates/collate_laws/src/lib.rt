@@ -24,6 +24,10 @@ ghost use Rattle.collate_rules.specs.Meaning.{collation_of, settings_of};
 ghost use Rattle.collate_laws.specs.Loads.{canonical_loads, compatibility_loads, reordering_load, tailoring_load};
 ghost use Rattle.collate_laws.specs.OverRecords.{IsCanonicalNormalizerOf, IsCollatorOf, IsCompatibilityNormalizerOf};
 
+pub mod alike;
+pub mod keys;
+pub mod unchanged;
+
 /// `Collator::try_new_unstable` over a provider of compiled tables is refused for want of memory alone; else the collator
 /// says what the file says, and the options that the caller leaves open are the file's.
 pub fn compiled_tables_make_collators()

@@ -1,0 +1,5 @@
+use Rattle.collate_laws.proofs.SoundLemmas.{accepted_sound}
+use Rattle.collate_laws.proofs.keys.accepted_records_are_sound.Goals as goal
+
+pub returns : goal.returns
+returns c = λ records accepted. accepted_sound records accepted
