@@ -1,0 +1,38 @@
+-- lists in a row with the ranks at which they begin
+use Rattle.std.specs.Prelude.{◌≡◌, ℕ, ◌+◌, ◌^◌, ◌<◌, ◌≤◌, List, [], length, slice_index, vec_capacity}
+use Rattle.std.specs.Global.{Vec}
+use Rattle.collate_places.specs.Lists.{joined, lengths, rank_of, starts_of, AreRoomy}
+use Rattle.collate_places.specs.declared.lists.TheConstants.{FULL}
+use Rattle.collate_places.specs.declared.parts.Parts.{Parts}
+
+-- the ranks and the count are those of the lists, each list has its memory, and the spare one is empty
+pub record IsSound (parts : Parts) : Type 0 where
+  pub starts : parts.starts.items ≡ starts_of parts.lists.items
+  pub count : parts.count ≡ length (joined parts.lists.items)
+  pub room : AreRoomy parts.lists.items
+  pub spare : parts.spare.items ≡ []
+
+-- one value more takes no memory: there is a spare list, and room for it and its rank
+pub record HasRoom (parts : Parts) : Type 0 where
+  pub spare : FULL ≤ vec_capacity parts.spare
+  pub lists : length parts.lists.items < vec_capacity parts.lists
+  pub starts : length parts.starts.items < vec_capacity parts.starts
+  pub count : parts.count + 1 < 2 ^ 64
+
+-- they hold the same
+pub record IsSame (old new : Parts) : Type 0 where
+  pub lists : new.lists.items ≡ old.lists.items
+  pub starts : new.starts.items ≡ old.starts.items
+  pub spare : new.spare.items ≡ old.spare.items
+  pub count : new.count ≡ old.count
+
+-- a rank is that of a place in a list, which is one of its values or behind the last
+pub record IsPlaceOf (lists : List (Vec ℕ)) (rank part place : ℕ) : Type 0 where
+  pub within : part < length lists
+  pub upto : place ≤ slice_index (lengths lists) part
+  pub ranked : rank_of lists part place ≡ rank
+
+-- and that list isn't full
+pub record IsFreeFor (lists : List (Vec ℕ)) (rank part place : ℕ) : Type 0 where
+  pub at : IsPlaceOf lists rank part place
+  pub space : slice_index (lengths lists) part < FULL
