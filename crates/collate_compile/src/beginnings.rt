@@ -116,7 +116,7 @@ fn add_character(
     ensures { OnOk result (characters.new.items
         ≡ with_character (is_begun (layer_of layer) (map said lines.now)) characters.old.items (Some c)) }
 {
-    let is_new = is_begun(lines, layer, c) && !is_among(c, characters.as_slice());
+    let is_new = !is_among(c, characters.as_slice()) && is_begun(lines, layer, c);
     if is_new {
         characters.push(c)?;
     }
@@ -144,7 +144,11 @@ fn add_found(
 /// The characters of which a layer has what is recorded of the texts that begin with them, each once.
 ///
 /// Errors: `AllocError` where memory is refused.
-pub fn beginnings(alloc: Global, lines: &[Record], layer: Layer) -> Result<Vec<char>, AllocError>
+pub(crate) fn beginnings(
+    alloc: Global,
+    lines: &[Record],
+    layer: Layer,
+) -> Result<Vec<char>, AllocError>
     requires accepted { AreAccepted (map said lines.now) }
     ensures characters { IfOk result
         (λ characters. AreBeginnings (layer_of layer) (map said lines.now) characters.items) }

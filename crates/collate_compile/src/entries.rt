@@ -21,7 +21,7 @@ use std::alloc::{AllocError, Global};
 
 /// What moves the primary of a range to its characters, 64 bits: the primary (32 bits), the first character (24), whether
 /// the lead is compressible (1), the step (7).
-pub fn offset_bits(lines: &[Record], range: Range) -> u64
+pub(crate) fn offset_bits(lines: &[Record], range: Range) -> u64
     ensures { result ≡ offset_bits (is_compressible_in (map said lines.now)) (span_of range) }
 {
     let lead = (range.primary >> 24) as u8;
@@ -60,7 +60,7 @@ fn offset_unless(lines: &[Record], is_recorded: bool, c: char) -> Option<u64>
 /// What accepted lines record of the texts that begin with a character.
 ///
 /// Errors: `AllocError` where memory is refused.
-pub fn entry_of<'a>(
+pub(crate) fn entry_of<'a>(
     alloc: Global,
     lines: &'a [Record],
     character: char,

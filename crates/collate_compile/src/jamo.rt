@@ -41,7 +41,10 @@ fn jamo_word(lines: &[Record], c: char) -> u32
 }
 
 /// The words of all jamo.
-pub fn jamo_words(alloc: Global, lines: &[Record]) -> Result<PackedVec<'static, u32>, AllocError>
+pub(crate) fn jamo_words(
+    alloc: Global,
+    lines: &[Record],
+) -> Result<PackedVec<'static, u32>, AllocError>
     requires { AreAccepted (map said lines.now) }
     ensures { IfOk result (AreJamoOf (map said lines.now)) }
 {

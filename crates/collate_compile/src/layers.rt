@@ -143,7 +143,7 @@ fn write_characters(
 /// The data of the root, as accepted lines give them, over a trie of this type.
 ///
 /// Errors: `AllocError` where memory is refused.
-pub fn write_root(
+pub(crate) fn write_root(
     alloc: Global,
     lines: &[Record],
     canonical: &CanonicalBorrowed<'_>,
@@ -164,7 +164,7 @@ pub fn write_root(
 /// The data of the tailoring, as accepted lines give them, over a trie of this type; none where no character needs it.
 ///
 /// Errors: `AllocError` where memory is refused.
-pub fn write_tailoring(
+pub(crate) fn write_tailoring(
     alloc: Global,
     lines: &[Record],
     canonical: &CanonicalBorrowed<'_>,

@@ -1,15 +1,15 @@
 //! Collation tables, compiled of the lines of a records file.
 #![tactic(auto)]
 
-pub mod beginnings;
+mod beginnings;
 pub mod by_lines;
-pub mod entries;
+mod entries;
 mod flags;
 mod gather;
-pub mod jamo;
+mod jamo;
 pub mod laws;
 mod layer_builder;
-pub mod layers;
+mod layers;
 mod reordering;
 pub mod set_lines;
 mod settings;
