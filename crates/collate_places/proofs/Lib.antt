@@ -1,2 +1,3 @@
+pub mod Renumbering
 pub mod Rows
 pub mod Places

@@ -1,5 +1,5 @@
 -- lists in a row that are seen as one
-use Rattle.std.specs.Prelude.{ℕ, ◌+◌, ◌-◌, ◌≤◌, List, [], ◌∷◌, ◌++◌, All, drop, flat_map, length, map, take, vec_capacity}
+use Rattle.std.specs.Prelude.{ℕ, ◌+◌, ◌-◌, ◌≤◌, List, [], ◌∷◌, ◌++◌, All, drop, flat_map, length, map, slice_index, take, vec_capacity}
 use Rattle.std.specs.Global.{Vec}
 use Rattle.collate_places.specs.declared.lists.TheConstants.{FULL}
 
@@ -34,3 +34,7 @@ lowered index starts = take index starts ++ map (λ start. start - 1) (drop inde
 -- no list holds more than a full one, and each has memory for a full one
 abbrev pub AreRoomy : List (Vec ℕ) → Type 0
 AreRoomy lists = All (λ list. (length list.items ≤ FULL) × (FULL ≤ vec_capacity list)) lists
+
+-- for each value the number that stands at it
+abbrev pub renumbered : List ℕ → List ℕ → List ℕ
+renumbered numbers values = map (λ value. slice_index numbers value) values

@@ -2,7 +2,8 @@
 //! behind it.
 #![tactic(auto)]
 
-ghost use Rattle.std.specs.Prelude.{◌≡◌, ◌<◌, ◌≤◌, ◌↔◌, [], length, Some, OnOk, OnErr, IsTrue, slice_get, insert, remove};
+ghost use Rattle.std.specs.Prelude.{◌≡◌, ◌<◌, ◌≤◌, ◌↔◌, [], All, length, Some, OnOk, OnErr, IsTrue, slice_get, insert, remove};
+ghost use Rattle.collate_places.specs.Lists.{renumbered};
 
 mod lists;
 mod parts;
@@ -92,5 +93,13 @@ impl PlaceList {
         ensures removed { self.new ≡ remove self.old rank }
     {
         self.parts.remove(rank)
+    }
+
+    /// Puts in place of each value the number that stands at it. It asks for no memory.
+    pub fn renumber(&mut self, numbers: &[usize])
+        requires { All (λ value. value < length numbers.now) self.old }
+        ensures { self.new ≡ renumbered numbers.now self.old }
+    {
+        self.parts.renumber(numbers);
     }
 }

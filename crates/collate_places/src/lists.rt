@@ -1,7 +1,7 @@
 //! Lists in a row, and the edits of one.
 
-ghost use Rattle.std.specs.Prelude.{◌≡◌, ◌+◌, ◌-◌, ◌<◌, ◌≤◌, [], drop, length, take, Some, insert, remove, slice_get, slice_index, slice_set, vec_capacity};
-ghost use Rattle.collate_places.specs.Lists.{joined, lengths, rank_of, starts_of, raised, lowered, AreRoomy};
+ghost use Rattle.std.specs.Prelude.{◌≡◌, ◌+◌, ◌-◌, ◌<◌, ◌≤◌, [], All, drop, length, take, Some, insert, remove, slice_get, slice_index, slice_set, vec_capacity};
+ghost use Rattle.collate_places.specs.Lists.{joined, lengths, rank_of, starts_of, raised, lowered, renumbered, AreRoomy};
 
 /// How many values a list holds at most. Each has memory for so many.
 pub(crate) const FULL: usize = 1024;
@@ -81,4 +81,28 @@ pub(crate) fn let_go(lists: &mut Vec<Vec<usize>>, part: usize)
     ensures room { AreRoomy lists.new.items }
 {
     let _ = lists.remove(part);
+}
+
+/// Puts in place of each value of a list the number that stands at it.
+fn renumber_list(list: &mut Vec<usize>, numbers: &[usize])
+    requires { All (λ value. value < length numbers.now) list.old.items }
+    ensures values { list.new.items ≡ renumbered numbers.now list.old.items }
+    ensures memory { vec_capacity list.new ≡ vec_capacity list.old }
+{
+    for value in list.iter_mut() {
+        *value = numbers[*value];
+    }
+}
+
+/// Puts in place of each value the number that stands at it.
+pub(crate) fn renumber(lists: &mut Vec<Vec<usize>>, numbers: &[usize])
+    requires room { AreRoomy lists.old.items }
+    requires numbers { All (λ value. value < length numbers.now) (joined lists.old.items) }
+    ensures values { joined lists.new.items ≡ renumbered numbers.now (joined lists.old.items) }
+    ensures starts { starts_of lists.new.items ≡ starts_of lists.old.items }
+    ensures room { AreRoomy lists.new.items }
+{
+    for part in 0..lists.len() {
+        renumber_list(&mut lists[part], numbers);
+    }
 }

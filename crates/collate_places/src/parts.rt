@@ -1,10 +1,10 @@
 //! Lists in a row that are seen as one, with the rank at which each begins.
 
-ghost use Rattle.std.specs.Prelude.{◌≡◌, ℕ, ◌+◌, ◌-◌, ◌<◌, ◌≤◌, [], length, Some, OnOk, insert, remove, slice_get, slice_index};
-ghost use Rattle.collate_places.specs.Lists.{joined, lengths};
+ghost use Rattle.std.specs.Prelude.{◌≡◌, ℕ, ◌+◌, ◌-◌, ◌<◌, ◌≤◌, [], All, length, Some, OnOk, insert, remove, slice_get, slice_index};
+ghost use Rattle.collate_places.specs.Lists.{joined, lengths, renumbered};
 ghost use Rattle.collate_places.specs.Parts.{IsSound, HasRoom, IsSame, IsPlaceOf, IsFreeFor};
 
-use crate::lists::{FULL, HALF, halve, let_go, put, take_out};
+use crate::lists::{FULL, HALF, halve, let_go, put, renumber, take_out};
 use crate::starts::{list_around, lower, raise};
 use std::alloc::{AllocError, Global};
 use std::mem;
@@ -162,5 +162,15 @@ impl Parts {
             let _ = self.starts.remove(part);
         }
         value
+    }
+
+    /// Puts in place of each value the number that stands at it.
+    pub(crate) fn renumber(&mut self, numbers: &[usize])
+        requires sound { IsSound self.old }
+        requires numbers { All (λ value. value < length numbers.now) (joined self.old.lists.items) }
+        ensures sound { IsSound self.new }
+        ensures values { joined self.new.lists.items ≡ renumbered numbers.now (joined self.old.lists.items) }
+    {
+        renumber(&mut self.lists, numbers);
     }
 }
