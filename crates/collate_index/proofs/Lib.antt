@@ -1,3 +1,2 @@
 pub mod order
-pub mod reading
 pub mod search

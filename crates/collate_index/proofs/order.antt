@@ -1,7 +1,3 @@
 -- how names compare
 pub mod FileSettingLemmas
 pub mod NameOrderLemmas
-pub mod SimpleKeyLemmas
-pub mod SimpleLevelLemmas
-pub mod SimpleOptionLemmas
-pub mod SimpleOrderLemmas

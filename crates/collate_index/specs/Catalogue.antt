@@ -1,5 +1,5 @@
 -- what an index is: what decides the order of its names, and the names as they arrived
-use Rattle.std.specs.Prelude.{◌≢◌, ℕ, List, [], ◌∷◌, ◌++◌}
+use Rattle.std.specs.Prelude.{◌≢◌, ℕ, List, [], ◌∷◌, ◌++◌, bytes_eq, filter, not}
 use Rattle.std.specs.List.{AllPairs}
 use Rattle.collate_index.specs.Meaning.{Meaning, meaning_of, order_by}
 use Rattle.collate_lines.specs.Record.{Record}
@@ -36,3 +36,7 @@ opened records preferences options =
 -- a catalogue in which a name has arrived
 abbrev pub with_name : List ℕ → Catalogue → Catalogue
 with_name name s = record s { arrivals = s.arrivals ++ name ∷ [] }
+
+-- a catalogue from which a name was taken
+abbrev pub without_name : List ℕ → Catalogue → Catalogue
+without_name name s = record s { arrivals = filter (λ other. not (bytes_eq other name)) s.arrivals }

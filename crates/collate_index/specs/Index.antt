@@ -1,38 +1,30 @@
--- how an index keeps its names: in order of arrival with their keys, and their places sorted
-use Rattle.std.specs.Prelude.{◌≡◌, ℕ, ◌<◌, List, map, length, slice_index_or, []}
-use Rattle.std.specs.List.{All}
-use Rattle.collate_records.specs.Plain.{ArePlain}
-use Rattle.collate_index.specs.Meaning.{Meaning, meaning_of, order_by}
-use Rattle.collate_names.specs.Names.{in_order}
+-- how an index keeps its names: in a list with their keys, by a collator over the tables of its records
+use Rattle.std.specs.Prelude.{◌≡◌, ℕ, All, List}
+use Rattle.std.specs.Char.{IsScalar}
+use Rattle.icu_collator.specs.Collators.{source_collation}
+use Rattle.icu_collator.specs.KeyBytes.{key_of_text}
+use Rattle.collate_name_list.specs.StoredNames.{StoredName, names_of}
+use Rattle.collate_rules.specs.Accepted.{AreAccepted}
+use Rattle.collate_rules.specs.Meaning.{collation_of}
+use Rattle.collate_index.specs.Meaning.{Meaning, meaning_of}
 use Rattle.collate_index.specs.Keys.{IsKeyOf}
-use Rattle.collate_index.specs.Simple.{AreSimple}
-use Rattle.collate_index.specs.Catalogue.{Catalogue, AreDistinct}
-use Rattle.collate_index.specs.declared.index.Name.{Name}
+use Rattle.collate_index.specs.Catalogue.{Catalogue}
 use Rattle.collate_index.specs.declared.index.Index.TheInside.{Inside}
 
--- a name's bytes
-abbrev pub text_of : Name → List ℕ
-text_of n = n.bytes.items
-
--- the names at these places
-abbrev pub names_at : List (List ℕ) → List ℕ → List (List ℕ)
-names_at arrivals places = map (λ place. slice_index_or arrivals place []) places
-
 abbrev pub meaning_inside : Inside → Meaning
-meaning_inside s = meaning_of s.records s.options
-
-abbrev pub arrivals_inside : Inside → List (List ℕ)
-arrivals_inside s = map text_of s.names.items
+meaning_inside s = meaning_of s.records s.collator.options
 
 -- what an index is to its callers
 abbrev pub catalogue_of : Inside → Catalogue
-catalogue_of s = record { meaning = meaning_inside s; arrivals = arrivals_inside s }
+catalogue_of s = record { meaning = meaning_inside s; arrivals = names_of s.names }
 
--- the records are plain and the options simple, the names have their keys, none occurs twice, and the places, all of them places of names, give them in order
+-- a name is stored with its key
+abbrev pub IsKeyed : Meaning → StoredName → Type 0
+IsKeyed m stored = IsKeyOf m stored.name stored.key
+
+-- the lines of the records keep the rules, the collator writes the keys that they give, and the names are stored with theirs
 pub record IsKept (s : Inside) : Type 0 where
-  pub plain : ArePlain s.records
-  pub simple : AreSimple s.options
-  pub keyed : All (λ n. IsKeyOf (meaning_inside s) (text_of n) n.key) s.names.items
-  pub distinct : AreDistinct (arrivals_inside s)
-  pub within : All (λ place. place < length s.names.items) s.order.items
-  pub sorted : names_at (arrivals_inside s) s.order.items ≡ in_order (order_by (meaning_inside s)) (arrivals_inside s)
+  pub accepted : AreAccepted s.records
+  pub keys : (text : List ℕ) → All IsScalar text
+      → key_of_text (source_collation s.collator.source) s.collator.options text ≡ key_of_text (collation_of s.records) s.collator.options text
+  pub keyed : All (IsKeyed (meaning_inside s)) s.names

@@ -1,11 +1,7 @@
-pub mod AddErrors
 pub mod Catalogue
 pub mod Index
 pub mod Keys
 pub mod Listing
 pub mod Meaning
-pub mod ServedOptions
-pub mod Simple
-pub mod Strengths
 pub use Rattle.collate_names.specs.Names
 pub use Rattle.collate_names.specs.Search

@@ -14,7 +14,6 @@ ghost use Rattle.icu_collator.specs.KeyBytes.{key_of_text};
 ghost use Rattle.icu_collator.specs.Settings.{AreSoundSettings};
 ghost use Rattle.icu_collator.specs.SoundCollation.{IsSoundCollation};
 ghost use Rattle.collate_rules.specs.Accepted.{AreAccepted};
-ghost use Rattle.collate_records.specs.Plain.{ArePlain};
 ghost use Rattle.collate_lines.specs.Record.{Record};
 ghost use Rattle.collate_rules.specs.Meaning.{collation_of};
 ghost use Rattle.collate_index.specs.Meaning.{Meaning, name_order, order_by};
@@ -44,18 +43,12 @@ pub fn equal_keys_are_of_equal_names()
         → (key_of_text collation options a ≡ key_of_text collation options b) ↔ (name_order collation options a b ≡ Equal) }
 {}
 
-/// Names in UTF-8, damaged or not, compare under the plain records of an accepted file as the sort keys of their characters do
+/// Names in UTF-8, damaged or not, compare under accepted records as the sort keys of their characters do, with every option
 /// (docs/RECORDS.md).
 #[tactic(auto, using(crate::proofs::order::NameOrderLemmas::keys_order_in_index))]
 pub fn keys_order_as_names_of_records()
-    ensures { (m : Meaning) (a b : List ℕ) → AreAccepted m.records → ArePlain m.records
+    ensures { (m : Meaning) (a b : List ℕ) → AreAccepted m.records
         → slice_cmp nat_cmp (key_of_text (collation_of m.records) m.options (utf8_chars a)) (key_of_text (collation_of m.records) m.options (utf8_chars b)) ≡ order_by m a b }
-{}
-
-/// The settings of plain records keep the rules on settings (docs/RECORDS.md).
-#[tactic(auto, using(crate::proofs::order::FileSettingLemmas::plain_settings))]
-pub fn records_have_sound_settings()
-    ensures { (records : List Record) → ArePlain records → AreSoundSettings (collation_of records) }
 {}
 
 /// The settings of accepted lines, as those of all records are, keep the rules on settings: what the laws of keys ask

@@ -3,7 +3,6 @@ ghost use Rattle.std.specs.Prelude.{◌≡◌, ◌≢◌, ◌∷◌, [], length,
 ghost use Rattle.std.specs.Option.{option_copied};
 ghost use Rattle.collate_index.specs.Catalogue.{order_of, sorted_names};
 ghost use Rattle.collate_index.specs.Names.{equal_names};
-ghost use Rattle.collate_records.specs.Plain.{ArePlain};
 
 use collate_index::index::{AddError, Index};
 use collate_records::records::Records;
@@ -18,14 +17,13 @@ const PREFERENCES: CollatorPreferences<'static> = CollatorPreferences {
     numeric_ordering: None,
 };
 
-/// An index of two names, which are not the same bytes, over plain records, as `is_plain` tells.
+/// An index of two names, which are not the same bytes.
 pub fn index_of_two(
     alloc: Global,
     records: Records,
     first: &[u8],
     second: &[u8],
 ) -> Result<Index, AddError>
-    requires { ArePlain records }
     ensures arrived { IfOk result (λ index. index.arrivals ≡ first.now ∷ second.now ∷ []) }
     ensures distinct { IfOk result (λ index. first.now ≢ second.now) }
 {

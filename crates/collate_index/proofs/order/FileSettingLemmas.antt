@@ -1,4 +1,4 @@
--- What accepted records set keeps the rules on settings; so does what is set by default, as by plain records.
+-- What accepted records set keeps the rules on settings.
 use Rattle.std.proofs.Common.{◌≡◌, ℕ, List, [], refl, sym, ◌∙◌, ap, arith}
 use Rattle.std.proofs.lemmas.List.Elements.{All-weaker}
 use Rattle.std.specs.Prelude.{◌==◌, ◌+◌, ◌*◌, ◌/◌, ◌%◌, ◌^◌, replicate}
@@ -9,8 +9,6 @@ use Rattle.icu_collator_core.proofs.weights.ReorderingLemmas.{given_lead, given_
 use Rattle.icu_collator_core.specs.SettingRules.{are_sound_groups}
 use Rattle.icu_collator.specs.Settings.{AreSoundSettings}
 use Rattle.collate_rules.specs.Accepted.{AreAccepted, IsSaid}
-use Rattle.collate_records.specs.Plain.{ArePlain}
-use Rattle.collate_records.proofs.reading.PlainLemmas.{plain_meaning}
 use Rattle.collate_lines.specs.declared.rule.Rule.TheVariants.{Set}
 use Rattle.collate_lines.specs.Record.{Record}
 use Rattle.collate_rules.specs.LineCounts.{KeepsCounts}
@@ -18,36 +16,9 @@ use Rattle.collate_rules.specs.Meaning.{collation_of, groups_in, is_compressible
 use Rattle.collate_rules.proofs.given.GrammarLemmas.{line_keeps_counts}
 use Rattle.collate_record_rules.proofs.records.SoundSettingLemmas.{soundly_set}
 
--- where no lead is reordered, no primary is
-pub primary_stays : (place : ℕ → ℕ) → ((lead : ℕ) → place lead ≡ lead) → (p : ℕ) → with_lead place p ≡ p
-primary_stays place stays p = ap (λ (lead : ℕ). lead * 2 ^ 24 + p % 2 ^ 24) (stays (p / 2 ^ 24)) ∙ omega arith
-
 -- where each lead takes so its place
 places : List Record → ℕ → ℕ
 places records = place_among (set_to reorder_in [] records)
-
-lead_stays : (records : List Record) → ArePlain records → (lead : ℕ) → reordered_lead (collation_of records) lead ≡ lead
-unfolding places
-lead_stays records are_plain lead =
-    let plain = plain_meaning records are_plain in given_lead (collation_of records) (places records) (λ p. refl) lead ∙ plain.in_place lead
-
-pub plain_settings : (records : List Record) → ArePlain records → AreSoundSettings (collation_of records)
-unfolding places
-plain_settings records are_plain =
-    let plain = plain_meaning records are_plain
-    in let stay = lead_stays records are_plain
-    in record {
-      numeric_lead = ap is_letter_lead plain.numeric_lead;
-      groups = ap (λ (lead : ℕ). are_sound_groups lead (set_to groups_in (replicate 4 0x300) records)) plain.numeric_lead
-          ∙ ap (are_sound_groups 0x10) plain.groups;
-      implicit = plain.compressible 0xfe;
-      compressible = λ lead h. or_right (is_letter_lead lead) (lead == 0xfe) (sym (plain.compressible lead) ∙ h);
-      rest = given_rest (collation_of records) (places records) (λ p. refl);
-      outside = λ lead h. stay lead;
-      inside = λ lead h. ap is_letter_lead (stay lead) ∙ h;
-      one_to_one = λ a b h. sym (stay a) ∙ h ∙ stay b;
-      alike = λ lead. ap (is_compressible_in records) (stay lead);
-    }
 
 -- what a line in the grammar says lists as many things as it must
 said_counts : (given : Record) → IsSaid given → KeepsCounts given

@@ -20,11 +20,10 @@ use Rattle.icu_collator.proofs.keys.KeyBytesLemmas.{same_numbers}
 use Rattle.icu_collator.proofs.orders.TotalOrderLemmas.{collation_order_total}
 use Rattle.icu_collator.proofs.keys.TextKeyLemmas.{text_keys_order}
 use Rattle.collate_rules.specs.Accepted.{AreAccepted}
-use Rattle.collate_records.specs.Plain.{ArePlain}
 use Rattle.collate_rules.specs.Meaning.{collation_of}
 use Rattle.collate_records.proofs.reading.AcceptedLemmas.{accepted_decompose}
 use Rattle.collate_records.proofs.reading.SoundWeightLemmas.{accepted_weights}
-use Rattle.collate_index.proofs.order.FileSettingLemmas.{plain_settings}
+use Rattle.collate_index.proofs.order.FileSettingLemmas.{accepted_settings}
 use Rattle.collate_index.specs.Meaning.{Meaning, name_order, order_by}
 
 either_total : (b : Bool) (R S : List ℕ → List ℕ → Ordering) → IsTotalOrder R → IsTotalOrder S → IsTotalOrder (λ x y. cond b (R x y) (S x y))
@@ -69,8 +68,9 @@ equal_keys_of_names collation options a b decomposing sound sa sb =
     )
 
 -- names of an index, given by their bytes, compare as their keys
-pub keys_order_in_index : (m : Meaning) (a b : List ℕ) → AreAccepted m.records → ArePlain m.records
+pub keys_order_in_index : (m : Meaning) (a b : List ℕ) → AreAccepted m.records
     → slice_cmp nat_cmp (key_of_text (collation_of m.records) m.options (utf8_chars a)) (key_of_text (collation_of m.records) m.options (utf8_chars b)) ≡ order_by m a b
 unfolding order_by
-keys_order_in_index m a b accepted plain =
-    keys_order_as_names (collation_of m.records) m.options (utf8_chars a) (utf8_chars b) (accepted_decompose m.records accepted) (record { weights = accepted_weights m.records accepted; settings = plain_settings m.records plain }) (utf8_scalars a) (utf8_scalars b)
+keys_order_in_index m a b accepted =
+    keys_order_as_names (collation_of m.records) m.options (utf8_chars a) (utf8_chars b) (accepted_decompose m.records accepted)
+    (record { weights = accepted_weights m.records accepted; settings = accepted_settings m.records accepted }) (utf8_scalars a) (utf8_scalars b)
