@@ -1,24 +1,26 @@
 -- what an index keeps: names with their keys, which stand in order as their keys do
-use Rattle.std.proofs.Common.{◌≡◌, ℕ, ◌<◌, ◌≤◌, List, [], length, map, get_or, sym, ap, ◌∙◌, subst, arith, Bool}
-use Rattle.std.specs.List.{All, Contains}
+use Rattle.std.proofs.Common.{◌≡◌, ℕ, ◌≤◌, List, length, get_or, refl, sym, ap, ◌∙◌, subst, Bool}
+use Rattle.std.specs.List.{All}
+use Rattle.std.specs.Cmp.{IsTotalOrder}
 use Rattle.std.specs.Cmp.Lexicographic.{slice_cmp}
 use Rattle.std.specs.Ordering.{nat_cmp}
-use Rattle.std.proofs.lemmas.Cmp.{nat_list_cmp_total, on_total}
-use Rattle.std.proofs.lemmas.List.{get_or-map, length-map}
+use Rattle.std.proofs.lemmas.List.{length-map}
 use Rattle.std.proofs.lemmas.List.Sorted.{All-permutation}
 use Rattle.collate_rules.specs.Accepted.{AreAccepted}
 use Rattle.collate_names.specs.Names.{in_order}
-use Rattle.collate_names.specs.Search.{IsPlaceOf, stands_before}
-use Rattle.collate_names.proofs.NamesLemmas.{in_order_alike, in_order_map, in_order_is_permutation, length-in_order}
+use Rattle.collate_names.specs.Search.{IsPlaceOf}
+use Rattle.collate_names.proofs.ChangeLemmas.{in_order_alike, in_order_map}
+use Rattle.collate_names.proofs.NamesLemmas.{in_order_is_permutation, length-in_order}
+use Rattle.collate_names.proofs.PlaceLemmas.{place_alike, place_map}
 use Rattle.collate_name_list.specs.StoredNames.{StoredName, key_order, names_of, sorted}
 use Rattle.collate_index.specs.Index.{IsKeyed}
 use Rattle.collate_index.specs.Keys.{IsKeyOf, key_of_name}
 use Rattle.collate_index.specs.Meaning.{Meaning, order_by}
 use Rattle.collate_index.proofs.order.NameOrderLemmas.{keys_order_in_index}
 
--- stored names are in a total preorder by their keys
-key_order_total : IsTotalOrder key_order
-key_order_total = on_total (λ (stored : StoredName). stored.key) nat_list_cmp_total
+-- as many names stand in order as arrived
+pub length_sorted : (names : List StoredName) → length (sorted names) ≡ length names
+length_sorted names = length-in_order key_order names
 
 module _ (m : Meaning) (accepted : AreAccepted m.records) where
   -- keys order as the names
@@ -37,8 +39,9 @@ module _ (m : Meaning) (accepted : AreAccepted m.records) where
         ∙ in_order_map (λ (stored : StoredName). stored.name) (λ x y. order_by m x.name y.name) (order_by m) (λ x y. refl) names
 
     keyed_sorted : All (IsKeyed m) (sorted names)
-    keyed_sorted = All-permutation (IsKeyed m) names (sorted names) (in_order_is_permutation key_order key_order_total names) keyed
+    keyed_sorted = All-permutation (IsKeyed m) names (sorted names) (in_order_is_permutation key_order names) keyed
 
+    -- as many of them
     pub as_many : length (in_order (order_by m) (names_of names)) ≡ length (sorted names)
     as_many = sym (ap length names_sorted) ∙ length-map (sorted names) (λ (stored : StoredName). stored.name)
 
@@ -48,13 +51,7 @@ module _ (m : Meaning) (accepted : AreAccepted m.records) where
         → IsPlaceOf (λ other. order_by m other name) past (in_order (order_by m) (names_of names)) at
     place_by_names name key of past at within place =
         let sought : StoredName = record { key = key; name = name } in
-        let said : (k : ℕ) (d : List ℕ) → k < length (sorted names)
-            → stands_before past (order_by m (get_or (names_of (sorted names)) k d) name) ≡ stands_before past (slice_cmp nat_cmp (get_or (sorted names) k sought).key key)
-            = λ k d h.
-            ap (λ (n : List ℕ). stands_before past (order_by m n name)) (get_or-map (λ (stored : StoredName). stored.name) (sorted names) k sought d h)
-            ∙ ap (stands_before past) (sym (keyed_order (get_or (sorted names) k sought) sought (keyed_sorted k sought h) of)) in
-        let many : length (names_of (sorted names)) ≡ length (sorted names) = length-map (sorted names) (λ (stored : StoredName). stored.name) in
-        subst (λ (xs : List (List ℕ)). IsPlaceOf (λ other. order_by m other name) past xs at) names_sorted (
-          λ k d l h. said k d (omega arith) ∙ place.0 k sought l h,
-          λ k d l h. said k d (omega (arith, many)) ∙ place.1 k sought l (omega (arith, many)),
-        )
+        subst (λ (xs : List (List ℕ)). IsPlaceOf (λ other. order_by m other name) past xs at) names_sorted
+        (place_map (λ (stored : StoredName). stored.name) (λ other. order_by m other name) past (sorted names) at within
+        (place_alike (λ (stored : StoredName). slice_cmp nat_cmp stored.key key) (λ (stored : StoredName). order_by m stored.name name) past (sorted names) at within
+        (λ k d h. keyed_order (get_or (sorted names) k d) sought (keyed_sorted k d h) of) place))
