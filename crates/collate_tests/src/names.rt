@@ -1,21 +1,14 @@
 //! Names over a small records file: what an index and a run answer. Expected values come from the specification's worked
 //! examples, and from an independent reading of the file format.
 
-ghost use Rattle.std.specs.Prelude.{IfOk};
-ghost use Rattle.collate_index.specs.ServedOptions.{GiveStrengthOnly};
-ghost use Rattle.collate_records.specs.Plain.{ArePlain};
-
-use collate_index::elements::{decomposed_list, elements_of_list};
-use collate_index::index::{AddError, Index};
-use collate_index::key::IndexKey;
+use collate_index::IndexKey;
+use collate_index::collators::collator_of;
+use collate_index::index::{Absent, AddError, Index};
 use collate_records::records::Records;
-use collate_run::run;
-use collate_run::watched::Watched;
 use icu_collator_types::options::{
-    AlternateHandling, CaseLevel, CollationCaseFirst, CollationNumericOrdering, CollatorOptions,
-    CollatorPreferences, MaxVariable, ResolvedCollatorOptions, Strength,
+    AlternateHandling, CollationNumericOrdering, CollatorOptions, CollatorPreferences, Strength,
 };
-use std::alloc::{AllocError, Global};
+use std::alloc::Global;
 use std::cmp::Ordering;
 use std::ops::Range;
 use std::process::Abort;
@@ -60,22 +53,9 @@ const TERTIARY: CollatorOptions = CollatorOptions {
     case_level: None,
 };
 
-/// The letters, which are plain records.
-fn letters(alloc: Global) -> Result<Records, Fail>
-    ensures { IfOk result ArePlain }
-{
-    let records = Records::read(alloc, LETTERS)?;
-    if !records.is_plain() {
-        return Err(Fail::from("letters are plain"));
-    }
-    Ok(records)
-}
-
 /// An index over the letters with these names.
-fn index_of(alloc: Global, options: &CollatorOptions, names: &[&[u8]]) -> Result<Index, Fail>
-    requires { GiveStrengthOnly options.now }
-{
-    let records = letters(alloc)?;
+fn index_of(alloc: Global, options: &CollatorOptions, names: &[&[u8]]) -> Result<Index, Fail> {
+    let records = Records::read(alloc, LETTERS)?;
     let mut index = Index::new(alloc, records, &PREFERENCES, options)?;
     for name in names {
         index.add(*name)?;
@@ -115,6 +95,18 @@ fn ok_add(rt: HostRuntime) -> Result<(), Fail> {
     Ok(())
 }
 
+#[test]
+fn a_removed_name_arrives_anew(rt: HostRuntime) -> Result<(), Fail> {
+    let acute = "\u{e1}".as_bytes();
+    let mut index = index_of(rt.alloc(), &PRIMARY, &[b"a", acute, b"b"])?;
+    assert_eq!(rt; index.remove(b"a"), Ok(()));
+    assert_eq!(rt; index.remove(b"a"), Err(Absent));
+    assert!(rt; lists(&index, &[acute, b"b"]));
+    assert!(rt; index.add(b"a").is_ok());
+    assert!(rt; lists(&index, &[acute, b"a", b"b"]));
+    Ok(())
+}
+
 /// Looks for a name, and at the places that are found.
 fn assert_found(
     rt: &impl Abort,
@@ -129,23 +121,28 @@ fn assert_found(
 
 #[test]
 fn ok_find(rt: HostRuntime) -> Result<(), Fail> {
-    let index = index_of(rt.alloc(), &PRIMARY, &[b"b", "\u{e1}".as_bytes(), b"a"])?;
+    let acute = "\u{e1}".as_bytes();
+    let index = index_of(rt.alloc(), &PRIMARY, &[b"b", acute, b"a"])?;
+    assert!(rt; lists(&index, &[acute, b"a", b"b"]));
     assert_found(&rt, &index, b"a", 0..2)
 }
 
 #[test]
-fn names_equal_at_primary_stand_as_they_arrived(rt: HostRuntime) -> Result<(), Fail> {
-    let acute = "\u{e1}".as_bytes();
-    let index = index_of(rt.alloc(), &PRIMARY, &[b"b", acute, b"a"])?;
-    assert!(rt; lists(&index, &[acute, b"a", b"b"]));
+fn few_comparisons_find_a_name(rt: HostRuntime) -> Result<(), Fail> {
+    let index = index_of(rt.alloc(), &PRIMARY, &[b"b", b"c", b"a", b"h", b"l"])?;
+    let found = index.find(b"a")?;
+    assert!(rt; found.comparisons <= 6, "five has three binary digits");
+    let empty = index_of(rt.alloc(), &PRIMARY, &[])?;
+    assert_eq!(rt; empty.find(b"a")?.comparisons, 0);
     Ok(())
 }
 
 #[test]
-fn few_comparisons_find_a_name(rt: HostRuntime) -> Result<(), Fail> {
-    let index = index_of(rt.alloc(), &PRIMARY, &[b"b", "\u{e1}".as_bytes(), b"a"])?;
-    let found = index.find(b"a")?;
-    assert!(rt; found.comparisons <= 4, "three has two binary digits");
+fn ok_between(rt: HostRuntime) -> Result<(), Fail> {
+    let index = index_of(rt.alloc(), &PRIMARY, &[b"ch", b"cl", b"ab"])?;
+    assert_eq!(rt; index.between(b"a", b"ch")?, 0..2);
+    assert_eq!(rt; index.between(b"ch", b"a")?, 0..0);
+    assert_eq!(rt; index.between(b"cl", b"cl")?, 2..3);
     Ok(())
 }
 
@@ -158,20 +155,12 @@ fn accents_count_at_tertiary(rt: HostRuntime) -> Result<(), Fail> {
     assert_found(&rt, &index, b"c", 0..0)
 }
 
-/// Whether an index holds these names and no others, in this order.
-fn holds(index: &Index, names: &[&[u8]]) -> bool {
-    for place in 0..names.len() {
-        if index.get(place) != Some(names[place]) {
-            return false;
-        }
-    }
-    index.get(names.len()).is_none()
-}
-
 #[test]
 fn ok_get(rt: HostRuntime) -> Result<(), Fail> {
     let index = index_of(rt.alloc(), &TERTIARY, &[b"t", b"a\xff"])?;
-    assert!(rt; holds(&index, &[b"a\xff", b"t"]));
+    assert_eq!(rt; index.get(0), Some(b"a\xff".as_slice()));
+    assert_eq!(rt; index.get(1), Some(b"t".as_slice()));
+    assert_eq!(rt; index.get(2), None);
     assert_found(&rt, &index, b"a\xef\xbf\xbd", 0..1)
 }
 
@@ -184,110 +173,76 @@ fn marks_of_different_class_may_change_places(rt: HostRuntime) -> Result<(), Fai
     Ok(())
 }
 
-#[test]
-fn marks_of_one_class_may_not(rt: HostRuntime) -> Result<(), Fail> {
-    let index = index_of(rt.alloc(), &TERTIARY, &["a\u{302}\u{301}".as_bytes()])?;
-    assert_found(&rt, &index, "\u{e1}\u{302}".as_bytes(), 0..0)
-}
+/// Records that the first path couldn't serve: a contraction, a range, digits, a tailored letter and settings.
+const WHOLE: &[u8] = b"class 0302 230
+w 0061 ; [2A100000.0500.0.0500.0]
+w 0063 ; [2A300000.0500.0.0500.0]
+w 0068 ; [2A800000.0500.0.0500.0]
+w 0063 0068 ; [2A900000.0500.0.0500.0]
+w 0020 ; [03040000.0500.0.0500.0]
+w 0031 ; [11110000.0500.0.0500.0]
+w 0032 ; [11120000.0500.0.0500.0]
+digit 0031 1
+digit 0032 2
+range 4E00 9FFF E0020200 1
+t 0064 ; [2A180000.0500.0.0500.0]
+set alternate shifted
+";
 
 #[test]
-fn ok_decomposed_list(rt: HostRuntime) -> Result<(), Fail> {
-    let alloc = rt.alloc();
-    let records = Records::read(alloc, LETTERS)?;
-    let list = decomposed_list(alloc, &records, "\u{e1}\u{323}c\u{ac01}".as_bytes())?;
-    let expected: &[u32] = &[0x61, 0x323, 0x301, 0x63, 0x1100, 0x1161, 0x11a8];
-    assert_eq!(rt; list.as_slice(), expected);
-    Ok(())
-}
-
-#[test]
-fn ok_elements_of_list(rt: HostRuntime) -> Result<(), Fail> {
-    let alloc = rt.alloc();
-    let records = letters(alloc)?;
-    let elements = elements_of_list(alloc, &records, &[0x61, 0x301, 0x7a, 0x1161, 0xfffe])?;
-    let expected: &[u32] = &[0x2a100000, 0, 0xfe0408d4, 0xfd046300, 0x02000000];
-    assert_eq!(rt; elements.len(), expected.len());
-    for (element, primary) in elements.iter().zip(expected) {
-        assert_eq!(rt; element.primary, *primary);
+fn an_index_takes_all_records_and_options(rt: HostRuntime) -> Result<(), Fail> {
+    let records = Records::read(rt.alloc(), WHOLE)?;
+    let preferences = CollatorPreferences {
+        numeric_ordering: Some(CollationNumericOrdering::True),
+        ..PREFERENCES
+    };
+    let options = CollatorOptions {
+        strength: Some(Strength::Identical),
+        alternate_handling: Some(AlternateHandling::Shifted),
+        ..TERTIARY
+    };
+    let mut index = Index::new(rt.alloc(), records, &preferences, &options)?;
+    for name in ["ch", "h", "d", "a12", "a 2", "a2", "\u{4e00}", "c"] {
+        index.add(name.as_bytes())?;
+    }
+    for (place, name) in ["a 2", "a2", "a12", "d", "c", "h", "ch", "\u{4e00}"].iter().enumerate() {
+        assert_eq!(rt; index.get(place), Some(name.as_bytes()));
     }
     Ok(())
 }
 
-/// The options of a comparison at the third level, with all else at its default.
-const AT_TERTIARY: ResolvedCollatorOptions = ResolvedCollatorOptions {
-    strength: Strength::Tertiary,
-    alternate_handling: AlternateHandling::NonIgnorable,
-    case_first: CollationCaseFirst::False,
-    max_variable: MaxVariable::Space,
-    case_level: CaseLevel::Off,
-    numeric: CollationNumericOrdering::False,
-};
-
-/// How the keys of two names compare, and the count of comparisons then.
-fn compared(
-    alloc: Global,
-    records: &Records,
-    first: &str,
-    second: &str,
-) -> Result<(Ordering, usize), AllocError>
-    requires { ArePlain records.now }
-{
-    let mut count = 0;
-    let first = IndexKey::make(alloc, records, AT_TERTIARY, first.as_bytes())?;
-    let second = IndexKey::make(alloc, records, AT_TERTIARY, second.as_bytes())?;
-    let ordering = first.compare(&second, &mut count);
-    Ok((ordering, count))
+/// How the keys of two names compare over the letters, and the counts then.
+fn compared(alloc: Global, first: &str, second: &str) -> Result<(Ordering, usize, usize), Fail> {
+    let records = Records::read(alloc, LETTERS)?;
+    let collator = collator_of(alloc, &records, PREFERENCES, TERTIARY)?;
+    let collator = collator.as_borrowed();
+    let mut made = 0;
+    let mut comparisons = 0;
+    let first = IndexKey::make(alloc, &collator, first.as_bytes(), &mut made)?;
+    let second = IndexKey::make(alloc, &collator, second.as_bytes(), &mut made)?;
+    let ordering = first.compare(&second, &mut comparisons);
+    Ok((ordering, made, comparisons))
 }
 
 #[test]
 fn ok_make(rt: HostRuntime) -> Result<(), Fail> {
-    let records = letters(rt.alloc())?;
     let (acute, circumflex) = ("cote\u{301}", "co\u{302}te");
     for (first, second, ordering) in [
         (acute, circumflex, Ordering::Less),
         (circumflex, acute, Ordering::Greater),
         (acute, acute, Ordering::Equal),
     ] {
-        assert!(rt; compared(rt.alloc(), &records, first, second)? == (ordering, 1));
+        assert!(rt; compared(rt.alloc(), first, second)? == (ordering, 2, 1));
     }
     Ok(())
 }
 
 #[test]
-fn a_run_answers_in_order(rt: HostRuntime) -> Result<(), Fail> {
-    let alloc = rt.alloc();
-    let rows: [(&CollatorOptions, &[u8], &[u8]); 3] = [
-        (
-            &PRIMARY,
-            b"add ch\nadd cl\nadd ab\nlist\nadd ab\n",
-            b"added\nadded\nadded\nnames 3\nab\nch\ncl\nduplicate\n",
-        ),
-        (
-            &PRIMARY,
-            b"add b\nadd \xc3\xa1\nadd a\nfind a\n",
-            b"added\nadded\nadded\nnames 2\n\xc3\xa1\na\n",
-        ),
-        (
-            &TERTIARY,
-            b"add a\xff\nfind a\xef\xbf\xbd\n",
-            b"added\nnames 1\na\xff\n",
-        ),
-    ];
-    for (options, commands, replies) in rows {
-        let records = letters(alloc)?;
-        let mut written = Vec::new(alloc);
-        let mut reader = Watched::new(commands);
-        let mut writer = Watched::new(&mut written);
-        let result = run::run(
-            alloc,
-            records,
-            &PREFERENCES,
-            options,
-            &mut reader,
-            &mut writer,
-        );
-        assert!(rt; result.is_ok());
-        assert_eq!(rt; written.as_slice(), replies);
-    }
+fn ok_collator_of(rt: HostRuntime) -> Result<(), Fail> {
+    let records = Records::read(rt.alloc(), LETTERS)?;
+    let collator = collator_of(rt.alloc(), &records, PREFERENCES, TERTIARY)?;
+    let mut key = Vec::new(rt.alloc());
+    collator.as_borrowed().write_sort_key_to(rt.alloc(), "a", &mut key)?;
+    assert_eq!(rt; key.as_slice(), b"\x2a\x10\x01\x05\x01\x05\x01".as_slice());
     Ok(())
 }
