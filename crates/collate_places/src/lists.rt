@@ -4,10 +4,10 @@ ghost use Rattle.std.specs.Prelude.{◌≡◌, ◌+◌, ◌-◌, ◌<◌, ◌≤
 ghost use Rattle.collate_places.specs.Lists.{joined, lengths, rank_of, starts_of, raised, lowered, renumbered, AreRoomy};
 
 /// How many values a list holds at most. Each has memory for so many.
-pub(crate) const FULL: usize = 1024;
+pub(crate) const FULL: usize = 512;
 
 /// How many are left in a list that was full and is now two.
-pub(crate) const HALF: usize = 512;
+pub(crate) const HALF: usize = 256;
 
 /// Puts a value at a place of a list.
 pub(crate) fn put(lists: &mut Vec<Vec<usize>>, part: usize, place: usize, value: usize)

@@ -26,10 +26,10 @@ returns-clause-sound c =
     let part = c.args.part in
     let starts = c.args.self.now.starts.items in
     let lists = c.args.self.now.lists.items in
-    let start = c.index.result.now + 512 in
+    let start = c.index.result.now + 256 in
     let within : part < length starts = omega (arith, ap length c.requires.sound.starts, length-starts_from 0 lists) in
-    let here : start ≡ slice_index (starts_of lists) part + 512 =
-    ap (λ n. n + 512) (get_or_read starts part c.index.result.now within c.index.ensures 0 ∙ ap (λ xs. slice_index xs part) c.requires.sound.starts) in
+    let here : start ≡ slice_index (starts_of lists) part + 256 =
+    ap (λ n. n + 256) (get_or_read starts part c.index.result.now within c.index.ensures 0 ∙ ap (λ xs. slice_index xs part) c.requires.sound.starts) in
     let made : c.insert.new.self.items ≡ insert starts (part + 1) start =
     done_is (is_ok c.insert.result) (insert starts (part + 1) start) starts c.insert.new.self.items (c.insert.ensures.succeeds (omega arith)) c.insert.ensures.items in
     record {
@@ -41,8 +41,8 @@ returns-clause-sound c =
 
 pub returns-clause-lower : goal.returns-clause-lower
 returns-clause-lower c =
-    λ rank place at. (free_in_halves c.args.self.now.lists.items c.halve.new.lists.items c.args.part place rank 512 (omega arith) c.requires.full c.halve.ensures.starts c.halve.ensures.lengths at).0
+    λ rank place at. (free_in_halves c.args.self.now.lists.items c.halve.new.lists.items c.args.part place rank 256 (omega arith) c.requires.full c.halve.ensures.starts c.halve.ensures.lengths at).0
 
 pub returns-clause-upper : goal.returns-clause-upper
 returns-clause-upper c =
-    λ rank place at. (free_in_halves c.args.self.now.lists.items c.halve.new.lists.items c.args.part place rank 512 (omega arith) c.requires.full c.halve.ensures.starts c.halve.ensures.lengths at).1
+    λ rank place at. (free_in_halves c.args.self.now.lists.items c.halve.new.lists.items c.args.part place rank 256 (omega arith) c.requires.full c.halve.ensures.starts c.halve.ensures.lengths at).1
