@@ -1,4 +1,3 @@
 pub mod AddErrors
-pub mod Room
 pub mod Slots
 pub mod StoredNames

@@ -4,5 +4,4 @@
 
 pub mod errors;
 pub mod name_list;
-mod room;
 mod slots;

@@ -7,7 +7,7 @@ use Rattle.collate_name_list.specs.Slots.{entry_at, entry_of, entries, names_ins
 use Rattle.collate_name_list.specs.declared.slots.Stored.{Stored}
 use Rattle.collate_name_list.proofs.EntryLemmas.{entries_push}
 use Rattle.collate_name_list.proofs.KeptLemmas.{kept_push, kept_same, remove_insert, told_kept, length_kept}
-use Rattle.collate_name_list.proofs.name_list.NameList.append.Goals as goal
+use Rattle.collate_name_list.proofs.name_list.NameList.add.Goals as goal
 
 pub returns-then-is_some-clause-duplicate : goal.returns-then-is_some-clause-duplicate
 returns-then-is_some-clause-duplicate c = λ same.
