@@ -1,2 +1,3 @@
+pub mod making
 pub mod order
 pub mod search

@@ -4,6 +4,7 @@ ghost use Rattle.std.specs.Prelude.{◌≡◌, IfOk};
 ghost use Rattle.icu_normalizer_core.specs.CanonicalFaults.{IsAccepted as IsAcceptedCanonical};
 ghost use Rattle.icu_normalizer_core.specs.CanonicalMeaning.{lists_of, meaning};
 ghost use Rattle.icu_collator_core.specs.Acceptance.{IsAccepted};
+ghost use Rattle.icu_collator_core.specs.declared.check.TableFault.TheVariants.{Memory};
 ghost use Rattle.collate_laws.specs.OverRecords.{IsCollatorOf};
 
 use collate_records::compile::compile;
@@ -42,7 +43,7 @@ fn canonical_data(
     tables: CanonicalTables<'static>,
 ) -> Result<CanonicalData<'static>, AllocError>
     requires { IsAcceptedCanonical (lists_of tables) }
-    ensures { IfOk result (λ data. data ≡ tables.entry) }
+    ensures { IfOk result (λ checked. checked ≡ tables.entry) }
 {
     match CanonicalData::try_new(alloc, tables) {
         Ok(data) => Ok(data),
@@ -62,7 +63,14 @@ fn checked_tables(
 {
     match CheckedTables::try_new(alloc, canonical, tables) {
         Ok(checked) => Ok(checked),
-        Err(TableFault::Memory) => Err(AllocError),
-        Err(_) => unreachable!(),
+        Err(fault) => Err(memory_of(fault)),
     }
+}
+
+/// Want of memory, which is all that accepted tables are refused for.
+fn memory_of(fault: TableFault) -> AllocError
+    requires { fault ≡ Memory }
+{
+    let _ = fault;
+    AllocError
 }

@@ -74,8 +74,9 @@ impl Index {
         preferences: &CollatorPreferences<'_>,
         options: &CollatorOptions,
     ) -> Result<Index, AllocError>
-        ensures { IfOk result (λ index. index ≡ opened records.entry preferences.now options.now) }
+        ensures { IfOk result (λ index. index ≡ opened records preferences.now options.now) }
     {
+        records.keep_rules();
         let collator = collator_of(alloc, &records, *preferences, *options)?;
         Ok(Index {
             alloc,

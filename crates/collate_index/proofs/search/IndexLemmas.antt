@@ -1,10 +1,12 @@
 -- what an index keeps: names with their keys, which stand in order as their keys do
-use Rattle.std.proofs.Common.{◌≡◌, ℕ, ◌≤◌, List, length, get_or, refl, sym, ap, ◌∙◌, subst, Bool}
+use Rattle.std.proofs.Common.{◌≡◌, ℕ, ◌≤◌, List, [], ◌∷◌, ◌++◌, length, get_or, refl, sym, ap, ◌∙◌, subst, Bool, true, false, cond, not}
+use Rattle.std.specs.Prelude.{Result, Ok, Err, OnOk, OnErr, bytes_eq, filter}
 use Rattle.std.specs.List.{All}
 use Rattle.std.specs.Cmp.{IsTotalOrder}
 use Rattle.std.specs.Cmp.Lexicographic.{slice_cmp}
 use Rattle.std.specs.Ordering.{nat_cmp}
 use Rattle.std.proofs.lemmas.List.{length-map}
+use Rattle.std.proofs.lemmas.List.Elements.{All-same, All-push}
 use Rattle.std.proofs.lemmas.List.Sorted.{All-permutation}
 use Rattle.collate_rules.specs.Accepted.{AreAccepted}
 use Rattle.collate_names.specs.Names.{in_order}
@@ -12,8 +14,11 @@ use Rattle.collate_names.specs.Search.{IsPlaceOf}
 use Rattle.collate_names.proofs.ChangeLemmas.{in_order_alike, in_order_map}
 use Rattle.collate_names.proofs.NamesLemmas.{in_order_is_permutation, length-in_order}
 use Rattle.collate_names.proofs.PlaceLemmas.{place_alike, place_map}
-use Rattle.collate_name_list.specs.StoredNames.{StoredName, key_order, names_of, sorted}
-use Rattle.collate_index.specs.Index.{IsKeyed}
+use Rattle.collate_name_list.specs.StoredNames.{StoredName, key_order, names_of, sorted, without}
+use Rattle.collate_name_list.specs.declared.errors.AddError.{AddError}
+use Rattle.collate_index.specs.Catalogue.{Catalogue, order_of, sorted_names}
+use Rattle.collate_index.specs.Index.{IsKept, IsKeyed, catalogue_of, meaning_inside}
+use Rattle.collate_index.specs.declared.index.Index.TheInside.{Inside}
 use Rattle.collate_index.specs.Keys.{IsKeyOf, key_of_name}
 use Rattle.collate_index.specs.Meaning.{Meaning, order_by}
 use Rattle.collate_index.proofs.order.NameOrderLemmas.{keys_order_in_index}
@@ -55,3 +60,40 @@ module _ (m : Meaning) (accepted : AreAccepted m.records) where
         (place_map (λ (stored : StoredName). stored.name) (λ other. order_by m other name) past (sorted names) at within
         (place_alike (λ (stored : StoredName). slice_cmp nat_cmp stored.key key) (λ (stored : StoredName). order_by m stored.name name) past (sorted names) at within
         (λ k d h. keyed_order (get_or (sorted names) k d) sought (keyed_sorted k d h) of) place))
+
+-- an index as its callers see it
+module _ (s : Inside) (kept : IsKept s) (now : Catalogue) (is : catalogue_of s ≡ now) where
+  pub listed : names_of (sorted s.names) ≡ sorted_names now
+  listed = names_sorted (meaning_inside s) kept.accepted s.names kept.keyed ∙ ap (λ (c : Catalogue). sorted_names c) is
+
+  pub length_listed : length (sorted s.names) ≡ length (sorted_names now)
+  length_listed = sym (length-map (sorted s.names) (λ (stored : StoredName). stored.name)) ∙ ap length listed
+
+  pub placed : (name key : List ℕ) → IsKeyOf now.meaning name key → (past : Bool) (at : ℕ) → at ≤ length (sorted s.names)
+      → IsPlaceOf (λ (stored : StoredName). slice_cmp nat_cmp stored.key key) past (sorted s.names) at
+      → IsPlaceOf (λ other. order_of now other name) past (sorted_names now) at
+  placed name key of past at within place =
+      subst (λ (c : Catalogue). IsPlaceOf (λ other. order_of c other name) past (sorted_names c) at) is
+      (place_by_names (meaning_inside s) kept.accepted s.names kept.keyed name key
+      (subst (λ (c : Catalogue). IsKeyOf c.meaning name key) (sym is) of) past at within place)
+
+-- other names, each with its key
+pub kept_names : (s : Inside) → IsKept s → (names : List StoredName) → All (IsKeyed (meaning_inside s)) names → IsKept (record s { names = names })
+kept_names s kept names keyed = record { accepted = kept.accepted; keys = kept.keys; keyed = keyed }
+
+-- a name that is added with its key, or isn't
+pub keyed_added : (m : Meaning) (result : Result (Unit {0}) AddError) (old new : List StoredName) (stored : StoredName) → OnOk result (new ≡ old ++ stored ∷ [])
+    → OnErr result (new ≡ old) → IsKeyed m stored → All (IsKeyed m) old → All (IsKeyed m) new
+keyed_added m (Ok _) old new stored added unchanged of keyed = All-same (IsKeyed m) new (old ++ stored ∷ []) added (All-push (IsKeyed m) old stored keyed of)
+keyed_added m (Err _) old new stored added unchanged of keyed = All-same (IsKeyed m) new old unchanged keyed
+
+-- the names that are left without one
+pub names_without : (name : List ℕ) (names : List StoredName) → names_of (without name names) ≡ filter (λ other. not (bytes_eq other name)) (names_of names)
+names_without name [] = refl
+names_without name (stored ∷ names) =
+    map_either (not (bytes_eq stored.name name)) stored (without name names)
+    ∙ ap (λ (rest : List (List ℕ)). cond (not (bytes_eq stored.name name)) (stored.name ∷ rest) rest) (names_without name names)
+  where
+    map_either : (b : Bool) (e : StoredName) (es : List StoredName) → names_of (cond b (e ∷ es) es) ≡ cond b (e.name ∷ names_of es) (names_of es)
+    map_either true e es = refl
+    map_either false e es = refl

@@ -1,0 +1,2 @@
+-- making a collator of records
+pub mod MadeLemmas
