@@ -1,6 +1,6 @@
 -- The character that a line of one kind is for.
 use Rattle.std.specs.Prelude.{ℕ, List, [], ◌∷◌}
-use Rattle.collate_lines.specs.Record.{Record, class, mapping, weights, root}
+use Rattle.collate_lines.specs.Record.{Record, class, mapping}
 
 -- the character of a line that gives a class
 abbrev pub class_key : Record → List ℕ
@@ -11,8 +11,3 @@ class_key _ = []
 abbrev pub mapping_key : Record → List ℕ
 mapping_key (mapping c ds is_excluded) = c ∷ []
 mapping_key _ = []
-
--- the character of a line that gives a character by itself its weights
-abbrev pub weights_key : Record → List ℕ
-weights_key (weights root [] (c ∷ []) es) = c ∷ []
-weights_key _ = []

@@ -1,3 +1,2 @@
 -- what is found in lines and in tables of characters
-pub mod CharacterTableLemmas
 pub mod KeyLemmas

@@ -2,7 +2,6 @@
 pub mod AcceptedLemmas
 pub mod FaultLemmas
 pub mod NumberedLemmas
-pub mod PlainLemmas
 pub mod RankLemmas
 pub mod ReadLineLemmas
 pub mod ScalarLemmas

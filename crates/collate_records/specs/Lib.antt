@@ -1,13 +1,10 @@
 pub mod Changes
-pub mod CharacterTables
 pub mod CompiledOf
 pub mod Files
 pub mod Kept
 pub mod Maps
 pub mod Phases
-pub mod Plain
 pub mod Reaching
-pub mod WeightsTables
 pub use Rattle.collate_lines.specs.Grammar
 pub use Rattle.collate_lines.specs.Keys
 pub use Rattle.collate_lines.specs.Lines

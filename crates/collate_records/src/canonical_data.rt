@@ -1,6 +1,6 @@
-//! Canonical data of lines: their classes and mappings, built with what is built in.
+//! Canonical tables and data of lines: their classes and mappings, built with what is built in.
 
-ghost use Rattle.std.specs.Prelude.{IfOk, map};
+ghost use Rattle.std.specs.Prelude.{◌≡◌, IfOk, map};
 ghost use Rattle.icu_normalizer_core.specs.CanonicalFaults.{IsAccepted};
 ghost use Rattle.icu_normalizer_core.specs.CanonicalMaps.{AreMeaning};
 ghost use Rattle.icu_normalizer_core.specs.CanonicalMeaning.{lists_of, meaning};
@@ -10,26 +10,12 @@ ghost use Rattle.collate_lines.specs.Record.{said};
 
 use crate::given_maps::given_maps;
 use collate_lines::record::Record;
-use icu_normalizer_core::canonical::{CanonicalData, CanonicalDataBuildError, CanonicalTables};
+use icu_normalizer_core::canonical::{
+    CanonicalData, CanonicalDataBuildError, CanonicalDataError, CanonicalTables,
+};
 use std::alloc::{AllocError, Global};
 
-/// Canonical data of accepted lines. `AllocError` where memory is refused.
-pub(crate) fn canonical_data(
-    alloc: Global,
-    records: &[Record],
-) -> Result<CanonicalData<'static>, AllocError>
-    requires { AreAccepted (map said records.now) }
-    ensures { IfOk result (λ made. AreMeaning (maps_of (map said records.now)) (meaning made)) }
-{
-    let maps = given_maps(alloc, records)?;
-    match maps.build_data() {
-        Ok(data) => Ok(data),
-        Err(CanonicalDataBuildError::Memory) => Err(AllocError),
-        Err(CanonicalDataBuildError::Rules) => unreachable!(),
-    }
-}
-
-/// Their canonical tables, which pass every check. `AllocError` where memory is refused.
+/// Canonical tables of accepted lines, which pass every check. `AllocError` where memory is refused.
 pub(crate) fn canonical_tables(
     alloc: Global,
     records: &[Record],
@@ -43,5 +29,42 @@ pub(crate) fn canonical_tables(
         Ok(tables) => Ok(tables),
         Err(CanonicalDataBuildError::Memory) => Err(AllocError),
         Err(CanonicalDataBuildError::Rules) => unreachable!(),
+    }
+}
+
+/// A copy of canonical tables. `AllocError` where memory is refused.
+pub(crate) fn copied(
+    alloc: Global,
+    tables: &CanonicalTables<'static>,
+) -> Result<CanonicalTables<'static>, AllocError>
+    ensures { IfOk result (λ copy. copy ≡ tables.now) }
+{
+    let trie = tables.trie.clone(alloc)?;
+    let scalars16 = tables.scalars16.clone(alloc)?;
+    let scalars24 = tables.scalars24.clone(alloc)?;
+    let steps = tables.steps.clone(alloc)?;
+    let pairs = tables.pairs.clone(alloc)?;
+    Ok(CanonicalTables {
+        trie,
+        scalars16,
+        scalars24,
+        steps,
+        pairs,
+    })
+}
+
+/// Canonical data of a copy of tables that pass every check. `AllocError` where memory is refused.
+pub(crate) fn canonical_data(
+    alloc: Global,
+    tables: &CanonicalTables<'static>,
+) -> Result<CanonicalData<'static>, AllocError>
+    requires { IsAccepted (lists_of tables.now) }
+    ensures { IfOk result (λ made. made ≡ tables.now) }
+{
+    let copy = copied(alloc, tables)?;
+    match CanonicalData::try_new(alloc, copy) {
+        Ok(data) => Ok(data),
+        Err(CanonicalDataError::Memory) => Err(AllocError),
+        Err(CanonicalDataError::Fault(_)) => unreachable!(),
     }
 }

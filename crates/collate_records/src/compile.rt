@@ -3,7 +3,6 @@
 ghost use Rattle.std.specs.Prelude.{IfOk};
 ghost use Rattle.collate_records.specs.CompiledOf.{IsCompiledOf};
 
-use crate::canonical_data::canonical_tables;
 use crate::compatibility_data::compatibility_data;
 use crate::records::Records;
 use collate_compile::tables::compile_tables;
@@ -21,7 +20,7 @@ pub fn compile(
 ) -> Result<Provider, AllocError>
     ensures { IfOk result (IsCompiledOf records.now) }
 {
-    let canonical = canonical_tables(alloc, records.lines())?;
+    let canonical = records.copied_tables(alloc)?;
     let compatibility = compatibility_data(alloc, records.lines())?;
     let collation = compile_tables(alloc, records.lines(), &records.canonical(), trie_type)?;
     Ok(Provider::of_tables(canonical, compatibility, collation))

@@ -10,7 +10,6 @@ ghost use Rattle.collate_records.specs.Maps.{maps_of};
 ghost use Rattle.collate_rules.specs.Meaning.{canonical_of, weights_of};
 ghost use Rattle.collate_rules.specs.Offenders.{NoneOffends};
 ghost use Rattle.collate_rules.specs.Accepted.{AreAccepted, AreScalars};
-ghost use Rattle.collate_records.specs.Plain.{ArePlain, MeanPlain};
 ghost use Rattle.collate_records.specs.Files.{IsAccepted};
 ghost use Rattle.collate_lines.specs.Lines.{records_of};
 
@@ -50,14 +49,6 @@ pub fn accepted_records_decompose()
 #[tactic(auto, using(crate::proofs::reading::AcceptedLemmas::accepted_compose))]
 pub fn accepted_records_compose()
     ensures { (records : List Record) → AreAccepted records → IsComposing (canonical_of records) }
-{}
-
-/// Plain records give elements to single characters alone, without prefixes, digits or ranges, and all settings are the
-/// default ones (docs/RECORDS.md).
-///
-/// It computes nothing: its contract is the law.
-pub fn plain_records_mean_plain()
-    ensures { (records : List Record) → ArePlain records → MeanPlain records }
 {}
 
 /// An accepted file gives canonical data, as far as decomposing goes (docs/RECORDS.md; UAX 15).

@@ -9,7 +9,6 @@ pub use collate_provider as provider;
 
 mod canonical_data;
 mod changes;
-mod character_table;
 mod compatibility_data;
 pub mod compile;
 mod given_maps;
@@ -18,7 +17,5 @@ pub mod laws_changes;
 pub mod laws_files;
 pub mod laws_maps;
 pub mod laws_order;
-mod plain_lines;
 mod reader;
 pub mod records;
-mod weights_table;

@@ -1,50 +1,46 @@
 //! What an accepted records file says of characters.
 
 ghost use Rattle.std.specs.Bool.{OnFalse, OnTrue};
-ghost use Rattle.std.specs.Prelude.{◌≡◌, ◌↔◌, ◌∷◌, ℕ, [], All, IsTrue, MatchBool, false, map};
+ghost use Rattle.std.specs.Prelude.{◌≡◌, ◌↔◌, ◌∷◌, ℕ, [], All, IfOk, IsTrue, MatchBool, false, map};
 ghost use Rattle.std.specs.Char.{IsScalar};
-ghost use Rattle.std.specs.Option.{option_copied};
 ghost use Rattle.icu_normalizer_core.specs.BorrowedMeaning.{borrowed_meaning};
-ghost use Rattle.collate_lines.specs.Record.{said};
 ghost use Rattle.icu_normalizer_core.specs.Canonical.{IsCanonical, IsComposing, IsDecomposing};
+ghost use Rattle.icu_normalizer_core.specs.CanonicalFaults.{IsAccepted};
+ghost use Rattle.icu_normalizer_core.specs.CanonicalMaps.{AreMeaning};
+ghost use Rattle.icu_normalizer_core.specs.CanonicalMeaning.{lists_of, meaning};
 ghost use Rattle.icu_normalizer_core.specs.Decoding.{utf8_chars};
 ghost use Rattle.icu_normalizer_core.specs.Properties.{mapped_to};
 ghost use Rattle.icu_normalizer_core.specs.Sameness.{AreSameCanonical};
+ghost use Rattle.collate_lines.specs.Record.{said};
 ghost use Rattle.collate_rules.specs.Accepted.{AreAccepted};
-ghost use Rattle.collate_rules.specs.Meaning.{canonical_of, collation_of, class_of, step_of, pair_of, first_found, lone_elements_in, recorded_in};
+ghost use Rattle.collate_rules.specs.Meaning.{canonical_of, collation_of, class_of, step_of, pair_of};
 ghost use Rattle.collate_records.specs.Changes.{AreSettingsEqual, IsChanged, IsUnchanged};
 ghost use Rattle.collate_records.specs.Files.{IsReadFrom};
-ghost use Rattle.collate_records.specs.Plain.{ArePlain};
+ghost use Rattle.collate_records.specs.Maps.{maps_of};
 ghost use Rattle.collate_records.specs.Reaching.{ReachesNone, ReachesOne, brought_within};
 
-use crate::canonical_data::canonical_data;
+use crate::canonical_data::{canonical_data, canonical_tables, copied};
 use crate::changes::{are_said_alike, are_same_mappings, are_settings_equal};
-use crate::character_table::CharacterTable;
-use crate::plain_lines::are_plain;
 use crate::reader::read_records;
-use crate::weights_table::weights_table;
 use collate_compile::set_lines::file_settings;
 use collate_lines::record::Record;
 use collate_lines::rule::RecordsError;
-use icu_collator_types::elements::Element;
 use icu_collator_types::options::FileSettings;
-use icu_collections::codepointtrie::TrieType;
-use icu_normalizer_core::canonical::{CanonicalBorrowed, CanonicalData};
+use icu_normalizer_core::canonical::{CanonicalBorrowed, CanonicalData, CanonicalTables};
 use icu_normalizer_core::decoding::decode_utf8;
 use icu_normalizer_core::properties::Decomposed;
-use std::alloc::Global;
+use std::alloc::{AllocError, Global};
 use std::marker::Model;
 
 // No chain of mapping steps is longer than there are code points.
 const MOST_STEPS: u32 = 0x11_0000;
 
 /// What an accepted records file says of characters: a list of lines, as its contracts see it, with
-/// canonical data and a look-up table of weights made of them (docs/RECORDS.md). The lines of records are always accepted:
-/// `keep_rules` says so.
+/// canonical tables and data made of them (docs/RECORDS.md). The lines of records are always accepted: `keep_rules` says so.
 pub struct Records {
     records: Vec<Record>,
+    tables: CanonicalTables<'static>,
     canonical: CanonicalData<'static>,
-    weights: CharacterTable<Vec<Element>>,
 }
 
 // (let go of as one, and not part by part, so that what owns one is proved sooner)
@@ -52,15 +48,14 @@ impl Drop for Records {
     fn drop(self) {
         let Records {
             records: _,
+            tables: _,
             canonical: _,
-            weights: _,
         } = self;
     }
 }
 
 impl Model for Records {
-    ghost use Rattle.collate_records.specs.Plain.{ArePlain};
-    ghost use Rattle.std.specs.Prelude.{◌↔◌, IsTrue, List, map};
+    ghost use Rattle.std.specs.Prelude.{List, map};
     ghost use Rattle.collate_lines.specs.Record.{Record as PlainRecord, said};
 
     ghost Value = { List PlainRecord };
@@ -81,27 +76,13 @@ impl Records {
     pub fn read(alloc: Global, bytes: &[u8]) -> Result<Records, RecordsError>
         ensures { IsReadFrom bytes.now result }
     {
-        // most characters stand below 10000 (hex), where a fast trie reads one index cell
-        Records::read_over(alloc, bytes, TrieType::Fast)
-    }
-
-    /// Reads a records file, as `read` does, with the table of weights over a trie of this type: a small one takes less
-    /// memory, a fast one less time a look-up.
-    #[tactic(auto, using(crate::proofs::reading::AcceptedLemmas::accepted_once))]
-    pub fn read_over(
-        alloc: Global,
-        bytes: &[u8],
-        trie_type: TrieType,
-    ) -> Result<Records, RecordsError>
-        ensures { IsReadFrom bytes.now result }
-    {
         let records = read_records(alloc, bytes)?;
-        let canonical = canonical_data(alloc, &records)?;
-        let weights = weights_table(alloc, &records, trie_type)?;
+        let tables = canonical_tables(alloc, &records)?;
+        let canonical = canonical_data(alloc, &tables)?;
         Ok(Records {
             records,
+            tables,
             canonical,
-            weights,
         })
     }
 
@@ -134,13 +115,6 @@ impl Records {
         file_settings(&self.records)
     }
 
-    /// Whether all lines are plain: classes, mappings, and elements of single characters (docs/RECORDS.md).
-    pub fn is_plain(&self) -> bool
-        ensures { IsTrue result ↔ ArePlain self.now }
-    {
-        are_plain(&self.records)
-    }
-
     /// What the file says of classes and mappings, with what is built in, as canonical data: classes, mappings, full lists
     /// and composed pairs of characters (UAX 15). Borrowing takes no memory, nor does any look-up in them.
     pub fn canonical(&self) -> CanonicalBorrowed<'_>
@@ -150,6 +124,17 @@ impl Records {
         ensures canonical { IsCanonical (borrowed_meaning result) }
     {
         self.canonical.as_borrowed()
+    }
+
+    /// A copy of the canonical tables of the lines, which pass every check. `AllocError` where memory is refused.
+    pub(crate) fn copied_tables(
+        &self,
+        alloc: Global,
+    ) -> Result<CanonicalTables<'static>, AllocError>
+        ensures means { IfOk result (λ tables. AreMeaning (maps_of self.now) (meaning tables)) }
+        ensures accepted { IfOk result (λ tables. IsAccepted (lists_of tables)) }
+    {
+        copied(alloc, &self.tables)
     }
 
     /// The canonical combining class of a character: what is built in, else what a line says, else
@@ -166,22 +151,6 @@ impl Records {
         ensures { mapped_to result ≡ step_of self.now c }
     {
         self.canonical().step(c).unwrap_or(Decomposed::Default)
-    }
-
-    /// The elements that a `w` line gives to a code point by itself, which in plain records are the recorded ones; `None`
-    /// where no such line gives it any.
-    pub fn elements32(&self, c: u32) -> Option<&[Element]>
-        ensures lone { option_copied result ≡ first_found (lone_elements_in c) self.now }
-        ensures recorded { ArePlain self.now → option_copied result ≡ recorded_in self.now [] (c ∷ []) }
-    {
-        self.lone_elements(c)
-    }
-
-    /// The elements that a line gives to a code point by itself.
-    fn lone_elements(&self, c: u32) -> Option<&[Element]>
-        ensures { option_copied result ≡ first_found (lone_elements_in c) self.now }
-    {
-        self.weights.get(c).map(|elements| elements.as_slice())
     }
 
     /// Whether two files say different things of a character: its class, its mapping, the range that holds it, its digit,

@@ -4,10 +4,8 @@ use crate::reader::{at, fault_of};
 use collate_records::records::Records;
 use collate_records::rule::Rule;
 use icu_collator_types::options::{AlternateHandling, CollationCaseFirst, MaxVariable};
-use icu_collections::codepointtrie::TrieType;
 use icu_normalizer_core::canonical::CanonicalBorrowed;
 use icu_normalizer_core::properties::Decomposed;
-use std::alloc::Global;
 use std::process::Abort;
 use std::test::Fail;
 
@@ -29,7 +27,7 @@ w 0302 ; [0.8A00.0.0500.0]
 w 0323 ; [0.8C00.0.0500.0]
 ";
 
-/// Characters on either side of what a fast and a small trie find by one index cell.
+/// Characters on either side of 1000 and 10000 (hex), where tries begin to find them in another way.
 const SPREAD: &[u8] = b"class 0FFF 1
 class 1000 2
 class FFFF 3
@@ -69,20 +67,10 @@ fn a_line_more_may_be_at_fault(rt: HostRuntime) -> Result<(), Fail> {
 }
 
 #[test]
-fn letters_over_fast_tries(rt: HostRuntime) -> Result<(), Fail> {
-    letters_are_looked_up(rt.alloc(), &rt, TrieType::Fast)
-}
-
-#[test]
-fn letters_over_small_tries(rt: HostRuntime) -> Result<(), Fail> {
-    letters_are_looked_up(rt.alloc(), &rt, TrieType::Small)
-}
-
-fn letters_are_looked_up(alloc: Global, rt: &impl Abort, trie_type: TrieType) -> Result<(), Fail> {
-    let records = Records::read_over(alloc, LETTERS, trie_type)?;
-    classes_are_said_or_built_in(rt, &records);
-    mappings_are_one_step(rt, &records);
-    elements_are_those_of_the_line(rt, &records);
+fn letters_are_looked_up(rt: HostRuntime) -> Result<(), Fail> {
+    let records = Records::read(rt.alloc(), LETTERS)?;
+    classes_are_said_or_built_in(&rt, &records);
+    mappings_are_one_step(&rt, &records);
     Ok(())
 }
 
@@ -111,13 +99,6 @@ fn mappings_are_one_step(rt: &impl Abort, records: &Records) {
     }
 }
 
-fn elements_are_those_of_the_line(rt: &impl Abort, records: &Records) {
-    assert!(rt; records.elements32(0x7a).is_none());
-    let elements = records.elements32(0x301).unwrap_or(&[]);
-    assert_eq!(rt; elements.len(), 1);
-    assert_eq!(rt; elements[0].secondary, 0x8800);
-}
-
 #[test]
 fn ok_settings(rt: HostRuntime) -> Result<(), Fail> {
     let file = b"set maxvariable space\n\nset casefirst lower\nset alternate shifted";
@@ -125,22 +106,6 @@ fn ok_settings(rt: HostRuntime) -> Result<(), Fail> {
     assert_eq!(rt; settings.alternate_handling, AlternateHandling::Shifted);
     assert_eq!(rt; settings.case_first, CollationCaseFirst::Lower);
     assert_eq!(rt; settings.max_variable, MaxVariable::Space);
-    Ok(())
-}
-
-#[test]
-fn ok_is_plain(rt: HostRuntime) -> Result<(), Fail> {
-    assert!(rt; Records::read(rt.alloc(), LETTERS)?.is_plain());
-    for file in [
-        b"t 0061 ;".as_slice(),
-        b"w 0062 ;\nw 0061 | 0062 ;".as_slice(),
-        b"w 0061 0062 ;".as_slice(),
-        b"range 4E00 9FFF E0020200 1".as_slice(),
-        b"w 0030 ;\ndigit 0030 0".as_slice(),
-        b"set alternate nonignorable".as_slice(),
-    ] {
-        assert!(rt; !Records::read(rt.alloc(), file)?.is_plain());
-    }
     Ok(())
 }
 
@@ -170,20 +135,10 @@ fn composes_letters(canonical: CanonicalBorrowed<'_>) -> bool {
 }
 
 #[test]
-fn numbers_over_fast_tries(rt: HostRuntime) -> Result<(), Fail> {
-    numbers_are_looked_up(rt.alloc(), &rt, TrieType::Fast)
-}
-
-#[test]
-fn numbers_over_small_tries(rt: HostRuntime) -> Result<(), Fail> {
-    numbers_are_looked_up(rt.alloc(), &rt, TrieType::Small)
-}
-
-fn numbers_are_looked_up(alloc: Global, rt: &impl Abort, trie_type: TrieType) -> Result<(), Fail> {
-    let records = Records::read_over(alloc, SPREAD, trie_type)?;
-    classes_are_those_of_numbers(rt, &records);
-    mappings_are_those_of_numbers(rt, &records);
-    elements_are_those_of_numbers(rt, &records);
+fn numbers_are_looked_up(rt: HostRuntime) -> Result<(), Fail> {
+    let records = Records::read(rt.alloc(), SPREAD)?;
+    classes_are_those_of_numbers(&rt, &records);
+    mappings_are_those_of_numbers(&rt, &records);
     // an x keeps the mapping out of the composed pairs
     assert!(rt; records.canonical().compose('d', 'e').is_none());
     Ok(())
@@ -213,36 +168,17 @@ fn mappings_are_those_of_numbers(rt: &impl Abort, records: &Records) {
     }
 }
 
-fn elements_are_those_of_numbers(rt: &impl Abort, records: &Records) {
-    let counts: [(u32, Option<usize>); 5] = [
-        (0xffd, Some(1)),
-        (0x1002, Some(0)),
-        (0x1_0002, Some(2)),
-        (0x10_fffd, Some(1)),
-        (0x11_0000, None),
-    ];
-    for (code, count) in counts {
-        assert_eq!(rt; count_at(records, code), count);
-    }
-}
-
-fn count_at(records: &Records, c: u32) -> Option<usize> {
-    records.elements32(c).map(|elements| elements.len())
-}
-
 #[test]
 fn as_many_characters_as_a_file_names(rt: HostRuntime) -> Result<(), Fail> {
     let alloc = rt.alloc();
     let mut file = String::new(alloc);
     for i in 0..150u32 {
         let code = 0xe000 + 0x1000 * i;
-        file.push_str(&format!(in alloc; "w {code:04X} ;\n")?)?;
+        file.push_str(&format!(in alloc; "class {code:04X} 1\n")?)?;
     }
-    for trie_type in [TrieType::Fast, TrieType::Small] {
-        let records = Records::read_over(alloc, file.as_bytes(), trie_type)?;
-        assert!(rt; records.elements32(0xe000).is_some());
-        assert!(rt; records.elements32(0xe001).is_none());
-        assert!(rt; records.elements32(0xe000 + 0x1000 * 149).is_some());
-    }
+    let records = Records::read(alloc, file.as_bytes())?;
+    assert_eq!(rt; records.class('\u{e000}'), 1);
+    assert_eq!(rt; records.class('\u{e001}'), 0);
+    assert_eq!(rt; records.class('\u{a3000}'), 1);
     Ok(())
 }

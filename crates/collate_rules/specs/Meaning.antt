@@ -94,10 +94,6 @@ elements_in layer prefix text (weights of_layer before key es) =
     cond (is_same_layer layer of_layer && bytes_eq prefix before && bytes_eq text key) (Some es) None
 elements_in layer prefix text _ = None
 
--- the elements that a w line gives to a character by itself
-abbrev pub lone_elements_in : ℕ → Record → Option (List Element)
-lone_elements_in c = elements_in root [] (c ∷ [])
-
 -- The elements of a text after a prefix. A record of the tailoring replaces the one of the same prefix and text.
 abbrev pub recorded_in : List Record → List ℕ → List ℕ → Option (List Element)
 recorded_in records prefix text =

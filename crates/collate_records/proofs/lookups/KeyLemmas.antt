@@ -1,27 +1,23 @@
--- How many lines of one kind an accepted file has: each is for a character of its own, and few are named.
-use Rattle.std.proofs.Common.{◌≡◌, ℕ, zero, suc, ◌+◌, ◌<◌, ◌≤◌, ◌⊎◌, inl, inr, ⊎_elim, Bool, true, false, cond, ◌||◌, ◌&&◌, eqb, List, [], ◌∷◌, ◌++◌, length, map, take, get_or, Option, Some, None, refl, sym, ap, ◌∙◌, subst, arith, append-nil, length-append}
+-- Lines of one kind: each is for a character of its own, which it names.
+use Rattle.std.proofs.Common.{◌≡◌, ℕ, zero, suc, ◌+◌, ◌<◌, ◌≤◌, ◌⊎◌, inl, inr, ⊎_elim, Bool, true, false, cond, ◌||◌, eqb, List, [], ◌∷◌, ◌++◌, length, take, Option, Some, None, refl, sym, ap, ◌∙◌, subst, arith, append-nil}
 use Rattle.std.specs.Prelude.{flat_map}
 use Rattle.std.specs.Cmp.{nat_eq_equiv}
 use Rattle.std.specs.List.{list_any, IsDistinct}
 use Rattle.std.specs.Set.{is_member, unique_keys}
-use Rattle.std.proofs.lemmas.Bool.{cases_lt, eqb-true, false≢true, or_cases, or_parts, or_left, or_right, false_from_ne_true}
+use Rattle.std.proofs.lemmas.Bool.{eqb-true, false≢true, or_cases, or_parts, or_left, or_right, false_from_ne_true}
 use Rattle.std.proofs.lemmas.Grind.{flat_map-append}
-use Rattle.std.proofs.lemmas.List.{take_more, length-map}
+use Rattle.std.proofs.lemmas.List.{take_more}
 use Rattle.std.proofs.lemmas.List.Folds.{list_any-append}
 use Rattle.std.proofs.lemmas.Map.Keys.{IsDistinct-push}
-use Rattle.std.proofs.lemmas.Map.Made.{length-le_from_is_member}
 use Rattle.std.proofs.lemmas.Option.{unwrap_or-slice_get}
-use Rattle.std.proofs.Math.Bool.{or-false, and-false, and-true}
-use Rattle.icu_collator_types.specs.declared.elements.Element.{Element}
-use Rattle.collate_lines.specs.declared.rule.Rule.TheVariants.{Limit, V14}
-use Rattle.collate_lines.specs.Record.{Record, said, nothing, class, mapping, compatibility, weights, range, digit, setting, root, tailoring, lone_weights}
-use Rattle.collate_rules.specs.Meaning.{first_found, mapping_in, lone_elements_in}
+use Rattle.std.proofs.Math.Bool.{or-false}
+use Rattle.collate_lines.specs.declared.rule.Rule.TheVariants.{V14}
+use Rattle.collate_lines.specs.Record.{Record, nothing, class, mapping, compatibility, weights, range, digit, setting}
+use Rattle.collate_rules.specs.Meaning.{first_found, mapping_in}
 use Rattle.collate_lines.specs.Repeats.{record_at, is_second, Repeats}
-use Rattle.collate_rules.specs.Rules.{named, names_in, different}
+use Rattle.collate_rules.specs.Rules.{named, different}
 use Rattle.collate_rules.specs.Offenders.{NoneOffends}
-use Rattle.collate_lines.specs.declared.record.Record.{Record as Line}
-use Rattle.collate_rules.proofs.offenders.LimitLemmas.{said_of}
-use Rattle.collate_lines.specs.Keys.{class_key, mapping_key, weights_key}
+use Rattle.collate_lines.specs.Keys.{class_key, mapping_key}
 
 -- a line is for one character, which it names, as others of its kind are for theirs
 pub record IsKeyOf (key : Record → List ℕ) (s : Record) (c : ℕ) : Type 0 where
@@ -75,34 +71,6 @@ mapping_kind (weights l p t es) = inl refl
 mapping_kind (range r) = inl refl
 mapping_kind (digit d v) = inl refl
 mapping_kind (setting s) = inl refl
-
-weights_second : (c : ℕ) (es : List Element) (t : Record) → list_any (λ d. eqb c d) (weights_key t) ≡ is_second t (lone_weights c es)
-weights_second c es nothing = refl
-weights_second c es (class d l) = refl
-weights_second c es (mapping d ds x) = refl
-weights_second c es (compatibility d ds) = refl
-weights_second c es (weights root [] [] fs) = refl
-weights_second c es (weights root [] (d ∷ []) fs) = turned c d ∙ sym (and-true (eqb d c))
-weights_second c es (weights root [] (d ∷ e ∷ ds) fs) = sym (and-false (eqb d c))
-weights_second c es (weights root (p ∷ ps) text fs) = refl
-weights_second c es (weights tailoring prefix text fs) = refl
-weights_second c es (range r) = refl
-weights_second c es (digit d v) = refl
-weights_second c es (setting s) = refl
-
-pub weights_kind : IsKind weights_key
-weights_kind nothing = inl refl
-weights_kind (class c k) = inl refl
-weights_kind (mapping c ds x) = inl refl
-weights_kind (compatibility d ds) = inl refl
-weights_kind (weights root [] [] es) = inl refl
-weights_kind (weights root [] (c ∷ []) es) = inr (c, record { is = refl; second = weights_second c es; names = λ q h. or_left (eqb q c) false h })
-weights_kind (weights root [] (c ∷ d ∷ ds) es) = inl refl
-weights_kind (weights root (p ∷ ps) text es) = inl refl
-weights_kind (weights tailoring prefix text es) = inl refl
-weights_kind (range r) = inl refl
-weights_kind (digit d v) = inl refl
-weights_kind (setting s) = inl refl
 
 -- how many different numbers stand in a list
 picked : (b : Bool) (n c : ℕ) (cs : List ℕ) → n ≡ length cs → cond b n (1 + n) ≡ length (cond b cs (c ∷ cs))
@@ -180,22 +148,6 @@ module _ (key : Record → List ℕ) (kind : IsKind key) where
       (λ later. or_right (list_any (λ d. eqb q d) (named x)) _ (key_named q xs later))
       (or_cases _ _ (sym (list_any-append (λ d. eqb q d) (key x) (flat_map key xs)) ∙ h))
 
-  keys_few : (records : List Record) → NoneOffends V14 records → (i : ℕ) → i ≤ length records → length (flat_map key (take i records)) ≤ different (flat_map named (take i records))
-  keys_few records once i h =
-      let names = flat_map named (take i records) in
-      let few = length-le_from_is_member nat_eq_equiv (flat_map key (take i records)) (unique_keys eqb names) (distinct_to records once i h) (λ q is. is_member-unique q names ∙ key_named q (take i records) is) in
-      omega (arith, different-unique names, few)
-
-  -- how many lines of the kind there are at most
-  pub keys_limit : (records : List Record) → NoneOffends V14 records → NoneOffends Limit records → (i : ℕ) → i ≤ length records → length (flat_map key (take i records)) ≤ 150
-  keys_limit records once few zero h = omega arith
-  keys_limit records once few (suc i) h =
-      let before : i < length records = omega arith in
-      let same : i + 1 ≡ suc i = omega arith in
-      let names = names_in (take (i + 1) records) in
-      let bounded : names ≤ 150 = ⊎_elim (λ (past : 150 < names). absurd (few i before (inl past))) (λ (within : names ≤ 150). within) (cases_lt 150 names) in
-      subst (λ (n : ℕ). length (flat_map key (take n records)) ≤ 150) same (omega (arith, keys_few records once (i + 1) (omega arith), bounded))
-
 turned_false : (d c : ℕ) → eqb d c ≡ false → eqb c d ≡ false
 turned_false d c h = nat_eq_equiv.symm c d ∙ h
 
@@ -217,46 +169,3 @@ mapping-absent c cs x (weights l p t es ∷ xs) h = mapping-absent c cs x xs h
 mapping-absent c cs x (range r ∷ xs) h = mapping-absent c cs x xs h
 mapping-absent c cs x (digit d v ∷ xs) h = mapping-absent c cs x xs h
 mapping-absent c cs x (setting s ∷ xs) h = mapping-absent c cs x xs h
-
--- what a w line gives to a character by itself
-pub lone_is : (q c : ℕ) (es : List Element) → lone_elements_in q (lone_weights c es) ≡ cond (eqb q c) (Some es) None
-lone_is q c es = ap (λ (b : Bool). cond b (Some es) None) (and-true (eqb q c))
-
--- nor elements
-pub weights-absent : (c : ℕ) (es : List Element) (xs : List Record) → list_any (λ t. is_second t (lone_weights c es)) xs ≡ false → first_found (lone_elements_in c) xs ≡ None
-weights-absent c es [] h = refl
-weights-absent c es (nothing ∷ xs) h = weights-absent c es xs h
-weights-absent c es (class d l ∷ xs) h = weights-absent c es xs h
-weights-absent c es (mapping d ds x ∷ xs) h = weights-absent c es xs h
-weights-absent c es (compatibility d ds ∷ xs) h = weights-absent c es xs h
-weights-absent c es (weights root [] [] fs ∷ xs) h = weights-absent c es xs h
-weights-absent c es (weights root [] (d ∷ []) fs ∷ xs) h =
-    let w = or_parts (eqb d c && true) _ h in
-    passed (eqb c d && true) (Some fs) _ (and-true (eqb c d) ∙ turned_false d c (sym (and-true (eqb d c)) ∙ w.0)) (weights-absent c es xs w.1)
-weights-absent c es (weights root [] (d ∷ e ∷ ds) fs ∷ xs) h =
-    let w = or_parts (eqb d c && false) _ h in passed (eqb c d && false) (Some fs) _ (and-false (eqb c d)) (weights-absent c es xs w.1)
-weights-absent c es (weights root (p ∷ ps) text fs ∷ xs) h = weights-absent c es xs h
-weights-absent c es (weights tailoring prefix text fs ∷ xs) h = weights-absent c es xs h
-weights-absent c es (range r ∷ xs) h = weights-absent c es xs h
-weights-absent c es (digit d v ∷ xs) h = weights-absent c es xs h
-weights-absent c es (setting s ∷ xs) h = weights-absent c es xs h
-
--- the lines of a kind up to one more
-keys_push : (key : Record → List ℕ) (lines : List Record) (s : Record) → flat_map key (lines ++ s ∷ []) ≡ flat_map key lines ++ key s
-keys_push key lines s = flat_map-append key lines (s ∷ []) ∙ ap (λ (cs : List ℕ). flat_map key lines ++ cs) (append-nil (key s))
-
-pub count_same : (key : Record → List ℕ) (n : ℕ) (lines : List Record) (s : Record) → n ≡ length (flat_map key lines) → key s ≡ [] → n ≡ length (flat_map key (lines ++ s ∷ []))
-count_same key n lines s e none = e ∙ ap length (sym (append-nil (flat_map key lines)) ∙ ap (λ (cs : List ℕ). flat_map key lines ++ cs) (sym none) ∙ sym (keys_push key lines s))
-
-pub count_more : (key : Record → List ℕ) (n m : ℕ) (lines : List Record) (s : Record) (c : ℕ)
-    → n ≡ length (flat_map key lines) → m ≡ n + 1 → key s ≡ c ∷ [] → m ≡ length (flat_map key (lines ++ s ∷ []))
-count_more key n m lines s c e more one =
-    omega (arith, ap length (keys_push key lines s ∙ ap (λ (cs : List ℕ). flat_map key lines ++ cs) one), length-append (flat_map key lines) (c ∷ []))
-
--- no earlier line is for the same thing as line i
-pub fresh_at : (lines : List Line) (i : ℕ) (x : Line) → i < length lines → x ≡ get_or lines i x → NoneOffends V14 (map said lines)
-    → list_any (λ s. is_second s (said x)) (take i (map said lines)) ≡ false
-fresh_at lines i x h e once =
-    let here : record_at (map said lines) i ≡ said x = unwrap_or-slice_get (map said lines) i nothing ∙ said_of lines i x h e in
-    ap (λ (s : Record). list_any (λ t. is_second t s) (take i (map said lines))) (sym here)
-    ∙ false_from_ne_true _ (once i (omega (arith, length-map lines said)))

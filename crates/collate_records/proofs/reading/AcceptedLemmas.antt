@@ -7,7 +7,7 @@ use Rattle.std.proofs.lemmas.List.{get_or_default}
 use Rattle.std.proofs.lemmas.List.Elements.{All-filter, All-get_or, All-map, All-weaker}
 use Rattle.icu_normalizer_core.specs.Canonical.{IsDecomposing, IsComposing}
 use Rattle.collate_lines.specs.declared.rule.Rule.{Rule}
-use Rattle.collate_lines.specs.declared.rule.Rule.TheVariants.{Grammar, Limit, V14, C1, C2, C3, C4, C6, C7, C9}
+use Rattle.collate_lines.specs.declared.rule.Rule.TheVariants.{Grammar, V14, C1, C2, C3, C4, C6, C7, C9}
 use Rattle.collate_lines.specs.Grammar.{record_of}
 use Rattle.collate_rules.specs.Accepted.{AreAccepted, AreScalars, HasSmallClass, IsSaid, MapsToScalars}
 use Rattle.collate_records.specs.Files.{IsAccepted}
@@ -35,12 +35,6 @@ kept file accepted V14 j lt offends =
     accepted V14 (get_or (numbers_of file) j 0) ((λ past. accepted Grammar _ (inr past)), (j, at, offends))
 kept file accepted rule j lt offends =
     let at = slice_get-get_or (numbers_of file) j 0 (omega (arith, as_many file)) in accepted rule (get_or (numbers_of file) j 0) (j, at, offends)
-
-pub accepted_once : (file : List ℕ) → IsAccepted file → NoneOffends V14 (records_of file)
-accepted_once file accepted = kept file accepted V14
-
-pub accepted_few : (file : List ℕ) → IsAccepted file → NoneOffends Limit (records_of file)
-accepted_few file accepted = kept file accepted Limit
 
 -- an accepted file gives small classes
 pub accepted_classes : (file : List ℕ) → IsAccepted file → All HasSmallClass (records_of file)

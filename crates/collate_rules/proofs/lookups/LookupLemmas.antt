@@ -1,8 +1,7 @@
--- what is found in lines after others, and in tables with one value more
+-- what is found in lines after others
 use Rattle.std.proofs.lemmas.List.{get_or-map, length-map}
-use Rattle.std.proofs.lemmas.Bool.{eqb-true}
 use Rattle.std.proofs.lemmas.List.Elements.{All-get_or}
-use Rattle.std.proofs.Common.{◌<◌, length, get_or, map, All, subst, ◌≡◌, ℕ, eqb, cond, List, [], ◌∷◌, ◌++◌, Option, Some, None, option_map, refl, sym, ap, ◌∙◌, Bool, true, false, Result, Ok, Err, OnOk}
+use Rattle.std.proofs.Common.{◌<◌, length, get_or, map, All, subst, ◌≡◌, ℕ, List, [], ◌∷◌, ◌++◌, Option, Some, None, refl, sym, ap, ◌∙◌}
 use Rattle.std.specs.Option.{option_or}
 use Rattle.collate_rules.specs.Meaning.{first_found}
 
@@ -27,29 +26,6 @@ option_or-none (Some x) = refl
 -- an item that says nothing of it changes nothing
 pub first_found-skip : {A B : Type 0} (f : A → Option B) (xs : List A) (x : A) → f x ≡ None → first_found f (xs ++ x ∷ []) ≡ first_found f xs
 first_found-skip f xs x e = first_found-push f xs x ∙ ap (λ o. option_or (first_found f xs) o) e ∙ option_or-none (first_found f xs)
-
--- a table that has what is found first has it still after one more item, which is the first for its key
-pub finds_more : {A V B : Type 0} (f : V → B) (find : ℕ → A → Option B) (old new : ℕ → Option V) (xs : List A) (x : A) (k : ℕ) (v : V)
-    → ((q : ℕ) → option_map f (old q) ≡ first_found (find q) xs) → first_found (find k) xs ≡ None
-    → ((q : ℕ) → new q ≡ cond (eqb q k) (Some v) (old q))
-    → ((q : ℕ) → find q x ≡ cond (eqb q k) (Some (f v)) None)
-    → (q : ℕ) → option_map f (new q) ≡ first_found (find q) (xs ++ x ∷ [])
-finds_more {A} {V} {B} f find old new xs x k v has absent puts says q = by (eqb q k) refl ∙ sym (first_found-push (find q) xs x)
-  where
-    by : (b : Bool) → eqb q k ≡ b → option_map f (new q) ≡ option_or (first_found (find q) xs) (find q x)
-    by true e =
-        ap (option_map f) (puts q ∙ ap (λ (b : Bool). cond b (Some v) (old q)) e)
-        ∙ sym (ap (λ (o : Option B). option_or o (find q x)) (subst (λ (n : ℕ). first_found (find n) xs ≡ None) (sym (eqb-true q k e)) absent)
-        ∙ says q ∙ ap (λ (b : Bool). cond {A = Option B} b (Some (f v)) None) e)
-    by false e =
-        ap (option_map f) (puts q ∙ ap (λ (b : Bool). cond b (Some v) (old q)) e) ∙ has q
-        ∙ sym (ap (λ (o : Option B). option_or (first_found (find q) xs) o) (says q ∙ ap (λ (b : Bool). cond {A = Option B} b (Some (f v)) None) e)
-        ∙ option_or-none (first_found (find q) xs))
-
--- what follows where there is a value
-pub OnOk-both : {T E : Type 0} (r : Result T E) {P Q R : Type 0} → OnOk r P → OnOk r Q → (P → Q → R) → OnOk r R
-OnOk-both (Ok x) h i f = f h i
-OnOk-both (Err e) h i f = tt
 
 -- what holds of each line holds of the line at a place
 pub All-map_at : {A B : Type 0} (P : B → Type 0) (f : A → B) (xs ys : List A) (i : ℕ) (x : A)

@@ -1,17 +1,14 @@
-use Rattle.std.proofs.Common.{◌≡◌, List, map, subst, ⊎_elim}
-use Rattle.icu_normalizer_core.specs.CanonicalMaps.{AreMeaning, CanonicalMaps}
-use Rattle.icu_normalizer_core.specs.CanonicalMeaning.{meaning}
-use Rattle.collate_lines.specs.Record.{said}
-use Rattle.collate_records.proofs.maps.BuildErrorLemmas.{not_both}
-use Rattle.collate_records.proofs.maps.AllMapLemmas.{keep_all}
+use Rattle.std.proofs.Common.{◌≡◌, subst, sym}
+use Rattle.icu_normalizer_core.specs.CanonicalFaults.{IsAccepted}
+use Rattle.icu_normalizer_core.specs.CanonicalMeaning.{lists_of}
+use Rattle.icu_normalizer_core.specs.declared.canonical.tables.CanonicalTables.{CanonicalTables}
+use Rattle.icu_normalizer_core.proofs.builder.BuiltTableLemmas.{fault_refutes}
 use Rattle.collate_records.proofs.canonical_data.canonical_data.Goals as goal
 
 pub returns-in-Ok : goal.returns-in-Ok
-returns-in-Ok c =
-    subst (λ (maps : CanonicalMaps). AreMeaning maps (meaning c.in-Ok.data)) c.in_ok-maps.ensures.canonical c.in-Ok.ensures.means
+returns-in-Ok c = c.in-Ok.ensures.0 ∙ c.in_ok-copy.ensures
 
 pub unreachable-requires : goal.unreachable-requires
 unreachable-requires c =
-    let are = c.in_ok-maps.ensures in
-    ⊎_elim (λ memory. not_both c.in-Err-Rules.field-0 c.in-Err-Rules.field-0-is memory)
-    (λ w. w.1 (keep_all (map said c.args.records.now) c.in_ok-maps.maps c.requires are).0) c.in-Err-Rules.ensures.refused
+    fault_refutes (lists_of c.in_ok-copy.copy) c.in-Err-Fault.field-0 c.in-Err-Fault.ensures
+    (subst (λ (tables : CanonicalTables). IsAccepted (lists_of tables)) (sym c.in_ok-copy.ensures) c.requires)

@@ -1,4 +1,4 @@
-use Rattle.std.proofs.Common.{List, subst, sym}
+use Rattle.std.proofs.Common.{List, subst, sym, ◌∙◌}
 use Rattle.icu_normalizer_core.specs.declared.canonical.tables.CanonicalTables.{CanonicalTables}
 use Rattle.icu_normalizer_core.specs.BorrowedMeaning.{borrowed_meaning}
 use Rattle.icu_normalizer_core.specs.CanonicalMaps.{AreMeaning}
@@ -14,8 +14,8 @@ accepted c = subst AreAccepted c.self.view_is c.self.invariant.accepted
 
 means : (c : goal.After-as_borrowed) → AreMeaning (maps_of c.args.self.now) (borrowed_meaning c.as_borrowed.result)
 means c =
-    subst (λ (tables : CanonicalTables). AreMeaning (maps_of c.args.self.now) (meaning tables)) (sym c.as_borrowed.ensures.same)
-    (subst (λ (lines : List Record). AreMeaning (maps_of lines) (meaning c.self.inside.canonical)) c.self.view_is c.self.invariant.canonical)
+    subst (λ (tables : CanonicalTables). AreMeaning (maps_of c.args.self.now) (meaning tables)) (sym (c.as_borrowed.ensures.same ∙ c.self.invariant.canonical))
+    (subst (λ (lines : List Record). AreMeaning (maps_of lines) (meaning c.self.inside.tables)) c.self.view_is c.self.invariant.means)
 
 pub returns-clause-same : goal.returns-clause-same
 returns-clause-same c = accepted_same c.args.self.now (borrowed_meaning c.as_borrowed.result) (accepted c) (means c)

@@ -1,0 +1,25 @@
+use Rattle.std.proofs.Common.{map, List, subst, sym, ap, ◌∙◌}
+use Rattle.collate_lines.specs.declared.record.Record.{Record as Line}
+use Rattle.collate_records.specs.Maps.{maps_of}
+use Rattle.collate_lines.specs.Record.{said}
+use Rattle.collate_rules.specs.Accepted.{AreAccepted}
+use Rattle.icu_normalizer_core.specs.CanonicalMaps.{AreMeaning}
+use Rattle.icu_normalizer_core.specs.CanonicalMeaning.{meaning}
+use Rattle.collate_records.proofs.reading.AcceptedLemmas.{accepted_lines}
+use Rattle.collate_records.proofs.records.Records.read.Goals as goal
+
+pub canonical_tables-requires : goal.canonical_tables-requires
+canonical_tables-requires c =
+    let read = c.in_ok-records.ensures in
+    let same = ap (λ (lines : List Line). map said lines) c.deref.ensures.value ∙ read.1 in
+    subst AreAccepted (sym same) (accepted_lines c.args.bytes.now read.0)
+
+pub invariant_of-result : goal.invariant_of-result
+invariant_of-result c =
+    let read = c.in_ok-records.ensures in
+    record {
+      accepted = subst AreAccepted (sym read.1) (accepted_lines c.args.bytes.now read.0);
+      means = subst (λ (lines : List Line). AreMeaning (maps_of (map said lines)) (meaning c.in_ok-tables.tables)) c.deref.ensures.value c.in_ok-tables.ensures.means;
+      checked = c.in_ok-tables.ensures.accepted;
+      canonical = c.in_ok-canonical.ensures;
+    }
