@@ -164,7 +164,7 @@ impl Records {
         if !are_same_mappings(self.mapping(c), other.mapping(c)) {
             return true;
         }
-        !are_said_alike(&self.records, &other.records, c)
+        !are_said_alike(self.lines(), other.lines(), c)
     }
 
     /// Whether two files have the same settings, by value: where none is set the default counts, compressible leads are a

@@ -16,7 +16,7 @@ use Rattle.collate_records.proofs.reading.SoundSettingLemmas.{accepted_soundly_s
 use Rattle.collate_records.proofs.compile.compile.Goals as goal
 
 pub compile_tables-requires-clause-settings : goal.compile_tables-requires-clause-settings
-compile_tables-requires-clause-settings c = accepted_soundly_set (map said c.lines-3.result.now) c.lines-3.ensures.accepted
+compile_tables-requires-clause-settings c = accepted_soundly_set (map said c.lines-2.result.now) c.lines-2.ensures.accepted
 
 pub returns : goal.returns
 returns c =
@@ -25,11 +25,10 @@ returns c =
     compiled_of lines c.of_tables.result
     (subst AreAccepted c.lines.ensures.same c.lines.ensures.accepted)
     (subst (λ (tables : CanonicalTables). IsAcceptedCanonical (lists_of tables)) (sym given.canonical) c.in_ok-canonical.ensures.accepted)
-    (subst (λ (tables : CanonicalTables). AreMeaning (maps_of lines) (meaning tables)) (sym given.canonical)
-    (subst (λ (ls : List Record). AreMeaning (maps_of ls) (meaning c.in_ok-canonical.canonical)) c.lines.ensures.same c.in_ok-canonical.ensures.means))
+    (subst (λ (tables : CanonicalTables). AreMeaning (maps_of lines) (meaning tables)) (sym given.canonical) c.in_ok-canonical.ensures.means)
     (subst (λ (tables : NfkdTables). AreWordsOf lines (nfkd_lists tables)) (sym given.compatibility)
-    (subst (λ (ls : List Record). AreWordsOf ls (nfkd_lists c.in_ok-compatibility.compatibility)) c.lines-2.ensures.same c.in_ok-compatibility.ensures.means))
+    (subst (λ (ls : List Record). AreWordsOf ls (nfkd_lists c.in_ok-compatibility.compatibility)) c.lines.ensures.same c.in_ok-compatibility.ensures.means))
     (subst (λ (tables : NfkdTables). AreAcceptedOver (maps_of lines) (nfkd_lists tables)) (sym given.compatibility)
-    (subst (λ (ls : List Record). AreAcceptedOver (maps_of ls) (nfkd_lists c.in_ok-compatibility.compatibility)) c.lines-2.ensures.same c.in_ok-compatibility.ensures.accepted))
+    (subst (λ (ls : List Record). AreAcceptedOver (maps_of ls) (nfkd_lists c.in_ok-compatibility.compatibility)) c.lines.ensures.same c.in_ok-compatibility.ensures.accepted))
     (subst (AreCompiledFrom lines) (sym given.collation)
-    (subst (λ (ls : List Record). AreCompiledFrom ls c.in_ok-collation.collation) c.lines-3.ensures.same c.in_ok-collation.ensures))
+    (subst (λ (ls : List Record). AreCompiledFrom ls c.in_ok-collation.collation) c.lines-2.ensures.same c.in_ok-collation.ensures))
