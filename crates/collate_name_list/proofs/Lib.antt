@@ -1,0 +1,6 @@
+pub mod EntryLemmas
+pub mod KeptLemmas
+pub mod ListLemmas
+pub mod PlacesLemmas
+pub mod RoomLemmas
+pub mod SlotLemmas

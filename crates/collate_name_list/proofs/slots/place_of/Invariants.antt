@@ -1,0 +1,13 @@
+use Rattle.std.proofs.Common.{◌-◌, ◌≤◌}
+use Rattle.collate_names.proofs.SearchLemmas.{IsNarrowed}
+use Rattle.collate_name_list.specs.Slots.{compared}
+use Rattle.collate_name_list.proofs.slots.place_of.Given as goal
+
+abbrev pub invariant-loop-low : goal.invariant-loop-low
+invariant-loop-low l = record {
+  narrowed : IsNarrowed (compared l.slots l.sought) l.past_equal l.places l.initial.count l.low l.high l.count;
+  grown : l.initial.count ≤ l.count;
+}
+
+abbrev pub decreases-loop-low : goal.decreases-loop-low
+decreases-loop-low l = l.high - l.low

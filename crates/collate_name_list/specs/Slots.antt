@@ -1,0 +1,69 @@
+-- how a list of names is kept: its names in slots, as they arrived, some of the slots emptied; and the full slots in two orders
+use Rattle.std.specs.Prelude.{◌≡◌, ℕ, ◌+◌, List, [], ◌∷◌, map, slice_index_or, Option, Some, None, IsSome}
+use Rattle.std.specs.Cmp.Lexicographic.{slice_cmp}
+use Rattle.std.specs.Ordering.{nat_cmp, on, ordering_then}
+use Rattle.std.specs.declared.cmp.Ordering.{Ordering}
+use Rattle.collate_names.specs.Names.{in_order}
+use Rattle.collate_name_list.specs.StoredNames.{StoredName, key_order}
+use Rattle.collate_name_list.specs.declared.slots.Stored.{Stored}
+use Rattle.collate_name_list.specs.declared.slots.Sought.{Sought}
+use Rattle.collate_name_list.specs.declared.slots.Sought.TheVariants.{Key, Name, Slot}
+use Rattle.collate_name_list.specs.declared.name_list.NameList.TheInside.{Inside}
+
+-- what a slot holds
+abbrev pub entry_of : Stored → StoredName
+entry_of s = record { key = s.key; name = s.bytes.items }
+
+-- an empty slot as one with no bytes
+abbrev pub entry_or_none : Option Stored → StoredName
+entry_or_none None = record { key = []; name = [] }
+entry_or_none (Some s) = entry_of s
+
+-- what stands at a slot
+abbrev pub entry_at : List (Option Stored) → ℕ → StoredName
+entry_at slots slot = entry_or_none (slice_index_or slots slot None)
+
+-- a slot has a name
+abbrev pub IsFull : List (Option Stored) → ℕ → Type 0
+IsFull slots slot = IsSome (slice_index_or slots slot None)
+
+-- the slots that have names, the first of all counted as from
+abbrev pub full_slots : ℕ → List (Option Stored) → List ℕ
+full_slots from [] = []
+full_slots from (None ∷ slots) = full_slots (from + 1) slots
+full_slots from (Some s ∷ slots) = from ∷ full_slots (from + 1) slots
+
+-- the names in slots, as they arrived
+abbrev pub entries : List (Option Stored) → List StoredName
+entries slots = map (entry_at slots) (full_slots 0 slots)
+
+-- names compare as their bytes do
+abbrev pub bytes_order : StoredName → StoredName → Ordering
+bytes_order a b = slice_cmp nat_cmp a.name b.name
+
+-- the full slots in order of their keys, and of their names' bytes
+abbrev pub slots_by_key : List (Option Stored) → List ℕ
+slots_by_key slots = in_order (on (entry_at slots) key_order) (full_slots 0 slots)
+
+abbrev pub slots_by_name : List (Option Stored) → List ℕ
+slots_by_name slots = in_order (on (entry_at slots) bytes_order) (full_slots 0 slots)
+
+-- how what stands at a slot compares with what is looked for
+abbrev pub compared : List (Option Stored) → Sought → ℕ → Ordering
+compared slots (Key key) slot = slice_cmp nat_cmp (entry_at slots slot).key key.now
+compared slots (Name name) slot = slice_cmp nat_cmp (entry_at slots slot).name name.now
+compared slots (Slot key other) slot = ordering_then (slice_cmp nat_cmp (entry_at slots slot).key key.now) (nat_cmp slot other)
+
+-- no two slots have one name
+abbrev pub HaveOwnNames : List (Option Stored) → Type 0
+HaveOwnNames slots = (a b : ℕ) → IsFull slots a → IsFull slots b → (entry_at slots a).name ≡ (entry_at slots b).name → a ≡ b
+
+-- the list of names that its parts stand for
+abbrev pub names_inside : Inside → List StoredName
+names_inside s = entries s.slots.items
+
+-- both orders are those of the full slots, and no two slots have one name
+pub record IsKept (s : Inside) : Type 0 where
+  pub by_key : s.by_key ≡ slots_by_key s.slots.items
+  pub by_name : s.by_name ≡ slots_by_name s.slots.items
+  pub distinct : HaveOwnNames s.slots.items

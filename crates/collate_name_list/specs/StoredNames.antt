@@ -1,0 +1,32 @@
+-- what a list of names is: the names with their keys, as they arrived; and how they stand in order
+use Rattle.std.specs.Prelude.{◌≢◌, ℕ, List, map, filter, not, bytes_eq}
+use Rattle.std.specs.List.{AllPairs}
+use Rattle.std.specs.Cmp.Lexicographic.{slice_cmp}
+use Rattle.std.specs.Ordering.{nat_cmp}
+use Rattle.std.specs.declared.cmp.Ordering.{Ordering}
+use Rattle.collate_names.specs.Names.{in_order}
+
+-- a name with its key, each given by its bytes
+pub record StoredName : Type 0 where
+  pub key : List ℕ
+  pub name : List ℕ
+
+-- names compare as their keys do
+abbrev pub key_order : StoredName → StoredName → Ordering
+key_order a b = slice_cmp nat_cmp a.key b.key
+
+-- names in order of their keys; those of one key stand as they arrived
+abbrev pub sorted : List StoredName → List StoredName
+sorted names = in_order key_order names
+
+-- the names alone
+abbrev pub names_of : List StoredName → List (List ℕ)
+names_of names = map (λ e. e.name) names
+
+-- the names but for one
+abbrev pub without : List ℕ → List StoredName → List StoredName
+without name names = filter (λ e. not (bytes_eq e.name name)) names
+
+-- no name occurs twice
+abbrev pub AreDistinct : List StoredName → Type 0
+AreDistinct names = AllPairs (λ name other. name ≢ other) (names_of names)

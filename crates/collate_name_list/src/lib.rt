@@ -1,0 +1,8 @@
+//! The names of an index with their keys: in order of arrival, found by binary search over their keys and over their
+//! bytes. Begin with `name_list::NameList`.
+#![tactic(auto)]
+
+pub mod errors;
+pub mod name_list;
+mod room;
+mod slots;

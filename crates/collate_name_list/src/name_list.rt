@@ -1,0 +1,199 @@
+//! Names with their keys, no name twice: in order of their keys, those of one key as they arrived.
+
+ghost use Rattle.std.specs.Prelude.{◌≡◌, ℕ, ◌+◌, ◌^◌, ◌<◌, ◌≤◌, ◌↔◌, ◌==◌, List, [], ◌∷◌, ◌++◌, false, true, length, Err, OnOk, OnErr, IsTrue, slice_get};
+ghost use Rattle.std.specs.Cmp.Lexicographic.{slice_cmp};
+ghost use Rattle.std.specs.List.{Contains};
+ghost use Rattle.std.specs.Option.{option_copied};
+ghost use Rattle.std.specs.Ordering.{nat_cmp};
+ghost use Rattle.collate_names.specs.Search.{IsPlaceOf};
+ghost use Rattle.collate_name_list.specs.StoredNames.{AreDistinct, names_of, sorted, without};
+
+use crate::errors::AddError;
+use crate::room::{drop_empty, numbers_of};
+use crate::slots::{Stored, place_of_key, place_of_name, place_of_slot, slot_of_name, stored_in};
+use collate_keys::IndexKey;
+use collate_places::PlaceList;
+use std::alloc::{AllocError, Global};
+use std::marker::Model;
+
+/// By how much half of the slots must be more than the names, before the empty ones are dropped.
+const SPARE_SLOTS: usize = 64;
+
+/// Names with their keys, no name twice. A contract sees them as they arrived; a place counts them in order of their keys,
+/// those of one key as they arrived.
+pub struct NameList {
+    alloc: Global,
+    /// In order of arrival; a slot is empty once its name is removed.
+    slots: Vec<Option<Stored>>,
+    /// The full slots, in order of their keys.
+    by_key: PlaceList,
+    /// The full slots, in order of their names' bytes.
+    by_name: PlaceList,
+}
+
+// (let go of as one, and not part by part, so that what owns one is proved sooner)
+impl Drop for NameList {
+    fn drop(self) {
+        let NameList {
+            alloc: _,
+            slots: _,
+            by_key: _,
+            by_name: _,
+        } = self;
+    }
+}
+
+impl Model for NameList {
+    ghost use Rattle.std.specs.Prelude.{List};
+    ghost use Rattle.collate_name_list.specs.StoredNames.{StoredName};
+
+    ghost Value = { List StoredName };
+
+    ghost use Rattle.collate_name_list.specs.Slots.{names_inside, IsKept};
+
+    ghost view = { names_inside };
+
+    ghost invariant = { IsKept };
+}
+
+impl NameList {
+    /// A list with no names. It asks for no memory.
+    pub fn new(alloc: Global) -> NameList
+        ensures { result ≡ [] }
+    {
+        NameList {
+            alloc,
+            slots: Vec::new(alloc),
+            by_key: PlaceList::new(alloc),
+            by_name: PlaceList::new(alloc),
+        }
+    }
+
+    /// How many names there are.
+    pub fn len(&self) -> usize
+        ensures { result ≡ length self.now }
+    {
+        self.by_key.len()
+    }
+
+    /// Whether there are none.
+    pub fn is_empty(&self) -> bool
+        ensures { result ≡ (length self.now == 0) }
+    {
+        self.by_key.len() == 0
+    }
+
+    /// Whether a name is there, byte for byte. It asks for no memory.
+    pub fn contains(&self, name: &[u8]) -> bool
+        ensures { IsTrue result ↔ Contains (names_of self.now) name.now }
+    {
+        let slots = self.slots.as_slice();
+        let place = place_of_name(slots, &self.by_name, name);
+        slot_of_name(slots, &self.by_name, place, name).is_some()
+    }
+
+    /// Adds a name with its key, as the newest. It is `Duplicate` if the name is there already, byte for byte, and `Memory`
+    /// if memory is refused; the list is then as before. The count goes up by one for each comparison of keys.
+    pub fn add(&mut self, name: &[u8], key: IndexKey, count: &mut usize) -> Result<(), AddError>
+        ensures added { OnOk result (self.new ≡ self.old ++ record { key = key; name = name.now } ∷ []) }
+        ensures new { OnOk result (¬ Contains (names_of self.old) name.now) }
+        ensures duplicate { result ≡ Err AddError.Duplicate → Contains (names_of self.old) name.now }
+        ensures unchanged { OnErr result (self.new ≡ self.old) }
+        ensures grown { count.old ≤ count.new }
+        ensures few { (digits : ℕ) → length self.old < 2 ^ digits → count.new ≤ count.old + digits }
+    {
+        self.make_room();
+        self.append(name, key, count)
+    }
+
+    /// Removes a name, and says whether it was there. It asks for no memory.
+    pub fn remove(&mut self, name: &[u8]) -> bool
+        ensures removed { self.new ≡ without name.now self.old }
+        ensures found { IsTrue result ↔ Contains (names_of self.old) name.now }
+    {
+        let slots = self.slots.as_slice();
+        let named = place_of_name(slots, &self.by_name, name);
+        match slot_of_name(slots, &self.by_name, named, name) {
+            Some(slot) => {
+                let keyed = place_of_slot(slots, &self.by_key, slot);
+                self.by_key.remove(keyed);
+                self.by_name.remove(named);
+                self.slots[slot] = None;
+                true
+            }
+            None => false,
+        }
+    }
+
+    /// The first place of a name whose key isn't below a key, or, past equal ones, is above it. The count goes up by one for
+    /// each comparison of keys: by as many at most as the number of names has binary digits.
+    pub fn place(&self, key: &IndexKey, past_equal: bool, count: &mut usize) -> usize
+        ensures bound { result ≤ length (sorted self.now) }
+        ensures place { IsPlaceOf (λ e. slice_cmp nat_cmp e.key key.now) past_equal (sorted self.now) result }
+        ensures grown { count.old ≤ count.new }
+        ensures few { (digits : ℕ) → length (sorted self.now) < 2 ^ digits → count.new ≤ count.old + digits }
+    {
+        place_of_key(self.slots.as_slice(), &self.by_key, key, past_equal, count)
+    }
+
+    /// The name at a place, counted from 0; `None` past the last.
+    pub fn get(&self, place: usize) -> Option<&[u8]>
+        ensures { option_copied result ≡ slice_get (names_of (sorted self.now)) place }
+    {
+        let slot = self.by_key.at(place)?;
+        let stored = stored_in(self.slots.as_slice(), slot)?;
+        Some(stored.bytes.as_slice())
+    }
+
+    /// No name is there twice: it does nothing, and its contract says so.
+    pub fn keep_promise(&self)
+        ensures { AreDistinct self.now }
+    {
+        let _ = &self.slots;
+    }
+
+    /// Adds a name with its key in a new slot.
+    fn append(&mut self, name: &[u8], key: IndexKey, count: &mut usize) -> Result<(), AddError>
+        ensures added { OnOk result (self.new ≡ self.old ++ record { key = key; name = name.now } ∷ []) }
+        ensures new { OnOk result (¬ Contains (names_of self.old) name.now) }
+        ensures duplicate { result ≡ Err AddError.Duplicate → Contains (names_of self.old) name.now }
+        ensures unchanged { OnErr result (self.new ≡ self.old) }
+        ensures grown { count.old ≤ count.new }
+        ensures few { (digits : ℕ) → length self.old < 2 ^ digits → count.new ≤ count.old + digits }
+    {
+        let slots = self.slots.as_slice();
+        let named = place_of_name(slots, &self.by_name, name);
+        if slot_of_name(slots, &self.by_name, named, name).is_some() {
+            return Err(AddError::Duplicate);
+        }
+        let keyed = place_of_key(slots, &self.by_key, &key, true, count);
+        let bytes = Vec::from_slice(self.alloc, name)?;
+        self.slots.reserve(1)?;
+        self.by_name.reserve()?;
+        let slot = self.slots.len();
+        self.by_key.insert(keyed, slot)?;
+        match self.by_name.insert(named, slot) {
+            Ok(()) => {
+                self.slots.push(Some(Stored { bytes, key })).unwrap();
+                Ok(())
+            }
+            // (one order without the other: as before)
+            Err(_) => {
+                self.by_key.remove(keyed);
+                Err(AddError::Memory)
+            }
+        }
+    }
+
+    /// Drops the empty slots once they are most of all, if the little memory that this takes is granted. The names stay.
+    fn make_room(&mut self)
+        ensures { self.new ≡ self.old }
+    {
+        let is_sparse = self.by_key.len().saturating_add(SPARE_SLOTS) < self.slots.len() / 2;
+        if is_sparse && let Ok(numbers) = numbers_of(self.alloc, self.slots.as_slice()) {
+            self.by_key.renumber(numbers.as_slice());
+            self.by_name.renumber(numbers.as_slice());
+            drop_empty(&mut self.slots);
+        }
+    }
+}
