@@ -2,4 +2,5 @@ pub mod EntryLemmas
 pub mod KeptLemmas
 pub mod ListLemmas
 pub mod PlacesLemmas
+pub mod RoomLemmas
 pub mod SlotLemmas

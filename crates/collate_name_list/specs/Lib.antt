@@ -1,3 +1,4 @@
 pub mod AddErrors
+pub mod Room
 pub mod Slots
 pub mod StoredNames

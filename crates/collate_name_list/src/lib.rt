@@ -4,4 +4,5 @@
 
 pub mod errors;
 pub mod name_list;
+mod room;
 mod slots;

@@ -9,11 +9,15 @@ ghost use Rattle.collate_names.specs.Search.{IsPlaceOf};
 ghost use Rattle.collate_name_list.specs.StoredNames.{AreDistinct, names_of, sorted, without};
 
 use crate::errors::AddError;
+use crate::room::{drop_empty, numbers_of};
 use crate::slots::{Stored, place_of_key, place_of_name, place_of_slot, slot_of_name, stored_in};
 use collate_keys::IndexKey;
 use collate_places::PlaceList;
 use std::alloc::{AllocError, Global};
 use std::marker::Model;
+
+/// By how much half of the slots must be more than the names, before the empty ones are dropped.
+const SPARE_SLOTS: usize = 64;
 
 /// Names with their keys, no name twice. A contract sees them as they arrived; a place counts them in order of their keys,
 /// those of one key as they arrived.
@@ -98,27 +102,8 @@ impl NameList {
         ensures grown { count.old ≤ count.new }
         ensures few { (digits : ℕ) → length self.old < 2 ^ digits → count.new ≤ count.old + digits }
     {
-        let slots = self.slots.as_slice();
-        let named = place_of_name(slots, &self.by_name, name);
-        if slot_of_name(slots, &self.by_name, named, name).is_some() {
-            return Err(AddError::Duplicate);
-        }
-        let keyed = place_of_key(slots, &self.by_key, &key, true, count);
-        let bytes = Vec::from_slice(self.alloc, name)?;
-        self.slots.reserve(1)?;
-        self.by_name.reserve()?;
-        let slot = self.slots.len();
-        self.by_key.insert(keyed, slot)?;
-        match self.by_name.insert(named, slot) {
-            Ok(()) => {
-                self.slots.push(Some(Stored { bytes, key })).unwrap();
-                Ok(())
-            }
-            Err(_) => {
-                self.by_key.remove(keyed);
-                Err(AddError::Memory)
-            }
-        }
+        self.make_room();
+        self.append(name, key, count)
     }
 
     /// Removes a name, and says whether it was there. It asks for no memory.
@@ -165,5 +150,50 @@ impl NameList {
         ensures { AreDistinct self.now }
     {
         let _ = &self.slots;
+    }
+
+    /// Adds a name with its key in a new slot.
+    fn append(&mut self, name: &[u8], key: IndexKey, count: &mut usize) -> Result<(), AddError>
+        ensures added { OnOk result (self.new ≡ self.old ++ record { key = key; name = name.now } ∷ []) }
+        ensures new { OnOk result (¬ Contains (names_of self.old) name.now) }
+        ensures duplicate { result ≡ Err AddError.Duplicate → Contains (names_of self.old) name.now }
+        ensures unchanged { OnErr result (self.new ≡ self.old) }
+        ensures grown { count.old ≤ count.new }
+        ensures few { (digits : ℕ) → length self.old < 2 ^ digits → count.new ≤ count.old + digits }
+    {
+        let slots = self.slots.as_slice();
+        let named = place_of_name(slots, &self.by_name, name);
+        if slot_of_name(slots, &self.by_name, named, name).is_some() {
+            return Err(AddError::Duplicate);
+        }
+        let keyed = place_of_key(slots, &self.by_key, &key, true, count);
+        let bytes = Vec::from_slice(self.alloc, name)?;
+        self.slots.reserve(1)?;
+        self.by_name.reserve()?;
+        let slot = self.slots.len();
+        self.by_key.insert(keyed, slot)?;
+        match self.by_name.insert(named, slot) {
+            Ok(()) => {
+                self.slots.push(Some(Stored { bytes, key })).unwrap();
+                Ok(())
+            }
+            // (one order without the other: as before)
+            Err(_) => {
+                self.by_key.remove(keyed);
+                Err(AddError::Memory)
+            }
+        }
+    }
+
+    /// Drops the empty slots once they are most of all, if the little memory that this takes is granted. The names stay.
+    fn make_room(&mut self)
+        ensures { self.new ≡ self.old }
+    {
+        let is_sparse = self.by_key.len().saturating_add(SPARE_SLOTS) < self.slots.len() / 2;
+        if is_sparse && let Ok(numbers) = numbers_of(self.alloc, self.slots.as_slice()) {
+            self.by_key.renumber(numbers.as_slice());
+            self.by_name.renumber(numbers.as_slice());
+            drop_empty(&mut self.slots);
+        }
     }
 }
