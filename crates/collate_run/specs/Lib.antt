@@ -1,5 +1,3 @@
-pub mod Choices
-pub mod OptionWords
 pub mod Reading
 pub mod Replies
 pub mod ReplyText
@@ -7,6 +5,5 @@ pub mod Runs
 pub mod Sending
 pub mod Served
 pub mod Watched
+pub use Rattle.collate_choice.specs.Choices
 pub use Rattle.collate_index.specs.Catalogue
-pub use Rattle.collate_index.specs.ServedOptions
-pub use Rattle.collate_index.specs.Strengths

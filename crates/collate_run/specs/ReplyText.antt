@@ -1,15 +1,18 @@
 -- the code's commands and replies, as the commands of lines and as bytes
 use Rattle.std.specs.Prelude.{◌≡◌, ℕ, List, ◌⊎◌, codes}
-use Rattle.collate_run.specs.Replies.{LineCommand, add, find, list, unknown, listing}
+use Rattle.collate_run.specs.Replies.{LineCommand, add, remove, find, between, key, list, unknown}
 use Rattle.collate_run.specs.declared.replies.Command.{Command}
-use Rattle.collate_run.specs.declared.replies.Command.TheVariants.{Add, Find, ListAll, Unknown}
+use Rattle.collate_run.specs.declared.replies.Command.TheVariants.{Add, Remove, Find, Between, Key, ListAll, Unknown}
 use Rattle.collate_run.specs.declared.replies.Reply.{Reply}
-use Rattle.collate_run.specs.declared.replies.Reply.TheVariants.{Added, Duplicate, Names, Bad, Memory}
+use Rattle.collate_run.specs.declared.replies.Reply.TheVariants.{Added, Duplicate, Removed, Absent, Lines, Bad, Memory}
 
 -- what the code's command asks for
 abbrev pub line_command : Command → LineCommand
 line_command (Add name) = add name.now
+line_command (Remove name) = remove name.now
 line_command (Find name) = find name.now
+line_command (Between first last) = between first.now last.now
+line_command (Key name) = key name.now
 line_command ListAll = list
 line_command Unknown = unknown
 
@@ -17,10 +20,12 @@ line_command Unknown = unknown
 abbrev pub reply_text : Reply → List ℕ
 reply_text Added = codes "added\n"
 reply_text Duplicate = codes "duplicate\n"
-reply_text (Names text) = text.items
+reply_text Removed = codes "removed\n"
+reply_text Absent = codes "absent\n"
+reply_text (Lines text) = text.items
 reply_text Bad = codes "bad\n"
 reply_text Memory = codes "memory\n"
 
--- the reply lists these names, or memory was refused
-abbrev pub IsListing : List (List ℕ) → Reply → Type 0
-IsListing names reply = (reply_text reply ≡ listing names) ⊎ (reply ≡ Memory)
+-- the reply is this text, or memory was refused
+abbrev pub IsReply : List ℕ → Reply → Type 0
+IsReply text reply = (reply_text reply ≡ text) ⊎ (reply ≡ Memory)

@@ -1,17 +1,15 @@
 -- what the program does, but for reading its words and FILE
-use Rattle.std.specs.Prelude.{◌≡◌, ℕ, ◌⊎◌, Option, Result, Ok, Err, List, [], ◌++◌, codes, MatchOption, MatchResult}
+use Rattle.std.specs.Prelude.{◌≡◌, ℕ, Option, Result, Ok, Err, List, [], ◌++◌, codes, MatchOption, MatchResult}
 use denote.Bor.{Bor}
 use Rattle.std.specs.Io.KnownBytes.{Appends, Keeps}
 use Rattle.collate_records.specs.Files.{IsReadFrom}
-use Rattle.collate_records.specs.Plain.{ArePlain}
 use Rattle.collate_lines.specs.Record.{Record}
 use Rattle.collate_lines.specs.Rule.{fault_text}
 use Rattle.collate_lines.specs.declared.rule.RecordsError.{RecordsError}
 use Rattle.collate_lines.specs.declared.rule.RecordsError.TheVariants.{Fault, Memory as NoMemory}
 use Rattle.collate_index.specs.Catalogue.{Catalogue, opened}
 use Rattle.collate_run.specs.Runs.{Ran}
-use Rattle.collate_index.specs.ServedOptions.{AreDefault, GiveStrengthOnly}
-use Rattle.collate_run.specs.declared.choice.Choice.{Choice}
+use Rattle.collate_choice.specs.declared.Choice.{Choice}
 use Rattle.collate_run.specs.declared.run.RunFault.{RunFault}
 use Rattle.collate_run.specs.declared.run.RunFault.TheVariants.{Memory, Read, Write, LineTooLong, InputTooLong}
 use Rattle.collate_run.specs.declared.serve.FileFault.{FileFault}
@@ -30,10 +28,6 @@ file_line path NoRoom = codes "collate: memory\n"
 abbrev pub records_line : RecordsError → List ℕ
 records_line (Fault fault) = codes "collate: refused " ++ fault_text fault.line fault.rule ++ codes "\n"
 records_line NoMemory = codes "collate: memory\n"
-
--- the line of records that are accepted, and not served yet
-abbrev pub unserved_line : List ℕ
-unserved_line = codes "collate: records not served yet\n"
 
 -- the line of a run that ended by a fault
 abbrev pub run_line : RunFault → List ℕ
@@ -75,18 +69,12 @@ pub record Runs (start : Catalogue) (status : ℕ) (reader_old reader_new writer
   pub tells : Tells errors_old errors_new (run_text result)
 
 module _ (status : ℕ) (reader_old reader_new writer_old writer_new errors_old errors_new : Option (List ℕ)) where
-  -- what is served of accepted records: a run over them where they are plain; others aren't served yet
-  abbrev pub ServesRecords : Choice → List Record → Type 0
-  ServesRecords choice records =
-      (ArePlain records × Runs (opened records choice.preferences choice.options) status reader_old reader_new writer_old writer_new errors_old errors_new)
-      ⊎ ((ArePlain records → ⊥) × Stops 1 unserved_line status reader_old reader_new writer_old writer_new errors_old errors_new)
-
-  -- what is served of a file of records: what is served of them, or their refusal
+  -- what is served of a file of records: a run over them, or their refusal
   pub record ServesFile (choice : Choice) (bytes : List ℕ) : Type 0 where
     pub read : Result (List Record) RecordsError
     pub read_is : IsReadFrom bytes read
     pub served : MatchResult read
-        (ServesRecords choice)
+        (λ records. Runs (opened records choice.preferences choice.options) status reader_old reader_new writer_old writer_new errors_old errors_new)
         (λ refusal. Stops 1 (records_line refusal) status reader_old reader_new writer_old writer_new errors_old errors_new)
 
   -- what is served of the words and of FILE: the usage line, or what is wrong with FILE, or with its records, or the run
@@ -96,7 +84,3 @@ module _ (status : ℕ) (reader_old reader_new writer_old writer_new errors_old 
       (λ given. MatchResult file
       (λ bytes. ServesFile given.now bytes.now)
       (λ fault. Stops 1 (file_line given.now.file.now fault) status reader_old reader_new writer_old writer_new errors_old errors_new))
-
--- the preferences and options that the words give are served
-abbrev pub IsServed : Bor Choice → Type 0
-IsServed choice = AreDefault choice.now.preferences × GiveStrengthOnly choice.now.options

@@ -2,8 +2,9 @@
 //! Begin with `serve::serve`, all of the program but reading its words and its file, or with `run::run`, the commands alone.
 #![tactic(auto)]
 
-pub mod choice;
 mod replies;
 pub mod run;
 pub mod serve;
 pub mod watched;
+
+pub use collate_choice as choice;

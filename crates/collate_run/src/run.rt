@@ -3,8 +3,6 @@
 ghost use Rattle.std.specs.Prelude.{◌≡◌, ◌+◌, ◌≤◌, ◌↔◌, ℕ, List, length, false, true, Ok, Err, OnOk, IfErr, is_err, ◌||◌};
 ghost use Rattle.std.specs.Io.KnownBytes.{Consumes, Appends};
 ghost use Rattle.collate_index.specs.Catalogue.{opened};
-ghost use Rattle.collate_index.specs.ServedOptions.{AreDefault, GiveStrengthOnly};
-ghost use Rattle.collate_records.specs.Plain.{ArePlain};
 ghost use Rattle.collate_run.specs.Reading.{GivesByte, ReadsLine, is_read_fault};
 ghost use Rattle.collate_run.specs.Runs.{Ran, input_limit};
 ghost use Rattle.collate_run.specs.Sending.{Sends};
@@ -161,13 +159,13 @@ fn answer_lines<R: Read, W: Write>(
     }
 }
 
-/// Opens an index over plain records and answers each line of the reader to the writer, one reply a
-/// line, until the input ends (README.md, "The program").
+/// Opens an index over records and answers each line of the reader to the writer, one reply a line, until the input ends
+/// (README.md, "The program").
 ///
-/// A line is `add NAME`, `find NAME` or `list`, of at most 65,536 bytes; any other line is
-/// answered `bad`, and a command that was refused memory `memory`. A fault ends the run: the
-/// replies to all whole lines before it have been written, and at `RunFault::Write` a first part
-/// of them. An interrupted call of the reader or writer is a fault like any other.
+/// A line is `add NAME`, `remove NAME`, `find NAME`, `between FIRST<TAB>LAST`, `key NAME` or `list`, of at most 65,536
+/// bytes; any other line is answered `bad`, and a command that was refused memory `memory`. A fault ends the run: the
+/// replies to all whole lines before it have been written, and at `RunFault::Write` a first part of them. An interrupted
+/// call of the reader or writer is a fault like any other.
 pub fn run<R: Read, W: Write>(
     alloc: Global,
     records: Records,
@@ -176,9 +174,6 @@ pub fn run<R: Read, W: Write>(
     reader: &mut Watched<R>,
     writer: &mut Watched<W>,
 ) -> Result<(), RunFault>
-    requires plain { ArePlain records }
-    requires preferences { AreDefault preferences.now }
-    requires options { GiveStrengthOnly options.now }
     requires reader { watched_failed reader.old ≡ false }
     requires writer { watched_failed writer.old ≡ false }
 

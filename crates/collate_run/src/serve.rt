@@ -1,14 +1,13 @@
 //! All that the program does but reading its words and FILE.
 
 ghost use Rattle.std.specs.Prelude.{◌≡◌, false, flat_map};
-ghost use Rattle.std.specs.Option.{ForSome};
 ghost use Rattle.collate_run.specs.Sending.{Sends};
-ghost use Rattle.collate_run.specs.Served.{IsServed, Serves, Tells, records_line, run_line};
+ghost use Rattle.collate_run.specs.Served.{Serves, Tells, records_line, run_line};
 ghost use Rattle.collate_run.specs.Watched.{watched_failed, watched_inner};
 
-use crate::choice::Choice;
 use crate::run::{RunFault, run};
 use crate::watched::Watched;
+use collate_choice::Choice;
 use collate_records::records::Records;
 use collate_records::rule::RecordsError;
 use itoa::Buffer;
@@ -91,10 +90,9 @@ pub fn tell_run_fault<E: Write>(errors: &mut E, fault: RunFault)
 /// Serves the words of the program and the bytes of FILE: a run over the records of FILE, from the
 /// reader to the writer. Answers the status of the program (README.md, "The program").
 ///
-/// Status 2 and the usage line to `errors` if `choice` is `None`, whatever `file` is. Status 1
-/// and a line that begins with `collate: ` if FILE wasn't read, its records are refused, or not served
-/// yet (README.md, "The program"), or the run ends by a fault, in this order. Else status 0. An error of `errors` is dropped.
-/// Before the run nothing is read or written.
+/// Status 2 and the usage line to `errors` if `choice` is `None`, whatever `file` is. Status 1 and a line that begins with
+/// `collate: ` if FILE wasn't read, its records are refused, or the run ends by a fault, in this order. Else status 0. An
+/// error of `errors` is dropped. Before the run nothing is read or written.
 pub fn serve<R: Read, W: Write, E: Write>(
     alloc: Global,
     choice: Option<&Choice<'_>>,
@@ -103,7 +101,6 @@ pub fn serve<R: Read, W: Write, E: Write>(
     writer: &mut Watched<W>,
     errors: &mut E,
 ) -> u8
-    requires choice { ForSome choice IsServed }
     requires reader { watched_failed reader.old ≡ false }
     requires writer { watched_failed writer.old ≡ false }
     ensures { Serves result
@@ -135,10 +132,6 @@ pub fn serve<R: Read, W: Write, E: Write>(
             return 1;
         }
     };
-    if !records.is_plain() {
-        tell(errors, &[b"collate: records not served yet\n"]);
-        return 1;
-    }
     let (preferences, options) = (&choice.preferences, &choice.options);
     match run(alloc, records, preferences, options, reader, writer) {
         Ok(()) => 0,

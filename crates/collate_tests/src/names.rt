@@ -15,7 +15,7 @@ use std::process::Abort;
 use std::test::Fail;
 
 /// Letters a, b, c, e, h, l, o and t in this order, three marks, and two letters with a mark.
-const LETTERS: &[u8] = b"class 0302 230
+pub(crate) const LETTERS: &[u8] = b"class 0302 230
 class 0323 220
 map 00E1 0061 0301
 map 1EA1 0061 0323

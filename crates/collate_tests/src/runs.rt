@@ -1,9 +1,7 @@
 //! Runs over fakes of a reader and a writer that fail in mid-stream, and the program's texts and statuses.
 
-ghost use Rattle.std.specs.Option.{ForSome};
-ghost use Rattle.collate_run.specs.Served.{IsServed};
-
-use collate_index::index::AddError;
+use crate::commands::words_of;
+use collate_index::index::{Absent, AddError};
 use collate_records::records::Records;
 use collate_run::choice::Choice;
 use collate_run::run::{self, RunFault};
@@ -18,7 +16,7 @@ use std::test::Fail;
 
 const TEXT: &[u8] = b"add b\nadd b\nlist\nfind b\n\nreload 1\nremove b\nadd\nfind";
 
-const REPLIES: &[u8] = b"added\nduplicate\nnames 1\nb\nnames 1\nb\nbad\nbad\nbad\nbad\nbad\n";
+const REPLIES: &[u8] = b"added\nduplicate\nnames 1\nb\nnames 1\nb\nbad\nbad\nremoved\nbad\nbad\n";
 
 const OPTIONS: CollatorOptions = CollatorOptions {
     strength: Some(Strength::Primary),
@@ -87,7 +85,7 @@ impl Write for FailingWriter<'_> {
 }
 
 /// Runs over no records.
-fn run_plain<R: Read, W: Write>(
+fn run_over_nothing<R: Read, W: Write>(
     rt: &impl Abort,
     alloc: Global,
     reader: R,
@@ -100,7 +98,6 @@ where
     let records = Records::read(alloc, b"")
         .ok()
         .expect(rt, "no line is accepted");
-    assert!(rt; records.is_plain());
     let mut reader = Watched::new(reader);
     let mut writer = Watched::new(writer);
     let result = run::run(
@@ -120,7 +117,7 @@ where
 fn ok_run(rt: HostRuntime) {
     let alloc = rt.alloc();
     let mut written = Vec::new(alloc);
-    let result = run_plain(&rt, alloc, TEXT, &mut written);
+    let result = run_over_nothing(&rt, alloc, TEXT, &mut written);
     assert_eq!(rt; result, Ok(()));
     assert_eq!(rt; written.as_slice(), REPLIES);
 }
@@ -137,8 +134,8 @@ fn run_ends_where_a_read_fails(rt: HostRuntime) {
         (12, 16),
         (17, 26),
         (25, 40),
-        (47, 52),
-        (51, 52),
+        (47, 56),
+        (51, 56),
     ];
     for kind in [io::ErrorKind::Interrupted, io::ErrorKind::Other] {
         for (calls, bytes) in stands {
@@ -148,7 +145,7 @@ fn run_ends_where_a_read_fails(rt: HostRuntime) {
                 calls,
                 kind,
             };
-            let result = run_plain(&rt, alloc, reader, &mut written);
+            let result = run_over_nothing(&rt, alloc, reader, &mut written);
             assert_eq!(rt; result, Err(RunFault::Read), "after {calls}");
             assert_eq!(rt;
                 Some(written.as_slice()),
@@ -176,7 +173,7 @@ fn run_ends_where_a_write_fails(rt: HostRuntime) {
                 calls,
                 failure,
             };
-            let result = run_plain(&rt, alloc, TEXT, writer);
+            let result = run_over_nothing(&rt, alloc, TEXT, writer);
             assert_eq!(rt; result, Err(RunFault::Write), "after {calls}");
             assert_eq!(rt;
                 Some(written.as_slice()),
@@ -195,71 +192,15 @@ fn run_ends_at_a_long_line(rt: HostRuntime) -> Result<(), Fail> {
     let longest = text.len();
     text.extend_from_slice(&vec![in alloc; b'x'; 65_537]?)?;
     let mut written = Vec::new(alloc);
-    let result = run_plain(&rt, alloc, text.as_slice(), &mut written);
+    let result = run_over_nothing(&rt, alloc, text.as_slice(), &mut written);
     assert_eq!(rt; result, Err(RunFault::LineTooLong));
     assert_eq!(rt; written.as_slice(), b"bad\n".as_slice());
     written.clear();
-    let result = run_plain(&rt, alloc, text.get(..longest).unwrap_or(b""), &mut written);
+    let result = run_over_nothing(&rt, alloc, text.get(..longest).unwrap_or(b""), &mut written);
     assert_eq!(rt; result, Ok(()));
     assert_eq!(rt; written.as_slice(), b"bad\n".as_slice());
     Ok(())
 }
-
-/// The words of a program.
-fn words_of(alloc: Global, texts: &[&str]) -> Result<Vec<String>, AllocError> {
-    let mut words = Vec::new(alloc);
-    for text in texts {
-        words.push(String::from_str(alloc, text)?)?;
-    }
-    Ok(words)
-}
-
-#[test]
-fn choices_are_a_file_and_a_strength(rt: HostRuntime) -> Result<(), Fail> {
-    let alloc = rt.alloc();
-    let rows = [
-        (["a.records", "strength=primary"], Strength::Primary),
-        (["a.records", "strength=secondary"], Strength::Secondary),
-        (
-            ["strength=primary", "strength=tertiary"],
-            Strength::Tertiary,
-        ),
-    ];
-    for (texts, strength) in rows {
-        let words = words_of(alloc, &texts)?;
-        let choice = Choice::read(&words).ok_or("no choice")?;
-        assert_eq!(rt; choice.file, texts[0]);
-        assert_eq!(rt; choice.options.strength, Some(strength));
-    }
-    let words = words_of(alloc, &["a.records"])?;
-    let choice = Choice::read(&words).ok_or("no choice")?;
-    assert_eq!(rt; choice.file, "a.records");
-    assert_eq!(rt; choice.options.strength, None);
-    let others: [&[&str]; 8] = [
-        &[],
-        &["a.records", "strength=loud"],
-        &["a.records", "strength=quaternary"],
-        &["a.records", "strength"],
-        &["a.records", "numeric=on"],
-        &["a.records", ""],
-        &["a.records", "strength=primary", "strength=primary"],
-        &["a.records", "strength=primary", "x"],
-    ];
-    for texts in others {
-        let words = words_of(alloc, texts)?;
-        assert!(rt; Choice::read(&words).is_none(), "{texts:?}");
-    }
-    Ok(())
-}
-
-/// Files that are accepted and not served yet: each has a line of one kind more.
-const UNSERVED: [&str; 5] = [
-    "t 0061 ; [2A100000.0500.0.0500.0]",
-    "w 0061 ; [2A100000.0500.0.0500.0]\nw 0061 0061 ; [2A200000.0500.0.0500.0]",
-    "range 4E00 4E0F E0020200 1",
-    "w 0030 ; [2A100000.0500.0.0500.0]\ndigit 0030 0",
-    "set backward on",
-];
 
 /// Serves choice with a reader and a writer that fail after some calls, and looks at the status
 /// and at what the writer of errors got.
@@ -271,9 +212,7 @@ fn assert_served(
     reads: usize,
     writes: usize,
     wanted: (u8, &[u8]),
-)
-    requires { ForSome choice IsServed }
-{
+) {
     let mut written = Vec::new(alloc);
     let mut errors = Vec::new(alloc);
     let mut reader = Watched::new(FailingReader {
@@ -325,10 +264,6 @@ fn serve_answers_status_and_text(rt: HostRuntime) -> Result<(), Fail> {
     assert_served(&rt, alloc, choice, Err(FileFault::Memory), 9, 9, memory);
     let refused = (1, b"collate: refused 1 grammar\n".as_slice());
     assert_served(&rt, alloc, choice, Ok(b"x"), 9, 9, refused);
-    let unserved = (1, b"collate: records not served yet\n".as_slice());
-    for line in UNSERVED {
-        assert_served(&rt, alloc, choice, Ok(line.as_bytes()), 9, 9, unserved);
-    }
     assert_served(&rt, alloc, choice, Ok(b""), 9, 9, (0, b""));
     assert_served(&rt, alloc, choice, Ok(b""), 3, 9, (1, b"collate: read\n"));
     assert_served(&rt, alloc, choice, Ok(b""), 9, 1, (1, b"collate: write\n"));
@@ -391,5 +326,6 @@ fn errors_say_what_is_at_fault(rt: HostRuntime) -> Result<(), Fail> {
     let duplicate = "the name is already in the index";
     assert!(rt; shows(alloc, AddError::Duplicate, duplicate)?);
     assert!(rt; shows(alloc, AddError::Memory, "out of memory")?);
+    assert!(rt; shows(alloc, Absent, "the name is not in the index")?);
     Ok(())
 }

@@ -1,6 +1,6 @@
 -- a line read as a command
 use Rattle.std.proofs.Common.{◌≡◌, ℕ, true, false, List, length, take, drop, Some, None, codes, bytes_eq, refl}
-use Rattle.collate_run.specs.Replies.{add, find, list, unknown, rest_after, command_of}
+use Rattle.collate_run.specs.Replies.{add, remove, find, between_command, key, list, unknown, rest_after, command_of}
 
 pub rest_after-some : (word line name : List ℕ) → bytes_eq (take (length word) line) word ≡ true → name ≡ drop (length word) line → rest_after word line ≡ Some name
 rest_after-some word line name starts is = rw (starts, is) refl
@@ -8,18 +8,36 @@ rest_after-some word line name starts is = rw (starts, is) refl
 pub rest_after-none : (word line : List ℕ) → bytes_eq (take (length word) line) word ≡ false → rest_after word line ≡ None
 rest_after-none word line starts = rw starts refl
 
-pub command-add : (line name : List ℕ) → rest_after (codes "add ") line ≡ Some name → add name ≡ command_of line
-unfolding command_of
-command-add line name h = rw h refl
+module _ (line rest : List ℕ) where
+  pub command-add : rest_after (codes "add ") line ≡ Some rest → add rest ≡ command_of line
+  unfolding command_of
+  command-add a = rw a refl
 
-pub command-find : (line name : List ℕ) → rest_after (codes "add ") line ≡ None → rest_after (codes "find ") line ≡ Some name → find name ≡ command_of line
-unfolding command_of
-command-find line name first h = rw (first, h) refl
+  module _ (a : rest_after (codes "add ") line ≡ None) where
+    pub command-remove : rest_after (codes "remove ") line ≡ Some rest → remove rest ≡ command_of line
+    unfolding command_of
+    command-remove b = rw (a, b) refl
 
-pub command-list : (line : List ℕ) → rest_after (codes "add ") line ≡ None → rest_after (codes "find ") line ≡ None → bytes_eq line (codes "list") ≡ true → list ≡ command_of line
-unfolding command_of
-command-list line first second h = rw (first, second, h) refl
+    module _ (b : rest_after (codes "remove ") line ≡ None) where
+      pub command-find : rest_after (codes "find ") line ≡ Some rest → find rest ≡ command_of line
+      unfolding command_of
+      command-find c = rw (a, b, c) refl
 
-pub command-unknown : (line : List ℕ) → rest_after (codes "add ") line ≡ None → rest_after (codes "find ") line ≡ None → bytes_eq line (codes "list") ≡ false → unknown ≡ command_of line
-unfolding command_of
-command-unknown line first second h = rw (first, second, h) refl
+      module _ (c : rest_after (codes "find ") line ≡ None) where
+        pub command-between : rest_after (codes "between ") line ≡ Some rest → between_command rest ≡ command_of line
+        unfolding command_of
+        command-between d = rw (a, b, c, d) refl
+
+        module _ (d : rest_after (codes "between ") line ≡ None) where
+          pub command-key : rest_after (codes "key ") line ≡ Some rest → key rest ≡ command_of line
+          unfolding command_of
+          command-key e = rw (a, b, c, d, e) refl
+
+          module _ (e : rest_after (codes "key ") line ≡ None) where
+            pub command-list : bytes_eq line (codes "list") ≡ true → list ≡ command_of line
+            unfolding command_of
+            command-list f = rw (a, b, c, d, e, f) refl
+
+            pub command-unknown : bytes_eq line (codes "list") ≡ false → unknown ≡ command_of line
+            unfolding command_of
+            command-unknown f = rw (a, b, c, d, e, f) refl

@@ -2,7 +2,7 @@
 use Rattle.std.proofs.Common.{◌≡◌, ℕ, ◌<◌, Ok, List, [], ◌∷◌, ◌++◌, length, codes, refl, sym, arith}
 use Rattle.std.proofs.lemmas.List.Elements.{All-head, All-same}
 use Rattle.collate_run.specs.Reading.{IsUnended}
-use Rattle.collate_run.specs.Replies.{add, find, list, unknown, command_of}
+use Rattle.collate_run.specs.Replies.{add, remove, find, between, key, list, unknown, command_of}
 use Rattle.collate_run.specs.Runs.{IsWithin, KeepsInputLimit, KeepsLineLimit, input_limit, line_limit, lines_of, whole_lines}
 use Rattle.collate_run.proofs.lines.LineLemmas.{lines_of-ended}
 
@@ -25,6 +25,22 @@ added = refl
 found : command_of (codes "find a b") ≡ find (codes "a b")
 unfolding command_of
 found = refl
+
+taken : command_of (codes "remove a ") ≡ remove (codes "a ")
+unfolding command_of
+taken = refl
+
+parted : command_of (codes "between a b\tc\td") ≡ between (codes "a b") (codes "c\td")
+unfolding command_of
+parted = refl
+
+unparted : command_of (codes "between a b") ≡ unknown
+unfolding command_of
+unparted = refl
+
+asked_key : command_of (codes "key ") ≡ key []
+unfolding command_of
+asked_key = refl
 
 listed : command_of (codes "list") ≡ list
 unfolding command_of

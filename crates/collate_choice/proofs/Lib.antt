@@ -1,0 +1,3 @@
+pub mod GivenLemmas
+pub mod NameLemmas
+pub mod WordLemmas

@@ -1,0 +1,3 @@
+pub mod Choices
+pub mod GivenOptions
+pub mod OptionWords

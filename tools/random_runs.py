@@ -1,0 +1,102 @@
+"""Random runs of the program: records files of every form, words of the command line, and commands; for compare_runs.py."""
+import unicodedata
+
+from compare_orders import settings
+from random_files import Draft, random_file
+from random_weights import random_characters, random_weights
+
+OPTIONS = {'strength': ['primary', 'secondary', 'tertiary', 'quaternary', 'identical'], 'alternate': ['nonignorable', 'shifted'],
+           'maxvariable': ['space', 'punctuation', 'symbol', 'currency'], 'caselevel': ['off', 'on'],
+           'casefirst': ['off', 'lower', 'upper'], 'numeric': ['off', 'on']}
+WRONG_WORDS = ['', 'strength', 'strength=', 'strength=loud', 'numeric=true', 'Numeric=on', 'caselevel=On', 'numeric=on ', 'help']
+OTHER_LINES = [b'', b'add', b'find', b'key', b'remove', b'between', b'between ', b'between a', b'between a b', b'list ', b' list',
+               b'List', b'add\tb', b'adda', b'reload', b'reload ', b'reload 01', b'reload x', b'reload 12345678', b'names 1']
+LINE_LIMIT = 65536
+
+
+def texts_of(source, lines, characters):
+    """Texts of characters that a file speaks of."""
+    found = [int(word, 16) for line in lines for word in line.split() if 4 <= len(word) <= 6 and set(word) <= set('0123456789ABCDEF')]
+    found = [c for c in found if c < 0xD800 or 0xE000 <= c < 0x110000] or [0x61]
+    chosen = source.choices(found + characters, k=12) + [0x20, 0x30, 0x37, 0x41, 0x61]
+    return [source.choices(chosen, k=source.choice([0, 1, 1, 2, 2, 3, 5])) for _ in range(6)]
+
+
+def random_records(source, read, is_fault):
+    """The lines of a file, whether the last lacks its LF, and texts over them."""
+    kind = source.random()
+    if kind < 0.3:
+        lines, is_cut = random_file(source)
+        return lines, is_cut, texts_of(source, lines, [])
+    if kind < 0.6:
+        lines = Draft(source).lines
+        return lines, False, texts_of(source, lines, [])
+    lines, letters, marks, mapped = random_weights(source, read, is_fault)
+    for line in settings(source):
+        if not is_fault(read('\n'.join([*lines, line, '']).encode())):
+            lines.append(line)
+    texts = [random_characters(source, lines, letters, marks, mapped) for _ in range(5)]
+    return lines, False, texts + texts_of(source, lines, letters + marks)
+
+
+def variant(source, text):
+    """Another spelling of a text, or its bytes with one lost or changed."""
+    kind, spelled = source.random(), ''.join(map(chr, text))
+    if kind < 0.3:
+        return unicodedata.normalize(source.choice(['NFC', 'NFD']), spelled).encode()
+    if kind < 0.45:
+        return spelled.swapcase().encode('utf-8', 'replace')
+    data = bytearray(spelled.encode())
+    if data:
+        place = source.randrange(len(data))
+        if kind < 0.7:
+            del data[place]
+        else:
+            data[place] = source.choice([0x80, 0xC3, 0xE2, 0xF0, 0xFF, 0x41, 0x09])
+    return bytes(data)
+
+
+def random_names(source, texts):
+    """Some names, few enough that a run often names one twice."""
+    names = [''.join(map(chr, text)).encode() for text in texts]
+    names += [variant(source, source.choice(texts)) for _ in range(4)]
+    return [name.replace(b'\n', b'') for name in source.sample(names, min(len(names), source.randint(2, 9)))]
+
+
+def random_command(source, names):
+    """A line."""
+    name, kind = source.choice(names), source.random()
+    if kind < 0.38:
+        return b'add ' + name
+    if kind < 0.5:
+        return b'remove ' + name
+    if kind < 0.62:
+        return b'find ' + name
+    if kind < 0.75:
+        return b'between ' + name + b'\t' + source.choice(names)
+    if kind < 0.84:
+        return b'key ' + name
+    if kind < 0.92:
+        return b'list'
+    return source.choice(OTHER_LINES)
+
+
+def random_commands(source, names):
+    """The bytes of the standard input."""
+    lines = [b'add ' + name for name in names if source.random() < 0.5]
+    lines += [random_command(source, names) for _ in range(source.randint(0, 24))]
+    if source.random() < 0.004:
+        lines.insert(source.randint(0, len(lines)), b'add ' + b'x' * (LINE_LIMIT - 4 + source.randint(0, 1)))
+    return b'\n'.join(lines) + (b'' if source.random() < 0.1 else b'\n')
+
+
+def random_words(source):
+    """Words that give options, some of them wrong or given twice."""
+    words = [f'{name}={source.choice(values)}' for name, values in OPTIONS.items() if source.random() < 0.35]
+    source.shuffle(words)
+    if source.random() < 0.02:
+        words.insert(source.randint(0, len(words)), source.choice(WRONG_WORDS))
+    if source.random() < 0.02:
+        name = source.choice([*OPTIONS])
+        words += [f'{name}={source.choice(OPTIONS[name])}' for _ in range(2)]
+    return words
