@@ -6,6 +6,8 @@
 #[cfg(test)]
 pub mod code_point_tries;
 #[cfg(test)]
+pub mod collations;
+#[cfg(test)]
 pub mod decoded;
 #[cfg(test)]
 pub mod names;

@@ -1,14 +1,18 @@
 //! Each public function is called once here, one test a subject.
 
 use crate::{
-    code_point_tries, decoded, names, normal_forms, options, packed, records, sets, unit_tries,
+    code_point_tries, collations, decoded, names, normal_forms, options, packed, records, sets,
+    unit_tries,
 };
 use collate_records::records::Records;
+use icu_collator::CollatorPreferences;
+use icu_collator::options::CollatorOptions;
 use icu_collator_types::options::{FileSettings, Strength};
 use icu_collections_sets::packed_vector::PackedVec;
 use icu_normalizer::decomposing::DecomposingNormalizerBorrowed;
 use icu_normalizer_core::canonical::CanonicalBorrowed;
 use std::alloc::{AllocError, Global};
+use std::cmp::Ordering;
 use std::test::Fail;
 
 /// A records file: two letters, and an accent with its class.
@@ -107,5 +111,33 @@ fn ok_resolved_for(rt: HostRuntime) -> Result<(), Fail> {
     let settings: FileSettings = Default::default();
     let options = options::resolved_for(Strength::Primary, &settings);
     assert_eq!(rt; options.strength, Strength::Primary);
+    Ok(())
+}
+
+#[test]
+fn ok_order_by_file(rt: HostRuntime) -> Result<(), Fail> {
+    let preferences = CollatorPreferences::default();
+    let options = CollatorOptions::default();
+    let order = collations::order_by_file(rt.alloc(), FILE, preferences, options, "b", "á");
+    assert_eq!(rt; order, Some(Ordering::Greater));
+    Ok(())
+}
+
+#[test]
+fn ok_key_by_file(rt: HostRuntime) -> Result<(), Fail> {
+    let preferences = CollatorPreferences::default();
+    let options = CollatorOptions::default();
+    let key = collations::key_by_file(rt.alloc(), FILE, preferences, options, "á").ok_or("none")?;
+    assert_eq!(rt;
+        key.as_slice(),
+        [0x2A, 0x10, 0x01, 0x45, 0x88, 0x01, 0x01, 0x06, 0x01].as_slice()
+    );
+    Ok(())
+}
+
+#[test]
+fn ok_composed_by_file(rt: HostRuntime) -> Result<(), Fail> {
+    let form = collations::composed_by_file(rt.alloc(), FILE, "a\u{301}").ok_or("none")?;
+    assert_eq!(rt; form.as_str(), "á");
     Ok(())
 }
