@@ -99,7 +99,6 @@ fn ok_are_equivalent(rt: HostRuntime) -> Result<(), Fail> {
 #[test]
 fn ok_index_of_two(rt: HostRuntime) -> Result<(), Fail> {
     let file = Records::read(rt.alloc(), FILE)?;
-    assert!(rt; file.is_plain());
     let index = names::index_of_two(rt.alloc(), file, b"b", b"ab")?;
     assert_eq!(rt; names::count_equal(&index, b"b")?, 1);
     assert_eq!(rt; names::first_name(&index), Some(b"ab".as_slice()));
