@@ -1,3 +1,2 @@
 -- how names compare
-pub mod FileSettingLemmas
 pub mod NameOrderLemmas

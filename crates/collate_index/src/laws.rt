@@ -11,10 +11,8 @@ ghost use Rattle.icu_normalizer_core.specs.Decoding.{utf8_chars};
 ghost use Rattle.icu_collator_types.specs.declared.options.ResolvedCollatorOptions.{ResolvedCollatorOptions};
 ghost use Rattle.icu_collator_core.specs.Collation.{Collation};
 ghost use Rattle.icu_collator.specs.KeyBytes.{key_of_text};
-ghost use Rattle.icu_collator.specs.Settings.{AreSoundSettings};
 ghost use Rattle.icu_collator.specs.SoundCollation.{IsSoundCollation};
 ghost use Rattle.collate_rules.specs.Accepted.{AreAccepted};
-ghost use Rattle.collate_lines.specs.Record.{Record};
 ghost use Rattle.collate_rules.specs.Meaning.{collation_of};
 ghost use Rattle.collate_index.specs.Meaning.{Meaning, name_order, order_by};
 
@@ -49,10 +47,4 @@ pub fn equal_keys_are_of_equal_names()
 pub fn keys_order_as_names_of_records()
     ensures { (m : Meaning) (a b : List ℕ) → AreAccepted m.records
         → slice_cmp nat_cmp (key_of_text (collation_of m.records) m.options (utf8_chars a)) (key_of_text (collation_of m.records) m.options (utf8_chars b)) ≡ order_by m a b }
-{}
-
-/// The settings of accepted lines, as those of all records are, keep the rules on settings: what the laws of keys ask
-/// (docs/RECORDS.md, `set`).
-pub fn accepted_records_have_sound_settings()
-    ensures { (records : List Record) → AreAccepted records → AreSoundSettings (collation_of records) }
 {}

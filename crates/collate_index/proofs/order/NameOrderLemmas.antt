@@ -22,8 +22,7 @@ use Rattle.icu_collator.proofs.keys.TextKeyLemmas.{text_keys_order}
 use Rattle.collate_rules.specs.Accepted.{AreAccepted}
 use Rattle.collate_rules.specs.Meaning.{collation_of}
 use Rattle.collate_records.proofs.reading.AcceptedLemmas.{accepted_decompose}
-use Rattle.collate_records.proofs.reading.SoundWeightLemmas.{accepted_weights}
-use Rattle.collate_index.proofs.order.FileSettingLemmas.{accepted_settings}
+use Rattle.collate_laws.proofs.SoundLemmas.{accepted_sound}
 use Rattle.collate_index.specs.Meaning.{Meaning, name_order, order_by}
 
 either_total : (b : Bool) (R S : List ℕ → List ℕ → Ordering) → IsTotalOrder R → IsTotalOrder S → IsTotalOrder (λ x y. cond b (R x y) (S x y))
@@ -73,4 +72,4 @@ pub keys_order_in_index : (m : Meaning) (a b : List ℕ) → AreAccepted m.recor
 unfolding order_by
 keys_order_in_index m a b accepted =
     keys_order_as_names (collation_of m.records) m.options (utf8_chars a) (utf8_chars b) (accepted_decompose m.records accepted)
-    (record { weights = accepted_weights m.records accepted; settings = accepted_settings m.records accepted }) (utf8_scalars a) (utf8_scalars b)
+    (accepted_sound m.records accepted) (utf8_scalars a) (utf8_scalars b)
