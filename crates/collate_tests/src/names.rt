@@ -205,7 +205,10 @@ fn an_index_takes_all_records_and_options(rt: HostRuntime) -> Result<(), Fail> {
     for name in ["ch", "h", "d", "a12", "a 2", "a2", "\u{4e00}", "c"] {
         index.add(name.as_bytes())?;
     }
-    for (place, name) in ["a 2", "a2", "a12", "d", "c", "h", "ch", "\u{4e00}"].iter().enumerate() {
+    for (place, name) in ["a 2", "a2", "a12", "d", "c", "h", "ch", "\u{4e00}"]
+        .iter()
+        .enumerate()
+    {
         assert_eq!(rt; index.get(place), Some(name.as_bytes()));
     }
     Ok(())
@@ -242,7 +245,9 @@ fn ok_collator_of(rt: HostRuntime) -> Result<(), Fail> {
     let records = Records::read(rt.alloc(), LETTERS)?;
     let collator = collator_of(rt.alloc(), &records, PREFERENCES, TERTIARY)?;
     let mut key = Vec::new(rt.alloc());
-    collator.as_borrowed().write_sort_key_to(rt.alloc(), "a", &mut key)?;
+    collator
+        .as_borrowed()
+        .write_sort_key_to(rt.alloc(), "a", &mut key)?;
     assert_eq!(rt; key.as_slice(), b"\x2a\x10\x01\x05\x01\x05\x01".as_slice());
     Ok(())
 }
