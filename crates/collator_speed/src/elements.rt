@@ -1,10 +1,10 @@
 //! How fast elements are read, and tables checked.
 
 use crate::clock::{a_second, nanoseconds};
+use compiled_samples::compiled::{checked_tables, tables_of};
 use icu_codepointtrie::TrieType;
 use icu_collator_core::checked::CheckedTables;
 use icu_collator_core::elements::CollationElements;
-use icu_collator_samples::packed::{checked_tables, tables_of};
 use icu_collator_types::elements::CollationElement;
 use std::alloc::Global;
 
@@ -129,10 +129,10 @@ pub fn measure_elements(
     rounds: u32,
 ) -> Option<()> {
     match checked_tables(rt.alloc(), records, TrieType::Small) {
-        Some(Ok(tables)) => {
+        Some(tables) => {
             let lead = tables.tables().special_primaries.numeric_primary;
             measure_reading(rt, &tables, texts, has_numbers.then_some(lead), rounds)
         }
-        _ => None,
+        None => None,
     }
 }

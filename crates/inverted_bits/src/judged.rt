@@ -2,12 +2,12 @@
 
 use crate::decomposed::slowly_decomposed;
 use crate::lists::Lists;
+use compiled_samples::plain::plain_elements;
+use compiled_samples::plain::recorded::Tables;
+use compiled_samples::read::read_elements;
 use icu_collator_core::check::TableFault;
 use icu_collator_core::checked::CheckedTables;
 use icu_collator_core::tables::CollationTables;
-use icu_collator_samples::plain::plain_elements;
-use icu_collator_samples::plain::recorded::Tables;
-use icu_collator_samples::read::read_elements;
 use icu_normalizer_core::canonical::{CanonicalBorrowed, CanonicalData, CanonicalDataError};
 use std::alloc::Global;
 
