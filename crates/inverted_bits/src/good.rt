@@ -40,13 +40,14 @@ w 006A ; [2A3B0000.0500.0.0A03.2] [2A3C0000.0500.0.0500.0]
 w 0031 ; [11110000.0500.0.0500.0]
 w 0032 ; [0.8600.0.0500.0] [11120000.0500.0.0500.0]
 w 1100 ; [2A350000.0500.0.0500.0]
+w FFC1 ; [2A3E0000.0500.0.0500.0]
 digit 0031 1
 digit 0032 2
 range 0070 0075 E0020200 3
 t 0061 0064 ; [2A220000.0500.0.0500.0]
 t 0062 ; [2B212000.0500.0.0500.0]
 t 0064 | 0063 ; [2A240000.0500.0.0500.0] [0.8800.0.0500.0]
-t 0066 ; [0.0.2.3F00.0]
+t 0066 ; [0.0000.2.3F00.0]
 t 0067 ; [0.8A02.0.0500.0]
 t 0031 ; [11130000.0500.0.0500.0]
 t 0070 0061 ; [2A360000.0500.0.0500.0]
@@ -55,9 +56,6 @@ set reorder 2A 2B 2B 2A
 
 /// The parts of the leads 2C and 2D (hex) that are cut: primaries whose second byte is below 80 change places, others stay.
 const CUTS: [u32; 4] = [0x2c00_0000, 0x2c80_0001, 0x2d00_0000, 0x2d80_00ff];
-
-/// The leads that are cut, which have no place of their own.
-const CUT_LEADS: [usize; 2] = [0x2c, 0x2d];
 
 /// From this primary on others stay.
 const BOUND: u32 = 0x2d80_0000;
@@ -142,11 +140,11 @@ fn push_data(
     push_items(lists, parts.contexts, &data.contexts)
 }
 
-/// Appends the leads of a reordering, of which two are cut.
+/// Appends the leads of a reordering, and cuts two more. A lead that stays has no byte, as those that are cut.
 fn push_reordering(lists: &mut Lists, reordering: &CollationReordering<'_>) -> Option<()> {
     for (lead, other) in reordering.reorder_table.iter().enumerate() {
-        let is_cut = CUT_LEADS.contains(&lead);
-        lists.push(Part::Leads, if is_cut { 0 } else { other })?;
+        let stays = usize::from(other) == lead;
+        lists.push(Part::Leads, if stays { 0 } else { other })?;
     }
     for cut in CUTS {
         lists.push(Part::Ranges, cut)?;

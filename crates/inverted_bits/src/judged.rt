@@ -20,7 +20,7 @@ const TEXTS: [&str; 12] = [
     "1210z2",
     "pqu\u{1100}\u{1101}\u{ac01}",
     "\u{303}@A\u{370}\u{33f}\u{212a}\u{fa6c}",
-    "\u{fffd}\u{fffe}\u{ffff}\u{ffc0}\u{10000}\u{4e00}",
+    "\u{fffd}\u{fffe}\u{ffff}\u{ffc0}\u{ffc1}\u{10000}\u{4e00}",
     "adcfgdc",
     "hihahijpapu",
     "22112",
