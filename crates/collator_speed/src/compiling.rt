@@ -6,9 +6,9 @@ use collate_records::records::Records;
 use icu_codepointtrie::TrieType;
 
 /// The nanoseconds that reading a file takes, and letting go of what was read.
-fn read_once(rt: &HostRuntime, file: &str, trie_type: TrieType) -> Option<u64> {
+fn read_once(rt: &HostRuntime, file: &str) -> Option<u64> {
     let before = nanoseconds(rt);
-    let is_read = Records::read_over(rt.alloc(), file.as_bytes(), trie_type).is_ok();
+    let is_read = Records::read(rt.alloc(), file.as_bytes()).is_ok();
     let after = nanoseconds(rt);
     if is_read {
         time_between(before, after)
@@ -30,10 +30,10 @@ fn compile_once(rt: &HostRuntime, records: &Records, trie_type: TrieType) -> Opt
 }
 
 /// The least of as many readings as rounds are asked for.
-fn least_reading(rt: &HostRuntime, file: &str, trie_type: TrieType, rounds: u32) -> Option<u64> {
+fn least_reading(rt: &HostRuntime, file: &str, rounds: u32) -> Option<u64> {
     let mut least = u64::MAX;
     for _round in 0..rounds {
-        least = least.min(read_once(rt, file, trie_type)?);
+        least = least.min(read_once(rt, file)?);
     }
     Some(least)
 }
@@ -52,11 +52,10 @@ fn least_compiling(
     Some(least)
 }
 
-/// Prints how many microseconds reading a file takes, with tries of either type.
+/// Prints how many microseconds reading a file takes.
 fn measure_reading(rt: &HostRuntime, file: &str, rounds: u32) -> Option<()> {
-    let small = least_reading(rt, file, TrieType::Small, rounds)? / 1000;
-    let fast = least_reading(rt, file, TrieType::Fast, rounds)? / 1000;
-    println!(rt; "read {small} {fast}").ok()
+    let least = least_reading(rt, file, rounds)? / 1000;
+    println!(rt; "read {least}").ok()
 }
 
 /// Prints how many microseconds compiling records takes, with tries of either type.
@@ -66,8 +65,8 @@ fn measure_compiling_records(rt: &HostRuntime, records: &Records, rounds: u32) -
     println!(rt; "compile {small} {fast}").ok()
 }
 
-/// Prints how many microseconds reading a records file takes, and how many compiling what it says, with tries of either
-/// type; `None` where the file is refused, or memory is.
+/// Prints how many microseconds reading a records file takes, and how many compiling what it says takes, with tries of
+/// either type; `None` where the file is refused, or memory is.
 pub fn measure_compiling(rt: &HostRuntime, file: &str, rounds: u32) -> Option<()> {
     measure_reading(rt, file, rounds)?;
     match Records::read(rt.alloc(), file.as_bytes()) {

@@ -5,11 +5,16 @@
 //! compared, each name with one far from it (`cmp_random`), and each with the next in the order of their keys
 //! (`cmp_near`): the best of three rounds at strength Tertiary, over the lines of a file of names.
 //!
-//! `collator_speed RECORDS NAMES TASK ROUNDS` prints the best of so many rounds. TASK is `names`, as above; `elements`, how many characters of
-//! the lines of a file are read in a second; `numeric_elements`, the same with digits read as numbers; `try_new`, how many
-//! microseconds a check of the tables takes, with tries of type `Small` and of type `Fast`; or `compile`, how many a reading
-//! of the records file takes (`read`), and compiling what was read (`compile`), each with tries of type `Small` and of type
-//! `Fast`. `Records::read` takes those of type `Fast`. These two look past NAMES, which has to be a file.
+//! `collator_speed RECORDS NAMES TASK ROUNDS` prints the best of so many rounds. TASK is one of:
+//!
+//! - `names`: as above.
+//! - `elements`: how many characters of the lines of a file are read in a second; `numeric_elements`: the same, with digits
+//!   read as numbers.
+//! - `try_new`: how many microseconds a check of the tables takes, with tries of type `Small` and of type `Fast`.
+//! - `compile`: how many microseconds reading the records file takes (`read`), and how many compiling what was read
+//!   (`compile`), with tries of type `Small` and of type `Fast`.
+//!
+//! The last two look past NAMES, which has to be a file.
 #![tactic(auto)]
 
 mod clock;
