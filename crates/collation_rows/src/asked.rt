@@ -15,8 +15,10 @@ use crate::orders::order_of;
 use crate::script::halves;
 use crate::sinks::sink_of;
 use crate::texts::{bytes, shown};
+use compiled_samples::compiled::held_tables;
+use compiled_samples::held::HeldCollation;
+use icu_codepointtrie::TrieType;
 use icu_collator::{Collator, CollatorBorrowed};
-use icu_collator_samples::held::{HeldCollation, held_tables};
 use std::alloc::Global;
 
 /// The answer how two texts order.
@@ -130,7 +132,7 @@ fn ask_each(rt: &HostRuntime, held: &HeldCollation<'static>, lines: &str) -> Opt
 /// Asks collators over the tables of records, each with the options of a line, what the lines behind that do; `None` as in
 /// `ask_over`.
 pub fn ask_collators(rt: &HostRuntime, records: &str, lines: &str) -> Option<()> {
-    match held_tables(rt.alloc(), records) {
+    match held_tables(rt.alloc(), records, TrieType::Small) {
         Some(held) => ask_each(rt, &held, lines),
         None => None,
     }

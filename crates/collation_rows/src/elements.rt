@@ -5,20 +5,14 @@
 //! - `unsafe CHARACTER..`: whether each is one at which no reading begins.
 
 use crate::script::halves;
+use crate::texts::characters;
+use compiled_samples::compiled::checked_tables;
+use compiled_samples::plain::plain_elements;
+use compiled_samples::plain::recorded::Tables;
+use compiled_samples::read::read_elements;
 use icu_codepointtrie::TrieType;
 use icu_collator_core::checked::CheckedTables;
-use icu_collator_samples::lines::characters;
-use icu_collator_samples::packed::checked_tables;
-use icu_collator_samples::plain::plain_elements;
-use icu_collator_samples::plain::recorded::Tables;
-use icu_collator_samples::read::read_elements;
 use std::alloc::Global;
-
-/// The characters of words.
-fn characters_of(alloc: Global, words: &str) -> Option<Vec<char>> {
-    let words: Vec<&str> = words.split_ascii_whitespace().collect(alloc).ok()?;
-    characters(alloc, &words)
-}
 
 /// Elements, or a stroke for none.
 fn shown(alloc: Global, elements: &[u64]) -> Option<String> {
@@ -73,7 +67,7 @@ fn unsafe_answer(tables: &CheckedTables<'_>, alloc: Global, text: &[char]) -> Op
 /// The answer to a question.
 fn answer(tables: &CheckedTables<'_>, alloc: Global, line: &str) -> Option<String> {
     let (call, words) = halves(line, ' ');
-    let text = characters_of(alloc, words)?;
+    let text = characters(alloc, words)?;
     let lead = Some(tables.tables().special_primaries.numeric_primary);
     match call {
         "read" => read_answer(tables, alloc, &text, None),
@@ -112,11 +106,11 @@ fn trie_type_of(word: &str) -> Option<TrieType> {
     }
 }
 
-/// Prints whether the tables of records, with tries of a type, are accepted, or why not, and asks them what these lines do;
-/// `None` where one asks nothing, or memory is refused.
+/// Prints that the tables of records, with tries of a type, are accepted, and asks them what these lines do; `None` where
+/// the records are refused, a line asks nothing, or memory is refused.
 pub fn ask_tables(rt: &HostRuntime, records: &str, trie_type: &str, lines: &str) -> Option<()> {
-    match checked_tables(rt.alloc(), records, trie_type_of(trie_type)?)? {
-        Ok(tables) => answer_lines(rt, &tables, lines),
-        Err(fault) => println!(rt; "{fault:?}").ok(),
+    match checked_tables(rt.alloc(), records, trie_type_of(trie_type)?) {
+        Some(tables) => answer_lines(rt, &tables, lines),
+        None => None,
     }
 }

@@ -10,10 +10,11 @@
 //! - `? QUESTION`: no change, but a question to a collator over what there is, with no option (module `asked`).
 
 use crate::asked::ask_over;
+use compiled_samples::compiled::held_tables;
+use compiled_samples::held::{HeldCollation, Lacking};
 use icu_codepointtrie::{CodePointTrie, CodePointTrieBuilder, TrieType};
 use icu_collator::Collator;
 use icu_collator_core::tables::{CollationJamo, CollationReordering, CollationTables};
-use icu_collator_samples::held::{HeldCollation, Lacking, held_tables};
 use icu_collator_types::options::{CollatorOptions, CollatorPreferences};
 use icu_normalizer_core::canonical::CanonicalTables;
 use icu_packed_vector::PackedVec;
@@ -197,7 +198,7 @@ fn try_lines(rt: &HostRuntime, held: &mut HeldCollation<'static>, lines: &str) -
 /// Makes the changes of lines, one upon another, to what a provider gives of the tables of records, and prints what a collator
 /// is refused for then; `None` where a line is no change, or memory is refused.
 pub fn try_changes(rt: &HostRuntime, records: &str, lines: &str) -> Option<()> {
-    match held_tables(rt.alloc(), records) {
+    match held_tables(rt.alloc(), records, TrieType::Small) {
         Some(mut held) => try_lines(rt, &mut held, lines),
         None => None,
     }

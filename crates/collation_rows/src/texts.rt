@@ -27,3 +27,17 @@ pub fn shown(alloc: Global, bytes: &[u8]) -> Option<String> {
     }
     hex::encode(alloc, bytes).ok()
 }
+
+/// The character of a number in hexadecimal.
+fn character(word: &str) -> Option<char> {
+    char::from_u32(u32::from_str_radix(word, 16).ok()?)
+}
+
+/// The characters of words, each a number in hexadecimal.
+pub fn characters(alloc: Global, words: &str) -> Option<Vec<char>> {
+    let mut list = Vec::new(alloc);
+    for word in words.split_ascii_whitespace() {
+        list.push(character(word)?).ok()?;
+    }
+    Some(list)
+}

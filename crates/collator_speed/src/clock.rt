@@ -8,6 +8,13 @@ pub fn nanoseconds(rt: &HostRuntime) -> Option<u64> {
     u64::try_from(used.as_nanos()).ok()
 }
 
+/// The nanoseconds from one time to another.
+pub fn time_between(before: Option<u64>, after: Option<u64>) -> Option<u64> {
+    let before = before?;
+    let after = after?;
+    after.checked_sub(before)
+}
+
 /// How many things were done in a second, of so many in so many nanoseconds.
 pub fn a_second(count: usize, nanoseconds: u64) -> Option<u64> {
     (count as u64)

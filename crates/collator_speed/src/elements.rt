@@ -1,19 +1,12 @@
 //! How fast elements are read, and tables checked.
 
-use crate::clock::{a_second, nanoseconds};
+use crate::clock::{a_second, nanoseconds, time_between};
+use compiled_samples::compiled::{checked_tables, tables_of};
 use icu_codepointtrie::TrieType;
 use icu_collator_core::checked::CheckedTables;
 use icu_collator_core::elements::CollationElements;
-use icu_collator_samples::packed::{checked_tables, tables_of};
 use icu_collator_types::elements::CollationElement;
 use std::alloc::Global;
-
-/// The nanoseconds from one time to another.
-fn time_between(before: Option<u64>, after: Option<u64>) -> Option<u64> {
-    let before = before?;
-    let after = after?;
-    after.checked_sub(before)
-}
 
 /// The nanoseconds that a check of the tables of a records file takes.
 fn check_once(rt: &HostRuntime, records: &str, trie_type: TrieType) -> Option<u64> {
@@ -129,10 +122,10 @@ pub fn measure_elements(
     rounds: u32,
 ) -> Option<()> {
     match checked_tables(rt.alloc(), records, TrieType::Small) {
-        Some(Ok(tables)) => {
+        Some(tables) => {
             let lead = tables.tables().special_primaries.numeric_primary;
             measure_reading(rt, &tables, texts, has_numbers.then_some(lead), rounds)
         }
-        _ => None,
+        None => None,
     }
 }

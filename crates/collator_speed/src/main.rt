@@ -1,20 +1,29 @@
-//! Measures collators and the reading of elements, over the tables that the provider of tests builds of a records file, each by
-//! processor time.
+//! Measures collators and the reading of elements, over the tables that a records file is compiled to, and the making of those
+//! tables, each by processor time.
 //!
 //! `collator_speed RECORDS NAMES` prints how many keys of names are written in a second (`keys`), how many pairs of names are
 //! compared, each name with one far from it (`cmp_random`), and each with the next in the order of their keys
 //! (`cmp_near`): the best of three rounds at strength Tertiary, over the lines of a file of names.
 //!
-//! `collator_speed RECORDS NAMES TASK ROUNDS` prints the best of so many rounds. TASK is `names`, as above; `elements`, how many characters of
-//! the lines of a file are read in a second; `numeric_elements`, the same with digits read as numbers; or `try_new`, how many
-//! microseconds a check of the tables takes, with tries of type `Small` and of type `Fast`.
+//! `collator_speed RECORDS NAMES TASK ROUNDS` prints the best of so many rounds. TASK is one of:
+//!
+//! - `names`: as above.
+//! - `elements`: how many characters of the lines of a file are read in a second; `numeric_elements`: the same, with digits
+//!   read as numbers.
+//! - `try_new`: how many microseconds a check of the tables takes, with tries of type `Small` and of type `Fast`.
+//! - `compile`: how many microseconds reading the records file takes (`read`), and how many compiling what was read
+//!   (`compile`), with tries of type `Small` and of type `Fast`.
+//!
+//! The last two look past NAMES, which has to be a file.
 #![tactic(auto)]
 
 mod clock;
+mod compiling;
 mod elements;
 mod names;
 mod speed;
 
+use compiling::measure_compiling;
 use elements::{measure_check, measure_elements};
 use speed::measure_collator;
 use std::{env, fs, io};
@@ -35,6 +44,7 @@ fn run(rt: &HostRuntime, records: &str, names: &str, task: &str, rounds: u32) ->
         "elements" => measure_elements(rt, records, names, false, rounds),
         "numeric_elements" => measure_elements(rt, records, names, true, rounds),
         "try_new" => measure_check(rt, records, rounds),
+        "compile" => measure_compiling(rt, records, rounds),
         _ => None,
     }
 }

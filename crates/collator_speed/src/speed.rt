@@ -2,8 +2,10 @@
 
 use crate::clock::{a_second, nanoseconds};
 use crate::names::in_order;
+use compiled_samples::compiled::held_tables;
+use compiled_samples::held::HeldCollation;
+use icu_codepointtrie::TrieType;
 use icu_collator::{Collator, CollatorBorrowed};
-use icu_collator_samples::held::{HeldCollation, held_tables};
 use icu_collator_types::options::{CollatorOptions, CollatorPreferences};
 use std::alloc::Global;
 use std::cmp::Ordering;
@@ -133,7 +135,7 @@ fn measure_over(
 
 /// The same, by a collator over the tables of records; `None` where it can't be made, or memory is refused.
 pub fn measure_collator(rt: &HostRuntime, records: &str, lines: &str, rounds: u32) -> Option<()> {
-    match held_tables(rt.alloc(), records) {
+    match held_tables(rt.alloc(), records, TrieType::Small) {
         Some(held) => measure_over(rt, &held, lines, rounds),
         None => None,
     }

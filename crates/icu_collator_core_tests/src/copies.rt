@@ -1,7 +1,7 @@
 //! Copies of tables, each equal to what it is made of.
 
+use crate::tables::{FALLBACK, data, letters, reordering, trie};
 use icu_collator_core::tables::{CollationData, CollationTables};
-use icu_collator_samples::tables::{FALLBACK, data, letters, reordering, trie};
 use std::alloc::Global;
 
 /// Data with an item in each list; `None` where memory is refused.

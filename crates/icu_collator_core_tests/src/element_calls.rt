@@ -1,10 +1,10 @@
 //! The calls of the reader of elements, in their order.
 
+use compiled_samples::compiled::checked_tables;
 use icu_codepointtrie::TrieType;
 use icu_collator_core::checked::CheckedTables;
 use icu_collator_core::elements::CollationElements;
 use icu_collator_core::elements::texts::{decomposed_list, list_elements};
-use icu_collator_samples::packed::checked_tables;
 use icu_collator_types::elements::CollationElement;
 use std::alloc::Global;
 use std::str::Chars;
@@ -19,7 +19,7 @@ w 0064 ; [2A500000.0500.0.0500.0] [0.8800.0.0500.0]
 
 /// The tables of the records; `None` where memory is refused.
 fn tables(alloc: Global) -> Option<CheckedTables<'static>> {
-    checked_tables(alloc, RECORDS, TrieType::Small)?.ok()
+    checked_tables(alloc, RECORDS, TrieType::Small)
 }
 
 /// Whether the next elements are these, and after them the end, many times.

@@ -1,8 +1,8 @@
 //! What checked tables tell of a character at once, for the fast ways of a comparison.
 
+use compiled_samples::compiled::checked_tables;
 use icu_codepointtrie::TrieType;
 use icu_collator_core::checked::CheckedTables;
-use icu_collator_samples::packed::checked_tables;
 use std::alloc::Global;
 
 /// Records of four letters; the third stands behind the first as its suffix too, and the fourth behind the second as what
@@ -18,7 +18,7 @@ w 0401 ; [2A700000.0500.0.0500.0]
 
 /// The tables of the records; `None` where memory is refused.
 fn tables(alloc: Global) -> Option<CheckedTables<'static>> {
-    checked_tables(alloc, RECORDS, TrieType::Small)?.ok()
+    checked_tables(alloc, RECORDS, TrieType::Small)
 }
 
 /// What is told of a character: whether it is read alone, and is plain, reading may begin at it, and it has no prefix.

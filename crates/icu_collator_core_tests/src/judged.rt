@@ -1,9 +1,9 @@
 //! What tables are refused for.
 
+use crate::tables::canonical;
 use icu_collator_core::check::TableFault;
 use icu_collator_core::checked::CheckedTables;
 use icu_collator_core::tables::CollationTables;
-use icu_collator_samples::tables::canonical;
 use std::alloc::Global;
 
 /// Whether tables are refused for this, or accepted where it is none.

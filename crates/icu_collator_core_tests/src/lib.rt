@@ -18,4 +18,6 @@ mod refusals;
 #[cfg(test)]
 mod settings;
 #[cfg(test)]
+mod tables;
+#[cfg(test)]
 mod weight_rules;

@@ -1,14 +1,14 @@
 //! What tables are refused for beside the words of characters: their other lists; and characters without a word.
 
 use crate::judged::judged;
+use crate::tables::{
+    IMPLICIT, TAILORED_DIACRITICS, WORDS, data, letters, reordering, tables, trie,
+};
 use icu_codepointtrie::{CodePointTrie, CodePointTrieHeader, TrieType};
 use icu_collator_core::check::TableFault;
 use icu_collator_core::tables::{
     CollationDiacritics, CollationJamo, CollationMetadata, CollationReordering,
     CollationSpecialPrimaries, CollationTables,
-};
-use icu_collator_samples::tables::{
-    IMPLICIT, TAILORED_DIACRITICS, WORDS, data, letters, reordering, tables, trie,
 };
 use icu_packed_vector::PackedVec;
 use std::alloc::Global;

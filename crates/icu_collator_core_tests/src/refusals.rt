@@ -1,11 +1,9 @@
 //! What tables are refused for: those of the worked rows, with another word of one character.
 
 use crate::judged::judged;
+use crate::tables::{FALLBACK, IMPLICIT, WORDS, changed_trie, data, letters, tables, trie};
 use icu_collator_core::check::TableFault;
 use icu_collator_core::tables::CollationTables;
-use icu_collator_samples::tables::{
-    FALLBACK, IMPLICIT, WORDS, changed_trie, data, letters, tables, trie,
-};
 use std::alloc::Global;
 
 /// Another word of "a", and the lists that it names.

@@ -1,9 +1,9 @@
 //! What the bits of metadata say, which leads are compressible, and what stands in the place of primaries.
 
+use crate::tables::reordering;
 use icu_collator_core::tables::{
     CollationMetadata, CollationReordering, CollationSpecialPrimaries,
 };
-use icu_collator_samples::tables::reordering;
 use icu_collator_types::options::{CollationCaseFirst, MaxVariable};
 use icu_packed_vector::PackedVec;
 use std::alloc::Global;

@@ -1,7 +1,9 @@
 //! With memory at hand each call answers.
 
+use compiled_samples::compiled::held_tables;
+use compiled_samples::held::HeldCollation;
+use icu_codepointtrie::TrieType;
 use icu_collator::{Collator, CollatorBorrowed};
-use icu_collator_samples::held::{HeldCollation, held_tables};
 use icu_collator_types::options::{CollatorOptions, CollatorPreferences};
 use std::alloc::Global;
 use std::cmp::Ordering;
@@ -72,7 +74,7 @@ fn answers_over(alloc: Global, held: &HeldCollation<'static>, call: Call) -> boo
 
 /// Whether a call of a collator over the two letters answers.
 fn is_answered(alloc: Global, call: Call) -> bool {
-    match held_tables(alloc, LETTERS) {
+    match held_tables(alloc, LETTERS, TrieType::Small) {
         Some(held) => answers_over(alloc, &held, call),
         None => false,
     }

@@ -7,10 +7,10 @@ ghost use Rattle.std.proofs.lemmas.List.{append-nil};
 ghost use Rattle.icu_normalizer.specs.Sinks.{AddsPrefix};
 
 use crate::calls::{KEY, LETTERS};
+use compiled_samples::compiled::checked_tables;
 use icu_codepointtrie::TrieType;
 use icu_collator::options::CollatorOptions;
 use icu_collator::{CollationKeySink, Collator, CollatorBorrowed, CollatorPreferences, KeyError};
-use icu_collator_samples::packed::checked_tables;
 use std::alloc::Global;
 
 /// Why a sink takes no more.
@@ -135,7 +135,7 @@ fn calls_needed(collator: &CollatorBorrowed<'_>, alloc: Global, call: KeyCall) -
 
 /// A collator of the two letters, which owns its tables.
 fn letters(alloc: Global) -> Option<Collator<'static>> {
-    let tables = checked_tables(alloc, LETTERS, TrieType::Small)?.ok()?;
+    let tables = checked_tables(alloc, LETTERS, TrieType::Small)?;
     let preferences = CollatorPreferences::default();
     Some(Collator::from_tables(tables, preferences, CollatorOptions::default()))
 }

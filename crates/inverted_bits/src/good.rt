@@ -2,9 +2,10 @@
 
 use crate::lists::{Lists, Part};
 use crate::tables::{CANONICAL, DataParts, ROOT, TAILORING, TrieParts};
-use icu_codepointtrie::CodePointTrie;
+use compiled_samples::compiled::held_tables;
+use compiled_samples::held::HeldCollation;
+use icu_codepointtrie::{CodePointTrie, TrieType};
 use icu_collator_core::tables::{CollationData, CollationReordering, CollationTables};
-use icu_collator_samples::held::{HeldCollation, held_tables};
 use icu_normalizer_core::canonical::CanonicalTables;
 use icu_packed_vector::{PackedItem, PackedVec};
 use std::alloc::Global;
@@ -39,13 +40,14 @@ w 006A ; [2A3B0000.0500.0.0A03.2] [2A3C0000.0500.0.0500.0]
 w 0031 ; [11110000.0500.0.0500.0]
 w 0032 ; [0.8600.0.0500.0] [11120000.0500.0.0500.0]
 w 1100 ; [2A350000.0500.0.0500.0]
+w FFC1 ; [2A3E0000.0500.0.0500.0]
 digit 0031 1
 digit 0032 2
 range 0070 0075 E0020200 3
 t 0061 0064 ; [2A220000.0500.0.0500.0]
 t 0062 ; [2B212000.0500.0.0500.0]
 t 0064 | 0063 ; [2A240000.0500.0.0500.0] [0.8800.0.0500.0]
-t 0066 ; [0.0.2.3F00.0]
+t 0066 ; [0.0000.2.3F00.0]
 t 0067 ; [0.8A02.0.0500.0]
 t 0031 ; [11130000.0500.0.0500.0]
 t 0070 0061 ; [2A360000.0500.0.0500.0]
@@ -57,6 +59,10 @@ const CUTS: [u32; 4] = [0x2c00_0000, 0x2c80_0001, 0x2d00_0000, 0x2d80_00ff];
 
 /// From this primary on others stay.
 const BOUND: u32 = 0x2d80_0000;
+
+/// The secondaries of the marks from U+0300 on, as the records have them: the compiler writes none, and says of each mark what
+/// its record has.
+const SECONDARIES: [u16; 3] = [0x8600, 0x8800, 0x8a02];
 
 /// The number of characters of the first list, which are put into `scalars16`: the builder of tables has them in `scalars24`.
 const FIRST_LIST: usize = 3;
@@ -134,20 +140,31 @@ fn push_data(
     push_items(lists, parts.contexts, &data.contexts)
 }
 
-/// Appends the leads of a reordering, and cuts two more.
+/// Appends the leads of a reordering, and cuts two more. A lead that stays has no byte, as those that are cut.
 fn push_reordering(lists: &mut Lists, reordering: &CollationReordering<'_>) -> Option<()> {
-    push_items(lists, Part::Leads, &reordering.reorder_table)?;
+    for (lead, other) in reordering.reorder_table.iter().enumerate() {
+        let stays = usize::from(other) == lead;
+        lists.push(Part::Leads, if stays { 0 } else { other })?;
+    }
     for cut in CUTS {
         lists.push(Part::Ranges, cut)?;
     }
     lists.push(Part::Bound, BOUND)
 }
 
-/// Appends the lists of collation tables.
+/// Appends the secondaries of marks.
+fn push_secondaries(lists: &mut Lists) -> Option<()> {
+    for secondary in SECONDARIES {
+        lists.push(Part::Secondaries, secondary)?;
+    }
+    Some(())
+}
+
+/// Appends the lists of collation tables, and secondaries of marks.
 fn push_tables(alloc: Global, lists: &mut Lists, tables: &CollationTables<'_>) -> Option<()> {
     push_data(alloc, lists, ROOT, &tables.root)?;
     push_data(alloc, lists, TAILORING, tables.tailoring.as_ref()?)?;
-    push_items(lists, Part::Secondaries, &tables.diacritics.secondaries)?;
+    push_secondaries(lists)?;
     push_items(lists, Part::Jamo, &tables.jamo.ce32s)?;
     push_reordering(lists, tables.reordering.as_ref()?)?;
     lists.push(Part::Metadata, tables.metadata.bits)?;
@@ -191,6 +208,6 @@ fn lists_of(alloc: Global, held: &HeldCollation<'_>) -> Option<Lists> {
 
 /// The lists of good tables; `None` where memory is refused.
 pub fn good_lists(alloc: Global) -> Option<Lists> {
-    let held = held_tables(alloc, RECORDS)?;
+    let held = held_tables(alloc, RECORDS, TrieType::Small)?;
     lists_of(alloc, &held)
 }

@@ -2,12 +2,12 @@
 
 use crate::decomposed::slowly_decomposed;
 use crate::lists::Lists;
+use compiled_samples::plain::plain_elements;
+use compiled_samples::plain::recorded::Tables;
+use compiled_samples::read::read_elements;
 use icu_collator_core::check::TableFault;
 use icu_collator_core::checked::CheckedTables;
 use icu_collator_core::tables::CollationTables;
-use icu_collator_samples::plain::plain_elements;
-use icu_collator_samples::plain::recorded::Tables;
-use icu_collator_samples::read::read_elements;
 use icu_normalizer_core::canonical::{CanonicalBorrowed, CanonicalData, CanonicalDataError};
 use std::alloc::Global;
 
@@ -20,7 +20,7 @@ const TEXTS: [&str; 12] = [
     "1210z2",
     "pqu\u{1100}\u{1101}\u{ac01}",
     "\u{303}@A\u{370}\u{33f}\u{212a}\u{fa6c}",
-    "\u{fffd}\u{fffe}\u{ffff}\u{ffc0}\u{10000}\u{4e00}",
+    "\u{fffd}\u{fffe}\u{ffff}\u{ffc0}\u{ffc1}\u{10000}\u{4e00}",
     "adcfgdc",
     "hihahijpapu",
     "22112",

@@ -1,7 +1,7 @@
 //! The elements of a text, read slowly from tables by the rules alone: what stands in the tables is looked up afresh for
 //! each text that might be recorded. It is what the reader's answers are compared with.
 
-pub mod numbers;
+mod numbers;
 pub mod recorded;
 
 use icu_normalizer_core::canonical::CanonicalBorrowed;

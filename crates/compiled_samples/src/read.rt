@@ -6,7 +6,7 @@ use icu_collator_types::elements::CollationElement;
 use std::alloc::Global;
 
 /// The 64 bits of an element.
-pub fn bits_of(element: CollationElement) -> u64 {
+fn bits_of(element: CollationElement) -> u64 {
     (u64::from(element.primary()) << 32) | u64::from(element.non_primary().bits())
 }
 

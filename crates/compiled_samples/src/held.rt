@@ -4,10 +4,7 @@ ghost use Rattle.std.specs.Prelude.{true, false, Some, None, Ok, Err};
 ghost use Rattle.icu_normalizer_core.specs.declared.provider.error.DataError.TheVariants.{Missing};
 ghost use Rattle.icu_normalizer_core.specs.declared.provider.error.TableName.TheVariants.{Nfd, NfdTables, Nfkd, NfkdTables, Pairs, Uts46, Root, Jamo, SpecialPrimaries, Tailoring, Diacritics, Metadata, Reordering};
 
-use crate::lines::read_lines;
-use crate::packed::packed_tables;
-use crate::records::RecordSet;
-use icu_codepointtrie::{CodePointTrie, TrieType};
+use icu_codepointtrie::CodePointTrie;
 use icu_collator_core::provider::CollatorProvider;
 use icu_collator_core::tables::{
     CollationData, CollationDiacritics, CollationJamo, CollationMetadata, CollationReordering,
@@ -59,6 +56,20 @@ impl Drop for HeldCollation<'_> {
             tables: _,
             lacking: _,
         } = self;
+    }
+}
+
+impl<'t> HeldCollation<'t> {
+    /// A provider of these tables that lacks none of them.
+    pub fn of_tables(
+        canonical: CanonicalTables<'t>,
+        tables: CollationTables<'t>,
+    ) -> HeldCollation<'t> {
+        HeldCollation {
+            canonical,
+            tables,
+            lacking: Lacking::default(),
+        }
     }
 }
 
@@ -221,28 +232,4 @@ impl CollatorProvider for HeldCollation<'_> {
             }
         }
     }
-}
-
-/// The collation tables of a set of records.
-fn tables_of_set(alloc: Global, set: &RecordSet) -> Option<CollationTables<'static>> {
-    let data = set.canonical.build_data().ok()?;
-    packed_tables(alloc, set, data.as_borrowed(), TrieType::Small)
-}
-
-/// A provider of the tables of a set of records.
-fn held_set(alloc: Global, set: &RecordSet) -> Option<HeldCollation<'static>> {
-    let canonical = set.canonical.build().ok();
-    let (canonical, tables) = canonical.zip(tables_of_set(alloc, set))?;
-    Some(HeldCollation {
-        canonical,
-        tables,
-        lacking: Lacking::default(),
-    })
-}
-
-/// A provider of the tables that lines of a records file say; `None` where a line says nothing that is known, or memory is
-/// refused.
-pub fn held_tables(alloc: Global, lines: &str) -> Option<HeldCollation<'static>> {
-    let set = read_lines(alloc, lines)?;
-    held_set(alloc, &set)
 }
