@@ -1,6 +1,9 @@
 """What a script of crates/collation_rows is answered by an independent reading of the definitions in Python, which isn't part
 of this repository: a folder with modules `records` (`read`, `Fault`), `decode` (`decode_utf8`, `decode_utf16`, `decode_latin1`),
-`norm` (`decomposed`) and `collate` (`Options`, `resolve`, `levels`, `compare`, `key`, `elements_of_list`)."""
+`norm` (`composed`, `decomposed`) and `collate` (`Options`, `resolve`, `levels`, `compare`, `key`, `elements_of_list`). The
+program is `out/collation_rows` of the crate's folder, where `rt run` puts it, or the one that the environment variable
+`COLLATION_ROWS` names."""
+import functools
 import os
 import subprocess
 import sys
@@ -17,6 +20,12 @@ STRENGTHS = {0: 'Primary', 1: 'Secondary', 2: 'Tertiary', 3: 'Quaternary', 7: 'I
 SHOWN = {'nonignorable': 'NonIgnorable', 'shifted': 'Shifted', 'off': 'False', 'lower': 'Lower', 'upper': 'Upper'}
 
 
+def remembered(levels):
+    """The same function, which keeps its last answers: a text is asked about in each encoding, and for its key."""
+    kept = functools.lru_cache(maxsize=256)(levels)
+    return lambda said, options, text: kept(said, options, tuple(text))
+
+
 def load(folder):
     """The functions of the other reading."""
     sys.path.insert(0, folder)
@@ -24,8 +33,10 @@ def load(folder):
     import decode
     import norm
     import records
+    collate.levels = remembered(collate.levels)
     names = {'read': records.read, 'levels': collate.levels, 'key': collate.key, 'compare': collate.compare,
              'resolve': collate.resolve, 'elements_of_list': collate.elements_of_list, 'decomposed': norm.decomposed,
+             'composed': norm.composed,
              'utf8': decode.decode_utf8, 'utf16': decode.decode_utf16, 'latin1': decode.decode_latin1}
     oracle = type('Oracle', (), {name: staticmethod(made) for name, made in names.items()})
     oracle.Fault, oracle.Options = records.Fault, collate.Options
@@ -103,8 +114,24 @@ def tables_answer(said, line, oracle):
     text = [int(word, 16) for word in words if word]
     if call == 'unsafe':
         return ' '.join(str(said.is_unsafe(c)).lower() for c in text)
+    if call == 'compose':
+        composed = said.compose_pair(*text)
+        return '-' if composed is None else f'{composed:04X}'
     elements = oracle.elements_of_list(said, oracle.decomposed(said, text), call.endswith('_numbers'))
     return ' '.join(map(bits, elements)) or '-'
+
+
+def form_answer(said, line, oracle):
+    """The answer to a question to a normaliser."""
+    form, encoding, word = line.split(' ')
+    made = {'nfc': oracle.composed, 'nfd': oracle.decomposed}[form]
+    text = ''.join(map(chr, made(said, characters(word, SIDES[encoding][0], oracle))))
+    return text.encode('utf-16-be' if encoding == 'utf16' else 'utf8').hex() or '-'
+
+
+def file_answer(said, oracle):
+    """The answer of the reader of records."""
+    return f'{said.line} {said.rule}' if isinstance(said, oracle.Fault) else 'accepted'
 
 
 def collator_answers(said, lines, oracle):
@@ -120,8 +147,13 @@ def collator_answers(said, lines, oracle):
 
 def paragraph_answers(said, kind, lines, oracle):
     """The answers to a paragraph's lines; None for one that the other reading can't answer."""
+    if kind == 'file':
+        return [f'{line}: {file_answer(said, oracle)}' for line in lines]
+    assert not isinstance(said, oracle.Fault), said
     if kind == 'tables':
         return ['accepted', *(f'{line}: {tables_answer(said, line, oracle)}' for line in lines)]
+    if kind == 'normalisers':
+        return [f'{line}: {form_answer(said, line, oracle)}' for line in lines]
     if kind == 'provider':
         return [None for _ in lines]
     return list(collator_answers(said, lines, oracle))
@@ -131,15 +163,13 @@ def answers(script, oracle):
     """The answers to a script, a line each; None for one that the other reading can't answer."""
     file, more, shown = [], [], []
     for paragraph in script.split('\n\n'):
-        heading, *lines = paragraph.strip('\n').split('\n')
-        kind = heading.partition(' ')[0]
-        if heading == 'records':
+        kind, *lines = paragraph.strip('\n').split('\n')
+        if kind == 'records':
             file, more = lines, []
-        elif heading == 'more':
+        elif kind == 'more':
             more = lines
         elif not kind.startswith('#'):
             said = oracle.read('\n'.join([*file, *more, '']).encode())
-            assert not isinstance(said, oracle.Fault), (said, more)
             asked = [line for line in lines if not line.startswith('#')]
-            shown += [heading, *paragraph_answers(said, kind, asked, oracle)]
+            shown += [kind, *paragraph_answers(said, kind, asked, oracle)]
     return shown

@@ -5,9 +5,9 @@
 
 ORACLE is a folder with an independent reading of the definitions (tools/answers.py). There are 3,000 texts over 60 sets of records
 unless TEXTS and SETS say otherwise, half of them with numbers read by value. The records have contractions to eight characters, prefixes of one to
-three, digits, dots above, jamo, ranges and tailorings. crates/collation_rows builds tables of each set, which have to be
-accepted, and answers the elements of each text, as the reader of elements reads them (`read`) and as they are read slowly by
-the rules alone (`plain`); it has to be built (`rt run` in its folder). What differs is printed, and the status is then 1.
+three, digits, dots above, jamo, ranges and tailorings. crates/collation_rows compiles each set, with fast and with small tries,
+and answers the elements of each text, as the reader of elements reads them (`read`) and as they are read slowly by the rules
+alone (`plain`); it has to be built (`rt run` in its folder; tools/answers.py). What differs is printed, and the status is then 1.
 """
 import random
 import sys
@@ -34,7 +34,7 @@ def compare_set(source, oracle, count, done):
     lines, *characters = random_weights(source, oracle.read, lambda said: isinstance(said, oracle.Fault))
     for name in ('w', 't'):
         done[f'records {name}'] = done.get(f'records {name}', 0) + sum(line.startswith(f'{name} ') for line in lines)
-    script = ['records', *lines, '', f"tables {source.choice(['fast', 'small'])}"]
+    script = ['records', *lines, '', 'tables']
     for place in range(count):
         text = words_of(random_characters(source, lines, *characters))
         script += [f"{call}{'_numbers' if place % 2 else ''} {text}" for call in CALLS]

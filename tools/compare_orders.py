@@ -3,65 +3,24 @@
 
   compare_orders.py ORACLE [PAIRS [SETS [SEED]]]
 
-ORACLE is a folder with an independent reading of the definitions (tools/answers.py). There are 20,000 pairs over 60 sets of
-records unless PAIRS and SETS say otherwise, each set with four choices of options. Half of the pairs are nearly equal: one mark,
-case or space differs, or the normal form, or zeros before a number; and some begin with the same long text. Each pair is asked in
-all five encodings, its bytes and units damaged at times. crates/collation_rows builds tables of each set and answers orders in
-these, and keys in three; it has to be built (`rt run` in its folder). What differs is printed, and the status is then 1. How many
-pairs each level decided is printed too.
+ORACLE is a folder with an independent reading of the definitions (tools/answers.py). There are 20,000 pairs over 100 sets of
+records unless PAIRS and SETS say otherwise, each set with eight choices of options. Two of three pairs are nearly equal
+(tools/random_pairs.py): a mark, a variant of a letter, a space or stop, an ignorable character, zeros before a number, or another
+normal form; some begin with the same long text. Each pair is asked in all five encodings, its bytes and units damaged at times,
+and for both keys. crates/collation_rows compiles each set, with fast and with small tries, and answers; it has to be built
+(`rt run` in its folder; tools/answers.py). What differs is printed, and the status is then 1, as it is where a level decides less
+than one pair of a hundred. How many pairs each level decided is printed, and how many sets had lines of each kind.
 """
 import random
 import sys
-import unicodedata
 
 from answers import SIDES, characters, load, options_of
 from compare_elements import differences
-from random_weights import random_characters, random_weights
+from random_pairs import choose, random_pairs
+from random_weights import random_weights
 
-CHOICES = 4
-
-
-def settings(source):
-    """Lines that set what options resolve to, and how primaries are written."""
-    lines = [f"set alternate {source.choice(['nonignorable', 'shifted'])}"] if source.random() < 0.4 else []
-    lines += ['set backward on'] if source.random() < 0.3 else []
-    lines += [f"set casefirst {source.choice(['lower', 'upper'])}"] if source.random() < 0.3 else []
-    lines += [f"set maxvariable {source.choice(['punctuation', 'symbol', 'currency'])}"] if source.random() < 0.4 else []
-    lines += [f"set groups {source.choice(['0306 030A 030C 0310', '2A40 2A80 2AC0 6000', '0300 2A01 2B00 FFFF'])}"] if source.random() < 0.7 else []
-    lines += [f"set reorder {source.choice(['2A 2B 2B 2A', '60 29 29 60', '2A 60 60 2B 2B 2A', '29 2A 2A 29 60 61 61 60'])}"] if source.random() < 0.5 else []
-    lines += ['w 0020 ; [03040000.0500.0.0500.0]', 'w 002E ; [03080000.0500.0.0500.0]'] if source.random() < 0.7 else []
-    return lines
-
-
-def choose(source):
-    """Options by chance, as words."""
-    given = [source.choice([None, 'primary', 'secondary', 'tertiary', 'quaternary', 'quaternary', 'identical']),
-             source.choice([None, None, 'shifted', 'nonignorable']),
-             source.choice([None, None, 'space', 'punctuation', 'symbol', 'currency']), source.choice([None, None, 'caselevel']),
-             source.choice([None, None, 'off', 'lower', 'upper']), source.choice([None, None, 'numeric'])]
-    return ','.join(filter(None, given)) or 'none'
-
-
-def near(source, text, marks):
-    """A text that differs from another in little."""
-    other, kind = list(text), source.random()
-    place = source.randint(0, len(text))
-    if kind < 0.25:
-        other.insert(place, source.choice(marks))
-    elif kind < 0.4:
-        other = [ord(c) for c in ''.join(map(chr, text)).swapcase()]
-    elif kind < 0.5:
-        other.insert(place, source.choice([0x20, 0x2E, 0xFFFE]))
-    elif kind < 0.65:
-        other = [ord(c) for c in unicodedata.normalize(source.choice(['NFC', 'NFD']), ''.join(map(chr, text)))]
-    elif kind < 0.75:
-        other[place:place] = [0x30] * source.randint(1, 3)
-    elif kind < 0.9 and text:
-        del other[source.randrange(len(text))]
-    elif len(text) > 1:
-        i = source.randrange(len(text) - 1)
-        other[i], other[i + 1] = other[i + 1], other[i]
-    return other
+CHOICES = 8
+LEVELS = ('primary', 'secondary', 'case', 'tertiary', 'quaternary', 'characters', 'none')
 
 
 def damaged(source, data, width):
@@ -116,31 +75,35 @@ def count_level(said, options, question, oracle, done):
     done[f'decided by {level}'] = done.get(f'decided by {level}', 0) + 1
 
 
-def pair_of(source, lines, letters, marks, mapped):
-    """Two texts, at times with a common beginning, or nearly equal."""
-    left = random_characters(source, lines, letters, marks, mapped)
-    front = random_characters(source, lines, letters, marks, mapped) if source.random() < 0.3 else []
-    front = front * source.choice([1, 1, 2, 20])
-    right = near(source, left, marks) if source.random() < 0.5 else random_characters(source, lines, letters, marks, mapped)
-    return front + left, front + right
+def count_features(said, lines, done):
+    """Counts what a set of records has."""
+    records = [line.split(' ;') for line in lines if line[:2] in ('w ', 't ')]
+    keys = [key.split(' ') for key, _ in records]
+    prefixes = {key.index('|') - 1 for key in keys if '|' in key}
+    had = {f'a prefix of {count}' for count in prefixes}
+    had |= {'a text of eight characters'} if any(len(key) == 9 for key in keys if '|' not in key) else set()
+    had |= {'a text that ends in a mark'} if any(len(key) > 2 and said.cls(int(key[-1], 16)) for key in keys) else set()
+    had |= {'eight elements'} if any(elements.count('[') == 8 for _, elements in records) else set()
+    had |= {'a record of a jamo'} if any(len(key) == 2 and 0x1100 <= int(key[1], 16) <= 0x11FF for key in keys) else set()
+    had |= {f'{line.split(" ")[0]} lines' for line in lines if line[:4] != 'set '}
+    had |= {' '.join(line.split(' ')[:2]) for line in lines if line[:4] == 'set '}
+    for name in sorted(had):
+        done[f'sets with {name}'] = done.get(f'sets with {name}', 0) + 1
 
 
 def compare_set(source, oracle, count, done):
     """Compares so many pairs over one random set of records; what differs."""
-    lines, letters, marks, mapped = random_weights(source, oracle.read, lambda said: isinstance(said, oracle.Fault))
-    for line in settings(source):
-        if not isinstance(oracle.read('\n'.join([*lines, line, '']).encode()), oracle.Fault):
-            lines.append(line)
-    said = oracle.read('\n'.join([*lines, '']).encode())
+    lines, said, pairs = random_pairs(source, oracle.read, lambda said: isinstance(said, oracle.Fault), random_weights)
+    count_features(said, lines, done)
     script = ['records', *lines, '', 'collators']
     for _ in range(CHOICES):
         words = choose(source)
         script.append(f'options {words}')
         for _ in range(-(-count // CHOICES)):
-            left, right = pair_of(source, lines, letters, marks, mapped)
+            left, right = pairs.pair()
             questions = list(order_questions(source, left, right))
             count_level(said, options_of(words, oracle), questions[0], oracle, done)
-            script += [*questions, key_question(source, left)]
+            script += [*questions, key_question(source, left), key_question(source, right)]
     return [(*fault, *lines) for fault in differences('\n'.join([*script, '']), oracle, done)]
 
 
@@ -149,17 +112,18 @@ def main(words):
         sys.stderr.write(__doc__)
         return 2
     oracle = load(words[0])
-    pairs, sets, seed = [int(words[k]) if len(words) > k else other for k, other in ((1, 20000), (2, 60), (3, 1))]
+    pairs, sets, seed = [int(words[k]) if len(words) > k else other for k, other in ((1, 20000), (2, 100), (3, 1))]
     source = random.Random(seed)
     done, faults = {}, []
     for _ in range(sets):
         faults += compare_set(source, oracle, -(-pairs // sets), done)
-    for name, made in done.items():
-        print(f'{name:28} {made:7}')
+    for name, made in sorted(done.items()):
+        print(f'{name:40} {made:7}')
     for fault in faults[:5]:
         print(*fault, sep='\n  ')
-    print(f'{len(faults)} differ')
-    return 1 if faults else 0
+    few = [level for level in LEVELS if done.get(f'decided by {level}', 0) < pairs // 100]
+    print(f'{len(faults)} differ' + ''.join(f', few pairs decided by {level}' for level in few))
+    return 1 if faults or few else 0
 
 
 if __name__ == '__main__':

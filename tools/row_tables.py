@@ -47,6 +47,20 @@ def section(title, more, *paragraphs):
     return title, [('more', more)], paragraphs
 
 
+def form(name, text, normal):
+    """Questions for a normal form of a text in each encoding."""
+    asked = []
+    for encoding, coded in (('text', 'utf8'), ('utf8', 'utf8'), ('utf16', 'utf-16-be')):
+        said, answer = (given.encode(coded).hex() or '-' for given in (text, normal))
+        asked.append(line(f'{name} {encoding} {said}', answer))
+    return asked
+
+
+def read(title, more, answer):
+    """A section of what the reader answers where the last file has more lines."""
+    return section(title, more, ('file', [line('read', answer)]))
+
+
 def sinks(text, length):
     """Questions on a key of so many bytes in each sink: as many slices as it has bytes, and two more."""
     hexed = text.encode().hex()
@@ -89,8 +103,11 @@ WORKED = [
                               key('\ufffe\0\0', '02fe040210040210'), key('\0\ufffe\0', 'fe04021002fe040210'),
                               compare('\ufffe\0\0', '\0\ufffe\0', 'Less'), key('\uac00', 'fd0402fd0463'),
                               key('\u1100\u1161', 'fd0402fd0463')]),
-        ('tables fast', elements((' ', '\u1ea1\u0301', rest('2a10') + marks('8c00', '8800')),
-                                 (' ', '\u00e1\u0323', rest('2a10') + marks('8c00', '8800')), (' ', '', '-'))),
+        ('tables', elements((' ', '\u1ea1\u0301', rest('2a10') + marks('8c00', '8800')),
+                            (' ', '\u00e1\u0323', rest('2a10') + marks('8c00', '8800')), (' ', '', '-'))),
+        ('normalisers', [*form('nfc', 'a\u0301\u0323', '\u1ea1\u0301'), *form('nfd', '\u1ea1\u0301', 'a\u0323\u0301'),
+                         *form('nfd', '\u0344', '\u0308\u0301'), *form('nfc', '\u0344', '\u0308\u0301'),
+                         *form('nfc', '\u1100\u1161\u11a8', '\uac01'), *form('nfd', '', '')]),
     ]),
     section('Upper case first, with the level of case', [CAPITAL],
             ('options secondary,caselevel,upper', [compare('a' * 13 + 'A', 'a' * 14, 'Less'),
@@ -100,26 +117,28 @@ WORKED = [
             ('options secondary', [key('', '0101')]), ('options tertiary', [compare('cote\u0301', 'co\u0302te', 'Greater')])),
     section('Three letters together', [at('abc', '2B80')],
             ('options tertiary', [compare('abc', 'abe', 'Greater')]),
-            ('tables fast', [line('unsafe 61 E1 AC00', 'false false false'), line('unsafe 62 301 344', 'true true true')]),
-            ('tables small', [line('unsafe 61 E1 AC00 62 301 344', 'false false false true true true')])),
+            ('tables', [line('unsafe 61 E1 AC00', 'false false false'), line('unsafe 62 301 344', 'true true true'),
+                        line('unsafe 61 E1 AC00 62 301 344', 'false false false true true true')])),
     section('A letter behind two others', ['w 0061 0062 | 0063 ; [2A600000.0500.0.0500.0]'],
             ('options tertiary', [compare('abc', 'abe', 'Greater'), compare('bbc', 'bbe', 'Less')]),
-            ('tables fast', elements((' ', 'abc', rest('2a10', '2a20', '2a60')), (' ', 'bbc', rest('2a20', '2a20', '2a30'))))),
+            ('tables', elements((' ', 'abc', rest('2a10', '2a20', '2a60')), (' ', 'bbc', rest('2a20', '2a20', '2a30'))))),
     section('A letter behind three others', ['w 0061 0062 0063 | 0065 ; [2AA00000.0500.0.0500.0]'],
-            ('options primary', [compare('abce', 'abch', 'Greater'), key('abce', '2a102a202a302aa0')])),
+            ('options primary', [compare('abce', 'abch', 'Greater'), key('abce', '2a102a202a302aa0')]),
+            ('options none', [compare('abce', 'abch', 'Greater')])),
     section('The longest of two prefixes', ['w 0061 0062 0063 | 0065 ; [2AA00000.0500.0.0500.0]',
                                             'w 0063 | 0065 ; [2A700000.0500.0.0500.0]'],
             ('options primary', [compare('abce', 'abch', 'Greater'), key('abce', '2a102a202a302aa0'),
-                                  compare('bce', 'bch', 'Less'), key('bce', '2a202a302a70')])),
+                                  compare('bce', 'bch', 'Less'), key('bce', '2a202a302a70')]),
+            ('options none', [compare('abce', 'abch', 'Greater'), compare('bce', 'bch', 'Less')])),
     section('Marks do not join across a letter', [at('c\u0301', '2A70'), at('cha', '2B90')],
             ('options primary', [compare('ch\u0323\u0301', 'ch', 'Equal')]),
-            ('tables small', elements((' ', 'ch', rest('2a30', '2a80')),
-                                      (' ', 'ch\u0323\u0301', rest('2a30', '2a80') + marks('8c00', '8800'))))),
+            ('tables', elements((' ', 'ch', rest('2a30', '2a80')),
+                                (' ', 'ch\u0323\u0301', rest('2a30', '2a80') + marks('8c00', '8800'))))),
     section('A mark joins past a lower one, and not past its own class', [at('a\u0301', '2A18')],
             ('options primary', [compare('a\u0323', 'a\u0323\u0301', 'Less'), compare('a\u0302\u0301', 'a', 'Equal')]),
-            ('tables fast', elements((' ', 'a\u0323', rest('2a10') + marks('8c00')),
-                                     (' ', 'a\u0323\u0301', rest('2a18') + marks('8c00')),
-                                     (' ', 'a\u0302\u0301', rest('2a10') + marks('8a00', '8800'))))),
+            ('tables', elements((' ', 'a\u0323', rest('2a10') + marks('8c00')),
+                                (' ', 'a\u0323\u0301', rest('2a18') + marks('8c00')),
+                                (' ', 'a\u0302\u0301', rest('2a10') + marks('8a00', '8800'))))),
     section('Numbers', DIGITS,
             ('options tertiary', [compare('a2', 'a10', 'Greater')]),
             ('options tertiary,numeric', [compare('a2', 'a10', 'Less'), compare('a99', 'a100', 'Less')]),
@@ -132,17 +151,16 @@ WORKED = [
                          ('1042490', '10840d13103bbe'), ('9999999', '10841dd110d1d0'), ('10000000', '10841e'),
                          ('100000000', '10850c'), ('0', '1002'), ('000', '1002')),
                 key('9' * 254), key('1' + '0' * 253), key('a' + '12' * 130 + 'b')]),
-            *((f'tables {trie}', elements(
+            ('tables', elements(
                 ('n', '73', rest('104b')), ('n', '74', rest('104c02')), ('n', '10233', rest('1073ff')),
                 ('n', '10234', rest('10740202')), ('n', '1042489', rest('1083ffff')),
                 ('n', '1042490', rest('10840d13', '103bbe')), ('n', '0007', rest('1009')), ('n', 'a2', rest('2a10', '1004')),
-                ('n', 'a10', rest('2a10', '100c')), (' ', 'a10', rest('2a10', '1111', '1110'))))
-              for trie in ('fast', 'small'))),
+                ('n', 'a10', rest('2a10', '100c')), (' ', 'a10', rest('2a10', '1111', '1110'))))),
     section('A range', ['range 4E00 9FFF E0020200 1'],
             ('options primary', [key('\u4e00', 'e00202'), key('\u4efe', 'e00302')]),
-            ('tables small', elements((' ', '\u4e00', rest('e00202')), (' ', '\u4efe', rest('e00302')),
-                                      (' ', '\uac00', rest('fd0402', 'fd0463')), (' ', '\u1100\u1161', rest('fd0402', 'fd0463')),
-                                      (' ', 'z', rest('fe0408d4')), (' ', '\ufffe\ufffd\uffff', rest('02', 'fffd', 'ffff'))))),
+            ('tables', elements((' ', '\u4e00', rest('e00202')), (' ', '\u4efe', rest('e00302')),
+                                (' ', '\uac00', rest('fd0402', 'fd0463')), (' ', '\u1100\u1161', rest('fd0402', 'fd0463')),
+                                (' ', 'z', rest('fe0408d4')), (' ', '\ufffe\ufffd\uffff', rest('02', 'fffd', 'ffff'))))),
     section('Letters with marks, and cases', [CAPITAL, 'w 0300 ; [0.8600.0.0500.0]', at('s', '2B10'), 'map 00E0 0061 0300',
                                               'map 00F2 006F 0300'],
             ('options secondary', [compare('as', '\u00e0s', 'Less'), compare('ao', 'Ao', 'Equal'),
@@ -153,12 +171,28 @@ WORKED = [
             ('options quaternary,shifted', [compare('a c', 'ac', 'Less'), compare('a.c.', 'ac', 'Less'),
                                              key('a c', '2a102a30010601010601011c03041c01'),
                                              key('ac', '2a102a30010601010601011d01')])),
+    section('A letter with two dots', ['map 00E4 0061 0308'],
+            ('normalisers', [line('nfc utf8 ff61cc88ff', 'efbfbdc3a4efbfbd'), *form('nfc', '\ufffda\u0308\ufffd', '\ufffd\u00e4\ufffd'),
+                             line('nfc utf16 dc000061030800610308d800', 'fffd00e400e4fffd'), *form('nfd', '\u00e4', 'a\u0308')]),
+            ('tables', [line('compose 61 308', '00E4'), line('compose 61 301', '00E1'), line('compose 61 302', '-'),
+                        line('compose 1100 1161', 'AC00')])),
+]
+
+REFUSED = [
+    read('The letters are accepted', [], 'accepted'),
+    read('Another class of what has one', ['class 0301 220'], '16 C8'),
+    read('A text that ends in a mark, and not the text before that', [at('ch\u0301', '2A40')], '16 V9'),
+    read('A text that begins with U+FFFF', [at('\uffffa', '2A40')], '16 V13'),
+    read('A second record of a letter', ['w 0061 ;'], '16 V14'),
+    read('Groups inside the lead of numbers', ['set groups 1051 1051 1051 1051'], '16 set'),
+    read('A prefix of four letters', ['w 0061 0062 0063 0065 | 0068 ;'], '16 grammar'),
+    read('A prefix that begins with a mark', ['w 0301 0061 0062 | 0063 ;'], '16 V10'),
 ]
 
 REPLACED = [
     ('Marks without elements', [('records', [*without('\u0301', '\u0323'), 'class 0350 230', 'w 0301 ;', 'w 0323 ;', 'w 0350 ;'])], [
         ('options identical', [compare('a\u0350\u0323', 'a\u0350\u0301', 'Less')]),
-        ('tables fast', lines('read 301', 'plain 301', 'read 61 350 323'))]),
+        ('tables', lines('read 301', 'plain 301', 'read 61 350 323'))]),
     ('A tertiary element', [('records', [*without('t'), 'w 0074 ; [0.0000.2.0900.0]', 'w 0042 ; [2A200000.0500.0.0900.0]'])], [
         ('options tertiary,caselevel,upper', [compare('a', 'ta', 'Less')]),
         ('options tertiary,upper', [compare('atb', 'aB', 'Greater')])]),
@@ -236,7 +270,30 @@ OTHERS = [
         'set maxvariable punctuation', *DIGITS], *option_paragraphs()),
 ]
 
-SECTIONS = [*WORKED, *OTHERS, *REPLACED]
+ACCEPTED = ('file', [line('read', 'accepted')])
+LARGE = [
+    ('The empty file', [('records', [])], [
+        ACCEPTED, ('options primary', [key('z', 'fe0408d4'), compare('a', 'b', 'Less')]), ('normalisers', form('nfc', 'a\u0301', 'a\u0301'))]),
+    ('As many code points as may be', [('records', [f'w {c:04X} ;' for c in range(0x4E00, 0x4E96)])], [
+        ACCEPTED, ('options tertiary', [key('\u4e00', '01010101'), key('\u4e00\u4e01\u4e95', '01010101'), key('\u4e96'),
+                                        key('\u4e95\u4e96'), compare('\u4e00', '\u4e95', 'Equal'), compare('\u4e95', '\u4e96', 'Less'),
+                                        compare('a\u4e44', 'a', 'Equal')]),
+        ('options identical', [compare('\u4e00', '\u4e95', 'Less'), compare('\u4e94\u4e95', '\u4e95\u4e94', 'Less')]),
+        ('tables', elements((' ', '\u4e00', '-'), (' ', '\u4e95', '-'), (' ', '\u4e96', None), (' ', '\u4dff', None)))]),
+    read('A code point more', ['w 4E96 ;'], '151 limit'),
+    ('As many records as may be', [('records', [f'w {x:04X} {y:04X} ;' for x in range(0x4E00, 0x4E28) for y in range(0x4E00, 0x4E19)])], [
+        ACCEPTED, ('options tertiary', [key('\u4e00\u4e00', '01010101'), key('\u4e27\u4e18', '01010101'), key('\u4e27\u4e19'),
+                                        key('\u4e00'), compare('\u4e27\u4e18', '', 'Equal'), compare('\u4e27\u4e19', '', 'Greater'),
+                                        compare('\u4e00\u4e00\u4e01', '\u4e01', 'Equal'), compare('\u4e13\u4e14', '\u4e14\u4e13', 'Equal'),
+                                        compare('a' * 20 + '\u4e05\u4e06', 'a' * 20, 'Equal')]),
+        ('options identical', [compare('\u4e13\u4e14', '\u4e14\u4e13', 'Less')]),
+        ('tables', [*elements((' ', '\u4e00\u4e18', '-'), (' ', '\u4e27\u4e00', '-'), (' ', '\u4e27\u4e19', None),
+                              (' ', 'a\u4e00\u4e01\u4e02', None)),
+                    line('unsafe 4E00 4E18 4E19 4E27', 'true true false false')])]),
+    read('A record more', ['w 4E28 ;'], '1001 limit'),
+]
+
+SECTIONS = [*WORKED, *OTHERS, *REFUSED, *REPLACED, *LARGE]
 
 
 def missing(table):

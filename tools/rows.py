@@ -59,7 +59,7 @@ def written(section):
             made[-1] += text
         else:
             made.append(f'collators\n{text}' if is_collator else text)
-        is_longer = is_collator and not before or heading.startswith('tables')
+        is_longer = is_collator and not before or heading == 'tables'
         worked += [None] * (2 if is_longer else 1) + [answer for _, answer in lines]
         before = is_collator
     return made, worked
@@ -98,7 +98,7 @@ def asked_lines(script):
     for paragraph in script.split('\n\n'):
         heading, *asked = paragraph.strip('\n').split('\n')
         if heading not in ('records', 'more') and not heading.startswith('#'):
-            lines += [heading, *(['accepted'] if heading.startswith('tables') else []), *asked]
+            lines += [heading, *(['accepted'] if heading == 'tables' else []), *asked]
     return lines
 
 

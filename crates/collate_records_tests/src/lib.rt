@@ -1,8 +1,10 @@
-//! Tests of the reading of records files, by its public calls. They stand here so that the reader is proved once.
+//! Tests of the reading and compiling of records files, by their public calls. They stand here so that the reader is proved once.
 #![tactic(auto)]
 
 #[cfg(test)]
 mod changes;
+#[cfg(test)]
+mod compile;
 #[cfg(test)]
 mod reader;
 #[cfg(test)]

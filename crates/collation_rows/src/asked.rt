@@ -9,16 +9,16 @@
 //! - `place TEXT TEXT`: from which place two texts are read: `0`, `1 to 9`, or `at least 10`.
 //! - `options?`: the options that the collator goes by.
 
+use crate::both::{Both, held_both, print_answers};
 use crate::keys::key_of;
 use crate::options::{options_of, preferences_of};
 use crate::orders::order_of;
 use crate::script::halves;
 use crate::sinks::sink_of;
 use crate::texts::{bytes, shown};
-use compiled_samples::compiled::held_tables;
 use compiled_samples::held::HeldCollation;
-use icu_codepointtrie::TrieType;
 use icu_collator::{Collator, CollatorBorrowed};
+use icu_collator_types::options::{CollatorOptions, CollatorPreferences};
 use std::alloc::Global;
 
 /// The answer how two texts order.
@@ -87,53 +87,77 @@ fn answer(collator: &CollatorBorrowed<'_>, alloc: Global, line: &str) -> Option<
 }
 
 /// Prints the answer to a question.
-fn answer_line(rt: &HostRuntime, collator: &CollatorBorrowed<'_>, line: &str) -> Option<()> {
+fn answer_line(
+    rt: &HostRuntime,
+    fast: &CollatorBorrowed<'_>,
+    small: &CollatorBorrowed<'_>,
+    line: &str,
+) -> Option<()> {
     if line.starts_with('#') {
         return Some(());
     }
-    let answer = answer(collator, rt.alloc(), line)?;
-    println!(rt; "{line}: {}", answer.as_str()).ok()
+    let by_fast = answer(fast, rt.alloc(), line)?;
+    let by_small = answer(small, rt.alloc(), line)?;
+    print_answers(rt, line, by_fast.as_str(), by_small.as_str())
 }
 
 /// Prints the answers to questions.
-fn answer_lines(rt: &HostRuntime, collator: &CollatorBorrowed<'_>, lines: &str) -> Option<()> {
+fn answer_lines(
+    rt: &HostRuntime,
+    fast: &CollatorBorrowed<'_>,
+    small: &CollatorBorrowed<'_>,
+    lines: &str,
+) -> Option<()> {
     for line in lines.lines() {
-        answer_line(rt, collator, line)?;
+        answer_line(rt, fast, small, line)?;
     }
     Some(())
 }
 
-/// Asks a collator over a provider's tables, with options, what these lines do; `None` where one asks nothing, the tables are
-/// refused, or memory is.
-pub fn ask_over(
+/// Asks a collator over fast tries, and one that is made of a provider of small ones.
+fn ask_beside(
     rt: &HostRuntime,
-    held: &HeldCollation<'static>,
-    options: &str,
+    fast: &CollatorBorrowed<'_>,
+    small: &HeldCollation<'static>,
+    preferences: CollatorPreferences<'static>,
+    options: CollatorOptions,
     lines: &str,
 ) -> Option<()> {
-    let preferences = preferences_of(options);
-    let options = options_of(options);
-    match Collator::try_new_unstable(rt.alloc(), held, preferences, options) {
-        Ok(collator) => answer_lines(rt, &collator.as_borrowed(), lines),
+    match Collator::try_new_unstable(rt.alloc(), small, preferences, options) {
+        Ok(small) => answer_lines(rt, fast, &small.as_borrowed(), lines),
         Err(_) => None,
     }
 }
 
-/// Asks collators over a provider's tables, each with the options of a line.
-fn ask_each(rt: &HostRuntime, held: &HeldCollation<'static>, lines: &str) -> Option<()> {
+/// Asks collators over the tables of both providers, with options, what these lines do; `None` where one asks nothing, the
+/// tables are refused, or memory is.
+pub fn ask_over(rt: &HostRuntime, both: &Both, options: &str, lines: &str) -> Option<()> {
+    let preferences = preferences_of(options);
+    let options = options_of(options);
+    match Collator::try_new_unstable(rt.alloc(), &both.fast, preferences, options) {
+        Ok(fast) => {
+            let fast = fast.as_borrowed();
+            ask_beside(rt, &fast, &both.small, preferences, options, lines)
+        }
+        Err(_) => None,
+    }
+}
+
+/// Asks collators over the tables of both providers, with the options of a line.
+fn ask_each(rt: &HostRuntime, both: &Both, lines: &str) -> Option<()> {
     for part in lines.split("options ").skip(1) {
         let (options, questions) = halves(part, '\n');
         println!(rt; "options {options}").ok()?;
-        ask_over(rt, held, options, questions)?;
+        ask_over(rt, both, options, questions)?;
     }
     Some(())
 }
 
-/// Asks collators over the tables of records, each with the options of a line, what the lines behind that do; `None` as in
+/// Asks collators over the tables of records, with the options of a line, what the lines behind that do; `None` as in
 /// `ask_over`.
 pub fn ask_collators(rt: &HostRuntime, records: &str, lines: &str) -> Option<()> {
-    match held_tables(rt.alloc(), records, TrieType::Small) {
-        Some(held) => ask_each(rt, &held, lines),
+    match held_both(rt.alloc(), records) {
+        Some(both) => ask_each(rt, &both, lines),
         None => None,
     }
 }

@@ -3,7 +3,9 @@
 //! - `read CHARACTER..`: the elements of a text as the reader of elements gives them, 64 bits in hexadecimal each; `plain`: as
 //!   they are read slowly, by the rules alone. `read_numbers` and `plain_numbers` read digits as numbers.
 //! - `unsafe CHARACTER..`: whether each is one at which no reading begins.
+//! - `compose CHARACTER CHARACTER`: the character that two compose to, or a stroke.
 
+use crate::both::print_answers;
 use crate::script::halves;
 use crate::texts::characters;
 use compiled_samples::compiled::checked_tables;
@@ -64,6 +66,17 @@ fn unsafe_answer(tables: &CheckedTables<'_>, alloc: Global, text: &[char]) -> Op
     Some(line)
 }
 
+/// The answer what two characters compose to.
+fn compose_answer(tables: &CheckedTables<'_>, alloc: Global, text: &[char]) -> Option<String> {
+    let [first, second] = text else {
+        return None;
+    };
+    match tables.canonical().compose(*first, *second) {
+        Some(c) => format!(in alloc; "{:04X}", c as u32).ok(),
+        None => String::from_str(alloc, "-").ok(),
+    }
+}
+
 /// The answer to a question.
 fn answer(tables: &CheckedTables<'_>, alloc: Global, line: &str) -> Option<String> {
     let (call, words) = halves(line, ' ');
@@ -75,42 +88,58 @@ fn answer(tables: &CheckedTables<'_>, alloc: Global, line: &str) -> Option<Strin
         "plain" => plain_answer(tables, alloc, &text, None),
         "plain_numbers" => plain_answer(tables, alloc, &text, lead),
         "unsafe" => unsafe_answer(tables, alloc, &text),
+        "compose" => compose_answer(tables, alloc, &text),
         _ => None,
     }
 }
 
 /// Prints the answer to a question.
-fn answer_line(rt: &HostRuntime, tables: &CheckedTables<'_>, line: &str) -> Option<()> {
+fn answer_line(
+    rt: &HostRuntime,
+    fast: &CheckedTables<'_>,
+    small: &CheckedTables<'_>,
+    line: &str,
+) -> Option<()> {
     if line.starts_with('#') {
         return Some(());
     }
-    let answer = answer(tables, rt.alloc(), line)?;
-    println!(rt; "{line}: {}", answer.as_str()).ok()
+    let by_fast = answer(fast, rt.alloc(), line)?;
+    let by_small = answer(small, rt.alloc(), line)?;
+    print_answers(rt, line, by_fast.as_str(), by_small.as_str())
 }
 
 /// Prints the answers to questions.
-fn answer_lines(rt: &HostRuntime, tables: &CheckedTables<'_>, lines: &str) -> Option<()> {
+fn answer_lines(
+    rt: &HostRuntime,
+    fast: &CheckedTables<'_>,
+    small: &CheckedTables<'_>,
+    lines: &str,
+) -> Option<()> {
     println!(rt; "accepted").ok()?;
     for line in lines.lines() {
-        answer_line(rt, tables, line)?;
+        answer_line(rt, fast, small, line)?;
     }
     Some(())
 }
 
-/// The type of tries that a word says.
-fn trie_type_of(word: &str) -> Option<TrieType> {
-    match word {
-        "fast" => Some(TrieType::Fast),
-        "small" => Some(TrieType::Small),
-        _ => None,
+/// Asks tables with fast tries, and those of the records with small ones.
+fn ask_beside(
+    rt: &HostRuntime,
+    fast: &CheckedTables<'_>,
+    records: &str,
+    lines: &str,
+) -> Option<()> {
+    match checked_tables(rt.alloc(), records, TrieType::Small) {
+        Some(small) => answer_lines(rt, fast, &small, lines),
+        None => None,
     }
 }
 
-/// Prints that the tables of records, with tries of a type, are accepted, and asks them what these lines do; `None` where
-/// the records are refused, a line asks nothing, or memory is refused.
-pub fn ask_tables(rt: &HostRuntime, records: &str, trie_type: &str, lines: &str) -> Option<()> {
-    match checked_tables(rt.alloc(), records, trie_type_of(trie_type)?) {
-        Some(tables) => answer_lines(rt, &tables, lines),
+/// Prints that the tables of records are accepted, and asks them what these lines do; `None` where the records are refused, a
+/// line asks nothing, or memory is refused.
+pub fn ask_tables(rt: &HostRuntime, records: &str, lines: &str) -> Option<()> {
+    match checked_tables(rt.alloc(), records, TrieType::Fast) {
+        Some(fast) => ask_beside(rt, &fast, records, lines),
         None => None,
     }
 }

@@ -10,7 +10,7 @@
 //! - `? QUESTION`: no change, but a question to a collator over what there is, with no option (module `asked`).
 
 use crate::asked::ask_over;
-use compiled_samples::compiled::held_tables;
+use crate::both::{Both, held_both, print_answers};
 use compiled_samples::held::{HeldCollation, Lacking};
 use icu_codepointtrie::{CodePointTrie, CodePointTrieBuilder, TrieType};
 use icu_collator::Collator;
@@ -48,11 +48,12 @@ fn with_word(
     alloc: Global,
     trie: &CodePointTrie<'_, u32>,
     words: &[&str],
+    trie_type: TrieType,
 ) -> Option<CodePointTrie<'static, u32>> {
     let [c, word] = words else {
         return None;
     };
-    let mut map = CodePointTrieBuilder::new(alloc, u32::MAX, 0, TrieType::Small).ok()?;
+    let mut map = CodePointTrieBuilder::new(alloc, u32::MAX, 0, trie_type).ok()?;
     for range in trie.iter_ranges() {
         map.set_range_value(range.range, range.value).ok()?;
     }
@@ -117,9 +118,10 @@ fn change_canonical(
     alloc: Global,
     part: &str,
     words: &[&str],
+    trie_type: TrieType,
 ) -> Option<()> {
     match part {
-        "nfd" => tables.trie = with_word(alloc, &tables.trie, words)?,
+        "nfd" => tables.trie = with_word(alloc, &tables.trie, words, trie_type)?,
         "steps" => tables.steps = words_of(alloc, words)?,
         _ => return None,
     }
@@ -132,9 +134,10 @@ fn change_tables(
     alloc: Global,
     part: &str,
     words: &[&str],
+    trie_type: TrieType,
 ) -> Option<()> {
     match part {
-        "root" => tables.root.trie = with_word(alloc, &tables.root.trie, words)?,
+        "root" => tables.root.trie = with_word(alloc, &tables.root.trie, words, trie_type)?,
         "secondaries" => tables.diacritics.secondaries = units_of(alloc, words)?,
         "jamo" => tables.jamo = cut_jamo(alloc, &tables.jamo, words)?,
         "reordering" => tables.reordering = Some(reordering_of(alloc, words)?),
@@ -149,8 +152,13 @@ fn change_tables(
     Some(())
 }
 
-/// Makes the change of a line.
-fn change(held: &mut HeldCollation<'static>, alloc: Global, line: &str) -> Option<()> {
+/// Makes the change of a line to what a provider gives, whose tries have this type.
+fn change(
+    held: &mut HeldCollation<'static>,
+    alloc: Global,
+    line: &str,
+    trie_type: TrieType,
+) -> Option<()> {
     let words: Vec<&str> = line.split_ascii_whitespace().collect(alloc).ok()?;
     let [part, words @ ..] = words.as_slice() else {
         return None;
@@ -160,8 +168,8 @@ fn change(held: &mut HeldCollation<'static>, alloc: Global, line: &str) -> Optio
             held.lacking = lacking_of(words)?;
             Some(())
         }
-        "nfd" | "steps" => change_canonical(&mut held.canonical, alloc, part, words),
-        _ => change_tables(&mut held.tables, alloc, part, words),
+        "nfd" | "steps" => change_canonical(&mut held.canonical, alloc, part, words, trie_type),
+        _ => change_tables(&mut held.tables, alloc, part, words, trie_type),
     }
 }
 
@@ -174,32 +182,39 @@ fn outcome(alloc: Global, held: &HeldCollation<'_>) -> Option<String> {
     }
 }
 
-/// Makes the change of a line, and prints what comes of it; or asks a collator.
-fn try_change(rt: &HostRuntime, held: &mut HeldCollation<'static>, line: &str) -> Option<()> {
+/// Prints what collators over both providers are refused for behind a line, or that they are made.
+fn print_outcomes(rt: &HostRuntime, both: &Both, line: &str) -> Option<()> {
+    let fast = outcome(rt.alloc(), &both.fast)?;
+    let small = outcome(rt.alloc(), &both.small)?;
+    print_answers(rt, line, fast.as_str(), small.as_str())
+}
+
+/// Makes the change of a line, and prints what comes of it; or asks collators.
+fn try_change(rt: &HostRuntime, both: &mut Both, line: &str) -> Option<()> {
     if line.starts_with('#') {
         return Some(());
     }
     if let Some(question) = line.strip_prefix("? ") {
-        return ask_over(rt, held, "none", question);
+        return ask_over(rt, both, "none", question);
     }
-    change(held, rt.alloc(), line)?;
-    let outcome = outcome(rt.alloc(), held)?;
-    println!(rt; "{line}: {}", outcome.as_str()).ok()
+    change(&mut both.fast, rt.alloc(), line, TrieType::Fast)?;
+    change(&mut both.small, rt.alloc(), line, TrieType::Small)?;
+    print_outcomes(rt, both, line)
 }
 
 /// Makes the changes of lines.
-fn try_lines(rt: &HostRuntime, held: &mut HeldCollation<'static>, lines: &str) -> Option<()> {
+fn try_lines(rt: &HostRuntime, both: &mut Both, lines: &str) -> Option<()> {
     for line in lines.lines() {
-        try_change(rt, held, line)?;
+        try_change(rt, both, line)?;
     }
     Some(())
 }
 
-/// Makes the changes of lines, one upon another, to what a provider gives of the tables of records, and prints what a collator
-/// is refused for then; `None` where a line is no change, or memory is refused.
+/// Makes the changes of lines, one upon another, to what providers give of the tables of records, and prints what collators
+/// are refused for then; `None` where a line is no change, or memory is refused.
 pub fn try_changes(rt: &HostRuntime, records: &str, lines: &str) -> Option<()> {
-    match held_tables(rt.alloc(), records, TrieType::Small) {
-        Some(mut held) => try_lines(rt, &mut held, lines),
+    match held_both(rt.alloc(), records) {
+        Some(mut both) => try_lines(rt, &mut both, lines),
         None => None,
     }
 }

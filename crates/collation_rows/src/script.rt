@@ -2,6 +2,8 @@
 
 use crate::asked::ask_collators;
 use crate::elements::ask_tables;
+use crate::files::ask_reader;
+use crate::forms::ask_normalisers;
 use crate::provider::try_changes;
 use std::alloc::Global;
 
@@ -46,44 +48,34 @@ pub fn halves(text: &str, separator: char) -> (&str, &str) {
 }
 
 /// Answers the questions of a paragraph over records.
-fn answer_over(
-    rt: &HostRuntime,
-    records: &str,
-    kind: &str,
-    words: &str,
-    lines: &str,
-) -> Option<()> {
+fn answer_over(rt: &HostRuntime, records: &str, kind: &str, lines: &str) -> Option<()> {
     match kind {
+        "file" => ask_reader(rt, records, lines),
+        "normalisers" => ask_normalisers(rt, records, lines),
         "collators" => ask_collators(rt, records, lines),
-        "tables" => ask_tables(rt, records, words, lines),
+        "tables" => ask_tables(rt, records, lines),
         "provider" => try_changes(rt, records, lines),
         _ => None,
     }
 }
 
 /// Answers the questions of a paragraph, if it has some.
-fn answer_paragraph(
-    rt: &HostRuntime,
-    records: Records<'_>,
-    heading: &str,
-    lines: &str,
-) -> Option<()> {
-    let (kind, words) = halves(heading, ' ');
+fn answer_paragraph(rt: &HostRuntime, records: Records<'_>, kind: &str, lines: &str) -> Option<()> {
     if kind.starts_with('#') || kind == "records" || kind == "more" {
         return Some(());
     }
-    println!(rt; "{heading}").ok()?;
+    println!(rt; "{kind}").ok()?;
     let records = records.lines(rt.alloc())?;
-    answer_over(rt, records.as_str(), kind, words, lines)
+    answer_over(rt, records.as_str(), kind, lines)
 }
 
 /// Answers the questions of a script; `None` where a line isn't one of a script's, or memory is refused.
 pub fn answer_script(rt: &HostRuntime, script: &str) -> Option<()> {
     let mut records = Records { file: "", more: "" };
     for paragraph in script.split("\n\n") {
-        let (heading, lines) = halves(paragraph, '\n');
-        records = records.behind(heading, lines);
-        answer_paragraph(rt, records, heading, lines)?;
+        let (kind, lines) = halves(paragraph, '\n');
+        records = records.behind(kind, lines);
+        answer_paragraph(rt, records, kind, lines)?;
     }
     Some(())
 }
