@@ -142,7 +142,8 @@ fn push_data(
 
 /// Appends the leads of a reordering, and cuts two more. A lead that stays has no byte, as those that are cut.
 fn push_reordering(lists: &mut Lists, reordering: &CollationReordering<'_>) -> Option<()> {
-    for (lead, other) in reordering.reorder_table.iter().enumerate() {
+    for lead in 0..reordering.reorder_table.len() {
+        let other = reordering.reorder_table.get(lead)?;
         let stays = usize::from(other) == lead;
         lists.push(Part::Leads, if stays { 0 } else { other })?;
     }
