@@ -155,12 +155,20 @@ fn accents_count_at_tertiary(rt: HostRuntime) -> Result<(), Fail> {
     assert_found(&rt, &index, b"c", 0..0)
 }
 
+/// Whether an index holds these names and no others, in this order.
+fn holds(index: &Index, names: &[&[u8]]) -> bool {
+    for place in 0..names.len() {
+        if index.get(place) != Some(names[place]) {
+            return false;
+        }
+    }
+    index.get(names.len()).is_none()
+}
+
 #[test]
 fn ok_get(rt: HostRuntime) -> Result<(), Fail> {
     let index = index_of(rt.alloc(), &TERTIARY, &[b"t", b"a\xff"])?;
-    assert_eq!(rt; index.get(0), Some(b"a\xff".as_slice()));
-    assert_eq!(rt; index.get(1), Some(b"t".as_slice()));
-    assert_eq!(rt; index.get(2), None);
+    assert!(rt; holds(&index, &[b"a\xff", b"t"]));
     assert_found(&rt, &index, b"a\xef\xbf\xbd", 0..1)
 }
 
@@ -189,9 +197,9 @@ t 0064 ; [2A180000.0500.0.0500.0]
 set alternate shifted
 ";
 
-#[test]
-fn an_index_takes_all_records_and_options(rt: HostRuntime) -> Result<(), Fail> {
-    let records = Records::read(rt.alloc(), WHOLE)?;
+/// An index over these records by number, punctuation last and every level, with these names.
+fn whole_index_of(alloc: Global, names: &[&[u8]]) -> Result<Index, Fail> {
+    let records = Records::read(alloc, WHOLE)?;
     let preferences = CollatorPreferences {
         numeric_ordering: Some(CollationNumericOrdering::True),
         ..PREFERENCES
@@ -201,16 +209,20 @@ fn an_index_takes_all_records_and_options(rt: HostRuntime) -> Result<(), Fail> {
         alternate_handling: Some(AlternateHandling::Shifted),
         ..TERTIARY
     };
-    let mut index = Index::new(rt.alloc(), records, &preferences, &options)?;
-    for name in ["ch", "h", "d", "a12", "a 2", "a2", "\u{4e00}", "c"] {
-        index.add(name.as_bytes())?;
+    let mut index = Index::new(alloc, records, &preferences, &options)?;
+    for name in names {
+        index.add(*name)?;
     }
-    for (place, name) in ["a 2", "a2", "a12", "d", "c", "h", "ch", "\u{4e00}"]
-        .iter()
-        .enumerate()
-    {
-        assert_eq!(rt; index.get(place), Some(name.as_bytes()));
-    }
+    Ok(index)
+}
+
+#[test]
+fn an_index_takes_all_records_and_options(rt: HostRuntime) -> Result<(), Fail> {
+    let ideograph = "\u{4e00}".as_bytes();
+    let names: [&[u8]; 8] = [b"ch", b"h", b"d", b"a12", b"a 2", b"a2", ideograph, b"c"];
+    let index = whole_index_of(rt.alloc(), &names)?;
+    let sorted: [&[u8]; 8] = [b"a 2", b"a2", b"a12", b"d", b"c", b"h", b"ch", ideograph];
+    assert!(rt; holds(&index, &sorted));
     Ok(())
 }
 
