@@ -1,8 +1,8 @@
 """Random runs of the program: records files of every form, words of the command line, and commands; for compare_runs.py."""
 import unicodedata
 
-from compare_orders import settings
 from random_files import Draft, random_file
+from random_pairs import setting_lines
 from random_weights import random_characters, random_weights
 
 OPTIONS = {'strength': ['primary', 'secondary', 'tertiary', 'quaternary', 'identical'], 'alternate': ['nonignorable', 'shifted'],
@@ -32,7 +32,7 @@ def random_records(source, read, is_fault):
         lines = Draft(source).lines
         return lines, False, texts_of(source, lines, [])
     lines, letters, marks, mapped = random_weights(source, read, is_fault)
-    for line in settings(source):
+    for line in setting_lines(source):
         if not is_fault(read('\n'.join([*lines, line, '']).encode())):
             lines.append(line)
     texts = [random_characters(source, lines, letters, marks, mapped) for _ in range(5)]
