@@ -305,6 +305,8 @@ def provider(*rows):
 
 
 RANGES = '2A800000 2B000001 2B800000 2C0000FF'
+EXCHANGED = '61000000 6200004F B0000000 B10000B1'
+ONLY_B0 = f'groups{" 300" * 4}{" 0" * 11} 1{" 0" * 4}'
 CHANGES = [
     ('What is loaded first is missed first', [('records', LETTERS)], [
         provider(*((f'lacks {" ".join(LOADS[i:])}', missing(table)) for i, table in enumerate(LOADS)), ('lacks', 'made'),
@@ -337,4 +339,15 @@ CHANGES = [
                      ('? key text 74', '2b40010501010501'), ('? key text 73', '3010010501010501'),
                      ('? compare text 68 74', 'Greater'), ('? compare text 61 74', 'Less'), ('? compare text 68 73', 'Less'),
                      (f'reordering 100 2B800000 {RANGES}', 'Table(Reordering)'))),
+    section('Two leads are exchanged, and one is compressible: the leads of x and y before that say what is left out', [
+        at('x', '6110'), at('y', '6120')],
+            provider((ONLY_B0, 'made'), ('? key text 7879', '61106120010601010601'),
+                     ('metadata 30', missing('reordering')), ('exchange 61 B0', 'made'),
+                     ('? key text 7879', 'b010b020010601010601'), (f'reordering 100 C0000000 {EXCHANGED}', 'made'),
+                     ('? key text 7879', 'b010b020010601010601'))),
+    section('The same with the other lead', [at('x', 'B010'), at('y', 'B020')],
+            provider((ONLY_B0, 'made'), ('? key text 7879', 'b01020010601010601'),
+                     ('metadata 30', missing('reordering')), ('exchange 61 B0', 'made'),
+                     ('? key text 7879', '611020010601010601'), (f'reordering 100 C0000000 {EXCHANGED}', 'made'),
+                     ('? key text 7879', '611020010601010601'))),
 ]

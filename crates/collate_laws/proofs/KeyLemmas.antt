@@ -24,11 +24,10 @@ use Rattle.icu_collator_types.specs.declared.options.CollatorPreferences.{Collat
 use Rattle.icu_collator_types.specs.declared.options.ResolvedCollatorOptions.{ResolvedCollatorOptions}
 use Rattle.icu_collator_types.specs.declared.options.Strength.TheVariants.{Identical}
 use Rattle.icu_collator_core.specs.Acceptance.{CollationSource}
-use Rattle.icu_collator_core.specs.TableSettings.{is_compressible_in as is_compressible_by}
-use Rattle.icu_collator_core.specs.WholeLeads.{MovesOnlyWholeLeads}
 use Rattle.icu_collator.specs.CollatorAnswers.{HasKeysInOrder}
 use Rattle.icu_collator.specs.Collators.{CollatorParts, borrowed_options, borrowed_source, source_collation}
 use Rattle.icu_collator.specs.KeyBytes.{key_bytes, key_of_text}
+use Rattle.icu_collator.specs.LeadMoves.{ReordersWholeLeads}
 use Rattle.icu_collator.specs.Levels.{Levels}
 use Rattle.icu_collator.specs.NormalForms.{composed_bytes, composed_units, decomposed_bytes, decomposed_units}
 use Rattle.icu_collator.specs.Order.{collation_order}
@@ -37,6 +36,7 @@ use Rattle.icu_collator.specs.declared.comparison.borrowed.CollatorBorrowed.{Col
 use Rattle.icu_collator.proofs.equivalence.IdenticalLemmas.{equal_at_identical, equivalent_equal, same_levels}
 use Rattle.icu_collator.proofs.equivalence.NormalisingLemmas.{first_replaced, second_replaced}
 use Rattle.icu_collator.proofs.keys.TextKeyLemmas.{equal_text_keys, text_keys_order}
+use Rattle.icu_collator.proofs.tables.AcceptedSettingLemmas.{moved_whole}
 use Rattle.collate_lines.specs.Record.{Record}
 use Rattle.collate_records.proofs.reading.AcceptedLemmas.{accepted_decompose}
 use Rattle.collate_rules.specs.Accepted.{AreAccepted}
@@ -59,10 +59,7 @@ module _ (records : List Record) (options : CollatorOptions) (preferences : Coll
   pub keys_in_order : (borrowed : CollatorBorrowed) → borrowed_source borrowed ≡ collator.source → borrowed_options borrowed ≡ collator.options
       → has_plain_leads (collation_of records) collator.options ≡ true → HasKeysInOrder borrowed
   keys_in_order borrowed same_source same_options plain = record {
-    leads = subst (λ (source : CollationSource). MovesOnlyWholeLeads source.tables) (sym same_source) is.leads;
-    implicit =
-        ap (λ (source : CollationSource). is_compressible_by source.tables.special_primaries.last_primaries 0xfe) same_source
-        ∙ is.weights.is_compressible 0xfe;
+    leads = subst (λ (source : CollationSource). ReordersWholeLeads source.tables) (sym same_source) (moved_whole collator.source.tables is.leads);
     plain =
         ap (λ (source : CollationSource). has_plain_leads (source_collation source) (borrowed_options borrowed)) same_source
         ∙ ap (λ (o : ResolvedCollatorOptions). has_plain_leads (source_collation collator.source) o) same_options

@@ -9,7 +9,7 @@ use Rattle.collate_lines.specs.Record.{Record}
 use Rattle.collate_records.proofs.reading.SoundSettingLemmas.{accepted_soundly_set}
 use Rattle.collate_records.proofs.reading.SoundWeightLemmas.{accepted_weights}
 use Rattle.collate_rules.specs.Accepted.{AreAccepted}
-use Rattle.collate_rules.specs.Meaning.{collation_of, is_compressible_in, place_among, reorder_in, set_to}
+use Rattle.collate_rules.specs.Meaning.{collation_of, place_among, reorder_in, set_to}
 
 -- the lead that takes the place of another
 places : List Record → ℕ → ℕ
@@ -23,13 +23,11 @@ accepted_settings records accepted =
     record {
       numeric_lead = set.numeric_lead;
       groups = set.groups;
-      implicit = set.implicit;
       compressible = set.compressible;
       rest = given_rest (collation_of records) (places records) (λ p. refl);
       outside = λ n h. lead n ∙ set.leads.outside n h;
       inside = λ n h. ap is_letter_lead (lead n) ∙ set.leads.inside n h;
       one_to_one = λ a b h. set.leads.one_to_one a b (sym (lead a) ∙ h ∙ lead b);
-      alike = λ n. ap (is_compressible_in records) (lead n) ∙ set.leads.alike n;
     }
 
 pub accepted_sound : (records : List Record) → AreAccepted records → IsSoundCollation (collation_of records)

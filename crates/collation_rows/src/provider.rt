@@ -87,6 +87,23 @@ fn reordering_of(alloc: Global, words: &[&str]) -> Option<CollationReordering<'s
     })
 }
 
+/// A reordering that exchanges two leads, and leaves all else.
+fn exchange_of(alloc: Global, words: &[&str]) -> Option<CollationReordering<'static>> {
+    let [first, second] = words else {
+        return None;
+    };
+    let one = u8::try_from(number(first)?).ok()?;
+    let other = u8::try_from(number(second)?).ok()?;
+    let mut leads = [0; 256];
+    leads[one as usize] = other;
+    leads[other as usize] = one;
+    Some(CollationReordering {
+        min_high_no_reorder: 0,
+        reorder_table: PackedVec::from_slice(alloc, &leads).ok()?,
+        reorder_ranges: words_of(alloc, &[])?,
+    })
+}
+
 /// Notes that a table can't be had.
 fn note(lacking: &mut Lacking, table: &str) -> Option<()> {
     match table {
@@ -141,6 +158,7 @@ fn change_tables(
         "secondaries" => tables.diacritics.secondaries = units_of(alloc, words)?,
         "jamo" => tables.jamo = cut_jamo(alloc, &tables.jamo, words)?,
         "reordering" => tables.reordering = Some(reordering_of(alloc, words)?),
+        "exchange" => tables.reordering = Some(exchange_of(alloc, words)?),
         "metadata" => tables.metadata.bits = number(words.first()?)?,
         "groups" => tables.special_primaries.last_primaries = units_of(alloc, words)?,
         "numeric" => {

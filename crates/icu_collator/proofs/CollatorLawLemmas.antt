@@ -30,7 +30,7 @@ use Rattle.icu_collator.specs.KeyBytes.{key_bytes}
 use Rattle.icu_collator.specs.Levels.{Levels, levels_of_text}
 use Rattle.icu_collator.specs.NumbersInTexts.{AreNumbersTogether}
 use Rattle.icu_collator.specs.SoundCollation.{IsSoundCollation}
-use Rattle.icu_collator_core.specs.WholeLeads.{MovesOnlyWholeLeads, MovesWholeLeads}
+use Rattle.icu_collator.specs.LeadMoves.{IsOfWholeLeads, ReordersWholeLeads}
 use Rattle.icu_collator.specs.declared.comparison.borrowed.CollatorBorrowed.{CollatorBorrowed}
 use Rattle.icu_collator.proofs.equivalence.IdenticalLemmas.{equal_at_identical, equivalent_equal, same_levels}
 use Rattle.icu_collator.proofs.equivalence.NormalisingLemmas.{composed_first, composed_levels, composed_second, decomposed_first, decomposed_levels, decomposed_second}
@@ -133,18 +133,18 @@ module _ (collator : CollatorBorrowed) (canonical : IsCanonical (canonical_by co
 
 -- tables that reorder whole leads keep what stands behind a lead
 whole_kept : (special : CollationSpecialPrimaries) (o : Option CollationReordering)
-    → IfSome o (IsSoundReordering special) → IfSome o (MovesWholeLeads special)
+    → IfSome o (IsSoundReordering special) → IfSome o IsOfWholeLeads
     → (p : ℕ) → reordered_in o p ≡ with_lead (λ lead. reordered_in o (lead * 2 ^ 24) / 2 ^ 24) p
 whole_kept special (Some reordering) sound moves = rest_kept special reordering sound moves
 whole_kept special None sound moves = λ p. omega arith
 
 module _ (collator : CollatorBorrowed) (accepted : IsAccepted (meaning (borrowed_source collator).canonical) (borrowed_source collator).tables) (canonical : IsCanonical (canonical_by collator)) where
-  numbers_together : MovesOnlyWholeLeads (borrowed_source collator).tables → AreNumbersTogether (borrowed_collation collator)
+  numbers_together : ReordersWholeLeads (borrowed_source collator).tables → AreNumbersTogether (borrowed_collation collator)
   numbers_together moves p _ =
       whole_kept (borrowed_source collator).tables.special_primaries (borrowed_source collator).tables.reordering accepted.reordering moves p
 
   sound : HasKeysInOrder collator → IsSoundCollation (borrowed_collation collator)
-  sound keys = accepted_collation (meaning (borrowed_source collator).canonical) (borrowed_source collator).tables accepted keys.leads keys.implicit
+  sound keys = accepted_collation (meaning (borrowed_source collator).canonical) (borrowed_source collator).tables accepted keys.leads
 
   pub keys_order : HasKeysInOrder collator → (a b : List ℕ) → All IsScalar a → All IsScalar b
       → slice_cmp nat_cmp (key_by collator a) (key_by collator b) ≡ order_by collator a b
@@ -165,14 +165,14 @@ module _ (collator : CollatorBorrowed) (accepted : IsAccepted (meaning (borrowed
 
   -- ---- Numbers
 
-  pub lower_number : OrdersNumbers collator → MovesOnlyWholeLeads (borrowed_source collator).tables
+  pub lower_number : OrdersNumbers collator → ReordersWholeLeads (borrowed_source collator).tables
       → (x r s y : List ℕ) → DifferInNumber collator x r s y → value_by collator r < value_by collator s
       → order_by collator (x ++ (r ++ y)) (x ++ (s ++ y)) ≡ Less
   lower_number orders moves x r s y differ below =
       lower_first (borrowed_collation collator) (borrowed_options collator) x r s y canonical.decomposing orders.reads.apart (numbers_together moves)
       orders.reads.numeric orders.none_is_variable differ.first differ.second below
 
-  pub higher_number : OrdersNumbers collator → MovesOnlyWholeLeads (borrowed_source collator).tables
+  pub higher_number : OrdersNumbers collator → ReordersWholeLeads (borrowed_source collator).tables
       → (x r s y : List ℕ) → DifferInNumber collator x r s y → value_by collator s < value_by collator r
       → order_by collator (x ++ (r ++ y)) (x ++ (s ++ y)) ≡ Greater
   higher_number orders moves x r s y differ below =

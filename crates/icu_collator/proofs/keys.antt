@@ -2,6 +2,7 @@ pub mod CaseLevelLemmas
 pub mod CharacterLevelLemmas
 pub mod CodesLemmas
 pub mod CommonAloneLemmas
+pub mod CompressedLemmas
 pub mod DecidingLevelLemmas
 pub mod KeyBytesLemmas
 pub mod PrimaryLevelLemmas

@@ -5,14 +5,13 @@ use Rattle.icu_normalizer_core.specs.Canonical.{Canonical}
 use Rattle.icu_normalizer_core.specs.Decoding.{latin1_chars, utf16_chars, utf8_chars}
 use Rattle.icu_collator_types.specs.Options.{is_at_least, is_numeric}
 use Rattle.icu_collator_types.specs.declared.options.CaseLevel.TheVariants.{Off}
-use Rattle.icu_collator_core.specs.TableSettings.{is_compressible_in}
 use Rattle.icu_collator.specs.Collators.{borrowed_collation, borrowed_options, borrowed_source}
 use Rattle.icu_collator.specs.KeyBytes.{key_of_text}
 use Rattle.icu_collator.specs.NumbersInTexts.{AreDigitsApart, IsNumberBetween, no_number_is_variable, run_value}
 use Rattle.icu_collator.specs.Order.{collation_order}
 use Rattle.icu_collator.specs.Settings.{has_plain_leads}
 use Rattle.icu_collator.specs.Strengths.{at_strength}
-use Rattle.icu_collator_core.specs.WholeLeads.{MovesOnlyWholeLeads}
+use Rattle.icu_collator.specs.LeadMoves.{ReordersWholeLeads}
 use Rattle.icu_collator.specs.declared.comparison.borrowed.CollatorBorrowed.{CollatorBorrowed}
 
 -- the order of two texts by a collator, and the key of one, where texts are given as characters
@@ -26,11 +25,10 @@ key_by collator = key_of_text (borrowed_collation collator) (borrowed_options co
 abbrev pub canonical_by : CollatorBorrowed → Canonical
 canonical_by collator = (borrowed_collation collator).canonical
 
--- a collator whose keys order as texts do: its tables reorder whole leads alone, each for one as compressible as itself, the
--- implicit lead is compressible, and with numeric ordering the lead of numbers isn't
+-- a collator whose keys order as texts do: its tables reorder whole leads alone, and with numeric ordering the lead of numbers
+-- isn't compressible
 pub record HasKeysInOrder (collator : CollatorBorrowed) : Type 0 where
-  pub leads : MovesOnlyWholeLeads (borrowed_source collator).tables
-  pub implicit : is_compressible_in (borrowed_source collator).tables.special_primaries.last_primaries 0xfe ≡ true
+  pub leads : ReordersWholeLeads (borrowed_source collator).tables
   pub plain : has_plain_leads (borrowed_collation collator) (borrowed_options collator) ≡ true
 
 -- a collator that reads digits as numbers, wherever they stand

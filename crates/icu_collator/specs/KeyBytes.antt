@@ -1,15 +1,14 @@
 -- The key of a text: bytes that order as the text's levels do. The shape is ICU4X's, the numbers are this project's own.
 use Rattle.std.specs.Prelude.{ℕ, zero, suc, ◌+◌, ◌-◌, ◌*◌, ◌/◌, ◌%◌, ◌^◌, Bool, true, false, cond, not, ◌==◌, ◌&&◌, leb, ltb, List, [], ◌∷◌, ◌++◌, replicate, Option, Some, None}
-use Rattle.std.specs.List.{list_all}
+use Rattle.std.specs.List.{list_all, list_any, range_with_len}
 use Rattle.std.specs.Ordering.{nat_cmp}
 use Rattle.std.specs.declared.cmp.Ordering.TheVariants.{Less, Equal, Greater}
 use Rattle.icu_normalizer_core.specs.BuiltIn.{is_within}
 use Rattle.icu_collator_types.specs.declared.options.Strength.TheVariants.{Secondary, Tertiary, Quaternary, Identical}
 use Rattle.icu_collator_types.specs.declared.options.ResolvedCollatorOptions.{ResolvedCollatorOptions}
 use Rattle.icu_collator_types.specs.Options.{has_case_bits, has_case_level, is_at_least, is_shifted, is_upper_first}
-use Rattle.icu_collator_core.specs.Weights.{Weights}
 use Rattle.icu_collator_core.specs.WeightRules.{primary_rest, primary_bytes, weight_bytes}
-use Rattle.icu_collator_core.specs.Collation.{Collation}
+use Rattle.icu_collator_core.specs.Collation.{Collation, with_lead}
 use Rattle.icu_collator.specs.Levels.{Levels, SecondaryPlace, segment_end, secondary, QuaternaryPlace, shifted, quaternary, levels_of_text}
 use Rattle.icu_collator.specs.Order.{secondary_rank, quaternary_rank}
 
@@ -29,13 +28,19 @@ primary_code None p = primary_bytes p
 primary_code (Some before) p =
     let lead = p / 2 ^ 24 in cond (lead == before) (primary_rest p) (run_end before lead ++ primary_bytes p)
 
--- the lead of the run after a primary
-abbrev pub primary_run : Weights → Option ℕ → ℕ → Option ℕ
-primary_run weights run p = let lead = p / 2 ^ 24 in cond (weights.is_compressible lead) (Some lead) None
+-- whether a primary had a compressible lead before it was reordered: one with such a lead, and the same rest, is moved to it
+abbrev pub was_compressible : Collation → ℕ → Bool
+was_compressible collation p =
+    list_any (λ lead. collation.weights.is_compressible lead && (collation.reordered (with_lead (λ own. lead) p) == p))
+    (range_with_len 0 (2 ^ 8))
 
--- the primary level
-abbrev pub primary_level : Weights → List ℕ → List ℕ
-primary_level weights primaries = codes_from primary_code (primary_run weights) None primaries
+-- the lead of the run after a primary
+abbrev pub primary_run : (ℕ → Bool) → Option ℕ → ℕ → Option ℕ
+primary_run starts_run run p = cond (starts_run p) (Some (p / 2 ^ 24)) None
+
+-- the primary level; which lead is left out, the leads before reordering say
+abbrev pub primary_level : Collation → List ℕ → List ℕ
+primary_level collation primaries = codes_from primary_code (primary_run (was_compressible collation)) None primaries
 
 -- How a level is written whose most frequent weight, the common one, is written short in runs.
 pub record RunCode (W : Type 0) : Type 0 where
@@ -189,7 +194,7 @@ level_bytes is_in_force bytes = cond is_in_force (0x01 ∷ bytes) []
 -- the key of levels
 unfoldable pub key_bytes : Collation → ResolvedCollatorOptions → Levels → List ℕ
 key_bytes collation options levels =
-    primary_level collation.weights levels.primaries
+    primary_level collation levels.primaries
     ++ level_bytes (is_at_least options.strength Secondary) (with_runs secondary_code levels.secondaries ++ 0x01 ∷ [])
     ++ level_bytes (has_case_level options.case_level) (paired_halves (case_halves options levels.cases))
     ++ level_bytes (is_at_least options.strength Tertiary) (with_runs (tertiary_code_of options) levels.tertiaries ++ 0x01 ∷ [])

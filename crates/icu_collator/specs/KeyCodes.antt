@@ -3,7 +3,7 @@
 use Rattle.std.specs.Prelude.{◌≡◌, ℕ, ◌+◌, ◌-◌, ◌/◌, ◌^◌, ◌<◌, ◌≤◌, Bool, true, cond, not, ◌==◌, ◌&&◌, ltb, List, [], ◌∷◌, ◌++◌, Option, Some, None}
 use Rattle.std.specs.List.{cons_option, list_all}
 use Rattle.icu_collator_core.specs.WeightRules.{weight_bytes}
-use Rattle.icu_collator.specs.KeyBytes.{RunCode, behind_run, codes_from, primary_code, with_runs, secondary_code, lower_case_code, upper_case_code, tertiary_code, lower_first_code, upper_first_code, quaternary_code, shifted_bytes}
+use Rattle.icu_collator.specs.KeyBytes.{RunCode, behind_run, codes_from, primary_code, primary_run, with_runs, secondary_code, lower_case_code, upper_case_code, tertiary_code, lower_first_code, upper_first_code, quaternary_code, shifted_bytes}
 use Rattle.icu_collator.specs.Levels.{QuaternaryPlace, shifted, quaternary}
 use Rattle.icu_collator.specs.declared.key_bytes.run_level.RunBytes.{RunBytes}
 use Rattle.icu_collator.specs.declared.key_bytes.run_level.RunLevel.{RunLevel}
@@ -11,21 +11,17 @@ use Rattle.icu_collator.specs.declared.key_bytes.run_level.RunLevel.TheVariants.
 
 -- ## Primaries
 
--- the lead of the run after a primary, where a test says which leads are compressible
-abbrev pub run_after : (ℕ → Bool) → Option ℕ → ℕ → Option ℕ
-run_after is_compressible run p = let lead = p / 2 ^ 24 in cond (is_compressible lead) (Some lead) None
-
--- the lead of a run is compressible
+-- the lead of a run is that of a primary that starts one
 abbrev pub IsRun : (ℕ → Bool) → Option ℕ → Type 0
-IsRun is_compressible None = Unit {0}
-IsRun is_compressible (Some lead) = is_compressible lead ≡ true
+IsRun starts_run None = Unit {0}
+IsRun starts_run (Some lead) = (p : ℕ) × (starts_run p ≡ true) × (p / 2 ^ 24 ≡ lead)
 
 -- What an element gives was added to the primary level: whatever follows, the bytes stand for all so far, and this run
 -- goes on.
-pub record AddsPrimary (is_compressible : ℕ → Bool) (given : Option ℕ) (run : Option ℕ) (before : List ℕ) (now : Option ℕ) (after : List ℕ) : Type 0 where
-  pub level : (ps : List ℕ) → after ++ codes_from primary_code (run_after is_compressible) now ps
-      ≡ before ++ codes_from primary_code (run_after is_compressible) run (cons_option given ps)
-  pub goes_on : IsRun is_compressible now
+pub record AddsPrimary (starts_run : ℕ → Bool) (given : Option ℕ) (run : Option ℕ) (before : List ℕ) (now : Option ℕ) (after : List ℕ) : Type 0 where
+  pub level : (ps : List ℕ) → after ++ codes_from primary_code (primary_run starts_run) now ps
+      ≡ before ++ codes_from primary_code (primary_run starts_run) run (cons_option given ps)
+  pub goes_on : IsRun starts_run now
 
 -- ## Runs
 

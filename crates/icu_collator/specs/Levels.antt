@@ -32,6 +32,11 @@ pub record Levels : Type 0 where
 abbrev pub unless_zero : {A : Type 0} → ℕ → A → Option A
 unless_zero w x = cond (w == 0) None (Some x)
 
+-- the primary before it is reordered, and after
+abbrev pub own_primary_at : Counted → Option ℕ
+own_primary_at (whole e) = unless_zero e.primary e.primary
+own_primary_at (variable p) = None
+
 abbrev pub primary_at : Collation → Counted → Option ℕ
 primary_at collation (whole e) = unless_zero e.primary (collation.reordered e.primary)
 primary_at collation (variable p) = None

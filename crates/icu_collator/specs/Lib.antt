@@ -4,6 +4,7 @@ pub mod Order
 pub mod Strengths
 pub mod KeyBytes
 pub mod Settings
+pub mod LeadMoves
 pub mod SoundCollation
 pub mod NumbersInTexts
 pub mod Boundaries

@@ -18,8 +18,8 @@ ghost use Rattle.icu_collator_types.specs.declared.options.Strength.TheVariants.
 ghost use Rattle.icu_collator_types.specs.Options.{is_at_least};
 ghost use Rattle.icu_collator.specs.CollatorAnswers.{DifferInNumber, DifferInStrength, EncodedText, HasKeysInOrder, OrdersNumbers, ReadsNumbers, canonical_by, characters_of, key_by, order_by, value_by};
 ghost use Rattle.icu_collator.specs.Collators.{borrowed_options, borrowed_source};
+ghost use Rattle.icu_collator.specs.LeadMoves.{ReordersWholeLeads};
 ghost use Rattle.icu_collator.specs.NormalForms.{IsSplitFor, composed_bytes, composed_units, decomposed_bytes, decomposed_units};
-ghost use Rattle.icu_collator_core.specs.WholeLeads.{MovesOnlyWholeLeads};
 
 use crate::comparison::CollatorBorrowed;
 use crate::laws::order_is_total;
@@ -195,10 +195,10 @@ pub fn raised_strength_keeps_answers(lower: &CollatorBorrowed<'_>, higher: &Coll
 /// number is variable, and tables reorder no part of a lead by itself. The same values are `Equal` at every strength but
 /// `Identical`, whatever zeros lead the digits.
 pub fn numbers_compare_by_value(collator: &CollatorBorrowed<'_>)
-    ensures lower { OrdersNumbers collator.now → MovesOnlyWholeLeads (borrowed_source collator.now).tables
+    ensures lower { OrdersNumbers collator.now → ReordersWholeLeads (borrowed_source collator.now).tables
         → (x r s y : List ℕ) → DifferInNumber collator.now x r s y → value_by collator.now r < value_by collator.now s
         → order_by collator.now (x ++ (r ++ y)) (x ++ (s ++ y)) ≡ Less }
-    ensures higher { OrdersNumbers collator.now → MovesOnlyWholeLeads (borrowed_source collator.now).tables
+    ensures higher { OrdersNumbers collator.now → ReordersWholeLeads (borrowed_source collator.now).tables
         → (x r s y : List ℕ) → DifferInNumber collator.now x r s y → value_by collator.now s < value_by collator.now r
         → order_by collator.now (x ++ (r ++ y)) (x ++ (s ++ y)) ≡ Greater }
     ensures equal { ReadsNumbers collator.now → is_at_least (borrowed_options collator.now).strength Identical ≡ false

@@ -49,11 +49,12 @@ pub fn same_settings_have_same_levels()
         → levels_of a options elements list ≡ levels_of b options elements list }
 {}
 
-/// A key is of the levels, the decomposed list among them, of the options, and of what is compressible:
-/// levels have the same key by all data that say the same of lead bytes.
+/// A key is of the levels, the decomposed list among them, of the options, of what is compressible, and
+/// of reordering: levels have the same key by all data that say the same of lead bytes and of what
+/// stands in the place of each primary.
 pub fn same_levels_have_same_keys()
     ensures { (a b : Collation) (options : ResolvedCollatorOptions) (levels : Levels)
-        → AreSameLeads a.weights b.weights
+        → AreSameLeads a.weights b.weights → ((p : ℕ) → a.reordered p ≡ b.reordered p)
         → key_bytes a options levels ≡ key_bytes b options levels }
 {}
 

@@ -81,13 +81,11 @@ digits_settings_sound =
     record {
       numeric_lead = refl;
       groups = refl;
-      implicit = refl;
       compressible = implicit_alone;
       rest = given_rest digits_collation same_lead (λ p. refl);
       outside = λ lead h. lead_stays lead;
       inside = λ lead h. ap is_letter_lead (lead_stays lead) ∙ h;
       one_to_one = λ a b h. sym (lead_stays a) ∙ h ∙ lead_stays b;
-      alike = λ lead. ap digits_collation.weights.is_compressible (lead_stays lead);
     }
 
 pub digits_sound : IsSoundCollation digits_collation

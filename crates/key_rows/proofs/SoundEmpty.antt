@@ -39,11 +39,9 @@ empty_settings_are_sound =
     record {
       numeric_lead = refl;
       groups = refl;
-      implicit = refl;
       compressible = λ lead h. or_self (is_letter_lead lead) (lead == 0xfe) h;
       rest = given_rest (meant []) same_lead (λ p. refl);
       outside = λ lead h. lead_stays lead;
       inside = λ lead h. ap is_letter_lead (lead_stays lead) ∙ h;
       one_to_one = λ a b h. sym (lead_stays a) ∙ h ∙ lead_stays b;
-      alike = λ lead. ap (meant []).weights.is_compressible (lead_stays lead);
     }

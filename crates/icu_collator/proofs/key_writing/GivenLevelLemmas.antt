@@ -1,33 +1,44 @@
 -- Levels of what the elements of a list give, written one element after another.
-use Rattle.std.proofs.Common.{◌≡◌, ℕ, zero, suc, ◌<◌, ◌≤◌, ◌+◌, Bool, true, false, Option, Some, None, List, [], ◌∷◌, ◌++◌, filter_map, length, drop, get_or, sym, ◌∙◌, ap, append_assoc, arith}
+use Rattle.std.proofs.Common.{◌≡◌, ℕ, zero, suc, ◌<◌, ◌≤◌, ◌+◌, Bool, true, false, Option, Some, None, List, [], ◌∷◌, ◌++◌, filter_map, length, drop, get_or, refl, sym, ◌∙◌, ap, append_assoc, arith}
 use Rattle.std.specs.List.{cons_option, list_all}
+use Rattle.std.proofs.lemmas.Bool.{cond_both}
 use Rattle.std.proofs.lemmas.List.{append-nil, drop_all}
-use Rattle.icu_collator.specs.KeyBytes.{RunCode, behind_run, codes_from, primary_code, run_bytes}
-use Rattle.icu_collator.specs.KeyCodes.{AddsGiven, AddsPrimary, IsRun, run_after}
+use Rattle.std.specs.Prelude.{◌==◌, cond, option_map}
+use Rattle.icu_collator_core.specs.Collation.{Collation}
+use Rattle.icu_collator.specs.KeyBytes.{RunCode, behind_run, codes_from, primary_code, primary_run, run_bytes}
+use Rattle.icu_collator.specs.KeyCodes.{AddsGiven, AddsPrimary, IsRun}
 use Rattle.icu_collator.specs.LevelLists.{counted_by, counted_list}
-use Rattle.icu_collator.specs.Shifted.{Counted}
+use Rattle.icu_collator.specs.Levels.{own_primary_at, primary_at}
+use Rattle.icu_collator.specs.Shifted.{Counted, whole, variable}
 use Rattle.icu_collator.proofs.keys.CommonAloneLemmas.{and_true}
 use Rattle.icu_collator.proofs.lists.BackwardLemmas.{left_from}
 
 -- an element that gives no primary, and one that gives one
 pub adds_no_primary :
-    (compressible : ℕ → Bool) (given run : Option ℕ) (bytes : List ℕ) → IsRun compressible run → given ≡ None → AddsPrimary compressible given run bytes run bytes
-adds_no_primary compressible given run bytes is none =
-    record { level = λ ps. ap (λ g. bytes ++ codes_from primary_code (run_after compressible) run (cons_option g ps)) (sym none); goes_on = is }
+    (starts_run : ℕ → Bool) (given run : Option ℕ) (bytes : List ℕ) → IsRun starts_run run → given ≡ None → AddsPrimary starts_run given run bytes run bytes
+adds_no_primary starts_run given run bytes is none =
+    record { level = λ ps. ap (λ g. bytes ++ codes_from primary_code (primary_run starts_run) run (cons_option g ps)) (sym none); goes_on = is }
 
 pub adds_primary :
-    (compressible : ℕ → Bool) (given : Option ℕ) (p : ℕ) (run now : Option ℕ) (before after : List ℕ) → given ≡ Some p → after ≡ before ++ primary_code run p
-    → now ≡ run_after compressible run p → IsRun compressible now → AddsPrimary compressible given run before now after
+    (starts_run : ℕ → Bool) (given : Option ℕ) (p : ℕ) (run now : Option ℕ) (before after : List ℕ) → given ≡ Some p → after ≡ before ++ primary_code run p
+    → now ≡ primary_run starts_run run p → IsRun starts_run now → AddsPrimary starts_run given run before now after
 unfolding codes_from
-adds_primary compressible given p run now before after some written is next =
+adds_primary starts_run given p run now before after some written is next =
     record {
       level = λ ps.
-          ap (λ l. l ++ codes_from primary_code (run_after compressible) now ps) written
-          ∙ append_assoc before (primary_code run p) (codes_from primary_code (run_after compressible) now ps)
-          ∙ ap (λ r. before ++ (primary_code run p ++ codes_from primary_code (run_after compressible) r ps)) is
-          ∙ ap (λ g. before ++ codes_from primary_code (run_after compressible) run (cons_option g ps)) (sym some);
+          ap (λ l. l ++ codes_from primary_code (primary_run starts_run) now ps) written
+          ∙ append_assoc before (primary_code run p) (codes_from primary_code (primary_run starts_run) now ps)
+          ∙ ap (λ r. before ++ (primary_code run p ++ codes_from primary_code (primary_run starts_run) r ps)) is
+          ∙ ap (λ g. before ++ codes_from primary_code (primary_run starts_run) run (cons_option g ps)) (sym some);
       goes_on = next;
     }
+
+-- what an element gives to the level is its primary, reordered
+pub own_reordered : (collation : Collation) (e : Counted) → option_map collation.reordered (own_primary_at e) ≡ primary_at collation e
+own_reordered collation (whole e) = cond_both (e.primary == 0) None (Some e.primary)
+    (λ (o : Option ℕ). option_map collation.reordered o ≡ cond (e.primary == 0) None (Some (collation.reordered e.primary)))
+    (λ none. rw none refl) (λ some. rw some refl)
+own_reordered collation (variable p) = refl
 
 -- what passes for all elements passes for one
 at_place : (p : Counted → Bool) (end : ℕ) (xs : List ℕ) (i d : ℕ) → i < length xs → list_all p (counted_list end xs) ≡ true → p (counted_by end (get_or xs i d)) ≡ true
@@ -65,17 +76,17 @@ module _ (at : Counted → Option ℕ) (end : ℕ) (xs : List ℕ) where
 
   -- the primary level, with one more element, and with none left
   pub primaries_go_on :
-      (compressible : ℕ → Bool) (i x : ℕ) (run now given : Option ℕ) (whole before after : List ℕ) → i < length xs → x ≡ get_or xs i x → given ≡ at (counted_by end x)
-      → before ++ codes_from primary_code (run_after compressible) run (left_at i) ≡ whole → AddsPrimary compressible given run before now after
-      → after ++ codes_from primary_code (run_after compressible) now (left_at (i + 1)) ≡ whole
-  primaries_go_on compressible i x run now given whole before after inside is gives so_far adds =
+      (starts_run : ℕ → Bool) (i x : ℕ) (run now given : Option ℕ) (whole before after : List ℕ) → i < length xs → x ≡ get_or xs i x → given ≡ at (counted_by end x)
+      → before ++ codes_from primary_code (primary_run starts_run) run (left_at i) ≡ whole → AddsPrimary starts_run given run before now after
+      → after ++ codes_from primary_code (primary_run starts_run) now (left_at (i + 1)) ≡ whole
+  primaries_go_on starts_run i x run now given whole before after inside is gives so_far adds =
       adds.level (left_at (i + 1))
-      ∙ sym (ap (λ l. before ++ codes_from primary_code (run_after compressible) run l) (left_more i x given inside is gives)) ∙ so_far
+      ∙ sym (ap (λ l. before ++ codes_from primary_code (primary_run starts_run) run l) (left_more i x given inside is gives)) ∙ so_far
 
   pub primaries_end :
-      (compressible : ℕ → Bool) (i : ℕ) (run : Option ℕ) (whole before : List ℕ) → length xs ≤ i
-      → before ++ codes_from primary_code (run_after compressible) run (left_at i) ≡ whole → before ≡ whole
+      (starts_run : ℕ → Bool) (i : ℕ) (run : Option ℕ) (whole before : List ℕ) → length xs ≤ i
+      → before ++ codes_from primary_code (primary_run starts_run) run (left_at i) ≡ whole → before ≡ whole
   unfolding codes_from
-  primaries_end compressible i run whole before past so_far =
+  primaries_end starts_run i run whole before past so_far =
       sym (append-nil before)
-      ∙ sym (ap (λ l. before ++ codes_from primary_code (run_after compressible) run (filter_map at (counted_list end l))) (drop_all i xs past)) ∙ so_far
+      ∙ sym (ap (λ l. before ++ codes_from primary_code (primary_run starts_run) run (filter_map at (counted_list end l))) (drop_all i xs past)) ∙ so_far

@@ -27,7 +27,7 @@ six_pieces start p s k t q i one two three four five six first second third four
 -- the key of elements that count
 abbrev pub counted_key : Collation → ResolvedCollatorOptions → List Counted → List ℕ → List ℕ
 counted_key collation options es list =
-    primary_level collation.weights (filter_map (primary_at collation) es)
+    primary_level collation (filter_map (primary_at collation) es)
     ++ level_bytes (is_at_least options.strength Secondary) (with_runs secondary_code (secondaries_of collation es) ++ 0x01 ∷ [])
     ++ level_bytes (has_case_level options.case_level) (paired_halves (case_halves options (filter_map (case_at options) es)))
     ++ level_bytes (is_at_least options.strength Tertiary) (with_runs (tertiary_code_of options) (filter_map (tertiary_at options) es) ++ 0x01 ∷ [])
@@ -51,7 +51,7 @@ pub same_characters :
 same_characters collation options es xs ys same =
     let items = counted collation options es in
     sym (key_counted collation options es items xs refl)
-    ∙ ap (λ l. primary_level collation.weights (filter_map (primary_at collation) items)
+    ∙ ap (λ l. primary_level collation (filter_map (primary_at collation) items)
     ++ level_bytes (is_at_least options.strength Secondary) (with_runs secondary_code (secondaries_of collation items) ++ 0x01 ∷ [])
     ++ level_bytes (has_case_level options.case_level) (paired_halves (case_halves options (filter_map (case_at options) items)))
     ++ level_bytes (is_at_least options.strength Tertiary) (with_runs (tertiary_code_of options) (filter_map (tertiary_at options) items) ++ 0x01 ∷ [])

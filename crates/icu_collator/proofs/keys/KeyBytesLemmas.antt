@@ -16,12 +16,12 @@ use Rattle.icu_collator_core.specs.Collation.{Collation}
 use Rattle.icu_collator_core.specs.WeightRules.{is_sound_secondary, is_sound_tertiary}
 use Rattle.icu_collator.specs.Levels.{Levels}
 use Rattle.icu_collator.specs.Order.{list_order, levels_order, where_in_force, secondary_rank, quaternary_rank, character_rank}
-use Rattle.icu_collator.specs.KeyBytes.{key_bytes, level_bytes, primary_level, secondary_code, case_halves, paired_halves, tertiary_code_of, quaternary_level, character_level, with_runs}
+use Rattle.icu_collator.specs.KeyBytes.{key_bytes, level_bytes, primary_level, was_compressible, secondary_code, case_halves, paired_halves, tertiary_code_of, quaternary_level, character_level, with_runs}
 use Rattle.icu_collator.proofs.keys.CodesLemmas.{BeginsUpTo, AllFrom, behind_same, then_equal}
 use Rattle.icu_collator.proofs.keys.CommonAloneLemmas.{NoneBelow}
 use Rattle.icu_collator.proofs.keys.WeightBytesLemmas.{AreWeights}
 use Rattle.icu_collator.proofs.keys.CharacterLevelLemmas.{IsCharacter, character_level_order}
-use Rattle.icu_collator.proofs.keys.PrimaryLevelLemmas.{ArePrimaries, none_compressible, primary_level_order}
+use Rattle.icu_collator.proofs.keys.PrimaryLevelLemmas.{ArePrimaries, none_starts, primary_level_order}
 use Rattle.icu_collator.proofs.keys.SecondaryLevelLemmas.{IsSecondaryAt, past as past_secondary, secondary_level_order}
 use Rattle.icu_collator.proofs.keys.CaseLevelLemmas.{IsCase, past as past_case, case_level_order}
 use Rattle.icu_collator.proofs.keys.TertiaryLevelLemmas.{IsTertiaryAt, past as past_tertiary, tertiary_level_order}
@@ -100,7 +100,7 @@ quaternary_has_tertiary Identical h = refl
 
 module _ (options : ResolvedCollatorOptions)
     {S : Type 0} (IsPrimary : S → ℕ → Type 0) (nextp : S → ℕ → S) (IsOutside : S → Type 0) (start : S)
-    (primaries_are : ArePrimaries IsPrimary none_compressible)
+    (primaries_are : ArePrimaries IsPrimary none_starts)
     (IsSecondaryWeight : ℕ → Type 0) (secondaries_are : AreWeights is_sound_secondary IsSecondaryWeight)
     (IsTertiaryWeight : ℕ → Type 0) (tertiaries_are : AreWeights is_sound_tertiary IsTertiaryWeight)
   where
@@ -112,7 +112,7 @@ module _ (options : ResolvedCollatorOptions)
       pub tertiaries :
           AllFrom (IsTertiaryAt IsTertiaryWeight tertiaries_are (has_case_bits options) (is_upper_first options.case_first)) (past_tertiary IsTertiaryWeight tertiaries_are) tt levels.tertiaries
       pub quaternaries :
-          AllFrom (IsPlace IsPrimary nextp IsOutside none_compressible primaries_are) (next_place IsPrimary nextp IsOutside none_compressible primaries_are) start levels.quaternaries
+          AllFrom (IsPlace IsPrimary nextp IsOutside none_starts primaries_are) (next_place IsPrimary nextp IsOutside none_starts primaries_are) start levels.quaternaries
       pub characters : AllByRecursion IsCharacter levels.characters
       -- a case for each secondary, and at Primary for each primary
       pub case_each : length levels.cases ≡ cond (is_at_least options.strength Secondary) (length levels.secondaries) (length levels.primaries)
@@ -191,7 +191,7 @@ module _ (options : ResolvedCollatorOptions)
       quaternaries_part : by_tertiaries ≡ Equal → slice_cmp nat_cmp (from_quaternaries a) (from_quaternaries b) ≡ ordering_then by_quaternaries by_characters
       quaternaries_part same =
           ended_level (is_at_least options.strength Quaternary) (quaternary_level options a.quaternaries) (quaternary_level options b.quaternaries) (from_characters a) (from_characters b) (list_order quaternary_rank a.quaternaries b.quaternaries)
-          (λ force. quaternary_level_order IsPrimary nextp IsOutside none_compressible primaries_are options start a.quaternaries b.quaternaries (0x01 ∷ from_characters a) (0x01 ∷ from_characters b)
+          (λ force. quaternary_level_order IsPrimary nextp IsOutside none_starts primaries_are options start a.quaternaries b.quaternaries (0x01 ∷ from_characters a) (0x01 ∷ from_characters b)
           (plain_quaternaries force same) sound_a.quaternaries sound_b.quaternaries (omega arith) (omega arith))
           ∙ ap (ordering_then by_quaternaries) characters_part
 
@@ -214,9 +214,9 @@ module _ (options : ResolvedCollatorOptions)
           (λ force. secondary_level_order IsSecondaryWeight secondaries_are a.secondaries b.secondaries (0x01 ∷ from_cases a) (0x01 ∷ from_cases b) sound_a.secondaries sound_b.secondaries (omega arith) (omega arith))
           ∙ then_only by_secondaries _ _ (cases_part p)
 
-      key_parts : (collation : Collation) (c : Levels) → key_bytes collation options c ≡ primary_level collation.weights c.primaries ++ from_secondaries c
+      key_parts : (collation : Collation) (c : Levels) → key_bytes collation options c ≡ primary_level collation c.primaries ++ from_secondaries c
       unfolding key_bytes
-      key_parts collation c = regrouped (primary_level collation.weights c.primaries) _ _ _ _ (from_characters c)
+      key_parts collation c = regrouped (primary_level collation c.primaries) _ _ _ _ (from_characters c)
 
       -- Where the primaries are equal, keys order as the levels after them do, whatever leads are compressible.
       pub equal_primaries_order : (collation : Collation) → list_order (λ p. p) a.primaries b.primaries ≡ Equal → slice_cmp nat_cmp (key_bytes collation options a) (key_bytes collation options b) ≡ levels_order options a b
@@ -224,13 +224,13 @@ module _ (options : ResolvedCollatorOptions)
       equal_primaries_order collation same =
           let alike : a.primaries ≡ b.primaries = same_numbers a.primaries b.primaries same in
           rw (key_parts collation a, key_parts collation b)
-          (ap (λ (ps : List ℕ). slice_cmp nat_cmp (primary_level collation.weights ps ++ from_secondaries a) (primary_level collation.weights b.primaries ++ from_secondaries b)) alike
-          ∙ behind_same (primary_level collation.weights b.primaries) (from_secondaries a) (from_secondaries b) ∙ secondaries_part same ∙ sym (then_equal_first by_primaries _ same))
+          (ap (λ (ps : List ℕ). slice_cmp nat_cmp (primary_level collation ps ++ from_secondaries a) (primary_level collation b.primaries ++ from_secondaries b)) alike
+          ∙ behind_same (primary_level collation b.primaries) (from_secondaries a) (from_secondaries b) ∙ secondaries_part same ∙ sym (then_equal_first by_primaries _ same))
 
       -- The keys of levels that keep the rules order as the levels do.
-      pub level_keys_order : (collation : Collation) → ArePrimaries IsPrimary collation.weights.is_compressible → slice_cmp nat_cmp (key_bytes collation options a) (key_bytes collation options b) ≡ levels_order options a b
+      pub level_keys_order : (collation : Collation) → ArePrimaries IsPrimary (was_compressible collation) → slice_cmp nat_cmp (key_bytes collation options a) (key_bytes collation options b) ≡ levels_order options a b
       unfolding levels_order
       level_keys_order collation compressed =
           rw (key_parts collation a, key_parts collation b)
-          (primary_level_order IsPrimary nextp collation.weights compressed start a.primaries b.primaries (from_secondaries a) (from_secondaries b) sound_a.primaries sound_b.primaries (secondaries_end a) (secondaries_end b)
+          (primary_level_order IsPrimary nextp (was_compressible collation) compressed start a.primaries b.primaries (from_secondaries a) (from_secondaries b) sound_a.primaries sound_b.primaries (secondaries_end a) (secondaries_end b)
           ∙ then_only by_primaries _ _ secondaries_part)

@@ -1,27 +1,30 @@
 -- The primary level of a key orders as the primaries do, with leads left out in runs.
-use Rattle.std.proofs.Common.{◌≡◌, ◌≢◌, ℕ, ◌<◌, ◌≤◌, ◌/◌, ◌%◌, ◌^◌, Bool, true, false, cond, ltb, List, [], ◌∷◌, ◌++◌, Option, None, Some, refl, sym, ◌∙◌, ap, subst, arith, inl, inr}
+use Rattle.std.proofs.Common.{◌≡◌, ◌≢◌, ℕ, ◌<◌, ◌≤◌, ◌/◌, ◌%◌, ◌^◌, Bool, true, false, cond, ltb, List, [], ◌∷◌, ◌++◌, Option, None, Some, refl, sym, ◌∙◌, ap, arith, inl, inr}
 use Rattle.std.proofs.lemmas.Bool.Decides.{nat_tests}
 use Rattle.std.specs.Prelude.{◌==◌}
 use Rattle.std.specs.Cmp.Lexicographic.{slice_cmp}
 use Rattle.std.specs.Ordering.{nat_cmp, ordering_then}
-use Rattle.icu_collator_core.specs.Weights.{Weights}
 use Rattle.icu_collator_core.specs.WeightRules.{primary_bytes, primary_rest, is_proper_beginning}
 use Rattle.icu_collator.specs.Order.{list_order}
-use Rattle.icu_collator.specs.KeyBytes.{codes_from, primary_code, primary_run, primary_level}
+use Rattle.icu_collator.specs.KeyBytes.{codes_from, primary_code, primary_run}
 use Rattle.icu_collator.proofs.keys.CodesLemmas.{DiffersBelow, BeginsUpTo, BeginsAbove, AllFrom, IsOrderCode, codes_order}
 use Rattle.icu_collator.proofs.keys.WeightBytesLemmas.{primaries_differ, rests_differ, rest_first}
 
--- The primaries that may stand in each state, as at the beginning of a number or in it: none begins another, and under a
--- compressible lead the second byte leaves room below and above.
-pub record ArePrimaries {S : Type 0} (IsPrimary : S → ℕ → Type 0) (is_compressible : ℕ → Bool) : Type 0 where
+-- the second byte of a primary leaves room below and above
+abbrev pub HasRoom : ℕ → Type 0
+HasRoom p = (4 ≤ p / 2 ^ 16 % 256) × (p / 2 ^ 16 % 256 ≤ 0xfe)
+
+-- The primaries that may stand in each state, as at the beginning of a number or in it: none begins another, and under the
+-- lead of one that starts a run the second byte leaves room.
+pub record ArePrimaries {S : Type 0} (IsPrimary : S → ℕ → Type 0) (starts_run : ℕ → Bool) : Type 0 where
   pub lead : (s : S) (p : ℕ) → IsPrimary s p → 2 ≤ p / 2 ^ 24
   pub small : (s : S) (p : ℕ) → IsPrimary s p → p < 2 ^ 32
   pub apart : (s : S) (p q : ℕ) → IsPrimary s p → IsPrimary s q → is_proper_beginning (primary_bytes p) (primary_bytes q) ≡ false
-  pub second : (s : S) (p : ℕ) → IsPrimary s p → is_compressible (p / 2 ^ 24) ≡ true → (4 ≤ p / 2 ^ 16 % 256) × (p / 2 ^ 16 % 256 ≤ 0xfe)
+  pub second : (s t : S) (p q : ℕ) → IsPrimary s p → IsPrimary t q → starts_run p ≡ true → q / 2 ^ 24 ≡ p / 2 ^ 24 → HasRoom q
 
--- where no lead is compressible, so that a primary is only apart from the others
-abbrev pub none_compressible : ℕ → Bool
-none_compressible lead = false
+-- where no primary starts a run, so that each is only apart from the others
+abbrev pub none_starts : ℕ → Bool
+none_starts p = false
 
 -- the four ways to write a primary after a run
 data Behind (before p : ℕ) : List ℕ → Type 0 where
@@ -42,13 +45,17 @@ behind before p =
     (λ k. by_cases (λ end. Behind before p (end ++ primary_bytes p)) (p / 2 ^ 24 == 2) _ _ (λ l. lowest (grind (arith, nat_tests)) (grind (arith, nat_tests)))
     (λ l. below (grind (arith, nat_tests)) (λ e. grind (arith, nat_tests, e)))))
 
-module _ {S : Type 0} (IsPrimary : S → ℕ → Type 0) (nextp : S → ℕ → S) (weights : Weights) (are : ArePrimaries IsPrimary weights.is_compressible) where
+module _ {S : Type 0} (IsPrimary : S → ℕ → Type 0) (nextp : S → ℕ → S) (starts_run : ℕ → Bool) (are : ArePrimaries IsPrimary starts_run) where
   abbrev pub State : Type 0
   State = Option ℕ × S
 
+  -- under this lead each primary has room
+  abbrev pub IsRoomy : ℕ → Type 0
+  IsRoomy before = (s : S) (p : ℕ) → IsPrimary s p → p / 2 ^ 24 ≡ before → HasRoom p
+
   abbrev pub IsRun : Option ℕ → Type 0
   IsRun None = Unit {0}
-  IsRun (Some before) = weights.is_compressible before ≡ true
+  IsRun (Some before) = IsRoomy before
 
   abbrev pub IsPrimaryAt : State → ℕ → Type 0
   IsPrimaryAt state p = IsRun (state.0) × IsPrimary (state.1) p
@@ -57,22 +64,22 @@ module _ {S : Type 0} (IsPrimary : S → ℕ → Type 0) (nextp : S → ℕ → 
   code state p = primary_code (state.0) p
 
   abbrev pub next : State → ℕ → State
-  next state p = (primary_run weights (state.0) p, nextp (state.1) p)
+  next state p = (primary_run starts_run (state.0) p, nextp (state.1) p)
 
-  starts_low : (before p : ℕ) (s : S) (a : ℕ) (ys : List ℕ) → a < 4 → IsPrimary s p → weights.is_compressible before ≡ true → p / 2 ^ 24 ≡ before → DiffersBelow (a ∷ ys) (primary_rest p)
+  starts_low : (before p : ℕ) (s : S) (a : ℕ) (ys : List ℕ) → a < 4 → IsPrimary s p → IsRoomy before → p / 2 ^ 24 ≡ before → DiffersBelow (a ∷ ys) (primary_rest p)
   starts_low before p s a ys h one run e =
-      let room = are.second s p one (subst (λ l. weights.is_compressible l ≡ true) (sym e) run) in
+      let room = run s p one e in
       let first = rest_first p (omega (arith, room.0)) in
       rw (first.1) (inl (omega (arith, h, room.0)))
 
-  ends_high : (before p : ℕ) (s : S) (ys : List ℕ) → IsPrimary s p → weights.is_compressible before ≡ true → p / 2 ^ 24 ≡ before → DiffersBelow (primary_rest p) (0xff ∷ ys)
+  ends_high : (before p : ℕ) (s : S) (ys : List ℕ) → IsPrimary s p → IsRoomy before → p / 2 ^ 24 ≡ before → DiffersBelow (primary_rest p) (0xff ∷ ys)
   ends_high before p s ys one run e =
-      let room = are.second s p one (subst (λ l. weights.is_compressible l ≡ true) (sym e) run) in
+      let room = run s p one e in
       let first = rest_first p (omega (arith, room.0)) in
       rw (first.1) (inl (omega (arith, room.1)))
 
   behind_below :
-      (before p q : ℕ) (s : S) {xs ys : List ℕ} → weights.is_compressible before ≡ true → IsPrimary s p → IsPrimary s q → p < q
+      (before p q : ℕ) (s : S) {xs ys : List ℕ} → IsRoomy before → IsPrimary s p → IsPrimary s q → p < q
       → Behind before p xs → Behind before q ys → DiffersBelow xs ys
   behind_below before p q s run one other h (inside a) (inside b) = rests_differ p q h (a ∙ sym b) (are.apart s p q one other)
   behind_below before p q s run one other h (inside a) (above b) = ends_high before p s (primary_bytes q) one run a
@@ -91,9 +98,9 @@ module _ {S : Type 0} (IsPrimary : S → ℕ → Type 0) (nextp : S → ℕ → 
   behind_below before p q s run one other h (lowest a d) (below b c) = inl (omega (arith, d))
   behind_below before p q s run one other h (lowest a d) (lowest b c) = primaries_differ p q h (are.apart s p q one other)
 
-  behind_begins : (before p : ℕ) (s : S) {xs : List ℕ} → weights.is_compressible before ≡ true → IsPrimary s p → Behind before p xs → BeginsAbove 1 xs
+  behind_begins : (before p : ℕ) (s : S) {xs : List ℕ} → IsRoomy before → IsPrimary s p → Behind before p xs → BeginsAbove 1 xs
   behind_begins before p s run one (inside a) =
-      let room = are.second s p one (subst (λ l. weights.is_compressible l ≡ true) (sym a) run) in
+      let room = run s p one a in
       let first = rest_first p (omega (arith, room.0)) in
       rw (first.1) (omega (arith, room.0))
   behind_begins before p s run one (above a) = omega arith
@@ -118,22 +125,22 @@ module _ {S : Type 0} (IsPrimary : S → ℕ → Type 0) (nextp : S → ℕ → 
         begins = λ s p one. begins (s.0) (s.1) p one.0 one.1;
       }
 
-  same_codes : (run : Option ℕ) (s : S) (ps : List ℕ) → codes_from code next (run, s) ps ≡ codes_from primary_code (primary_run weights) run ps
+  same_codes : (run : Option ℕ) (s : S) (ps : List ℕ) → codes_from code next (run, s) ps ≡ codes_from primary_code (primary_run starts_run) run ps
   unfolding codes_from
   same_codes run s [] = refl
-  same_codes run s (p ∷ ps) = ap (λ t. primary_code run p ++ t) (same_codes (primary_run weights run p) (nextp s p) ps)
+  same_codes run s (p ∷ ps) = ap (λ t. primary_code run p ++ t) (same_codes (primary_run starts_run run p) (nextp s p) ps)
 
-  run_behind : (run : Option ℕ) (p : ℕ) → IsRun (primary_run weights run p)
-  run_behind run p = by_cases IsRun (weights.is_compressible (p / 2 ^ 24)) _ _ (λ h. h) (λ h. tt)
+  run_behind : (run : Option ℕ) (s : S) (p : ℕ) → IsPrimary s p → IsRun (primary_run starts_run run p)
+  run_behind run s p one = by_cases IsRun (starts_run p) _ _ (λ h t q other e. are.second s t p q one other h e) (λ h. tt)
 
   stand : (run : Option ℕ) (s : S) (ps : List ℕ) → IsRun run → AllFrom IsPrimary nextp s ps → AllFrom IsPrimaryAt next (run, s) ps
   stand run s [] is all = tt
-  stand run s (p ∷ ps) is all = ((is, all.0), stand (primary_run weights run p) (nextp s p) ps (run_behind run p) all.1)
+  stand run s (p ∷ ps) is all = ((is, all.0), stand (primary_run starts_run run p) (nextp s p) ps (run_behind run s p all.0) all.1)
 
   -- The primary levels of two keys order as the primaries, and else as what stands after them.
   pub primary_level_order :
       (s : S) (ps qs xs ys : List ℕ) → AllFrom IsPrimary nextp s ps → AllFrom IsPrimary nextp s qs → BeginsUpTo 1 xs → BeginsUpTo 1 ys
-      → slice_cmp nat_cmp (primary_level weights ps ++ xs) (primary_level weights qs ++ ys) ≡ ordering_then (list_order (λ p. p) ps qs) (slice_cmp nat_cmp xs ys)
+      → slice_cmp nat_cmp (codes_from primary_code (primary_run starts_run) None ps ++ xs) (codes_from primary_code (primary_run starts_run) None qs ++ ys) ≡ ordering_then (list_order (λ p. p) ps qs) (slice_cmp nat_cmp xs ys)
   primary_level_order s ps qs xs ys ones others low_xs low_ys =
       rw (sym (same_codes None s ps), sym (same_codes None s qs))
       (codes_order code next (λ p. p) IsPrimaryAt 1 primaries_code (None, s) ps qs xs ys (stand None s ps tt ones) (stand None s qs tt others) low_xs low_ys)

@@ -28,7 +28,7 @@ by_cases P false x y t f = f refl
 shown : (p : ℕ) → Shown p (shifted_bytes p)
 shown p = by_cases (Shown p) (ltb (p / 2 ^ 24) 0x1b) _ _ (λ h. bare (grind (arith, nat_tests))) (λ h. guarded (grind (arith, nat_tests)))
 
-module _ {S : Type 0} (IsPrimary : S → ℕ → Type 0) (nextp : S → ℕ → S) (IsOutside : S → Type 0) (is_compressible : ℕ → Bool) (are : ArePrimaries IsPrimary is_compressible) where
+module _ {S : Type 0} (IsPrimary : S → ℕ → Type 0) (nextp : S → ℕ → S) (IsOutside : S → Type 0) (starts_run : ℕ → Bool) (are : ArePrimaries IsPrimary starts_run) where
   -- a shifted primary, or outside of numbers a quaternary
   abbrev pub IsPlace : S → QuaternaryPlace → Type 0
   IsPlace s (shifted p) = IsPrimary s p

@@ -9,7 +9,6 @@ use Rattle.icu_collator_types.specs.declared.elements.Element.{Element}
 use Rattle.icu_collator_types.specs.declared.options.ResolvedCollatorOptions.{ResolvedCollatorOptions}
 use Rattle.icu_collator_types.specs.Options.{is_numeric, is_shifted, group_index}
 use Rattle.icu_collator_core.specs.Collation.{Collation}
-use Rattle.icu_collator_core.specs.Weights.{Weights}
 use Rattle.icu_collator_core.specs.Elements.{elements_of_list}
 use Rattle.icu_normalizer_core.specs.Sameness.{AreSameCanonical}
 use Rattle.icu_collator_core.specs.Sameness.{AreSameLeads, AreSameOf, AreSameWeights}
@@ -17,11 +16,12 @@ use Rattle.icu_normalizer_core.proofs.DecomposedLemmas.{decomposed_scalars}
 use Rattle.icu_normalizer_core.proofs.DecomposedLemmas.{decomposed_same}
 use Rattle.icu_collator_core.proofs.readings.ReachedLemmas.{reached_decomposed, reached_elements}
 use Rattle.icu_collator_core.proofs.readings.SamenessLemmas.{elements_same}
-use Rattle.icu_collator.specs.KeyBytes.{codes_from, primary_code, primary_run, primary_level, key_bytes, key_of_text}
+use Rattle.icu_collator.specs.KeyBytes.{codes_from, primary_code, primary_run, primary_level, was_compressible, key_bytes, key_of_text}
 use Rattle.icu_collator.specs.Levels.{Levels, SecondaryPlace, QuaternaryPlace, shifted, unless_zero, primary_at, secondaries_of, case_at, tertiary_at, quaternary_at, backward_from, secondary_at, levels_of, elements_of_text, levels_of_text}
 use Rattle.icu_collator.specs.Order.{collation_order, levels_order}
 use Rattle.icu_collator_core.specs.SameSettings.{AreSameSettings}
 use Rattle.icu_collator.specs.Shifted.{Counted, whole, variable, is_variable, counted_behind, counted}
+use Rattle.icu_collator.proofs.keys.CompressedLemmas.{was_same}
 
 -- what functions that agree pick of a list
 picked_same : {X Y : Type 0} (f g : X → Option Y) (xs : List X) → ((x : X) → f x ≡ g x) → filter_map f xs ≡ filter_map g xs
@@ -73,16 +73,17 @@ module _ (a b : Collation) (options : ResolvedCollatorOptions) (settings : AreSa
       ∙ ap (λ is. made a cs (filter_map (primary_at b) cs) (cond is (backward_from [] cs) (filter_map secondary_at cs)) (filter_map (quaternary_at a) cs)) settings.backward
       ∙ ap (λ qs. made a cs (filter_map (primary_at b) cs) (secondaries_of b cs) qs) (picked_same (quaternary_at a) (quaternary_at b) cs quaternary_same)
 
--- codes of keys are of levels, and of what is compressible
-level_same : (v w : Weights) (primaries : List ℕ) → AreSameLeads v w → primary_level v primaries ≡ primary_level w primaries
-level_same v w primaries leads =
-    codes_same primary_code (primary_run v) (primary_run w) None primaries
-    (λ run p. ap (λ (is : Bool). cond is (Some (p / 2 ^ 24)) None) (leads (p / 2 ^ 24)))
+-- codes of keys are of levels, of what is compressible, and of what is moved where
+level_same : (a b : Collation) (primaries : List ℕ) → AreSameLeads a.weights b.weights → ((p : ℕ) → a.reordered p ≡ b.reordered p)
+    → primary_level a primaries ≡ primary_level b primaries
+level_same a b primaries leads moved =
+    codes_same primary_code (primary_run (was_compressible a)) (primary_run (was_compressible b)) None primaries
+    (λ run p. ap (λ (is : Bool). cond is (Some (p / 2 ^ 24)) None) (was_same a b p leads moved))
 
 pub bytes_same : (a b : Collation) (options : ResolvedCollatorOptions) (levels : Levels) → AreSameLeads a.weights b.weights
-    → key_bytes a options levels ≡ key_bytes b options levels
+    → ((p : ℕ) → a.reordered p ≡ b.reordered p) → key_bytes a options levels ≡ key_bytes b options levels
 unfolding key_bytes
-bytes_same a b options levels leads = rw (level_same a.weights b.weights levels.primaries leads) refl
+bytes_same a b options levels leads moved = rw (level_same a b levels.primaries leads moved) refl
 
 -- ---- data that say the same of all scalar values
 
@@ -97,7 +98,7 @@ module _ (a b : Collation) (options : ResolvedCollatorOptions) (settings : AreSa
       ∙ elements_levels_same a b options settings (elements_of_text b options text) list
 
   pub keys_same : (text : List ℕ) → IsDecomposing b.canonical → All IsScalar text → key_of_text a options text ≡ key_of_text b options text
-  keys_same text d h = ap (key_bytes a options) (levels_same text d h) ∙ bytes_same a b options (levels_of_text b options text) weights.is_compressible
+  keys_same text d h = ap (key_bytes a options) (levels_same text d h) ∙ bytes_same a b options (levels_of_text b options text) weights.is_compressible settings.reordered
 
   pub order_same : (x y : List ℕ) → IsDecomposing b.canonical → All IsScalar x → All IsScalar y → collation_order a options x y ≡ collation_order b options x y
   order_same x y d h g = ap (λ l. levels_order options l (levels_of_text a options y)) (levels_same x d h) ∙ ap (levels_order options (levels_of_text b options x)) (levels_same y d g)
@@ -116,7 +117,7 @@ module _ (a b : Collation) (options : ResolvedCollatorOptions) (decomposing : Is
   pub reached_keys : (text : List ℕ) → AreSameOf a b text → AreSameLeads a.weights b.weights → All IsScalar text
       → key_of_text a options text ≡ key_of_text b options text
   reached_keys text same leads h =
-      ap (key_bytes a options) (reached_levels text same h) ∙ bytes_same a b options (levels_of_text b options text) leads
+      ap (key_bytes a options) (reached_levels text same h) ∙ bytes_same a b options (levels_of_text b options text) leads settings.reordered
 
   pub reached_order : (x y : List ℕ) → AreSameOf a b x → AreSameOf a b y → All IsScalar x → All IsScalar y
       → collation_order a options x y ≡ collation_order b options x y

@@ -10,10 +10,12 @@ use Rattle.icu_collator_types.specs.declared.options.ResolvedCollatorOptions.{Re
 use Rattle.icu_collator_core.specs.Weights.{Weights}
 use Rattle.icu_collator_core.specs.Collation.{Collation, reordered_lead}
 use Rattle.icu_collator_core.specs.WeightRules.{AreSoundWeights, IsRecorded, primary_bytes, primary_rest, is_proper_beginning, is_letter_lead, is_sound_primary, has_three_bytes}
+use Rattle.icu_collator.specs.KeyBytes.{was_compressible}
 use Rattle.icu_collator.specs.Settings.{AreSoundSettings, has_plain_leads}
 use Rattle.icu_collator_types.specs.Options.{is_numeric}
 use Rattle.icu_collator.proofs.keys.CommonAloneLemmas.{and_true}
-use Rattle.icu_collator.proofs.keys.PrimaryLevelLemmas.{ArePrimaries, none_compressible}
+use Rattle.icu_collator.proofs.keys.CompressedLemmas.{had_lead}
+use Rattle.icu_collator.proofs.keys.PrimaryLevelLemmas.{ArePrimaries, none_starts}
 use Rattle.icu_collator.proofs.keys.WeightBytesLemmas.{apart_begins, begins_tests, rest_two}
 
 and_false : (b : Bool) → (b && false) ≡ false
@@ -339,25 +341,34 @@ module _ (collation : Collation) (sound : AreSoundWeights collation.weights) (se
   lead_bounds place q is = let small = original_small place q is in reordered_small (q / 2 ^ 24) (original_lead place q is) (omega (arith, small))
 
   -- whatever the lead of numbers is, no primary begins another
-  pub primaries_apart : ArePrimaries IsPrimaryAt none_compressible
+  pub primaries_apart : ArePrimaries IsPrimaryAt none_starts
   primaries_apart =
       record {
         lead = λ s p is. let bounds = lead_bounds s (is.0) (is.1) in omega (arith, is.2, bounds.0, reordered_lead_is (is.0));
         small = λ s p is. let bounds = lead_bounds s (is.0) (is.1) in omega (arith, is.2, bounds.1, reordered_lead_is (is.0));
         apart = λ s p q is other. rw (is.2, other.2) (reordered_apart (is.0) (other.0) (originals_apart collation.weights sound numeric_on s (is.0) (other.0) (is.1) (other.1)));
-        second = λ s p is h. absurd (true≢false (sym h));
+        second = λ s t p q one other h e. absurd (true≢false (sym h));
       }
 
-  pub primaries_are : has_plain_leads collation options ≡ true → ArePrimaries IsPrimaryAt collation.weights.is_compressible
+  -- a compressible lead that is moved where a primary is moved is its own
+  own_lead : (p q : ℕ) → was_compressible collation p ≡ true → collation.reordered q / 2 ^ 24 ≡ p / 2 ^ 24
+      → collation.weights.is_compressible (q / 2 ^ 24) ≡ true
+  own_lead p q h e =
+      let had = had_lead collation p h
+      in let own : (had.lead * 2 ^ 24 + p % 2 ^ 24) / 2 ^ 24 ≡ had.lead = new_lead had.lead p
+      in let moved = sym (reordered_lead_is (had.lead * 2 ^ 24 + p % 2 ^ 24)) ∙ ap (λ (x : ℕ). x / 2 ^ 24) had.moved
+      in let one : q / 2 ^ 24 ≡ had.lead = settings.one_to_one _ _ (sym (reordered_lead_is q) ∙ e ∙ sym moved) ∙ own
+      in ap collation.weights.is_compressible one ∙ had.compressible
+
+  pub primaries_are : has_plain_leads collation options ≡ true → ArePrimaries IsPrimaryAt (was_compressible collation)
   primaries_are plain =
       record {
         lead = primaries_apart.lead;
         small = primaries_apart.small;
         apart = primaries_apart.apart;
-        second = λ s p is h.
-            let q : ℕ = is.0 in
-            let lead : p / 2 ^ 24 ≡ reordered_lead collation (q / 2 ^ 24) = ap (λ (x : ℕ). x / 2 ^ 24) (is.2) ∙ reordered_lead_is q in
-            let same : p / 2 ^ 16 % 256 ≡ q / 2 ^ 16 % 256 = ap (λ (x : ℕ). x / 2 ^ 16 % 256) (is.2) ∙ reordered_second q in
-            let room = original_second plain s q (is.1) (sym (settings.alike (q / 2 ^ 24)) ∙ sym (ap collation.weights.is_compressible lead) ∙ h) in
+        second = λ s t p q one is h e.
+            let own : ℕ = is.0 in
+            let same : q / 2 ^ 16 % 256 ≡ own / 2 ^ 16 % 256 = ap (λ (x : ℕ). x / 2 ^ 16 % 256) (is.2) ∙ reordered_second own in
+            let room = original_second plain t own (is.1) (own_lead p own h (sym (ap (λ (x : ℕ). x / 2 ^ 24) (is.2)) ∙ e)) in
             (omega (arith, same, room.0), omega (arith, same, room.1));
       }

@@ -22,7 +22,7 @@ use Rattle.icu_collator.proofs.keys.CaseLevelLemmas.{IsCase, past as past_case}
 use Rattle.icu_collator.proofs.keys.CharacterLevelLemmas.{IsCharacter}
 use Rattle.icu_collator.proofs.keys.TertiaryLevelLemmas.{IsTertiaryAt, past as past_tertiary}
 use Rattle.icu_collator.proofs.keys.SecondaryLevelLemmas.{IsSecondaryAt, past as past_secondary}
-use Rattle.icu_collator.proofs.keys.PrimaryLevelLemmas.{ArePrimaries, none_compressible}
+use Rattle.icu_collator.proofs.keys.PrimaryLevelLemmas.{ArePrimaries, none_starts}
 use Rattle.icu_collator.proofs.keys.QuaternaryLevelLemmas.{IsPlace, next_place}
 use Rattle.icu_collator.proofs.keys.KeyBytesLemmas.{AreLevelsInPlace}
 use Rattle.icu_collator.proofs.places.PrimaryPlaceLemmas.{Place, outside, primaries_apart}
@@ -237,14 +237,14 @@ module _ (collation : Collation) (sound : AreSoundWeights collation.weights) (se
   characters_sound (c ∷ cs) h = let scalar = h.0 in (grind (arith, nat_tests), characters_sound cs h.1)
 
   -- the levels of elements that stand at their places keep the rules that keys need
-  abbrev pub stands_apart : ArePrimaries IsAt none_compressible
+  abbrev pub stands_apart : ArePrimaries IsAt none_starts
   stands_apart = primaries_apart collation sound settings options
 
   abbrev IsPlaced : Place → QuaternaryPlace → Type 0
-  IsPlaced = IsPlace IsAt next IsOutside none_compressible stands_apart
+  IsPlaced = IsPlace IsAt next IsOutside none_starts stands_apart
 
   abbrev next_placed : Place → QuaternaryPlace → Place
-  next_placed = next_place IsAt next IsOutside none_compressible stands_apart
+  next_placed = next_place IsAt next IsOutside none_starts stands_apart
 
   quaternaries_sound : (s w : Place) (cs : List Counted) → Flow s w cs → AllFrom IsPlaced next_placed s (filter_map (quaternary_at collation) cs)
   quaternaries_sound s w [] h = tt

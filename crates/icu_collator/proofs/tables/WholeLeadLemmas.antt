@@ -7,11 +7,12 @@ use Rattle.std.proofs.lemmas.List.Elements.{All-contains}
 use Rattle.std.proofs.lemmas.Option.{get_or_from_slice_get, slice_get_past, slice_get_within}
 use Rattle.icu_collator_core.specs.declared.tables.reordering.CollationReordering.{CollationReordering}
 use Rattle.icu_collator_core.specs.declared.tables.special_primaries.CollationSpecialPrimaries.{CollationSpecialPrimaries}
-use Rattle.icu_collator_core.specs.TableSettings.{goes_past, is_compressible_in, led_by, moved_in_parts, reordered_by, without_byte}
+use Rattle.icu_collator_core.specs.TableSettings.{goes_past, led_by, moved_in_parts, reordered_by, without_byte}
 use Rattle.icu_collator_core.specs.WeightFaults.{IsSoundReordering}
 use Rattle.icu_collator_core.specs.WeightRules.{is_letter_lead}
 use Rattle.icu_collator_core.proofs.weights.ReorderedHalfLemmas.{led_lead, rest_stays}
-use Rattle.icu_collator_core.specs.WholeLeads.{MovesWholeLeads, lead_in_place}
+use Rattle.icu_collator_core.specs.WholeLeads.{lead_in_place}
+use Rattle.icu_collator.specs.LeadMoves.{IsOfWholeLeads}
 
 -- what a table has at a place
 byte_at : (bytes : List ℕ) (k byte : ℕ) → All (λ byte. byte < 2 ^ 8) bytes → slice_get bytes k ≡ Some byte → byte < 2 ^ 8
@@ -50,7 +51,7 @@ module _ (special : CollationSpecialPrimaries) (reordering : CollationReordering
           let under = byte_at reordering.reorder_table (p / 2 ^ 24) byte bytes is
           in cond_both (byte == 0) _ _ (λ x. x / 2 ^ 24 < 2 ^ 8) (λ e. without) (λ e. let lead = led_lead byte p in omega (arith, lead, under))
 
-  module _ (sound : IsSoundReordering special reordering) (moves : MovesWholeLeads special reordering) where
+  module _ (sound : IsSoundReordering special reordering) (moves : IsOfWholeLeads reordering) where
     -- the primary that stands in the place of a lead's own
     led : (lead : ℕ) → reordered_by reordering (lead * 2 ^ 24) ≡ lead_in_place reordering lead * 2 ^ 24
     led lead =
@@ -113,6 +114,3 @@ module _ (special : CollationSpecialPrimaries) (reordering : CollationReordering
       where
         no : is_letter_lead (lead_in_place reordering lead) ≡ false → is_letter_lead (lead_in_place reordering lead) ≡ true
         no other = ap is_letter_lead (apart (lead_in_place reordering lead) lead (other_kept (lead_in_place reordering lead) other)) ∙ h
-
-    pub alike_kept : (lead : ℕ) → is_compressible_in special.last_primaries (lead_in_place reordering lead) ≡ is_compressible_in special.last_primaries lead
-    alike_kept lead = ⊎_elim (moves.alike lead) (λ large. ap (is_compressible_in special.last_primaries) (past lead large)) (cases_lt lead (2 ^ 8))

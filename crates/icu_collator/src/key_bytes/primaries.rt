@@ -1,17 +1,15 @@
 //! The primary level of a key.
 
-ghost use Rattle.std.specs.Prelude.{◌≡◌, ◌/◌, ◌^◌, ◌++◌, None, IfOk, OnOk};
-ghost use Rattle.icu_collator_core.specs.TableSettings.{is_compressible_in};
+ghost use Rattle.std.specs.Prelude.{◌≡◌, ◌/◌, ◌^◌, ◌++◌, IfOk, OnOk, option_map};
 ghost use Rattle.icu_collator.specs.Collators.{source_collation};
-ghost use Rattle.icu_collator.specs.KeyBytes.{codes_from, primary_code, run_end};
-ghost use Rattle.icu_collator.specs.KeyCodes.{AddsPrimary, IsRun, run_after};
+ghost use Rattle.icu_collator.specs.KeyBytes.{primary_code, primary_level, primary_run, run_end, was_compressible};
+ghost use Rattle.icu_collator.specs.KeyCodes.{AddsPrimary, IsRun};
 ghost use Rattle.icu_collator.specs.LevelLists.{counted_list, primaries_by};
 
 use super::weights::{write_primary_bytes, write_primary_rest};
 use crate::levels::counted::counted_element;
-use crate::levels::weights::primary_at;
+use crate::levels::weights::{own_primary_at, reordered};
 use icu_collator_core::checked::CheckedTables;
-use icu_collator_core::tables::CollationSpecialPrimaries;
 use icu_collator_types::elements::CollationElement;
 use smallvec::SmallVec;
 use std::alloc::AllocError;
@@ -60,56 +58,65 @@ fn write_primary(
     Ok(())
 }
 
-/// The lead of the run after a primary. The tables are asked only where the lead is another.
-fn run_after(special: &CollationSpecialPrimaries<'_>, run: Option<u8>, primary: u32) -> Option<u8>
-    requires { IsRun (is_compressible_in special.now.last_primaries) run }
-    ensures next { result ≡ run_after (is_compressible_in special.now.last_primaries) run primary }
-    ensures compressible { IsRun (is_compressible_in special.now.last_primaries) result }
+/// The lead of the run after a primary: it is asked whether the primary's own lead is compressible, and not that of the one
+/// that stands in its place. The tables are asked only where that isn't the run's.
+fn run_after(
+    checked: &CheckedTables<'_>,
+    run: Option<u8>,
+    primary: u32,
+    in_place: u32,
+) -> Option<u8>
+    requires in_place { in_place ≡ (source_collation checked.now).reordered primary }
+    requires run { IsRun (was_compressible (source_collation checked.now)) run }
+    ensures next { result ≡ primary_run (was_compressible (source_collation checked.now)) run in_place }
+    ensures goes_on { IsRun (was_compressible (source_collation checked.now)) result }
 {
-    let lead = lead_of(primary);
+    checked.keep_promise();
+    let lead = lead_of(in_place);
     if run == Some(lead) {
         return run;
     }
-    if special.is_compressible(lead) {
+    if checked.tables().special_primaries.is_compressible(lead_of(primary)) {
         Some(lead)
     } else {
         None
     }
 }
 
-/// Appends what an element gives, if it gives a primary; answers the lead of the run then. Fails only when out of memory.
+/// Appends what an element gives, if it has a primary that counts; answers the lead of the run then. Fails only when out of
+/// memory.
 #[inline]
 fn write_given(
-    special: &CollationSpecialPrimaries<'_>,
+    checked: &CheckedTables<'_>,
     run: Option<u8>,
     primary: Option<u32>,
     key: &mut SmallVec<u8, 128>,
 ) -> Result<Option<u8>, AllocError>
-    requires { IsRun (is_compressible_in special.now.last_primaries) run }
-    ensures { IfOk result (λ now. AddsPrimary (is_compressible_in special.now.last_primaries) primary run key.old.items now key.new.items) }
+    requires { IsRun (was_compressible (source_collation checked.now)) run }
+    ensures { IfOk result (λ now. AddsPrimary (was_compressible (source_collation checked.now)) (option_map (source_collation checked.now).reordered primary) run key.old.items now key.new.items) }
 {
     let Some(primary) = primary else {
         return Ok(run);
     };
-    write_primary(run, primary, key)?;
-    Ok(run_after(special, run, primary))
+    let in_place = reordered(checked.tables(), primary);
+    write_primary(run, in_place, key)?;
+    Ok(run_after(checked, run, primary, in_place))
 }
 
 /// Appends the primary level. Fails only when out of memory.
 pub(super) fn write_primaries(
     checked: &CheckedTables<'_>,
-    special: &CollationSpecialPrimaries<'_>,
     elements: &[CollationElement],
     variable_end: u32,
     key: &mut SmallVec<u8, 128>,
 ) -> Result<(), AllocError>
-    ensures { OnOk result (key.new.items ≡ key.old.items ++ codes_from primary_code (run_after (is_compressible_in special.now.last_primaries)) None
-        (primaries_by (source_collation checked.now) (counted_list variable_end elements.now))) }
+    ensures { OnOk result (key.new.items ≡ key.old.items
+        ++ primary_level (source_collation checked.now) (primaries_by (source_collation checked.now) (counted_list variable_end elements.now))) }
 {
     let mut run: Option<u8> = None;
     for element in elements {
-        let primary = primary_at(checked, counted_element(*element, variable_end));
-        run = write_given(special, run, primary, key)?;
+        let primary = own_primary_at(counted_element(*element, variable_end));
+        run = write_given(checked, run, primary, key)?;
     }
     Ok(())
 }

@@ -31,10 +31,9 @@ fn add_primaries(
     key: &mut SmallVec<u8, 128>,
 ) -> Result<(), AllocError>
     ensures { OnOk result (key.new.items ≡ key.old.items
-        ++ primary_level (source_collation checked.now).weights (primaries_by (source_collation checked.now) (counted_list variable_end elements.now))) }
+        ++ primary_level (source_collation checked.now) (primaries_by (source_collation checked.now) (counted_list variable_end elements.now))) }
 {
-    let special = &checked.tables().special_primaries;
-    write_primaries(checked, special, elements, variable_end, key)?;
+    write_primaries(checked, elements, variable_end, key)?;
     Ok(())
 }
 

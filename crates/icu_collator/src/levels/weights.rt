@@ -8,7 +8,7 @@ ghost use Rattle.icu_collator_core.specs.TableSettings.{reordered_in};
 ghost use Rattle.icu_collator.specs.Collators.{source_collation};
 ghost use Rattle.icu_collator.specs.KeyCodes.{gives_small_place};
 ghost use Rattle.icu_collator.specs.LevelLists.{counted_of, tertiary_with_case};
-ghost use Rattle.icu_collator.specs.Levels.{case_at, is_segment_end, primary_at, quaternary_at, secondary_at, tertiary_at};
+ghost use Rattle.icu_collator.specs.Levels.{case_at, is_segment_end, own_primary_at, primary_at, quaternary_at, secondary_at, tertiary_at};
 ghost use Rattle.icu_collator.specs.Order.{quaternary_rank, secondary_rank};
 
 use super::counted::{CountedElement, SEGMENT_END_PRIMARY};
@@ -26,12 +26,27 @@ const FIRST_QUATERNARY_RANK: u64 = 1 << 32;
 const CASE_STEP: u32 = 0x4000;
 
 /// The primary that stands in the place of another.
-fn reordered(tables: &CollationTables<'_>, primary: u32) -> u32
+#[inline]
+pub(crate) fn reordered(tables: &CollationTables<'_>, primary: u32) -> u32
     ensures { result ≡ reordered_in tables.now.reordering primary }
 {
     match &tables.reordering {
         Some(reordering) => reordering.reorder(primary),
         None => primary,
+    }
+}
+
+/// The primary, before it is reordered; `None` for an element that has none, or is variable.
+#[inline]
+pub(crate) fn own_primary_at(element: CountedElement) -> Option<u32>
+    ensures { result ≡ own_primary_at (counted_of element) }
+{
+    match element {
+        CountedElement::Whole(element) => {
+            let primary = element.primary();
+            if primary == 0 { None } else { Some(primary) }
+        }
+        CountedElement::Variable(_) => None,
     }
 }
 

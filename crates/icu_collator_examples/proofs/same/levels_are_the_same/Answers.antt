@@ -9,4 +9,4 @@ returns-clause-levels c strength elements list =
 
 pub returns-clause-keys : goal.returns-clause-keys
 returns-clause-keys c strength levels =
-    c.same_levels_have_same_keys.ensures other_collation ranged_collation (numeric_options strength) levels same_leads
+    c.same_levels_have_same_keys.ensures other_collation ranged_collation (numeric_options strength) levels same_leads same_settings.reordered
