@@ -4,6 +4,7 @@ pub mod CodesWrittenLemmas
 pub mod GivenLevelLemmas
 pub mod KeyWrittenLemmas
 pub mod PlaceRankLemmas
+pub mod PrimaryRunLemmas
 pub mod RankedRunLemmas
 pub mod SoundCaseLemmas
 pub mod WeightWrittenLemmas
