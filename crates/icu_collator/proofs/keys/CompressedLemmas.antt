@@ -37,6 +37,12 @@ any_same : (f g : ℕ → Bool) (xs : List ℕ) → ((x : ℕ) → f x ≡ g x) 
 any_same f g [] same = refl
 any_same f g (x ∷ xs) same = ap (λ b. b || list_any f xs) (same x) ∙ ap (λ b. g x || b) (any_same f g xs same)
 
+both_or_none : (a b : Bool) → (a ≡ true → b ≡ true) → (b ≡ true → a ≡ true) → a ≡ b
+both_or_none true true f g = refl
+both_or_none true false f g = sym (f refl)
+both_or_none false true f g = g refl
+both_or_none false false f g = refl
+
 -- ---- Primaries
 
 small_with : (lead p : ℕ) → lead < 2 ^ 8 → lead * 2 ^ 24 + p % 2 ^ 24 < 2 ^ 32
@@ -94,12 +100,7 @@ module _ (collation : Collation) where
 
     -- a primary that is moved had the lead that it was moved from
     pub lead_before : (q : ℕ) → q < 2 ^ 32 → was_compressible collation (collation.reordered q) ≡ collation.weights.is_compressible (q / 2 ^ 24)
-    lead_before q small =
-        ⊎_elim (λ yes. yes ∙ sym (inside_run (collation.reordered q) q small yes refl))
-        (λ no. no ∙ sym (other no)) (cases_Bool (was_compressible collation (collation.reordered q)))
-      where
-        other : was_compressible collation (collation.reordered q) ≡ false → collation.weights.is_compressible (q / 2 ^ 24) ≡ false
-        other no = ⊎_elim (λ yes. absurd (true≢false (sym (starts q small yes) ∙ no))) (λ is. is) (cases_Bool (collation.weights.is_compressible (q / 2 ^ 24)))
+    lead_before q small = both_or_none _ _ (λ yes. inside_run (collation.reordered q) q small yes refl) (λ yes. starts q small yes)
 
     -- a run that has the lead of a primary goes on
     pub run_goes_on : (run : Option ℕ) (q : ℕ) → q < 2 ^ 32 → IsRun (was_compressible collation) run → run ≡ Some (collation.reordered q / 2 ^ 24)
