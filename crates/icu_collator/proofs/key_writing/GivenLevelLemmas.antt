@@ -61,32 +61,32 @@ module _ (at : Counted → Option ℕ) (end : ℕ) (xs : List ℕ) where
 
   -- a level with runs, with one more element, and with none left
   pub runs_go_on :
-      (code : RunCode ℕ) (i x pending now : ℕ) (given : Option ℕ) (whole before after : List ℕ) → i < length xs → x ≡ get_or xs i x → given ≡ at (counted_by end x)
-      → before ++ behind_run code pending (left_at i) ≡ whole → AddsGiven code given pending before now after
-      → after ++ behind_run code now (left_at (i + 1)) ≡ whole
-  runs_go_on code i x pending now given whole before after inside is gives so_far adds =
+      (code : RunCode ℕ) (i x pending now : ℕ) (given : Option ℕ) (total before after : List ℕ) → i < length xs → x ≡ get_or xs i x → given ≡ at (counted_by end x)
+      → before ++ behind_run code pending (left_at i) ≡ total → AddsGiven code given pending before now after
+      → after ++ behind_run code now (left_at (i + 1)) ≡ total
+  runs_go_on code i x pending now given total before after inside is gives so_far adds =
       adds.level (left_at (i + 1)) ∙ sym (ap (λ l. before ++ behind_run code pending l) (left_more i x given inside is gives)) ∙ so_far
 
   pub runs_end :
-      (code : RunCode ℕ) (i pending : ℕ) (whole before after : List ℕ) → length xs ≤ i → before ++ behind_run code pending (left_at i) ≡ whole
-      → after ≡ before ++ run_bytes code false pending → after ≡ whole
+      (code : RunCode ℕ) (i pending : ℕ) (total before after : List ℕ) → length xs ≤ i → before ++ behind_run code pending (left_at i) ≡ total
+      → after ≡ before ++ run_bytes code false pending → after ≡ total
   unfolding behind_run
-  runs_end code i pending whole before after past so_far run =
+  runs_end code i pending total before after past so_far run =
       run ∙ sym (ap (λ l. before ++ behind_run code pending (filter_map at (counted_list end l))) (drop_all i xs past)) ∙ so_far
 
   -- the primary level, with one more element, and with none left
   pub primaries_go_on :
-      (starts_run : ℕ → Bool) (i x : ℕ) (run now given : Option ℕ) (whole before after : List ℕ) → i < length xs → x ≡ get_or xs i x → given ≡ at (counted_by end x)
-      → before ++ codes_from primary_code (primary_run starts_run) run (left_at i) ≡ whole → AddsPrimary starts_run given run before now after
-      → after ++ codes_from primary_code (primary_run starts_run) now (left_at (i + 1)) ≡ whole
-  primaries_go_on starts_run i x run now given whole before after inside is gives so_far adds =
+      (starts_run : ℕ → Bool) (i x : ℕ) (run now given : Option ℕ) (total before after : List ℕ) → i < length xs → x ≡ get_or xs i x → given ≡ at (counted_by end x)
+      → before ++ codes_from primary_code (primary_run starts_run) run (left_at i) ≡ total → AddsPrimary starts_run given run before now after
+      → after ++ codes_from primary_code (primary_run starts_run) now (left_at (i + 1)) ≡ total
+  primaries_go_on starts_run i x run now given total before after inside is gives so_far adds =
       adds.level (left_at (i + 1))
       ∙ sym (ap (λ l. before ++ codes_from primary_code (primary_run starts_run) run l) (left_more i x given inside is gives)) ∙ so_far
 
   pub primaries_end :
-      (starts_run : ℕ → Bool) (i : ℕ) (run : Option ℕ) (whole before : List ℕ) → length xs ≤ i
-      → before ++ codes_from primary_code (primary_run starts_run) run (left_at i) ≡ whole → before ≡ whole
+      (starts_run : ℕ → Bool) (i : ℕ) (run : Option ℕ) (total before : List ℕ) → length xs ≤ i
+      → before ++ codes_from primary_code (primary_run starts_run) run (left_at i) ≡ total → before ≡ total
   unfolding codes_from
-  primaries_end starts_run i run whole before past so_far =
+  primaries_end starts_run i run total before past so_far =
       sym (append-nil before)
       ∙ sym (ap (λ l. before ++ codes_from primary_code (primary_run starts_run) run (filter_map at (counted_list end l))) (drop_all i xs past)) ∙ so_far

@@ -28,11 +28,11 @@ module _ (canonical : Canonical) (tables : CollationTables) (accepted : IsAccept
     -- one begins where the primary's own lead is compressible, and else none does
     pub run_begun : (run : Option ℕ) → is_compressible_in tables.special_primaries.last_primaries (primary / 2 ^ 24) ≡ true
         → Some lead ≡ primary_run starts_run run in_place
-    run_begun run yes = ap Some led ∙ sym (ap (λ (is : Bool). cond is (Some (in_place / 2 ^ 24)) None) (was_asked ∙ yes))
+    run_begun run is = ap Some led ∙ sym (ap (λ (b : Bool). cond b (Some (in_place / 2 ^ 24)) None) (was_asked ∙ is))
 
     pub begun_is_run : is_compressible_in tables.special_primaries.last_primaries (primary / 2 ^ 24) ≡ true → IsRun starts_run (Some lead)
-    begun_is_run yes = (in_place, was_asked ∙ yes, sym led)
+    begun_is_run is = (in_place, was_asked ∙ is, sym led)
 
     pub run_ended : (run : Option ℕ) → is_compressible_in tables.special_primaries.last_primaries (primary / 2 ^ 24) ≡ false
         → None ≡ primary_run starts_run run in_place
-    run_ended run no = sym (ap (λ (is : Bool). cond is (Some (in_place / 2 ^ 24)) None) (was_asked ∙ no))
+    run_ended run is_none = sym (ap (λ (b : Bool). cond b (Some (in_place / 2 ^ 24)) None) (was_asked ∙ is_none))

@@ -76,7 +76,11 @@ fn run_after(
     if run == Some(lead) {
         return run;
     }
-    if checked.tables().special_primaries.is_compressible(lead_of(primary)) {
+    if checked
+        .tables()
+        .special_primaries
+        .is_compressible(lead_of(primary))
+    {
         Some(lead)
     } else {
         None
