@@ -6,14 +6,17 @@ ghost use Rattle.std.specs.Cmp.Lexicographic.{slice_cmp};
 ghost use Rattle.std.specs.Ordering.{nat_cmp};
 ghost use Rattle.icu_normalizer_core.specs.Decoding.{utf8_chars};
 ghost use Rattle.icu_collator.specs.CollatorAnswers.{key_by};
+ghost use Rattle.collate_places.specs.Fronts.{IsFrontOf};
 
+use collate_places::fronts::front_of;
 use icu_collator::CollatorBorrowed;
 use std::alloc::{AllocError, Global};
 use std::cmp::Ordering;
 use std::marker::Model;
 
 /// The sort key of a name, as its contracts see it a list of bytes. Only `make` makes one, and only `compare` reads it;
-/// each adds one to its caller's count, which stays at the greatest `usize`.
+/// each adds one to its caller's count, which stays at the greatest `usize`. Its front may be compared in its stead
+/// (`collate_places::fronts::compare_fronts`), which counts as one comparison too.
 pub struct IndexKey {
     bytes: Vec<u8>,
 }
@@ -56,6 +59,13 @@ impl IndexKey {
             }
             Err(_) => Err(AllocError),
         }
+    }
+
+    /// The front of the key, by which it compares with most keys.
+    pub fn front(&self) -> u64
+        ensures { IsFrontOf result self.now }
+    {
+        front_of(self.bytes.as_slice())
     }
 
     /// How two keys compare: as their bytes do, the first that differs decides, and a key comes before one that goes on.

@@ -4,3 +4,4 @@ pub mod ListLemmas
 pub mod PlacesLemmas
 pub mod RoomLemmas
 pub mod SlotLemmas
+pub mod FrontedLemmas

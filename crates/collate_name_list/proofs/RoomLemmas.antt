@@ -3,16 +3,20 @@ use Rattle.std.proofs.Common.{◌≡◌, ℕ, ◌+◌, ◌<◌, List, [], ◌∷
 use Rattle.std.specs.List.{All, Contains, filter}
 use Rattle.std.specs.Ordering.{on}
 use Rattle.std.proofs.lemmas.List.{length-map, get_or-map, get_or_at, length_push}
-use Rattle.std.proofs.lemmas.List.Elements.{All-weaker, Contains-get_or}
+use Rattle.std.proofs.lemmas.List.Elements.{All-map, All-weaker, Contains-get_or}
 use Rattle.collate_names.specs.Names.{in_order}
 use Rattle.collate_names.proofs.ChangeLemmas.{in_order_map, in_order_alike}
+use Rattle.collate_places.specs.Fronts.{IsFrontOf}
+use Rattle.collate_places.specs.Lists.{renumbered, numbered as numbered_placed}
+use Rattle.collate_places.specs.declared.windows.Placed.{Placed}
 use Rattle.collate_name_list.specs.StoredNames.{StoredName, key_order}
-use Rattle.collate_name_list.specs.Slots.{entry_of, entry_or_none, entry_at, full_slots, entries, bytes_order, slots_by_key, slots_by_name, HaveOwnNames, IsKept}
+use Rattle.collate_name_list.specs.Slots.{AreFronted, IsFull, places_of, entry_of, entry_or_none, entry_at, full_slots, entries, bytes_order, slots_by_key, slots_by_name, HaveOwnNames, IsKept}
 use Rattle.collate_name_list.specs.Room.{numbers_from}
 use Rattle.collate_name_list.specs.declared.slots.Stored.{Stored}
 use Rattle.collate_name_list.specs.declared.name_list.NameList.TheInside.{Inside}
 use Rattle.collate_name_list.proofs.SlotLemmas.{IsSlot, contains_full, slot_from_contains}
-use Rattle.collate_name_list.proofs.PlacesLemmas.{slots_by, all_slots}
+use Rattle.collate_name_list.proofs.PlacesLemmas.{slots_by, all_slots, all_full}
+use Rattle.collate_name_list.proofs.FrontedLemmas.{all_places}
 
 -- ---- maps
 
@@ -112,19 +116,40 @@ module _ (slots : List (Option Stored)) where
       sym from_a.2 ∙ ap (number_of slots) one ∙ from_b.2
 
 -- each place has a number
-pub numbers_within : (S : StoredName → StoredName → Ordering) (slots : List (Option Stored)) (places numbers : List ℕ) → places ≡ slots_by S slots → numbers ≡ numbers_from 0 slots → All (λ m. m < length numbers) places
-numbers_within S slots places numbers e n =
+pub numbers_within : (S : StoredName → StoredName → Ordering) (slots : List (Option Stored)) (ps : List Placed) (numbers : List ℕ) → places_of ps ≡ slots_by S slots → numbers ≡ numbers_from 0 slots → All (λ p. p.place < length numbers) ps
+numbers_within S slots ps numbers e n =
     let long : length numbers ≡ length slots = ap length n ∙ length_numbers 0 slots in
-    subst (All (λ m. m < length numbers)) (sym e)
-    (All-weaker (IsSlot slots) (λ m. m < length numbers) (λ m h. omega (arith, h.within, long)) (slots_by S slots) (all_slots S slots))
+    all_places (λ m. m < length numbers) ps
+    (subst (All (λ m. m < length numbers)) (sym e)
+    (All-weaker (IsSlot slots) (λ m. m < length numbers) (λ m h. omega (arith, h.within, long)) (slots_by S slots) (all_slots S slots)))
 
-pub kept_dense : (s t : Inside) (numbers : List ℕ) → IsKept s → numbers ≡ numbers_from 0 s.slots.items → t.slots.items ≡ filter is_some s.slots.items → t.by_key ≡ map (λ m. get_or numbers m 0) s.by_key → t.by_name ≡ map (λ m. get_or numbers m 0) s.by_name → IsKept t
-kept_dense s t numbers kept n e k b = record {
-  by_key =
-      k ∙ ap (map (λ m. get_or numbers m 0)) kept.by_key ∙ ap (λ ns. map (λ m. get_or ns m 0) (slots_by_key s.slots.items)) n
-      ∙ orders_dense s.slots.items key_order ∙ sym (ap slots_by_key e);
-  by_name =
-      b ∙ ap (map (λ m. get_or numbers m 0)) kept.by_name ∙ ap (λ ns. map (λ m. get_or ns m 0) (slots_by_name s.slots.items)) n
-      ∙ orders_dense s.slots.items bytes_order ∙ sym (ap slots_by_name e);
-  distinct = subst HaveOwnNames (sym e) (own_dense s.slots.items kept.distinct);
-}
+-- places with new numbers
+places_renumbered : (numbers : List ℕ) (ps : List Placed) → places_of (renumbered numbers ps) ≡ map (λ m. get_or numbers m 0) (places_of ps)
+places_renumbered numbers ps = map_map (λ (p : Placed). p.place) (numbered_placed numbers) ps ∙ sym (map_map (λ m. get_or numbers m 0) (λ (p : Placed). p.place) ps)
+
+fronts_dense : (S : StoredName → StoredName → Ordering) (f : StoredName → List ℕ) (slots : List (Option Stored)) (ps : List Placed) → places_of ps ≡ slots_by S slots → AreFronted f slots ps → AreFronted f (dense slots) (renumbered (numbers_from 0 slots) ps)
+fronts_dense S f slots ps e fronts =
+    let full : All (λ p. IsFull slots p.place) ps = all_places (IsFull slots) ps (subst (All (IsFull slots)) (sym e) (all_full S slots)) in
+    All-map (λ p. IsFrontOf p.front (f (entry_at (dense slots) p.place))) (numbered_placed (numbers_from 0 slots)) ps
+    (λ i d l. let p : Placed = get_or ps i d in subst (λ n. IsFrontOf p.front (f n)) (sym (entry_stays slots p.place (contains_full slots p.place (full i d l)))) (fronts i d l))
+
+pub kept_dense : (s t : Inside) (numbers : List ℕ) → IsKept s → numbers ≡ numbers_from 0 s.slots.items → t.slots.items ≡ filter is_some s.slots.items → t.by_key ≡ renumbered numbers s.by_key → t.by_name ≡ renumbered numbers s.by_name → IsKept t
+kept_dense s t numbers kept n e k b =
+    let slots : List (Option Stored) = s.slots.items in
+    let keys : t.by_key ≡ renumbered (numbers_from 0 slots) s.by_key = k ∙ ap (λ ns. renumbered ns s.by_key) n in
+    let names : t.by_name ≡ renumbered (numbers_from 0 slots) s.by_name = b ∙ ap (λ ns. renumbered ns s.by_name) n in
+    record {
+      by_key =
+          ap places_of keys ∙ places_renumbered (numbers_from 0 slots) s.by_key ∙ ap (map (number_of slots)) kept.by_key
+          ∙ orders_dense slots key_order ∙ sym (ap slots_by_key e);
+      by_name =
+          ap places_of names ∙ places_renumbered (numbers_from 0 slots) s.by_name ∙ ap (map (number_of slots)) kept.by_name
+          ∙ orders_dense slots bytes_order ∙ sym (ap slots_by_name e);
+      key_fronts =
+          subst (λ (ss : List (Option Stored)). AreFronted (λ m. m.key) ss t.by_key) (sym e)
+          (subst (AreFronted (λ m. m.key) (dense slots)) (sym keys) (fronts_dense key_order (λ m. m.key) slots s.by_key kept.by_key kept.key_fronts));
+      name_fronts =
+          subst (λ (ss : List (Option Stored)). AreFronted (λ m. m.name) ss t.by_name) (sym e)
+          (subst (AreFronted (λ m. m.name) (dense slots)) (sym names) (fronts_dense bytes_order (λ m. m.name) slots s.by_name kept.by_name kept.name_fronts));
+      distinct = subst HaveOwnNames (sym e) (own_dense slots kept.distinct);
+    }

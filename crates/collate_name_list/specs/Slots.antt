@@ -1,9 +1,11 @@
 -- how a list of names is kept: its names in slots, as they arrived, some of the slots emptied; and the full slots in two orders
-use Rattle.std.specs.Prelude.{◌≡◌, ℕ, ◌+◌, List, [], ◌∷◌, map, slice_index_or, Option, Some, None, IsSome}
+use Rattle.std.specs.Prelude.{All, ◌≡◌, ℕ, ◌+◌, List, [], ◌∷◌, map, slice_index_or, Option, Some, None, IsSome}
 use Rattle.std.specs.Cmp.Lexicographic.{slice_cmp}
 use Rattle.std.specs.Ordering.{nat_cmp, on, ordering_then}
 use Rattle.std.specs.declared.cmp.Ordering.{Ordering}
 use Rattle.collate_names.specs.Names.{in_order}
+use Rattle.collate_places.specs.Fronts.{IsFrontOf}
+use Rattle.collate_places.specs.declared.windows.Placed.{Placed}
 use Rattle.collate_name_list.specs.StoredNames.{StoredName, key_order}
 use Rattle.collate_name_list.specs.declared.slots.Stored.{Stored}
 use Rattle.collate_name_list.specs.declared.slots.Sought.{Sought}
@@ -62,8 +64,29 @@ HaveOwnNames slots = (a b : ℕ) → IsFull slots a → IsFull slots b → (entr
 abbrev pub names_inside : Inside → List StoredName
 names_inside s = entries s.slots.items
 
--- both orders are those of the full slots, and no two slots have one name
+-- places without their fronts
+abbrev pub places_of : List Placed → List ℕ
+places_of placed = map (λ p. p.place) placed
+
+-- each place has the front of these bytes of what stands there
+abbrev pub AreFronted : (StoredName → List ℕ) → List (Option Stored) → List Placed → Type 0
+AreFronted bytes slots placed = All (λ p. IsFrontOf p.front (bytes (entry_at slots p.place))) placed
+
+-- the bytes that are looked for, and those of a name with its key that are compared with them
+abbrev pub sought_bytes : Sought → List ℕ
+sought_bytes (Key key) = key.now
+sought_bytes (Name name) = name.now
+sought_bytes (Slot key other) = key.now
+
+abbrev pub sought_in : Sought → StoredName → List ℕ
+sought_in (Key key) = λ e. e.key
+sought_in (Name name) = λ e. e.name
+sought_in (Slot key other) = λ e. e.key
+
+-- both orders are those of the full slots, with the fronts of what they are by, and no two slots have one name
 pub record IsKept (s : Inside) : Type 0 where
-  pub by_key : s.by_key ≡ slots_by_key s.slots.items
-  pub by_name : s.by_name ≡ slots_by_name s.slots.items
+  pub by_key : places_of s.by_key ≡ slots_by_key s.slots.items
+  pub by_name : places_of s.by_name ≡ slots_by_name s.slots.items
+  pub key_fronts : AreFronted (λ e. e.key) s.slots.items s.by_key
+  pub name_fronts : AreFronted (λ e. e.name) s.slots.items s.by_name
   pub distinct : HaveOwnNames s.slots.items

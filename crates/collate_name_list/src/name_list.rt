@@ -13,6 +13,8 @@ use crate::room::{drop_empty, numbers_of};
 use crate::slots::{Stored, place_of_key, place_of_name, place_of_slot, slot_of_name, stored_in};
 use collate_keys::IndexKey;
 use collate_places::PlaceList;
+use collate_places::fronts::front_of;
+use collate_places::windows::Placed;
 use std::alloc::{AllocError, Global};
 use std::marker::Model;
 
@@ -140,8 +142,8 @@ impl NameList {
     pub fn get(&self, place: usize) -> Option<&[u8]>
         ensures { option_copied result ≡ slice_get (names_of (sorted self.now)) place }
     {
-        let slot = self.by_key.at(place)?;
-        let stored = stored_in(self.slots.as_slice(), slot)?;
+        let placed = self.by_key.at(place)?;
+        let stored = stored_in(self.slots.as_slice(), placed.place)?;
         Some(stored.bytes.as_slice())
     }
 
@@ -170,9 +172,11 @@ impl NameList {
         let bytes = Vec::from_slice(self.alloc, name)?;
         self.slots.reserve(1)?;
         self.by_name.reserve()?;
-        let slot = self.slots.len();
-        self.by_key.insert(keyed, slot)?;
-        match self.by_name.insert(named, slot) {
+        let place = self.slots.len();
+        let front = key.front();
+        self.by_key.insert(keyed, Placed { front, place })?;
+        let front = front_of(name);
+        match self.by_name.insert(named, Placed { front, place }) {
             Ok(()) => {
                 self.slots.push(Some(Stored { bytes, key })).unwrap();
                 Ok(())

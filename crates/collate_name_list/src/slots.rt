@@ -1,6 +1,6 @@
 //! The slots of a list of names, and binary search among the full ones.
 
-ghost use Rattle.std.specs.Prelude.{◌≡◌, ◌≢◌, ℕ, ◌+◌, ◌^◌, ◌<◌, ◌≤◌, ◌↔◌, false, List, length, Some, None, IfSome, IfNone, IsTrue, IsSome, slice_get, slice_index_or};
+ghost use Rattle.std.specs.Prelude.{◌≡◌, ◌≢◌, ℕ, ◌+◌, ◌-◌, ◌^◌, ◌<◌, ◌≤◌, ◌↔◌, false, List, length, Some, None, IfSome, IfNone, IsTrue, IsSome, slice_get, slice_index_or};
 ghost use Rattle.std.specs.Cmp.Lexicographic.{slice_cmp};
 ghost use Rattle.std.specs.List.{All, Contains};
 ghost use Rattle.std.specs.List.Sorted.{IsPartitionedBy};
@@ -8,10 +8,14 @@ ghost use Rattle.std.specs.Option.{option_copied};
 ghost use Rattle.std.specs.Ordering.{nat_cmp};
 ghost use Rattle.collate_names.specs.Search.{IsPlaceOf, stands_before};
 ghost use Rattle.collate_name_list.specs.StoredNames.{names_of};
-ghost use Rattle.collate_name_list.specs.Slots.{IsFull, compared, entries, entry_at, slots_by_key, slots_by_name};
+ghost use Rattle.collate_places.specs.Fronts.{IsFrontOf};
+ghost use Rattle.collate_places.specs.Windows.{shows};
+ghost use Rattle.collate_name_list.specs.Slots.{AreFronted, IsFull, compared, entries, entry_at, places_of, slots_by_key, slots_by_name, sought_bytes, sought_in};
 
 use collate_keys::IndexKey;
 use collate_places::PlaceList;
+use collate_places::fronts::{compare_fronts, front_of};
+use collate_places::windows::{Placed, Window};
 use std::cmp::Ordering;
 
 /// A name that is kept, with its key.
@@ -45,20 +49,35 @@ pub fn stored_in(slots: &[Option<Stored>], slot: usize) -> Option<&Stored>
     slots.get(slot)?.as_ref()
 }
 
-/// Whether a full slot has a name.
-pub fn has_name(slots: &[Option<Stored>], slot: usize, name: &[u8]) -> bool
-    requires { IsFull slots.now slot }
-    ensures { IsTrue result ↔ ((entry_at slots.now slot).name ≡ name.now) }
+/// Whether a full slot has a name. Where their fronts differ the slot isn't read.
+pub fn has_name(slots: &[Option<Stored>], placed: Placed, name: &[u8]) -> bool
+    requires full { IsFull slots.now placed.place }
+    requires front { IsFrontOf placed.front (entry_at slots.now placed.place).name }
+    ensures { IsTrue result ↔ ((entry_at slots.now placed.place).name ≡ name.now) }
 {
-    match stored_in(slots, slot) {
+    let front = front_of(name);
+    if placed.front != front {
+        return false;
+    }
+    match stored_in(slots, placed.place) {
         Some(stored) => stored.bytes.as_slice() == name,
         None => unreachable!(),
     }
 }
 
-/// How what stands in a full slot compares with what is looked for. The count goes up by one at most, where keys are
-/// compared.
-pub fn compare(
+/// The front of what is looked for.
+fn front_sought(sought: &Sought<'_>) -> u64
+    ensures { IsFrontOf result (sought_bytes sought.now) }
+{
+    match sought {
+        Sought::Key(key) | Sought::Slot(key, _) => key.front(),
+        Sought::Name(name) => front_of(*name),
+    }
+}
+
+/// How what stands in a full slot compares with what is looked for, by all of its bytes. The count goes up by one at most,
+/// where keys are compared.
+fn compare_whole(
     slots: &[Option<Stored>],
     slot: usize,
     sought: &Sought<'_>,
@@ -81,22 +100,59 @@ pub fn compare(
     }
 }
 
-/// The same of the slot at a place.
-fn compare_at(
+/// How what stands in a full slot compares with what is looked for: by their fronts where these differ, and then the slot
+/// isn't read. The count goes up by one at most.
+pub fn compare(
     slots: &[Option<Stored>],
-    places: &PlaceList,
-    place: usize,
+    placed: Placed,
     sought: &Sought<'_>,
+    front: u64,
     count: &mut usize,
 ) -> Ordering
-    requires full { All (IsFull slots.now) places.now }
-    requires place { place < length places.now }
-    ensures order { result ≡ compared slots.now sought.now (slice_index_or places.now place 0) }
+    requires full { IsFull slots.now placed.place }
+    requires stored { IsFrontOf placed.front (sought_in sought.now (entry_at slots.now placed.place)) }
+    requires sought { IsFrontOf front (sought_bytes sought.now) }
+    ensures order { result ≡ compared slots.now sought.now placed.place }
     ensures grown { count.old ≤ count.new }
     ensures few { count.new ≤ count.old + 1 }
 {
-    match places.at(place) {
-        Some(slot) => compare(slots, slot, sought, count),
+    // (read, so that the proof knows its range)
+    let _before = *count;
+    match compare_fronts(placed.front, front, count) {
+        Ordering::Equal => compare_whole(slots, placed.place, sought, count),
+        ordering => ordering,
+    }
+}
+
+/// The part of places in which a rank is: this one, if the rank is in it.
+fn window_around<'a>(
+    places: &'a PlaceList,
+    window: Window<'a>,
+    rank: usize,
+    first: usize,
+    last: usize,
+) -> Window<'a>
+    requires rank { rank < length places.now }
+    requires shown { shows places.now window.start window.places.now }
+    ensures shown { shows places.now result.start result.places.now }
+    ensures from { result.start ≤ rank }
+    ensures before { rank < result.start + length result.places.now }
+{
+    if window.start <= rank && rank - window.start < window.places.len() {
+        window
+    } else {
+        places.around(rank, first, last)
+    }
+}
+
+/// The place at a rank that is in a part of places, which begins at another rank.
+fn placed_in(part: &[Placed], start: usize, rank: usize) -> Placed
+    requires from { start ≤ rank }
+    requires before { rank < start + length part.now }
+    ensures { slice_get part.now (rank - start) ≡ Some result }
+{
+    match part.get(rank - start) {
+        Some(placed) => *placed,
         None => unreachable!(),
     }
 }
@@ -120,21 +176,29 @@ fn place_of(
     past_equal: bool,
     count: &mut usize,
 ) -> usize
-    requires full { All (IsFull slots.now) places.now }
-    requires parted { IsPartitionedBy (λ slot. stands_before past_equal (compared slots.now sought.now slot)) places.now }
-    ensures bound { result ≤ length places.now }
-    ensures place { IsPlaceOf (compared slots.now sought.now) past_equal places.now result }
+    requires full { All (IsFull slots.now) (places_of places.now) }
+    requires fronts { AreFronted (sought_in sought.now) slots.now places.now }
+    requires parted { IsPartitionedBy (λ slot. stands_before past_equal (compared slots.now sought.now slot)) (places_of places.now) }
+    ensures bound { result ≤ length (places_of places.now) }
+    ensures place { IsPlaceOf (compared slots.now sought.now) past_equal (places_of places.now) result }
     ensures grown { count.old ≤ count.new }
-    ensures few { (digits : ℕ) → length places.now < 2 ^ digits → count.new ≤ count.old + digits }
+    ensures few { (digits : ℕ) → length (places_of places.now) < 2 ^ digits → count.new ≤ count.old + digits }
 {
+    let front = front_sought(sought);
+    let (mut first, mut last) = (0, usize::MAX);
+    let mut window = places.around(0, first, last);
     let mut low = 0;
     let mut high = places.len();
     while low < high {
         let middle = low + (high - low) / 2;
-        if stands_before(compare_at(slots, places, middle, sought, count), past_equal) {
+        window = window_around(places, window, middle, first, last);
+        let placed = placed_in(window.places, window.start, middle);
+        if stands_before(compare(slots, placed, sought, front, count), past_equal) {
             low = middle + 1;
+            first = window.part;
         } else {
             high = middle;
+            last = window.part;
         }
     }
     low
@@ -148,20 +212,22 @@ pub fn place_of_key(
     past_equal: bool,
     count: &mut usize,
 ) -> usize
-    requires { by_key.now ≡ slots_by_key slots.now }
-    ensures bound { result ≤ length by_key.now }
-    ensures place { IsPlaceOf (λ slot. slice_cmp nat_cmp (entry_at slots.now slot).key key.now) past_equal by_key.now result }
+    requires order { places_of by_key.now ≡ slots_by_key slots.now }
+    requires fronts { AreFronted (λ e. e.key) slots.now by_key.now }
+    ensures bound { result ≤ length (places_of by_key.now) }
+    ensures place { IsPlaceOf (λ slot. slice_cmp nat_cmp (entry_at slots.now slot).key key.now) past_equal (places_of by_key.now) result }
     ensures grown { count.old ≤ count.new }
-    ensures few { (digits : ℕ) → length by_key.now < 2 ^ digits → count.new ≤ count.old + digits }
+    ensures few { (digits : ℕ) → length (places_of by_key.now) < 2 ^ digits → count.new ≤ count.old + digits }
 {
     place_of(slots, by_key, &Sought::Key(key), past_equal, count)
 }
 
 /// The place of a full slot in the order of keys.
 pub fn place_of_slot(slots: &[Option<Stored>], by_key: &PlaceList, slot: usize) -> usize
-    requires order { by_key.now ≡ slots_by_key slots.now }
+    requires order { places_of by_key.now ≡ slots_by_key slots.now }
+    requires fronts { AreFronted (λ e. e.key) slots.now by_key.now }
     requires full { IsFull slots.now slot }
-    ensures { slice_get by_key.now result ≡ Some slot }
+    ensures { slice_get (places_of by_key.now) result ≡ Some slot }
 {
     let mut count = 0;
     match stored_in(slots, slot) {
@@ -175,9 +241,10 @@ pub fn place_of_slot(slots: &[Option<Stored>], by_key: &PlaceList, slot: usize) 
 
 /// The first place in the order of bytes of a slot whose name isn't below a name.
 pub fn place_of_name(slots: &[Option<Stored>], by_name: &PlaceList, name: &[u8]) -> usize
-    requires { by_name.now ≡ slots_by_name slots.now }
-    ensures bound { result ≤ length by_name.now }
-    ensures place { IsPlaceOf (λ slot. slice_cmp nat_cmp (entry_at slots.now slot).name name.now) false by_name.now result }
+    requires order { places_of by_name.now ≡ slots_by_name slots.now }
+    requires fronts { AreFronted (λ e. e.name) slots.now by_name.now }
+    ensures bound { result ≤ length (places_of by_name.now) }
+    ensures place { IsPlaceOf (λ slot. slice_cmp nat_cmp (entry_at slots.now slot).name name.now) false (places_of by_name.now) result }
 {
     let mut count = 0;
     place_of(slots, by_name, &Sought::Name(name), false, &mut count)
@@ -190,16 +257,17 @@ pub fn slot_of_name(
     place: usize,
     name: &[u8],
 ) -> Option<usize>
-    requires order { by_name.now ≡ slots_by_name slots.now }
-    requires bound { place ≤ length by_name.now }
-    requires place { IsPlaceOf (λ slot. slice_cmp nat_cmp (entry_at slots.now slot).name name.now) false by_name.now place }
-    ensures slot { IfSome result (λ slot. slice_get by_name.now place ≡ Some slot) }
+    requires order { places_of by_name.now ≡ slots_by_name slots.now }
+    requires fronts { AreFronted (λ e. e.name) slots.now by_name.now }
+    requires bound { place ≤ length (places_of by_name.now) }
+    requires place { IsPlaceOf (λ slot. slice_cmp nat_cmp (entry_at slots.now slot).name name.now) false (places_of by_name.now) place }
+    ensures slot { IfSome result (λ slot. slice_get (places_of by_name.now) place ≡ Some slot) }
     ensures name { IfSome result (λ slot. (entry_at slots.now slot).name ≡ name.now) }
     ensures absent { IfNone result (¬ Contains (names_of (entries slots.now)) name.now) }
 {
-    let slot = by_name.at(place)?;
-    if has_name(slots, slot, name) {
-        Some(slot)
+    let placed = by_name.at(place)?;
+    if has_name(slots, placed, name) {
+        Some(placed.place)
     } else {
         None
     }

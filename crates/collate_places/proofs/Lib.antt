@@ -1,3 +1,4 @@
 pub mod Renumbering
 pub mod Rows
 pub mod Places
+pub mod FrontLemmas

@@ -8,22 +8,23 @@ use Rattle.std.proofs.lemmas.List.Elements.{All-drop, All-weaker}
 use Rattle.std.specs.Prelude.{insert, slice_index}
 use Rattle.std.specs.Global.{Vec}
 use Rattle.collate_places.specs.declared.lists.TheConstants.{FULL}
+use Rattle.collate_places.specs.declared.windows.Placed.{Placed}
 use Rattle.collate_places.specs.Lists.{joined, lengths, starts_from, starts_of}
 use Rattle.collate_places.specs.Parts.{IsPlaceOf, IsFreeFor}
 use Rattle.collate_places.specs.Starts.{IsAround}
 use Rattle.collate_places.proofs.Rows.{start_at, start_next, length-starts_from, starts_from_high, starts_from_low, drop-starts_from}
 
 -- where there are values there are lists
-pub some_list : (lists : List (Vec ℕ)) → 0 < length (joined lists) → 0 < length lists
+pub some_list : (lists : List (Vec Placed)) → 0 < length (joined lists) → 0 < length lists
 some_list [] h = h
 some_list (list ∷ lists) h = omega arith
 
-pub first_start : (lists : List (Vec ℕ)) (rank : ℕ) → 0 < length lists → slice_index (starts_of lists) 0 ≤ rank
+pub first_start : (lists : List (Vec Placed)) (rank : ℕ) → 0 < length lists → slice_index (starts_of lists) 0 ≤ rank
 first_start [] rank h = absurd (omega arith)
 first_start (list ∷ lists) rank h = omega arith
 
 -- the list around a rank has the rank's place
-pub found : (lists : List (Vec ℕ)) (starts : List ℕ) (count rank part : ℕ) → starts ≡ starts_of lists → count ≡ length (joined lists) → rank ≤ count → IsAround starts rank part
+pub found : (lists : List (Vec Placed)) (starts : List ℕ) (count rank part : ℕ) → starts ≡ starts_of lists → count ≡ length (joined lists) → rank ≤ count → IsAround starts rank part
     → IsPlaceOf lists rank part (rank - slice_index starts part) × (rank < count → rank - slice_index starts part < slice_index (lengths lists) part)
 found lists starts count rank part are counts h around =
     let within : part < length lists = omega (arith, around.within, ap length are, length-starts_from 0 lists) in
@@ -42,15 +43,15 @@ found lists starts count rank part are counts h around =
     ]
 
 -- the halves of a full list have its places, and neither is full
-pub free_in_halves : (lists new : List (Vec ℕ)) (part place rank half : ℕ) → half < FULL → slice_index (lengths lists) part ≡ half + half
+pub free_in_halves : (lists new : List (Vec Placed)) (part place rank half : ℕ) → half < FULL → slice_index (lengths lists) part ≡ half + half
     → starts_of new ≡ insert (starts_of lists) (part + 1) (slice_index (starts_of lists) part + half) → lengths new ≡ insert (set (lengths lists) part half) (part + 1) half
     → IsPlaceOf lists rank part place → (place ≤ half → IsFreeFor new rank part place) × (half < place → IsFreeFor new rank (part + 1) (place - half))
 free_in_halves lists new part place rank half small full starts long at =
     let within : part < length lists = at.within in
-    let many : length (lengths lists) ≡ length lists = length-map lists (λ (l : Vec ℕ). length l.items) in
+    let many : length (lengths lists) ≡ length lists = length-map lists (λ (l : Vec Placed). length l.items) in
     let many_set : length (set (lengths lists) part half) ≡ length lists = length-set (lengths lists) part half ∙ many in
     let many_new : length new ≡ length lists + 1 =
-    sym (length-map new (λ (l : Vec ℕ). length l.items)) ∙ ap length long ∙ length-insert (set (lengths lists) part half) (part + 1) half (omega arith) ∙ ap (λ n. n + 1) many_set in
+    sym (length-map new (λ (l : Vec Placed). length l.items)) ∙ ap length long ∙ length-insert (set (lengths lists) part half) (part + 1) half (omega arith) ∙ ap (λ n. n + 1) many_set in
     let many_starts : length (starts_of lists) ≡ length lists = length-starts_from 0 lists in
     let low : slice_index (lengths new) part ≡ half =
     ap (λ xs. slice_index xs part) long ∙ get_or-insert_below (set (lengths lists) part half) (part + 1) half 0 part (omega arith) (omega arith) ∙ get_or-set_same (lengths lists) part half 0 (omega arith) in
@@ -70,11 +71,11 @@ free_in_halves lists new part place rank half small full starts long at =
     )
 
 -- the ranks behind a place can be moved
-pub raise_ready : (lists : List (Vec ℕ)) (n bound : ℕ) → length (joined lists) < bound → All (λ start. start < bound) (drop n (starts_of lists))
+pub raise_ready : (lists : List (Vec Placed)) (n bound : ℕ) → length (joined lists) < bound → All (λ start. start < bound) (drop n (starts_of lists))
 raise_ready lists n bound h =
     All-drop (λ start. start < bound) n (starts_of lists) (All-weaker (λ start. start ≤ 0 + length (joined lists)) (λ start. start < bound) (λ start k. omega arith) (starts_of lists) (starts_from_high 0 lists))
 
-pub lower_ready : (lists : List (Vec ℕ)) (part : ℕ) → part < length lists → 0 < slice_index (lengths lists) part → All (λ start. 0 < start) (drop (part + 1) (starts_of lists))
+pub lower_ready : (lists : List (Vec Placed)) (part : ℕ) → part < length lists → 0 < slice_index (lengths lists) part → All (λ start. 0 < start) (drop (part + 1) (starts_of lists))
 lower_ready lists part within h =
     let n = length (joined (take (part + 1) lists)) in
     let some : 0 < n = omega (arith, start_next lists part within) in

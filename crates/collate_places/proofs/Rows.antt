@@ -9,6 +9,7 @@ use Rattle.std.proofs.lemmas.List.Edits.{length-insert, length-remove}
 use Rattle.std.proofs.Math.ListN.{get_or-append}
 use Rattle.std.specs.Prelude.{insert, remove, slice_get, slice_index, vec_len, vec_capacity}
 use Rattle.collate_places.specs.declared.lists.TheConstants.{FULL}
+use Rattle.collate_places.specs.declared.windows.Placed.{Placed}
 use Rattle.std.specs.Global.{Vec}
 use Rattle.collate_places.specs.Lists.{joined, lengths, rank_of, starts_from, starts_of, raised, lowered, AreRoomy}
 
@@ -19,15 +20,15 @@ done_is done xs ys zs h e = e ∙ ap (λ b. cond b xs ys) h
 -- ---- an edit of a list, seen in the lists before and behind it
 
 -- the lists around one of them
-pub split_at : (lists : List (Vec ℕ)) (i : ℕ) (list : Vec ℕ) → i < length lists → list ≡ get_or lists i list → lists ≡ take i lists ++ list ∷ drop (i + 1) lists
+pub split_at : (lists : List (Vec Placed)) (i : ℕ) (list : Vec Placed) → i < length lists → list ≡ get_or lists i list → lists ≡ take i lists ++ list ∷ drop (i + 1) lists
 split_at lists i list within is =
-    sym (take-append-drop i lists) ∙ ap (λ rest. take i lists ++ rest) (drop_more lists i list within) ∙ ap (λ (l : Vec ℕ). take i lists ++ l ∷ drop (i + 1) lists) (sym is)
+    sym (take-append-drop i lists) ∙ ap (λ rest. take i lists ++ rest) (drop_more lists i list within) ∙ ap (λ (l : Vec Placed). take i lists ++ l ∷ drop (i + 1) lists) (sym is)
 
-pub set_at_split : (lists : List (Vec ℕ)) (i : ℕ) (list : Vec ℕ) → i < length lists → set lists i list ≡ take i lists ++ list ∷ drop (i + 1) lists
+pub set_at_split : (lists : List (Vec Placed)) (i : ℕ) (list : Vec Placed) → i < length lists → set lists i list ≡ take i lists ++ list ∷ drop (i + 1) lists
 set_at_split lists i list within = set_split lists i list within ∙ ap (λ n. take i lists ++ list ∷ drop n lists) (sym (add-one i))
 
-pub joined-append : (front back : List (Vec ℕ)) → joined (front ++ back) ≡ joined front ++ joined back
-joined-append front back = flat_map-append (λ (list : Vec ℕ). list.items) front back
+pub joined-append : (front back : List (Vec Placed)) → joined (front ++ back) ≡ joined front ++ joined back
+joined-append front back = flat_map-append (λ (list : Vec Placed). list.items) front back
 
 pub insert_behind : {X : Type 0} (xs ys : List X) (k : ℕ) (x : X) → insert (xs ++ ys) (length xs + k) x ≡ xs ++ insert ys k x
 insert_behind xs ys k x = rw (take-append-add xs ys k, drop-append-add xs ys k) (append_assoc xs (take k ys) (x ∷ drop k ys))
@@ -48,11 +49,11 @@ remove_within xs ys k h =
 
 -- ---- where lists begin
 
-pub length-starts_from : (rank : ℕ) (lists : List (Vec ℕ)) → length (starts_from rank lists) ≡ length lists
+pub length-starts_from : (rank : ℕ) (lists : List (Vec Placed)) → length (starts_from rank lists) ≡ length lists
 length-starts_from rank [] = refl
 length-starts_from rank (list ∷ lists) = omega (arith, length-starts_from (rank + length list.items) lists)
 
-pub starts_from-append : (rank : ℕ) (front back : List (Vec ℕ)) → starts_from rank (front ++ back) ≡ starts_from rank front ++ starts_from (rank + length (joined front)) back
+pub starts_from-append : (rank : ℕ) (front back : List (Vec Placed)) → starts_from rank (front ++ back) ≡ starts_from rank front ++ starts_from (rank + length (joined front)) back
 starts_from-append rank [] back =
     let same : rank ≡ rank + 0 = omega arith in
     ap (λ n. starts_from n back) same
@@ -60,13 +61,13 @@ starts_from-append rank (list ∷ front) back =
     let next : rank + length list.items + length (joined front) ≡ rank + length (list.items ++ joined front) = omega (arith, length-append list.items (joined front)) in
     ap (λ starts. rank ∷ starts) (starts_from-append (rank + length list.items) front back ∙ ap (λ n. starts_from (rank + length list.items) front ++ starts_from n back) next)
 
-pub starts_from-suc : (rank : ℕ) (lists : List (Vec ℕ)) → starts_from (rank + 1) lists ≡ map (λ start. start + 1) (starts_from rank lists)
+pub starts_from-suc : (rank : ℕ) (lists : List (Vec Placed)) → starts_from (rank + 1) lists ≡ map (λ start. start + 1) (starts_from rank lists)
 starts_from-suc rank [] = refl
 starts_from-suc rank (list ∷ lists) =
     let next : rank + 1 + length list.items ≡ rank + length list.items + 1 = omega arith in
     ap (λ starts. (rank + 1) ∷ starts) (ap (λ n. starts_from n lists) next ∙ starts_from-suc (rank + length list.items) lists)
 
-pub starts_from-pred : (rank : ℕ) (lists : List (Vec ℕ)) → starts_from rank lists ≡ map (λ start. start - 1) (starts_from (rank + 1) lists)
+pub starts_from-pred : (rank : ℕ) (lists : List (Vec Placed)) → starts_from rank lists ≡ map (λ start. start - 1) (starts_from (rank + 1) lists)
 starts_from-pred rank [] = refl
 starts_from-pred rank (list ∷ lists) =
     let here : rank ≡ rank + 1 - 1 = omega arith in
@@ -75,13 +76,13 @@ starts_from-pred rank (list ∷ lists) =
     ∙ ap (λ starts. (rank + 1 - 1) ∷ starts) (starts_from-pred (rank + length list.items) lists ∙ ap (λ n. map (λ start. start - 1) (starts_from n lists)) next)
 
 -- no list begins before the first, or behind all values
-pub starts_from_low : (rank : ℕ) (lists : List (Vec ℕ)) → All (λ start. rank ≤ start) (starts_from rank lists)
+pub starts_from_low : (rank : ℕ) (lists : List (Vec Placed)) → All (λ start. rank ≤ start) (starts_from rank lists)
 starts_from_low rank [] = All-nil (λ start. rank ≤ start)
 starts_from_low rank (list ∷ lists) =
     All-cons (λ start. rank ≤ start) rank (starts_from (rank + length list.items) lists) (omega arith)
     (All-weaker (λ start. rank + length list.items ≤ start) (λ start. rank ≤ start) (λ start h. omega arith) (starts_from (rank + length list.items) lists) (starts_from_low (rank + length list.items) lists))
 
-pub starts_from_high : (rank : ℕ) (lists : List (Vec ℕ)) → All (λ start. start ≤ rank + length (joined lists)) (starts_from rank lists)
+pub starts_from_high : (rank : ℕ) (lists : List (Vec Placed)) → All (λ start. start ≤ rank + length (joined lists)) (starts_from rank lists)
 starts_from_high rank [] = All-nil (λ start. start ≤ rank + 0)
 starts_from_high rank (list ∷ lists) =
     let all : length (list.items ++ joined lists) ≡ length list.items + length (joined lists) = length-append list.items (joined lists) in
@@ -101,8 +102,8 @@ remove_at front back x n e =
 -- ---- what each edit leaves
 
 -- lists in a row, one of them with its front and its back
-module _ (front back : List (Vec ℕ)) where
-  starts_around : (list : Vec ℕ) → starts_of (front ++ list ∷ back) ≡ starts_of front ++ length (joined front) ∷ starts_from (length (joined front) + length list.items) back
+module _ (front back : List (Vec Placed)) where
+  starts_around : (list : Vec Placed) → starts_of (front ++ list ∷ back) ≡ starts_of front ++ length (joined front) ∷ starts_from (length (joined front) + length list.items) back
   starts_around list =
       let none : 0 + length (joined front) ≡ length (joined front) = omega arith in
       starts_from-append 0 front (list ∷ back) ∙ ap (λ n. starts_of front ++ n ∷ starts_from (n + length list.items) back) none
@@ -113,7 +114,7 @@ module _ (front back : List (Vec ℕ)) where
       let at : n + 1 ≡ length (starts_of front) + 1 = omega (arith, length-starts_from 0 front) in
       rw (at, take-append-add (starts_of front) (x ∷ later) 1, drop-append-add (starts_of front) (x ∷ later) 1) (append_assoc (starts_of front) (x ∷ []) (map f later))
 
-  pub put_values : (list new : Vec ℕ) (place value : ℕ) → place ≤ length list.items → new.items ≡ insert list.items place value
+  pub put_values : (list new : Vec Placed) (place : ℕ) (value : Placed) → place ≤ length list.items → new.items ≡ insert list.items place value
       → joined (front ++ new ∷ back) ≡ insert (joined (front ++ list ∷ back)) (length (joined front) + place) value
   put_values list new place value h e =
       joined-append front (new ∷ back)
@@ -122,7 +123,7 @@ module _ (front back : List (Vec ℕ)) where
       ∙ sym (insert_behind (joined front) (list.items ++ joined back) place value)
       ∙ ap (λ items. insert items (length (joined front) + place) value) (sym (joined-append front (list ∷ back)))
 
-  pub put_starts : (list new : Vec ℕ) (part : ℕ) → part ≡ length front → length new.items ≡ length list.items + 1
+  pub put_starts : (list new : Vec Placed) (part : ℕ) → part ≡ length front → length new.items ≡ length list.items + 1
       → starts_of (front ++ new ∷ back) ≡ raised (part + 1) (starts_of (front ++ list ∷ back))
   put_starts list new part at h =
       let next : length (joined front) + length new.items ≡ length (joined front) + length list.items + 1 = omega arith in
@@ -132,7 +133,7 @@ module _ (front back : List (Vec ℕ)) where
       ∙ sym (moved_behind (λ start. start + 1) (length (joined front)) (starts_from (length (joined front) + length list.items) back) part at)
       ∙ ap (λ starts. raised (part + 1) starts) (sym (starts_around list))
 
-  pub taken_values : (list new : Vec ℕ) (place : ℕ) → place < length list.items → new.items ≡ remove list.items place
+  pub taken_values : (list new : Vec Placed) (place : ℕ) → place < length list.items → new.items ≡ remove list.items place
       → joined (front ++ new ∷ back) ≡ remove (joined (front ++ list ∷ back)) (length (joined front) + place)
   taken_values list new place h e =
       joined-append front (new ∷ back)
@@ -141,7 +142,7 @@ module _ (front back : List (Vec ℕ)) where
       ∙ sym (remove_behind (joined front) (list.items ++ joined back) place)
       ∙ ap (λ items. remove items (length (joined front) + place)) (sym (joined-append front (list ∷ back)))
 
-  pub taken_starts : (list new : Vec ℕ) (part : ℕ) → part ≡ length front → length new.items + 1 ≡ length list.items
+  pub taken_starts : (list new : Vec Placed) (part : ℕ) → part ≡ length front → length new.items + 1 ≡ length list.items
       → starts_of (front ++ new ∷ back) ≡ lowered (part + 1) (starts_of (front ++ list ∷ back))
   taken_starts list new part at h =
       let next : length (joined front) + length new.items + 1 ≡ length (joined front) + length list.items = omega arith in
@@ -151,7 +152,7 @@ module _ (front back : List (Vec ℕ)) where
       ∙ sym (moved_behind (λ start. start - 1) (length (joined front)) (starts_from (length (joined front) + length list.items) back) part at)
       ∙ ap (λ starts. lowered (part + 1) starts) (sym (starts_around list))
 
-  pub value_at : (list : Vec ℕ) (place value : ℕ) → place < length list.items → value ≡ get_or list.items place value
+  pub value_at : (list : Vec Placed) (place : ℕ) (value : Placed) → place < length list.items → value ≡ get_or list.items place value
       → slice_get (joined (front ++ list ∷ back)) (length (joined front) + place) ≡ Some value
   value_at list place value h e =
       let values : joined (front ++ list ∷ back) ≡ joined front ++ (list.items ++ joined back) = joined-append front (list ∷ back) in
@@ -162,13 +163,13 @@ module _ (front back : List (Vec ℕ)) where
       ∙ ap Some (get_or-append-add (joined front) (list.items ++ joined back) place value ∙ get_or-append list.items (joined back) value place h ∙ sym e)
       )
 
-  pub halved_values : (list low high : Vec ℕ) → list.items ≡ low.items ++ high.items → joined (front ++ low ∷ high ∷ back) ≡ joined (front ++ list ∷ back)
+  pub halved_values : (list low high : Vec Placed) → list.items ≡ low.items ++ high.items → joined (front ++ low ∷ high ∷ back) ≡ joined (front ++ list ∷ back)
   halved_values list low high e =
       joined-append front (low ∷ high ∷ back)
       ∙ ap (λ items. joined front ++ items) (sym (append_assoc low.items high.items (joined back)) ∙ ap (λ items. items ++ joined back) (sym e))
       ∙ sym (joined-append front (list ∷ back))
 
-  pub halved_starts : (list low high : Vec ℕ) (part half start : ℕ) → part ≡ length front → list.items ≡ low.items ++ high.items → length low.items ≡ half
+  pub halved_starts : (list low high : Vec Placed) (part half start : ℕ) → part ≡ length front → list.items ≡ low.items ++ high.items → length low.items ≡ half
       → start ≡ length (joined front) + half → starts_of (front ++ low ∷ high ∷ back) ≡ insert (starts_of (front ++ list ∷ back)) (part + 1) start
   halved_starts list low high part half start at e h from =
       let b : ℕ = length (joined front) in
@@ -183,11 +184,11 @@ module _ (front back : List (Vec ℕ)) where
       ∙ sym (insert_next (starts_of front) (starts_from (b + length list.items) back) b start (part + 1) place)
       ∙ ap (λ starts. insert starts (part + 1) start) (sym (starts_around list))
 
-  pub let_go_values : (list : Vec ℕ) → list.items ≡ [] → joined (front ++ back) ≡ joined (front ++ list ∷ back)
+  pub let_go_values : (list : Vec Placed) → list.items ≡ [] → joined (front ++ back) ≡ joined (front ++ list ∷ back)
   let_go_values list e =
       joined-append front back ∙ ap (λ items. joined front ++ (items ++ joined back)) (sym e) ∙ sym (joined-append front (list ∷ back))
 
-  pub let_go_starts : (list : Vec ℕ) (part : ℕ) → part ≡ length front → list.items ≡ [] → starts_of (front ++ back) ≡ remove (starts_of (front ++ list ∷ back)) part
+  pub let_go_starts : (list : Vec Placed) (part : ℕ) → part ≡ length front → list.items ≡ [] → starts_of (front ++ back) ≡ remove (starts_of (front ++ list ∷ back)) part
   let_go_starts list part at e =
       let none : 0 + length (joined front) ≡ length (joined front) + length list.items = omega (arith, ap length e) in
       let place : part ≡ length (starts_of front) = omega (arith, length-starts_from 0 front) in
@@ -198,17 +199,17 @@ module _ (front back : List (Vec ℕ)) where
 
 -- ---- the same at a place in the lists
 
-pub length_at : (lists : List (Vec ℕ)) (part : ℕ) (list : Vec ℕ) → part < length lists → list ≡ get_or lists part list → slice_index (lengths lists) part ≡ length list.items
-length_at lists part list within is = get_or-map (λ (l : Vec ℕ). length l.items) lists part list 0 within ∙ ap (λ (l : Vec ℕ). length l.items) (sym is)
+pub length_at : (lists : List (Vec Placed)) (part : ℕ) (list : Vec Placed) → part < length lists → list ≡ get_or lists part list → slice_index (lengths lists) part ≡ length list.items
+length_at lists part list within is = get_or-map (λ (l : Vec Placed). length l.items) lists part list 0 within ∙ ap (λ (l : Vec Placed). length l.items) (sym is)
 
-pub room_at : (lists : List (Vec ℕ)) (part : ℕ) (list : Vec ℕ) → part < length lists → list ≡ get_or lists part list → AreRoomy lists → (length list.items ≤ FULL) × (FULL ≤ vec_capacity list)
-room_at lists part list within is room = subst (λ (l : Vec ℕ). (length l.items ≤ FULL) × (FULL ≤ vec_capacity l)) (sym is) (room part list within)
+pub room_at : (lists : List (Vec Placed)) (part : ℕ) (list : Vec Placed) → part < length lists → list ≡ get_or lists part list → AreRoomy lists → (length list.items ≤ FULL) × (FULL ≤ vec_capacity list)
+room_at lists part list within is room = subst (λ (l : Vec Placed). (length l.items ≤ FULL) × (FULL ≤ vec_capacity l)) (sym is) (room part list within)
 
-length_front : (lists : List (Vec ℕ)) (part : ℕ) → part < length lists → part ≡ length (take part lists)
+length_front : (lists : List (Vec Placed)) (part : ℕ) → part < length lists → part ≡ length (take part lists)
 length_front lists part within = omega (arith, length-take part lists)
 
 -- a value is put at a place, where there is room, so that it is done
-pub put_in : (lists : List (Vec ℕ)) (part : ℕ) (list new : Vec ℕ) (place value : ℕ) (done : Bool) → part < length lists → list ≡ get_or lists part list
+pub put_in : (lists : List (Vec Placed)) (part : ℕ) (list new : Vec Placed) (place : ℕ) (value : Placed) (done : Bool) → part < length lists → list ≡ get_or lists part list
     → place ≤ slice_index (lengths lists) part → slice_index (lengths lists) part < FULL → AreRoomy lists → (vec_len list < vec_capacity list → done ≡ true)
     → new.items ≡ cond done (insert list.items place value) list.items
     → (joined (set lists part new) ≡ insert (joined lists) (rank_of lists part place) value) × (starts_of (set lists part new) ≡ raised (part + 1) (starts_of lists))
@@ -226,7 +227,7 @@ put_in lists part list new place value done within is at space room succeeds ite
       ap starts_of rows_new ∙ put_starts front back list new part (length_front lists part within) more ∙ ap (λ all. raised (part + 1) (starts_of all)) (sym rows),
     )
 
-pub taken_from : (lists : List (Vec ℕ)) (part : ℕ) (list new : Vec ℕ) (place : ℕ) → part < length lists → list ≡ get_or lists part list → place < length list.items → new.items ≡ remove list.items place
+pub taken_from : (lists : List (Vec Placed)) (part : ℕ) (list new : Vec Placed) (place : ℕ) → part < length lists → list ≡ get_or lists part list → place < length list.items → new.items ≡ remove list.items place
     → (joined (set lists part new) ≡ remove (joined lists) (rank_of lists part place)) × (starts_of (set lists part new) ≡ lowered (part + 1) (starts_of lists))
 taken_from lists part list new place within is h e =
     let front = take part lists in
@@ -238,14 +239,14 @@ taken_from lists part list new place within is h e =
       ap starts_of rows_new ∙ taken_starts front back list new part (length_front lists part within) fewer ∙ ap (λ all. lowered (part + 1) (starts_of all)) (sym rows),
     )
 
-pub value_in : (lists : List (Vec ℕ)) (part : ℕ) (list : Vec ℕ) (place value : ℕ) → part < length lists → list ≡ get_or lists part list → place < length list.items → value ≡ get_or list.items place value
+pub value_in : (lists : List (Vec Placed)) (part : ℕ) (list : Vec Placed) (place : ℕ) (value : Placed) → part < length lists → list ≡ get_or lists part list → place < length list.items → value ≡ get_or list.items place value
     → slice_get (joined lists) (rank_of lists part place) ≡ Some value
 value_in lists part list place value within is h e =
     let front = take part lists in
     let back = drop (part + 1) lists in
     ap (λ all. slice_get (joined all) (length (joined front) + place)) (split_at lists part list within is) ∙ value_at front back list place value h e
 
-pub let_go_in : (lists : List (Vec ℕ)) (part : ℕ) (list : Vec ℕ) → part < length lists → list ≡ get_or lists part list → slice_index (lengths lists) part ≡ 0
+pub let_go_in : (lists : List (Vec Placed)) (part : ℕ) (list : Vec Placed) → part < length lists → list ≡ get_or lists part list → slice_index (lengths lists) part ≡ 0
     → (joined (remove lists part) ≡ joined lists) × (starts_of (remove lists part) ≡ remove (starts_of lists) part)
 let_go_in lists part list within is h =
     let front = take part lists in
@@ -258,20 +259,20 @@ let_go_in lists part list within is h =
     )
 
 -- the rank at which a list begins, and the next one
-pub start_at : (rank : ℕ) (lists : List (Vec ℕ)) (part : ℕ) → part < length lists → slice_index (starts_from rank lists) part ≡ rank + length (joined (take part lists))
+pub start_at : (rank : ℕ) (lists : List (Vec Placed)) (part : ℕ) → part < length lists → slice_index (starts_from rank lists) part ≡ rank + length (joined (take part lists))
 start_at rank [] part h = absurd (omega arith)
 start_at rank (list ∷ lists) zero h = omega arith
 start_at rank (list ∷ lists) (suc part) h =
     omega (arith, start_at (rank + length list.items) lists part (omega arith), length-append list.items (joined (take part lists)))
 
-pub start_next : (lists : List (Vec ℕ)) (part : ℕ) → part < length lists → length (joined (take (part + 1) lists)) ≡ length (joined (take part lists)) + slice_index (lengths lists) part
+pub start_next : (lists : List (Vec Placed)) (part : ℕ) → part < length lists → length (joined (take (part + 1) lists)) ≡ length (joined (take part lists)) + slice_index (lengths lists) part
 start_next [] part h = absurd (omega arith)
 start_next (list ∷ lists) zero h = omega (arith, length-append list.items [])
 start_next (list ∷ lists) (suc part) h =
     rw (suc-add part 1) (omega (arith, start_next lists part (omega arith), length-append list.items (joined (take part lists)), length-append list.items (joined (take (part + 1) lists))))
 
 -- the ranks at which later lists begin
-pub drop-starts_from : (rank n : ℕ) (lists : List (Vec ℕ)) → drop n (starts_from rank lists) ≡ starts_from (rank + length (joined (take n lists))) (drop n lists)
+pub drop-starts_from : (rank n : ℕ) (lists : List (Vec Placed)) → drop n (starts_from rank lists) ≡ starts_from (rank + length (joined (take n lists))) (drop n lists)
 drop-starts_from rank zero lists =
     let none : rank ≡ rank + 0 = omega arith in
     ap (λ m. starts_from m lists) none
@@ -281,21 +282,21 @@ drop-starts_from rank (suc n) (list ∷ lists) =
     drop-starts_from (rank + length list.items) n lists ∙ ap (λ m. starts_from m (drop n lists)) next
 
 -- no list ends behind all values
-pub list_ends : (rank : ℕ) (lists : List (Vec ℕ)) (part : ℕ) → part < length lists → slice_index (starts_from rank lists) part + slice_index (lengths lists) part ≤ rank + length (joined lists)
+pub list_ends : (rank : ℕ) (lists : List (Vec Placed)) (part : ℕ) → part < length lists → slice_index (starts_from rank lists) part + slice_index (lengths lists) part ≤ rank + length (joined lists)
 list_ends rank [] part h = absurd (omega arith)
 list_ends rank (list ∷ lists) zero h = omega (arith, length-append list.items (joined lists))
 list_ends rank (list ∷ lists) (suc part) h = omega (arith, list_ends (rank + length list.items) lists part (omega arith), length-append list.items (joined lists))
 
 -- ---- a full list becomes two
 
-pub lengths-insert : (lists : List (Vec ℕ)) (n : ℕ) (list : Vec ℕ) → lengths (insert lists n list) ≡ insert (lengths lists) n (length list.items)
+pub lengths-insert : (lists : List (Vec Placed)) (n : ℕ) (list : Vec Placed) → lengths (insert lists n list) ≡ insert (lengths lists) n (length list.items)
 lengths-insert lists n list =
-    let f : Vec ℕ → ℕ = λ l. length l.items in
+    let f : Vec Placed → ℕ = λ l. length l.items in
     map-append f (take n lists) (list ∷ drop n lists)
     ∙ ap (λ xs. xs ++ f list ∷ map f (drop n lists)) (sym (take-map f n lists))
     ∙ ap (λ xs. take n (map f lists) ++ f list ∷ xs) (sym (drop-map f n lists))
 
-pub halved : (lists : List (Vec ℕ)) (part : ℕ) (list low high : Vec ℕ) (new : List (Vec ℕ)) (half : ℕ) (done : Bool) → part < length lists → list ≡ get_or lists part list
+pub halved : (lists : List (Vec Placed)) (part : ℕ) (list low high : Vec Placed) (new : List (Vec Placed)) (half : ℕ) (done : Bool) → part < length lists → list ≡ get_or lists part list
     → low.items ≡ take half list.items → high.items ≡ drop half list.items → length list.items ≡ half + half → done ≡ true → new ≡ cond done (insert (set lists part low) (part + 1) high) (set lists part low)
     → (joined new ≡ joined lists) × (starts_of new ≡ insert (starts_of lists) (part + 1) (slice_index (starts_of lists) part + half))
     × (lengths new ≡ insert (set (lengths lists) part half) (part + 1) half)
@@ -317,19 +318,19 @@ halved lists part list low high new half done within is lower upper long succeed
           ∙ ap (λ all. insert (starts_of all) (part + 1) (slice_index (starts_of lists) part + half)) (sym rows),
       ap lengths made ∙ lengths-insert (set lists part low) (part + 1) high
           ∙ ap (λ n. insert (lengths (set lists part low)) (part + 1) n) k
-          ∙ ap (λ xs. insert xs (part + 1) half) (map-set (λ (l : Vec ℕ). length l.items) lists part low ∙ ap (λ n. set (lengths lists) part n) h),
+          ∙ ap (λ xs. insert xs (part + 1) half) (map-set (λ (l : Vec Placed). length l.items) lists part low ∙ ap (λ n. set (lengths lists) part n) h),
     )
 
-pub AreRoomy-insert : (lists : List (Vec ℕ)) (n : ℕ) (list : Vec ℕ) → AreRoomy lists → (length list.items ≤ FULL) × (FULL ≤ vec_capacity list) → AreRoomy (insert lists n list)
+pub AreRoomy-insert : (lists : List (Vec Placed)) (n : ℕ) (list : Vec Placed) → AreRoomy lists → (length list.items ≤ FULL) × (FULL ≤ vec_capacity list) → AreRoomy (insert lists n list)
 AreRoomy-insert lists n list all h =
-    let P : Vec ℕ → Type 0 = λ l. (length l.items ≤ FULL) × (FULL ≤ vec_capacity l) in
+    let P : Vec Placed → Type 0 = λ l. (length l.items ≤ FULL) × (FULL ≤ vec_capacity l) in
     All-append P (take n lists) (list ∷ drop n lists) (All-take P n lists all) (All-cons P list (drop n lists) h (All-drop P n lists all))
 
 -- a list is cut at a half, and the second one put behind it
-pub AreRoomy-halved : (lists : List (Vec ℕ)) (part : ℕ) (low high : Vec ℕ) (new : List (Vec ℕ)) (done : Bool) → done ≡ true
+pub AreRoomy-halved : (lists : List (Vec Placed)) (part : ℕ) (low high : Vec Placed) (new : List (Vec Placed)) (done : Bool) → done ≡ true
     → new ≡ cond done (insert (set lists part low) (part + 1) high) (set lists part low) → AreRoomy lists
     → (length low.items ≤ FULL) × (FULL ≤ vec_capacity low) → (length high.items ≤ FULL) × (FULL ≤ vec_capacity high) → AreRoomy new
 AreRoomy-halved lists part low high new done succeeds items all lower upper =
     let made : new ≡ insert (set lists part low) (part + 1) high = done_is done (insert (set lists part low) (part + 1) high) (set lists part low) new succeeds items in
-    let P : Vec ℕ → Type 0 = λ l. (length l.items ≤ FULL) × (FULL ≤ vec_capacity l) in
+    let P : Vec Placed → Type 0 = λ l. (length l.items ≤ FULL) × (FULL ≤ vec_capacity l) in
     subst AreRoomy (sym made) (AreRoomy-insert (set lists part low) (part + 1) high (All-set P lists part low lower all) upper)

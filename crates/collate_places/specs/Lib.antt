@@ -1,3 +1,5 @@
 pub mod Starts
 pub mod Lists
+pub mod Fronts
 pub mod Parts
+pub mod Windows

@@ -3,6 +3,7 @@ use Rattle.std.specs.Prelude.{◌≡◌, ℕ, ◌+◌, ◌^◌, ◌<◌, ◌≤�
 use Rattle.std.specs.Global.{Vec}
 use Rattle.collate_places.specs.Lists.{joined, lengths, rank_of, starts_of, AreRoomy}
 use Rattle.collate_places.specs.declared.lists.TheConstants.{FULL}
+use Rattle.collate_places.specs.declared.windows.Placed.{Placed}
 use Rattle.collate_places.specs.declared.parts.Parts.{Parts}
 
 -- the ranks and the count are those of the lists, each list has its memory, and the spare one is empty
@@ -27,12 +28,12 @@ pub record IsSame (old new : Parts) : Type 0 where
   pub count : new.count ≡ old.count
 
 -- a rank is that of a place in a list, which is one of its values or behind the last
-pub record IsPlaceOf (lists : List (Vec ℕ)) (rank part place : ℕ) : Type 0 where
+pub record IsPlaceOf (lists : List (Vec Placed)) (rank part place : ℕ) : Type 0 where
   pub within : part < length lists
   pub upto : place ≤ slice_index (lengths lists) part
   pub ranked : rank_of lists part place ≡ rank
 
 -- and that list isn't full
-pub record IsFreeFor (lists : List (Vec ℕ)) (rank part place : ℕ) : Type 0 where
+pub record IsFreeFor (lists : List (Vec Placed)) (rank part place : ℕ) : Type 0 where
   pub at : IsPlaceOf lists rank part place
   pub space : slice_index (lengths lists) part < FULL

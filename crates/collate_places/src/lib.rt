@@ -2,29 +2,34 @@
 //! behind it.
 #![tactic(auto)]
 
-ghost use Rattle.std.specs.Prelude.{◌≡◌, ◌<◌, ◌≤◌, ◌↔◌, [], All, length, Some, OnOk, OnErr, IsTrue, slice_get, insert, remove};
+ghost use Rattle.std.specs.Prelude.{◌≡◌, ◌+◌, ◌<◌, ◌≤◌, ◌↔◌, [], All, length, Some, OnOk, OnErr, IsTrue, slice_get, insert, remove};
 ghost use Rattle.collate_places.specs.Lists.{renumbered};
+ghost use Rattle.collate_places.specs.Windows.{shows};
 
+pub mod fronts;
 mod lists;
 mod parts;
 mod starts;
+pub mod windows;
 
 use crate::parts::Parts;
+use crate::windows::{Placed, Window};
 use std::alloc::{AllocError, Global};
 use std::marker::Model;
 
-/// A list of places, each at its rank: the number of places before it. A contract sees the list.
+/// A list of places with their fronts, each at its rank: the number of places before it. A contract sees the list.
 #[derive(Drop)]
 pub struct PlaceList {
     parts: Parts,
 }
 
 impl Model for PlaceList {
-    ghost use Rattle.std.specs.Prelude.{List, ℕ};
+    ghost use Rattle.std.specs.Prelude.{List};
+    ghost use Rattle.collate_places.specs.declared.windows.Placed.{Placed};
     ghost use Rattle.collate_places.specs.Lists.{joined};
     ghost use Rattle.collate_places.specs.Parts.{IsSound};
 
-    ghost Value = { List ℕ };
+    ghost Value = { List Placed };
 
     ghost view = { λ inside. joined inside.parts.lists.items };
 
@@ -56,13 +61,30 @@ impl PlaceList {
     }
 
     /// The place at a rank, if there are so many.
-    pub fn at(&self, rank: usize) -> Option<usize>
+    pub fn at(&self, rank: usize) -> Option<Placed>
         ensures { result ≡ slice_get self.now rank }
     {
         if rank < self.parts.count {
             Some(self.parts.at(rank))
         } else {
             None
+        }
+    }
+
+    /// The part of the list in which a rank is; past the last rank an empty one. Parts are looked through between the
+    /// first and the last first, if the rank is there.
+    pub fn around(&self, rank: usize, first: usize, last: usize) -> Window<'_>
+        ensures shown { shows self.now result.start result.places.now }
+        ensures from { rank < length self.now → result.start ≤ rank }
+        ensures before { rank < length self.now → rank < result.start + length result.places.now }
+    {
+        if rank < self.parts.count {
+            return self.parts.around(rank, first, last);
+        }
+        Window {
+            part: 0,
+            start: rank,
+            places: self.parts.spare.as_slice(),
         }
     }
 
@@ -76,7 +98,7 @@ impl PlaceList {
 
     /// Puts a place at a rank, before all that stood there and behind. An error if memory is refused, or if the places
     /// are as many as a `usize` counts; the list is then as before.
-    pub fn insert(&mut self, rank: usize, value: usize) -> Result<(), AllocError>
+    pub fn insert(&mut self, rank: usize, value: Placed) -> Result<(), AllocError>
         requires { rank ≤ length self.old }
         ensures inserted { OnOk result (self.new ≡ insert self.old rank value) }
         ensures unchanged { OnErr result (self.new ≡ self.old) }
@@ -87,7 +109,7 @@ impl PlaceList {
     }
 
     /// Takes the place at a rank out, and answers it. It asks for no memory, and gives some back when a part is empty.
-    pub fn remove(&mut self, rank: usize) -> usize
+    pub fn remove(&mut self, rank: usize) -> Placed
         requires { rank < length self.old }
         ensures value { slice_get self.old rank ≡ Some result }
         ensures removed { self.new ≡ remove self.old rank }
@@ -95,9 +117,9 @@ impl PlaceList {
         self.parts.remove(rank)
     }
 
-    /// Puts in place of each value the number that stands at it. It asks for no memory.
+    /// Puts in place of each place the number that stands at it; the fronts stay. It asks for no memory.
     pub fn renumber(&mut self, numbers: &[usize])
-        requires { All (λ value. value < length numbers.now) self.old }
+        requires { All (λ value. value.place < length numbers.now) self.old }
         ensures { self.new ≡ renumbered numbers.now self.old }
     {
         self.parts.renumber(numbers);

@@ -3,6 +3,8 @@
 ghost use Rattle.std.specs.Prelude.{◌≡◌, ◌+◌, ◌-◌, ◌<◌, ◌≤◌, [], All, drop, length, take, Some, insert, remove, slice_get, slice_index, slice_set, vec_capacity};
 ghost use Rattle.collate_places.specs.Lists.{joined, lengths, rank_of, starts_of, raised, lowered, renumbered, AreRoomy};
 
+use crate::windows::Placed;
+
 /// How many values a list holds at most. Each has memory for so many.
 pub(crate) const FULL: usize = 512;
 
@@ -10,7 +12,7 @@ pub(crate) const FULL: usize = 512;
 pub(crate) const HALF: usize = 256;
 
 /// Puts a value at a place of a list.
-pub(crate) fn put(lists: &mut Vec<Vec<usize>>, part: usize, place: usize, value: usize)
+pub(crate) fn put(lists: &mut Vec<Vec<Placed>>, part: usize, place: usize, value: Placed)
     requires room { AreRoomy lists.old.items }
     requires part { part < length lists.old.items }
     requires place { place ≤ slice_index (lengths lists.old.items) part }
@@ -24,7 +26,7 @@ pub(crate) fn put(lists: &mut Vec<Vec<usize>>, part: usize, place: usize, value:
 }
 
 /// Takes the value at a place of a list out, and answers it.
-pub(crate) fn take_out(lists: &mut Vec<Vec<usize>>, part: usize, place: usize) -> usize
+pub(crate) fn take_out(lists: &mut Vec<Vec<Placed>>, part: usize, place: usize) -> Placed
     requires room { AreRoomy lists.old.items }
     requires part { part < length lists.old.items }
     requires place { place < slice_index (lengths lists.old.items) part }
@@ -39,7 +41,7 @@ pub(crate) fn take_out(lists: &mut Vec<Vec<usize>>, part: usize, place: usize) -
 }
 
 /// Moves the second half of a full list into an empty one, which has memory for a full one.
-fn cut(list: &mut Vec<usize>, empty: Vec<usize>) -> Vec<usize>
+fn cut(list: &mut Vec<Placed>, empty: Vec<Placed>) -> Vec<Placed>
     requires full { length list.old.items ≡ FULL }
     requires empty { empty.items ≡ [] }
     requires memory { FULL ≤ vec_capacity empty }
@@ -55,7 +57,7 @@ fn cut(list: &mut Vec<usize>, empty: Vec<usize>) -> Vec<usize>
 }
 
 /// Moves the second half of a full list into a list of its own behind it. An empty one is given for it, and there is room.
-pub(crate) fn halve(lists: &mut Vec<Vec<usize>>, part: usize, empty: Vec<usize>)
+pub(crate) fn halve(lists: &mut Vec<Vec<Placed>>, part: usize, empty: Vec<Placed>)
     requires room { AreRoomy lists.old.items }
     requires part { part < length lists.old.items }
     requires full { slice_index (lengths lists.old.items) part ≡ FULL }
@@ -72,7 +74,7 @@ pub(crate) fn halve(lists: &mut Vec<Vec<usize>>, part: usize, empty: Vec<usize>)
 }
 
 /// Lets go of a list with no values.
-pub(crate) fn let_go(lists: &mut Vec<Vec<usize>>, part: usize)
+pub(crate) fn let_go(lists: &mut Vec<Vec<Placed>>, part: usize)
     requires room { AreRoomy lists.old.items }
     requires part { part < length lists.old.items }
     requires empty { slice_index (lengths lists.old.items) part ≡ 0 }
@@ -84,20 +86,20 @@ pub(crate) fn let_go(lists: &mut Vec<Vec<usize>>, part: usize)
 }
 
 /// Puts in place of each value of a list the number that stands at it.
-fn renumber_list(list: &mut Vec<usize>, numbers: &[usize])
-    requires { All (λ value. value < length numbers.now) list.old.items }
+fn renumber_list(list: &mut Vec<Placed>, numbers: &[usize])
+    requires { All (λ value. value.place < length numbers.now) list.old.items }
     ensures values { list.new.items ≡ renumbered numbers.now list.old.items }
     ensures memory { vec_capacity list.new ≡ vec_capacity list.old }
 {
     for value in list.iter_mut() {
-        *value = numbers[*value];
+        value.place = numbers[value.place];
     }
 }
 
 /// Puts in place of each value the number that stands at it.
-pub(crate) fn renumber(lists: &mut Vec<Vec<usize>>, numbers: &[usize])
+pub(crate) fn renumber(lists: &mut Vec<Vec<Placed>>, numbers: &[usize])
     requires room { AreRoomy lists.old.items }
-    requires numbers { All (λ value. value < length numbers.now) (joined lists.old.items) }
+    requires numbers { All (λ value. value.place < length numbers.now) (joined lists.old.items) }
     ensures values { joined lists.new.items ≡ renumbered numbers.now (joined lists.old.items) }
     ensures starts { starts_of lists.new.items ≡ starts_of lists.old.items }
     ensures room { AreRoomy lists.new.items }

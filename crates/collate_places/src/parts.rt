@@ -3,20 +3,22 @@
 ghost use Rattle.std.specs.Prelude.{◌≡◌, ℕ, ◌+◌, ◌-◌, ◌<◌, ◌≤◌, [], All, length, Some, OnOk, insert, remove, slice_get, slice_index};
 ghost use Rattle.collate_places.specs.Lists.{joined, lengths, renumbered};
 ghost use Rattle.collate_places.specs.Parts.{IsSound, HasRoom, IsSame, IsPlaceOf, IsFreeFor};
+ghost use Rattle.collate_places.specs.Windows.{shows};
 
 use crate::lists::{FULL, HALF, halve, let_go, put, renumber, take_out};
 use crate::starts::{list_around, lower, raise};
+use crate::windows::{Placed, Window};
 use std::alloc::{AllocError, Global};
 use std::mem;
 
 /// Lists in a row.
 #[derive(Drop)]
 pub(crate) struct Parts {
-    pub(crate) lists: Vec<Vec<usize>>,
+    pub(crate) lists: Vec<Vec<Placed>>,
     /// The rank at which each list begins.
     pub(crate) starts: Vec<usize>,
     /// The next list, with nothing in it.
-    pub(crate) spare: Vec<usize>,
+    pub(crate) spare: Vec<Placed>,
     /// How many values there are.
     pub(crate) count: usize,
 }
@@ -57,12 +59,12 @@ impl Parts {
         ensures place { IsPlaceOf self.now.lists.items rank result.0 result.1 }
         ensures inside { rank < self.now.count → result.1 < slice_index (lengths self.now.lists.items) result.0 }
     {
-        let part = list_around(self.starts.as_slice(), rank);
+        let part = list_around(self.starts.as_slice(), rank, 0, usize::MAX);
         (part, rank - self.starts[part])
     }
 
     /// The value at a rank.
-    pub(crate) fn at(&self, rank: usize) -> usize
+    pub(crate) fn at(&self, rank: usize) -> Placed
         requires sound { IsSound self.now }
         requires rank { rank < self.now.count }
         ensures { slice_get (joined self.now.lists.items) rank ≡ Some result }
@@ -70,6 +72,25 @@ impl Parts {
         let (part, place) = self.find(rank);
         let list = &self.lists[part];
         list[place]
+    }
+
+    /// The list of a rank, which is looked for between two lists first.
+    pub(crate) fn around(&self, rank: usize, first: usize, last: usize) -> Window<'_>
+        requires sound { IsSound self.now }
+        requires rank { rank < self.now.count }
+        ensures shown { shows (joined self.now.lists.items) result.start result.places.now }
+        ensures from { result.start ≤ rank }
+        ensures before { rank < result.start + length result.places.now }
+    {
+        let part = list_around(self.starts.as_slice(), rank, first, last);
+        let start = self.starts[part];
+        let list = &self.lists[part];
+        let places = list.as_slice();
+        Window {
+            part,
+            start,
+            places,
+        }
     }
 
     /// Takes the spare list for the first.
@@ -132,7 +153,7 @@ impl Parts {
     }
 
     /// Puts a value at a rank. There is room.
-    pub(crate) fn insert(&mut self, rank: usize, value: usize)
+    pub(crate) fn insert(&mut self, rank: usize, value: Placed)
         requires sound { IsSound self.old }
         requires room { HasRoom self.old }
         requires rank { rank ≤ self.old.count }
@@ -146,7 +167,7 @@ impl Parts {
     }
 
     /// Takes the value at a rank out, and answers it.
-    pub(crate) fn remove(&mut self, rank: usize) -> usize
+    pub(crate) fn remove(&mut self, rank: usize) -> Placed
         requires sound { IsSound self.old }
         requires rank { rank < self.old.count }
         ensures sound { IsSound self.new }
@@ -167,7 +188,7 @@ impl Parts {
     /// Puts in place of each value the number that stands at it.
     pub(crate) fn renumber(&mut self, numbers: &[usize])
         requires sound { IsSound self.old }
-        requires numbers { All (λ value. value < length numbers.now) (joined self.old.lists.items) }
+        requires numbers { All (λ value. value.place < length numbers.now) (joined self.old.lists.items) }
         ensures sound { IsSound self.new }
         ensures values { joined self.new.lists.items ≡ renumbered numbers.now (joined self.old.lists.items) }
     {

@@ -9,9 +9,9 @@ use Rattle.collate_name_list.proofs.PlacesLemmas.{all_full, parted_slots, key_to
 use Rattle.collate_name_list.proofs.slots.place_of_key.Goals as goal
 
 pub place_of-requires-clause-full : goal.place_of-requires-clause-full
-place_of-requires-clause-full c = subst (All (IsFull c.args.slots.now)) (sym c.requires) (all_full key_order c.args.slots.now)
+place_of-requires-clause-full c = subst (All (IsFull c.args.slots.now)) (sym c.requires.order) (all_full key_order c.args.slots.now)
 
 pub place_of-requires-clause-parted : goal.place_of-requires-clause-parted
 place_of-requires-clause-parted c =
-    subst (λ ms. IsPartitionedBy (λ m. stands_before c.args.past_equal (slice_cmp nat_cmp (entry_at c.args.slots.now m).key c.args.key.now)) ms) (sym c.requires)
+    subst (λ ms. IsPartitionedBy (λ m. stands_before c.args.past_equal (slice_cmp nat_cmp (entry_at c.args.slots.now m).key c.args.key.now)) ms) (sym c.requires.order)
     (parted_slots key_order c.args.slots.now key_total c.args.past_equal (record { key = c.args.key.now; name = [] }))

@@ -1,10 +1,13 @@
-use Rattle.std.proofs.Common.{◌≡◌, ◌∙◌, ◌<◌, ◌^◌, ◌++◌, ◌∷◌, [], ℕ, List, ap, sym, subst, refl, true, false, true≢false, Option, Some, length, nat_cmp}
+use Rattle.std.proofs.Common.{◌≡◌, ◌∙◌, ◌<◌, ◌^◌, ◌++◌, ◌∷◌, [], ℕ, List, ap, sym, subst, refl, true, false, true≢false, Option, Some, length, nat_cmp, arith, ◌≤◌}
 use Rattle.std.specs.List.{Contains, insert, remove}
 use Rattle.std.specs.Cmp.Lexicographic.{slice_cmp}
 use Rattle.collate_names.specs.Search.{IsPlaceOf}
+use Rattle.collate_places.specs.Fronts.{IsFrontOf}
+use Rattle.collate_places.specs.declared.windows.Placed.{Placed}
 use Rattle.collate_name_list.specs.StoredNames.{StoredName, names_of}
-use Rattle.collate_name_list.specs.Slots.{entry_at, entry_of, entries, names_inside}
+use Rattle.collate_name_list.specs.Slots.{entry_at, entry_of, entries, names_inside, places_of}
 use Rattle.collate_name_list.specs.declared.slots.Stored.{Stored}
+use Rattle.collate_name_list.proofs.FrontedLemmas.{length_places}
 use Rattle.collate_name_list.proofs.EntryLemmas.{entries_push}
 use Rattle.collate_name_list.proofs.KeptLemmas.{kept_push, kept_same, remove_insert, told_kept, length_kept}
 use Rattle.collate_name_list.proofs.name_list.NameList.append.Goals as goal
@@ -45,27 +48,29 @@ invariant_of-self-in-Ok c =
     let new : Stored = record { bytes = c.in_ok-bytes.bytes; key = c.args.key } in
     let bytes : c.in_ok-bytes.bytes.items ≡ c.args.name.now = c.in_ok-bytes.ensures.items in
     let grown : c.push.new.self.items ≡ slots ++ Some new ∷ [] = rw c.unwrap.ensures at c.push.ensures.items ∙ ap (λ xs. xs ++ Some new ∷ []) c.in_ok-reserve.ensures.items in
-    let newest : c.len-slot.result ≡ length slots = c.len-slot.ensures ∙ c.in_ok-reserve.ensures.len ∙ c.self.inside.slots.ok.0 in
+    let newest : c.len-place.result ≡ length slots = c.len-place.ensures ∙ c.in_ok-reserve.ensures.len ∙ c.self.inside.slots.ok.0 in
     let absent : Contains (names_of (entries slots)) c.args.name.now → ⊥ = λ h. true≢false
     (sym ((told_kept c.self.inside c.self.invariant (names_inside c.self.inside) refl c.as_slice-slots.result.now c.as_slice-slots.ensures.value
     c.place_of_name-named.result c.args.name.now c.slot_of_name.result c.slot_of_name.ensures.slot c.slot_of_name.ensures.name c.slot_of_name.ensures.absent).1 h)
     ∙ sym c.is_some.ensures ∙ c.if-is_some.false) in
-    kept_push slots c.self.inside.by_key c.self.inside.by_name new c.place_of_key-keyed.result c.place_of_name-named.result
-    (record { alloc = c.self.inside.alloc; slots = c.push.new.self; by_key = c.insert.new.self; by_name = c.insert-2.new.self })
-    c.self.invariant.by_key c.self.invariant.by_name c.self.invariant.distinct grown
-    (c.in_ok-insert.ensures.inserted ∙ ap (λ m. insert c.self.inside.by_key c.place_of_key-keyed.result m) newest)
-    (c.in-Ok.ensures.inserted ∙ ap (λ ms. insert ms c.place_of_name-named.result c.len-slot.result) c.reserve-2.ensures ∙ ap (λ m. insert c.self.inside.by_name c.place_of_name-named.result m) newest)
+    let place : ℕ = c.len-place.result in
+    let keyed : Placed = record { front = c.front-front.result; place = place } in
+    let named : Placed = record { front = c.front_of-front.result; place = place } in
+    kept_push c.self.inside (record { alloc = c.self.inside.alloc; slots = c.push.new.self; by_key = c.insert.new.self; by_name = c.insert-2.new.self })
+    new c.place_of_key-keyed.result c.place_of_name-named.result keyed named c.self.invariant grown
+    c.in_ok-insert.ensures.inserted (c.in-Ok.ensures.inserted ∙ ap (λ ms. insert ms c.place_of_name-named.result named) c.reserve-2.ensures)
+    newest newest c.front-front.ensures (subst (λ b. IsFrontOf c.front_of-front.result b) (sym bytes) c.front_of-front.ensures)
     c.place_of_key-keyed.ensures.bound c.place_of_name-named.ensures.bound
     (subst (λ b. Contains (names_of (entries slots)) b → ⊥) (sym bytes) absent)
-    (subst (λ (ss : List (Option Stored)). IsPlaceOf (λ m. slice_cmp nat_cmp (entry_at ss m).key c.args.key) true c.self.inside.by_key c.place_of_key-keyed.result) c.as_slice-slots.ensures.value c.place_of_key-keyed.ensures.place)
-    (subst (λ b. IsPlaceOf (λ m. slice_cmp nat_cmp (entry_at slots m).name b) false c.self.inside.by_name c.place_of_name-named.result) (sym bytes)
-    (subst (λ (ss : List (Option Stored)). IsPlaceOf (λ m. slice_cmp nat_cmp (entry_at ss m).name c.args.name.now) false c.self.inside.by_name c.place_of_name-named.result) c.as_slice-slots.ensures.value c.place_of_name-named.ensures.place))
+    (subst (λ (ss : List (Option Stored)). IsPlaceOf (λ m. slice_cmp nat_cmp (entry_at ss m).key c.args.key) true (places_of c.self.inside.by_key) c.place_of_key-keyed.result) c.as_slice-slots.ensures.value c.place_of_key-keyed.ensures.place)
+    (subst (λ b. IsPlaceOf (λ m. slice_cmp nat_cmp (entry_at slots m).name b) false (places_of c.self.inside.by_name) c.place_of_name-named.result) (sym bytes)
+    (subst (λ (ss : List (Option Stored)). IsPlaceOf (λ m. slice_cmp nat_cmp (entry_at ss m).name c.args.name.now) false (places_of c.self.inside.by_name) c.place_of_name-named.result) c.as_slice-slots.ensures.value c.place_of_name-named.ensures.place))
 
 pub invariant_of-self-in-Err-1 : goal.invariant_of-self-in-Err-1
 invariant_of-self-in-Err-1 c =
     kept_same c.self.inside (record { alloc = c.self.inside.alloc; slots = c.reserve.new.self; by_key = c.remove.new.self; by_name = c.insert-2.new.self }) c.self.invariant
     c.in_ok-reserve.ensures.items
-    (c.remove.ensures.removed ∙ ap (λ ms. remove ms c.place_of_key-keyed.result) c.in_ok-insert.ensures.inserted ∙ remove_insert c.self.inside.by_key c.place_of_key-keyed.result c.len-slot.result c.place_of_key-keyed.ensures.bound)
+    (c.remove.ensures.removed ∙ ap (λ ms. remove ms c.place_of_key-keyed.result) c.in_ok-insert.ensures.inserted ∙ remove_insert c.self.inside.by_key c.place_of_key-keyed.result (record { front = c.front-front.result; place = c.len-place.result }) (omega (arith, c.place_of_key-keyed.ensures.bound, length_places c.self.inside.by_key)))
     (c.in-Err.ensures.unchanged ∙ c.reserve-2.ensures)
 
 pub returns-in-Ok-clause-added : goal.returns-in-Ok-clause-added

@@ -1,4 +1,5 @@
-use Rattle.std.proofs.Common.{◌∙◌, ap, get_or, map}
+use Rattle.std.proofs.Common.{◌∙◌, ap}
+use Rattle.collate_places.specs.Lists.{renumbered}
 use Rattle.collate_name_list.specs.StoredNames.{key_order}
 use Rattle.collate_name_list.specs.Slots.{bytes_order, entries}
 use Rattle.collate_name_list.specs.Room.{numbers_from}
@@ -19,8 +20,8 @@ pub invariant_of-self : goal.invariant_of-self
 invariant_of-self c =
     kept_dense c.self.inside (record { alloc = c.self.inside.alloc; slots = c.drop_empty.new.slots; by_key = c.renumber.new.self; by_name = c.renumber-2.new.self }) c.in-Ok.numbers.items
     c.self.invariant (c.in-Ok.ensures ∙ ap (numbers_from 0) c.as_slice.ensures.value) c.drop_empty.ensures
-    (c.renumber.ensures ∙ ap (λ ns. map (λ m. get_or ns m 0) c.self.inside.by_key) c.as_slice-2.ensures.value)
-    (c.renumber-2.ensures ∙ ap (λ ns. map (λ m. get_or ns m 0) c.self.inside.by_name) c.as_slice-3.ensures.value)
+    (c.renumber.ensures ∙ ap (λ ns. renumbered ns c.self.inside.by_key) c.as_slice-2.ensures.value)
+    (c.renumber-2.ensures ∙ ap (λ ns. renumbered ns c.self.inside.by_name) c.as_slice-3.ensures.value)
 
 pub returns-in-Ok : goal.returns-in-Ok
 returns-in-Ok c = ap entries c.drop_empty.ensures ∙ entries_dense c.self.inside.slots.items ∙ c.self.view_is
