@@ -1,0 +1,4 @@
+pub mod FileLemmas
+pub mod FormLemmas
+pub mod LineOrderLemmas
+pub mod SplitLemmas
