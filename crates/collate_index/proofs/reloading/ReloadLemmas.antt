@@ -79,8 +79,15 @@ module _ (old : Catalogue) (new : List Record) where
     -- fewer keys were made than there are names
     pub still_fewer : made < length old.arrivals
     still_fewer =
-        omega (arith, so_far.few, ap length so_far.arrivals, ap length some, length-append (names_of names) (names_of left),
-        length-map names (λ (s : StoredName). s.name), length-map left (λ (s : StoredName). s.name))
+        omega (
+          arith,
+          so_far.few,
+          ap length so_far.arrivals,
+          ap length some,
+          length-append (names_of names) (names_of left),
+          length-map names (λ (s : StoredName). s.name),
+          length-map left (λ (s : StoredName). s.name),
+        )
 
     -- the next name is a new one
     pub is_new : AreDistinct old.arrivals → Contains (names_of names) stored.name → ⊥

@@ -33,7 +33,7 @@ none_of r left later is gives = (subst (λ (o : Option (Bor (List ℕ) × Bor (L
 
 pub loop-name-init : goal.loop-name-init
 loop-name-init c =
-    let left : c.into_iter-name-iterator.result ≡ c.self.inside.names = c.into_iter-name-iterator.ensures.into_iter_gives ∙ c.arrived.ensures in
+    let left : c.into_iter-name-iterator.result ≡ c.self.inside.names = c.into_iter-name-iterator.ensures.into_iter_gives ∙ c.arrived-name-items.ensures in
     record {
       so_far =
           none_yet c.args.self.now c.args.records.now c.new-names.result c.into_iter-name-iterator.result c.args.made.now c.new-names.ensures c.requires.none
@@ -47,10 +47,14 @@ loop-name-init c =
 
 pub renewed-requires : goal.renewed-requires
 renewed-requires c =
-    omega (arith,
-    still_fewer c.args.self.now c.args.records.now c.loop-name.names c.loop-name.name-iterator c.next.new.self
-    (record { key = c.in-Some.key.now; name = c.in-Some.name.now }) c.loop-name.made c.loop-name.invariant.so_far (first_of c.next.result (c.in-Some.name, c.in-Some.key) c.loop-name.name-iterator c.next.new.self c.in-Some.is c.next.ensures.steps),
-    c.len-_most.ensures, ap (λ (s : Catalogue). length s.arrivals) c.self.view_is, length-map c.self.inside.names (λ (s : StoredName). s.name))
+    omega (
+      arith,
+      still_fewer c.args.self.now c.args.records.now c.loop-name.names c.loop-name.name-iterator c.next.new.self
+          (record { key = c.in-Some.key.now; name = c.in-Some.name.now }) c.loop-name.made c.loop-name.invariant.so_far (first_of c.next.result (c.in-Some.name, c.in-Some.key) c.loop-name.name-iterator c.next.new.self c.in-Some.is c.next.ensures.steps),
+      c.len-most.ensures,
+      ap (λ (s : Catalogue). length s.arrivals) c.self.view_is,
+      length-map c.self.inside.names (λ (s : StoredName). s.name),
+    )
 
 pub put-requires : goal.put-requires
 put-requires c =

@@ -4,6 +4,6 @@ use Rattle.collate_index.proofs.index.Index.names_by.Given as goal
 
 abbrev pub invariant-loop-name : goal.invariant-loop-name
 invariant-loop-name l = record {
-  so_far : AreSoFar l.self l.records l.names l.name-iterator l.made;
-  changes : l.changes ≡ record { before = l.self.records; after = l.records };
+  so_far : AreSoFar l.fn.self l.fn.records l.names l.name-iterator l.made;
+  changes : l.changes ≡ record { before = l.fn.self.records; after = l.fn.records };
 }
