@@ -54,7 +54,11 @@ const TERTIARY: CollatorOptions = CollatorOptions {
 };
 
 /// An index over the letters with these names.
-pub(crate) fn index_of(alloc: Global, options: &CollatorOptions, names: &[&[u8]]) -> Result<Index, Fail> {
+pub(crate) fn index_of(
+    alloc: Global,
+    options: &CollatorOptions,
+    names: &[&[u8]],
+) -> Result<Index, Fail> {
     let records = Records::read(alloc, LETTERS)?;
     let mut index = Index::new(alloc, records, &PREFERENCES, options)?;
     for name in names {

@@ -119,7 +119,11 @@ fn a_reload_takes_the_lines_behind_it(rt: HostRuntime) -> Result<(), Fail> {
         (b"reload 1", b"", Err(RunFault::CutReload)),
         (b"reload 2\nw 61 ;", b"", Err(RunFault::CutReload)),
         (b"list\nreload 1\n", b"names 0\n", Err(RunFault::CutReload)),
-        (b"reload 2\nlist\nlist\nlist\n", b"refused 1 grammar\nnames 0\n", Ok(())),
+        (
+            b"reload 2\nlist\nlist\nlist\n",
+            b"refused 1 grammar\nnames 0\n",
+            Ok(()),
+        ),
     ];
     for (commands, replies, end) in rows {
         let (text, result) = ran(alloc, LETTERS, &[commands])?;

@@ -16,7 +16,8 @@ use std::test::Fail;
 
 const TEXT: &[u8] = b"add b\nadd b\nlist\nfind b\n\nreload 1\nremove b\nadd\nfind";
 
-const REPLIES: &[u8] = b"added\nduplicate\nnames 1\nb\nnames 1\nb\nbad\nrefused 1 grammar\nbad\nbad\n";
+const REPLIES: &[u8] =
+    b"added\nduplicate\nnames 1\nb\nnames 1\nb\nbad\nrefused 1 grammar\nbad\nbad\n";
 
 const OPTIONS: CollatorOptions = CollatorOptions {
     strength: Some(Strength::Primary),

@@ -130,9 +130,9 @@ module _ (request : Request) (many : ℕ) (middle left : Option (List ℕ)) (bef
     pub request-fault : many < behind request.line.items → (fault : RunFault) (bytes : List ℕ) → CutsLine fault count bytes → CutsRequest fault left (input_limit - before) (front ++ bytes)
     request-fault fewer fault bytes cut =
         let lines : lines_read (Err fault) (input_limit - before) (front ++ bytes) ≡ request.line.items ∷ so_far.records =
-            lines_read-then (request.line.items ∷ so_far.records) front whole (input_limit - before) (input_limit - count) at (Err fault) bytes
-            ∙ ap (λ (ls : List (List ℕ)). (request.line.items ∷ so_far.records) ++ ls) (cut-none count bytes so_far.within fault cut)
-            ∙ append-nil (request.line.items ∷ so_far.records) in
+        lines_read-then (request.line.items ∷ so_far.records) front whole (input_limit - before) (input_limit - count) at (Err fault) bytes
+        ∙ ap (λ (ls : List (List ℕ)). (request.line.items ∷ so_far.records) ++ ls) (cut-none count bytes so_far.within fault cut)
+        ∙ append-nil (request.line.items ∷ so_far.records) in
         record {
           unanswered = cut-unanswered count bytes so_far.within fault left (lines_read (Err fault) (input_limit - before) (front ++ bytes)) cut
               (inr (subst IsCutReload (sym lines) (omega (arith, so_far.all_there, fewer))));

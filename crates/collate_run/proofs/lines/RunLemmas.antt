@@ -66,8 +66,11 @@ module _ (start now : Catalogue) (r0 r1 r2 w0 w1 w2 : Option (List ℕ)) (count 
     consumes = Consumes-then r0 r1 r2 p.taken bytes p.consumes consumed;
     appends = p.appends;
     does = (
-      (now, subst (λ (ls : List (List ℕ)). Replied start ls p.out now)
-          (sym (ap (λ (xs : List ℕ). lines_of (p.taken ++ xs)) none ∙ ap lines_of (append-nil p.taken) ∙ lines_of-front p.lines p.taken p.whole)) p.replied),
+      (
+        now,
+        subst (λ (ls : List (List ℕ)). Replied start ls p.out now)
+            (sym (ap (λ (xs : List ℕ). lines_of (p.taken ++ xs)) none ∙ ap lines_of (append-nil p.taken) ∙ lines_of-front p.lines p.taken p.whole)) p.replied,
+      ),
       end,
     );
     line_limit_kept = line_limit-then p.lines p.taken p.whole input_limit (input_limit - count) at p.short (Ok tt) bytes
@@ -97,10 +100,12 @@ module _ (start now : Catalogue) (r0 r1 r2 w0 w1 w2 : Option (List ℕ)) (count 
     within_bytes = subst (λ (ls : List (List ℕ)). All IsWithin ls) (sym spells.lines_are) spells.short
 
     replied_all : (out : List ℕ) → out ≡ p.out ++ text → AreReplies start (lines_read (Ok tt) input_limit (p.taken ++ bytes)) out
-    replied_all out e = (next,
+    replied_all out e = (
+      next,
       subst (λ (ls : List (List ℕ)). Replied start ls out next)
           (sym (lines_read-then p.lines p.taken p.whole input_limit (input_limit - count) at (Ok tt) bytes ∙ ap (λ (ls : List (List ℕ)). p.lines ++ ls) spells.lines_are))
-          (subst (λ (xs : List ℕ). Replied start (p.lines ++ request.line.items ∷ spells.records) xs next) (sym e) replied_more))
+          (subst (λ (xs : List ℕ). Replied start (p.lines ++ request.line.items ∷ spells.records) xs next) (sym e) replied_more),
+    )
 
     line_limit_more : All IsWithin (lines_of (p.taken ++ bytes))
     line_limit_more = line_limit-then p.lines p.taken p.whole input_limit (input_limit - count) at p.short (Ok tt) bytes within_bytes

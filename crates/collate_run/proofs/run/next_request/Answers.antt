@@ -40,12 +40,11 @@ returns-in-Ok-None-next_line-clause-bytes g c =
     let r1 = g.R.Read.remaining (watched_inner c.loop.reader) in
     let r2 = g.R.Read.remaining (watched_inner c.next_line-in-loop.new.reader) in
     let read = c.in-Ok-None-next_line.ensures.bytes in
-    let last = no-line c.in-Ok-None-next_line.field-0 r2 c.loop.count c.next_line-in-loop.new.count read.0 c.in-Ok-None-next_line.field-0-is read.2 in
-    (
+    let last = no-line c.in-Ok-None-next_line.field-0 r2 c.loop.count c.next_line-in-loop.new.count read.0 c.in-Ok-None-next_line.field-0-is read.2 in (
       before.0 ++ read.0,
       Consumes-then r0 r1 r2 before.0 read.0 before.1 read.1,
       request-end c.loop.request c.loop.counter r1 r2 c.args.count.now c.loop.count before.0 before.2
-      (omega (arith, c.loop-test.true, c.loop.invariant.asked)) read.0 last.0 last.1,
+          (omega (arith, c.loop-test.true, c.loop.invariant.asked)) read.0 last.0 last.1,
     )
 
 pub returns-in-Err-next_line-clause-bytes : goal.returns-in-Err-next_line-clause-bytes
@@ -54,12 +53,11 @@ returns-in-Err-next_line-clause-bytes g c =
     let r0 = g.R.Read.remaining (watched_inner c.args.reader.now) in
     let r1 = g.R.Read.remaining (watched_inner c.loop.reader) in
     let r2 = g.R.Read.remaining (watched_inner c.next_line-in-loop.new.reader) in
-    let read = c.in-Err-next_line.ensures.bytes in
-    (
+    let read = c.in-Err-next_line.ensures.bytes in (
       before.0 ++ read.0,
       Consumes-then r0 r1 r2 before.0 read.0 before.1 read.1,
       request-fault c.loop.request c.loop.counter r1 r2 c.args.count.now c.loop.count before.0 before.2 (is-ended c.loop.request.is_ended c.if-not-request.false)
-      (omega (arith, c.loop-test.true, c.loop.invariant.asked)) c.in-Err-next_line.fault read.0 read.2,
+          (omega (arith, c.loop-test.true, c.loop.invariant.asked)) c.in-Err-next_line.fault read.0 read.2,
     )
 
 pub loop-preserved : goal.loop-preserved
@@ -77,9 +75,9 @@ loop-preserved g c =
         before.0 ++ read.0,
         Consumes-then r0 r1 r2 before.0 read.0 before.1 read.1,
         request-more c.loop.request c.loop.counter r1 r2 c.args.count.now c.loop.count before.0 before.2 (is-ended c.loop.request.is_ended c.if-not-request.false)
-        c.in-Ok-Some-next_line.record read.0 line.0 _ c.next_line-in-loop.new.count refl refl
-        (kept-more (λ kept. kept.items) c.with_line.result (spelled before.2.records) c.in-Ok-Some-next_line.record.bytes.items c.deref-in-loop.result.now c.deref-in-loop.ensures.value (c.with_line.ensures (spelled before.2.records) before.2.kept))
-        line.1 line.2 line.3,
+            c.in-Ok-Some-next_line.record read.0 line.0 _ c.next_line-in-loop.new.count refl refl
+            (kept-more (λ kept. kept.items) c.with_line.result (spelled before.2.records) c.in-Ok-Some-next_line.record.bytes.items c.deref-in-loop.result.now c.deref-in-loop.ensures.value (c.with_line.ensures (spelled before.2.records) before.2.kept))
+            line.1 line.2 line.3,
       );
     }
 
