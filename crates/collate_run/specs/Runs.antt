@@ -4,7 +4,7 @@ use Rattle.std.specs.Io.KnownBytes.{Appends, Consumes, IsAtEnd}
 use Rattle.collate_index.specs.Catalogue.{Catalogue}
 use Rattle.collate_run.specs.Replies.{AreReplies, behind}
 use Rattle.collate_run.specs.declared.run.RunFault.{RunFault}
-use Rattle.collate_run.specs.declared.run.RunFault.TheVariants.{Memory, Read, Write, LineTooLong, InputTooLong, CutReload}
+use Rattle.collate_run.specs.declared.run.RunFault.TheVariants.{Write, LineTooLong, InputTooLong, CutReload}
 
 -- a byte put in front of the first line
 abbrev pub onto : ℕ → List (List ℕ) → List (List ℕ)

@@ -1,7 +1,7 @@
 -- a line and the record lines behind it, read line by line
-use Rattle.std.proofs.Common.{◌≡◌, ℕ, ◌+◌, ◌-◌, ◌<◌, ◌≤◌, Bool, true, false, not, Option, Err, List, [], ◌∷◌, ◌++◌, ◌⊎◌, inl, inr, length, take, flat_map, All, refl, sym, ap, ◌∙◌, subst, length-append, arith}
+use Rattle.std.proofs.Common.{◌≡◌, ℕ, ◌+◌, ◌-◌, ◌<◌, ◌≤◌, Bool, true, false, not, Option, Err, List, [], ◌∷◌, ◌++◌, ◌⊎◌, inl, inr, length, take, All, refl, sym, ap, ◌∙◌, subst, length-append, arith}
 use Rattle.std.proofs.lemmas.List.{append-nil, take-append-le, take_all}
-use Rattle.std.proofs.lemmas.List.Elements.{All-append, All-cons, All-nil, All-push, All-same}
+use Rattle.std.proofs.lemmas.List.Elements.{All-cons, All-nil, All-push, All-same}
 use Rattle.std.proofs.lemmas.Grind.{flat_map-append}
 use Rattle.std.proofs.lemmas.Bool.Decides.{when_true, when_false}
 use Rattle.std.specs.Bool.{MatchBool}

@@ -1,19 +1,19 @@
 -- a run, command after command, and the ways in which it ends
-use Rattle.std.proofs.Common.{◌≡◌, ◌≢◌, ℕ, ◌+◌, ◌-◌, ◌≤◌, true, false, Option, Result, Ok, Err, List, [], ◌∷◌, ◌++◌, inl, length, All, refl, sym, ap, ◌∙◌, subst, append_assoc, length-append, arith}
+use Rattle.std.proofs.Common.{◌≡◌, ◌≢◌, ℕ, ◌+◌, ◌-◌, ◌≤◌, true, false, Option, Result, Ok, Err, List, [], ◌∷◌, ◌++◌, length, All, refl, sym, ap, ◌∙◌, subst, append_assoc, length-append, arith}
 use Rattle.std.proofs.lemmas.List.{append-nil}
 use Rattle.std.proofs.lemmas.List.Elements.{All-append, All-nil}
 use Rattle.std.proofs.lemmas.Bool.Decides.{when_true, when_false}
 use Rattle.std.specs.Io.KnownBytes.{Appends, Consumes, IsAtEnd}
 use Rattle.collate_index.specs.Catalogue.{Catalogue}
-use Rattle.collate_run.specs.Reading.{AreWhole, CutsRequest, IsUnended, SpellsRequest, spelled}
+use Rattle.collate_run.specs.Reading.{AreWhole, CutsRequest, SpellsRequest, spelled}
 use Rattle.collate_run.specs.Replies.{Answers, AreReplies, Replied, behind, command, nothing}
-use Rattle.collate_run.specs.Runs.{Does, IsUnanswered, IsWithin, KeepsLineLimit, Ran, input_limit, line_limit, lines_of, lines_read}
+use Rattle.collate_run.specs.Runs.{Does, IsUnanswered, IsWithin, Ran, input_limit, lines_of, lines_read}
 use Rattle.collate_run.specs.Sending.{Sends}
 use Rattle.collate_run.specs.declared.run.Request.{Request}
 use Rattle.collate_run.specs.declared.run.RunFault.{RunFault}
 use Rattle.collate_run.specs.declared.run.RunFault.TheVariants.{Memory, Read, Write, LineTooLong, InputTooLong, CutReload}
 use Rattle.collate_run.proofs.bytes.KnownBytesLemmas.{Appends-none, Appends-then, Consumes-none, Consumes-then}
-use Rattle.collate_run.proofs.lines.LineLemmas.{lines_of-none, lines_of-within}
+use Rattle.collate_run.proofs.lines.LineLemmas.{lines_of-within}
 use Rattle.collate_run.proofs.lines.RequestLemmas.{request-none}
 use Rattle.collate_run.proofs.lines.WholeLemmas.{input_limit-then, line_limit-then, lines_of-front, lines_read-then, whole-none, whole-then}
 

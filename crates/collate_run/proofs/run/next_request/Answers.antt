@@ -1,11 +1,7 @@
-use Rattle.std.proofs.Common.{◌≡◌, ◌<◌, ◌++◌, ◌∙◌, ℕ, List, [], refl, sym, ap, subst, arith}
-use Rattle.std.proofs.lemmas.List.{append-nil}
-use Rattle.std.specs.Prelude.{IfSome}
-use Rattle.collate_run.specs.Reading.{SpellsRequest, CutsRequest, spelled}
-use Rattle.collate_run.specs.Replies.{behind, ended}
-use Rattle.collate_run.specs.Runs.{input_limit}
+use Rattle.std.proofs.Common.{◌≡◌, ◌++◌, ◌∙◌, ℕ, refl, ap, subst, arith}
+use Rattle.collate_run.specs.Reading.{SpellsRequest, spelled}
+use Rattle.collate_run.specs.Replies.{behind}
 use Rattle.collate_run.specs.Watched.{watched_inner, watched_failed}
-use Rattle.collate_run.specs.declared.run.RunFault.TheVariants.{CutReload}
 use Rattle.collate_run.proofs.bytes.KnownBytesLemmas.{Consumes-then}
 use Rattle.collate_run.proofs.lines.ReadLineLemmas.{no-line, some-line, unmarked}
 use Rattle.collate_run.proofs.lines.RequestLemmas.{at-end, is-ended, kept-more, not-ended, request-cut, request-end, request-fault, request-first, request-more, request-none}
