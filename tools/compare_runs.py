@@ -48,8 +48,10 @@ def kinds(answer):
         yield ' '.join(word for word in fault.decode('utf-8', 'replace').split() if not word.isdigit() and '/' not in word)
     for line in out.split(b'\n'):
         word = line.split(b' ')[0]
-        if word in (b'added', b'duplicate', b'removed', b'absent', b'names', b'bad', b'memory'):
+        if word in (b'added', b'duplicate', b'removed', b'absent', b'names', b'bad', b'memory', b'refused'):
             yield word.decode()
+        elif word == b'reloaded':
+            yield 'reloaded no name' if line == b'reloaded 0' else 'reloaded names'
         elif len(line) > 3 and set(line) <= set(b'0123456789abcdef'):
             yield 'a key'
 
@@ -66,7 +68,7 @@ def compared(asked):
         with open(path, 'wb') as file:
             file.write(('\n'.join(lines) + ('' if is_cut else '\n')).encode('utf-8', 'surrogateescape'))
         for _ in range(count):
-            words, commands = random_words(source), random_commands(source, random_names(source, texts))
+            words, commands = random_words(source), random_commands(source, random_names(source, texts), lines)
             named = path if source.random() < 0.99 else path + '.none'
             right, given = right_answer(oracle, named, words, commands), given_answer(named, words, commands)
             counts.update(kinds(right))

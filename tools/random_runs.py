@@ -1,6 +1,7 @@
 """Random runs of the program: records files of every form, words of the command line, and commands; for compare_runs.py."""
 import unicodedata
 
+from random_changes import CHANGES, other_elements, other_setting
 from random_files import Draft, random_file
 from random_pairs import setting_lines
 from random_weights import random_characters, random_weights
@@ -81,10 +82,39 @@ def random_command(source, names):
     return source.choice(OTHER_LINES)
 
 
-def random_commands(source, names):
-    """The bytes of the standard input."""
+def random_reload(source, records):
+    """The lines of a file: a file's own, mostly a few changes apart, or of another; and the command that loads them, by a count
+    that now and then is wrong."""
+    records, kind = list(records), source.random()
+    if kind < 0.8:
+        for _ in range(source.choice([1, 1, 1, 2, 4])):
+            change = source.choice([other_elements, other_setting, *CHANGES])
+            records = change(source, records) if records else records
+    elif kind < 0.9:
+        records = random_file(source)[0]
+    count = len(records) + (source.choice([-1, 1, 2, 40]) if source.random() < 0.03 else 0)
+    lines = [b'reload %d' % max(count, 0), *(line.encode('utf-8', 'surrogateescape') for line in records)]
+    return records, lines
+
+
+def random_lines(source, names, records):
+    """Commands, each a line, or a reload with its record lines, by a file's lines."""
     lines = [b'add ' + name for name in names if source.random() < 0.5]
-    lines += [random_command(source, names) for _ in range(source.randint(0, 24))]
+    for _ in range(source.randint(0, 24)):
+        if source.random() < 0.93:
+            lines.append(random_command(source, names))
+            continue
+        changed, reload = random_reload(source, records)
+        records = changed if source.random() < 0.5 else records
+        lines += [*reload, b'list']
+    return lines
+
+
+def random_commands(source, names, records):
+    """The bytes of the standard input."""
+    lines = random_lines(source, names, records)
+    if source.random() < 0.03:
+        lines += random_reload(source, records)[1][:source.randint(1, 30)]
     if source.random() < 0.004:
         lines.insert(source.randint(0, len(lines)), b'add ' + b'x' * (LINE_LIMIT - 4 + source.randint(0, 1)))
     return b'\n'.join(lines) + (b'' if source.random() < 0.1 else b'\n')

@@ -2,4 +2,6 @@
 pub mod ExampleLemmas
 pub mod LineLemmas
 pub mod ReadLineLemmas
+pub mod RequestLemmas
 pub mod RunLemmas
+pub mod WholeLemmas

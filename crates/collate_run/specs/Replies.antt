@@ -1,12 +1,19 @@
--- the reply to each line of a run, and the catalogue after it
-use Rattle.std.specs.Prelude.{◌≡◌, ◌==◌, ℕ, ◌+◌, Bool, true, if◌then◌else◌, Option, None, Some, List, [], ◌∷◌, ◌++◌, length, take, drop, map, codes, decimal, flat_map, bytes_eq, position, All}
-use Rattle.std.specs.List.{list_any}
+-- what a line asks for, the reply to it, and the catalogue after it
+use Rattle.std.specs.Prelude.{◌≡◌, ◌==◌, ℕ, ◌+◌, if◌then◌else◌, Option, None, Some, Result, Ok, Err, List, [], ◌∷◌, ◌++◌, ◌⊎◌, length, take, drop, codes, decimal, flat_map, bytes_eq, position}
+use Rattle.std.specs.List.{Contains}
 use Rattle.hex.specs.Hex.{encode_lower}
 use Rattle.icu_normalizer_core.specs.Decoding.{utf8_chars}
 use Rattle.icu_collator.specs.KeyBytes.{key_of_text}
+use Rattle.collate_lines.specs.Grammar.{decimal_number, is_short}
+use Rattle.collate_lines.specs.Lines.{records_of}
+use Rattle.collate_lines.specs.Rule.{fault_text}
+use Rattle.collate_lines.specs.declared.rule.RecordFault.{RecordFault}
+use Rattle.collate_lines.specs.declared.rule.RecordsError.TheVariants.{Fault}
+use Rattle.collate_records.specs.Files.{IsAccepted, Refuses}
 use Rattle.collate_rules.specs.Meaning.{collation_of}
-use Rattle.collate_index.specs.Catalogue.{Catalogue, options_in, order_of, sorted_names, with_name, without_name}
+use Rattle.collate_index.specs.Catalogue.{Catalogue, options_in, order_of, reloaded, sorted_names, with_name, without_name}
 use Rattle.collate_index.specs.Names.{equal_names, names_between}
+use Rattle.collate_index.specs.Reloads.{AreKeysMade}
 
 -- what a line asks for
 pub data LineCommand : Type 0 where
@@ -16,6 +23,7 @@ pub data LineCommand : Type 0 where
   between : List ℕ → List ℕ → LineCommand
   key : List ℕ → LineCommand
   list : LineCommand
+  reload : ℕ → LineCommand
   unknown : LineCommand
 
 -- what comes after a word at the front of a line
@@ -36,12 +44,21 @@ parted_at names (Some place) = between (take place names) (drop (place + 1) name
 abbrev pub between_command : List ℕ → LineCommand
 between_command names = parted_at names (position (λ byte. byte == 9) names)
 
+-- how many record lines digits ask for: 0, or up to seven digits without a leading zero
+abbrev pub record_count : List ℕ → Option ℕ
+record_count digits = if is_short 1 7 digits then decimal_number digits else None
+
+-- a reload of so many record lines
+abbrev pub reload_of : Option ℕ → LineCommand
+reload_of None = unknown
+reload_of (Some count) = reload count
+
 -- a line that asks for no name
 abbrev pub plain_command : List ℕ → LineCommand
 plain_command line = if bytes_eq line (codes "list") then list else unknown
 
--- what a line asks for: `add NAME`, `remove NAME`, `find NAME`, `between FIRST<TAB>LAST`, `key NAME`, `list`, or nothing
--- that is known
+-- what a line asks for: `add NAME`, `remove NAME`, `find NAME`, `between FIRST<TAB>LAST`, `key NAME`, `list`, `reload K`, or
+-- nothing that is known
 unfoldable pub command_of : List ℕ → LineCommand
 command_of line =
     if_after (rest_after (codes "add ") line) add
@@ -49,7 +66,17 @@ command_of line =
     (if_after (rest_after (codes "find ") line) find
     (if_after (rest_after (codes "between ") line) between_command
     (if_after (rest_after (codes "key ") line) key
-    (plain_command line)))))
+    (if_after (rest_after (codes "reload ") line) (λ digits. reload_of (record_count digits))
+    (plain_command line))))))
+
+-- how many record lines a command asks for
+abbrev pub records_asked : LineCommand → ℕ
+records_asked (reload count) = count
+records_asked _ = 0
+
+-- how many record lines stand behind a line
+abbrev pub behind : List ℕ → ℕ
+behind line = records_asked (command_of line)
 
 -- a line, ended
 abbrev pub ended : List ℕ → List ℕ
@@ -59,41 +86,36 @@ ended line = line ++ 10 ∷ []
 abbrev pub listing : List (List ℕ) → List ℕ
 listing names = codes "names " ++ decimal (length names) ++ 10 ∷ [] ++ flat_map ended names
 
--- a name stands among these
-abbrev pub is_among : List (List ℕ) → List ℕ → Bool
-is_among names name = list_any (λ other. bytes_eq other name) names
-
 -- the sort key of a name, under the records and options of a catalogue
 abbrev pub key_of_name : Catalogue → List ℕ → List ℕ
 key_of_name catalogue name = key_of_text (collation_of catalogue.records) (options_in catalogue) (utf8_chars name)
 
--- the reply to a command that got its memory
-abbrev pub answer_to : LineCommand → Catalogue → List ℕ
-answer_to (add name) catalogue = if is_among catalogue.arrivals name then codes "duplicate\n" else codes "added\n"
-answer_to (remove name) catalogue = if is_among catalogue.arrivals name then codes "removed\n" else codes "absent\n"
-answer_to (find name) catalogue = listing (equal_names (order_of catalogue) name (sorted_names catalogue))
-answer_to (between first last) catalogue = listing (names_between (order_of catalogue) first last (sorted_names catalogue))
-answer_to (key name) catalogue = ended (encode_lower (key_of_name catalogue name))
-answer_to list catalogue = listing (sorted_names catalogue)
-answer_to unknown catalogue = codes "bad\n"
+-- the reply to a reload, by how many keys it made, or by the fault of the file
+abbrev pub reload_reply : Result ℕ RecordFault → List ℕ
+reload_reply (Ok made) = ended (codes "reloaded " ++ decimal made)
+reload_reply (Err fault) = ended (codes "refused " ++ fault_text fault.line fault.rule)
 
--- the catalogue after a command that got its memory
-abbrev pub granted : LineCommand → Catalogue → Catalogue
-granted (add name) catalogue = if is_among catalogue.arrivals name then catalogue else with_name name catalogue
-granted (remove name) catalogue = without_name name catalogue
-granted _ catalogue = catalogue
+-- what a reload does: the records of an accepted file take the place of those that were there, and keys are made; another
+-- file is refused, and nothing has changed
+abbrev pub Reloads : List ℕ → Catalogue → Catalogue → Result ℕ RecordFault → Type 0
+Reloads file old new (Ok made) = IsAccepted file × (new ≡ reloaded (records_of file) old) × AreKeysMade old (records_of file) made
+Reloads file old new (Err fault) = Refuses file (Fault fault) × (new ≡ old)
 
--- a line, and whether it was refused memory
-abbrev pub Call : Type 0
-Call = List ℕ × Bool
-
--- the reply to a line
-abbrev pub reply : Call → Catalogue → List ℕ
-reply call catalogue = if call.1 then codes "memory\n" else answer_to (command_of call.0) catalogue
-
--- the catalogue after a line
-abbrev pub after : Call → Catalogue → Catalogue
-after call catalogue = if call.1 then catalogue else granted (command_of call.0) catalogue
+-- what a command does that gets its memory: text is its reply, old and new the catalogue before and after it; file is the
+-- record lines behind it
+abbrev pub Grants : LineCommand → List ℕ → Catalogue → Catalogue → List ℕ → Type 0
+Grants (add name) file old new text =
+    (Contains old.arrivals name × (text ≡ codes "duplicate\n") × (new ≡ old))
+    ⊎ ((¬ Contains old.arrivals name) × (text ≡ codes "added\n") × (new ≡ with_name name old))
+Grants (remove name) file old new text =
+    (Contains old.arrivals name × (text ≡ codes "removed\n") × (new ≡ without_name name old))
+    ⊎ ((¬ Contains old.arrivals name) × (text ≡ codes "absent\n") × (new ≡ old))
+Grants (find name) file old new text = (text ≡ listing (equal_names (order_of old) name (sorted_names old))) × (new ≡ old)
+Grants (between first last) file old new text = (text ≡ listing (names_between (order_of old) first last (sorted_names old))) × (new ≡ old)
+Grants (key name) file old new text = (text ≡ ended (encode_lower (key_of_name old name))) × (new ≡ old)
+Grants list file old new text = (text ≡ listing (sorted_names old)) × (new ≡ old)
+Grants (reload count) file old new text = (result : Result ℕ RecordFault) × Reloads file old new result × (text ≡ reload_reply result)
+Grants unknown file old new text = (text ≡ codes "bad\n") × (new ≡ old)
 
 -- a command that asks for memory: all but `remove`
 abbrev pub AsksMemory : LineCommand → Type 0
@@ -101,30 +123,22 @@ AsksMemory (remove name) = ⊥
 AsksMemory unknown = ⊥
 AsksMemory _ = Unit {0}
 
--- only such a command is refused memory
-abbrev pub MayRefuse : Call → Type 0
-MayRefuse call = call.1 ≡ true → AsksMemory (command_of call.0)
+-- what a command does that is refused memory: nothing has changed
+abbrev pub Denies : LineCommand → Catalogue → Catalogue → List ℕ → Type 0
+Denies command old new text = AsksMemory command × (text ≡ codes "memory\n") × (new ≡ old)
 
--- a line got this text and turned the old catalogue into the new one
-pub record Answers (line : List ℕ) (old new : Catalogue) (text : List ℕ) : Type 0 where
-  pub refused : Bool
-  pub may_refuse : MayRefuse (line, refused)
-  pub text_is : text ≡ reply (line, refused) old
-  pub catalogue_is : new ≡ after (line, refused) old
+-- a line, with the record lines behind it (file), got this text and turned the old catalogue into the new one
+abbrev pub Answers : List ℕ → List ℕ → Catalogue → Catalogue → List ℕ → Type 0
+Answers line file old new text = Grants (command_of line) file old new text ⊎ Denies (command_of line) old new text
 
--- the replies to lines, one after another
-unfoldable pub output : List Call → Catalogue → List ℕ
-output [] catalogue = []
-output (call ∷ calls) catalogue = reply call catalogue ++ output calls (after call catalogue)
+-- Lines got these replies, one command after another, and left a catalogue. A command is a line with all record lines that it
+-- asks for.
+pub data Replied (start : Catalogue) : List (List ℕ) → List ℕ → Catalogue → Type 0 where
+  nothing : Replied start [] [] start
+  command : (lines : List (List ℕ)) (out : List ℕ) (old : Catalogue) (line : List ℕ) (records : List (List ℕ)) (text : List ℕ) (new : Catalogue)
+      → Replied start lines out old → length records ≡ behind line → Answers line (flat_map ended records) old new text
+      → Replied start (lines ++ line ∷ records) (out ++ text) new
 
--- the catalogue after lines
-unfoldable pub outcome : List Call → Catalogue → Catalogue
-outcome [] catalogue = catalogue
-outcome (call ∷ calls) catalogue = outcome calls (after call catalogue)
-
--- out is the replies to these lines, where some commands may have been refused memory
-pub record AreReplies (start : Catalogue) (lines : List (List ℕ)) (out : List ℕ) : Type 0 where
-  pub calls : List Call
-  pub lines_are : map (λ call. call.0) calls ≡ lines
-  pub may_refuse : All MayRefuse calls
-  pub out_is : out ≡ output calls start
+-- out is the replies to these lines
+abbrev pub AreReplies : Catalogue → List (List ℕ) → List ℕ → Type 0
+AreReplies start lines out = (now : Catalogue) × Replied start lines out now

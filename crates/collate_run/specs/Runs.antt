@@ -1,10 +1,10 @@
 -- what a run does, by the bytes that it read and those that it wrote
-use Rattle.std.specs.Prelude.{◌≡◌, ◌==◌, ℕ, ◌+◌, ◌≤◌, if◌then◌else◌, Option, Result, Ok, Err, List, [], ◌∷◌, ◌++◌, length, take, All}
+use Rattle.std.specs.Prelude.{◌≡◌, ◌==◌, ℕ, ◌+◌, ◌<◌, ◌≤◌, ◌⊎◌, if◌then◌else◌, Option, Result, Ok, Err, List, [], ◌∷◌, ◌++◌, length, take, All}
 use Rattle.std.specs.Io.KnownBytes.{Appends, Consumes, IsAtEnd}
 use Rattle.collate_index.specs.Catalogue.{Catalogue}
-use Rattle.collate_run.specs.Replies.{AreReplies}
+use Rattle.collate_run.specs.Replies.{AreReplies, behind}
 use Rattle.collate_run.specs.declared.run.RunFault.{RunFault}
-use Rattle.collate_run.specs.declared.run.RunFault.TheVariants.{Memory, Read, Write, LineTooLong, InputTooLong}
+use Rattle.collate_run.specs.declared.run.RunFault.TheVariants.{Write, LineTooLong, InputTooLong, CutReload}
 
 -- a byte put in front of the first line
 abbrev pub onto : ℕ → List (List ℕ) → List (List ℕ)
@@ -47,28 +47,44 @@ pub record EndsTooLong (taken : List ℕ) (lines : List (List ℕ)) : Type 0 whe
   pub unended : whole_lines line ≡ []
   pub whole : lines_of front ≡ lines
 
+-- The lines that a run read whole, of its bytes (taken). The byte past the input limit is no part of a line.
+abbrev pub lines_read : Result (Unit {0}) RunFault → ℕ → List ℕ → List (List ℕ)
+lines_read (Ok _) limit taken = lines_of taken
+lines_read (Err Write) limit taken = lines_of taken
+lines_read (Err CutReload) limit taken = lines_of taken
+lines_read (Err InputTooLong) limit taken = whole_lines (take limit taken)
+lines_read (Err _) limit taken = whole_lines taken
+
 -- The line limit, of the bytes that a run read (taken): all lines are within it, also one that is cut off, and a run ends
--- by LineTooLong at the first byte past it. The byte past the input limit is no part of a line.
-abbrev pub KeepsLineLimit : Result (Unit {0}) RunFault → List ℕ → Type 0
-KeepsLineLimit (Err LineTooLong) taken = All IsWithin (whole_lines taken) × EndsTooLong taken (whole_lines taken)
-KeepsLineLimit (Err InputTooLong) taken = All IsWithin (lines_of (take input_limit taken))
-KeepsLineLimit _ taken = All IsWithin (lines_of taken)
+-- by LineTooLong at the first byte past it.
+abbrev pub KeepsLineLimit : Result (Unit {0}) RunFault → ℕ → List ℕ → Type 0
+KeepsLineLimit (Err LineTooLong) limit taken = All IsWithin (whole_lines taken) × EndsTooLong taken (whole_lines taken)
+KeepsLineLimit (Err InputTooLong) limit taken = All IsWithin (lines_of (take limit taken))
+KeepsLineLimit _ limit taken = All IsWithin (lines_of taken)
 
 -- The input limit, of the bytes that a run read (taken): they are within it, and a run ends by InputTooLong at the first
 -- byte past it.
-abbrev pub KeepsInputLimit : Result (Unit {0}) RunFault → List ℕ → Type 0
-KeepsInputLimit (Err InputTooLong) taken = length taken ≡ input_limit + 1
-KeepsInputLimit _ taken = length taken ≤ input_limit
+abbrev pub KeepsInputLimit : Result (Unit {0}) RunFault → ℕ → List ℕ → Type 0
+KeepsInputLimit (Err InputTooLong) limit taken = length taken ≡ limit + 1
+KeepsInputLimit _ limit taken = length taken ≤ limit
 
--- What a run that read these bytes (taken) and wrote those (out) has done; left is what the reader
--- has left.
-abbrev pub Does : Catalogue → Result (Unit {0}) RunFault → Option (List ℕ) → List ℕ → List ℕ → Type 0
-Does start (Ok _) left taken out = AreReplies start (lines_of taken) out × IsAtEnd left
-Does start (Err Memory) left taken out = AreReplies start (whole_lines taken) out
-Does start (Err Read) left taken out = AreReplies start (whole_lines taken) out
-Does start (Err Write) left taken out = (unsent : List ℕ) × AreReplies start (lines_of taken) (out ++ unsent)
-Does start (Err LineTooLong) left taken out = AreReplies start (whole_lines taken) out
-Does start (Err InputTooLong) left taken out = AreReplies start (whole_lines (take input_limit taken)) out
+-- a `reload` line with fewer record lines behind it than it asks for
+abbrev pub IsCutReload : List (List ℕ) → Type 0
+IsCutReload [] = ⊥
+IsCutReload (line ∷ records) = length records < behind line
+
+-- The lines that a run read last and left without an answer, by the fault that ended it: none, or those of a reload that is
+-- cut off. At CutReload it is those, and nothing is left to read; Write comes while an answer is written, and leaves none.
+abbrev pub IsUnanswered : RunFault → Option (List ℕ) → List (List ℕ) → Type 0
+IsUnanswered Write left rest = ⊥
+IsUnanswered CutReload left rest = IsCutReload rest × IsAtEnd left
+IsUnanswered _ left rest = (rest ≡ []) ⊎ IsCutReload rest
+
+-- What a run that read these lines and wrote those bytes (out) has done; left is what the reader has left.
+abbrev pub Does : Catalogue → Result (Unit {0}) RunFault → Option (List ℕ) → List (List ℕ) → List ℕ → Type 0
+Does start (Ok _) left lines out = AreReplies start lines out × IsAtEnd left
+Does start (Err Write) left lines out = (unsent : List ℕ) × AreReplies start lines (out ++ unsent)
+Does start (Err fault) left lines out = (front : List (List ℕ)) × (rest : List (List ℕ)) × (lines ≡ front ++ rest) × AreReplies start front out × IsUnanswered fault left rest
 
 -- a run's result, with what it took from the reader and gave to the writer
 pub record Ran (start : Catalogue) (result : Result (Unit {0}) RunFault) (reader_old reader_new writer_old writer_new : Option (List ℕ)) : Type 0 where
@@ -76,6 +92,6 @@ pub record Ran (start : Catalogue) (result : Result (Unit {0}) RunFault) (reader
   pub out : List ℕ
   pub consumes : Consumes reader_old reader_new taken
   pub appends : Appends writer_old writer_new out
-  pub does : Does start result reader_new taken out
-  pub line_limit_kept : KeepsLineLimit result taken
-  pub input_limit_kept : KeepsInputLimit result taken
+  pub does : Does start result reader_new (lines_read result input_limit taken) out
+  pub line_limit_kept : KeepsLineLimit result input_limit taken
+  pub input_limit_kept : KeepsInputLimit result input_limit taken

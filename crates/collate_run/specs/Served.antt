@@ -11,7 +11,7 @@ use Rattle.collate_index.specs.Catalogue.{Catalogue, opened}
 use Rattle.collate_run.specs.Runs.{Ran}
 use Rattle.collate_choice.specs.declared.Choice.{Choice}
 use Rattle.collate_run.specs.declared.run.RunFault.{RunFault}
-use Rattle.collate_run.specs.declared.run.RunFault.TheVariants.{Memory, Read, Write, LineTooLong, InputTooLong}
+use Rattle.collate_run.specs.declared.run.RunFault.TheVariants.{Memory, Read, Write, LineTooLong, InputTooLong, CutReload}
 use Rattle.collate_run.specs.declared.serve.FileFault.{FileFault}
 use Rattle.collate_run.specs.declared.serve.FileFault.TheVariants.{Unreadable, Memory as NoRoom}
 
@@ -36,6 +36,7 @@ run_line Read = codes "collate: read\n"
 run_line Write = codes "collate: write\n"
 run_line LineTooLong = codes "collate: line too long\n"
 run_line InputTooLong = codes "collate: input too long\n"
+run_line CutReload = codes "collate: reload cut\n"
 
 -- what a writer of errors got of this text: all of it, or a first part where the writer stopped taking
 pub record Tells (old new : Option (List ℕ)) (text : List ℕ) : Type 0 where

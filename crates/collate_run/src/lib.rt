@@ -1,7 +1,9 @@
 //! A run of `collate`: the words of the program, the lines that it reads, the replies that it writes, and its status.
-//! Begin with `serve::serve`, all of the program but reading its words and its file, or with `run::run`, the commands alone.
+//! Begin with `program::run_program`, with `serve::serve`, all of it but reading its words and its file, or with `run::run`, the
+//! commands alone.
 #![tactic(auto)]
 
+pub mod program;
 mod replies;
 pub mod run;
 pub mod serve;

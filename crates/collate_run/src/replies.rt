@@ -1,12 +1,14 @@
-//! The reply to one line of a run.
+//! The reply to one line of a run, with the record lines behind it.
 
-ghost use Rattle.std.specs.Prelude.{◌≡◌, ◌==◌, ◌<◌, ◌≤◌, length, position, slice_range, IfOk, IfSome};
+ghost use Rattle.std.specs.Prelude.{◌≡◌, ◌==◌, ◌<◌, ◌≤◌, ℕ, List, length, position, slice_range, IfOk, IfSome};
 ghost use Rattle.collate_index.specs.Catalogue.{sorted_names};
-ghost use Rattle.collate_run.specs.Replies.{between_command, command_of, ended, key_of_name, listing, Answers};
+ghost use Rattle.collate_lines.specs.Grammar.{decimal_digit, decimal_number};
+ghost use Rattle.collate_run.specs.Replies.{behind, between_command, command_of, ended, key_of_name, listing, record_count, reload_of, Answers};
 ghost use Rattle.collate_run.specs.ReplyText.{line_command, reply_text, IsReply};
 ghost use Rattle.hex.specs.Hex.{encode_lower};
 
-use collate_index::index::{AddError, Index};
+use collate_index::index::{AddError, Index, ReloadError};
+use collate_records::rule::RecordFault;
 use std::alloc::{AllocError, Global};
 use std::ops::Range;
 
@@ -19,10 +21,11 @@ pub(crate) enum Command<'a> {
     Between(&'a [u8], &'a [u8]),
     Key(&'a [u8]),
     ListAll,
+    Reload(usize),
     Unknown,
 }
 
-/// The reply to a line. What has a fixed text takes no memory.
+/// The reply to a line. Only what lists names or writes a key takes memory.
 #[derive(Drop)]
 pub(crate) enum Reply {
     Added,
@@ -30,27 +33,10 @@ pub(crate) enum Reply {
     Removed,
     Absent,
     Lines(Vec<u8>),
+    Reloaded(usize),
+    Refused(RecordFault),
     Bad,
     Memory,
-}
-
-impl Reply {
-    ghost use Rattle.collate_run.specs.ReplyText.{reply_text};
-
-    /// The bytes that are written, the LF of each line included.
-    pub(crate) fn as_bytes(&self) -> &[u8]
-        ensures { result.now ≡ reply_text self.now }
-    {
-        match self {
-            Reply::Added => b"added\n",
-            Reply::Duplicate => b"duplicate\n",
-            Reply::Removed => b"removed\n",
-            Reply::Absent => b"absent\n",
-            Reply::Lines(text) => text,
-            Reply::Bad => b"bad\n",
-            Reply::Memory => b"memory\n",
-        }
-    }
 }
 
 /// Reads a line as a command.
@@ -67,6 +53,8 @@ fn read_command(line: &[u8]) -> Command<'_>
         read_between(names)
     } else if let Some(name) = line.strip_prefix(b"key ") {
         Command::Key(name)
+    } else if let Some(digits) = line.strip_prefix(b"reload ") {
+        read_reload(digits)
     } else if line == b"list".as_slice() {
         Command::ListAll
     } else {
@@ -92,9 +80,65 @@ fn first_tab(names: &[u8]) -> Option<usize>
     names.iter().position(|byte| *byte == b'\t')
 }
 
-/// Answers one line from the index, which `add` and `remove` change.
-pub(crate) fn answer(alloc: Global, index: &mut Index, line: &[u8]) -> Reply
-    ensures { Answers line.now index.old index.new (reply_text result) }
+/// Reads what comes after `reload ` as the number of record lines behind the line.
+fn read_reload(digits: &[u8]) -> Command<'_>
+    ensures { line_command result ≡ reload_of (record_count digits.now) }
+{
+    match count_of(digits) {
+        Some(count) => Command::Reload(count),
+        None => Command::Unknown,
+    }
+}
+
+/// The number of record lines that digits ask for: 0, or up to seven digits without a leading zero.
+fn count_of(digits: &[u8]) -> Option<usize>
+    ensures { result ≡ record_count digits.now }
+{
+    let is_short = 1 <= digits.len() && digits.len() <= 7;
+    if is_short && (digits.len() == 1 || digits[0] != b'0') {
+        decimal(digits)
+    } else {
+        None
+    }
+}
+
+/// The number that at most seven decimal digits write.
+fn decimal(digits: &[u8]) -> Option<usize>
+    requires { length digits.now ≤ 7 }
+    ensures { result ≡ decimal_number digits.now }
+{
+    let mut number = 0;
+    for digit in digits {
+        number = 10 * number + usize::from(digit_value(*digit)?);
+    }
+    Some(number)
+}
+
+/// The value of a decimal digit.
+fn digit_value(digit: u8) -> Option<u8>
+    ensures { result ≡ decimal_digit digit }
+{
+    match digit {
+        b'0'..=b'9' => Some(digit - b'0'),
+        _ => None,
+    }
+}
+
+/// How many record lines stand behind a line.
+pub(crate) fn records_behind(line: &[u8]) -> usize
+    ensures { result ≡ behind line.now }
+{
+    match read_command(line) {
+        Command::Reload(count) => count,
+        _ => 0,
+    }
+}
+
+/// Answers one line, with the record lines behind it, from the index, which `add`, `remove` and `reload` change. `records` is
+/// `None` where memory was refused for them.
+pub(crate) fn answer(alloc: Global, index: &mut Index, line: &[u8], records: Option<&[u8]>) -> Reply
+    ensures { (file : List ℕ) → IfSome records.entry (λ given. given.now ≡ file)
+        → Answers line.now file index.old index.new (reply_text result) }
 {
     match read_command(line) {
         Command::Add(name) => match index.add(name) {
@@ -116,6 +160,14 @@ pub(crate) fn answer(alloc: Global, index: &mut Index, line: &[u8]) -> Reply
         },
         Command::Key(name) => key_reply(alloc, index, name),
         Command::ListAll => names_reply(alloc, index, 0..index.len()),
+        Command::Reload(_) => match records {
+            Some(file) => match index.reload(file) {
+                Ok(made) => Reply::Reloaded(made),
+                Err(ReloadError::Record(fault)) => Reply::Refused(fault),
+                Err(ReloadError::Memory) => Reply::Memory,
+            },
+            None => Reply::Memory,
+        },
         Command::Unknown => Reply::Bad,
     }
 }

@@ -1,18 +1,21 @@
-//! A run: the lines of a reader, each answered to a writer.
+//! A run: the commands of a reader, each answered to a writer.
 
-ghost use Rattle.std.specs.Prelude.{◌≡◌, ◌+◌, ◌≤◌, ◌↔◌, ℕ, List, length, false, true, Ok, Err, OnOk, IfErr, is_err, ◌||◌};
-ghost use Rattle.std.specs.Io.KnownBytes.{Consumes, Appends};
+ghost use Rattle.std.specs.Prelude.{◌≡◌, ◌+◌, ◌≤◌, ◌↔◌, ◌++◌, ℕ, List, length, flat_map, false, true, Ok, Err, IfErr, IfSome, is_err, ◌||◌};
+ghost use Rattle.std.specs.Io.KnownBytes.{Consumes};
 ghost use Rattle.collate_index.specs.Catalogue.{opened};
-ghost use Rattle.collate_run.specs.Reading.{GivesByte, ReadsLine, is_read_fault};
+ghost use Rattle.collate_run.specs.Reading.{GivesByte, ReadsLine, ReadsRequest, is_read_fault};
+ghost use Rattle.collate_run.specs.Replies.{ended};
+ghost use Rattle.collate_run.specs.ReplyText.{reply_text};
 ghost use Rattle.collate_run.specs.Runs.{Ran, input_limit};
 ghost use Rattle.collate_run.specs.Sending.{Sends};
 ghost use Rattle.collate_run.specs.Watched.{watched_inner, watched_failed};
 
-use crate::replies::answer;
+use crate::replies::{Reply, answer, records_behind};
 use crate::watched::Watched;
 use collate_index::index::Index;
 use collate_records::records::Records;
 use icu_collator_types::options::{CollatorOptions, CollatorPreferences};
+use itoa::Buffer;
 use std::alloc::Global;
 use std::io::{Read, Write};
 use thiserror::Error;
@@ -41,12 +44,25 @@ pub enum RunFault {
     /// The input has more than 4,294,967,295 bytes.
     #[error("the input has more than 4,294,967,295 bytes")]
     InputTooLong,
+    /// The input ended before the record lines of a `reload`.
+    #[error("the input ends within a reload")]
+    CutReload,
 }
 
 /// A line that was read, without its LF. The last line of an input may lack the LF.
 #[derive(Drop)]
 struct Line {
     bytes: Vec<u8>,
+    is_ended: bool,
+}
+
+/// A line that was read, and the record lines behind it.
+#[derive(Drop)]
+struct Request {
+    line: Vec<u8>,
+    /// The record lines, an LF behind each; `None` where memory for them was refused.
+    records: Option<Vec<u8>>,
+    /// Whether the last of the lines has its LF.
     is_ended: bool,
 }
 
@@ -126,8 +142,102 @@ fn write_whole<W: Write>(writer: &mut Watched<W>, bytes: &[u8]) -> Result<(), Ru
     Ok(())
 }
 
-/// Answers each line of the reader from the index, which lines change.
-fn answer_lines<R: Read, W: Write>(
+/// Puts a line, ended, behind the others; gives all of them up where memory is refused.
+fn with_line(records: Option<Vec<u8>>, line: &[u8]) -> Option<Vec<u8>>
+    ensures { (before : List ℕ) → IfSome records (λ kept. kept.items ≡ before)
+        → IfSome result (λ kept. kept.items ≡ before ++ ended line.now) }
+{
+    let mut records = records?;
+    records.extend_from_slice(line).ok()?;
+    records.push(b'\n').ok()?;
+    Some(records)
+}
+
+/// Reads the next line and the record lines behind it; `None` at the end of the input. `count` is how many bytes have been
+/// read.
+fn next_request<R: Read>(
+    alloc: Global,
+    reader: &mut Watched<R>,
+    count: &mut u64,
+) -> Result<Option<Request>, RunFault>
+    requires within { count.old ≤ input_limit }
+    ensures bytes { (bytes : List ℕ)
+        × Consumes (R.remaining (watched_inner reader.old)) (R.remaining (watched_inner reader.new)) bytes
+        × ReadsRequest result (R.remaining (watched_inner reader.new)) count.old count.new bytes }
+    ensures failed { watched_failed reader.new ≡ watched_failed reader.old || is_read_fault result }
+{
+    let Line { bytes, is_ended } = match next_line(alloc, reader, count) {
+        Ok(Some(line)) => line,
+        Ok(None) => return Ok(None),
+        Err(fault) => return Err(fault),
+    };
+    let wanted = records_behind(&bytes);
+    let mut request = Request {
+        line: bytes,
+        records: Some(Vec::new(alloc)),
+        is_ended,
+    };
+    for _ in 0..wanted {
+        if !request.is_ended {
+            return Err(RunFault::CutReload);
+        }
+        let record = match next_line(alloc, reader, count) {
+            Ok(Some(record)) => record,
+            Ok(None) => return Err(RunFault::CutReload),
+            Err(fault) => return Err(fault),
+        };
+        request.records = with_line(request.records, &record.bytes);
+        request.is_ended = record.is_ended;
+    }
+    Ok(Some(request))
+}
+
+/// Writes the parts of a text, one after another, up to the first call that fails or takes no byte.
+fn write_parts<W: Write>(writer: &mut Watched<W>, parts: &[&[u8]]) -> Result<(), RunFault>
+    ensures bytes { Sends result
+        (W.contents (watched_inner writer.old)) (W.contents (watched_inner writer.new)) (flat_map (λ part. part.now) parts.now) }
+    ensures failed { watched_failed writer.new ≡ watched_failed writer.old || is_err result }
+    ensures fault { IfErr result (λ fault. fault ≡ RunFault.Write) }
+{
+    for part in parts {
+        match write_whole(writer, part) {
+            Ok(()) => {}
+            Err(fault) => return Err(fault),
+        }
+    }
+    Ok(())
+}
+
+/// Writes a reply, with the LF of each of its lines. It takes no memory.
+fn write_reply<W: Write>(writer: &mut Watched<W>, reply: &Reply) -> Result<(), RunFault>
+    ensures bytes { Sends result
+        (W.contents (watched_inner writer.old)) (W.contents (watched_inner writer.new)) (reply_text reply.now) }
+    ensures failed { watched_failed writer.new ≡ watched_failed writer.old || is_err result }
+    ensures fault { IfErr result (λ fault. fault ≡ RunFault.Write) }
+{
+    let mut buffer = Buffer::new();
+    match reply {
+        Reply::Added => write_whole(writer, b"added\n"),
+        Reply::Duplicate => write_whole(writer, b"duplicate\n"),
+        Reply::Removed => write_whole(writer, b"removed\n"),
+        Reply::Absent => write_whole(writer, b"absent\n"),
+        Reply::Lines(text) => write_whole(writer, text),
+        Reply::Reloaded(made) => {
+            let made = buffer.format(*made).as_bytes();
+            write_parts(writer, &[b"reloaded ", made, b"\n"])
+        }
+        Reply::Refused(fault) => {
+            let line = buffer.format(fault.line).as_bytes();
+            let rule = fault.rule.as_str().as_bytes();
+            write_parts(writer, &[b"refused ", line, b" ", rule, b"\n"])
+        }
+        Reply::Bad => write_whole(writer, b"bad\n"),
+        Reply::Memory => write_whole(writer, b"memory\n"),
+    }
+}
+
+/// Answers each command of the reader from the index, which commands change.
+fn answer_requests<R: Read, W: Write>(
     alloc: Global,
     index: &mut Index,
     reader: &mut Watched<R>,
@@ -142,29 +252,30 @@ fn answer_lines<R: Read, W: Write>(
     ensures write { (watched_failed writer.new ≡ true) ↔ (result ≡ Err RunFault.Write) }
 {
     let mut count = 0;
-    'lines: loop {
-        let line = match next_line(alloc, reader, &mut count) {
-            Ok(Some(line)) => line,
+    'requests: loop {
+        let asked = match next_request(alloc, reader, &mut count) {
+            Ok(Some(asked)) => asked,
             Ok(None) => return Ok(()),
             Err(fault) => return Err(fault),
         };
-        let reply = answer(alloc, index, &line.bytes);
-        match write_whole(writer, reply.as_bytes()) {
+        let reply = answer(alloc, index, &asked.line, asked.records.as_deref());
+        match write_reply(writer, &reply) {
             Ok(()) => {}
             Err(fault) => return Err(fault),
         }
-        if !line.is_ended {
+        if !asked.is_ended {
             return Ok(());
         }
     }
 }
 
-/// Opens an index over records and answers each line of the reader to the writer, one reply a line, until the input ends
-/// (README.md, "The program").
+/// Opens an index over records and answers each command of the reader to the writer, one reply a command, until the input
+/// ends (README.md, "The program").
 ///
-/// A line is `add NAME`, `remove NAME`, `find NAME`, `between FIRST<TAB>LAST`, `key NAME` or `list`, of at most 65,536
-/// bytes; any other line is answered `bad`, and a command that was refused memory `memory`. A fault ends the run: the
-/// replies to all whole lines before it have been written, and at `RunFault::Write` a first part of them. An interrupted
+/// A line is `add NAME`, `remove NAME`, `find NAME`, `between FIRST<TAB>LAST`, `key NAME`, `list` or `reload K`, of at most
+/// 65,536 bytes. Behind `reload K` stand K lines of the same length, the new file of records; with its line they are one
+/// command. Any other line is answered `bad`, and a command that was refused memory `memory`. A fault ends the run: the
+/// replies to all whole commands before it have been written, and at `RunFault::Write` a first part of them. An interrupted
 /// call of the reader or writer is a fault like any other.
 pub fn run<R: Read, W: Write>(
     alloc: Global,
@@ -177,7 +288,7 @@ pub fn run<R: Read, W: Write>(
     requires reader { watched_failed reader.old ≡ false }
     requires writer { watched_failed writer.old ≡ false }
 
-    // What it wrote is the replies to the lines that it read.
+    // What it wrote is the replies to the lines that it read, reloads included.
     ensures ran { Ran (opened records preferences.now options.now) result
         (R.remaining (watched_inner reader.old)) (R.remaining (watched_inner reader.new))
         (W.contents (watched_inner writer.old)) (W.contents (watched_inner writer.new)) }
@@ -187,7 +298,7 @@ pub fn run<R: Read, W: Write>(
     ensures write { (watched_failed writer.new ≡ true) ↔ (result ≡ Err RunFault.Write) }
 {
     match Index::new(alloc, records, preferences, options) {
-        Ok(mut index) => answer_lines(alloc, &mut index, reader, writer),
+        Ok(mut index) => answer_requests(alloc, &mut index, reader, writer),
         Err(_) => Err(RunFault::Memory),
     }
 }

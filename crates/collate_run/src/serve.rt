@@ -83,6 +83,7 @@ pub fn tell_run_fault<E: Write>(errors: &mut E, fault: RunFault)
         RunFault::Write => b"collate: write\n",
         RunFault::LineTooLong => b"collate: line too long\n",
         RunFault::InputTooLong => b"collate: input too long\n",
+        RunFault::CutReload => b"collate: reload cut\n",
     };
     tell(errors, &[line]);
 }

@@ -148,6 +148,40 @@ fn a_run_answers_in_order(rt: HostRuntime) -> Result<(), Fail> {
     Ok(())
 }
 
+/// The digits, and a.
+const DIGITS: &[u8] = b"w 0061 ; [2A100000.0500.0.0500.0]
+w 0030 ; [11100000.0500.0.0500.0]
+w 0031 ; [11110000.0500.0.0500.0]
+w 0032 ; [11120000.0500.0.0500.0]
+w 0033 ; [11130000.0500.0.0500.0]
+w 0034 ; [11140000.0500.0.0500.0]
+w 0035 ; [11150000.0500.0.0500.0]
+w 0036 ; [11160000.0500.0.0500.0]
+w 0037 ; [11170000.0500.0.0500.0]
+w 0038 ; [11180000.0500.0.0500.0]
+w 0039 ; [11190000.0500.0.0500.0]
+digit 0030 0
+digit 0031 1
+digit 0032 2
+digit 0033 3
+digit 0034 4
+digit 0035 5
+digit 0036 6
+digit 0037 7
+digit 0038 8
+digit 0039 9
+";
+
+#[test]
+fn numbers_stand_by_value(rt: HostRuntime) -> Result<(), Fail> {
+    let words = ["a.records", "strength=primary", "numeric=on"];
+    let commands = b"add a10\nadd a9\nadd a010\nlist\n";
+    let text = written(rt.alloc(), &words, DIGITS, commands)?;
+    let replies = b"added\nadded\nadded\nnames 3\na9\na10\na010\n";
+    assert_eq!(rt; text.as_slice(), replies.as_slice());
+    Ok(())
+}
+
 /// The letters, and characters on which each option tells.
 const SIGNS: &[u8] = b"set groups 0306 030A 030E 0312
 w 0020 ; [03040000.0500.0.0500.0]

@@ -7,4 +7,6 @@ mod commands;
 #[cfg(test)]
 mod names;
 #[cfg(test)]
+mod reloads;
+#[cfg(test)]
 mod runs;

@@ -32,14 +32,14 @@ w 0302 ; [0.8A00.0.0500.0]
 w 0323 ; [0.8C00.0.0500.0]
 ";
 
-const PREFERENCES: CollatorPreferences<'static> = CollatorPreferences {
+pub(crate) const PREFERENCES: CollatorPreferences<'static> = CollatorPreferences {
     locale: "",
     collation_type: None,
     case_first: None,
     numeric_ordering: None,
 };
 
-const PRIMARY: CollatorOptions = CollatorOptions {
+pub(crate) const PRIMARY: CollatorOptions = CollatorOptions {
     strength: Some(Strength::Primary),
     alternate_handling: None,
     max_variable: None,
@@ -54,7 +54,11 @@ const TERTIARY: CollatorOptions = CollatorOptions {
 };
 
 /// An index over the letters with these names.
-fn index_of(alloc: Global, options: &CollatorOptions, names: &[&[u8]]) -> Result<Index, Fail> {
+pub(crate) fn index_of(
+    alloc: Global,
+    options: &CollatorOptions,
+    names: &[&[u8]],
+) -> Result<Index, Fail> {
     let records = Records::read(alloc, LETTERS)?;
     let mut index = Index::new(alloc, records, &PREFERENCES, options)?;
     for name in names {
@@ -64,7 +68,7 @@ fn index_of(alloc: Global, options: &CollatorOptions, names: &[&[u8]]) -> Result
 }
 
 /// Whether an index lists just these names.
-fn lists(index: &Index, expected: &[&[u8]]) -> bool {
+pub(crate) fn lists(index: &Index, expected: &[&[u8]]) -> bool {
     let mut names = index.list();
     for name in expected {
         if names.next() != Some(*name) {

@@ -1,7 +1,7 @@
 //! Runs over fakes of a reader and a writer that fail in mid-stream, and the program's texts and statuses.
 
 use crate::commands::words_of;
-use collate_index::index::{Absent, AddError};
+use collate_index::index::{Absent, AddError, ReloadError};
 use collate_records::records::Records;
 use collate_run::choice::Choice;
 use collate_run::run::{self, RunFault};
@@ -16,7 +16,8 @@ use std::test::Fail;
 
 const TEXT: &[u8] = b"add b\nadd b\nlist\nfind b\n\nreload 1\nremove b\nadd\nfind";
 
-const REPLIES: &[u8] = b"added\nduplicate\nnames 1\nb\nnames 1\nb\nbad\nbad\nremoved\nbad\nbad\n";
+const REPLIES: &[u8] =
+    b"added\nduplicate\nnames 1\nb\nnames 1\nb\nbad\nrefused 1 grammar\nbad\nbad\n";
 
 const OPTIONS: CollatorOptions = CollatorOptions {
     strength: Some(Strength::Primary),
@@ -125,7 +126,7 @@ fn ok_run(rt: HostRuntime) {
 #[test]
 fn run_ends_where_a_read_fails(rt: HostRuntime) {
     let alloc = rt.alloc();
-    // How many bytes are read, and how many bytes of replies their whole lines get.
+    // How many bytes are read, and how many bytes of replies their whole commands get.
     let stands = [
         (0, 0),
         (5, 0),
@@ -134,8 +135,11 @@ fn run_ends_where_a_read_fails(rt: HostRuntime) {
         (12, 16),
         (17, 26),
         (25, 40),
-        (47, 56),
-        (51, 56),
+        (34, 40),
+        (42, 40),
+        (43, 58),
+        (47, 62),
+        (51, 62),
     ];
     for kind in [io::ErrorKind::Interrupted, io::ErrorKind::Other] {
         for (calls, bytes) in stands {
@@ -290,12 +294,13 @@ fn serve_drops_an_error_of_the_writer_of_errors(rt: HostRuntime) {
 
 #[test]
 fn each_fault_of_a_run_has_its_line(rt: HostRuntime) {
-    let rows: [(RunFault, &[u8]); 5] = [
+    let rows: [(RunFault, &[u8]); 6] = [
         (RunFault::Memory, b"collate: memory\n"),
         (RunFault::Read, b"collate: read\n"),
         (RunFault::Write, b"collate: write\n"),
         (RunFault::LineTooLong, b"collate: line too long\n"),
         (RunFault::InputTooLong, b"collate: input too long\n"),
+        (RunFault::CutReload, b"collate: reload cut\n"),
     ];
     for (fault, line) in rows {
         let mut errors = Vec::new(rt.alloc());
@@ -320,6 +325,8 @@ fn errors_say_what_is_at_fault(rt: HostRuntime) -> Result<(), Fail> {
     assert!(rt; shows(alloc, RunFault::LineTooLong, line)?);
     let input = "the input has more than 4,294,967,295 bytes";
     assert!(rt; shows(alloc, RunFault::InputTooLong, input)?);
+    let cut = "the input ends within a reload";
+    assert!(rt; shows(alloc, RunFault::CutReload, cut)?);
     let file = "the file can't be opened or read";
     assert!(rt; shows(alloc, FileFault::Unreadable, file)?);
     assert!(rt; shows(alloc, FileFault::Memory, "out of memory")?);
@@ -327,5 +334,6 @@ fn errors_say_what_is_at_fault(rt: HostRuntime) -> Result<(), Fail> {
     assert!(rt; shows(alloc, AddError::Duplicate, duplicate)?);
     assert!(rt; shows(alloc, AddError::Memory, "out of memory")?);
     assert!(rt; shows(alloc, Absent, "the name is not in the index")?);
+    assert!(rt; shows(alloc, ReloadError::Memory, "out of memory")?);
     Ok(())
 }

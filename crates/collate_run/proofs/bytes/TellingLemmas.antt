@@ -1,5 +1,5 @@
 -- a text told part by part
-use Rattle.std.proofs.Common.{◌≡◌, ℕ, ◌+◌, ◌<◌, Option, Some, None, Result, List, [], ◌∷◌, ◌++◌, length, take, drop, get_or, flat_map, ap, sym, ◌∙◌, append_assoc, refl, subst}
+use Rattle.std.proofs.Common.{◌≡◌, ℕ, ◌+◌, ◌<◌, Option, Some, None, Result, Err, List, [], ◌∷◌, ◌++◌, length, take, drop, get_or, flat_map, ap, sym, ◌∙◌, append_assoc, refl, subst}
 use Rattle.std.proofs.lemmas.List.{append-nil, take_more, take-append-drop}
 use Rattle.std.proofs.lemmas.Grind.{flat_map-append}
 use Rattle.std.specs.Io.KnownBytes.{Appends, Keeps}
@@ -25,6 +25,12 @@ module _ {X : Type 0} (bytes : X → List ℕ) (parts : List X) (i : ℕ) (d : X
         ∙ append_assoc (flat_map bytes (take i parts) ++ sends.sent) sends.unsent (flat_map bytes (drop (i + 1) parts));
     appends = Appends-then a b c (flat_map bytes (take i parts)) sends.sent h sends.appends;
   }
+
+  -- what was sent of the parts where one of them wasn't sent whole
+  pub sent-front : {E : Type 0} (fault : E) (a b c : Option (List ℕ)) → Appends a b (flat_map bytes (take i parts)) → Sends (Err fault) b c (bytes (get_or parts i d)) → Sends (Err fault) a c (flat_map bytes parts)
+  sent-front fault a b c h sends =
+      let told = told-front (Err fault) a b c h sends in
+      record { sent = told.told; unsent = told.untold; bytes_are = told.text_is; appends = told.appends; whole = tt }
 
 pub told-all : (a b : Option (List ℕ)) (text : List ℕ) → Appends a b text → Tells a b text
 told-all a b text h = record { told = text; untold = []; text_is = sym (append-nil text); appends = h }

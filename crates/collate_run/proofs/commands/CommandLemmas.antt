@@ -1,6 +1,6 @@
 -- a line read as a command
 use Rattle.std.proofs.Common.{◌≡◌, ℕ, true, false, List, length, take, drop, Some, None, codes, bytes_eq, refl}
-use Rattle.collate_run.specs.Replies.{add, remove, find, between_command, key, list, unknown, rest_after, command_of}
+use Rattle.collate_run.specs.Replies.{add, remove, find, between_command, key, list, unknown, rest_after, record_count, reload_of, command_of}
 
 pub rest_after-some : (word line name : List ℕ) → bytes_eq (take (length word) line) word ≡ true → name ≡ drop (length word) line → rest_after word line ≡ Some name
 rest_after-some word line name starts is = rw (starts, is) refl
@@ -34,10 +34,15 @@ module _ (line rest : List ℕ) where
           command-key e = rw (a, b, c, d, e) refl
 
           module _ (e : rest_after (codes "key ") line ≡ None) where
-            pub command-list : bytes_eq line (codes "list") ≡ true → list ≡ command_of line
+            pub command-reload : rest_after (codes "reload ") line ≡ Some rest → reload_of (record_count rest) ≡ command_of line
             unfolding command_of
-            command-list f = rw (a, b, c, d, e, f) refl
+            command-reload f = rw (a, b, c, d, e, f) refl
 
-            pub command-unknown : bytes_eq line (codes "list") ≡ false → unknown ≡ command_of line
-            unfolding command_of
-            command-unknown f = rw (a, b, c, d, e, f) refl
+            module _ (f : rest_after (codes "reload ") line ≡ None) where
+              pub command-list : bytes_eq line (codes "list") ≡ true → list ≡ command_of line
+              unfolding command_of
+              command-list g = rw (a, b, c, d, e, f, g) refl
+
+              pub command-unknown : bytes_eq line (codes "list") ≡ false → unknown ≡ command_of line
+              unfolding command_of
+              command-unknown g = rw (a, b, c, d, e, f, g) refl

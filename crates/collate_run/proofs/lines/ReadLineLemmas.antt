@@ -1,13 +1,15 @@
--- a line, read byte by byte
-use Rattle.std.proofs.Common.{◌≡◌, Bool, true, false, ◌||◌, ℕ, ◌+◌, ◌≤◌, Option, None, Some, Ok, List, [], ◌∷◌, ◌++◌, length, subst, sym, ap, ◌∙◌}
+-- a line, read byte by byte, and a request, read line by line
+use Rattle.std.proofs.Common.{◌≡◌, Bool, true, false, ◌||◌, ℕ, ◌+◌, ◌≤◌, Option, None, Some, Ok, List, [], ◌∷◌, ◌++◌, length, subst, sym, ap, ◌∙◌, Bor}
 use Rattle.std.proofs.lemmas.List.{append-nil}
+use Rattle.std.specs.Prelude.{IfSome, option_map}
 use Rattle.std.specs.Io.KnownBytes.{Appends, Consumes, IsAtEnd}
 use Rattle.collate_index.specs.Catalogue.{Catalogue}
-use Rattle.collate_run.specs.Reading.{GivesByte, ReadsLine, SpellsLine}
-use Rattle.collate_run.specs.Replies.{Answers}
+use Rattle.collate_run.specs.Reading.{GivesByte, ReadsLine, ReadsRequest, SpellsLine, SpellsRequest, spelled}
+use Rattle.collate_run.specs.Replies.{Answers, behind}
 use Rattle.collate_run.specs.Runs.{input_limit, line_limit}
 use Rattle.collate_run.specs.Sending.{Sends}
 use Rattle.collate_run.specs.declared.run.Line.{Line}
+use Rattle.collate_run.specs.declared.run.Request.{Request}
 
 pub byte-consumed : (old new : Option (List ℕ)) (given : Option ℕ) (byte : ℕ) → given ≡ Some byte → GivesByte old new (Ok given) → Consumes old new (byte ∷ [])
 byte-consumed old new given byte e h = subst (λ (o : Option ℕ). GivesByte old new (Ok o)) e h
@@ -18,14 +20,52 @@ no-line given left before after bytes e h = subst (λ (o : Option Line). ReadsLi
 pub some-line : (given : Option Line) (line : Line) (left : Option (List ℕ)) (before after : ℕ) (bytes : List ℕ) → given ≡ Some line → ReadsLine (Ok given) left before after bytes → SpellsLine line left bytes × (after ≡ before + length bytes) × (after ≤ input_limit) × (length line.bytes.items ≤ line_limit)
 some-line given line left before after bytes e h = subst (λ (o : Option Line). ReadsLine (Ok o) left before after bytes) e h
 
-pub answers-same : (line line' text text' : List ℕ) (old new : Catalogue) → line' ≡ line → text' ≡ text → Answers line' old new text' → Answers line old new text
-answers-same line line' text text' old new e f h = subst (λ (xs : List ℕ). Answers xs old new text) e (subst (λ (ys : List ℕ). Answers line' old new ys) f h)
+pub no-request : (given : Option Request) (left : Option (List ℕ)) (before after : ℕ) (bytes : List ℕ) → given ≡ None → ReadsRequest (Ok given) left before after bytes → (bytes ≡ []) × IsAtEnd left
+no-request given left before after bytes e h = subst (λ (o : Option Request). ReadsRequest (Ok o) left before after bytes) e h
+
+some-request : (given : Option Request) (request : Request) (left : Option (List ℕ)) (before after : ℕ) (bytes : List ℕ) → given ≡ Some request → ReadsRequest (Ok given) left before after bytes → SpellsRequest request (behind request.line.items) left before after bytes
+some-request given request left before after bytes e h = subst (λ (o : Option Request). ReadsRequest (Ok o) left before after bytes) e h
 
 pub sent-all : {E : Type 0} (value : Unit {0}) (old new : Option (List ℕ)) (bytes : List ℕ) → Sends {E = E} (Ok value) old new bytes → Appends old new bytes
 sent-all value old new bytes sends =
     let e : bytes ≡ sends.sent = sends.bytes_are ∙ ap (λ (xs : List ℕ). sends.sent ++ xs) sends.whole ∙ append-nil sends.sent in
     subst (λ (xs : List ℕ). Appends old new xs) (sym e) sends.appends
 
+pub unmarked : (new old : Bool) → new ≡ (old || false) → new ≡ old
+unmarked new true h = h
+unmarked new false h = h
+
 pub unfailed : (new old : Bool) → new ≡ (old || false) → old ≡ false → new ≡ false
 unfailed new true h e = h ∙ e
 unfailed new false h e = h
+
+if-mapped : {V : Type 0} (view : V → List ℕ) (records : Option V) (file : List ℕ) → IfSome records (λ kept. view kept ≡ file) → IfSome (option_map view records) (λ bytes. bytes ≡ file)
+if-mapped view None file h = h
+if-mapped view (Some kept) file h = h
+
+if-given : (given : Option (Bor (List ℕ))) (file : List ℕ) → IfSome (option_map (λ lent. lent.now) given) (λ bytes. bytes ≡ file) → IfSome given (λ lent. lent.now ≡ file)
+if-given None file h = h
+if-given (Some lent) file h = h
+
+-- the record lines that are lent are those that were kept
+lent-records : {V : Type 0} (view : V → List ℕ) (records : Option V) (given : Option (Bor (List ℕ))) (file : List ℕ)
+    → option_map (λ lent. lent.now) given ≡ option_map view records → IfSome records (λ kept. view kept ≡ file) → IfSome given (λ lent. lent.now ≡ file)
+lent-records view records given file e h = if-given given file (subst (λ (o : Option (List ℕ)). IfSome o (λ bytes. bytes ≡ file)) (sym e) (if-mapped view records file h))
+
+-- a request that was read, and the answer to it: line and lent are what the answer was made of
+pub record Answered (asked : Request) (left : Option (List ℕ)) (before after : ℕ) (bytes : List ℕ) (old new : Catalogue) (text : List ℕ) : Type 0 where
+  pub spells : SpellsRequest asked (behind asked.line.items) left before after bytes
+  pub answers : Answers asked.line.items (spelled spells.records) old new text
+
+pub answered : (given : Option Request) (asked : Request) (left : Option (List ℕ)) (before after : ℕ) (bytes : List ℕ) (line : List ℕ) (lent : Option (Bor (List ℕ))) (old new : Catalogue) (text : List ℕ)
+    → given ≡ Some asked → ReadsRequest (Ok given) left before after bytes → line ≡ asked.line.items
+    → option_map (λ records. records.now) lent ≡ option_map (λ records. records.items) asked.records
+    → ((file : List ℕ) → IfSome lent (λ records. records.now ≡ file) → Answers line file old new text)
+    → Answered asked left before after bytes old new text
+answered given asked left before after bytes line lent old new text given_is read line_is lent_is answers =
+    let spells = some-request given asked left before after bytes given_is read in
+    record {
+      spells = spells;
+      answers = subst (λ (xs : List ℕ). Answers xs (spelled spells.records) old new text) line_is
+          (answers (spelled spells.records) (lent-records (λ records. records.items) asked.records lent (spelled spells.records) lent_is spells.kept));
+    }

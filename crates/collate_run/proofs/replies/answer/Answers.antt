@@ -1,24 +1,16 @@
-use Rattle.std.proofs.Common.{ap, Err}
-use Rattle.collate_run.proofs.commands.AnswerLemmas.{answers-absent, answers-added, answers-duplicate, answers-removed}
+use Rattle.std.proofs.Common.{Ok, Err, subst}
+use Rattle.collate_index.specs.Reloads.{IsRefused}
+use Rattle.collate_run.proofs.commands.AnswerLemmas.{answers-reload}
 use Rattle.collate_run.proofs.replies.answer.Goals as goal
 
-pub returns-in-Ok : goal.returns-in-Ok
-returns-in-Ok c =
-    answers-added c.args.line.now c.in-Add.name.now c.args.index.now c.add.new.self
-    c.in-Add.ensures c.in-Ok.ensures.new c.in-Ok.ensures.added
+pub returns-in-Ok-reload : goal.returns-in-Ok-reload
+returns-in-Ok-reload c = λ file kept.
+    let h = c.in-Ok-reload.ensures in
+    answers-reload c.args.line.now file c.in-Reload.field-0 c.args.records c.in-Some.file c.args.index.now c.reload.new.self (Ok c.in-Ok-reload.made)
+    c.in-Reload.ensures c.in-Some.is kept (h.accepted, h.reloaded, h.made)
 
-pub returns-in-Err-Duplicate : goal.returns-in-Err-Duplicate
-returns-in-Err-Duplicate c =
-    let h = c.in-Err-Duplicate.ensures in
-    answers-duplicate c.args.line.now c.in-Add.name.now c.args.index.now c.add.new.self
-    c.in-Add.ensures (h.duplicate (ap Err c.in-Err-Duplicate.field-0-is)) h.unchanged
-
-pub returns-in-Ok-remove : goal.returns-in-Ok-remove
-returns-in-Ok-remove c =
-    let h = c.in-Ok-remove.ensures in
-    answers-removed c.args.line.now c.in-Remove.name.now c.args.index.now c.remove.new.self c.in-Remove.ensures h.present h.removed
-
-pub returns-in-Err : goal.returns-in-Err
-returns-in-Err c =
-    let h = c.in-Err.ensures in
-    answers-absent c.args.line.now c.in-Remove.name.now c.args.index.now c.remove.new.self c.in-Remove.ensures h.absent h.unchanged
+pub returns-in-Err-Record : goal.returns-in-Err-Record
+returns-in-Err-Record c = λ file kept.
+    let h = c.in-Err-Record.ensures in
+    answers-reload c.args.line.now file c.in-Reload.field-0 c.args.records c.in-Some.file c.args.index.now c.reload.new.self (Err c.in-Err-Record.fault)
+    c.in-Reload.ensures c.in-Some.is kept (subst (IsRefused c.in-Some.file.now) c.in-Err-Record.field-0-is h.refused, h.unchanged)

@@ -1,5 +1,5 @@
 use Rattle.std.proofs.Common.{codes, sym, ◌∙◌, ap, bytes_eq}
-use Rattle.collate_run.proofs.commands.CommandLemmas.{rest_after-some, rest_after-none, command-add, command-remove, command-find, command-between, command-key, command-list, command-unknown}
+use Rattle.collate_run.proofs.commands.CommandLemmas.{rest_after-some, rest_after-none, command-add, command-remove, command-find, command-between, command-key, command-reload, command-list, command-unknown}
 use Rattle.collate_run.proofs.replies.read_command.Goals as goal
 
 pub returns-in-Some : goal.returns-in-Some
@@ -47,6 +47,18 @@ returns-in-Some-strip_prefix-4 c =
     (rest_after-none (codes "between ") line c.in_default-strip_prefix-3.ensures.cases)
     (rest_after-some (codes "key ") line c.in-Some-strip_prefix-4.name.now found.0 found.1)
 
+pub returns-in-Some-strip_prefix-5 : goal.returns-in-Some-strip_prefix-5
+returns-in-Some-strip_prefix-5 c =
+    let line = c.args.line.now in
+    let found = c.in-Some-strip_prefix-5.ensures.cases in
+    c.read_reload.ensures ∙ command-reload line c.in-Some-strip_prefix-5.digits.now
+    (rest_after-none (codes "add ") line c.in_default.ensures.cases)
+    (rest_after-none (codes "remove ") line c.in_default-strip_prefix.ensures.cases)
+    (rest_after-none (codes "find ") line c.in_default-strip_prefix-2.ensures.cases)
+    (rest_after-none (codes "between ") line c.in_default-strip_prefix-3.ensures.cases)
+    (rest_after-none (codes "key ") line c.in_default-strip_prefix-4.ensures.cases)
+    (rest_after-some (codes "reload ") line c.in-Some-strip_prefix-5.digits.now found.0 found.1)
+
 pub returns-then-eq : goal.returns-then-eq
 returns-then-eq c =
     let line = c.args.line.now in
@@ -56,6 +68,7 @@ returns-then-eq c =
     (rest_after-none (codes "find ") line c.in_default-strip_prefix-2.ensures.cases)
     (rest_after-none (codes "between ") line c.in_default-strip_prefix-3.ensures.cases)
     (rest_after-none (codes "key ") line c.in_default-strip_prefix-4.ensures.cases)
+    (rest_after-none (codes "reload ") line c.in_default-strip_prefix-5.ensures.cases)
     (ap (bytes_eq line) (sym c.as_slice.ensures) ∙ sym c.eq.ensures ∙ c.if-eq.true)
 
 pub returns-else-eq : goal.returns-else-eq
@@ -67,4 +80,5 @@ returns-else-eq c =
     (rest_after-none (codes "find ") line c.in_default-strip_prefix-2.ensures.cases)
     (rest_after-none (codes "between ") line c.in_default-strip_prefix-3.ensures.cases)
     (rest_after-none (codes "key ") line c.in_default-strip_prefix-4.ensures.cases)
+    (rest_after-none (codes "reload ") line c.in_default-strip_prefix-5.ensures.cases)
     (ap (bytes_eq line) (sym c.as_slice.ensures) ∙ sym c.eq.ensures ∙ c.if-eq.false)

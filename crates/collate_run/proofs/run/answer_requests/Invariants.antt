@@ -2,10 +2,10 @@ use Rattle.std.proofs.Common.{◌≡◌, ◌-◌, false}
 use Rattle.collate_run.specs.Runs.{input_limit}
 use Rattle.collate_run.specs.Watched.{watched_inner, watched_failed}
 use Rattle.collate_run.proofs.lines.RunLemmas.{Progress}
-use Rattle.collate_run.proofs.run.answer_lines.Given as goal
+use Rattle.collate_run.proofs.run.answer_requests.Given as goal
 
-abbrev pub invariant-lines : goal.invariant-lines
-invariant-lines g l = record {
+abbrev pub invariant-requests : goal.invariant-requests
+invariant-requests g l = record {
   reader : watched_failed l.reader ≡ false;
   writer : watched_failed l.writer ≡ false;
   progress : Progress l.fn.index l.index
@@ -14,5 +14,5 @@ invariant-lines g l = record {
       l.count;
 }
 
-abbrev pub decreases-lines : goal.decreases-lines
-decreases-lines g l = input_limit - l.count
+abbrev pub decreases-requests : goal.decreases-requests
+decreases-requests g l = input_limit - l.count

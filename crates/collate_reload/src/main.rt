@@ -1,0 +1,10 @@
+//! `collate`: names in collation order, by the records of a file (README.md, "The program").
+//! Here it stands for a run of its own that reloads its records.
+#![tactic(auto)]
+
+use collate_run::program::run_program;
+use std::process::ExitCode;
+
+fn main(rt: HostRuntime) -> ExitCode {
+    run_program(&rt)
+}
