@@ -8,3 +8,5 @@ mod commands;
 mod names;
 #[cfg(test)]
 mod runs;
+#[cfg(test)]
+mod words;
