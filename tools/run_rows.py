@@ -47,12 +47,12 @@ def agrees(line, other):
     return other is None or line == other or other.startswith('..') and line.endswith(other[2:])
 
 
-def end_of(lines):
-    """The status that the worked lines end in."""
-    first = lines[0][1][0]
-    if isinstance(first, str) and first.startswith('usage'):
+def end_of(answers):
+    """The status that a run ends with whose last line is worked out."""
+    last = answers[-1][1][-1]
+    if isinstance(last, str) and last.startswith('usage'):
         return 'status 2'
-    return 'status 1' if isinstance(first, str) and first.startswith('collate: ') else SERVED
+    return 'status 1' if isinstance(last, str) and last.startswith('collate: ') else SERVED
 
 
 def script_and_answers(oracle):
@@ -62,9 +62,9 @@ def script_and_answers(oracle):
         made += [f'# {title}', '\n'.join(['records', *below])] + (['\n'.join(['more', *more])] if more else [])
         file = ''.join(f'{line}\n' for line in [*below, *more]).encode()
         for words, asked in runs:
-            commands = [command for command, _ in asked]
-            made.append('\n'.join([heading(words), *map(escaped, commands)]))
-            lines = served(oracle, file, words, b'\n'.join(commands))
+            commands = b'\n'.join(command for command, _ in asked)
+            made.append('\n'.join([heading(words), *map(escaped, commands.split(b'\n'))]))
+            lines = served(oracle, file, words, commands)
             others = worked(asked, end_of(asked))
             if len(lines) != len(others) or not all(map(agrees, lines, others)):
                 print(heading(words), lines, others, sep='\n  ')
