@@ -58,11 +58,21 @@ fn words_of(alloc: Global, text: &str) -> Option<Vec<String>> {
     Some(words)
 }
 
-/// Prints bytes, a line each.
+/// Prints a line, with what isn't printable in it written as in a script.
+fn print_line(rt: &HostRuntime, line: &[u8]) -> Option<()> {
+    let mut separator = "";
+    for part in line.split_str(b" ") {
+        let shown = part.escape_bytes();
+        print!(rt; "{separator}{shown}").ok()?;
+        separator = " ";
+    }
+    println!(rt; "").ok()
+}
+
+/// Prints the lines of bytes.
 fn print_lines(rt: &HostRuntime, bytes: &[u8]) -> Option<()> {
     for line in bytes.lines() {
-        let shown = line.escape_bytes();
-        println!(rt; "{shown}").ok()?;
+        print_line(rt, line)?;
     }
     Some(())
 }
