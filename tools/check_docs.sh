@@ -9,7 +9,7 @@ trap 'rm -f "$words"' EXIT
 # every word of code, of file names and of crates
 { git ls-files crates tools bench examples .ci | tr '/.' '\n\n'; git grep -hoE '[A-Za-z_][A-Za-z0-9_-]*' -- crates collate crates.txt tools bench .ci; } | sort -u >"$words"
 # names of the kit, of what is to come, of wrong bodies that tests refuse, and how tests are named
-others=" rattle-kit-13b rattle-kit-13f icu_normalizer compile reload always_memory run_stops_at_first_line run_stops_after_one_line ok_ "
+others=" rattle-kit-13b rattle-kit-13f icu_normalizer compile reload always_memory compile_gives_up_on_large run_stops_at_first_line run_stops_after_one_line ok_ "
 status=0
 complain() {
     echo "$1"

@@ -271,6 +271,7 @@ OTHERS = [
 ]
 
 ACCEPTED = ('file', [line('read', 'accepted')])
+EIGHTFOLD = ['map 4E10 4E11 4E11 x', 'map 4E11 4E12 4E12 x', 'map 4E12 4E13 4E13 x']
 LARGE = [
     ('The empty file', [('records', [])], [
         ACCEPTED, ('options primary', [key('z', 'fe0408d4'), compare('a', 'b', 'Less')]), ('normalisers', form('nfc', 'a\u0301', 'a\u0301'))]),
@@ -291,6 +292,15 @@ LARGE = [
                               (' ', 'a\u4e00\u4e01\u4e02', None)),
                     line('unsafe 4E00 4E18 4E19 4E27', 'true true false false')])]),
     read('A record more', ['w 4E28 ;'], '1001 limit'),
+    ('As long a text as may be', [('records', [f'w{" 4E00" * 8} ; [2A900000.0500.0.0500.0]'])], [
+        ACCEPTED, ('options primary', [key('\u4e00' * 8, '2a90'), key('\u4e00' * 16, '2a902a90'), key('\u4e00' * 7),
+                                       compare('\u4e00' * 8, '\u4e00' * 7, 'Less')]),
+        ('tables', elements((' ', '\u4e00' * 8, rest('2a90')), (' ', '\u4e00' * 7, None)))]),
+    ('A character more in a text', [('records', [f'w{" 4E00" * 9} ;'])], [('file', [line('read', '1 limit')])]),
+    ('As long a list of a character as may be', [('records', EIGHTFOLD)], [
+        ACCEPTED, ('normalisers', [*form('nfd', '\u4e10', '\u4e13' * 8), *form('nfc', '\u4e10', '\u4e13' * 8)]),
+        ('options identical', [compare('\u4e10', '\u4e13' * 8, 'Equal'), compare('\u4e10', '\u4e13' * 7, 'Greater')])]),
+    ('A character more in a list', [('records', [*EIGHTFOLD, 'map 4E0F 4E10 4E14 x'])], [('file', [line('read', '4 C4')])]),
 ]
 
 SECTIONS = [*WORKED, *OTHERS, *REFUSED, *REPLACED, *LARGE]

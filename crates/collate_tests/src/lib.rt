@@ -10,3 +10,5 @@ mod names;
 mod reloads;
 #[cfg(test)]
 mod runs;
+#[cfg(test)]
+mod words;

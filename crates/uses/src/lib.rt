@@ -10,6 +10,8 @@ pub mod collations;
 #[cfg(test)]
 pub mod decoded;
 #[cfg(test)]
+pub mod index_changes;
+#[cfg(test)]
 pub mod names;
 #[cfg(test)]
 pub mod normal_forms;

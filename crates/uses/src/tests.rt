@@ -1,8 +1,8 @@
 //! Each public function is called once here, one test a subject.
 
 use crate::{
-    code_point_tries, collations, decoded, names, normal_forms, options, packed, records, sets,
-    unit_tries,
+    code_point_tries, collations, decoded, index_changes, names, normal_forms, options, packed,
+    records, sets, unit_tries,
 };
 use collate_records::records::Records;
 use icu_collator::CollatorPreferences;
@@ -102,6 +102,18 @@ fn ok_index_of_two(rt: HostRuntime) -> Result<(), Fail> {
     let index = names::index_of_two(rt.alloc(), file, b"b", b"ab")?;
     assert_eq!(rt; names::count_equal(&index, b"b")?, 1);
     assert_eq!(rt; names::first_name(&index), Some(b"ab".as_slice()));
+    Ok(())
+}
+
+#[test]
+fn ok_count_between(rt: HostRuntime) -> Result<(), Fail> {
+    let file = Records::read(rt.alloc(), FILE)?;
+    let mut index = names::index_of_two(rt.alloc(), file, b"b", b"ab")?;
+    assert_eq!(rt; index_changes::count_between(&index, b"a", b"ab")?, 1);
+    assert!(rt; index_changes::take_out(&mut index, b"ab"));
+    assert!(rt; !index_changes::take_out(&mut index, b"ab"));
+    assert_eq!(rt; index_changes::count_between(&index, b"a", b"ab")?, 0);
+    assert_eq!(rt; names::first_name(&index), Some(b"b".as_slice()));
     Ok(())
 }
 
