@@ -37,6 +37,11 @@ def order(left, right, answer):
             (b'remove ' + one, ['removed']), (b'remove ' + other, ['removed'])]
 
 
+def reload(lines, answer):
+    """A command that puts other records in the place of those that count."""
+    return '\n'.join([f'reload {len(lines)}', *lines]).encode(), [answer]
+
+
 def orders(words, *rows):
     """A run that asks how pairs of texts order."""
     return words, [command for row in rows for command in order(*row)]
@@ -47,6 +52,7 @@ def refused(words, line):
     return words, [(b'list', [line])]
 
 
+THREE = [(b'add ch', ['added']), (b'add cl', ['added']), (b'add ab', ['added'])]
 RUNS = [
     ('The letters', LETTERS, [], [
         keys('strength=tertiary', ('a', '2a10010501010501'), ('', '01010101'), ('\u00e1', '2a1001458801010601'),
@@ -152,6 +158,21 @@ RUNS = [
         keys(words, ('a A.+$1', None)) for words in (
             'numeric=on casefirst=upper strength=identical maxvariable=currency caselevel=on alternate=shifted',
             'alternate=shifted caselevel=on maxvariable=currency strength=identical casefirst=upper numeric=on')
+    ]),
+    ('Other records', LETTERS, [], [
+        ('strength=primary', [*THREE, (b'list', listing(b'ab', b'ch', b'cl')), (b'add ab', ['duplicate']),
+                              (b'between a\tch', listing(b'ab', b'ch')), (b'between ch\ta', listing()),
+                              reload([*LETTERS, at('ch', '2A40')], 'reloaded 2'), (b'list', listing(b'ab', b'cl', b'ch')),
+                              reload(['w 61 ;'], 'refused 1 grammar'), (b'list', listing(b'ab', b'cl', b'ch')),
+                              (b'remove x', ['absent']), (b'add', ['bad']), (b'reload 2\nw 0061 ;', ['collate: reload cut'])]),
+        ('strength=primary', [*THREE, (b'reload 01', ['bad']), (b'reload 10000000', ['bad']), (b'reload', ['bad']),
+                              (b'reload ', ['bad']), reload([], 'reloaded 3'), (b'list', listing(b'ab', b'ch', b'cl')),
+                              (b'reload 9999999\nadd x', ['collate: reload cut'])]),
+        ('strength=primary', [(b'add abce', ['added']), (b'add abch', ['added']), (b'list', listing(b'abce', b'abch')),
+                              reload([*LETTERS, 'w 0061 0062 0063 | 0065 ; [2AA00000.0500.0.0500.0]'], 'reloaded 1'),
+                              (b'list', listing(b'abch', b'abce'))]),
+        ('', [*THREE, reload([*LETTERS, 'set backward on'], 'reloaded 3'), (b'list', listing(b'ab', b'ch', b'cl')),
+              reload([*LETTERS, 'class 0301 220'], 'refused 16 C8'), reload([*LETTERS, 'set backward on'], 'reloaded 0')]),
     ]),
     ('What ends before the first command', LETTERS, ['class 0301 220'], [
         refused('', 'collate: refused 16 C8'), *(refused(words, USAGE) for words in (
