@@ -1,3 +1,4 @@
 pub mod making
 pub mod order
+pub mod reloading
 pub mod search

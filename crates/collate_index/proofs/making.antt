@@ -1,2 +1,3 @@
 -- making a collator of records
+pub mod LentLemmas
 pub mod MadeLemmas

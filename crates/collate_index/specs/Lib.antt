@@ -1,7 +1,9 @@
 pub mod Catalogue
+pub mod Changes
 pub mod Index
 pub mod Keys
 pub mod Listing
 pub mod Meaning
+pub mod Reloads
 pub use Rattle.collate_names.specs.Names
 pub use Rattle.collate_names.specs.Search

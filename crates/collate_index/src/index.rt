@@ -1,19 +1,30 @@
 //! An index: names in collation order, found by binary search over their stored keys.
 
-ghost use Rattle.std.specs.Prelude.{◌≡◌, ℕ, ◌*◌, ◌^◌, ◌+◌, ◌<◌, ◌≤◌, ◌==◌, true, false, List, All, length, Err, IfOk, OnOk, OnErr, slice_get, slice_range};
+ghost use Rattle.std.specs.Prelude.{◌≡◌, ℕ, ◌*◌, ◌^◌, ◌+◌, ◌<◌, ◌≤◌, ◌==◌, true, false, List, All, length, Err, IfErr, IfOk, OnOk, OnErr, slice_get, slice_range};
 ghost use Rattle.std.specs.Char.{IsScalar};
 ghost use Rattle.std.specs.List.{Contains};
 ghost use Rattle.std.specs.Option.{option_copied};
-ghost use Rattle.icu_collator.specs.CollatorAnswers.{key_by};
+ghost use Rattle.icu_collator.specs.CollatorAnswers.{key_by, order_by};
 ghost use Rattle.icu_collator.specs.KeyBytes.{key_of_text};
+ghost use Rattle.icu_collator.specs.Order.{collation_order};
+ghost use Rattle.collate_laws.specs.OverRecords.{IsCollatorOf};
+ghost use Rattle.collate_lines.specs.Lines.{records_of};
+ghost use Rattle.collate_name_list.specs.StoredNames.{names_of};
+ghost use Rattle.collate_records.specs.Files.{IsAccepted};
 ghost use Rattle.collate_rules.specs.Meaning.{collation_of};
 ghost use Rattle.collate_names.specs.Names.{equal_names, names_between};
 ghost use Rattle.collate_names.specs.Search.{IsPlaceOf};
-ghost use Rattle.collate_index.specs.Catalogue.{AreDistinct, opened, order_of, sorted_names, with_name, without_name};
+ghost use Rattle.collate_index.specs.Catalogue.{AreDistinct, meaning_in, opened, options_in, order_of, preferences_of, reloaded, sorted_names, with_name, without_name};
+ghost use Rattle.collate_index.specs.Index.{IsKeyed};
 ghost use Rattle.collate_index.specs.Keys.{IsKeyOf};
+ghost use Rattle.collate_index.specs.Reloads.{AreKeysMade, IsRefused};
 
+use crate::asked::Asked;
+use crate::changes::Changes;
 use crate::collators::collator_of;
 use crate::names::Names;
+pub use crate::reload::ReloadError;
+use crate::reload::{is_due, put, renewed};
 use collate_keys::IndexKey;
 pub use collate_name_list::errors::AddError;
 use collate_name_list::name_list::NameList;
@@ -30,6 +41,7 @@ use thiserror::Error;
 pub struct Index {
     alloc: Global,
     records: Records,
+    asked: Asked,
     collator: Collator<'static>,
     names: NameList,
 }
@@ -40,6 +52,7 @@ impl Drop for Index {
         let Index {
             alloc: _,
             records: _,
+            asked: _,
             collator: _,
             names: _,
         } = self;
@@ -77,10 +90,12 @@ impl Index {
         ensures { IfOk result (λ index. index ≡ opened records preferences.now options.now) }
     {
         records.keep_rules();
+        let asked = Asked::new(*options, preferences);
         let collator = collator_of(alloc, &records, *preferences, *options)?;
         Ok(Index {
             alloc,
             records,
+            asked,
             collator,
             names: NameList::new(alloc),
         })
@@ -115,6 +130,32 @@ impl Index {
         }
         self.names.remove(name);
         Ok(())
+    }
+
+    /// Reads a records file (docs/RECORDS.md), and puts its records in the place of those of the index; the names stay as
+    /// they arrived, and stand in the order of the new records. One key is made for each touched name, which reaches a
+    /// changed character by the old records' mapping steps, or, where a setting changed, one for each name. The answer is
+    /// how many.
+    ///
+    /// Errors: `Record` with the first fault of a file that isn't accepted, `Memory` where memory is refused; the index is
+    /// then as before.
+    pub fn reload(&mut self, bytes: &[u8]) -> Result<usize, ReloadError>
+        ensures accepted { OnOk result (IsAccepted bytes.now) }
+        ensures reloaded { OnOk result (self.new ≡ reloaded (records_of bytes.now) self.old) }
+        ensures made { IfOk result (λ made. AreKeysMade self.old (records_of bytes.now) made) }
+        ensures refused { IfErr result (IsRefused bytes.now) }
+        ensures unchanged { OnErr result (self.new ≡ self.old) }
+    {
+        let records = Records::read(self.alloc, bytes)?;
+        records.keep_rules();
+        let preferences = self.asked.preferences();
+        let collator = collator_of(self.alloc, &records, preferences, self.asked.options)?;
+        let mut made = 0;
+        let names = self.names_by(&records, &collator, &mut made)?;
+        self.records = records;
+        self.collator = collator;
+        self.names = names;
+        Ok(made)
     }
 
     /// The places of the names that compare as equal to a name, `0..0` if there are none, and how many comparisons of
@@ -186,17 +227,49 @@ impl Index {
         self.names.is_empty()
     }
 
-    /// The collator of the records, preferences and options, lent: its keys are those that the names stand by.
+    /// The collator of the records, preferences and options, lent: texts have the keys and the order that the records
+    /// give them.
     pub fn collator(&self) -> CollatorBorrowed<'_>
         ensures keys { (text : List ℕ) → All IsScalar text
-            → key_by result text ≡ key_of_text (collation_of self.now.meaning.records) self.now.meaning.options text }
+            → key_by result text ≡ key_of_text (collation_of self.now.records) (options_in self.now) text }
+        ensures orders { (x y : List ℕ) → All IsScalar x → All IsScalar y
+            → order_by result x y ≡ collation_order (collation_of self.now.records) (options_in self.now) x y }
     {
         self.collator.as_borrowed()
     }
 
+    /// The names with their keys by other records and a collator of these. The count goes up by one for each key that is
+    /// made.
+    fn names_by(
+        &self,
+        records: &Records,
+        collator: &Collator<'static>,
+        made: &mut usize,
+    ) -> Result<NameList, AllocError>
+        requires collator { IsCollatorOf records.now self.now.asked.options (preferences_of self.now.asked) collator.now }
+        requires none { made.old ≡ 0 }
+        ensures names { IfOk result (λ names. names_of names ≡ self.now.arrivals) }
+        ensures keyed { IfOk result (λ names. All (IsKeyed (meaning_in (reloaded records.now self.now))) names) }
+        ensures made { OnOk result (AreKeysMade self.now records.now made.new) }
+    {
+        records.keep_rules();
+        self.names.keep_promise();
+        let _most = self.names.len();
+        let is_set_alike = self.records.settings_equal(records);
+        let lent = collator.as_borrowed();
+        let mut changes = Changes::new(self.alloc, &self.records, records)?;
+        let mut names = NameList::new(self.alloc);
+        for (name, key) in self.names.arrived() {
+            let is_due = is_due(&mut changes, is_set_alike, name);
+            let key = renewed(self.alloc, &lent, name, key, is_due, made)?;
+            put(&mut names, name, key)?;
+        }
+        Ok(names)
+    }
+
     /// The key of a name.
     fn key_of(&self, name: &[u8]) -> Result<IndexKey, AllocError>
-        ensures { IfOk result (IsKeyOf self.now.meaning name.now) }
+        ensures { IfOk result (IsKeyOf (meaning_in self.now) name.now) }
     {
         let mut keys = 0;
         IndexKey::make(self.alloc, &self.collator(), name, &mut keys)

@@ -1,19 +1,24 @@
-//! Laws of how names compare: the functions do nothing, and their contracts are the laws.
+//! Laws of how names compare, and of reloads: the functions do nothing, and their contracts are the laws.
 
 ghost use Rattle.std.specs.Char.{IsScalar};
 ghost use Rattle.std.specs.Cmp.{IsTotalOrder};
 ghost use Rattle.std.specs.Cmp.Lexicographic.{slice_cmp};
 ghost use Rattle.std.specs.Ordering.{nat_cmp};
-ghost use Rattle.std.specs.Prelude.{◌≡◌, ℕ, ◌↔◌, All, List};
+ghost use Rattle.std.specs.List.{Contains};
+ghost use Rattle.std.specs.Prelude.{◌≡◌, ℕ, ◌↔◌, ◌∷◌, ◌++◌, All, List};
 ghost use Rattle.std.specs.declared.cmp.Ordering.TheVariants.{Equal};
 ghost use Rattle.icu_normalizer_core.specs.Canonical.{IsDecomposing};
 ghost use Rattle.icu_normalizer_core.specs.Decoding.{utf8_chars};
+ghost use Rattle.icu_collator_types.specs.declared.options.CollatorOptions.{CollatorOptions};
+ghost use Rattle.icu_collator_types.specs.declared.options.CollatorPreferences.{CollatorPreferences};
 ghost use Rattle.icu_collator_types.specs.declared.options.ResolvedCollatorOptions.{ResolvedCollatorOptions};
 ghost use Rattle.icu_collator_core.specs.Collation.{Collation};
 ghost use Rattle.icu_collator.specs.KeyBytes.{key_of_text};
 ghost use Rattle.icu_collator.specs.SoundCollation.{IsSoundCollation};
+ghost use Rattle.collate_lines.specs.Record.{Record};
 ghost use Rattle.collate_rules.specs.Accepted.{AreAccepted};
 ghost use Rattle.collate_rules.specs.Meaning.{collation_of};
+ghost use Rattle.collate_index.specs.Catalogue.{AreDistinct, Catalogue, asked_of, opened, reloaded, with_names};
 ghost use Rattle.collate_index.specs.Meaning.{Meaning, name_order, order_by};
 
 /// Names compare as a total preorder, whatever data and options say: turning two names round turns the answer round,
@@ -47,4 +52,13 @@ pub fn equal_keys_are_of_equal_names()
 pub fn keys_order_as_names_of_records()
     ensures { (m : Meaning) (a b : List ℕ) → AreAccepted m.records
         → slice_cmp nat_cmp (key_of_text (collation_of m.records) m.options (utf8_chars a)) (key_of_text (collation_of m.records) m.options (utf8_chars b)) ≡ order_by m a b }
+{}
+
+/// A reloaded index is, to its callers, the one that is built anew: opened over the new records by the same preferences and
+/// options, its names added in their order of arrival, each of them new. So it replies as that one does.
+pub fn reloaded_as_built_anew()
+    ensures same { (records : List Record) (preferences : CollatorPreferences) (options : CollatorOptions) (s : Catalogue)
+        → s.asked ≡ asked_of options preferences → reloaded records s ≡ with_names s.arrivals (opened records preferences options) }
+    ensures new { (s : Catalogue) (before behind : List (List ℕ)) (name : List ℕ)
+        → AreDistinct s.arrivals → s.arrivals ≡ before ++ name ∷ behind → ¬ Contains before name }
 {}

@@ -16,7 +16,8 @@ use std::marker::Model;
 
 /// The sort key of a name, as its contracts see it a list of bytes. Only `make` makes one, and only `compare` reads it;
 /// each adds one to its caller's count, which stays at the greatest `usize`. Its front may be compared in its stead
-/// (`collate_places::fronts::compare_fronts`), which counts as one comparison too.
+/// (`collate_places::fronts::compare_fronts`), which counts as one comparison too. A clone is the same key.
+#[derive(Clone)]
 pub struct IndexKey {
     bytes: Vec<u8>,
 }

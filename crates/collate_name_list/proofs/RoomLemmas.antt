@@ -10,7 +10,7 @@ use Rattle.collate_places.specs.Fronts.{IsFrontOf}
 use Rattle.collate_places.specs.Lists.{renumbered, numbered as numbered_placed}
 use Rattle.collate_places.specs.declared.windows.Placed.{Placed}
 use Rattle.collate_name_list.specs.StoredNames.{StoredName, key_order}
-use Rattle.collate_name_list.specs.Slots.{AreFronted, IsFull, places_of, entry_of, entry_or_none, entry_at, full_slots, entries, bytes_order, slots_by_key, slots_by_name, HaveOwnNames, IsKept}
+use Rattle.collate_name_list.specs.Slots.{AreFronted, IsFull, places_of, entry_of, entry_or_none, entry_at, full_slots, entries, names_in, bytes_order, slots_by_key, slots_by_name, HaveOwnNames, IsKept}
 use Rattle.collate_name_list.specs.Room.{numbers_from}
 use Rattle.collate_name_list.specs.declared.slots.Stored.{Stored}
 use Rattle.collate_name_list.specs.declared.name_list.NameList.TheInside.{Inside}
@@ -64,11 +64,6 @@ numbers_are slots = numbered [] 0 0 slots (numbers_from 0 slots) refl refl
 
 -- ---- the same names
 
-abbrev names_in : List (Option Stored) → List StoredName
-names_in [] = []
-names_in (None ∷ slots) = names_in slots
-names_in (Some s ∷ slots) = entry_of s ∷ names_in slots
-
 named_from : (before : List (Option Stored)) (from : ℕ) (slots all : List (Option Stored)) → all ≡ before ++ slots → length before ≡ from → map (entry_at all) (full_slots from slots) ≡ names_in slots
 named_from before from [] all e l = refl
 named_from before from (None ∷ slots) all e l =
@@ -79,6 +74,10 @@ named_from before from (Some s ∷ slots) all e l =
     let here : entry_at all from ≡ entry_of s = ap entry_or_none (ap (λ ss. get_or ss from None) e ∙ get_or_at before (Some s) slots None from l) in
     ap (λ n. n ∷ map (entry_at all) (full_slots (from + 1) slots)) here
     ∙ ap (λ ns. entry_of s ∷ ns) (named_from (before ++ Some s ∷ []) (from + 1) slots all (e ∙ sym (append_assoc before (Some s ∷ []) slots)) long)
+
+-- the names in slots, both ways
+pub entries_are : (slots : List (Option Stored)) → names_in slots ≡ entries slots
+entries_are slots = sym (named_from [] 0 slots slots refl refl)
 
 names_stay : (slots : List (Option Stored)) → names_in (dense slots) ≡ names_in slots
 names_stay [] = refl

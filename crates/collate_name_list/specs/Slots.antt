@@ -1,4 +1,5 @@
 -- how a list of names is kept: its names in slots, as they arrived, some of the slots emptied; and the full slots in two orders
+use Rattle.std.specs.Borrow.{Bor}
 use Rattle.std.specs.Prelude.{All, ◌≡◌, ℕ, ◌+◌, List, [], ◌∷◌, map, slice_index_or, Option, Some, None, IsSome}
 use Rattle.std.specs.Cmp.Lexicographic.{slice_cmp}
 use Rattle.std.specs.Ordering.{nat_cmp, on, ordering_then}
@@ -38,6 +39,16 @@ full_slots from (Some s ∷ slots) = from ∷ full_slots (from + 1) slots
 -- the names in slots, as they arrived
 abbrev pub entries : List (Option Stored) → List StoredName
 entries slots = map (entry_at slots) (full_slots 0 slots)
+
+-- the same by recursion over the slots
+abbrev pub names_in : List (Option Stored) → List StoredName
+names_in [] = []
+names_in (None ∷ slots) = names_in slots
+names_in (Some s ∷ slots) = entry_of s ∷ names_in slots
+
+-- a name and its key that are lent
+abbrev pub lent_name : Bor (List ℕ) × Bor (List ℕ) → StoredName
+lent_name lent = record { key = lent.1.now; name = lent.0.now }
 
 -- names compare as their bytes do
 abbrev pub bytes_order : StoredName → StoredName → Ordering

@@ -2,6 +2,7 @@
 //! bytes. Begin with `name_list::NameList`.
 #![tactic(auto)]
 
+pub mod arrived;
 pub mod errors;
 pub mod name_list;
 mod room;

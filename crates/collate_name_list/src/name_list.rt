@@ -8,6 +8,7 @@ ghost use Rattle.std.specs.Ordering.{nat_cmp};
 ghost use Rattle.collate_names.specs.Search.{IsPlaceOf};
 ghost use Rattle.collate_name_list.specs.StoredNames.{AreDistinct, names_of, sorted, without};
 
+use crate::arrived::Arrived;
 use crate::errors::AddError;
 use crate::room::{drop_empty, numbers_of};
 use crate::slots::{Stored, place_of_key, place_of_name, place_of_slot, slot_of_name, stored_in};
@@ -145,6 +146,15 @@ impl NameList {
         let placed = self.by_key.at(place)?;
         let stored = stored_in(self.slots.as_slice(), placed.place)?;
         Some(stored.bytes.as_slice())
+    }
+
+    /// The names with their keys, as they arrived.
+    pub fn arrived(&self) -> Arrived<'_>
+        ensures { result ≡ self.now }
+    {
+        Arrived {
+            left: self.slots.as_slice(),
+        }
     }
 
     /// No name is there twice: it does nothing, and its contract says so.

@@ -5,7 +5,7 @@ use Rattle.hex.specs.Hex.{encode_lower}
 use Rattle.icu_normalizer_core.specs.Decoding.{utf8_chars}
 use Rattle.icu_collator.specs.KeyBytes.{key_of_text}
 use Rattle.collate_rules.specs.Meaning.{collation_of}
-use Rattle.collate_index.specs.Catalogue.{Catalogue, order_of, sorted_names, with_name, without_name}
+use Rattle.collate_index.specs.Catalogue.{Catalogue, options_in, order_of, sorted_names, with_name, without_name}
 use Rattle.collate_index.specs.Names.{equal_names, names_between}
 
 -- what a line asks for
@@ -65,7 +65,7 @@ is_among names name = list_any (λ other. bytes_eq other name) names
 
 -- the sort key of a name, under the records and options of a catalogue
 abbrev pub key_of_name : Catalogue → List ℕ → List ℕ
-key_of_name catalogue name = key_of_text (collation_of catalogue.meaning.records) catalogue.meaning.options (utf8_chars name)
+key_of_name catalogue name = key_of_text (collation_of catalogue.records) (options_in catalogue) (utf8_chars name)
 
 -- the reply to a command that got its memory
 abbrev pub answer_to : LineCommand → Catalogue → List ℕ

@@ -16,8 +16,8 @@ use Rattle.collate_names.proofs.NamesLemmas.{in_order_is_permutation, length-in_
 use Rattle.collate_names.proofs.PlaceLemmas.{place_alike, place_map}
 use Rattle.collate_name_list.specs.StoredNames.{StoredName, key_order, names_of, sorted, without}
 use Rattle.collate_name_list.specs.declared.errors.AddError.{AddError}
-use Rattle.collate_index.specs.Catalogue.{Catalogue, order_of, sorted_names}
-use Rattle.collate_index.specs.Index.{IsKept, IsKeyed, catalogue_of, meaning_inside}
+use Rattle.collate_index.specs.Catalogue.{Catalogue, meaning_in, order_of, sorted_names}
+use Rattle.collate_index.specs.Index.{IsKept, IsKeyed, catalogue_of}
 use Rattle.collate_index.specs.declared.index.Index.TheInside.{Inside}
 use Rattle.collate_index.specs.Keys.{IsKeyOf, key_of_name}
 use Rattle.collate_index.specs.Meaning.{Meaning, order_by}
@@ -64,22 +64,22 @@ module _ (m : Meaning) (accepted : AreAccepted m.records) where
 -- an index as its callers see it
 module _ (s : Inside) (kept : IsKept s) (now : Catalogue) (is : catalogue_of s ≡ now) where
   pub listed : names_of (sorted s.names) ≡ sorted_names now
-  listed = names_sorted (meaning_inside s) kept.accepted s.names kept.keyed ∙ ap (λ (c : Catalogue). sorted_names c) is
+  listed = names_sorted (meaning_in (catalogue_of s)) kept.accepted s.names kept.keyed ∙ ap (λ (c : Catalogue). sorted_names c) is
 
   pub length_listed : length (sorted s.names) ≡ length (sorted_names now)
   length_listed = sym (length-map (sorted s.names) (λ (stored : StoredName). stored.name)) ∙ ap length listed
 
-  pub placed : (name key : List ℕ) → IsKeyOf now.meaning name key → (past : Bool) (at : ℕ) → at ≤ length (sorted s.names)
+  pub placed : (name key : List ℕ) → IsKeyOf (meaning_in now) name key → (past : Bool) (at : ℕ) → at ≤ length (sorted s.names)
       → IsPlaceOf (λ (stored : StoredName). slice_cmp nat_cmp stored.key key) past (sorted s.names) at
       → IsPlaceOf (λ other. order_of now other name) past (sorted_names now) at
   placed name key of past at within place =
       subst (λ (c : Catalogue). IsPlaceOf (λ other. order_of c other name) past (sorted_names c) at) is
-      (place_by_names (meaning_inside s) kept.accepted s.names kept.keyed name key
-      (subst (λ (c : Catalogue). IsKeyOf c.meaning name key) (sym is) of) past at within place)
+      (place_by_names (meaning_in (catalogue_of s)) kept.accepted s.names kept.keyed name key
+      (subst (λ (c : Catalogue). IsKeyOf (meaning_in c) name key) (sym is) of) past at within place)
 
 -- other names, each with its key
-pub kept_names : (s : Inside) → IsKept s → (names : List StoredName) → All (IsKeyed (meaning_inside s)) names → IsKept (record s { names = names })
-kept_names s kept names keyed = record { accepted = kept.accepted; keys = kept.keys; keyed = keyed }
+pub kept_names : (s : Inside) → IsKept s → (names : List StoredName) → All (IsKeyed (meaning_in (catalogue_of s))) names → IsKept (record s { names = names })
+kept_names s kept names keyed = record { accepted = kept.accepted; collator = kept.collator; keyed = keyed }
 
 -- a name that is added with its key, or isn't
 pub keyed_added : (m : Meaning) (result : Result (Unit {0}) AddError) (old new : List StoredName) (stored : StoredName) → OnOk result (new ≡ old ++ stored ∷ [])

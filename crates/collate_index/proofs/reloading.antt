@@ -1,0 +1,4 @@
+-- records in the place of others
+pub mod AnewLemmas
+pub mod KnownLemmas
+pub mod ReloadLemmas
