@@ -9,6 +9,10 @@ LETTERS = ['class 0302 230', 'class 0323 220', 'map 00E1 0061 0301', 'map 1EA1 0
            *(f'w {c} ; [0.{s}.0.0500.0]' for c, s in (('0301', '8800'), ('0302', '8A00'), ('0323', '8C00')))]
 CAPITAL = 'w 0041 ; [2A100000.0500.2.0900.0]'
 DIGITS = [line for i in range(10) for line in (f'digit {0x30 + i:04X} {i}', f'w {0x30 + i:04X} ; [111{i}0000.0500.0.0500.0]')]
+MARKS = ['class 0303 230', 'class 0304 230', 'class 0305 230', 'class 0306 230', 'class 0307 230',
+         *(f'w {c} ; [0.{s}.0.0500.0]' for c, s in (('0300', '8600'), ('0303', '8B00'), ('0304', '8D00'), ('0305', '8E00'),
+                                                    ('0306', '8F00'), ('0307', '9000')))]
+TILDE_DIGIT = [*(said for said in MARKS if said != 'class 0303 230'), *DIGITS, 'digit 0303 5']
 STRENGTHS = ('primary', 'secondary', 'tertiary', 'quaternary', 'identical')
 LOADS = ('nfd', 'nfd_tables', 'pairs', 'root', 'jamo', 'special_primaries', 'metadata', 'diacritics')
 
@@ -142,7 +146,8 @@ WORKED = [
     section('Numbers', DIGITS,
             ('options tertiary', [compare('a2', 'a10', 'Greater')]),
             ('options tertiary,numeric', [compare('a2', 'a10', 'Less'), compare('a99', 'a100', 'Less')]),
-            ('options quaternary,numeric', [compare('a007b', 'a7b', 'Equal')]),
+            ('options quaternary,numeric', [compare('a007b', 'a7b', 'Equal'), key('a007b', '2a1010092a200107010107010101'),
+                                            key('a7b', '2a1010092a200107010107010101')]),
             ('options identical,numeric', [compare('a007b', 'a7b', 'Less')]),
             ('options primary,numeric', [
                 compare('0007', '7', 'Equal'), compare('9' * 254, '1' + '0' * 253, 'Greater'),
@@ -150,12 +155,19 @@ WORKED = [
                 *numbers(('73', '104b'), ('74', '104c02'), ('10233', '1073ff'), ('10234', '10740202'), ('1042489', '1083ffff'),
                          ('1042490', '10840d13103bbe'), ('9999999', '10841dd110d1d0'), ('10000000', '10841e'),
                          ('100000000', '10850c'), ('0', '1002'), ('000', '1002')),
-                key('9' * 254), key('1' + '0' * 253), key('a' + '12' * 130 + 'b')]),
+                key('9' * 254, '10ffd1d1' + '10d1d1d1' * 41 + '10d1d0'), key('1' + '0' * 253, '10ff1e'),
+                key('0001' + '0' * 253, '10ff1e'), key('a' + '12' * 130 + 'b')]),
             ('tables', elements(
                 ('n', '73', rest('104b')), ('n', '74', rest('104c02')), ('n', '10233', rest('1073ff')),
                 ('n', '10234', rest('10740202')), ('n', '1042489', rest('1083ffff')),
                 ('n', '1042490', rest('10840d13', '103bbe')), ('n', '0007', rest('1009')), ('n', 'a2', rest('2a10', '1004')),
                 ('n', 'a10', rest('2a10', '100c')), (' ', 'a10', rest('2a10', '1111', '1110'))))),
+    section('A dot above goes before a tilde that begins a number', [*TILDE_DIGIT, 'set dotabove on'],
+            ('options primary,numeric', [compare('a\u0307\u0303', 'a\u03070\u0303', 'Equal')]),
+            ('options secondary,numeric', [compare('a\u0307\u0303', 'a\u03070\u0303', 'Less')])),
+    section('It stays where no dot above goes', [*TILDE_DIGIT, 'set dotabove off'],
+            ('options quaternary,numeric', [compare('a\u0307\u0303', 'a\u03070\u0303', 'Equal'),
+                                            compare('a\u0307\u0303', 'a\u03071', 'Greater')])),
     section('A range', ['range 4E00 9FFF E0020200 1'],
             ('options primary', [key('\u4e00', 'e00202'), key('\u4efe', 'e00302')]),
             ('tables', elements((' ', '\u4e00', rest('e00202')), (' ', '\u4efe', rest('e00302')),
@@ -214,9 +226,6 @@ def damaged(encoding, text, count):
 
 
 TWENTY = 'a' * 20
-MARKS = ['class 0303 230', 'class 0304 230', 'class 0305 230', 'class 0306 230', 'class 0307 230',
-         *(f'w {c} ; [0.{s}.0.0500.0]' for c, s in (('0300', '8600'), ('0303', '8B00'), ('0304', '8D00'), ('0305', '8E00'),
-                                                    ('0306', '8F00'), ('0307', '9000')))]
 BEHIND = (TWENTY + 'c', TWENTY + 'e')
 TIED = [('abcl', 'abco'), ('abc', 'abe'), ('ablcl', 'ablco'), ('ablc', 'able'), ('ehl', 'eho'), ('eh', 'ec'), ('hhhhl', 'hhhho')]
 MARKED = ('\u00e1' * 20, 'a\u0301' * 20, 'a\u0323\u0301' * 20, '\uac00' * 20, 'e\u0301\uac01\u00e1' * 20)
