@@ -17,3 +17,7 @@ of_any P None holds = tt
 pub of_ok : {T E : Type 0} (P Q : T → Type 0) (result : Result T E) (answer : Option T) → answer ≡ result_ok result → IfOk result P → ((value : T) → P value → Q value) → IfSome answer Q
 of_ok {T = T} P Q (Ok value) answer is holds follows = subst (λ (o : Option T). IfSome o Q) (sym is) (follows value holds)
 of_ok {T = T} P Q (Err error) answer is holds follows = subst (λ (o : Option T). IfSome o Q) (sym is) tt
+
+-- what is said of a result is true of the value that `ok` gave
+pub of_given : {T E : Type 0} (P : T → Type 0) (result : Result T E) (value : T) → Some value ≡ result_ok result → IfOk result P → P value
+of_given {T = T} {E = E} P result value is holds = subst (λ (r : Result T E). IfOk r P) (ok_gives result value is) holds

@@ -8,9 +8,11 @@ pub mod code_point_tries;
 #[cfg(test)]
 pub mod collations;
 #[cfg(test)]
+pub mod comparisons;
+#[cfg(test)]
 pub mod decoded;
 #[cfg(test)]
-pub mod index_changes;
+pub mod equivalences;
 #[cfg(test)]
 pub mod names;
 #[cfg(test)]
@@ -21,6 +23,8 @@ pub mod options;
 pub mod packed;
 #[cfg(test)]
 pub mod records;
+#[cfg(test)]
+pub mod runs;
 #[cfg(test)]
 pub mod sets;
 #[cfg(test)]

@@ -1,8 +1,13 @@
-//! The index: putting names into it, looking for one, and listing them.
-ghost use Rattle.std.specs.Prelude.{◌≡◌, ◌≢◌, ◌∷◌, [], length, slice_get, IfOk};
+//! The index: opening one over the bytes of a records file, putting names into it and taking one out, looking for names, and
+//! listing them.
+ghost use Rattle.std.specs.Prelude.{◌≡◌, ◌≢◌, ◌↔◌, ◌∷◌, [], length, slice_get, IfOk, IfSome, IsTrue, MatchBool};
+ghost use Rattle.std.specs.Bool.{OnFalse, OnTrue};
+ghost use Rattle.std.specs.List.{Contains};
 ghost use Rattle.std.specs.Option.{option_copied};
-ghost use Rattle.collate_index.specs.Catalogue.{order_of, sorted_names};
-ghost use Rattle.collate_index.specs.Names.{equal_names};
+ghost use Rattle.collate_index.specs.Catalogue.{opened, order_of, reloaded, sorted_names, without_name};
+ghost use Rattle.collate_index.specs.Names.{equal_names, names_between};
+ghost use Rattle.collate_lines.specs.Lines.{records_of};
+ghost use Rattle.collate_records.specs.Files.{IsAccepted};
 
 use collate_index::index::{AddError, Index};
 use collate_records::records::Records;
@@ -16,6 +21,20 @@ const PREFERENCES: CollatorPreferences<'static> = CollatorPreferences {
     case_first: None,
     numeric_ordering: None,
 };
+
+/// An index with no names over a records file; `None` where the file breaks a rule, or memory is refused.
+pub fn index_by_file(
+    alloc: Global,
+    file: &[u8],
+    preferences: &CollatorPreferences<'_>,
+    options: &CollatorOptions,
+) -> Option<Index>
+    ensures accepted { IfSome result (λ _. IsAccepted file.now) }
+    ensures opened { IfSome result (λ index. index ≡ opened (records_of file.now) preferences.now options.now) }
+{
+    let records = Records::read(alloc, file).ok()?;
+    Index::new(alloc, records, preferences, options).ok()
+}
 
 /// An index of two names, which are not the same bytes.
 pub fn index_of_two(
@@ -39,6 +58,30 @@ pub fn count_equal(index: &Index, name: &[u8]) -> Result<usize, AllocError>
 {
     let found = index.find(name)?;
     Ok(found.names.end - found.names.start)
+}
+
+/// How many names of the index stand from one name to another.
+pub fn count_between(index: &Index, first: &[u8], last: &[u8]) -> Result<usize, AllocError>
+    ensures { IfOk result (λ count. count ≡ length (names_between (order_of index.now) first.now last.now (sorted_names index.now))) }
+{
+    let places = index.between(first, last)?;
+    Ok(places.end - places.start)
+}
+
+/// Takes a name out of the index; whether it was there. It takes no memory.
+pub fn take_out(index: &mut Index, name: &[u8]) -> bool
+    ensures present { IsTrue result ↔ Contains index.old.arrivals name.now }
+    ensures taken { OnTrue result (index.new ≡ without_name name.now index.old) }
+    ensures unchanged { OnFalse result (index.new ≡ index.old) }
+{
+    index.remove(name).is_ok()
+}
+
+/// Puts a records file in the place of the index's own, the names as they are, and tells whether it was taken.
+pub fn adopt(index: &mut Index, file: &[u8]) -> bool
+    ensures { MatchBool result (index.new ≡ reloaded (records_of file.now) index.old) (index.new ≡ index.old) }
+{
+    index.reload(file).is_ok()
 }
 
 /// The first name in order. It takes no memory.

@@ -1,0 +1,3 @@
+pub mod MovedLemmas
+pub mod ReplyLemmas
+pub mod TouchedLemmas
