@@ -60,11 +60,14 @@ fn words_of(alloc: Global, text: &str) -> Option<Vec<String>> {
 
 /// Prints a line, with what isn't printable in it written as in a script.
 fn print_line(rt: &HostRuntime, line: &[u8]) -> Option<()> {
-    let mut separator = "";
+    let mut is_first = true;
     for part in line.split_str(b" ") {
+        if !is_first {
+            print!(rt; " ").ok()?;
+        }
+        is_first = false;
         let shown = part.escape_bytes();
-        print!(rt; "{separator}{shown}").ok()?;
-        separator = " ";
+        print!(rt; "{shown}").ok()?;
     }
     println!(rt; "").ok()
 }
