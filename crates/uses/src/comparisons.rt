@@ -1,18 +1,17 @@
-//! Texts of every encoding, compared by the bytes of a records file; and compared by their keys alone.
+//! Texts of every encoding, compared by the bytes of a records file.
 ghost use Rattle.std.specs.Prelude.{◌≡◌, IfSome};
 ghost use Rattle.icu_normalizer_core.specs.Decoding.{latin1_chars, utf16_chars, utf8_chars};
-ghost use Rattle.icu_collator.specs.CollatorAnswers.{key_by};
-ghost use Rattle.collate_file_laws.specs.Files.{HasPlainLeads, file_order};
+ghost use Rattle.collate_file_laws.specs.Files.{file_order};
 ghost use Rattle.collate_laws.specs.OverRecords.{IsCollatorOf};
 ghost use Rattle.collate_lines.specs.Lines.{records_of};
 ghost use Rattle.collate_records.specs.Files.{IsAccepted};
 
-use collate_file_laws::files::{collators_answer_as_the_file_says, file_keys_order_as_texts};
+use collate_file_laws::files::collators_answer_as_the_file_says;
 use collate_index::collators::collator_of;
 use collate_records::records::Records;
 use icu_collator::laws_collators::characters_are_scalars;
 use icu_collator::options::CollatorOptions;
-use icu_collator::{Collator, CollatorBorrowed, CollatorPreferences};
+use icu_collator::{Collator, CollatorPreferences};
 use std::alloc::Global;
 use std::cmp::Ordering;
 
@@ -116,37 +115,4 @@ pub fn latin1_units_order_by_file(
     collators_answer_as_the_file_says();
     characters_are_scalars();
     Some(order)
-}
-
-/// The key of a text in UTF-8 by a collator.
-fn key_of(alloc: Global, collator: &CollatorBorrowed<'_>, text: &[u8]) -> Option<Vec<u8>>
-    ensures { IfSome result (λ key. key.items ≡ key_by collator.now (utf8_chars text.now)) }
-{
-    let mut key = Vec::new(alloc);
-    collator.write_sort_key_utf8_to(alloc, text, &mut key).ok()?;
-    Some(key)
-}
-
-/// How two texts order by the bytes of their keys alone. It is as `bytes_order_by_file` answers, where numeric ordering is off
-/// or the file's lead of numbers isn't compressible.
-pub fn keys_order_by_file(
-    alloc: Global,
-    file: &[u8],
-    preferences: CollatorPreferences<'_>,
-    options: CollatorOptions,
-    left: &[u8],
-    right: &[u8],
-) -> Option<Ordering>
-    ensures accepted { IfSome result (λ _. IsAccepted file.now) }
-    ensures order { HasPlainLeads file.now options preferences.entry
-        → IfSome result (λ order. order ≡ file_order file.now options preferences.entry (utf8_chars left.now) (utf8_chars right.now)) }
-{
-    let collator = collator_by_file(alloc, file, preferences, options)?;
-    let borrowed = collator.as_borrowed();
-    let left_key = key_of(alloc, &borrowed, left)?;
-    let right_key = key_of(alloc, &borrowed, right)?;
-    collators_answer_as_the_file_says();
-    file_keys_order_as_texts();
-    characters_are_scalars();
-    Some(left_key.as_slice().cmp(right_key.as_slice()))
 }

@@ -12,8 +12,6 @@ pub mod comparisons;
 #[cfg(test)]
 pub mod decoded;
 #[cfg(test)]
-pub mod equivalences;
-#[cfg(test)]
 pub mod names;
 #[cfg(test)]
 pub mod normal_forms;
@@ -23,8 +21,6 @@ pub mod options;
 pub mod packed;
 #[cfg(test)]
 pub mod records;
-#[cfg(test)]
-pub mod runs;
 #[cfg(test)]
 pub mod sets;
 #[cfg(test)]

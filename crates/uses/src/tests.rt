@@ -1,11 +1,10 @@
 //! Each public function is called once here, one test a subject.
 
 use crate::{
-    code_point_tries, collations, comparisons, decoded, equivalences, names, normal_forms, options,
-    packed, records, runs, sets, unit_tries,
+    code_point_tries, collations, comparisons, decoded, names, normal_forms, options, packed,
+    records, sets, unit_tries,
 };
 use collate_records::records::Records;
-use collate_run::watched::Watched;
 use icu_collator::CollatorPreferences;
 use icu_collator::options::CollatorOptions;
 use icu_collator_types::options::{FileSettings, Strength};
@@ -115,6 +114,8 @@ fn ok_count_between(rt: HostRuntime) -> Result<(), Fail> {
     assert!(rt; !names::take_out(&mut index, b"ab"));
     assert_eq!(rt; names::count_between(&index, b"a", b"ab")?, 0);
     assert_eq!(rt; names::first_name(&index), Some(b"b".as_slice()));
+    assert!(rt; names::adopt(&mut index, b""));
+    assert!(rt; !names::adopt(&mut index, b"w"));
     Ok(())
 }
 
@@ -161,7 +162,7 @@ fn ok_bytes_order_by_file(rt: HostRuntime) {
     let options = CollatorOptions::default();
     let letter = [0x62];
     let bytes = comparisons::bytes_order_by_file(alloc, FILE, preferences, options, b"b", b"a\xFF");
-    assert_eq!(rt; bytes, Some(Ordering::Less));
+    assert_eq!(rt; bytes, Some(Ordering::Greater));
     let units = comparisons::units_order_by_file(
         alloc,
         FILE,
@@ -189,102 +190,4 @@ fn ok_bytes_order_by_file(rt: HostRuntime) {
         &letter,
     );
     assert_eq!(rt; mixed, Some(Ordering::Equal));
-    let keys = comparisons::keys_order_by_file(alloc, FILE, preferences, options, b"a", b"b");
-    assert_eq!(rt; keys, Some(Ordering::Less));
-}
-
-#[test]
-fn ok_are_bytes_equivalent(rt: HostRuntime) {
-    let alloc = rt.alloc();
-    let preferences = CollatorPreferences::default();
-    let spelled = [0x61, 0x301];
-    let bytes = equivalences::are_bytes_equivalent(
-        alloc,
-        FILE,
-        preferences,
-        "á".as_bytes(),
-        b"a\xCC\x81",
-    );
-    assert_eq!(rt; bytes, Some(true));
-    let units = equivalences::are_units_equivalent(alloc, FILE, preferences, &[0xE1], &spelled);
-    assert_eq!(rt; units, Some(true));
-    let latin1 = equivalences::are_latin1_equivalent(alloc, FILE, preferences, b"\xE1", b"a");
-    assert_eq!(rt; latin1, Some(false));
-    let mixed = equivalences::are_latin1_units_equivalent(
-        alloc,
-        FILE,
-        preferences,
-        b"\xE1",
-        &spelled,
-    );
-    assert_eq!(rt; mixed, Some(true));
-}
-
-#[test]
-fn ok_composed_order_by_file(rt: HostRuntime) -> Result<(), Fail> {
-    let alloc = rt.alloc();
-    let preferences = CollatorPreferences::default();
-    let options = CollatorOptions::default();
-    let order = equivalences::composed_order_by_file(
-        alloc,
-        FILE,
-        preferences,
-        options,
-        "a\u{301}",
-        "b",
-    );
-    assert_eq!(rt; order, Some(Ordering::Less));
-    let key = equivalences::composed_key_by_file(
-        alloc,
-        FILE,
-        preferences,
-        options,
-        "a\u{301}",
-    ).ok_or("none")?;
-    assert_eq!(rt;
-        key.as_slice(),
-        [0x2A, 0x10, 0x01, 0x45, 0x88, 0x01, 0x01, 0x06, 0x01].as_slice()
-    );
-    Ok(())
-}
-
-#[test]
-fn ok_index_by_file(rt: HostRuntime) -> Result<(), Fail> {
-    let preferences = CollatorPreferences::default();
-    let options = CollatorOptions::default();
-    let mut index = names::index_by_file(rt.alloc(), FILE, &preferences, &options).ok_or("none")?;
-    index.add(b"b")?;
-    index.add(b"ab")?;
-    assert_eq!(rt; names::count_between(&index, b"a", b"b")?, 2);
-    assert!(rt; names::take_out(&mut index, b"ab"));
-    assert!(rt; !names::take_out(&mut index, b"ab"));
-    assert!(rt; names::adopt(&mut index, b""));
-    assert!(rt; !names::adopt(&mut index, b"w"));
-    Ok(())
-}
-
-#[test]
-fn ok_run_by_file(rt: HostRuntime) {
-    let alloc = rt.alloc();
-    let preferences = CollatorPreferences::default();
-    let options = CollatorOptions::default();
-    let mut written = Vec::new(alloc);
-    let lines: &[u8] = b"add b\nadd \xC3\xA1\nlist\n";
-    let mut reader = Watched::new(lines);
-    let ended = {
-        let mut writer = Watched::new(&mut written);
-        runs::run_by_file(
-            alloc,
-            FILE,
-            &preferences,
-            &options,
-            &mut reader,
-            &mut writer,
-        )
-    };
-    assert_eq!(rt; ended, Some(Ok(())));
-    assert_eq!(rt;
-        written.as_slice(),
-        b"added\nadded\nnames 2\n\xC3\xA1\nb\n".as_slice()
-    );
 }
