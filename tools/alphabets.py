@@ -27,15 +27,13 @@ def base(kana):
 
 def kana_rules(letters, repeat, voiced_repeat):
     """CLDR's rules of length marks, which sort as the vowel before them, and of marks that repeat a kana."""
-    rules = ''
+    rules = f'&ゝ={repeat}={repeat}{VOICE}/{VOICE}={voiced_repeat}/{VOICE}'
     for vowel in letters[:10:2]:
         ends_so = [kana for kana in letters if unicodedata.name(kana)[-1] == unicodedata.name(vowel)[-1]]
         rules += f'&[before 3]{vowel}<<<' + '='.join(f'{kana}|ー' for kana in ends_so)
     for plain in dict.fromkeys(map(base, letters)):
         forms = [kana for kana in letters if base(kana) == plain]
-        repeats = [f'{kana}|{repeat}' for kana in forms]
-        if any(unicodedata.normalize('NFD', kana) != kana for kana in forms):
-            repeats += [f'{kana}|{voiced_repeat}/{VOICE}' for kana in forms]
+        repeats = [f'{kana}|{repeat}' for kana in forms] + [f'{kana}|{voiced_repeat}/{VOICE}' for kana in forms]
         rules += f'&[before 3]{plain}<<<' + '='.join(repeats)
     return rules
 

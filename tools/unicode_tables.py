@@ -13,6 +13,8 @@ import re
 FOLDER = os.environ.get('UNICODE_DATA', '/usr/share/unicode')
 COMMON_SECONDARY = (0x20,)
 COMMON_TERTIARY = (2,)
+# the secondary weights of variants in the default table
+VARIANTS = [(weight,) for weight in range(0x11C, 0x121)]
 # the tertiary weights of the default table that say that a character is upper case (UTS 10, on case first)
 UPPER_TERTIARIES = {8, 9, 0xA, 0xB, 0xC, 0xE, 0x11, 0x12, 0x1D}
 JAMO = range(0x1100, 0x1200)
@@ -78,8 +80,7 @@ class Tables:
             if not found:
                 continue
             text = tuple(int(character, 16) for character in found[1].split())
-            elements = [element_of(weights) for weights in re.findall(r'\[[.*]([0-9A-F.]+)\]', found[2])]
-            elements = [element for element in elements if element]
+            elements = merged([element_of(weights) for weights in re.findall(r'\[[.*]([0-9A-F.]+)\]', found[2])])
             if self.decomposed(text) == text:
                 self.entries[text] = elements
             else:
@@ -152,6 +153,18 @@ def element_of(weights):
         return None
     case = 2 if primary and tertiary in UPPER_TERTIARIES else 0
     return Element(*((weight,) if weight else () for weight in (primary, secondary, tertiary)), case)
+
+
+def merged(elements):
+    """The elements of an entry, without those of no weight. A variant, as of the letters of a ligature, becomes the second weight
+    of the letter before it, as in the root collation: between none and the marks."""
+    kept = []
+    for element in elements:
+        if element and not element.primary and element.secondary in VARIANTS and element.tertiary == (4,):
+            kept[-1] = kept[-1]._replace(secondary=COMMON_SECONDARY + element.secondary)
+        elif element:
+            kept.append(element)
+    return kept
 
 
 def jamo_of(syllable):

@@ -1,0 +1,45 @@
+#!/usr/bin/python3
+"""Writes what the program crate `alphabets` is run on, and what it must print: by ICU4C alone, never by a program of this repository.
+
+  sort_alphabets.py            crates/alphabets/data/LANGUAGE.sorted, and stdin and stdout of the crate
+  sort_alphabets.py --check    says where those that stand there are others
+
+LANGUAGE.sorted has the names of LANGUAGE.names in the order of ICU4C's collator for the language (Debian's python3-icu), equal
+ones as they stood. tools/make_records.py writes the records.
+"""
+import os
+import sys
+
+import icu
+
+from alphabets import ALPHABETS
+
+FOLDER = os.path.join(os.path.dirname(os.path.dirname(os.path.realpath(__file__))), 'crates/alphabets')
+
+
+def sorted_names(language, locale):
+    """The names of a language in order."""
+    with open(f'{FOLDER}/data/{language}.names', encoding='utf-8') as file:
+        names = file.read().split('\n')[:-1]
+    collator = icu.Collator.createInstance(icu.Locale('' if locale == 'root' else locale))
+    return ''.join(f'{name}\n' for name in sorted(names, key=collator.getSortKey))
+
+
+def main(is_check):
+    texts = {'stdin': ''.join(f'{language}\n' for language in ALPHABETS), 'stdout': ''}
+    for language, alphabet in ALPHABETS.items():
+        names = sorted_names(language, alphabet.locale)
+        texts[f'data/{language}.sorted'] = names
+        texts['stdout'] += f'{language}: in order\n{names}\n'
+    for name, text in texts.items():
+        path = f'{FOLDER}/{name}'
+        if not is_check:
+            open(path, 'w', encoding='utf-8').write(text)
+        elif not os.path.exists(path) or open(path, encoding='utf-8').read() != text:
+            print(f'{path}: not what ICU4C says')
+            is_check = 'failed'
+    sys.exit(is_check == 'failed')
+
+
+if __name__ == '__main__':
+    main(sys.argv[1:] == ['--check'])
