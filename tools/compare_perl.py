@@ -64,6 +64,19 @@ def records_of(characters):
     return answer.stdout
 
 
+def are_alike(title, names, ours, theirs):
+    """Whether neighbours in the order of their keys are so by ours; what differs is printed."""
+    order = sorted(range(len(names)), key=theirs.__getitem__)
+    pairs = list(zip(order, order[1:]))
+    wrong = [(one, other) for one, other in pairs
+             if (ours[one] == ours[other], ours[one] < ours[other]) != (theirs[one] == theirs[other], theirs[one] < theirs[other])]
+    for one, other in wrong:
+        print('differ:', ascii(names[one]), ascii(names[other]))
+    equal = sum(theirs[one] == theirs[other] for one, other in pairs)
+    print(f'{title}: {len(names)} names, {equal} neighbours equal, {len(wrong)} differ')
+    return not wrong
+
+
 def main(words):
     count, seed = (int(word) for word in (words + ['2000', '1'][len(words):])[:2])
     text = words[2] if len(words) > 2 else ALPHABETS['latin'].characters
@@ -74,14 +87,7 @@ def main(words):
     ours, perls = keys_by_program(records_of(text), names), keys_by_perl(names)
     if not len(ours) == len(perls) == count:
         sys.exit('not a key for each name')
-    order = sorted(range(count), key=perls.__getitem__)
-    wrong = [(one, other) for one, other in zip(order, order[1:])
-             if (ours[one] == ours[other], ours[one] < ours[other]) != (perls[one] == perls[other], perls[one] < perls[other])]
-    for one, other in wrong:
-        print('differ:', ascii(names[one]), ascii(names[other]))
-    equal = sum(perls[one] == perls[other] for one, other in zip(order, order[1:]))
-    print(f'{count} names, {equal} neighbours equal, {len(wrong)} differ')
-    sys.exit(bool(wrong))
+    sys.exit(not are_alike('perl', names, ours, perls))
 
 
 if __name__ == '__main__':

@@ -136,7 +136,7 @@ class File:
         for (prefix, text), elements in records.items():
             if len(elements) > LONGEST or any(not element.tertiary or element.primary and not element.secondary
                                               or not element.secondary for element in elements):
-                leave_out(show(prefix + text), 'its elements')
+                leave_out(show(prefix + text), 'elements that a file cannot say')
             elif text[0] in JAMO and len(elements) != 1:
                 leave_out(show(text), 'a jamo with more than one element')
             else:
@@ -162,23 +162,23 @@ class File:
         return ['', '# Classes of the marks', *lines] if lines else []
 
     def record_lines(self, kind):
+        """The lines of a kind of records, with a comment where the letter changes."""
         if kind == 't' and self.records[kind]:
             yield from ('', '# What the language orders otherwise')
         last = None
         for (prefix, text), elements in self.records[kind].items():
-            first = elements[0].primary if elements else None
-            if kind == 'w' and (last is None or first != last):
-                yield from ('', *self.heading(text, first, last))
-            last = first if first is not None else last
+            letters = [element.primary for element in elements if element.primary][:1 if kind == 'w' else None]
+            if letters != last:
+                yield from ('', f'# {self.said(prefix, text) if letters else "Marks"}')
+            last = letters
             behind = ''.join(f'{character:04X} ' for character in prefix) + ('| ' if prefix else '')
             words = [f'{character:04X}' for character in text] + [';'] + [self.weights.word(element) for element in elements]
             yield f'{kind} {behind}{" ".join(words)}'
 
-    def heading(self, text, first, last):
-        """A comment before the first record of a primary weight."""
-        if first == () and last != ():
-            return ['# Marks']
-        return ['# ' + ', '.join(self.tables.names[character].lower().replace('small letter ', '') for character in text)]
+    def said(self, prefix, text):
+        """The names of the characters of a text, and of those that it stands behind."""
+        texts = [', '.join(self.tables.names[character].lower() for character in part) for part in (text, prefix) if part]
+        return ', behind '.join(texts).replace('latin small letter ', '')
 
     def range_lines(self):
         if self.choice.ranges:
@@ -226,6 +226,7 @@ def main(words):
     else:
         whole, characters, rules = '', words[0], words[1] if len(words) == 2 else ''
         header = 'Characters that were chosen, in the order of the default table' + (', with rules' if rules else '') + '.'
+    header += f'\nMade by tools/make_records.py{" " + words[0] if alphabet else ""}.'
     tables = Tables(chosen(whole))
     file = File(tables, Choice(tables, chosen(characters)), rules)
     print('\n'.join([*(f'# {line}' for line in header.split('\n')), '', *file.lines()]))

@@ -17,18 +17,24 @@ from alphabets import ALPHABETS
 FOLDER = os.path.join(os.path.dirname(os.path.dirname(os.path.realpath(__file__))), 'crates/alphabets')
 
 
-def sorted_names(language, locale):
+def collator_of(alphabet):
+    """ICU4C's collator, which decomposes whatever it is given."""
+    collator = icu.Collator.createInstance(icu.Locale('' if alphabet.locale == 'root' else alphabet.locale))
+    collator.setAttribute(icu.UCollAttribute.NORMALIZATION_MODE, icu.UCollAttributeValue.ON)
+    return collator
+
+
+def sorted_names(language, alphabet):
     """The names of a language in order."""
     with open(f'{FOLDER}/data/{language}.names', encoding='utf-8') as file:
         names = file.read().split('\n')[:-1]
-    collator = icu.Collator.createInstance(icu.Locale('' if locale == 'root' else locale))
-    return ''.join(f'{name}\n' for name in sorted(names, key=collator.getSortKey))
+    return ''.join(f'{name}\n' for name in sorted(names, key=collator_of(alphabet).getSortKey))
 
 
 def main(is_check):
     texts = {'stdin': ''.join(f'{language}\n' for language in ALPHABETS), 'stdout': ''}
     for language, alphabet in ALPHABETS.items():
-        names = sorted_names(language, alphabet.locale)
+        names = sorted_names(language, alphabet)
         texts[f'data/{language}.sorted'] = names
         texts['stdout'] += f'{language}: in order\n{names}\n'
     for name, text in texts.items():
