@@ -64,12 +64,16 @@ def records_of(characters):
     return answer.stdout
 
 
+def is_below(keys, one, other):
+    """Whether a key is below another, and whether it is equal."""
+    return keys[one] < keys[other], keys[one] == keys[other]
+
+
 def are_alike(title, names, ours, theirs):
     """Whether neighbours in the order of their keys are so by ours; what differs is printed."""
     order = sorted(range(len(names)), key=theirs.__getitem__)
     pairs = list(zip(order, order[1:]))
-    wrong = [(one, other) for one, other in pairs
-             if (ours[one] == ours[other], ours[one] < ours[other]) != (theirs[one] == theirs[other], theirs[one] < theirs[other])]
+    wrong = [(one, other) for one, other in pairs if is_below(ours, one, other) != is_below(theirs, one, other)]
     for one, other in wrong:
         print('differ:', ascii(names[one]), ascii(names[other]))
     equal = sum(theirs[one] == theirs[other] for one, other in pairs)

@@ -1,5 +1,5 @@
 #!/usr/bin/python3
-"""Writes what the program crate `alphabets` is run on, and what it must print: by ICU4C alone, never by a program of this repository.
+"""Writes what the program crate `alphabets` is run on, and what it must print: by ICU4C, never by a program of this repository.
 
   sort_alphabets.py            crates/alphabets/data/LANGUAGE.sorted, and stdin and stdout of the crate
   sort_alphabets.py --check    says where those that stand there are others

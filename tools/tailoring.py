@@ -12,7 +12,7 @@ import re
 
 from unicode_tables import COMMON_SECONDARY, COMMON_TERTIARY, Element
 
-SCRIPTS = {'Grek': 'GREEK', 'Cyrl': 'CYRILLIC', 'Hebr': 'HEBREW', 'Thai': 'THAI', 'Hang': 'HANGUL'}
+SCRIPTS = {'Grek': 'GREEK', 'Cyrl': 'CYRILLIC', 'Hebr': 'HEBREW', 'Thai': 'THAI'}
 TOKEN = re.compile(r"\s*(&\s*(?:\[before ([123])\])?|<<<|<<|<|=|\[[^\]]*\])|((?:'[^']*'|[^&<=\[\s'])+)")
 
 

@@ -138,7 +138,7 @@ class Tables:
 
     def script(self, word):
         """The lowest and the highest primary weight of the letters whose names begin with a word."""
-        kinds = tuple(f'{word} {kind}' for kind in ('LETTER', 'SMALL', 'CAPITAL', 'CHARACTER', 'CHOSEONG', 'JUNGSEONG', 'JONGSEONG'))
+        kinds = tuple(f'{word} {kind}' for kind in ('LETTER', 'SMALL', 'CAPITAL', 'CHARACTER'))
         lowest = self.first_primary('a')
         weights = [elements[0].primary for text, elements in self.entries.items()
                    if len(text) == 1 and elements and elements[0].primary >= lowest
@@ -156,8 +156,8 @@ def element_of(weights):
 
 
 def merged(elements):
-    """The elements of an entry, without those of no weight. A variant, as of the letters of a ligature, becomes the second weight
-    of the letter before it, as in the root collation: between none and the marks."""
+    """The elements of an entry, without those of no weight. A variant, as of the letters of a ligature, becomes the second
+    weight of the letter before it, as in the root collation: between none and the marks."""
     kept = []
     for element in elements:
         if element and not element.primary and element.secondary in VARIANTS and element.tertiary == (4,):
