@@ -227,8 +227,13 @@ def main(words):
         whole, characters, rules = '', words[0], words[1] if len(words) == 2 else ''
         header = 'Characters that were chosen, in the order of the default table' + (', with rules' if rules else '') + '.'
     header += f'\nMade by tools/make_records.py{" " + words[0] if alphabet else ""}.'
-    tables = Tables(chosen(whole))
-    file = File(tables, Choice(tables, chosen(characters)), rules)
+    try:
+        tables = Tables(chosen(whole))
+        file = File(tables, Choice(tables, chosen(characters)), rules)
+    except OSError as error:
+        sys.exit(f'make_records.py: {error} (Debian has it in the package unicode-data)')
+    except ValueError as error:
+        sys.exit(f'make_records.py: {error}')
     print('\n'.join([*(f'# {line}' for line in header.split('\n')), '', *file.lines()]))
 
 

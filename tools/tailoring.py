@@ -5,6 +5,7 @@
     &t<<<þ/h            þ as t and h, but for the third level
     &[before 3]ぁ<<<あ|ー   behind あ, ー as a form of ぁ
     [backwards 2] [caseFirst upper] [alternate shifted] [reorder Cyrl]
+    [dotAbove on]       no rule of CLDR's: the setting `dotabove` of a records file
 
 Any number of rules may follow one another. A text between apostrophes stands for itself.
 """
@@ -13,7 +14,10 @@ import re
 from unicode_tables import COMMON_SECONDARY, COMMON_TERTIARY, Element
 
 SCRIPTS = {'Grek': 'GREEK', 'Cyrl': 'CYRILLIC', 'Hebr': 'HEBREW', 'Thai': 'THAI'}
-TOKEN = re.compile(r"\s*(&\s*(?:\[before ([123])\])?|<<<|<<|<|=|\[[^\]]*\])|((?:'[^']*'|[^&<=\[\s'])+)")
+SETTINGS = {'backwards 2': 'backward on', 'alternate shifted': 'alternate shifted', 'dotAbove on': 'dotabove on',
+            'caseFirst upper': 'casefirst upper', 'caseFirst lower': 'casefirst lower', 'normalization on': None}
+TOKEN = re.compile(r"\s*(?:(&\s*(?:\[before ([123])\])?|<<<(?![<*])|<<(?![<*])|<(?![<*])|=(?!\*)|\[[^\]]*\])"
+                   r"|((?:'[^']*'|[^&<=\[\s'])+))")
 
 
 class Tailoring:
@@ -27,26 +31,34 @@ class Tailoring:
         self.read(rules)
 
     def read(self, rules):
-        strength, place = None, 0
+        """Reads the rules: signs and texts by turns, and settings between them."""
+        sign, place, rules = None, 0, rules.rstrip()
         while place < len(rules):
             found = TOKEN.match(rules, place)
+            if not found or bool(found[3]) != bool(sign) or sign not in (None, 'reset') and not self.base:
+                raise ValueError(f'rules that are not understood: {rules[place:place + 20]}')
             place = found.end()
             if found[3]:
-                self.put(strength, unquoted(found[3]))
+                self.put(sign, unquoted(found[3]))
+                sign = None
             elif found[1].startswith('&'):
-                strength, self.before = 'reset', int(found[2] or 0)
+                sign, self.before = 'reset', int(found[2] or 0)
             elif found[1].startswith('['):
                 self.set(found[1][1:-1])
             else:
-                strength = '=' if found[1] == '=' else len(found[1])
+                sign = '=' if found[1] == '=' else len(found[1])
+        if sign:
+            raise ValueError('rules that end too soon')
 
     def set(self, words):
         """A setting."""
         name, _, value = words.partition(' ')
-        if name == 'reorder':
+        if name == 'reorder' and value in SCRIPTS:
             self.script = self.tables.script(SCRIPTS[value])
-        elif name != 'normalization':
-            self.settings.append({'backwards 2': 'backward on'}.get(words, f'{name.lower()} {value}'))
+        elif words not in SETTINGS:
+            raise ValueError(f'rules that are not understood: [{words}]')
+        elif SETTINGS[words]:
+            self.settings.append(SETTINGS[words])
 
     def put(self, strength, said):
         """A reset, or a text that stands behind what was read last."""
