@@ -10,6 +10,7 @@ use sqlite::{Error, ErrorCode};
 use std::alloc::Global;
 
 /// What makes the keys of names: one collator for their order, and one by which names are found.
+#[derive(Clone, Copy)]
 pub struct Keying<'a> {
     /// A collator by which all levels count.
     pub all: CollatorBorrowed<'a>,

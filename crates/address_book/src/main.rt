@@ -39,6 +39,7 @@ pub enum Fault {
 }
 
 /// What is asked of the book: the names from a first one to a last one, and those that have the letters of another.
+#[derive(Clone, Copy)]
 pub struct Asked<'a> {
     pub first: &'a str,
     pub last: &'a str,
