@@ -21,6 +21,7 @@ from random_runs import random_names, random_records, random_words
 
 ROOT = os.path.dirname(os.path.dirname(os.path.realpath(__file__)))
 SCRIPT = os.path.join(ROOT, 'sort_names')
+USAGE = 'usage: sort_names [--keys] RECORDS [OPTION=VALUE]..  < names, or: sort_names [--keys] --merge FILE..\n'
 LONGEST = 65532
 PART = 65536
 
@@ -77,8 +78,7 @@ def run(oracle, source, is_large):
         given = sort_names([*['--keys'] * with_keys, path, *words], data)
         chosen, records = oracle.choice([path, *words]), oracle.read(said)
         if chosen is None:
-            right = b'', given[1] if given[1].startswith('usage: sort_names') else 'usage', 2
-            return 'usage', [] if given == right else [(words, given)]
+            return 'usage', [] if given == (b'', USAGE, 2) else [(words, given)]
         if isinstance(records, oracle.Fault):
             right = b'', f'collate: refused {records.line} {records.rule}\n', 1
             return 'refused', [] if given == right else [(lines, given, right)]

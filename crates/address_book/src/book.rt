@@ -1,5 +1,10 @@
 //! The book: a table of names with their keys.
 
+ghost use Rattle.std.specs.Prelude.{Ok, IfOk};
+ghost use Rattle.sqlite.specs.Held.{state};
+ghost use Rattle.sqlite.specs.State.{Executes, HasCleanDisk};
+ghost use Rattle.address_book.specs.Book.{columns_of, insertion};
+
 use crate::keys::{Keying, key_of};
 use crate::{Asked, Fault};
 use sqlite::types::ValueRef;
@@ -22,7 +27,10 @@ fn keep<S: Alter>(
     book: &mut Connection<S>,
     keying: &Keying<'_>,
     name: &str,
-) -> Result<usize, Error> {
+) -> Result<usize, Error>
+    ensures { HasCleanDisk (state S.Store book.new) → IfOk result (λ count. Executes insertion (columns_of keying.now name.now)
+        (state S.Store book.old) (state S.Store book.new) (Ok count)) }
+{
     let sort_key = key_of(alloc, &keying.all, name)?;
     let letters = key_of(alloc, &keying.letters, name)?;
     book.execute(

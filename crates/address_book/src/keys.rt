@@ -1,7 +1,8 @@
 //! The keys of a name.
 
-ghost use Rattle.std.specs.Prelude.{◌≡◌, IfOk};
+ghost use Rattle.std.specs.Prelude.{◌≡◌, Some, IfOk};
 ghost use Rattle.icu_normalizer_core.specs.Decoding.{utf8_chars};
+ghost use Rattle.icu_collator_types.specs.declared.options.Strength.TheVariants.{Primary};
 ghost use Rattle.icu_collator.specs.CollatorAnswers.{key_by};
 
 use icu_collator::CollatorBorrowed;
@@ -18,13 +19,10 @@ pub struct Keying<'a> {
     pub letters: CollatorBorrowed<'a>,
 }
 
-/// Options that leave all to the records.
-pub fn all_levels() -> CollatorOptions {
-    CollatorOptions::default()
-}
-
 /// Options by which letters alone count.
-pub fn letters_alone() -> CollatorOptions {
+pub fn letters_alone() -> CollatorOptions
+    ensures { result.strength ≡ Some Primary }
+{
     CollatorOptions {
         strength: Some(Strength::Primary),
         ..CollatorOptions::default()

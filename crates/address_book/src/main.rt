@@ -13,8 +13,9 @@ mod keys;
 use book::{ask, fill};
 use collate_lines::rule::RecordsError;
 use collate_records::records::Records;
-use keys::{Keying, all_levels, letters_alone};
+use keys::{Keying, letters_alone};
 use collate_index::collators::collator_of;
+use icu_collator::options::CollatorOptions;
 use icu_collator::CollatorPreferences;
 use sqlite::{Alter, Connection};
 use std::process::ExitCode;
@@ -91,7 +92,7 @@ fn ask_by_file(
     let bytes = fs::read(rt, file)?;
     let records = Records::read(alloc, &bytes)?;
     let preferences = CollatorPreferences::default();
-    let all = collator_of(alloc, &records, preferences, all_levels()).ok();
+    let all = collator_of(alloc, &records, preferences, CollatorOptions::default()).ok();
     let letters = collator_of(alloc, &records, preferences, letters_alone()).ok();
     let Some((all, letters)) = all.zip(letters) else {
         return Err(Fault::Refused(RecordsError::Memory));
