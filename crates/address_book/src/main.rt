@@ -77,8 +77,10 @@ fn open_and_ask(
 ) -> Result<(), Fault> {
     let names = io::read_to_string(rt.alloc(), rt.reader())?;
     let mut book = Connection::open(rt, path)?;
-    fill_and_ask(rt, &mut book, keying, names.as_str(), asked)?;
-    Ok(book.close()?)
+    let asked = fill_and_ask(rt, &mut book, keying, names.as_str(), asked);
+    let closed = book.close();
+    asked?;
+    Ok(closed?)
 }
 
 /// The same by keys of the records of a file.
