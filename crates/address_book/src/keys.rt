@@ -1,0 +1,47 @@
+//! The keys of a name.
+
+ghost use Rattle.std.specs.Prelude.{◌≡◌, Some, IfOk};
+ghost use Rattle.icu_normalizer_core.specs.Decoding.{utf8_chars};
+ghost use Rattle.icu_collator_types.specs.declared.options.Strength.TheVariants.{Primary};
+ghost use Rattle.icu_collator.specs.CollatorAnswers.{key_by};
+
+use icu_collator::CollatorBorrowed;
+use icu_collator::options::{CollatorOptions, Strength};
+use sqlite::{Error, ErrorCode};
+use std::alloc::Global;
+
+/// What makes the keys of names: one collator for their order, and one by which names are found.
+#[derive(Clone, Copy)]
+pub struct Keying<'a> {
+    /// A collator by which all levels count.
+    pub all: CollatorBorrowed<'a>,
+    /// One by which letters alone do.
+    pub letters: CollatorBorrowed<'a>,
+}
+
+/// Options by which letters alone count.
+pub fn letters_alone() -> CollatorOptions
+    ensures { result.strength ≡ Some Primary }
+{
+    CollatorOptions {
+        strength: Some(Strength::Primary),
+        ..CollatorOptions::default()
+    }
+}
+
+/// The sort key of a name.
+///
+/// Errors: want of memory, as the database names it.
+pub fn key_of(
+    alloc: Global,
+    collator: &CollatorBorrowed<'_>,
+    name: &str,
+) -> Result<Vec<u8>, Error>
+    ensures { IfOk result (λ key. key.items ≡ key_by collator.now (utf8_chars name.now)) }
+{
+    let mut key = Vec::new(alloc);
+    match collator.write_sort_key_to(alloc, name, &mut key) {
+        Ok(()) => Ok(key),
+        Err(_) => Err(Error::SqliteFailure(ErrorCode::OutOfMemory)),
+    }
+}
