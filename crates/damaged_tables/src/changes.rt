@@ -147,10 +147,7 @@ fn change_bytes(bytes: &mut Vec<u8>, width: usize, change: Change) -> Option<()>
 }
 
 /// The bytes of items.
-fn bytes_of<T: PackedItem>(
-    alloc: Global,
-    items: &PackedVec<'_, T>,
-) -> Result<Vec<u8>, AllocError> {
+fn bytes_of<T: PackedItem>(alloc: Global, items: &PackedVec<'_, T>) -> Result<Vec<u8>, AllocError> {
     let mut bytes = Vec::new(alloc);
     for item in items.iter() {
         item.write(&mut bytes)?;

@@ -111,7 +111,12 @@ struct Asked<'t> {
 impl Asked<'_> {
     /// The call that is wrong on two texts, if one.
     fn wrong_on_pair(&self, text: &[char], next: &[char]) -> Option<&'static str> {
-        let Asked { alloc, canonical, tables, .. } = *self;
+        let Asked {
+            alloc,
+            canonical,
+            tables,
+            ..
+        } = *self;
         let text = meant(alloc, canonical, tables, text);
         let next = meant(alloc, canonical, tables, next);
         let Some((text, next)) = text.zip(next) else {
@@ -119,7 +124,13 @@ impl Asked<'_> {
         };
         let order = order_of_levels(&text.levels, &next.levels);
         if !are_ordered(alloc, &self.collator, &text.text, &next.text, order)
-            || !are_ordered(alloc, &self.collator, &next.text, &text.text, order.reverse())
+            || !are_ordered(
+                alloc,
+                &self.collator,
+                &next.text,
+                &text.text,
+                order.reverse(),
+            )
         {
             return Some("compare");
         }
@@ -146,7 +157,12 @@ impl Asked<'_> {
 
     /// Whether two texts in Latin-1 compare as the tables mean, and the first with the second in UTF-16.
     fn are_latin1_ordered(&self, text: &[u8], next: &[u8]) -> Option<bool> {
-        let Asked { alloc, canonical, tables, .. } = *self;
+        let Asked {
+            alloc,
+            canonical,
+            tables,
+            ..
+        } = *self;
         let left = latin1_characters(alloc, text)?;
         let right = latin1_characters(alloc, next)?;
         let left = meant(alloc, canonical, tables, left.as_slice())?;
@@ -206,17 +222,15 @@ impl Asked<'_> {
 }
 
 /// The canonical data of a provider.
-fn canonical_of(
-    alloc: Global,
-    held: &HeldCollation<'static>,
-) -> Option<CanonicalData<'static>> {
+fn canonical_of(alloc: Global, held: &HeldCollation<'static>) -> Option<CanonicalData<'static>> {
     let trie = held.canonical.trie.clone(alloc).ok();
     let scalars16 = held.canonical.scalars16.clone(alloc).ok();
     let scalars24 = held.canonical.scalars24.clone(alloc).ok();
     let steps = held.canonical.steps.clone(alloc).ok();
     let pairs = held.canonical.pairs.clone(alloc).ok();
-    let ((trie, pairs), (steps, (scalars16, scalars24))) =
-        trie.zip(pairs).zip(steps.zip(scalars16.zip(scalars24)))?;
+    let ((trie, pairs), (steps, (scalars16, scalars24))) = trie
+        .zip(pairs)
+        .zip(steps.zip(scalars16.zip(scalars24)))?;
     let tables = CanonicalTables {
         trie,
         scalars16,

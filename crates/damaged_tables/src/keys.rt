@@ -165,7 +165,8 @@ fn push_tail(key: &mut Vec<u8>, number: u32) -> Option<()> {
 fn push_two(key: &mut Vec<u8>, lead: u32, counted: u32) -> Option<()> {
     push_byte(
         key,
-        lead.wrapping_add(counted / TAILS).wrapping_sub(ZERO / TAILS),
+        lead.wrapping_add(counted / TAILS)
+            .wrapping_sub(ZERO / TAILS),
     )?;
     push_tail(key, counted)
 }

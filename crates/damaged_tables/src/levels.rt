@@ -1,8 +1,6 @@
 //! The levels of a text, by its elements: what texts are compared by.
 
-use icu_collator_core::tables::{
-    CollationReordering, CollationSpecialPrimaries, CollationTables,
-};
+use icu_collator_core::tables::{CollationReordering, CollationSpecialPrimaries, CollationTables};
 use std::alloc::Global;
 use std::cmp::Ordering;
 

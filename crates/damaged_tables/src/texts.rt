@@ -54,5 +54,8 @@ pub fn characters(alloc: Global, text: &str) -> Option<Vec<char>> {
 
 /// The characters of a text in Latin-1.
 pub fn latin1_characters(alloc: Global, text: &[u8]) -> Option<Vec<char>> {
-    text.iter().map(|byte| char::from(*byte)).collect(alloc).ok()
+    text.iter()
+        .map(|byte| char::from(*byte))
+        .collect(alloc)
+        .ok()
 }

@@ -130,12 +130,7 @@ fn is_tied(both: Both<'_>, tied: &[char], c: char) -> bool {
 }
 
 /// Whether no reading begins at a character.
-pub fn is_plainly_unsafe(
-    alloc: Global,
-    both: Both<'_>,
-    tied: &[char],
-    c: char,
-) -> Option<bool> {
+pub fn is_plainly_unsafe(alloc: Global, both: Both<'_>, tied: &[char], c: char) -> Option<bool> {
     let list = decomposed(alloc, both.canonical, &[c])?;
     let first = *list.first()?;
     Some(is_tied(both, tied, c) || is_tied(both, tied, first))

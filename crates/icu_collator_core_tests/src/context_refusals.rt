@@ -21,6 +21,7 @@ type Row = (Words, &'static [u16], Option<TableFault>);
 
 /// A range from "a" on, and the words of digits: an element, an implicit one, one of the range.
 const CES: [u64; 1] = [0xe002_0200_0000_6101];
+
 const CE32S: [u32; 4] = [0x2a10_0505, 0x8800_05c2, 0xcf, 0xce];
 
 /// "a" behind a prefix, and "1", which is a digit.
@@ -137,6 +138,7 @@ const TEXTS: [Row; 7] = [
 
 /// The context of "ab", and that of "a" and U+0301.
 const LETTER: &[u16] = &[0x2a10, 0x505, 0x30, 0x62, 0xffff, 0x2ac0, 0x505];
+
 const MARK: &[u16] = &[0x2a10, 0x505, 0x30, 0x301, 0xffff, 0x2ac0, 0x505];
 
 /// Words that say of these texts what is so: not every one goes on with a mark, none ends in one, and one has a starter behind
@@ -161,7 +163,11 @@ const DIGITS: [Row; 4] = [
 ];
 
 /// The data of a row; `None` where memory is refused.
-fn with_words(alloc: Global, words: &[(u32, u32)], contexts: &[u16]) -> Option<CollationTables<'static>> {
+fn with_words(
+    alloc: Global,
+    words: &[(u32, u32)],
+    contexts: &[u16],
+) -> Option<CollationTables<'static>> {
     let trie = changed_trie(alloc, &WORDS, words, IMPLICIT)?;
     let root = data(alloc, trie, &CES, &CE32S, contexts)?;
     tables(alloc, root, None)
