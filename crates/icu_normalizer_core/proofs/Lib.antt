@@ -13,6 +13,7 @@ pub mod CompositionLemmas
 pub mod DecodedLemmas
 pub mod DecodingComputing
 pub mod DecomposedLemmas
+pub mod DepthLemmas
 pub mod EndingLemmas
 pub mod FaultLemmas
 pub mod FixedListLemmas

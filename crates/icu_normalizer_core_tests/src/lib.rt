@@ -7,6 +7,8 @@ mod builder;
 #[cfg(test)]
 mod canonical;
 #[cfg(test)]
+mod chains;
+#[cfg(test)]
 mod classed;
 #[cfg(test)]
 mod compatibility;

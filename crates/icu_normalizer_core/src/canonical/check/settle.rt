@@ -1,6 +1,6 @@
 //! What mapping steps leave of each character, found triple by triple.
 
-ghost use Rattle.std.specs.Prelude.{◌≡◌, ◌+◌, ◌*◌, ◌^◌, ◌<◌, ◌≤◌, ◌↔◌, [], ◌∷◌, ◌++◌, true, false, length, take, slice_get, Some, None, IsTrue, MatchOption, IfOk, nat_eq};
+ghost use Rattle.std.specs.Prelude.{◌≡◌, ◌+◌, ◌*◌, ◌/◌, ◌^◌, ◌<◌, ◌≤◌, ◌↔◌, [], ◌∷◌, ◌++◌, true, false, length, take, slice_get, Some, None, IsTrue, IfSome, MatchOption, IfOk, All, nat_eq};
 ghost use Rattle.std.specs.Cmp.Lexicographic.{pointwise};
 ghost use Rattle.icu_normalizer_core.specs.BuiltIn.{is_syllable, built_in_step};
 ghost use Rattle.icu_normalizer_core.specs.Canonical.{IsFree};
@@ -201,6 +201,110 @@ fn settle_once(steps: &PackedVec<'_, u32>, settled: &mut [Option<Left>]) -> bool
     more
 }
 
+/// The place of a character's triple, where that is neither settled nor visited.
+fn unvisited_triple(
+    steps: &PackedVec<'_, u32>,
+    settled: &[Option<Left>],
+    visited: &[bool],
+    c: u32,
+) -> Option<usize>
+    requires triples { AreTriples steps.now }
+    requires settled { length settled.now ≡ length steps.now / 3 }
+    requires visited { length visited.now ≡ length steps.now / 3 }
+    ensures { IfSome result (λ place. slice_get visited.now place ≡ Some false) }
+{
+    let place = triple_of(steps, c)?;
+    if settled[place].is_some() || visited[place] {
+        return None;
+    }
+    Some(place)
+}
+
+/// A triple without which it isn't known what steps leave of a character, neither settled nor visited.
+fn needed_by(
+    steps: &PackedVec<'_, u32>,
+    settled: &[Option<Left>],
+    visited: &[bool],
+    c: u32,
+) -> Option<usize>
+    requires triples { AreTriples steps.now }
+    requires settled { length settled.now ≡ length steps.now / 3 }
+    requires visited { length visited.now ≡ length steps.now / 3 }
+    ensures { IfSome result (λ place. slice_get visited.now place ≡ Some false) }
+{
+    if is_syllable(c) {
+        return None;
+    }
+    match built_in_step(c) {
+        None => unvisited_triple(steps, settled, visited, c),
+        Some(Decomposed::Default) => None,
+        Some(Decomposed::Singleton(a)) => unvisited_triple(steps, settled, visited, a as u32),
+        Some(Decomposed::Expansion(a, b)) => {
+            match unvisited_triple(steps, settled, visited, a as u32) {
+                Some(place) => Some(place),
+                None => unvisited_triple(steps, settled, visited, b as u32),
+            }
+        }
+    }
+}
+
+/// A triple without which that at a place can't be settled, neither settled nor visited.
+fn needed_at(
+    steps: &PackedVec<'_, u32>,
+    settled: &[Option<Left>],
+    visited: &[bool],
+    place: usize,
+) -> Option<usize>
+    requires triples { AreTriples steps.now }
+    requires settled { length settled.now ≡ length steps.now / 3 }
+    requires visited { length visited.now ≡ length steps.now / 3 }
+    requires inside { 3 * place + 2 < length steps.now }
+    requires fits { 3 * place + 2 < 2 ^ 64 }
+    ensures { IfSome result (λ place. slice_get visited.now place ≡ Some false) }
+{
+    match needed_by(steps, settled, visited, steps.at(3 * place + 1)) {
+        Some(needed) => Some(needed),
+        None => needed_by(steps, settled, visited, steps.at(3 * place + 2)),
+    }
+}
+
+/// The places of the triples, the first one last. The only error is want of memory.
+fn all_places(alloc: Global, steps: &PackedVec<'_, u32>) -> Result<Vec<usize>, AllocError>
+    ensures { IfOk result (λ places. All (λ place. 3 * place + 2 < length steps.now) places.items) }
+{
+    let mut places = Vec::new(alloc);
+    for place in (0..steps.len() / 3).rev() {
+        places.push(place)?;
+    }
+    Ok(places)
+}
+
+/// Settles the triples that can be, each behind those that it needs, by a walk in depth that visits each but once. The
+/// only error is want of memory.
+fn settle_in_depth(
+    alloc: Global,
+    steps: &PackedVec<'_, u32>,
+    settled: &mut [Option<Left>],
+) -> Result<(), AllocError>
+    requires triples { AreTriples steps.now }
+    requires starts { AreStarts steps.now settled.old }
+    ensures starts { AreStarts steps.now settled.new }
+{
+    let mut visited = vec![in alloc; false; steps.len() / 3]?;
+    let mut path = all_places(alloc, steps)?;
+    while let Some(place) = path.pop() {
+        if settle_at(steps, settled, place) {
+            continue;
+        }
+        if let Some(needed) = needed_at(steps, settled, &visited, place) {
+            visited[needed] = true;
+            path.push(place)?;
+            path.push(needed)?;
+        }
+    }
+    Ok(())
+}
+
 /// What steps leave of the triples' characters, where they end. The only error is want of memory.
 pub(crate) fn settle(
     alloc: Global,
@@ -211,6 +315,8 @@ pub(crate) fn settle(
     ensures done { IfOk result (λ settled. IsDone steps.now settled.items) }
 {
     let mut settled = all_open(alloc, steps)?;
+    settle_in_depth(alloc, steps, settled.as_mut_slice())?;
+    // Now all are settled that can be, and the last look at each finds no more.
     while settle_once(steps, settled.as_mut_slice()) {}
     Ok(settled)
 }
