@@ -7,3 +7,5 @@ pub mod ProgressLemmas
 pub mod QueueLemmas
 pub mod ErrorLemmas
 pub mod TestLemmas
+pub mod FoldLemmas
+pub mod FoldedKeyLemmas

@@ -11,3 +11,4 @@ pub mod UnitWritingTasks
 pub mod WrittenUnits
 pub mod UnitPartSteps
 pub mod UnitReadingOrder
+pub mod KeyFolds

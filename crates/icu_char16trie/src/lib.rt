@@ -17,7 +17,7 @@ mod reader;
 mod writer;
 
 use node::{State, start, step};
-pub use reader::{EntryTest, ReadUnitsError, all_pass, read_units};
+pub use reader::{EntryTest, KeyFold, ReadUnitsError, all_pass, fold_keys, read_units};
 pub use writer::{WriteUnitsError, write_units};
 
 /// What a cursor answers to the units that it was given.

@@ -11,9 +11,11 @@ use std::alloc::{AllocError, Global};
 use std::error::Error;
 use std::fmt;
 
+mod folds;
 mod part;
 mod queue;
 
+pub use folds::{KeyFold, fold_keys};
 use part::Part;
 use queue::Queue;
 

@@ -179,7 +179,7 @@ module _ (units : List ℕ) where
   if-place true left place = refl
   if-place false left place = refl
 
-  record IsAhead (p : Part) (step : Step) : Type 0 where
+  pub record IsAhead (p : Part) (step : Step) : Type 0 where
     pub within : part_place p < length units
     pub next : IfSome step.next (λ q. part_place p < part_place q)
     pub rest : IfSome step.rest (λ q. part_place p < part_place q)
@@ -189,7 +189,7 @@ module _ (units : List ℕ) where
   target-behind place entry (Value value) less e = tt
   target-behind place entry (Node node) less e = let h = target-ahead entry (Node node) e in omega (arith, less, h)
 
-  ahead : {p : Part} {step : Step} → Stands units p step → IsAhead p step
+  pub ahead : {p : Part} {step : Step} → Stands units p step → IsAhead p step
   ahead (node_stands place value next node) = let h = node-ahead node in record { within = h.0; next = h.1; rest = tt }
   ahead (run_stands run unit e) = record {
     within = slice_get_within units run.place unit e;
@@ -213,14 +213,14 @@ unfoldable pub work : ℕ → List Job → ℕ
 work size [] = 0
 work size (job ∷ rest) = 3 ^ (size - part_place job.1) + work size rest
 
-third : (size here there : ℕ) → here < size → here < there → 3 * 3 ^ (size - there) ≤ 3 ^ (size - here)
+pub third : (size here there : ℕ) → here < size → here < there → 3 * 3 ^ (size - there) ≤ 3 ^ (size - here)
 third size here there within ahead =
     let e : size - here ≡ suc (size - here - 1) = omega (arith, within) in
     let p : 3 ^ (size - here) ≡ 3 ^ (size - here - 1) * 3 = ap (λ n. 3 ^ n) e ∙ pow-suc 3 (size - here - 1) in
     let q : 3 ^ (size - there) ≤ 3 ^ (size - here - 1) = pow-le-pow_right {n = 3} (omega arith) {i = size - there} {j = size - here - 1} (omega (arith, within, ahead)) in
     omega (arith, p, q)
 
-positive : (n : ℕ) → 0 < 3 ^ n
+pub positive : (n : ℕ) → 0 < 3 ^ n
 positive n = let h = one-le-pow n 3 (omega arith) in omega (arith, h)
 
 work-step : (size place : ℕ) (key longer : List ℕ) (next rest : Option Part) (before : List Job) → place < size
