@@ -18,13 +18,13 @@ use std::cmp::Ordering;
 pub(super) fn compare_primaries(
     alloc: Global,
     checked: &CheckedTables<'_>,
-    left: &ReadText,
-    right: &ReadText,
+    left: ReadText<'_>,
+    right: ReadText<'_>,
 ) -> Result<Ordering, AllocError>
-    ensures { IfOk result (λ order. order ≡ read_primaries_order (source_collation checked.now) left.now right.now) }
+    ensures { IfOk result (λ order. order ≡ read_primaries_order (source_collation checked.now) left.entry right.entry) }
 {
-    let lefts = primaries(alloc, checked, &left.elements, left.variable_end)?;
-    let rights = primaries(alloc, checked, &right.elements, right.variable_end)?;
+    let lefts = primaries(alloc, checked, left.elements, left.variable_end)?;
+    let rights = primaries(alloc, checked, right.elements, right.variable_end)?;
     Ok(lefts.cmp(&rights))
 }
 
@@ -33,16 +33,16 @@ pub(super) fn compare_secondaries(
     alloc: Global,
     checked: &CheckedTables<'_>,
     options: &ResolvedCollatorOptions,
-    left: &ReadText,
-    right: &ReadText,
+    left: ReadText<'_>,
+    right: ReadText<'_>,
 ) -> Result<Ordering, AllocError>
-    ensures { IfOk result (λ order. order ≡ read_secondaries_order (source_collation checked.now) options.now left.now right.now) }
+    ensures { IfOk result (λ order. order ≡ read_secondaries_order (source_collation checked.now) options.now left.entry right.entry) }
 {
     if !options.strength.is_at_least(Strength::Secondary) {
         return Ok(Ordering::Equal);
     }
-    let lefts = secondaries(alloc, checked, &left.elements, left.variable_end)?;
-    let rights = secondaries(alloc, checked, &right.elements, right.variable_end)?;
+    let lefts = secondaries(alloc, checked, left.elements, left.variable_end)?;
+    let rights = secondaries(alloc, checked, right.elements, right.variable_end)?;
     Ok(lefts.cmp(&rights))
 }
 
@@ -50,16 +50,16 @@ pub(super) fn compare_secondaries(
 pub(super) fn compare_cases(
     alloc: Global,
     options: &ResolvedCollatorOptions,
-    left: &ReadText,
-    right: &ReadText,
+    left: ReadText<'_>,
+    right: ReadText<'_>,
 ) -> Result<Ordering, AllocError>
-    ensures { IfOk result (λ order. order ≡ read_cases_order options.now left.now right.now) }
+    ensures { IfOk result (λ order. order ≡ read_cases_order options.now left.entry right.entry) }
 {
     match options.case_level {
         CaseLevel::Off => Ok(Ordering::Equal),
         CaseLevel::On => {
-            let lefts = cases(alloc, options, &left.elements, left.variable_end)?;
-            let rights = cases(alloc, options, &right.elements, right.variable_end)?;
+            let lefts = cases(alloc, options, left.elements, left.variable_end)?;
+            let rights = cases(alloc, options, right.elements, right.variable_end)?;
             Ok(lefts.cmp(&rights))
         }
     }
@@ -69,16 +69,16 @@ pub(super) fn compare_cases(
 pub(super) fn compare_tertiaries(
     alloc: Global,
     options: &ResolvedCollatorOptions,
-    left: &ReadText,
-    right: &ReadText,
+    left: ReadText<'_>,
+    right: ReadText<'_>,
 ) -> Result<Ordering, AllocError>
-    ensures { IfOk result (λ order. order ≡ read_tertiaries_order options.now left.now right.now) }
+    ensures { IfOk result (λ order. order ≡ read_tertiaries_order options.now left.entry right.entry) }
 {
     if !options.strength.is_at_least(Strength::Tertiary) {
         return Ok(Ordering::Equal);
     }
-    let lefts = tertiaries(alloc, options, &left.elements, left.variable_end)?;
-    let rights = tertiaries(alloc, options, &right.elements, right.variable_end)?;
+    let lefts = tertiaries(alloc, options, left.elements, left.variable_end)?;
+    let rights = tertiaries(alloc, options, right.elements, right.variable_end)?;
     Ok(lefts.cmp(&rights))
 }
 
@@ -87,16 +87,16 @@ pub(super) fn compare_quaternaries(
     alloc: Global,
     checked: &CheckedTables<'_>,
     options: &ResolvedCollatorOptions,
-    left: &ReadText,
-    right: &ReadText,
+    left: ReadText<'_>,
+    right: ReadText<'_>,
 ) -> Result<Ordering, AllocError>
-    ensures { IfOk result (λ order. order ≡ read_quaternaries_order (source_collation checked.now) options.now left.now right.now) }
+    ensures { IfOk result (λ order. order ≡ read_quaternaries_order (source_collation checked.now) options.now left.entry right.entry) }
 {
     if !options.strength.is_at_least(Strength::Quaternary) {
         return Ok(Ordering::Equal);
     }
-    let lefts = quaternaries(alloc, checked, &left.elements, left.variable_end)?;
-    let rights = quaternaries(alloc, checked, &right.elements, right.variable_end)?;
+    let lefts = quaternaries(alloc, checked, left.elements, left.variable_end)?;
+    let rights = quaternaries(alloc, checked, right.elements, right.variable_end)?;
     Ok(lefts.cmp(&rights))
 }
 
@@ -123,15 +123,15 @@ fn character_ranks(alloc: Global, list: &[char]) -> Result<SmallVec<u32, 64>, Al
 pub(super) fn compare_listed_characters(
     alloc: Global,
     options: &ResolvedCollatorOptions,
-    left: &ReadText,
-    right: &ReadText,
+    left: ReadText<'_>,
+    right: ReadText<'_>,
 ) -> Result<Ordering, AllocError>
-    ensures { IfOk result (λ order. order ≡ read_characters_order options.now left.now right.now) }
+    ensures { IfOk result (λ order. order ≡ read_characters_order options.now left.entry right.entry) }
 {
     if !options.strength.is_at_least(Strength::Identical) {
         return Ok(Ordering::Equal);
     }
-    let lefts = character_ranks(alloc, &left.characters)?;
-    let rights = character_ranks(alloc, &right.characters)?;
+    let lefts = character_ranks(alloc, left.characters)?;
+    let rights = character_ranks(alloc, right.characters)?;
     Ok(lefts.cmp(&rights))
 }
