@@ -39,33 +39,29 @@ abbrev pub last_class : (ℕ → ℕ) → ℕ → List ℕ → ℕ
 last_class class before [] = before
 last_class class before (c ∷ cs) = last_class class (class c) cs
 
--- The full list of a character: its first has this class, the last that, its marks stand in order, and each character is read
--- alone and gives one of these elements.
+-- Each character of a character's full list is read alone and gives one of these elements. Behind a character whose class isn't
+-- above lead its marks stand in order, and the last has this class.
 pub record IsFlat (source : CollationSource) (numeric : Option ℕ) (c : ℕ) (items : List ℕ) (lead trail : ℕ) : Type 0 where
-  pub first : ℕ
-  pub rest : List ℕ
-  pub full : (canonical_by source).full c ≡ first ∷ rest
-  pub lead_is : (canonical_by source).class first ≡ lead
-  pub order : StandInOrder (canonical_by source).class lead rest
-  pub trail_is : last_class (canonical_by source).class lead rest ≡ trail
-  pub read : AreReadFlat source numeric (first ∷ rest) items
+  pub read : AreReadFlat source numeric ((canonical_by source).full c) items
+  pub order : (before : ℕ) → before ≤ lead → StandInOrder (canonical_by source).class before ((canonical_by source).full c)
+  pub last : (before : ℕ) → last_class (canonical_by source).class before ((canonical_by source).full c) ≡ trail
 
 -- what is noted of a character is so
 abbrev pub IsFlatNote : CollationSource → ℕ → FlatNote → Type 0
 IsFlatNote source c Other = Unit {0}
-IsFlatNote source c (One bits class) = (numeric : Option ℕ) → IsFlat source numeric c (bits ∷ []) class class
-IsFlatNote source c (Digit bits class) = IsFlat source None c (bits ∷ []) class class
+IsFlatNote source c (One bits lead trail) = (numeric : Option ℕ) → IsFlat source numeric c (bits ∷ []) lead trail
+IsFlatNote source c (Digit bits lead trail) = IsFlat source None c (bits ∷ []) lead trail
 IsFlatNote source c (Two first second lead trail) = (numeric : Option ℕ) → IsFlat source numeric c (first ∷ second ∷ []) lead trail
 
 -- notes, each at the place that is its character's code
 abbrev pub AreFlatNotes : CollationSource → List FlatNote → Type 0
 AreFlatNotes source notes = (c : ℕ) → IsFlatNote source c (get_or notes c Other)
 
--- The elements of a character were appended to those that were there, and it may stand behind one of this class; its last
--- character has that class.
+-- The elements of a character's full list, each read alone, were appended to those that were there; behind a character of a class
+-- its marks stand in order, and the last has that class.
 pub record IsPushed (source : CollationSource) (numeric : Option ℕ) (c before : ℕ) (old : List ℕ) (trail : ℕ) (new : List ℕ) : Type 0 where
   pub items : List ℕ
-  pub lead : ℕ
-  pub flat : IsFlat source numeric c items lead trail
-  pub follows : MayFollow before lead
+  pub read : AreReadFlat source numeric ((canonical_by source).full c) items
+  pub order : StandInOrder (canonical_by source).class before ((canonical_by source).full c)
+  pub last : last_class (canonical_by source).class before ((canonical_by source).full c) ≡ trail
   pub appended : new ≡ old ++ items

@@ -11,7 +11,7 @@ use Rattle.icu_collator_core.specs.Acceptance.{CollationSource}
 use Rattle.icu_collator_core.specs.ElementLists.{unpacked}
 use Rattle.icu_collator_core.specs.Elements.{Placed, Reading, elements_within, longest_prefix, placed_behind}
 use Rattle.icu_collator_core.specs.ElementTexts.{text_elements}
-use Rattle.icu_collator_core.specs.FlatNotes.{AreReadFlat, IsFlat, IsPushed, IsReadFlat, MayFollow, StandInOrder, last_class}
+use Rattle.icu_collator_core.specs.FlatNotes.{AreReadFlat, IsPushed, StandInOrder, last_class}
 use Rattle.icu_collator_core.specs.Pools.{element_of}
 use Rattle.icu_collator_core.specs.ReadSources.{canonical_by, weights_by}
 use Rattle.icu_collator_core.proofs.lookups.MatchLemmas.{scalars_front}
@@ -79,26 +79,19 @@ module _ (source : CollationSource) (numeric : Option ℕ) where
     pub more_read : (first now next : I) (items new : List ℕ) (last is c : ℕ) → IsReadSoFar first now items last → steps now (Some c) next
         → IsPushed source numeric c last items is new → IsReadSoFar first next new is
     more_read first now next items new last is c h step pushed =
-        let flat = pushed.flat in
-        let here = flat.first ∷ flat.rest in
-        let follows : StandInOrder class (last_class class 0 h.list) here = (
-          subst (λ (k : ℕ). MayFollow k (class flat.first)) (sym h.last_is) (subst (λ (k : ℕ). MayFollow last k) (sym flat.lead_is) pushed.follows),
-          subst (λ (k : ℕ). StandInOrder class k flat.rest) (sym flat.lead_is) flat.order,
-        ) in
+        let here = full c in
         record {
           list = h.list ++ here;
           left = λ cs spelled.
               let before = h.left cs spelled in
               let got = Spells-next steps now next c before.0 step before.2 in (
                 got.0,
-                before.1 ∙ ap (λ (l : List ℕ). h.list ++ flat_map full l) got.1
-                    ∙ ap (λ (l : List ℕ). h.list ++ (l ++ flat_map full got.0)) flat.full
-                    ∙ sym (append_assoc h.list here (flat_map full got.0)),
+                before.1 ∙ ap (λ (l : List ℕ). h.list ++ flat_map full l) got.1 ∙ sym (append_assoc h.list here (flat_map full got.0)),
                 got.2,
               );
-          read = subst (λ (l : List ℕ). AreReadFlat source numeric (h.list ++ here) l) (sym pushed.appended) (read_appended h.list items here pushed.items h.read flat.read);
-          order = order_appended class 0 h.list here h.order follows;
-          last_is = last_appended class 0 h.list here ∙ ap (λ k. last_class class k flat.rest) flat.lead_is ∙ flat.trail_is;
+          read = subst (λ (l : List ℕ). AreReadFlat source numeric (h.list ++ here) l) (sym pushed.appended) (read_appended h.list items here pushed.items h.read pushed.read);
+          order = order_appended class 0 h.list here h.order (subst (λ (k : ℕ). StandInOrder class k here) (sym h.last_is) pushed.order);
+          last_is = last_appended class 0 h.list here ∙ ap (λ k. last_class class k here) h.last_is ∙ pushed.last;
         }
 
     pub all_read : (first now next : I) (items : List ℕ) (last : ℕ) → IsReadSoFar first now items last → steps now None next

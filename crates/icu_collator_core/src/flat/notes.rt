@@ -1,6 +1,6 @@
 //! Notes of low characters by which texts are read flat: found once for all, and looked up by one read.
 
-ghost use Rattle.std.specs.Prelude.{◌≡◌, ◌++◌, ◌∷◌, ℕ, List, [], IfOk, IfSome, Option, None, true};
+ghost use Rattle.std.specs.Prelude.{◌≡◌, ◌∷◌, ◌<◌, ◌≤◌, ◌^◌, ℕ, [], IfOk, IfSome, Option, None};
 ghost use Rattle.icu_collator_core.specs.Acceptance.{CollationSource};
 ghost use Rattle.icu_collator_core.specs.FlatNotes.{AreFlatNotes, IsFlatNote, IsPushed, IsReadFlat, MayFollow};
 ghost use Rattle.icu_collator_core.specs.ReadSources.{canonical_by};
@@ -16,30 +16,29 @@ use std::alloc::{AllocError, Global};
 const FLAT_END: u32 = 0x800;
 
 /// What is noted of a character: the elements of its full list, each character of which is read alone, whatever stands before
-/// and behind it, and canonical combining classes.
+/// and behind it, behind them the highest canonical combining class behind which it may stand, and the class of the last.
 #[derive(Clone, Copy, Debug)]
 pub(crate) enum FlatNote {
     /// Nothing: it isn't read so.
     Other,
-    /// The full list is one character, of this class.
-    One(CollationElement, u8),
+    /// The full list is one character.
+    One(CollationElement, u8, u8),
     /// The same, of a digit, where numbers aren't read.
-    Digit(CollationElement, u8),
-    /// The full list is two characters, in order, of these classes.
+    Digit(CollationElement, u8, u8),
+    /// The full list is two characters, in order.
     Two(CollationElement, CollationElement, u8, u8),
 }
 
-/// Whether a character of a class may stand behind one of another: it is a starter, or its class isn't lower.
-#[inline(always)]
-fn may_follow(before: u8, class: u8) -> bool
-    ensures { result ≡ true → MayFollow before class }
+/// The highest class behind which a character of this class may stand: any behind which is a starter, else its own.
+fn highest_before(class: u8) -> u8
+    ensures { (before : ℕ) → before < 2 ^ 8 → before ≤ result → MayFollow before class }
 {
-    class >= before || class == 0
+    if class == 0 { u8::MAX } else { class }
 }
 
 impl FlatNote {
     /// Appends the elements of a character that stands behind one of this class, if it is read so, its marks stand in order, and
-    /// there is room; answers the class of the last character of its full list. Some may be appended where it isn't.
+    /// there is room; answers the class of the last character of its full list. Where it isn't, the first may be appended.
     #[inline(always)]
     pub(crate) fn push<const N: usize>(
         self,
@@ -50,60 +49,44 @@ impl FlatNote {
         ensures { IfSome result (λ trail. (source : CollationSource) (c : ℕ) → IsFlatNote source c self
             → IsPushed source numeric c before elements.old.items trail elements.new.items) }
     {
-        match self {
-            FlatNote::One(element, class) => {
-                if push_one(element, class, before, elements) {
-                    Some(class)
-                } else {
-                    None
-                }
+        if let FlatNote::One(element, lead, trail) = self {
+            if before <= lead && elements.push(element) {
+                return Some(trail);
             }
+            return None;
+        }
+        self.push_other(numeric, before, elements)
+    }
+
+    /// The same, of a note that isn't of one character.
+    #[inline]
+    fn push_other<const N: usize>(
+        self,
+        numeric: Option<u8>,
+        before: u8,
+        elements: &mut FlatElements<N>,
+    ) -> Option<u8>
+        ensures { IfSome result (λ trail. (source : CollationSource) (c : ℕ) → IsFlatNote source c self
+            → IsPushed source numeric c before elements.old.items trail elements.new.items) }
+    {
+        match self {
             FlatNote::Two(first, second, lead, trail) => {
-                if push_two(first, second, lead, before, elements) {
+                if before <= lead && elements.push(first) && elements.push(second) {
                     Some(trail)
                 } else {
                     None
                 }
             }
-            FlatNote::Digit(element, class) => {
-                if numeric.is_none() && push_one(element, class, before, elements) {
-                    Some(class)
+            FlatNote::Digit(element, lead, trail) => {
+                if numeric.is_none() && before <= lead && elements.push(element) {
+                    Some(trail)
                 } else {
                     None
                 }
             }
-            FlatNote::Other => None,
+            _ => None,
         }
     }
-}
-
-/// Appends the element of a character of a class that stands behind one of another, if it may and there is room.
-#[inline(always)]
-fn push_one<const N: usize>(
-    element: CollationElement,
-    class: u8,
-    before: u8,
-    elements: &mut FlatElements<N>,
-) -> bool
-    ensures follows { result ≡ true → MayFollow before class }
-    ensures appended { result ≡ true → elements.new.items ≡ elements.old.items ++ element ∷ [] }
-{
-    may_follow(before, class) && elements.push(element)
-}
-
-/// Appends two elements, the first that of a character of a class, in the same way; the first alone where there isn't room.
-#[inline(always)]
-fn push_two<const N: usize>(
-    first: CollationElement,
-    second: CollationElement,
-    lead: u8,
-    before: u8,
-    elements: &mut FlatElements<N>,
-) -> bool
-    ensures follows { result ≡ true → MayFollow before lead }
-    ensures appended { result ≡ true → elements.new.items ≡ elements.old.items ++ first ∷ second ∷ [] }
-{
-    push_one(first, lead, before, elements) && elements.push(second)
 }
 
 /// Whether a character is special, or a dot above that may be dropped.
@@ -139,11 +122,12 @@ fn note_of_one(checked: &CheckedTables<'_>, first: char) -> FlatNote
     ensures { (c : ℕ) → (canonical_by checked.now).full c ≡ first ∷ [] → IsFlatNote checked.now c result }
 {
     let class = checked.canonical().class(first);
+    let lead = highest_before(class);
     if let Some(element) = flat_element(checked, first) {
-        return FlatNote::One(element, class);
+        return FlatNote::One(element, lead, class);
     }
     match flat_digit(checked, first) {
-        Some(element) => FlatNote::Digit(element, class),
+        Some(element) => FlatNote::Digit(element, lead, class),
         None => FlatNote::Other,
     }
 }
@@ -152,13 +136,15 @@ fn note_of_one(checked: &CheckedTables<'_>, first: char) -> FlatNote
 fn note_of_two(checked: &CheckedTables<'_>, first: char, second: char) -> FlatNote
     ensures { (c : ℕ) → (canonical_by checked.now).full c ≡ first ∷ second ∷ [] → IsFlatNote checked.now c result }
 {
-    let lead = checked.canonical().class(first);
+    let class = checked.canonical().class(first);
     let trail = checked.canonical().class(second);
-    if !may_follow(lead, trail) {
+    if class > highest_before(trail) {
         return FlatNote::Other;
     }
     match (flat_element(checked, first), flat_element(checked, second)) {
-        (Some(element), Some(next)) => FlatNote::Two(element, next, lead, trail),
+        (Some(element), Some(next)) => {
+            FlatNote::Two(element, next, highest_before(class), trail)
+        }
         _ => FlatNote::Other,
     }
 }
