@@ -214,14 +214,14 @@ impl<'a> CheckedTables<'a> {
         }
     }
 
-    /// By what a character is read flat.
+    /// By what a character is read flat; `None` for one behind the low characters.
     #[inline(always)]
-    pub(crate) fn flat_note(&self, c: char) -> FlatNote
-        ensures { IsFlatNote self.now c result }
+    pub(crate) fn flat_note(&self, c: char) -> Option<&FlatNote>
+        ensures { IfSome result (λ note. IsFlatNote self.now c note.now) }
     {
         match self.flat.get(c as usize) {
-            Some(note) => *note,
-            None => FlatNote::Other,
+            Some(note) => Some(note),
+            None => None,
         }
     }
 

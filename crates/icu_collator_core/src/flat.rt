@@ -1,10 +1,11 @@
 //! Flat reading: the elements of texts whose characters are read one by one, by notes that are made once for all.
 
-ghost use Rattle.std.specs.Prelude.{◌≡◌, ℕ, List, [], true};
+ghost use Rattle.std.specs.Prelude.{◌≡◌, ℕ, List, [], IfSome, true};
 ghost use Rattle.std.specs.Iterator.{IsFinite};
 ghost use Rattle.icu_normalizer_core.specs.Iter.{Spells};
 ghost use Rattle.icu_collator_core.specs.ElementLists.{unpacked};
 ghost use Rattle.icu_collator_core.specs.ElementTexts.{text_elements};
+ghost use Rattle.icu_collator_core.specs.FlatNotes.{IsPushed};
 
 mod list;
 pub(crate) mod notes;
@@ -13,6 +14,23 @@ use crate::checked::CheckedTables;
 pub use list::FlatElements;
 
 impl CheckedTables<'_> {
+    /// Appends the elements of a character that stands behind one of this class, where it may, by what is noted of it; answers
+    /// the class of the last character of its full list.
+    #[inline(always)]
+    fn push_flat<const N: usize>(
+        &self,
+        numeric: Option<u8>,
+        c: char,
+        before: u8,
+        elements: &mut FlatElements<N>,
+    ) -> Option<u8>
+        ensures { IfSome result (λ trail. IsPushed self.now numeric c before elements.old.items trail elements.new.items) }
+    {
+        let note = self.flat_note(c)?;
+        let trail = note.push(numeric, before, elements)?;
+        Some(trail)
+    }
+
     /// Reads the text that an iterator gives into an empty list, if it is flat: each of its characters is noted, so that each
     /// character of its full list (UAX 15) is read alone, its marks stand in order, and the list has room for its elements.
     /// `false` for another text; what the list has then is not said. Where a lead byte of numbers is given, a text with a
@@ -31,7 +49,7 @@ impl CheckedTables<'_> {
     {
         let mut last = 0;
         for c in chars {
-            match self.flat_note(c).push(numeric, last, elements) {
+            match self.push_flat(numeric, c, last, elements) {
                 Some(class) => last = class,
                 None => return false,
             }

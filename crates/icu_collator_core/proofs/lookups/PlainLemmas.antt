@@ -83,12 +83,17 @@ module _ (entry : TableWord) (no_prefix : has_tag Prefix entry.word ≡ false) (
       }
 
 -- a digit's word says nothing else where digits don't count, if its lone word states an element
-pub read_digit : (entry : TableWord) (bits : ℕ) → has_tag Digit entry.word ≡ true → stated_element (lone_word entry.pools entry.word) ≡ Some (element_of bits)
+read_digit : (entry : TableWord) (bits : ℕ) → has_tag Digit entry.word ≡ true → stated_element (lone_word entry.pools entry.word) ≡ Some (element_of bits)
     → (weights : Weights) (c : ℕ) → AreSaidBy weights entry c → IsReadUncounted weights c bits
 read_digit entry bits has stated weights c said =
     read_uncounted entry (other_tag Prefix Digit entry.word has (λ same. omega (arith, same))) (other_tag Contraction Digit entry.word has (λ same. omega (arith, same)))
     weights c said bits
     (ap (λ o. unwrap_or o (default_by entry c ∷ [])) (stated_elements entry.pools (lone_word entry.pools entry.word) (element_of bits) stated))
+
+pub read_digit_if_stated : (entry : TableWord) → has_tag Digit entry.word ≡ true → (bits : Option ℕ) → option_map element_of bits ≡ stated_element (lone_word entry.pools entry.word)
+    → IfSome bits (λ b. (weights : Weights) (c : ℕ) → AreSaidBy weights entry c → IsReadUncounted weights c b)
+read_digit_if_stated entry has None e = tt
+read_digit_if_stated entry has (Some b) e = read_digit entry b has (sym e)
 
 -- a word that states an element says nothing else
 read_alone : (entry : TableWord) (bits : ℕ) → stated_element entry.word ≡ Some (element_of bits)

@@ -1,30 +1,38 @@
 -- What a note of a character says of its elements.
-use Rattle.std.proofs.Common.{◌≡◌, ℕ, ◌≤◌, List, [], ◌∷◌, Option, refl, sym, subst}
+use Rattle.std.proofs.Common.{◌≡◌, ℕ, true, false, ◌==◌, ◌&&◌, ◌||◌, Option, None, refl, ap}
+use Rattle.std.specs.Option.{is_some}
+use Rattle.std.proofs.lemmas.Bool.{and_right, or_parts}
+use lib.Utf8.{scalar}
 use Rattle.icu_collator_core.specs.Acceptance.{CollationSource}
-use Rattle.icu_collator_core.specs.FlatNotes.{AreReadFlat, IsFlat, IsReadFlat, MayFollow, StandInOrder, last_class}
-use Rattle.icu_collator_core.specs.ReadSources.{canonical_by}
+use Rattle.icu_collator_core.specs.Defaults.{special_primary}
+use Rattle.icu_collator_core.specs.FlatNotes.{IsReadFlat}
+use Rattle.icu_collator_core.specs.PlainWords.{IsReadAlone, IsReadUncounted}
+use Rattle.icu_collator_core.specs.ReadSources.{weights_by}
+use Rattle.icu_collator_core.specs.TableSettings.{has_bit}
+use Rattle.icu_collator_core.proofs.readings.AloneReadLemmas.{not_some}
 
-module _ (source : CollationSource) (c lead : ℕ) (first : ℕ) (may : (before : ℕ) → before ≤ lead → MayFollow before ((canonical_by source).class first)) where
-  abbrev class : ℕ → ℕ
-  class = (canonical_by source).class
-
-  -- a full list of one character
-  pub one_flat : (numeric : Option ℕ) (bits : ℕ) → (canonical_by source).full c ≡ first ∷ [] → IsReadFlat source numeric first bits
-      → IsFlat source numeric c (bits ∷ []) lead (class first)
-  one_flat numeric bits full read =
+module _ (source : CollationSource) (c bits : ℕ) (character : scalar c ≡ true)
+    (kept : (is_some (special_primary c) || (has_bit 6 source.tables.metadata.bits && (c == 0x307))) ≡ false) where
+  -- a character that is read alone, and is no special one nor a dot that may be dropped
+  pub alone_flat : ((numeric : Option ℕ) → IsReadAlone (weights_by numeric source) c bits) → (numeric : Option ℕ) → IsReadFlat source numeric c bits
+  alone_flat alone numeric =
+      let parts = or_parts (is_some (special_primary c)) (has_bit 6 source.tables.metadata.bits && (c == 0x307)) kept in
       record {
-        read = subst (λ (l : List ℕ). AreReadFlat source numeric l (bits ∷ [])) (sym full) (read, tt);
-        order = λ before least. subst (λ (l : List ℕ). StandInOrder class before l) (sym full) (may before least, tt);
-        last = λ before. subst (λ (l : List ℕ). last_class class before l ≡ class first) (sym full) refl;
+        character = character;
+        ordinary = not_some (special_primary c) parts.0;
+        uncounted = and_right (is_some numeric) (is_some ((weights_by numeric source).digit c)) (ap (λ (o : Option ℕ). is_some o) (alone numeric).digit);
+        undropped = parts.1;
+        alone = (alone numeric).uncounted;
       }
 
-  -- one of two, in order
-  pub two_flat : (numeric : Option ℕ) (second bits more : ℕ) → (canonical_by source).full c ≡ first ∷ second ∷ [] → MayFollow (class first) (class second)
-      → IsReadFlat source numeric first bits → IsReadFlat source numeric second more
-      → IsFlat source numeric c (bits ∷ more ∷ []) lead (class second)
-  two_flat numeric second bits more full follows one two =
+  -- the same of a digit, where digits don't count
+  pub digit_flat : IsReadUncounted (weights_by None source) c bits → IsReadFlat source None c bits
+  digit_flat alone =
+      let parts = or_parts (is_some (special_primary c)) (has_bit 6 source.tables.metadata.bits && (c == 0x307)) kept in
       record {
-        read = subst (λ (l : List ℕ). AreReadFlat source numeric l (bits ∷ more ∷ [])) (sym full) (one, (two, tt));
-        order = λ before least. subst (λ (l : List ℕ). StandInOrder class before l) (sym full) (may before least, (follows, tt));
-        last = λ before. subst (λ (l : List ℕ). last_class class before l ≡ class second) (sym full) refl;
+        character = character;
+        ordinary = not_some (special_primary c) parts.0;
+        uncounted = refl;
+        undropped = parts.1;
+        alone = alone;
       }

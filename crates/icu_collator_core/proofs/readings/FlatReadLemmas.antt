@@ -3,7 +3,7 @@ use Rattle.std.proofs.Common.{◌≡◌, ℕ, ◌≤◌, Bool, true, ◌&&◌, L
 use Rattle.std.specs.Option.{is_some}
 use Rattle.std.proofs.lemmas.Bool.{and_from}
 use lib.Utf8.{scalar, scalars}
-use Rattle.icu_normalizer_core.specs.Canonical.{decomposed}
+use Rattle.icu_normalizer_core.specs.Canonical.{decomposed, marks_in_order}
 use Rattle.icu_normalizer_core.specs.Iter.{Spells}
 use Rattle.icu_normalizer_core.proofs.IterLemmas.{Spells-end, Spells-next}
 use Rattle.icu_collator_types.specs.declared.elements.Element.{Element}

@@ -46,9 +46,10 @@ impl<const N: usize> FlatElements<N> {
     pub(crate) fn push(&mut self, element: CollationElement) -> bool
         ensures { result ≡ true → self.new.items ≡ self.old.items ++ element ∷ [] }
     {
-        if self.count < N {
-            self.array[self.count] = element;
-            self.count += 1;
+        let count = self.count;
+        if count < N {
+            self.array[count] = element;
+            self.count = count + 1;
             true
         } else {
             false

@@ -1,9 +1,11 @@
 //! Notes of low characters by which texts are read flat: found once for all, and looked up by one read.
 
-ghost use Rattle.std.specs.Prelude.{◌≡◌, ◌∷◌, ◌<◌, ◌≤◌, ◌^◌, ℕ, [], IfOk, IfSome, Option, None};
+ghost use Rattle.std.specs.Prelude.{◌≡◌, ◌∷◌, ◌≤◌, ◌==◌, ◌&&◌, ◌||◌, ℕ, [], IfOk, IfSome, Option, None, is_some};
 ghost use Rattle.icu_collator_core.specs.Acceptance.{CollationSource};
+ghost use Rattle.icu_collator_core.specs.Defaults.{special_primary};
 ghost use Rattle.icu_collator_core.specs.FlatNotes.{AreFlatNotes, IsFlatNote, IsPushed, IsReadFlat, MayFollow};
 ghost use Rattle.icu_collator_core.specs.ReadSources.{canonical_by};
+ghost use Rattle.icu_collator_core.specs.TableSettings.{has_bit};
 
 use super::list::FlatElements;
 use crate::checked::CheckedTables;
@@ -31,7 +33,7 @@ pub(crate) enum FlatNote {
 
 /// The highest class behind which a character of this class may stand: any behind which is a starter, else its own.
 fn highest_before(class: u8) -> u8
-    ensures { (before : ℕ) → before < 2 ^ 8 → before ≤ result → MayFollow before class }
+    ensures { (before : ℕ) → before ≤ result → MayFollow before class }
 {
     if class == 0 { u8::MAX } else { class }
 }
@@ -41,15 +43,15 @@ impl FlatNote {
     /// there is room; answers the class of the last character of its full list. Where it isn't, the first may be appended.
     #[inline(always)]
     pub(crate) fn push<const N: usize>(
-        self,
+        &self,
         numeric: Option<u8>,
         before: u8,
         elements: &mut FlatElements<N>,
     ) -> Option<u8>
-        ensures { IfSome result (λ trail. (source : CollationSource) (c : ℕ) → IsFlatNote source c self
+        ensures { IfSome result (λ trail. (source : CollationSource) (c : ℕ) → IsFlatNote source c self.now
             → IsPushed source numeric c before elements.old.items trail elements.new.items) }
     {
-        if let FlatNote::One(element, lead, trail) = self {
+        if let FlatNote::One(element, lead, trail) = *self {
             if before <= lead && elements.push(element) {
                 return Some(trail);
             }
@@ -58,18 +60,18 @@ impl FlatNote {
         self.push_other(numeric, before, elements)
     }
 
-    /// The same, of a note that isn't of one character.
-    #[inline]
+    /// The same, whatever is noted.
+    #[inline(never)]
     fn push_other<const N: usize>(
-        self,
+        &self,
         numeric: Option<u8>,
         before: u8,
         elements: &mut FlatElements<N>,
     ) -> Option<u8>
-        ensures { IfSome result (λ trail. (source : CollationSource) (c : ℕ) → IsFlatNote source c self
+        ensures { IfSome result (λ trail. (source : CollationSource) (c : ℕ) → IsFlatNote source c self.now
             → IsPushed source numeric c before elements.old.items trail elements.new.items) }
     {
-        match self {
+        match *self {
             FlatNote::Two(first, second, lead, trail) => {
                 if before <= lead && elements.push(first) && elements.push(second) {
                     Some(trail)
@@ -90,7 +92,9 @@ impl FlatNote {
 }
 
 /// Whether a character is special, or a dot above that may be dropped.
-fn is_kept_apart(checked: &CheckedTables<'_>, c: char) -> bool {
+fn is_kept_apart(checked: &CheckedTables<'_>, c: char) -> bool
+    ensures { result ≡ (is_some (special_primary c) || (has_bit 6 checked.now.tables.metadata.bits && (c == 0x307))) }
+{
     special_primary(c as u32).is_some()
         || checked.tables().metadata.lithuanian_dot_above() && c == '\u{307}'
 }
@@ -123,12 +127,12 @@ fn note_of_one(checked: &CheckedTables<'_>, first: char) -> FlatNote
 {
     let class = checked.canonical().class(first);
     let lead = highest_before(class);
-    if let Some(element) = flat_element(checked, first) {
-        return FlatNote::One(element, lead, class);
-    }
-    match flat_digit(checked, first) {
-        Some(element) => FlatNote::Digit(element, lead, class),
-        None => FlatNote::Other,
+    match flat_element(checked, first) {
+        Some(element) => FlatNote::One(element, lead, class),
+        None => match flat_digit(checked, first) {
+            Some(element) => FlatNote::Digit(element, lead, class),
+            None => FlatNote::Other,
+        },
     }
 }
 
@@ -141,12 +145,13 @@ fn note_of_two(checked: &CheckedTables<'_>, first: char, second: char) -> FlatNo
     if class > highest_before(trail) {
         return FlatNote::Other;
     }
-    match (flat_element(checked, first), flat_element(checked, second)) {
-        (Some(element), Some(next)) => {
-            FlatNote::Two(element, next, highest_before(class), trail)
-        }
-        _ => FlatNote::Other,
-    }
+    let Some(element) = flat_element(checked, first) else {
+        return FlatNote::Other;
+    };
+    let Some(next) = flat_element(checked, second) else {
+        return FlatNote::Other;
+    };
+    FlatNote::Two(element, next, highest_before(class), trail)
 }
 
 /// What is to be noted of a character.

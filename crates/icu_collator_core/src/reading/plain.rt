@@ -57,10 +57,10 @@ impl CountingWord<'_> {
     pub(crate) fn digit_element(self) -> Option<CollationElement>
         ensures { IfSome result (λ bits. (weights : Weights) (c : ℕ) → AreSaidBy weights (table_word self.entry) c → IsReadUncounted weights c bits) }
     {
-        if !has_tag(self.word, Tag::Digit) {
-            return None;
+        if has_tag(self.word, Tag::Digit) {
+            stated_by(lone_word(self.source, self.word))
+        } else {
+            None
         }
-        let element = stated_by(lone_word(self.source, self.word))?;
-        Some(element)
     }
 }
