@@ -12,10 +12,11 @@ pub(crate) mod notes;
 
 use crate::checked::CheckedTables;
 pub use list::FlatElements;
+use notes::note_of;
 
 impl CheckedTables<'_> {
-    /// Appends the elements of a character that stands behind one of this class, where it may, by what is noted of it; answers
-    /// the class of the last character of its full list.
+    /// Appends the elements of a character that stands behind one of this class, if each character of its full list is read
+    /// alone, its marks stand in order, and there is room; answers the class of the last character of its full list.
     #[inline(always)]
     fn push_flat<const N: usize>(
         &self,
@@ -26,15 +27,35 @@ impl CheckedTables<'_> {
     ) -> Option<u8>
         ensures { IfSome result (λ trail. IsPushed self.now numeric c before elements.old.items trail elements.new.items) }
     {
-        let note = self.flat_note(c)?;
+        match self.flat_note(c) {
+            Some(note) => {
+                let trail = note.push(numeric, before, elements)?;
+                Some(trail)
+            }
+            None => self.push_found(numeric, c, before, elements),
+        }
+    }
+
+    /// The same by the tables alone.
+    #[inline(never)]
+    fn push_found<const N: usize>(
+        &self,
+        numeric: Option<u8>,
+        c: char,
+        before: u8,
+        elements: &mut FlatElements<N>,
+    ) -> Option<u8>
+        ensures { IfSome result (λ trail. IsPushed self.now numeric c before elements.old.items trail elements.new.items) }
+    {
+        let note = note_of(self, c);
         let trail = note.push(numeric, before, elements)?;
         Some(trail)
     }
 
-    /// Reads the text that an iterator gives into an empty list, if it is flat: each of its characters is noted, so that each
-    /// character of its full list (UAX 15) is read alone, its marks stand in order, and the list has room for its elements.
-    /// `false` for another text; what the list has then is not said. Where a lead byte of numbers is given, a text with a
-    /// digit is none. No memory is taken.
+    /// Reads the text that an iterator gives into an empty list, if it is flat: each of its characters has a full list (UAX 15)
+    /// of one or two characters that are read alone, its marks stand in order, and the list has room for its elements. `false`
+    /// for another text; what the list has then is not said. Where a lead byte of numbers is given, a text with a digit is
+    /// none. A character below U+0800 takes one read; no memory is taken.
     #[inline]
     pub fn read_flat<I: Iterator<Item = char> + Drop, const N: usize>(
         &self,

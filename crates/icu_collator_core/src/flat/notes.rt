@@ -155,7 +155,7 @@ fn note_of_two(checked: &CheckedTables<'_>, first: char, second: char) -> FlatNo
 }
 
 /// What is to be noted of a character.
-fn note_of(checked: &CheckedTables<'_>, c: char) -> FlatNote
+pub(crate) fn note_of(checked: &CheckedTables<'_>, c: char) -> FlatNote
     ensures { IsFlatNote checked.now c result }
 {
     let mut list = checked.canonical().full_list(c);
