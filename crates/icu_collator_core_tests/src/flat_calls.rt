@@ -7,8 +7,8 @@ use icu_collator_core::flat::FlatElements;
 use icu_collator_types::elements::CollationElement;
 use std::alloc::Global;
 
-/// Records of letters, marks of two classes, a letter with a mark, a digit, a text of two letters, and a letter that no note
-/// is made of.
+/// Records of letters, marks of two classes, a letter with a mark, a digit, a text of two letters, and a letter that is found
+/// by the tables alone.
 const RECORDS: &str = "class 0300 230
 class 0316 220
 map 00E0 0061 0300
@@ -61,21 +61,61 @@ fn is_not_flat(alloc: Global, numeric: Option<u8>, text: &str) -> bool {
 fn ok_read_flat(rt: HostRuntime) {
     let alloc = rt.alloc();
     assert!(rt; has_elements(alloc, Some(0x10), "", &[]));
-    assert!(rt; has_elements(alloc, Some(0x10), "aca", &[0x2a10_0000_0500_0500, 0x2a30_0000_0500_0500, 0x2a10_0000_0500_0500]));
-    assert!(rt; has_elements(alloc, None, "\u{e0}\u{300}", &[0x2a10_0000_0500_0500, 0x8600_0500, 0x8600_0500]));
+    assert!(rt;
+        has_elements(
+            alloc,
+            Some(0x10),
+            "aca",
+            &[
+                0x2a10_0000_0500_0500,
+                0x2a30_0000_0500_0500,
+                0x2a10_0000_0500_0500
+            ]
+        )
+    );
+    assert!(rt;
+        has_elements(
+            alloc,
+            None,
+            "\u{e0}\u{300}",
+            &[0x2a10_0000_0500_0500, 0x8600_0500, 0x8600_0500]
+        )
+    );
+    assert!(rt;
+        has_elements(
+            alloc,
+            None,
+            "\u{905}\u{300}",
+            &[0x2a70_0000_0500_0500, 0x8600_0500]
+        )
+    );
 }
 
 #[test]
 fn marks_are_read_flat_in_order(rt: HostRuntime) {
     let alloc = rt.alloc();
-    assert!(rt; has_elements(alloc, None, "a\u{316}\u{300}", &[0x2a10_0000_0500_0500, 0x8800_0500, 0x8600_0500]));
+    assert!(rt;
+        has_elements(
+            alloc,
+            None,
+            "a\u{316}\u{300}",
+            &[0x2a10_0000_0500_0500, 0x8800_0500, 0x8600_0500]
+        )
+    );
     assert!(rt; is_not_flat(alloc, None, "a\u{300}\u{316}"));
     assert!(rt; is_not_flat(alloc, None, "\u{e0}\u{316}"));
 }
 
 #[test]
 fn digits_are_read_flat_without_numbers(rt: HostRuntime) {
-    assert!(rt; has_elements(rt.alloc(), None, "a1", &[0x2a10_0000_0500_0500, 0x0f10_0000_0500_0500]));
+    assert!(rt;
+        has_elements(
+            rt.alloc(),
+            None,
+            "a1",
+            &[0x2a10_0000_0500_0500, 0x0f10_0000_0500_0500]
+        )
+    );
     assert!(rt; is_not_flat(rt.alloc(), Some(0x10), "a1"));
 }
 
@@ -83,7 +123,6 @@ fn digits_are_read_flat_without_numbers(rt: HostRuntime) {
 fn other_texts_are_not_read_flat(rt: HostRuntime) {
     let alloc = rt.alloc();
     assert!(rt; is_not_flat(alloc, None, "ab"));
-    assert!(rt; is_not_flat(alloc, None, "\u{905}"));
     assert!(rt; is_not_flat(alloc, None, "acac"));
     assert!(rt; is_not_flat(alloc, None, "ac\u{e0}"));
 }
