@@ -29,7 +29,7 @@ impl<const N: usize> FlatElements<N> {
         ensures { result.items ≡ [] }
     {
         FlatElements {
-            array: [CollationElement::default(); N],
+            array: [CollationElement::new(0); N],
             count: 0,
         }
     }
