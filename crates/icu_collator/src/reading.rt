@@ -1,5 +1,7 @@
 //! What is read of a text, for a comparison or a key.
 
+ghost use Rattle.std.specs.Prelude.{◌≡◌};
+
 mod texts;
 
 use icu_collator_types::elements::CollationElement;

@@ -46,7 +46,7 @@ fn compare_from_tertiaries(
 ) -> Result<Ordering, AllocError>
     ensures { IfOk result (λ order. order ≡ order_from_tertiaries (source_collation checked.now) options.now left.entry right.entry) }
 {
-    match compare_tertiaries(alloc, options, left, right)? {
+    match compare_tertiaries(options, left, right) {
         Ordering::Less => Ok(Ordering::Less),
         Ordering::Greater => Ok(Ordering::Greater),
         Ordering::Equal => {
@@ -109,7 +109,7 @@ pub(super) fn compare_read(
 ) -> Result<Ordering, AllocError>
     ensures { IfOk result (λ order. order ≡ read_order (source_collation checked.now) options.now left.entry right.entry) }
 {
-    match compare_primaries(alloc, checked, left, right)? {
+    match compare_primaries(checked, left, right) {
         Ordering::Less => Ok(Ordering::Less),
         Ordering::Greater => Ok(Ordering::Greater),
         Ordering::Equal => {
