@@ -40,7 +40,7 @@ fn words(rt: &HostRuntime) -> io::Result<Vec<String>> {
 /// Does a task over a records file and a file of names.
 fn run(rt: &HostRuntime, records: &str, names: &str, task: &str, rounds: u32) -> Option<()> {
     match task {
-        "names" => measure_collator(rt, records, names, rounds),
+        "names" | "keys" | "random" | "near" => measure_collator(rt, records, names, task, rounds),
         "elements" => measure_elements(rt, records, names, false, rounds),
         "numeric_elements" => measure_elements(rt, records, names, true, rounds),
         "try_new" => measure_check(rt, records, rounds),

@@ -108,15 +108,23 @@ fn measure(
     rt: &HostRuntime,
     collator: &CollatorBorrowed<'_>,
     lines: &str,
+    task: &str,
     rounds: u32,
 ) -> Option<()> {
     let names: Vec<&str> = lines.lines().collect(rt.alloc()).ok()?;
-    measure_keys(rt, collator, &names, rounds)?;
-    let far = far_pairs(rt.alloc(), &names)?;
-    measure_pairs(rt, collator, "cmp_random", &far, rounds)?;
-    let ordered = in_order(collator, rt.alloc(), &names)?;
-    let near = near_pairs(rt.alloc(), &ordered)?;
-    measure_pairs(rt, collator, "cmp_near", &near, rounds)
+    if task == "names" || task == "keys" {
+        measure_keys(rt, collator, &names, rounds)?;
+    }
+    if task == "names" || task == "random" {
+        let far = far_pairs(rt.alloc(), &names)?;
+        measure_pairs(rt, collator, "cmp_random", &far, rounds)?;
+    }
+    if task == "names" || task == "near" {
+        let ordered = in_order(collator, rt.alloc(), &names)?;
+        let near = near_pairs(rt.alloc(), &ordered)?;
+        measure_pairs(rt, collator, "cmp_near", &near, rounds)?;
+    }
+    Some(())
 }
 
 /// The same, by a collator over a provider's tables.
@@ -124,19 +132,26 @@ fn measure_over(
     rt: &HostRuntime,
     held: &HeldCollation<'static>,
     lines: &str,
+    task: &str,
     rounds: u32,
 ) -> Option<()> {
     let preferences = CollatorPreferences::default();
     match Collator::try_new_unstable(rt.alloc(), held, preferences, CollatorOptions::default()) {
-        Ok(collator) => measure(rt, &collator.as_borrowed(), lines, rounds),
+        Ok(collator) => measure(rt, &collator.as_borrowed(), lines, task, rounds),
         Err(_) => None,
     }
 }
 
 /// The same, by a collator over the tables of records; `None` where it can't be made, or memory is refused.
-pub fn measure_collator(rt: &HostRuntime, records: &str, lines: &str, rounds: u32) -> Option<()> {
+pub fn measure_collator(
+    rt: &HostRuntime,
+    records: &str,
+    lines: &str,
+    task: &str,
+    rounds: u32,
+) -> Option<()> {
     match held_tables(rt.alloc(), records, TrieType::Small) {
-        Some(held) => measure_over(rt, &held, lines, rounds),
+        Some(held) => measure_over(rt, &held, lines, task, rounds),
         None => None,
     }
 }

@@ -8,3 +8,4 @@ pub mod PrimaryRunLemmas
 pub mod RankedRunLemmas
 pub mod SoundCaseLemmas
 pub mod WeightWrittenLemmas
+pub mod ReadKeyLemmas

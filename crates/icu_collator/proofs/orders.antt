@@ -1,3 +1,4 @@
 pub mod SamenessLemmas
 pub mod StrengthsLemmas
 pub mod TotalOrderLemmas
+pub mod FlatOrderLemmas

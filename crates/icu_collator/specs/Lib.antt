@@ -2,6 +2,7 @@ pub mod Shifted
 pub mod Levels
 pub mod Order
 pub mod Strengths
+pub mod KeyBuffers
 pub mod KeyBytes
 pub mod Settings
 pub mod LeadMoves
@@ -20,4 +21,5 @@ pub mod NormalForms
 pub mod KeyCodes
 pub mod LevelLists
 pub mod TextsRead
+pub mod FlatOrders
 pub mod ReadingPlaces

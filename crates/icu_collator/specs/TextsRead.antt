@@ -21,17 +21,18 @@ numeric_by source options = cond (is_numeric options.numeric) (Some source.table
 
 -- the elements that count in a text that was read
 abbrev pub counted_in : ReadText → List Counted
-counted_in text = counted_list text.variable_end text.elements.items
+counted_in text = counted_list text.variable_end text.elements.now
 
 -- what is read of a decomposed list: its elements that count, and at Identical its characters
-pub record IsReadList (collation : Collation) (options : ResolvedCollatorOptions) (list : List ℕ) (text : ReadText) : Type 0 where
-  pub elements : counted_in text
+pub record IsReadList (collation : Collation) (options : ResolvedCollatorOptions) (list items : List ℕ) (variable_end : ℕ) (kept : List ℕ) : Type 0 where
+  pub elements : counted_list variable_end items
       ≡ counted collation options (elements_of_list collation.canonical collation.weights (is_numeric options.numeric) list)
-  pub characters : is_at_least options.strength Identical ≡ true → text.characters.items ≡ list
+  pub characters : is_at_least options.strength Identical ≡ true → kept ≡ list
 
 -- the same of a text
-abbrev pub IsReadOf : Collation → ResolvedCollatorOptions → List ℕ → ReadText → Type 0
-IsReadOf collation options text read = IsReadList collation options (decomposed collation.canonical text) read
+abbrev pub IsReadOf : Collation → ResolvedCollatorOptions → List ℕ → List ℕ → ℕ → List ℕ → Type 0
+IsReadOf collation options text items variable_end kept =
+    IsReadList collation options (decomposed collation.canonical text) items variable_end kept
 
 -- ## How texts that were read compare: level by level, each where it is in force
 
@@ -64,7 +65,7 @@ read_quaternaries_order collation options a b =
 abbrev pub read_characters_order : ResolvedCollatorOptions → ReadText → ReadText → Ordering
 read_characters_order options a b =
     where_in_force (is_at_least options.strength Identical)
-    (lists_order (map character_rank a.characters.items) (map character_rank b.characters.items))
+    (lists_order (map character_rank a.characters.now) (map character_rank b.characters.now))
 
 -- from a level on
 unfoldable pub order_from_quaternaries : Collation → ResolvedCollatorOptions → ReadText → ReadText → Ordering

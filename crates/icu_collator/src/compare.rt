@@ -1,6 +1,7 @@
 //! The comparison of two texts.
 
 mod characters;
+mod flat;
 mod levels;
 mod orders;
 mod texts;

@@ -1,5 +1,6 @@
 //! The bytes of sort keys, level by level.
 
+mod buffer;
 mod cases;
 mod characters;
 mod levels;

@@ -3,4 +3,5 @@
 pub(crate) mod counted;
 pub(crate) mod lists;
 mod segments;
+pub(crate) mod turns;
 pub(crate) mod weights;

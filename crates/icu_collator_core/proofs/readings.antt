@@ -5,6 +5,10 @@ pub mod CaseLemmas
 pub mod CountLemmas
 pub mod DecomposingLemmas
 pub mod DigitRunLemmas
+pub mod FlatNoteLemmas
+pub mod FlatOrderLemmas
+pub mod FlatReadLemmas
+pub mod FlatStepLemmas
 pub mod LowCharacterLemmas
 pub mod MovedMarkLemmas
 pub mod ReachedLemmas

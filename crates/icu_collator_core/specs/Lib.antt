@@ -47,3 +47,6 @@ pub mod ElementTexts
 pub mod UnsafeCharacters
 pub mod TiedWords
 pub mod LowCharacters
+pub mod FlatLists
+pub mod FlatNotes
+pub mod FlatSteps

@@ -11,9 +11,13 @@ use Rattle.icu_collator_core.specs.Weights.{Weights}
 abbrev pub IsUnprefixed : Weights → ℕ → Type 0
 IsUnprefixed weights c = (p : Placed) → p.character ≡ c → scalars p.before ≡ true → prefix_match weights p ≡ None
 
--- a character is no digit, no prefix and no longer text is recorded with it, and it has one element, these 64 bits
-pub record IsReadAlone (weights : Weights) (c bits : ℕ) : Type 0 where
-  pub digit : weights.digit c ≡ None
+-- no prefix and no longer text is recorded with a character, and it has one element, these 64 bits, unless it is read as a digit
+pub record IsReadUncounted (weights : Weights) (c bits : ℕ) : Type 0 where
   pub before : IsUnprefixed weights c
   pub behind : (d : ℕ) (ds : List ℕ) → scalars (d ∷ ds) ≡ true → weights.recorded [] (c ∷ d ∷ ds) ≡ None
   pub elements : unwrap_or (weights.recorded [] (c ∷ [])) (default_elements weights c) ≡ element_of bits ∷ []
+
+-- such a character that is no digit
+pub record IsReadAlone (weights : Weights) (c bits : ℕ) : Type 0 where
+  pub digit : weights.digit c ≡ None
+  pub uncounted : IsReadUncounted weights c bits

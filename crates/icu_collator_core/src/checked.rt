@@ -4,6 +4,7 @@ ghost use Rattle.std.specs.Prelude.{◌≡◌, ◌↔◌, [], ◌∷◌, ℕ, Li
 ghost use Rattle.icu_normalizer_core.specs.BorrowedMeaning.{borrowed_meaning, borrowed_tables};
 ghost use Rattle.icu_normalizer_core.specs.CanonicalMeaning.{meaning};
 ghost use Rattle.icu_collator_core.specs.Acceptance.{IsAccepted, IsRefusal};
+ghost use Rattle.icu_collator_core.specs.FlatNotes.{IsFlatNote};
 ghost use Rattle.icu_collator_core.specs.LowCharacters.{IsNoted, IsOwnBeginning, IsPlainCharacter};
 ghost use Rattle.icu_collator_core.specs.PlainWords.{IsUnprefixed};
 ghost use Rattle.icu_collator_core.specs.ReadSources.{IsAloneAnywhere};
@@ -13,6 +14,7 @@ ghost use Rattle.icu_collator_core.specs.UnsafeCharacters.{IsUnsafe, IsUnsafeIts
 
 use crate::check::TableFault;
 use crate::check::faults::judge;
+use crate::flat::notes::{FlatNote, flat_notes};
 use crate::low::{LowCharacter, low_characters};
 use crate::reading::next::alone_at;
 use crate::reading::words::checked_word;
@@ -32,6 +34,8 @@ pub struct CheckedTables<'a> {
     tied: Vec<u32>,
     /// What is noted of the low characters.
     low: Vec<LowCharacter>,
+    /// By what low characters are read flat.
+    flat: Vec<FlatNote>,
 }
 
 // (let go of as one, and not part by part, so that what owns one is proved sooner)
@@ -42,6 +46,7 @@ impl Drop for CheckedTables<'_> {
             tables: _,
             tied: _,
             low: _,
+            flat: _,
         } = self;
     }
 }
@@ -49,6 +54,7 @@ impl Drop for CheckedTables<'_> {
 impl<'a> Model for CheckedTables<'a> {
     ghost use Rattle.icu_normalizer_core.specs.CanonicalMeaning.{meaning};
     ghost use Rattle.icu_collator_core.specs.Acceptance.{CollationSource, IsAccepted};
+    ghost use Rattle.icu_collator_core.specs.FlatNotes.{AreFlatNotes};
     ghost use Rattle.icu_collator_core.specs.LowCharacters.{AreNoted};
     ghost use Rattle.icu_collator_core.specs.TableMeaning.{weights_of};
     ghost use Rattle.icu_collator_core.specs.TiedWords.{AreTied};
@@ -59,7 +65,8 @@ impl<'a> Model for CheckedTables<'a> {
 
     ghost invariant = { λ inside. IsAccepted (meaning inside.canonical) inside.tables
         × AreTied (weights_of (meaning inside.canonical) inside.tables) inside.tied.items
-        × AreNoted (record { canonical = inside.canonical; tables = inside.tables }) inside.low.items };
+        × AreNoted (record { canonical = inside.canonical; tables = inside.tables }) inside.low.items
+        × AreFlatNotes (record { canonical = inside.canonical; tables = inside.tables }) inside.flat.items };
 }
 
 /// The characters that tables tie, where they pass every check; else what they are refused for.
@@ -114,6 +121,7 @@ impl<'a> CheckedTables<'a> {
                     tables,
                     tied,
                     low: Vec::new(alloc),
+                    flat: Vec::new(alloc),
                 };
                 Ok(checked.with_low(alloc)?)
             }
@@ -125,7 +133,10 @@ impl<'a> CheckedTables<'a> {
     fn with_low(mut self, alloc: Global) -> Result<CheckedTables<'a>, AllocError>
         ensures { IfOk result (λ checked. checked ≡ self.entry) }
     {
-        self.low = low_characters(alloc, &self)?;
+        let low = low_characters(alloc, &self)?;
+        let flat = flat_notes(alloc, &self)?;
+        self.low = low;
+        self.flat = flat;
         Ok(self)
     }
 
@@ -199,6 +210,17 @@ impl<'a> CheckedTables<'a> {
     {
         match self.low.get(c as usize) {
             Some(note) => Some(*note),
+            None => None,
+        }
+    }
+
+    /// By what a character is read flat; `None` for one behind the low characters.
+    #[inline(always)]
+    pub(crate) fn flat_note(&self, c: char) -> Option<&FlatNote>
+        ensures { IfSome result (λ note. IsFlatNote self.now c note.now) }
+    {
+        match self.flat.get(c as usize) {
+            Some(note) => Some(note),
             None => None,
         }
     }

@@ -6,6 +6,7 @@ pub mod check;
 mod check_weights;
 pub mod checked;
 pub mod elements;
+pub mod flat;
 pub mod laws;
 pub mod laws_same;
 pub mod laws_tables;

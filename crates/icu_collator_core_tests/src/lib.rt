@@ -10,6 +10,8 @@ mod element_calls;
 #[cfg(test)]
 mod fast_calls;
 #[cfg(test)]
+mod flat_calls;
+#[cfg(test)]
 mod judged;
 #[cfg(test)]
 mod numbers;

@@ -105,7 +105,7 @@ module _ (collation : Collation) (options : ResolvedCollatorOptions) (bits : ℕ
       ∙ ap (λ (ws : List ℕ). weights (counted collation options es) ++ ws) (primary_counts (counted_behind collation options false fs))
 
 -- the first of two primaries that differ decide
-primaries_decide : (front ps qs : List ℕ) (p q : ℕ) → nat_cmp p q ≢ Equal → list_order (λ w. w) (front ++ p ∷ ps) (front ++ q ∷ qs) ≡ nat_cmp p q
+pub primaries_decide : (front ps qs : List ℕ) (p q : ℕ) → nat_cmp p q ≢ Equal → list_order (λ w. w) (front ++ p ∷ ps) (front ++ q ∷ qs) ≡ nat_cmp p q
 primaries_decide front ps qs p q differ =
     ranks_behind (λ w. w) front (p ∷ ps) (q ∷ qs) ∙ decided (nat_cmp p q) (list_order (λ w. w) ps qs) differ
 

@@ -1,7 +1,8 @@
 -- How texts that were read compare: as their collation order says.
-use Rattle.std.proofs.Common.{◌≡◌, ℕ, Bool, true, false, List, [], ◌∷◌, map, filter_map, refl, ap, ◌∙◌}
+use Rattle.std.proofs.Common.{◌≡◌, ℕ, Bool, true, false, List, [], ◌∷◌, map, filter_map, refl, sym, ap, ◌∙◌, append-nil, ◌++◌}
 use Rattle.std.specs.Ordering.{nat_cmp, ordering_then}
 use Rattle.std.specs.declared.cmp.Ordering.{Ordering}
+use Rattle.std.specs.declared.cmp.Ordering.TheVariants.{Equal}
 use Rattle.icu_normalizer_core.specs.Canonical.{decomposed}
 use Rattle.icu_collator_types.specs.declared.elements.Element.{Element}
 use Rattle.icu_collator_types.specs.declared.options.ResolvedCollatorOptions.{ResolvedCollatorOptions}
@@ -10,10 +11,12 @@ use Rattle.icu_collator_types.specs.Options.{is_at_least, is_numeric}
 use Rattle.icu_collator_core.specs.Collation.{Collation}
 use Rattle.icu_collator_core.specs.Elements.{elements_of_list}
 use Rattle.icu_collator.specs.declared.reading.ReadText.{ReadText}
+use Rattle.icu_collator.specs.LevelLists.{primaries_by}
 use Rattle.icu_collator.specs.Levels.{quaternary_at, secondaries_of, levels_of}
 use Rattle.icu_collator.specs.Order.{character_rank, collation_order, levels_order, list_order, quaternary_rank, secondary_rank, where_in_force}
 use Rattle.icu_collator.specs.Shifted.{Counted, counted}
-use Rattle.icu_collator.specs.TextsRead.{IsReadList, IsReadOf, lists_order, order_from_cases, order_from_quaternaries, order_from_secondaries, order_from_tertiaries, read_order}
+use Rattle.icu_collator.specs.TextsRead.{IsReadList, IsReadOf, counted_in, lists_order, order_from_cases, order_from_quaternaries, order_from_secondaries, order_from_tertiaries, read_order}
+use Rattle.icu_collator.proofs.boundaries.LevelFrontLemmas.{ranks_behind}
 
 -- lists compare by ranks as the lists of the ranks do
 ranked_order : {A : Type 0} (rank : A → ℕ) (xs ys : List A) → lists_order (map rank xs) (map rank ys) ≡ list_order rank xs ys
@@ -31,14 +34,14 @@ alike : (of : List Counted → List ℕ) (xs xs' ys ys' : List Counted) → xs �
 alike of xs xs' ys ys' e f = rw (e, f) refl
 
 module _ (collation : Collation) (options : ResolvedCollatorOptions) (firsts others : List ℕ) (a b : ReadText)
-    (left : IsReadList collation options firsts a) (right : IsReadList collation options others b) where
+    (left : IsReadList collation options firsts a.elements.now a.variable_end a.characters.now) (right : IsReadList collation options others b.elements.now b.variable_end b.characters.now) where
   abbrev elements_by : List ℕ → List Element
   elements_by list = elements_of_list collation.canonical collation.weights (is_numeric options.numeric) list
 
-  characters_alike : where_in_force (is_at_least options.strength Identical) (lists_order (map character_rank a.characters.items) (map character_rank b.characters.items))
+  characters_alike : where_in_force (is_at_least options.strength Identical) (lists_order (map character_rank a.characters.now) (map character_rank b.characters.now))
       ≡ where_in_force (is_at_least options.strength Identical) (list_order character_rank firsts others)
   characters_alike =
-      in_force_alike _ _ _ (λ in_force. ap (λ cs. lists_order (map character_rank cs) (map character_rank b.characters.items)) (left.characters in_force)
+      in_force_alike _ _ _ (λ in_force. ap (λ cs. lists_order (map character_rank cs) (map character_rank b.characters.now)) (left.characters in_force)
       ∙ ap (λ cs. lists_order (map character_rank firsts) (map character_rank cs)) (right.characters in_force)
       ∙ ranked_order character_rank firsts others)
 
@@ -55,6 +58,17 @@ module _ (collation : Collation) (options : ResolvedCollatorOptions) (firsts oth
 
 -- texts that were read compare as the texts do
 pub texts_read : (collation : Collation) (options : ResolvedCollatorOptions) (firsts others : List ℕ) (a b : ReadText)
-    → IsReadOf collation options firsts a → IsReadOf collation options others b → read_order collation options a b ≡ collation_order collation options firsts others
+    → IsReadOf collation options firsts a.elements.now a.variable_end a.characters.now → IsReadOf collation options others b.elements.now b.variable_end b.characters.now → read_order collation options a b ≡ collation_order collation options firsts others
 texts_read collation options firsts others a b left right =
     lists_read collation options (decomposed collation.canonical firsts) (decomposed collation.canonical others) a b left right
+
+-- two texts with equal primaries compare by the levels behind these
+pub equal_primaries : (collation : Collation) (options : ResolvedCollatorOptions) (a b : ReadText) → primaries_by collation (counted_in a) ≡ primaries_by collation (counted_in b)
+    → read_order collation options a b ≡ order_from_secondaries collation options a b
+unfolding read_order
+equal_primaries collation options a b same =
+    ap (λ (o : Ordering). ordering_then o (order_from_secondaries collation options a b))
+    (ap (λ (ps : List ℕ). lists_order ps (primaries_by collation (counted_in b))) same ∙ equal_lists (primaries_by collation (counted_in b)))
+  where
+    equal_lists : (xs : List ℕ) → lists_order xs xs ≡ Equal
+    equal_lists xs = ap (λ (l : List ℕ). lists_order l l) (sym (append-nil xs)) ∙ ranks_behind (λ w. w) xs [] []

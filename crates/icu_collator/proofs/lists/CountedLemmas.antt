@@ -16,7 +16,7 @@ left_true true b e = refl
 left_true false b e = e
 
 -- no primary is below an end at 0
-none_below : (p : ℕ) (b : Bool) → (b && ltb p 0) ≡ false
+pub none_below : (p : ℕ) (b : Bool) → (b && ltb p 0) ≡ false
 none_below p true = grind (arith, nat_tests)
 none_below p false = refl
 
@@ -65,7 +65,7 @@ by_variable : (end bits : ℕ) → (ltb 0x02000000 (bits / 2 ^ 32) && ltb (bits 
 unfolding counted_by
 by_variable end bits test = rw test refl
 
-by_whole : (end bits : ℕ) → (ltb 0x02000000 (bits / 2 ^ 32) && ltb (bits / 2 ^ 32) end) ≡ false → counted_by end bits ≡ whole (element_of bits)
+pub by_whole : (end bits : ℕ) → (ltb 0x02000000 (bits / 2 ^ 32) && ltb (bits / 2 ^ 32) end) ≡ false → counted_by end bits ≡ whole (element_of bits)
 unfolding counted_by
 by_whole end bits test = rw test refl
 

@@ -30,6 +30,6 @@ pub(crate) fn compare_characters<I: Iterator<Item = char> + Drop, J: Iterator<It
 {
     let lefts = read_text(alloc, checked, options, left)?;
     let rights = read_text(alloc, checked, options, right)?;
-    let order = compare_read(alloc, checked, options, &lefts, &rights)?;
+    let order = compare_read(alloc, checked, options, lefts.as_read(), rights.as_read())?;
     Ok(order)
 }

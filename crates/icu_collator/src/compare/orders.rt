@@ -20,10 +20,10 @@ fn compare_from_quaternaries(
     alloc: Global,
     checked: &CheckedTables<'_>,
     options: &ResolvedCollatorOptions,
-    left: &ReadText,
-    right: &ReadText,
+    left: ReadText<'_>,
+    right: ReadText<'_>,
 ) -> Result<Ordering, AllocError>
-    ensures { IfOk result (λ order. order ≡ order_from_quaternaries (source_collation checked.now) options.now left.now right.now) }
+    ensures { IfOk result (λ order. order ≡ order_from_quaternaries (source_collation checked.now) options.now left.entry right.entry) }
 {
     match compare_quaternaries(alloc, checked, options, left, right)? {
         Ordering::Less => Ok(Ordering::Less),
@@ -41,12 +41,12 @@ fn compare_from_tertiaries(
     alloc: Global,
     checked: &CheckedTables<'_>,
     options: &ResolvedCollatorOptions,
-    left: &ReadText,
-    right: &ReadText,
+    left: ReadText<'_>,
+    right: ReadText<'_>,
 ) -> Result<Ordering, AllocError>
-    ensures { IfOk result (λ order. order ≡ order_from_tertiaries (source_collation checked.now) options.now left.now right.now) }
+    ensures { IfOk result (λ order. order ≡ order_from_tertiaries (source_collation checked.now) options.now left.entry right.entry) }
 {
-    match compare_tertiaries(alloc, options, left, right)? {
+    match compare_tertiaries(options, left, right) {
         Ordering::Less => Ok(Ordering::Less),
         Ordering::Greater => Ok(Ordering::Greater),
         Ordering::Equal => {
@@ -62,10 +62,10 @@ fn compare_from_cases(
     alloc: Global,
     checked: &CheckedTables<'_>,
     options: &ResolvedCollatorOptions,
-    left: &ReadText,
-    right: &ReadText,
+    left: ReadText<'_>,
+    right: ReadText<'_>,
 ) -> Result<Ordering, AllocError>
-    ensures { IfOk result (λ order. order ≡ order_from_cases (source_collation checked.now) options.now left.now right.now) }
+    ensures { IfOk result (λ order. order ≡ order_from_cases (source_collation checked.now) options.now left.entry right.entry) }
 {
     match compare_cases(alloc, options, left, right)? {
         Ordering::Less => Ok(Ordering::Less),
@@ -79,14 +79,14 @@ fn compare_from_cases(
 
 /// By the secondaries, then the levels behind them. Fails only when out of memory.
 #[tactic(auto, unfolding(crate::specs::TextsRead::order_from_secondaries))]
-fn compare_from_secondaries(
+pub(super) fn compare_from_secondaries(
     alloc: Global,
     checked: &CheckedTables<'_>,
     options: &ResolvedCollatorOptions,
-    left: &ReadText,
-    right: &ReadText,
+    left: ReadText<'_>,
+    right: ReadText<'_>,
 ) -> Result<Ordering, AllocError>
-    ensures { IfOk result (λ order. order ≡ order_from_secondaries (source_collation checked.now) options.now left.now right.now) }
+    ensures { IfOk result (λ order. order ≡ order_from_secondaries (source_collation checked.now) options.now left.entry right.entry) }
 {
     match compare_secondaries(alloc, checked, options, left, right)? {
         Ordering::Less => Ok(Ordering::Less),
@@ -104,12 +104,12 @@ pub(super) fn compare_read(
     alloc: Global,
     checked: &CheckedTables<'_>,
     options: &ResolvedCollatorOptions,
-    left: &ReadText,
-    right: &ReadText,
+    left: ReadText<'_>,
+    right: ReadText<'_>,
 ) -> Result<Ordering, AllocError>
-    ensures { IfOk result (λ order. order ≡ read_order (source_collation checked.now) options.now left.now right.now) }
+    ensures { IfOk result (λ order. order ≡ read_order (source_collation checked.now) options.now left.entry right.entry) }
 {
-    match compare_primaries(alloc, checked, left, right)? {
+    match compare_primaries(checked, left, right) {
         Ordering::Less => Ok(Ordering::Less),
         Ordering::Greater => Ok(Ordering::Greater),
         Ordering::Equal => {

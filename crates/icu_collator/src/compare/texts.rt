@@ -8,6 +8,7 @@ ghost use Rattle.icu_collator.specs.Order.{collation_order};
 ghost use Rattle.icu_collator.specs.ReadingPlaces.{IsCommonPlace};
 
 use super::characters::compare_characters;
+use super::flat::compare_flat;
 use crate::front::{FirstDifference, behind, first_difference, order_by_difference, reading_place};
 use crate::texts::Characters;
 use icu_collator_core::checked::CheckedTables;
@@ -65,6 +66,9 @@ pub(crate) fn compare_texts<T: Characters, U: Characters>(
 ) -> Result<Ordering, AllocError>
     ensures { IfOk result (λ order. order ≡ collation_order (source_collation checked.now) options.now (T.characters left) (U.characters right)) }
 {
+    if let Some(order) = compare_flat(alloc, checked, options, left.chars(), right.chars())? {
+        return Ok(order);
+    }
     let difference = first_difference(left.chars(), right.chars());
     match order_by_difference(checked, options, difference) {
         Some(order) => Ok(order),

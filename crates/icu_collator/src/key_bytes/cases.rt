@@ -5,9 +5,9 @@ ghost use Rattle.std.specs.List.{list_all};
 ghost use Rattle.icu_collator.specs.KeyBytes.{lower_case_code, paired_halves, upper_case_code, with_runs};
 ghost use Rattle.icu_collator.specs.KeyCodes.{halves_of};
 
+use super::buffer::KeyBytes;
 use super::run_level::RunLevel;
 use super::runs::write_runs;
-use smallvec::SmallVec;
 use std::alloc::AllocError;
 
 /// Whether all cases are lower case or none.
@@ -22,7 +22,7 @@ fn are_lower(cases: &[u32]) -> bool
 fn write_halves(
     is_upper_first: bool,
     cases: &[u32],
-    halves: &mut SmallVec<u8, 128>,
+    halves: &mut KeyBytes,
 ) -> Result<(), AllocError>
     requires { All (λ case. case ≤ 2) cases.now }
     ensures { OnOk result (halves.new.items ≡ halves.old.items ++ halves_of is_upper_first cases.now) }
@@ -39,7 +39,7 @@ fn write_halves(
 }
 
 /// Appends half bytes in pairs, the upper half first; a last odd one stands with 0. Fails only when out of memory.
-fn write_pairs(halves: &[u8], key: &mut SmallVec<u8, 128>) -> Result<(), AllocError>
+fn write_pairs(halves: &[u8], key: &mut KeyBytes) -> Result<(), AllocError>
     requires { All (λ half. half < 16) halves.now }
     ensures { OnOk result (key.new.items ≡ key.old.items ++ paired_halves halves.now) }
 {
@@ -58,13 +58,13 @@ fn write_pairs(halves: &[u8], key: &mut SmallVec<u8, 128>) -> Result<(), AllocEr
 pub(super) fn write_cases(
     is_upper_first: bool,
     cases: &[u32],
-    key: &mut SmallVec<u8, 128>,
+    key: &mut KeyBytes,
 ) -> Result<(), AllocError>
     requires { All (λ case. case ≤ 2) cases.now }
     ensures { OnOk result (key.new.items ≡ key.old.items ++ paired_halves (halves_of is_upper_first cases.now)) }
 {
-    let mut halves: SmallVec<u8, 128> = SmallVec::new(*key.allocator());
+    let mut halves = KeyBytes::new(key.allocator());
     write_halves(is_upper_first, cases, &mut halves)?;
-    write_pairs(&halves, key)?;
+    write_pairs(halves.as_slice(), key)?;
     Ok(())
 }

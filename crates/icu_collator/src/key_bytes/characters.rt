@@ -3,7 +3,7 @@
 ghost use Rattle.std.specs.Prelude.{◌≡◌, ◌<◌, ◌≤◌, ◌+◌, ◌-◌, ◌*◌, ◌/◌, ◌^◌, ℕ, [], ◌∷◌, ◌++◌, OnOk};
 ghost use Rattle.icu_collator.specs.KeyBytes.{character_code, character_level, difference_bytes, difference_digit, expected_near, last_character, moved_by};
 
-use smallvec::SmallVec;
+use super::buffer::KeyBytes;
 use std::alloc::AllocError;
 
 /// Where the character after another is expected.
@@ -41,7 +41,7 @@ fn difference_digit(unit: u64, near: u64, c: u64) -> u8
 }
 
 /// Appends the last two bytes of a difference. Fails only when out of memory.
-fn write_two_digits(near: u64, c: u64, key: &mut SmallVec<u8, 128>) -> Result<(), AllocError>
+fn write_two_digits(near: u64, c: u64, key: &mut KeyBytes) -> Result<(), AllocError>
     requires near { near < 1114200 }
     requires c { c < 0x110000 }
     ensures { OnOk result (key.new.items ≡ key.old.items ++ difference_digit 253 near c ∷ difference_digit 1 near c ∷ []) }
@@ -52,7 +52,7 @@ fn write_two_digits(near: u64, c: u64, key: &mut SmallVec<u8, 128>) -> Result<()
 }
 
 /// Appends the last three bytes of a difference. Fails only when out of memory.
-fn write_three_digits(near: u64, c: u64, key: &mut SmallVec<u8, 128>) -> Result<(), AllocError>
+fn write_three_digits(near: u64, c: u64, key: &mut KeyBytes) -> Result<(), AllocError>
     requires near { near < 1114200 }
     requires c { c < 0x110000 }
     ensures { OnOk result (key.new.items ≡ key.old.items
@@ -64,7 +64,7 @@ fn write_three_digits(near: u64, c: u64, key: &mut SmallVec<u8, 128>) -> Result<
 }
 
 /// Appends the difference of a character from an expected one above it. Fails only when out of memory.
-fn write_below(near: u64, c: u64, key: &mut SmallVec<u8, 128>) -> Result<(), AllocError>
+fn write_below(near: u64, c: u64, key: &mut KeyBytes) -> Result<(), AllocError>
     requires near { near < 1114200 }
     requires c { c < 0x110000 }
     requires below { c + 80 < near }
@@ -86,7 +86,7 @@ fn write_below(near: u64, c: u64, key: &mut SmallVec<u8, 128>) -> Result<(), All
 }
 
 /// Appends the difference of a character from an expected one near or below it. Fails only when out of memory.
-fn write_above(near: u64, c: u64, key: &mut SmallVec<u8, 128>) -> Result<(), AllocError>
+fn write_above(near: u64, c: u64, key: &mut KeyBytes) -> Result<(), AllocError>
     requires near { near < 1114200 }
     requires c { c < 0x110000 }
     requires above { near ≤ c + 80 }
@@ -112,7 +112,7 @@ fn write_above(near: u64, c: u64, key: &mut SmallVec<u8, 128>) -> Result<(), All
 }
 
 /// Appends a character after another. Fails only when out of memory.
-fn write_character(last: u64, c: u64, key: &mut SmallVec<u8, 128>) -> Result<(), AllocError>
+fn write_character(last: u64, c: u64, key: &mut KeyBytes) -> Result<(), AllocError>
     requires last { last < 0x110000 }
     requires c { c < 0x110000 }
     ensures { OnOk result (key.new.items ≡ key.old.items ++ character_code last c) }
@@ -140,7 +140,7 @@ fn last_character(c: u64) -> u64
 }
 
 /// Appends the identical level. Fails only when out of memory.
-pub(super) fn write_characters(list: &[char], key: &mut SmallVec<u8, 128>) -> Result<(), AllocError>
+pub(super) fn write_characters(list: &[char], key: &mut KeyBytes) -> Result<(), AllocError>
     ensures { OnOk result (key.new.items ≡ key.old.items ++ character_level list.now) }
 {
     let mut last: u64 = 0;

@@ -9,6 +9,7 @@ ghost use Rattle.icu_collator.specs.LevelLists.{counted_list, has_sound_case, te
 ghost use Rattle.icu_collator.specs.Levels.{QuaternaryPlace, SecondaryPlace, secondary_at};
 ghost use Rattle.icu_collator.specs.Order.{quaternary_rank, secondary_rank};
 
+use super::buffer::KeyBytes;
 use super::cases::write_cases;
 use super::characters::write_characters;
 use super::quaternaries::write_quaternaries;
@@ -19,17 +20,13 @@ use icu_collator_types::elements::CollationElement;
 use icu_collator_types::options::{
     AlternateHandling, CaseLevel, CollationCaseFirst, ResolvedCollatorOptions,
 };
-use smallvec::SmallVec;
 use std::alloc::AllocError;
 
 /// The byte that separates levels, and that ends some.
 const LEVEL_SEPARATOR: u8 = 0x01;
 
 /// Appends the secondary level, given by ranks. Fails only when out of memory.
-pub(super) fn write_secondary_level(
-    ranks: &[u32],
-    key: &mut SmallVec<u8, 128>,
-) -> Result<(), AllocError>
+pub(super) fn write_secondary_level(ranks: &[u32], key: &mut KeyBytes) -> Result<(), AllocError>
     requires { All (λ rank. rank ≤ 2 ^ 16) ranks.now }
     ensures { OnOk result ((places : List SecondaryPlace) → map secondary_rank places ≡ ranks.now
         → key.new.items ≡ key.old.items ++ 0x01 ∷ (with_runs secondary_code places ++ 0x01 ∷ [])) }
@@ -44,7 +41,7 @@ pub(super) fn write_secondary_level(
 pub(super) fn write_forward_level(
     elements: &[CollationElement],
     variable_end: u32,
-    key: &mut SmallVec<u8, 128>,
+    key: &mut KeyBytes,
 ) -> Result<(), AllocError>
     requires { list_all has_sound_case (counted_list variable_end elements.now) ≡ true }
     ensures { OnOk result (key.new.items ≡ key.old.items
@@ -76,7 +73,7 @@ fn is_upper_first(case_first: CollationCaseFirst) -> bool
 pub(super) fn write_case_level(
     options: &ResolvedCollatorOptions,
     cases: &[u32],
-    key: &mut SmallVec<u8, 128>,
+    key: &mut KeyBytes,
 ) -> Result<(), AllocError>
     requires { All (λ case. case ≤ 2) cases.now }
     ensures { OnOk result (key.new.items ≡ key.old.items ++ 0x01 ∷ paired_halves (case_halves options.now cases.now)) }
@@ -104,7 +101,7 @@ fn write_tertiaries(
     options: &ResolvedCollatorOptions,
     elements: &[CollationElement],
     variable_end: u32,
-    key: &mut SmallVec<u8, 128>,
+    key: &mut KeyBytes,
 ) -> Result<(), AllocError>
     requires { list_all has_sound_case (counted_list variable_end elements.now) ≡ true }
     ensures { OnOk result (key.new.items ≡ key.old.items ++ with_runs (tertiary_code_of options.now) (tertiaries_by options.now (counted_list variable_end elements.now))) }
@@ -135,7 +132,7 @@ pub(super) fn write_tertiary_level(
     options: &ResolvedCollatorOptions,
     elements: &[CollationElement],
     variable_end: u32,
-    key: &mut SmallVec<u8, 128>,
+    key: &mut KeyBytes,
 ) -> Result<(), AllocError>
     requires { list_all has_sound_case (counted_list variable_end elements.now) ≡ true }
     ensures { OnOk result (key.new.items ≡ key.old.items
@@ -161,7 +158,7 @@ fn is_shifted(handling: AlternateHandling) -> bool
 pub(super) fn write_quaternary_level(
     options: &ResolvedCollatorOptions,
     ranks: &[u64],
-    key: &mut SmallVec<u8, 128>,
+    key: &mut KeyBytes,
 ) -> Result<(), AllocError>
     requires { All (λ rank. rank < 2 ^ 32 + 4) ranks.now }
     ensures { OnOk result ((places : List QuaternaryPlace) → map quaternary_rank places ≡ ranks.now → list_all is_small_place places ≡ true
@@ -174,10 +171,7 @@ pub(super) fn write_quaternary_level(
 }
 
 /// Appends the identical level. Fails only when out of memory.
-pub(super) fn write_identical_level(
-    list: &[char],
-    key: &mut SmallVec<u8, 128>,
-) -> Result<(), AllocError>
+pub(super) fn write_identical_level(list: &[char], key: &mut KeyBytes) -> Result<(), AllocError>
     ensures { OnOk result (key.new.items ≡ key.old.items ++ 0x01 ∷ character_level list.now) }
 {
     key.push(LEVEL_SEPARATOR)?;

@@ -6,12 +6,12 @@ ghost use Rattle.icu_collator.specs.KeyBytes.{primary_code, primary_level, prima
 ghost use Rattle.icu_collator.specs.KeyCodes.{AddsPrimary, IsRun};
 ghost use Rattle.icu_collator.specs.LevelLists.{counted_list, primaries_by};
 
+use super::buffer::KeyBytes;
 use super::weights::{write_primary_bytes, write_primary_rest};
 use crate::levels::counted::counted_element;
 use crate::levels::weights::{own_primary_at, reordered};
 use icu_collator_core::checked::CheckedTables;
 use icu_collator_types::elements::CollationElement;
-use smallvec::SmallVec;
 use std::alloc::AllocError;
 
 /// The lead byte of a primary.
@@ -22,7 +22,7 @@ fn lead_of(primary: u32) -> u8
 }
 
 /// Appends what ends a run of primaries with one lead before a primary with another. Fails only when out of memory.
-fn write_run_end(before: u8, lead: u8, key: &mut SmallVec<u8, 128>) -> Result<(), AllocError>
+fn write_run_end(before: u8, lead: u8, key: &mut KeyBytes) -> Result<(), AllocError>
     ensures { OnOk result (key.new.items ≡ key.old.items ++ run_end before lead) }
 {
     if before < lead {
@@ -37,11 +37,7 @@ fn write_run_end(before: u8, lead: u8, key: &mut SmallVec<u8, 128>) -> Result<()
 }
 
 /// Appends a primary after no run, or after one of primaries with a compressible lead. Fails only when out of memory.
-fn write_primary(
-    run: Option<u8>,
-    primary: u32,
-    key: &mut SmallVec<u8, 128>,
-) -> Result<(), AllocError>
+fn write_primary(run: Option<u8>, primary: u32, key: &mut KeyBytes) -> Result<(), AllocError>
     ensures { OnOk result (key.new.items ≡ key.old.items ++ primary_code run primary) }
 {
     let lead = lead_of(primary);
@@ -94,7 +90,7 @@ fn write_given(
     checked: &CheckedTables<'_>,
     run: Option<u8>,
     primary: Option<u32>,
-    key: &mut SmallVec<u8, 128>,
+    key: &mut KeyBytes,
 ) -> Result<Option<u8>, AllocError>
     requires { IsRun (was_compressible (source_collation checked.now)) run }
     ensures { IfOk result (λ now. AddsPrimary (was_compressible (source_collation checked.now)) (option_map (source_collation checked.now).reordered primary) run key.old.items now key.new.items) }
@@ -112,7 +108,7 @@ pub(super) fn write_primaries(
     checked: &CheckedTables<'_>,
     elements: &[CollationElement],
     variable_end: u32,
-    key: &mut SmallVec<u8, 128>,
+    key: &mut KeyBytes,
 ) -> Result<(), AllocError>
     ensures { OnOk result (key.new.items ≡ key.old.items
         ++ primary_level (source_collation checked.now) (primaries_by (source_collation checked.now) (counted_list variable_end elements.now))) }

@@ -5,9 +5,9 @@ ghost use Rattle.std.specs.List.{list_all};
 ghost use Rattle.icu_collator.specs.KeyCodes.{quaternaries_by_rank, rank_limit};
 ghost use Rattle.icu_collator.specs.declared.key_bytes.run_level.RunLevel.TheVariants.{Quaternaries};
 
+use super::buffer::KeyBytes;
 use super::run_level::RunLevel;
 use super::runs::write_wide_runs;
-use smallvec::SmallVec;
 use std::alloc::AllocError;
 
 /// Whether all quaternaries are common.
@@ -22,7 +22,7 @@ fn are_common(ranks: &[u64]) -> bool
 pub(super) fn write_quaternaries(
     is_shifted: bool,
     ranks: &[u64],
-    key: &mut SmallVec<u8, 128>,
+    key: &mut KeyBytes,
 ) -> Result<(), AllocError>
     requires { All (λ rank. rank < rank_limit Quaternaries) ranks.now }
     ensures { OnOk result (key.new.items ≡ key.old.items ++ quaternaries_by_rank is_shifted ranks.now) }

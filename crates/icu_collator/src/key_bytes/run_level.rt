@@ -5,8 +5,8 @@ ghost use Rattle.icu_collator_core.specs.WeightRules.{weight_bytes};
 ghost use Rattle.icu_collator.specs.KeyBytes.{shifted_bytes};
 ghost use Rattle.icu_collator.specs.KeyCodes.{HasRunBytes, code_of, quaternary_rank_bytes, rank_limit, secondary_rank_bytes};
 
+use super::buffer::KeyBytes;
 use super::weights::{write_primary_bytes, write_weight_bytes};
-use smallvec::SmallVec;
 use std::alloc::AllocError;
 
 /// A level that writes runs of its common weight short. Its weights are given by their ranks.
@@ -42,7 +42,7 @@ pub(super) struct RunBytes {
 }
 
 /// Appends a secondary weight that isn't common, or the end of a segment. Fails only when out of memory.
-fn write_secondary(rank: u64, key: &mut SmallVec<u8, 128>) -> Result<(), AllocError>
+fn write_secondary(rank: u64, key: &mut KeyBytes) -> Result<(), AllocError>
     requires { rank < 2 ^ 16 + 1 }
     ensures { OnOk result (key.new.items ≡ key.old.items ++ secondary_rank_bytes rank) }
 {
@@ -55,7 +55,7 @@ fn write_secondary(rank: u64, key: &mut SmallVec<u8, 128>) -> Result<(), AllocEr
 }
 
 /// Appends a tertiary weight, moved up by so much where it is above the common one. Fails only when out of memory.
-fn write_raised(weight: u32, by: u32, key: &mut SmallVec<u8, 128>) -> Result<(), AllocError>
+fn write_raised(weight: u32, by: u32, key: &mut KeyBytes) -> Result<(), AllocError>
     requires { weight + by < 2 ^ 16 }
     ensures { OnOk result (key.new.items ≡ key.old.items ++ weight_bytes (cond (ltb 0x500 weight) (weight + by) weight)) }
 {
@@ -68,7 +68,7 @@ fn write_raised(weight: u32, by: u32, key: &mut SmallVec<u8, 128>) -> Result<(),
 }
 
 /// Appends a tertiary weight, moved down where it is below the common one of upper case. Fails only when out of memory.
-fn write_lowered(weight: u32, key: &mut SmallVec<u8, 128>) -> Result<(), AllocError>
+fn write_lowered(weight: u32, key: &mut KeyBytes) -> Result<(), AllocError>
     requires { weight < 2 ^ 16 }
     ensures { OnOk result (key.new.items ≡ key.old.items ++ weight_bytes (cond (ltb weight 0xc500) (weight - 0x4000) weight)) }
 {
@@ -81,7 +81,7 @@ fn write_lowered(weight: u32, key: &mut SmallVec<u8, 128>) -> Result<(), AllocEr
 }
 
 /// Appends a shifted primary. Fails only when out of memory.
-fn write_shifted(primary: u32, key: &mut SmallVec<u8, 128>) -> Result<(), AllocError>
+fn write_shifted(primary: u32, key: &mut KeyBytes) -> Result<(), AllocError>
     ensures { OnOk result (key.new.items ≡ key.old.items ++ shifted_bytes primary) }
 {
     if primary >> 24 < 0x1b {
@@ -94,7 +94,7 @@ fn write_shifted(primary: u32, key: &mut SmallVec<u8, 128>) -> Result<(), AllocE
 }
 
 /// Appends a shifted primary, or a quaternary weight that isn't common. Fails only when out of memory.
-fn write_quaternary(rank: u64, key: &mut SmallVec<u8, 128>) -> Result<(), AllocError>
+fn write_quaternary(rank: u64, key: &mut KeyBytes) -> Result<(), AllocError>
     requires { rank < 2 ^ 32 + 4 }
     ensures { OnOk result (key.new.items ≡ key.old.items ++ quaternary_rank_bytes rank) }
 {
@@ -145,11 +145,7 @@ impl RunLevel {
 
     /// Appends a weight that isn't common, given by its rank. Fails only when out of memory.
     #[tactic(auto, unfolding(crate::specs::KeyCodes::code_of, crate::specs::KeyCodes::rank_limit))]
-    pub(super) fn write_weight(
-        self,
-        rank: u64,
-        key: &mut SmallVec<u8, 128>,
-    ) -> Result<(), AllocError>
+    pub(super) fn write_weight(self, rank: u64, key: &mut KeyBytes) -> Result<(), AllocError>
         requires { rank < rank_limit self }
         ensures { OnOk result (key.new.items ≡ key.old.items ++ (code_of self).bytes rank) }
     {

@@ -8,10 +8,10 @@ ghost use Rattle.icu_collator.specs.LevelLists.{counted_list, counted_of, has_so
 ghost use Rattle.icu_collator.specs.Shifted.{Counted};
 ghost use Rattle.icu_collator.specs.declared.levels.counted.CountedElement.{CountedElement};
 
+use super::buffer::KeyBytes;
 use super::run_level::{RunBytes, RunLevel};
 use crate::levels::counted::{CountedElement, counted_element};
 use icu_collator_types::elements::CollationElement;
-use smallvec::SmallVec;
 use std::alloc::AllocError;
 
 /// The byte that ends a run, where so many common weights are left for it.
@@ -33,7 +33,7 @@ fn write_filled_run(
     bytes: RunBytes,
     is_below_next: bool,
     more: usize,
-    key: &mut SmallVec<u8, 128>,
+    key: &mut KeyBytes,
 ) -> Result<(), AllocError>
     requires some { 0 < bytes.most }
     requires low { bytes.low + bytes.most ≤ 256 }
@@ -56,7 +56,7 @@ fn write_run(
     level: RunLevel,
     is_below_next: bool,
     count: usize,
-    key: &mut SmallVec<u8, 128>,
+    key: &mut KeyBytes,
 ) -> Result<(), AllocError>
     ensures { OnOk result (key.new.items ≡ key.old.items ++ run_bytes (code_of level) is_below_next count) }
 {
@@ -75,7 +75,7 @@ fn write_next(
     common: u64,
     rank: u64,
     pending: usize,
-    key: &mut SmallVec<u8, 128>,
+    key: &mut KeyBytes,
 ) -> Result<usize, AllocError>
     requires common { common ≡ (code_of level).common }
     requires rank { rank < rank_limit level }
@@ -97,7 +97,7 @@ fn write_given(
     common: u64,
     rank: Option<u32>,
     pending: usize,
-    key: &mut SmallVec<u8, 128>,
+    key: &mut KeyBytes,
 ) -> Result<usize, AllocError>
     requires common { common ≡ (code_of level).common }
     requires rank { IfSome rank (λ r. r < rank_limit level) }
@@ -117,7 +117,7 @@ pub(super) fn write_given_runs<F: Fn(CountedElement) -> Option<u32>>(
     elements: &[CollationElement],
     variable_end: u32,
     given: F,
-    key: &mut SmallVec<u8, 128>,
+    key: &mut KeyBytes,
 ) -> Result<(), AllocError>
     requires callable { F.IsAlwaysCallable given }
     requires cases { list_all has_sound_case (counted_list variable_end elements.now) ≡ true }
@@ -140,7 +140,7 @@ pub(super) fn write_given_runs<F: Fn(CountedElement) -> Option<u32>>(
 pub(super) fn write_runs(
     level: RunLevel,
     ranks: &[u32],
-    key: &mut SmallVec<u8, 128>,
+    key: &mut KeyBytes,
 ) -> Result<(), AllocError>
     requires { All (λ rank. rank < rank_limit level) ranks.now }
     ensures { OnOk result (key.new.items ≡ key.old.items ++ with_runs (code_of level) ranks.now) }
@@ -158,7 +158,7 @@ pub(super) fn write_runs(
 pub(super) fn write_wide_runs(
     level: RunLevel,
     ranks: &[u64],
-    key: &mut SmallVec<u8, 128>,
+    key: &mut KeyBytes,
 ) -> Result<(), AllocError>
     requires { All (λ rank. rank < rank_limit level) ranks.now }
     ensures { OnOk result (key.new.items ≡ key.old.items ++ with_runs (code_of level) ranks.now) }

@@ -11,6 +11,7 @@ ghost use Rattle.icu_collator.specs.LevelLists.{cases_by, counted_list, has_soun
 ghost use Rattle.icu_collator.specs.Levels.{levels_of, quaternary_at, secondaries_of};
 ghost use Rattle.icu_collator.specs.Shifted.{counted};
 
+use super::buffer::KeyBytes;
 use super::levels::{
     write_case_level, write_forward_level, write_identical_level, write_quaternary_level,
     write_secondary_level, write_tertiary_level,
@@ -20,7 +21,6 @@ use crate::levels::lists::{cases, quaternaries, secondaries};
 use icu_collator_core::checked::CheckedTables;
 use icu_collator_types::elements::CollationElement;
 use icu_collator_types::options::{CaseLevel, ResolvedCollatorOptions, Strength};
-use smallvec::SmallVec;
 use std::alloc::AllocError;
 
 /// Appends the primary level. Fails only when out of memory.
@@ -28,7 +28,7 @@ fn add_primaries(
     checked: &CheckedTables<'_>,
     elements: &[CollationElement],
     variable_end: u32,
-    key: &mut SmallVec<u8, 128>,
+    key: &mut KeyBytes,
 ) -> Result<(), AllocError>
     ensures { OnOk result (key.new.items ≡ key.old.items
         ++ primary_level (source_collation checked.now) (primaries_by (source_collation checked.now) (counted_list variable_end elements.now))) }
@@ -43,7 +43,7 @@ fn add_secondaries(
     options: &ResolvedCollatorOptions,
     elements: &[CollationElement],
     variable_end: u32,
-    key: &mut SmallVec<u8, 128>,
+    key: &mut KeyBytes,
 ) -> Result<(), AllocError>
     requires { list_all has_sound_case (counted_list variable_end elements.now) ≡ true }
     ensures { OnOk result (key.new.items ≡ key.old.items ++ level_bytes (is_at_least options.now.strength Secondary)
@@ -53,7 +53,7 @@ fn add_secondaries(
         return Ok(());
     }
     if checked.tables().metadata.backward_second_level() {
-        let ranks = secondaries(*key.allocator(), checked, elements, variable_end)?;
+        let ranks = secondaries(key.allocator(), checked, elements, variable_end)?;
         write_secondary_level(&ranks, key)?;
         return Ok(());
     }
@@ -66,7 +66,7 @@ fn add_cases(
     options: &ResolvedCollatorOptions,
     elements: &[CollationElement],
     variable_end: u32,
-    key: &mut SmallVec<u8, 128>,
+    key: &mut KeyBytes,
 ) -> Result<(), AllocError>
     requires { list_all has_sound_case (counted_list variable_end elements.now) ≡ true }
     ensures { OnOk result (key.new.items ≡ key.old.items ++ level_bytes (has_case_level options.now.case_level)
@@ -75,7 +75,7 @@ fn add_cases(
     match options.case_level {
         CaseLevel::Off => Ok(()),
         CaseLevel::On => {
-            let list = cases(*key.allocator(), options, elements, variable_end)?;
+            let list = cases(key.allocator(), options, elements, variable_end)?;
             write_case_level(options, &list, key)?;
             Ok(())
         }
@@ -87,7 +87,7 @@ fn add_tertiaries(
     options: &ResolvedCollatorOptions,
     elements: &[CollationElement],
     variable_end: u32,
-    key: &mut SmallVec<u8, 128>,
+    key: &mut KeyBytes,
 ) -> Result<(), AllocError>
     requires { list_all has_sound_case (counted_list variable_end elements.now) ≡ true }
     ensures { OnOk result (key.new.items ≡ key.old.items ++ level_bytes (is_at_least options.now.strength Tertiary)
@@ -106,7 +106,7 @@ fn add_quaternaries(
     options: &ResolvedCollatorOptions,
     elements: &[CollationElement],
     variable_end: u32,
-    key: &mut SmallVec<u8, 128>,
+    key: &mut KeyBytes,
 ) -> Result<(), AllocError>
     ensures { OnOk result (key.new.items ≡ key.old.items ++ level_bytes (is_at_least options.now.strength Quaternary)
         (quaternary_level options.now (filter_map (quaternary_at (source_collation checked.now)) (counted_list variable_end elements.now)) ++ 0x01 ∷ [])) }
@@ -114,7 +114,7 @@ fn add_quaternaries(
     if !options.strength.is_at_least(Strength::Quaternary) {
         return Ok(());
     }
-    let ranks = quaternaries(*key.allocator(), checked, elements, variable_end)?;
+    let ranks = quaternaries(key.allocator(), checked, elements, variable_end)?;
     write_quaternary_level(options, &ranks, key)?;
     Ok(())
 }
@@ -123,7 +123,7 @@ fn add_quaternaries(
 fn add_characters(
     options: &ResolvedCollatorOptions,
     characters: &[char],
-    key: &mut SmallVec<u8, 128>,
+    key: &mut KeyBytes,
 ) -> Result<(), AllocError>
     ensures { OnOk result (key.new.items ≡ key.old.items ++ level_bytes (is_at_least options.now.strength Identical) (character_level characters.now)) }
 {
@@ -142,7 +142,7 @@ pub(crate) fn write_whole_key(
     elements: &[CollationElement],
     variable_end: u32,
     characters: &[char],
-    key: &mut SmallVec<u8, 128>,
+    key: &mut KeyBytes,
 ) -> Result<(), AllocError>
     requires { list_all has_sound_case (counted_list variable_end elements.now) ≡ true }
     ensures { OnOk result ((es : List Element) → counted_list variable_end elements.now ≡ counted (source_collation checked.now) options.now es

@@ -46,24 +46,6 @@ fn listed<W: Copy + Default, F: Fn(CountedElement) -> Option<W>>(
     Ok(list)
 }
 
-/// The primaries, as they are reordered. Fails only when out of memory.
-pub(crate) fn primaries(
-    alloc: Global,
-    checked: &CheckedTables<'_>,
-    elements: &[CollationElement],
-    variable_end: u32,
-) -> Result<SmallVec<u32, 32>, AllocError>
-    ensures { IfOk result (λ list. list.items ≡ primaries_by (source_collation checked.now) (counted_list variable_end elements.now)) }
-{
-    let list = listed(
-        alloc,
-        elements,
-        variable_end,
-        |element| primary_at(checked, element),
-    )?;
-    Ok(list)
-}
-
 /// The ranks of the secondaries in the order of the text. Fails only when out of memory.
 fn forward_ranks(
     alloc: Global,
@@ -124,24 +106,6 @@ pub(crate) fn cases(
         elements,
         variable_end,
         |element| case_at(options, element),
-    )?;
-    Ok(list)
-}
-
-/// The weights at the tertiary level. Fails only when out of memory.
-pub(crate) fn tertiaries(
-    alloc: Global,
-    options: &ResolvedCollatorOptions,
-    elements: &[CollationElement],
-    variable_end: u32,
-) -> Result<SmallVec<u32, 32>, AllocError>
-    ensures { IfOk result (λ list. list.items ≡ tertiaries_by options.now (counted_list variable_end elements.now)) }
-{
-    let list = listed(
-        alloc,
-        elements,
-        variable_end,
-        |element| tertiary_at(options, element),
     )?;
     Ok(list)
 }

@@ -12,8 +12,8 @@ use Rattle.icu_collator_types.specs.declared.elements.word_tags.Tag.TheVariants.
 use Rattle.icu_collator_types.specs.ElementWords.{has_tag, self_contained, tag_number}
 use Rattle.icu_collator_core.specs.Defaults.{default_elements}
 use Rattle.icu_collator_core.specs.Elements.{Placed, at_greatest, behind_prefix, longest_prefix}
-use Rattle.icu_collator_core.specs.PlainWords.{IsReadAlone, IsUnprefixed}
-use Rattle.icu_collator_core.specs.Pools.{Pools, element_of, elements_of_word, stated_element, unprefixed_word}
+use Rattle.icu_collator_core.specs.PlainWords.{IsReadAlone, IsReadUncounted, IsUnprefixed}
+use Rattle.icu_collator_core.specs.Pools.{Pools, element_of, elements_of_word, lone_word, stated_element, unprefixed_word}
 use Rattle.icu_collator_core.specs.ReadWords.{AreSaidBy, default_by, elements_spelled_by}
 use Rattle.icu_collator_core.specs.TableMeaning.{TableWord}
 use Rattle.icu_collator_core.specs.Weights.{Weights}
@@ -57,39 +57,51 @@ module _ (entry : TableWord) (no_prefix : has_tag Prefix entry.word ≡ false) (
       greatest_past (behind_prefix weights p) 0 longest_prefix (omega arith) (λ n above within. none_of_length p is ok n)
       ∙ none_of_length p is ok 0
 
-module _ (entry : TableWord) (no_prefix : has_tag Prefix entry.word ≡ false) (no_contraction : has_tag Contraction entry.word ≡ false) (no_digit : has_tag Digit entry.word ≡ false) where
-  module _ (weights : Weights) (c : ℕ) (said : AreSaidBy weights entry c) where
-    none_behind : (d : ℕ) (ds : List ℕ) → scalars (d ∷ ds) ≡ true → weights.recorded [] (c ∷ d ∷ ds) ≡ None
-    none_behind d ds ok =
-        said.recorded [] (d ∷ ds) refl ok
-        ∙ recorded_behind entry c (d ∷ ds) (omega arith)
-        ∙ ap (option_and_then (elements_of_word entry.pools))
-        (cond-false (has_tag Contraction (unprefixed_word entry.pools entry.word)) _ _ (ap (has_tag Contraction) (unprefixed_same entry.pools entry.word no_prefix) ∙ no_contraction))
+module _ (entry : TableWord) (no_prefix : has_tag Prefix entry.word ≡ false) (no_contraction : has_tag Contraction entry.word ≡ false) (weights : Weights) (c : ℕ) (said : AreSaidBy weights entry c) where
+  none_behind : (d : ℕ) (ds : List ℕ) → scalars (d ∷ ds) ≡ true → weights.recorded [] (c ∷ d ∷ ds) ≡ None
+  none_behind d ds ok =
+      said.recorded [] (d ∷ ds) refl ok
+      ∙ recorded_behind entry c (d ∷ ds) (omega arith)
+      ∙ ap (option_and_then (elements_of_word entry.pools))
+      (cond-false (has_tag Contraction (unprefixed_word entry.pools entry.word)) _ _ (ap (has_tag Contraction) (unprefixed_same entry.pools entry.word no_prefix) ∙ no_contraction))
 
-    one_alone : (e : Element) → elements_spelled_by entry c entry.word ≡ e ∷ [] → unwrap_or (weights.recorded [] (c ∷ [])) (default_elements weights c) ≡ e ∷ []
-    one_alone e spelled =
-        sym (alone_said entry c weights said)
-        ∙ sym (alone_spelled entry c)
-        ∙ ap (elements_spelled_by entry c) (lone_same entry.pools entry.word no_prefix no_contraction no_digit)
-        ∙ spelled
+  -- a word that names no context says nothing but the element that its lone word spells, unless it is a digit's
+  read_uncounted : (bits : ℕ) → elements_spelled_by entry c (lone_word entry.pools entry.word) ≡ element_of bits ∷ [] → IsReadUncounted weights c bits
+  read_uncounted bits spelled =
+      record {
+        before = none_before entry no_prefix weights c said;
+        behind = none_behind;
+        elements = sym (alone_said entry c weights said) ∙ sym (alone_spelled entry c) ∙ spelled;
+      }
 
-    -- a word that names no context and is no digit's says nothing but the elements that it spells
-    read_without : (bits : ℕ) → elements_spelled_by entry c entry.word ≡ element_of bits ∷ [] → IsReadAlone weights c bits
-    read_without bits spelled =
-        record {
-          digit = said.digit ∙ cond-false (has_tag Digit entry.word) _ _ no_digit;
-          before = none_before entry no_prefix weights c said;
-          behind = none_behind;
-          elements = one_alone (element_of bits) spelled;
-        }
+  -- nor does it where it is none
+  read_without : has_tag Digit entry.word ≡ false → (bits : ℕ) → elements_spelled_by entry c entry.word ≡ element_of bits ∷ [] → IsReadAlone weights c bits
+  read_without no_digit bits spelled =
+      record {
+        digit = said.digit ∙ cond-false (has_tag Digit entry.word) _ _ no_digit;
+        uncounted = read_uncounted bits (ap (elements_spelled_by entry c) (lone_same entry.pools entry.word no_prefix no_contraction no_digit) ∙ spelled);
+      }
+
+-- a digit's word says nothing else where digits don't count, if its lone word states an element
+read_digit : (entry : TableWord) (bits : ℕ) → has_tag Digit entry.word ≡ true → stated_element (lone_word entry.pools entry.word) ≡ Some (element_of bits)
+    → (weights : Weights) (c : ℕ) → AreSaidBy weights entry c → IsReadUncounted weights c bits
+read_digit entry bits has stated weights c said =
+    read_uncounted entry (other_tag Prefix Digit entry.word has (λ same. omega (arith, same))) (other_tag Contraction Digit entry.word has (λ same. omega (arith, same)))
+    weights c said bits
+    (ap (λ o. unwrap_or o (default_by entry c ∷ [])) (stated_elements entry.pools (lone_word entry.pools entry.word) (element_of bits) stated))
+
+pub read_digit_if_stated : (entry : TableWord) → has_tag Digit entry.word ≡ true → (bits : Option ℕ) → option_map element_of bits ≡ stated_element (lone_word entry.pools entry.word)
+    → IfSome bits (λ b. (weights : Weights) (c : ℕ) → AreSaidBy weights entry c → IsReadUncounted weights c b)
+read_digit_if_stated entry has None e = tt
+read_digit_if_stated entry has (Some b) e = read_digit entry b has (sym e)
 
 -- a word that states an element says nothing else
 read_alone : (entry : TableWord) (bits : ℕ) → stated_element entry.word ≡ Some (element_of bits)
     → (weights : Weights) (c : ℕ) → AreSaidBy weights entry c → IsReadAlone weights c bits
 read_alone entry bits stated weights c said =
     let e = element_of bits in
-    read_without entry (stated_tag entry.word e stated Prefix (omega arith)) (stated_tag entry.word e stated Contraction (omega arith))
-    (stated_tag entry.word e stated Digit (omega arith)) weights c said bits
+    read_without entry (stated_tag entry.word e stated Prefix (omega arith)) (stated_tag entry.word e stated Contraction (omega arith)) weights c said
+    (stated_tag entry.word e stated Digit (omega arith)) bits
     (ap (λ o. unwrap_or o (default_by entry c ∷ [])) (stated_elements entry.pools entry.word e stated))
 
 pub read_alone_if_stated : (entry : TableWord) (bits : Option ℕ) → option_map element_of bits ≡ stated_element entry.word
@@ -101,8 +113,8 @@ read_alone_if_stated entry (Some b) e = read_alone entry b (sym e)
 read_own : (entry : TableWord) (tag : Tag) → 10 < tag_number tag → has_tag tag entry.word ≡ true → elements_of_word entry.pools entry.word ≡ None
     → (bits c : ℕ) → element_of bits ≡ default_by entry c → (weights : Weights) → AreSaidBy weights entry c → IsReadAlone weights c bits
 read_own entry tag above has none bits c own weights said =
-    read_without entry (other_tag Prefix tag entry.word has (λ same. omega (arith, same, above))) (other_tag Contraction tag entry.word has (λ same. omega (arith, same, above)))
-    (other_tag Digit tag entry.word has (λ same. omega (arith, same, above))) weights c said bits
+    read_without entry (other_tag Prefix tag entry.word has (λ same. omega (arith, same, above))) (other_tag Contraction tag entry.word has (λ same. omega (arith, same, above))) weights c said
+    (other_tag Digit tag entry.word has (λ same. omega (arith, same, above))) bits
     (ap (λ o. unwrap_or o (default_by entry c ∷ [])) none ∙ ap (λ e. e ∷ []) (sym own))
 
 -- such a word has no elements

@@ -8,7 +8,7 @@ use Rattle.icu_normalizer_core.specs.Canonical.{Canonical}
 use Rattle.icu_collator_types.specs.declared.elements.Element.{Element}
 use Rattle.icu_collator_core.specs.Defaults.{default_elements, special_primary}
 use Rattle.icu_collator_core.specs.Elements.{Joining, Placed, Reading, at_greatest, characters_of, is_before_accent, joining, match_length, reading, recorded_length, text_match, text_reading}
-use Rattle.icu_collator_core.specs.PlainWords.{IsReadAlone}
+use Rattle.icu_collator_core.specs.PlainWords.{IsReadAlone, IsReadUncounted}
 use Rattle.icu_collator_core.specs.Pools.{element_of}
 use Rattle.icu_collator_core.specs.Weights.{Weights}
 use Rattle.icu_collator_core.proofs.lookups.MatchLemmas.{scalars_front}
@@ -20,7 +20,7 @@ pub not_some : {A : Type 0} (o : Option A) → is_some o ≡ false → o ≡ Non
 not_some None e = refl
 not_some (Some x) e = absurd (true≢false e)
 
-module _ (canonical : Canonical) (weights : Weights) (c bits : ℕ) (alone : IsReadAlone weights c bits) where
+module _ (canonical : Canonical) (weights : Weights) (c bits : ℕ) (alone : IsReadUncounted weights c bits) where
   -- no mark joins
   joining_none : (between ps : List Placed) → scalars (characters_of ps) ≡ true
       → joining canonical weights (c ∷ []) between ps ≡ record { text = c ∷ []; left = between ++ ps }
@@ -73,14 +73,23 @@ module _ (canonical : Canonical) (weights : Weights) (c bits : ℕ) (alone : IsR
       ∙ joining_none [] ps ok)
       ∙ ap (λ (es : List Element). record { elements = es; left = ps }) alone.elements
 
-  -- the reading is its element alone
-  pub alone_read : (numeric : Bool) (p : Placed) (ps : List Placed) → p.character ≡ c → scalars p.before ≡ true → scalars (characters_of ps) ≡ true
-      → special_primary c ≡ None → (c == 0x307) ≡ false
+  -- the reading is its element alone, where it isn't read as a digit and is no dot that is dropped
+  pub uncounted_read : (numeric : Bool) (p : Placed) (ps : List Placed) → p.character ≡ c → scalars p.before ≡ true → scalars (characters_of ps) ≡ true
+      → special_primary c ≡ None → (numeric && is_some (weights.digit c)) ≡ false → (weights.dot_above && (c == 0x307)) ≡ false
       → reading canonical weights numeric p ps ≡ record { elements = element_of bits ∷ []; left = ps }
-  alone_read numeric p ps is before behind ordinary undotted =
+  uncounted_read numeric p ps is before behind ordinary uncounted undropped =
       reading_otherwise canonical weights numeric p ps (ap special_primary is ∙ ordinary)
-      (and_right numeric (is_some (weights.digit p.character)) (ap (λ x. is_some (weights.digit x)) is ∙ ap (λ o. is_some o) alone.digit))
-      (ap (λ b. b && is_before_accent ps) (and_right weights.dot_above (p.character == 0x307) (ap (λ x. x == 0x307) is ∙ undotted)))
+      (ap (λ x. numeric && is_some (weights.digit x)) is ∙ uncounted)
+      (ap (λ x. weights.dot_above && (x == 0x307) && is_before_accent ps) is ∙ ap (λ b. b && is_before_accent ps) undropped)
       ∙ ap (λ (o : Option (List Element)). elim o as (λ _. Reading) [ Some es ↦ record { elements = es; left = ps } | None ↦ text_reading canonical weights p.character (p ∷ ps) ]) (alone.before p is before)
       ∙ ap (λ x. text_reading canonical weights x (p ∷ ps)) is
       ∙ text_alone p ps is behind
+
+-- the same of one that is no digit and no dot above
+pub alone_read : (canonical : Canonical) (weights : Weights) (c bits : ℕ) → IsReadAlone weights c bits
+    → (numeric : Bool) (p : Placed) (ps : List Placed) → p.character ≡ c → scalars p.before ≡ true → scalars (characters_of ps) ≡ true
+    → special_primary c ≡ None → (c == 0x307) ≡ false
+    → reading canonical weights numeric p ps ≡ record { elements = element_of bits ∷ []; left = ps }
+alone_read canonical weights c bits alone numeric p ps is before behind ordinary undotted =
+    uncounted_read canonical weights c bits alone.uncounted numeric p ps is before behind ordinary
+    (and_right numeric (is_some (weights.digit c)) (ap (λ o. is_some o) alone.digit)) (and_right weights.dot_above (c == 0x307) undotted)

@@ -3,13 +3,14 @@
 ghost use Rattle.std.specs.Prelude.{◌≡◌, ◌||◌, ℕ, IfSome, true};
 ghost use Rattle.icu_collator_types.specs.ElementWords.{has_tag};
 ghost use Rattle.icu_collator_types.specs.declared.elements.word_tags.Tag.TheVariants.{Implicit, Offset};
-ghost use Rattle.icu_collator_core.specs.PlainWords.{IsReadAlone, IsUnprefixed};
+ghost use Rattle.icu_collator_core.specs.PlainWords.{IsReadAlone, IsReadUncounted, IsUnprefixed};
 ghost use Rattle.icu_collator_core.specs.ReadWords.{AreSaidBy, table_word};
 ghost use Rattle.icu_collator_core.specs.Weights.{Weights};
 
 use super::elements::stated_by;
 use super::words::CountingWord;
 use crate::check::fields::has_tag;
+use crate::check::weights::lone_word;
 use icu_collator_types::elements::{CollationElement, Tag};
 
 impl CountingWord<'_> {
@@ -48,6 +49,18 @@ impl CountingWord<'_> {
         match stated_by(self.word) {
             Some(element) => Some(element),
             None => self.own_element(c),
+        }
+    }
+
+    /// The element of a digit whose word states one for it where digits don't count: nothing that stands before or behind it
+    /// changes it then. `None` of another word.
+    pub(crate) fn digit_element(self) -> Option<CollationElement>
+        ensures { IfSome result (λ bits. (weights : Weights) (c : ℕ) → AreSaidBy weights (table_word self.entry) c → IsReadUncounted weights c bits) }
+    {
+        if has_tag(self.word, Tag::Digit) {
+            stated_by(lone_word(self.source, self.word))
+        } else {
+            None
         }
     }
 }

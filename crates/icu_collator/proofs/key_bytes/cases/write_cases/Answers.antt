@@ -8,5 +8,5 @@ write_pairs-requires c =
     let cases = c.args.cases.now in
     let halves = halves_of c.args.is_upper_first cases in
     subst (λ l. All (λ half. half < 16) l)
-    (sym (c.deref.ensures ∙ c.in_ok-write_halves.ensures ∙ ap (λ l. l ++ halves) c.new-halves.ensures.items))
+    (sym (c.as_slice.ensures ∙ c.in_ok-write_halves.ensures ∙ ap (λ l. l ++ halves) c.new-halves.ensures))
     (cases_have_halves c.args.is_upper_first cases c.requires)

@@ -1,0 +1,15 @@
+use Rattle.std.proofs.Common.{[], ◌∷◌, subst}
+use Rattle.icu_collator_core.specs.FlatNotes.{IsFlatNote}
+use Rattle.icu_collator_core.specs.declared.flat.notes.FlatNote.{FlatNote}
+use Rattle.icu_collator_core.proofs.flat.notes.FlatNote.push.Goals as goal
+
+pub returns-then-push : goal.returns-then-push
+returns-then-push g c = λ source x note.
+    let flat = subst (λ (n : FlatNote). IsFlatNote source x n) c.in-One.is note c.args.numeric in
+    record {
+      items = c.in-One.element ∷ [];
+      read = flat.read;
+      order = flat.order c.args.before c.if-before-lead.true;
+      last = flat.last c.args.before;
+      appended = c.push.ensures c.if-push.true;
+    }

@@ -1,0 +1,29 @@
+-- Characters whose marks stand in order.
+use Rattle.std.proofs.Common.{◌≡◌, ℕ, Bool, false, ltb, ◌&&◌, cond, List, [], ◌∷◌, ◌++◌, ◌⊎◌, ⊎_elim, refl, sym, ◌∙◌, ap, ◌≤◌}
+use Rattle.std.proofs.lemmas.Bool.{and_left, and_right, le-ltb}
+use Rattle.icu_normalizer_core.specs.Canonical.{marks_in_order, put_in_order}
+use Rattle.icu_collator_core.specs.FlatNotes.{MayFollow, StandInOrder, last_class}
+
+not_below : (before class : ℕ) → MayFollow before class → (ltb 0 class && ltb class before) ≡ false
+not_below before class follows =
+    ⊎_elim
+    (λ (starter : class ≡ 0). and_left (ltb 0 class) (ltb class before) (ap (ltb 0) starter))
+    (λ (above : before ≤ class). and_right (ltb 0 class) (ltb class before) (le-ltb class before above))
+    follows
+
+module _ (class : ℕ → ℕ) where
+  pub order_stands : (before : ℕ) (list : List ℕ) → StandInOrder class before list → marks_in_order class list ≡ list
+  unfolding marks_in_order put_in_order
+  order_stands before [] h = refl
+  order_stands before (a ∷ []) h = refl
+  order_stands before (a ∷ b ∷ cs) h =
+      ap (put_in_order class a) (order_stands (class a) (b ∷ cs) h.1)
+      ∙ ap (λ (t : Bool). cond t (b ∷ put_in_order class a cs) (a ∷ b ∷ cs)) (not_below (class a) (class b) h.1.0)
+
+  pub order_appended : (before : ℕ) (xs ys : List ℕ) → StandInOrder class before xs → StandInOrder class (last_class class before xs) ys → StandInOrder class before (xs ++ ys)
+  order_appended before [] ys h behind = behind
+  order_appended before (x ∷ xs) ys h behind = (h.0, order_appended (class x) xs ys h.1 behind)
+
+  pub last_appended : (before : ℕ) (xs ys : List ℕ) → last_class class before (xs ++ ys) ≡ last_class class (last_class class before xs) ys
+  last_appended before [] ys = refl
+  last_appended before (x ∷ xs) ys = last_appended (class x) xs ys

@@ -1,0 +1,70 @@
+-- Texts that are read flat, one primary after another.
+use Rattle.std.specs.Prelude.{◌≡◌, ℕ, ◌==◌, false, cond, All, List, [], ◌∷◌, ◌++◌, filter_map, flat_map, Option, Some, None}
+use Rattle.std.specs.Char.{IsScalar}
+use Rattle.icu_normalizer_core.specs.Iter.{Spells}
+use Rattle.icu_collator_types.specs.declared.elements.Element.{Element}
+use Rattle.icu_collator_core.specs.Acceptance.{CollationSource}
+use Rattle.icu_collator_core.specs.ElementLists.{unpacked}
+use Rattle.icu_collator_core.specs.ElementTexts.{text_elements}
+use Rattle.icu_collator_core.specs.FlatNotes.{AreReadFlat, IsPushed, StandInOrder, last_class}
+use Rattle.icu_collator_core.specs.Pools.{element_of}
+use Rattle.icu_collator_core.specs.ReadSources.{canonical_by}
+use Rattle.icu_collator_core.specs.declared.flat.steps.FlatStep.{FlatStep}
+use Rattle.icu_collator_core.specs.declared.flat.steps.FlatStep.TheVariants.{Primary, End, Other}
+
+-- the primary of an element that has one
+abbrev pub primary_in : ℕ → Option ℕ
+primary_in bits = cond ((element_of bits).primary == 0) None (Some (element_of bits).primary)
+
+-- the primaries of elements of 64 bits that have one
+abbrev pub primaries_in : List ℕ → List ℕ
+primaries_in items = filter_map primary_in items
+
+-- a primary, unless it is 0
+abbrev pub primary_if_any : ℕ → List ℕ
+primary_if_any p = cond (p == 0) [] (p ∷ [])
+
+-- the full list of a character begins with a starter, whose element is the first of these and has this primary
+pub record BeginsWithStarter (source : CollationSource) (c p : ℕ) (items : List ℕ) : Type 0 where
+  pub first : ℕ
+  pub rest : List ℕ
+  pub full : (canonical_by source).full c ≡ first ∷ rest
+  pub starter : (canonical_by source).class first ≡ 0
+  pub bits : ℕ
+  pub others : List ℕ
+  pub items_are : items ≡ bits ∷ others
+  pub primary : primary_in bits ≡ Some p
+
+-- a character was pushed whose elements have this primary, 0 for none, and no other: it is that of a starter
+pub record IsStep (source : CollationSource) (numeric : Option ℕ) (c before : ℕ) (old : List ℕ) (p trail : ℕ) (new : List ℕ) : Type 0 where
+  pub pushed : IsPushed source numeric c before old trail new
+  pub primaries : primaries_in pushed.items ≡ primary_if_any p
+  pub begins : (p == 0) ≡ false → BeginsWithStarter source c p pushed.items
+
+-- Of a text, the full lists of its first characters are in order and are read flat, with these elements; the last character
+-- has this class, and the characters behind are left to an iterator.
+pub record IsReadUpTo {I : Type 0} (source : CollationSource) (numeric : Option ℕ) (steps : I → Option ℕ → I → Type 0) (text : List ℕ) (chars : I) (class : ℕ) (items : List ℕ) : Type 0 where
+  pub list : List ℕ
+  pub rest : List ℕ
+  pub text_is : flat_map (canonical_by source).full text ≡ list ++ flat_map (canonical_by source).full rest
+  pub left : Spells steps chars rest
+  pub read : AreReadFlat source numeric list items
+  pub order : StandInOrder (canonical_by source).class 0 list
+  pub last : last_class (canonical_by source).class 0 list ≡ class
+
+-- a text's elements begin with some that have these primaries, and no others
+pub record BeginsWithPrimaries (source : CollationSource) (numeric : Option ℕ) (text ps : List ℕ) : Type 0 where
+  pub items : List ℕ
+  pub more : List Element
+  pub elements : text_elements source numeric text ≡ unpacked items ++ more
+  pub primaries : primaries_in items ≡ ps
+
+-- What comes next of a text: its next primary, up to which it is read then; or nothing, where it is read to its end.
+abbrev pub IsNextStep : {I : Type 0} → CollationSource → Option ℕ → (I → Option ℕ → I → Type 0) → List ℕ → List ℕ → FlatStep → I → ℕ → List ℕ → Type 0
+IsNextStep source numeric steps text old (Primary p) chars class new =
+    IsReadUpTo source numeric steps text chars class new
+    × (primaries_in new ≡ primaries_in old ++ p ∷ [])
+    × (All IsScalar text → BeginsWithPrimaries source numeric text (primaries_in old ++ p ∷ []))
+IsNextStep source numeric steps text old End chars class new =
+    (unpacked new ≡ text_elements source numeric text) × (primaries_in new ≡ primaries_in old)
+IsNextStep source numeric steps text old Other chars class new = Unit {0}

@@ -1,0 +1,196 @@
+//! Notes of low characters by which texts are read flat: found once for all, and looked up by one read.
+
+ghost use Rattle.std.specs.Prelude.{◌≡◌, ◌∷◌, ◌≤◌, ◌==◌, ◌&&◌, ◌||◌, ℕ, [], IfOk, IfSome, Option, None, is_some};
+ghost use Rattle.icu_collator_core.specs.Acceptance.{CollationSource};
+ghost use Rattle.icu_collator_core.specs.Defaults.{special_primary};
+ghost use Rattle.icu_collator_core.specs.FlatNotes.{AreFlatNotes, IsFlatNote, IsPushed, IsReadFlat, MayFollow};
+ghost use Rattle.icu_collator_core.specs.ReadSources.{canonical_by};
+ghost use Rattle.icu_collator_core.specs.TableSettings.{has_bit};
+
+use super::list::FlatElements;
+use crate::checked::CheckedTables;
+use crate::elements::special_primary;
+use crate::reading::words::checked_word;
+use icu_collator_types::elements::CollationElement;
+use std::alloc::{AllocError, Global};
+
+/// The characters of which there are notes end before this one: all of one or two bytes in UTF-8 have one.
+const FLAT_END: u32 = 0x800;
+
+/// What is noted of a character: the elements of its full list, each character of which is read alone, whatever stands before
+/// and behind it, behind them the highest canonical combining class behind which it may stand, and the class of the last.
+#[derive(Clone, Copy, Debug)]
+pub(crate) enum FlatNote {
+    /// Nothing: it isn't read so.
+    Other,
+    /// The full list is one character.
+    One(CollationElement, u8, u8),
+    /// The same, of a digit, where numbers aren't read.
+    Digit(CollationElement, u8, u8),
+    /// The full list is two characters, in order.
+    Two(CollationElement, CollationElement, u8, u8),
+}
+
+/// The highest class behind which a character of this class may stand: any behind which is a starter, else its own.
+fn highest_before(class: u8) -> u8
+    ensures { (before : ℕ) → before ≤ result → MayFollow before class }
+{
+    if class == 0 { u8::MAX } else { class }
+}
+
+impl FlatNote {
+    /// Appends the elements of a character that stands behind one of this class, if it is read so, its marks stand in order, and
+    /// there is room; answers the class of the last character of its full list. Where it isn't, the first may be appended.
+    #[inline(always)]
+    pub(crate) fn push<const N: usize>(
+        &self,
+        numeric: Option<u8>,
+        before: u8,
+        elements: &mut FlatElements<N>,
+    ) -> Option<u8>
+        ensures { IfSome result (λ trail. (source : CollationSource) (c : ℕ) → IsFlatNote source c self.now
+            → IsPushed source numeric c before elements.old.items trail elements.new.items) }
+    {
+        if let FlatNote::One(element, lead, trail) = *self {
+            if before <= lead && elements.push(element) {
+                return Some(trail);
+            }
+            return None;
+        }
+        self.push_other(numeric, before, elements)
+    }
+
+    /// The same, whatever is noted.
+    #[inline(never)]
+    fn push_other<const N: usize>(
+        &self,
+        numeric: Option<u8>,
+        before: u8,
+        elements: &mut FlatElements<N>,
+    ) -> Option<u8>
+        ensures { IfSome result (λ trail. (source : CollationSource) (c : ℕ) → IsFlatNote source c self.now
+            → IsPushed source numeric c before elements.old.items trail elements.new.items) }
+    {
+        match *self {
+            FlatNote::Two(first, second, lead, trail) => {
+                if before <= lead && elements.push(first) && elements.push(second) {
+                    Some(trail)
+                } else {
+                    None
+                }
+            }
+            FlatNote::Digit(element, lead, trail) => {
+                if numeric.is_none() && before <= lead && elements.push(element) {
+                    Some(trail)
+                } else {
+                    None
+                }
+            }
+            _ => None,
+        }
+    }
+}
+
+/// Whether a character is special, or a dot above that may be dropped.
+fn is_kept_apart(checked: &CheckedTables<'_>, c: char) -> bool
+    ensures { result ≡ (is_some (special_primary c) || (has_bit 6 checked.now.tables.metadata.bits && (c == 0x307))) }
+{
+    special_primary(c as u32).is_some()
+        || checked.tables().metadata.lithuanian_dot_above() && c == '\u{307}'
+}
+
+/// The element of a character, if nothing that stands before or behind it changes it.
+fn flat_element(checked: &CheckedTables<'_>, c: char) -> Option<CollationElement>
+    ensures { IfSome result (λ bits. (numeric : Option ℕ) → IsReadFlat checked.now numeric c bits) }
+{
+    if is_kept_apart(checked, c) {
+        return None;
+    }
+    let element = checked_word(checked, c).alone_element(c)?;
+    Some(element)
+}
+
+/// The element of a digit, if nothing that stands before or behind it changes it where numbers aren't read.
+fn flat_digit(checked: &CheckedTables<'_>, c: char) -> Option<CollationElement>
+    ensures { IfSome result (λ bits. IsReadFlat checked.now None c bits) }
+{
+    if is_kept_apart(checked, c) {
+        return None;
+    }
+    let element = checked_word(checked, c).digit_element()?;
+    Some(element)
+}
+
+/// What is to be noted of a character whose full list is one.
+fn note_of_one(checked: &CheckedTables<'_>, first: char) -> FlatNote
+    ensures { (c : ℕ) → (canonical_by checked.now).full c ≡ first ∷ [] → IsFlatNote checked.now c result }
+{
+    let class = checked.canonical().class(first);
+    let lead = highest_before(class);
+    match flat_element(checked, first) {
+        Some(element) => FlatNote::One(element, lead, class),
+        None => match flat_digit(checked, first) {
+            Some(element) => FlatNote::Digit(element, lead, class),
+            None => FlatNote::Other,
+        },
+    }
+}
+
+/// What is to be noted of a character whose full list is these two.
+fn note_of_two(checked: &CheckedTables<'_>, first: char, second: char) -> FlatNote
+    ensures { (c : ℕ) → (canonical_by checked.now).full c ≡ first ∷ second ∷ [] → IsFlatNote checked.now c result }
+{
+    let class = checked.canonical().class(first);
+    let trail = checked.canonical().class(second);
+    if class > highest_before(trail) {
+        return FlatNote::Other;
+    }
+    let Some(element) = flat_element(checked, first) else {
+        return FlatNote::Other;
+    };
+    let Some(next) = flat_element(checked, second) else {
+        return FlatNote::Other;
+    };
+    FlatNote::Two(element, next, highest_before(class), trail)
+}
+
+/// What is to be noted of a character.
+pub(crate) fn note_of(checked: &CheckedTables<'_>, c: char) -> FlatNote
+    ensures { IsFlatNote checked.now c result }
+{
+    let mut list = checked.canonical().full_list(c);
+    let Some(first) = list.next() else {
+        return FlatNote::Other;
+    };
+    let Some(second) = list.next() else {
+        return note_of_one(checked, first);
+    };
+    if list.next().is_some() {
+        return FlatNote::Other;
+    }
+    note_of_two(checked, first, second)
+}
+
+/// What is to be noted of the character of a code, if it is one.
+fn note_at(checked: &CheckedTables<'_>, code: u32) -> FlatNote
+    ensures { IsFlatNote checked.now code result }
+{
+    match char::from_u32(code) {
+        Some(c) => note_of(checked, c),
+        None => FlatNote::Other,
+    }
+}
+
+/// The notes of the low characters, in their order.
+pub(crate) fn flat_notes(
+    alloc: Global,
+    checked: &CheckedTables<'_>,
+) -> Result<Vec<FlatNote>, AllocError>
+    ensures { IfOk result (λ notes. AreFlatNotes checked.now notes.items) }
+{
+    let mut notes = Vec::new(alloc);
+    for code in 0..FLAT_END {
+        notes.push(note_at(checked, code))?;
+    }
+    Ok(notes)
+}
