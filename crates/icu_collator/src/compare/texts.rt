@@ -57,6 +57,27 @@ fn compare_past<T: Characters, U: Characters>(
 
 /// The order of two texts: where they first differ decides it, or both are read from a place before that. Fails only
 /// when out of memory.
+fn compare_by_difference<T: Characters, U: Characters>(
+    alloc: Global,
+    checked: &CheckedTables<'_>,
+    options: &ResolvedCollatorOptions,
+    left: T,
+    right: U,
+) -> Result<Ordering, AllocError>
+    ensures { IfOk result (λ order. order ≡ collation_order (source_collation checked.now) options.now (T.characters left) (U.characters right)) }
+{
+    let difference = first_difference(left.chars(), right.chars());
+    match order_by_difference(checked, options, difference) {
+        Some(order) => Ok(order),
+        None => {
+            let order = compare_past(alloc, checked, options, left, right, difference)?;
+            Ok(order)
+        }
+    }
+}
+
+/// The order of two texts: both are read flat as far as their primaries are the same, or else by their first difference. Fails
+/// only when out of memory.
 pub(crate) fn compare_texts<T: Characters, U: Characters>(
     alloc: Global,
     checked: &CheckedTables<'_>,
@@ -66,14 +87,10 @@ pub(crate) fn compare_texts<T: Characters, U: Characters>(
 ) -> Result<Ordering, AllocError>
     ensures { IfOk result (λ order. order ≡ collation_order (source_collation checked.now) options.now (T.characters left) (U.characters right)) }
 {
-    if let Some(order) = compare_flat(alloc, checked, options, left.chars(), right.chars())? {
-        return Ok(order);
-    }
-    let difference = first_difference(left.chars(), right.chars());
-    match order_by_difference(checked, options, difference) {
+    match compare_flat(alloc, checked, options, left.chars(), right.chars())? {
         Some(order) => Ok(order),
         None => {
-            let order = compare_past(alloc, checked, options, left, right, difference)?;
+            let order = compare_by_difference(alloc, checked, options, left, right)?;
             Ok(order)
         }
     }
