@@ -22,6 +22,7 @@ fn lead_of(primary: u32) -> u8
 }
 
 /// Appends what ends a run of primaries with one lead before a primary with another. Fails only when out of memory.
+#[inline(never)]
 fn write_run_end(before: u8, lead: u8, key: &mut KeyBytes) -> Result<(), AllocError>
     ensures { OnOk result (key.new.items ≡ key.old.items ++ run_end before lead) }
 {
@@ -37,6 +38,7 @@ fn write_run_end(before: u8, lead: u8, key: &mut KeyBytes) -> Result<(), AllocEr
 }
 
 /// Appends a primary after no run, or after one of primaries with a compressible lead. Fails only when out of memory.
+#[inline(always)]
 fn write_primary(run: Option<u8>, primary: u32, key: &mut KeyBytes) -> Result<(), AllocError>
     ensures { OnOk result (key.new.items ≡ key.old.items ++ primary_code run primary) }
 {
@@ -56,6 +58,7 @@ fn write_primary(run: Option<u8>, primary: u32, key: &mut KeyBytes) -> Result<()
 
 /// The lead of the run after a primary: it is asked whether the primary's own lead is compressible, and not that of the one
 /// that stands in its place. The tables are asked only where that isn't the run's.
+#[inline(always)]
 fn run_after(
     checked: &CheckedTables<'_>,
     run: Option<u8>,
@@ -85,7 +88,7 @@ fn run_after(
 
 /// Appends what an element gives, if it has a primary that counts; answers the lead of the run then. Fails only when out of
 /// memory.
-#[inline]
+#[inline(always)]
 fn write_given(
     checked: &CheckedTables<'_>,
     run: Option<u8>,
