@@ -2,6 +2,7 @@ pub mod Shifted
 pub mod Levels
 pub mod Order
 pub mod Strengths
+pub mod AskedLeads
 pub mod KeyBuffers
 pub mod KeyBytes
 pub mod Settings

@@ -1,6 +1,6 @@
 //! The comparison of two texts, each in its encoding.
 
-ghost use Rattle.std.specs.Prelude.{◌≡◌, ◌≤◌, All, IfOk, drop, length};
+ghost use Rattle.std.specs.Prelude.{◌≡◌, ◌≤◌, All, IfOk, IfSome, drop, length};
 ghost use Rattle.std.specs.Char.{IsScalar};
 ghost use Rattle.icu_collator.specs.Collators.{source_collation};
 ghost use Rattle.icu_collator.specs.Fronts.{PartAt};
@@ -16,8 +16,8 @@ use icu_collator_types::options::ResolvedCollatorOptions;
 use std::alloc::{AllocError, Global};
 use std::cmp::Ordering;
 
-/// The order of what stands in two texts behind so many characters. Fails only when out of memory.
-fn compare_behind<T: Characters, U: Characters>(
+/// The order of what stands in two texts behind so many characters, by all levels of both. Fails only when out of memory.
+fn compare_whole_behind<T: Characters, U: Characters>(
     alloc: Global,
     checked: &CheckedTables<'_>,
     options: &ResolvedCollatorOptions,
@@ -33,6 +33,52 @@ fn compare_behind<T: Characters, U: Characters>(
     let rights = behind(right.chars(), place);
     let order = compare_characters(alloc, checked, options, lefts, rights)?;
     Ok(order)
+}
+
+/// The same, where what stands there is read flat; `None` where it isn't, and at the beginning, where that was tried. Fails only
+/// when out of memory.
+fn compare_flat_behind<T: Characters, U: Characters>(
+    alloc: Global,
+    checked: &CheckedTables<'_>,
+    options: &ResolvedCollatorOptions,
+    left: T,
+    right: U,
+    place: usize,
+) -> Result<Option<Ordering>, AllocError>
+    requires left_reaches { place ≤ length (T.characters left) }
+    requires right_reaches { place ≤ length (U.characters right) }
+    ensures { IfOk result (λ answer. IfSome answer (λ order.
+        order ≡ collation_order (source_collation checked.now) options.now (drop place (T.characters left)) (drop place (U.characters right)))) }
+{
+    if place == 0 {
+        return Ok(None);
+    }
+    let lefts = behind(left.chars(), place);
+    let rights = behind(right.chars(), place);
+    let answer = compare_flat(alloc, checked, options, lefts, rights)?;
+    Ok(answer)
+}
+
+/// The order of what stands in two texts behind so many characters. Fails only when out of memory.
+fn compare_behind<T: Characters, U: Characters>(
+    alloc: Global,
+    checked: &CheckedTables<'_>,
+    options: &ResolvedCollatorOptions,
+    left: T,
+    right: U,
+    place: usize,
+) -> Result<Ordering, AllocError>
+    requires left_reaches { place ≤ length (T.characters left) }
+    requires right_reaches { place ≤ length (U.characters right) }
+    ensures { IfOk result (λ order. order ≡ collation_order (source_collation checked.now) options.now (drop place (T.characters left)) (drop place (U.characters right))) }
+{
+    match compare_flat_behind(alloc, checked, options, left, right, place)? {
+        Some(order) => Ok(order),
+        None => {
+            let order = compare_whole_behind(alloc, checked, options, left, right, place)?;
+            Ok(order)
+        }
+    }
 }
 
 /// The order of two texts that first differ there, where that doesn't decide it: what they have in common is left out
@@ -57,6 +103,27 @@ fn compare_past<T: Characters, U: Characters>(
 
 /// The order of two texts: where they first differ decides it, or both are read from a place before that. Fails only
 /// when out of memory.
+fn compare_by_difference<T: Characters, U: Characters>(
+    alloc: Global,
+    checked: &CheckedTables<'_>,
+    options: &ResolvedCollatorOptions,
+    left: T,
+    right: U,
+) -> Result<Ordering, AllocError>
+    ensures { IfOk result (λ order. order ≡ collation_order (source_collation checked.now) options.now (T.characters left) (U.characters right)) }
+{
+    let difference = first_difference(left.chars(), right.chars());
+    match order_by_difference(checked, options, difference) {
+        Some(order) => Ok(order),
+        None => {
+            let order = compare_past(alloc, checked, options, left, right, difference)?;
+            Ok(order)
+        }
+    }
+}
+
+/// The order of two texts: both are read flat as far as their primaries are the same, or else by their first difference. Fails
+/// only when out of memory.
 pub(crate) fn compare_texts<T: Characters, U: Characters>(
     alloc: Global,
     checked: &CheckedTables<'_>,
@@ -66,14 +133,10 @@ pub(crate) fn compare_texts<T: Characters, U: Characters>(
 ) -> Result<Ordering, AllocError>
     ensures { IfOk result (λ order. order ≡ collation_order (source_collation checked.now) options.now (T.characters left) (U.characters right)) }
 {
-    if let Some(order) = compare_flat(alloc, checked, options, left.chars(), right.chars())? {
-        return Ok(order);
-    }
-    let difference = first_difference(left.chars(), right.chars());
-    match order_by_difference(checked, options, difference) {
+    match compare_flat(alloc, checked, options, left.chars(), right.chars())? {
         Some(order) => Ok(order),
         None => {
-            let order = compare_past(alloc, checked, options, left, right, difference)?;
+            let order = compare_by_difference(alloc, checked, options, left, right)?;
             Ok(order)
         }
     }

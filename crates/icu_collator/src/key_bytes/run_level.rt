@@ -144,6 +144,7 @@ impl RunLevel {
     }
 
     /// Appends a weight that isn't common, given by its rank. Fails only when out of memory.
+    #[inline(never)]
     #[tactic(auto, unfolding(crate::specs::KeyCodes::code_of, crate::specs::KeyCodes::rank_limit))]
     pub(super) fn write_weight(self, rank: u64, key: &mut KeyBytes) -> Result<(), AllocError>
         requires { rank < rank_limit self }

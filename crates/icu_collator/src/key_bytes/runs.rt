@@ -52,6 +52,7 @@ fn write_filled_run(
 
 /// Appends a run of so many common weights, before a higher weight or before a lower one or the end. Fails only when out
 /// of memory.
+#[inline(never)]
 fn write_run(
     level: RunLevel,
     is_below_next: bool,
@@ -69,7 +70,7 @@ fn write_run(
 
 /// Takes one more weight, given by its rank, behind so many common ones that aren't written yet; answers how many aren't
 /// written then. Fails only when out of memory.
-#[inline]
+#[inline(always)]
 fn write_next(
     level: RunLevel,
     common: u64,
@@ -91,7 +92,7 @@ fn write_next(
 }
 
 /// The same of what an element gives, if it gives a weight.
-#[inline]
+#[inline(always)]
 fn write_given(
     level: RunLevel,
     common: u64,

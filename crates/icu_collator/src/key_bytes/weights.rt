@@ -7,6 +7,7 @@ use super::buffer::KeyBytes;
 use std::alloc::AllocError;
 
 /// Appends the bytes of a primary behind its lead, without those of 00 at the end. Fails only when out of memory.
+#[inline(always)]
 pub(super) fn write_primary_rest(primary: u32, key: &mut KeyBytes) -> Result<(), AllocError>
     ensures { OnOk result (key.new.items ≡ key.old.items ++ primary_rest primary) }
 {
@@ -26,6 +27,7 @@ pub(super) fn write_primary_rest(primary: u32, key: &mut KeyBytes) -> Result<(),
 }
 
 /// Appends the bytes of a primary. Fails only when out of memory.
+#[inline(always)]
 pub(super) fn write_primary_bytes(primary: u32, key: &mut KeyBytes) -> Result<(), AllocError>
     ensures { OnOk result (key.new.items ≡ key.old.items ++ primary_bytes primary) }
 {

@@ -79,7 +79,7 @@ fn is_ignored(is_behind: bool, primary: u32) -> bool
 }
 
 /// An element that counts, where variable ones end before a primary.
-#[inline]
+#[inline(always)]
 #[tactic(auto, unfolding(crate::specs::LevelLists::counted_by))]
 pub(crate) fn counted_element(element: CollationElement, variable_end: u32) -> CountedElement
     ensures { counted_of result ≡ counted_by variable_end element }

@@ -26,7 +26,7 @@ const FIRST_QUATERNARY_RANK: u64 = 1 << 32;
 const CASE_STEP: u32 = 0x4000;
 
 /// The primary that stands in the place of another.
-#[inline]
+#[inline(always)]
 pub(crate) fn reordered(tables: &CollationTables<'_>, primary: u32) -> u32
     ensures { result ≡ reordered_in tables.now.reordering primary }
 {
@@ -37,7 +37,7 @@ pub(crate) fn reordered(tables: &CollationTables<'_>, primary: u32) -> u32
 }
 
 /// The primary, before it is reordered; `None` for an element that has none, or is variable.
-#[inline]
+#[inline(always)]
 pub(crate) fn own_primary_at(element: CountedElement) -> Option<u32>
     ensures { result ≡ own_primary_at (counted_of element) }
 {
@@ -51,7 +51,7 @@ pub(crate) fn own_primary_at(element: CountedElement) -> Option<u32>
 }
 
 /// The primary, as it is reordered; `None` for an element that has none, or is variable.
-#[inline]
+#[inline(always)]
 pub(crate) fn primary_at(checked: &CheckedTables<'_>, element: CountedElement) -> Option<u32>
     ensures { result ≡ primary_at (source_collation checked.now) (counted_of element) }
 {
@@ -69,7 +69,7 @@ pub(crate) fn primary_at(checked: &CheckedTables<'_>, element: CountedElement) -
 }
 
 /// The rank of the secondary; `None` for an element that has none.
-#[inline]
+#[inline(always)]
 pub(crate) fn secondary_rank_at(element: CountedElement) -> Option<u32>
     ensures bound { IfSome result (λ rank. rank < 2 ^ 16 + 1) }
     ensures rank { result ≡ option_map secondary_rank (secondary_at (counted_of element)) }
@@ -170,7 +170,7 @@ fn tertiary_with_case(case_first: CollationCaseFirst, element: CollationElement)
 }
 
 /// The tertiary of an element; `None` for one that has none, or is variable.
-#[inline]
+#[inline(always)]
 pub(crate) fn plain_tertiary_at(element: CountedElement) -> Option<u32>
     ensures bound { IfSome result (λ weight. weight < 0x4000) }
     ensures weight { (options : ResolvedCollatorOptions) → has_case_bits options ≡ false → result ≡ tertiary_at options (counted_of element) }

@@ -5,5 +5,8 @@ use Rattle.icu_collator.proofs.compare.characters.compare_characters.Goals as go
 
 pub returns : goal.returns
 returns g c = λ a b spelled others.
-    c.in_ok-order.ensures ∙ texts_read (source_collation c.args.checked.now) c.args.options.now a b c.in_ok-lefts.lefts c.in_ok-rights.rights
-    (c.in_ok-lefts.ensures a spelled) (c.in_ok-rights.ensures b others)
+    let lefts = c.as_read.ensures in
+    let rights = c.as_read-2.ensures in
+    c.in_ok-order.ensures ∙ texts_read (source_collation c.args.checked.now) c.args.options.now a b c.as_read.result c.as_read-2.result
+    (rw (lefts.elements, lefts.variable_end, lefts.characters) (c.in_ok-lefts.ensures a spelled))
+    (rw (rights.elements, rights.variable_end, rights.characters) (c.in_ok-rights.ensures b others))

@@ -13,12 +13,10 @@ has_lead None lead e = absurd (true≢false (sym e))
 has_lead (Some before) lead e = ap Some (eqb-true before lead e)
 
 -- what the tables say of the primary's own lead
-asked : (tables : CollationTables) (now : CollationTables) (primary lead : ℕ) (answer is : Bool) → now ≡ tables → lead ≡ primary / 2 ^ 24
-    → answer ≡ is_compressible_in now.special_primaries.last_primaries lead → answer ≡ is
+asked : (tables : CollationTables) (primary lead : ℕ) (answer is : Bool) → lead ≡ primary / 2 ^ 24
+    → answer ≡ is_compressible_in tables.special_primaries.last_primaries lead → answer ≡ is
     → is_compressible_in tables.special_primaries.last_primaries (primary / 2 ^ 24) ≡ is
-asked tables now primary lead answer is same led says e =
-    ap (is_compressible_in tables.special_primaries.last_primaries) (sym led)
-    ∙ ap (λ (t : CollationTables). is_compressible_in t.special_primaries.last_primaries lead) (sym same) ∙ sym says ∙ e
+asked tables primary lead answer is led says e = ap (is_compressible_in tables.special_primaries.last_primaries) (sym led) ∙ sym says ∙ e
 
 pub returns-then-eq-clause-next : goal.returns-then-eq-clause-next
 returns-then-eq-clause-next c =
@@ -26,23 +24,23 @@ returns-then-eq-clause-next c =
     c.ranges.primary.fits c.requires.in_place c.lead_of-lead.ensures c.args.run c.requires.run
     (has_lead c.args.run c.lead_of-lead.result (sym c.eq.ensures ∙ c.if-eq.true))
 
-pub returns-then-is_compressible-clause-next : goal.returns-then-is_compressible-clause-next
-returns-then-is_compressible-clause-next c =
+pub returns-then-asked-clause-next : goal.returns-then-asked-clause-next
+returns-then-asked-clause-next c =
     run_begun (meaning c.args.checked.now.canonical) c.args.checked.now.tables c.keep_promise.ensures c.args.primary c.args.in_place c.lead_of-lead.result
     c.ranges.primary.fits c.requires.in_place c.lead_of-lead.ensures c.args.run
-    (asked c.args.checked.now.tables c.tables.result.now c.args.primary c.lead_of.result c.is_compressible.result true
-    c.tables.ensures c.lead_of.ensures c.is_compressible.ensures c.if-is_compressible.true)
+    (asked c.args.checked.now.tables c.args.primary c.args.asked.lead c.args.asked.is_compressible true
+    c.requires.asked_for c.requires.asked c.if-asked.true)
 
-pub returns-then-is_compressible-clause-goes_on : goal.returns-then-is_compressible-clause-goes_on
-returns-then-is_compressible-clause-goes_on c =
+pub returns-then-asked-clause-goes_on : goal.returns-then-asked-clause-goes_on
+returns-then-asked-clause-goes_on c =
     begun_is_run (meaning c.args.checked.now.canonical) c.args.checked.now.tables c.keep_promise.ensures c.args.primary c.args.in_place c.lead_of-lead.result
     c.ranges.primary.fits c.requires.in_place c.lead_of-lead.ensures
-    (asked c.args.checked.now.tables c.tables.result.now c.args.primary c.lead_of.result c.is_compressible.result true
-    c.tables.ensures c.lead_of.ensures c.is_compressible.ensures c.if-is_compressible.true)
+    (asked c.args.checked.now.tables c.args.primary c.args.asked.lead c.args.asked.is_compressible true
+    c.requires.asked_for c.requires.asked c.if-asked.true)
 
-pub returns-else-is_compressible-clause-next : goal.returns-else-is_compressible-clause-next
-returns-else-is_compressible-clause-next c =
+pub returns-else-asked-clause-next : goal.returns-else-asked-clause-next
+returns-else-asked-clause-next c =
     run_ended (meaning c.args.checked.now.canonical) c.args.checked.now.tables c.keep_promise.ensures c.args.primary c.args.in_place c.lead_of-lead.result
     c.ranges.primary.fits c.requires.in_place c.lead_of-lead.ensures c.args.run
-    (asked c.args.checked.now.tables c.tables.result.now c.args.primary c.lead_of.result c.is_compressible.result false
-    c.tables.ensures c.lead_of.ensures c.is_compressible.ensures c.if-is_compressible.false)
+    (asked c.args.checked.now.tables c.args.primary c.args.asked.lead c.args.asked.is_compressible false
+    c.requires.asked_for c.requires.asked c.if-asked.false)

@@ -10,14 +10,14 @@ use Rattle.icu_collator.proofs.key_bytes.primaries.write_primaries.Goals as goal
 pub loop-element-preserved : goal.loop-element-preserved
 loop-element-preserved c =
     let collation = source_collation c.args.checked.now in
-    let adds = c.in_ok-run.ensures in
+    let adds = c.in_ok-run.ensures.adds in
     let level = primaries_go_on (primary_at collation) c.args.variable_end c.args.elements.now (was_compressible collation) c.loop-element.element-index c.element-item.result c.loop-element.run
     c.in_ok-run.run' (option_map collation.reordered c.own_primary_at-primary.result)
     (c.args.key.now.items ++ primary_level collation (primaries_by collation (counted_list c.args.variable_end c.args.elements.now)))
     c.loop-element.key.items c.write_given.new.key.items c.loop-element-test.true c.element-item.is
     (ap (option_map collation.reordered) c.own_primary_at-primary.ensures ∙ own_reordered collation (counted_of c.counted_element.result)
     ∙ ap (primary_at collation) c.counted_element.ensures) c.loop-element.invariant.level adds in
-    record { run = adds.goes_on; level = level }
+    record { run = adds.goes_on; asked = c.write_given.ensures.answered; level = level }
 
 pub returns : goal.returns
 returns c =

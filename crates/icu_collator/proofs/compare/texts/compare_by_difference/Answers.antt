@@ -1,4 +1,4 @@
-use Rattle.icu_collator.proofs.compare.texts.compare_texts.Goals as goal
+use Rattle.icu_collator.proofs.compare.texts.compare_by_difference.Goals as goal
 
 pub returns-in-Some : goal.returns-in-Some
 returns-in-Some g c =

@@ -1,5 +1,5 @@
 use Rattle.std.proofs.Common.{drop}
-use Rattle.icu_collator.proofs.compare.texts.compare_behind.Goals as goal
+use Rattle.icu_collator.proofs.compare.texts.compare_whole_behind.Goals as goal
 
 pub returns : goal.returns
 returns g c =

@@ -1,0 +1,9 @@
+-- Lead bytes that tables were asked for.
+use Rattle.std.specs.Prelude.{◌≡◌}
+use Rattle.icu_collator_core.specs.Acceptance.{CollationSource}
+use Rattle.icu_collator_core.specs.TableSettings.{is_compressible_in}
+use Rattle.icu_collator.specs.declared.key_bytes.primaries.AskedLead.{AskedLead}
+
+-- it is what the tables say of the lead byte
+abbrev pub IsAnswered : CollationSource → AskedLead → Type 0
+IsAnswered source asked = asked.is_compressible ≡ is_compressible_in source.tables.special_primaries.last_primaries asked.lead
