@@ -7,4 +7,5 @@ pub mod LookupLemmas
 pub mod MarkLemmas
 pub mod TestLemmas
 pub mod UnrecordedLemmas
+pub mod ValueLemmas
 pub mod WalkLemmas

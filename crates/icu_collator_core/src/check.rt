@@ -18,6 +18,7 @@ pub(crate) mod records;
 pub(crate) mod runs;
 pub(crate) mod suffixes;
 pub(crate) mod texts;
+pub(crate) mod values;
 pub(crate) mod walks;
 pub(crate) mod weights;
 

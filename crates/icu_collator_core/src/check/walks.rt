@@ -1,6 +1,6 @@
 //! Tests of all keys of a context by their characters.
 
-ghost use Rattle.std.specs.Prelude.{◌≡◌, ◌^◌, ◌<◌, ◌↔◌, IsTrue, IfOk};
+ghost use Rattle.std.specs.Prelude.{◌≡◌, ◌^◌, ◌<◌, ◌↔◌, IsTrue, IfOk, length};
 ghost use Rattle.icu_collator_core.specs.ContextRules.{KeysPass};
 ghost use Rattle.icu_collator_core.specs.Pools.{trie_of};
 
@@ -52,7 +52,8 @@ impl<'t, T: TextTest> EntryTest for KeyTest<'t, T> {
 /// The units of the trie of the context at a place, and all behind it.
 pub(crate) fn units_of<'c>(contexts: &'c PackedVec<'_, u16>, place: usize) -> PackedVec<'c, u16>
     requires { place < 2 ^ 32 }
-    ensures { result ≡ trie_of contexts.now place }
+    ensures units { result ≡ trie_of contexts.now place }
+    ensures bound { length contexts.now < 2 ^ 64 }
 {
     match trie_of(contexts, place) {
         Some(units) => units,

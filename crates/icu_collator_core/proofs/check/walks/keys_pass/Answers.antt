@@ -6,11 +6,11 @@ use Rattle.icu_collator_core.proofs.check.walks.keys_pass.Goals as goal
 pub returns-in-Ok : goal.returns-in-Ok
 returns-in-Ok g c =
     keys_told (g.T.TextTest.test c.args.test.now) c.units_of-units.result (trie_of c.args.contexts.now c.args.place) c.in-Ok.all
-    c.units_of-units.ensures c.in-Ok.ensures.grammar c.in-Ok.ensures.passed
+    c.units_of-units.ensures.units c.in-Ok.ensures.grammar c.in-Ok.ensures.passed
 
 pub returns-in-Err-BadUnits : goal.returns-in-Err-BadUnits
 returns-in-Err-BadUnits g c =
     refuted
     (keys_short (g.T.TextTest.test c.args.test.now) (g.met.T.TextTest.short c.args.test.now) c.units_of-units.result (trie_of c.args.contexts.now c.args.place)
-    c.units_of-units.ensures
+    c.units_of-units.ensures.units
     (λ trie within. c.all_pass.ensures.refused c.in-Err-BadUnits.field-0-0 (cc (c.in-Err-BadUnits.is, c.in-Err-BadUnits.field-0-is)) trie within))
