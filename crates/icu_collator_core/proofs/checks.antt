@@ -2,6 +2,7 @@
 pub mod ContextLemmas
 pub mod KeyLemmas
 pub mod FlagLemmas
+pub mod LengthLemmas
 pub mod ListLemmas
 pub mod LookupLemmas
 pub mod MarkLemmas

@@ -11,6 +11,7 @@ pub(crate) mod flags;
 pub(crate) mod forms;
 pub(crate) mod keys;
 pub(crate) mod layers;
+pub(crate) mod lengths;
 pub(crate) mod marks;
 pub(crate) mod places;
 pub(crate) mod prefixes;

@@ -201,10 +201,11 @@ fn contexts(rt: HostRuntime) {
 const LEVEL: [u16; 10] = [4, 0x62, 7, 0x63, 5, 0x64, 3, 0x65, 1, 0x66];
 
 /// So many branches one behind another, and the value behind them: a value that is no word; one that names what is in no
-/// list, each with 5 ^ 14 keys; keys of seven letters.
-const LEVELS: [(usize, &[u16], Option<TableFault>); 3] = [
+/// list; keys of fourteen letters, of which there are 5 ^ 14; keys of seven.
+const LEVELS: [(usize, &[u16], Option<TableFault>); 4] = [
     (14, &[0x80c3], BAD_WORD),
     (14, &[0xffff, 0xffff, 0xe1c6], BAD_INDEX),
+    (14, &[0xffff, 0x2ac0, 0x505], BAD_CONTEXT),
     (7, &[0xffff, 0x2ac0, 0x505], None),
 ];
 

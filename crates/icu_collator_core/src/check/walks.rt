@@ -6,6 +6,7 @@ ghost use Rattle.icu_collator_core.specs.Pools.{trie_of};
 
 use super::contexts::trie_of;
 use super::keys::text_of;
+use super::lengths::has_long_key;
 use super::texts::KeyText;
 use icu_char16trie::{EntryTest, ReadUnitsError, all_pass};
 use icu_packed_vector::PackedVec;
@@ -72,6 +73,10 @@ pub(super) fn keys_pass<T: TextTest>(
     requires { place < 2 ^ 32 }
     ensures { IfOk result (λ all. IsTrue all ↔ KeysPass (T.test test.now) (trie_of contexts.now place)) }
 {
+    let is_long = has_long_key(alloc, contexts, place)?;
+    if is_long {
+        return Ok(false);
+    }
     let units = units_of(contexts, place);
     let keys = KeyTest { test };
     match all_pass(alloc, &units, KEY_LIMIT, &keys) {
