@@ -2,9 +2,11 @@
 pub mod ContextLemmas
 pub mod KeyLemmas
 pub mod FlagLemmas
+pub mod LengthLemmas
 pub mod ListLemmas
 pub mod LookupLemmas
 pub mod MarkLemmas
 pub mod TestLemmas
 pub mod UnrecordedLemmas
+pub mod ValueLemmas
 pub mod WalkLemmas

@@ -1,6 +1,6 @@
 -- The forms that words of collation tables may have, and the words that stand within others: the word of a digit, and the
 -- default and the values of a context.
-use Rattle.std.specs.Prelude.{ℕ, ℤ, ◌-◌, ◌%◌, ◌^◌, ◌⊎◌, Bool, true, false, not, ◌==◌, ◌&&◌, ◌||◌, leb, List, slice_index, IsTrue, Some, None}
+use Rattle.std.specs.Prelude.{ℕ, ℤ, ⊤, ◌-◌, ◌%◌, ◌^◌, ◌⊎◌, Bool, true, false, not, ◌==◌, ◌&&◌, ◌||◌, leb, List, slice_index, IsTrue, Some, None}
 use Rattle.std.specs.Int.{cast_unsigned, w32}
 use Rattle.std.specs.List.{list_all}
 use Rattle.icu_char16trie.specs.UnitGrammar.{IsUnitTrie, IsWithin}
@@ -59,6 +59,10 @@ AreReadable units = IsUnitTrie units × IsWithin units (2 ^ 64 - 1)
 abbrev pub EntriesPass : (List ℕ → ℤ → Bool) → List ℕ → Type 0
 EntriesPass passes units =
     AreReadable units → (key : List ℕ) (number : ℤ) → MapsKey units (at_node 0) key number → IsTrue (passes key number)
+
+-- nothing is kept of keys
+abbrev pub keeps_nothing : ⊤ → ℕ → ⊤
+keeps_nothing kept unit = kept
 
 -- a test of values, as words
 abbrev pub by_word : (ℕ → Bool) → List ℕ → ℤ → Bool

@@ -11,6 +11,7 @@ pub(crate) mod flags;
 pub(crate) mod forms;
 pub(crate) mod keys;
 pub(crate) mod layers;
+pub(crate) mod lengths;
 pub(crate) mod marks;
 pub(crate) mod places;
 pub(crate) mod prefixes;
@@ -18,6 +19,7 @@ pub(crate) mod records;
 pub(crate) mod runs;
 pub(crate) mod suffixes;
 pub(crate) mod texts;
+pub(crate) mod values;
 pub(crate) mod walks;
 pub(crate) mod weights;
 

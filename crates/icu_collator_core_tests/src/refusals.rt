@@ -197,6 +197,52 @@ fn contexts(rt: HostRuntime) {
     assert!(rt; are_contexts_judged(rt.alloc()));
 }
 
+/// A branch of five letters, "b" to "f", which all lead to the node behind it.
+const LEVEL: [u16; 10] = [4, 0x62, 7, 0x63, 5, 0x64, 3, 0x65, 1, 0x66];
+
+/// So many branches one behind another, and the value behind them: a value that is no word; one that names what is in no
+/// list; keys of fourteen letters, of which there are 5 ^ 14; keys of seven.
+const LEVELS: [(usize, &[u16], Option<TableFault>); 4] = [
+    (14, &[0x80c3], BAD_WORD),
+    (14, &[0xffff, 0xffff, 0xe1c6], BAD_INDEX),
+    (14, &[0xffff, 0x2ac0, 0x505], BAD_CONTEXT),
+    (7, &[0xffff, 0x2ac0, 0x505], None),
+];
+
+/// A context of so many branches, and the value behind them; `None` where memory is refused.
+fn levels(alloc: Global, count: usize, value: &[u16]) -> Option<Vec<u16>> {
+    let mut units = Vec::from_slice(alloc, &[0x2a10, 0x505]).ok()?;
+    for _level in 0..count {
+        units.extend_from_slice(&LEVEL).ok()?;
+    }
+    units.extend_from_slice(value).ok()?;
+    Some(units)
+}
+
+/// Whether contexts of few units with many keys are judged so.
+fn are_levels_judged(alloc: Global) -> bool {
+    for (count, value, expected) in LEVELS {
+        let Some(units) = levels(alloc, count, value) else {
+            return false;
+        };
+        let change = Change {
+            word: 0x8c9,
+            ces: &[],
+            ce32s: &[],
+            contexts: units.as_slice(),
+        };
+        if !is_judged(alloc, &change, expected) {
+            return false;
+        }
+    }
+    true
+}
+
+#[test]
+fn shared_nodes(rt: HostRuntime) {
+    assert!(rt; are_levels_judged(rt.alloc()));
+}
+
 /// Tables with another word of "b"; `None` where memory is refused.
 fn with_word_of_b(alloc: Global, word: u32) -> Option<CollationTables<'static>> {
     let trie = changed_trie(alloc, &WORDS, &[(0x62, word)], IMPLICIT)?;

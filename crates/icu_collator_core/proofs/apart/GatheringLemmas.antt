@@ -1,37 +1,44 @@
 -- What is gathered at the places of lists.
-use Rattle.std.proofs.Common.{◌≡◌, ◌↔◌, ℕ, ℤ, ◌-◌, ◌^◌, ◌<◌, Vec, Global, List, length, get_or, map, slice_index, refl, sym, ap, ◌∙◌, subst, arith}
+use Rattle.std.proofs.Common.{◌≡◌, ◌↔◌, ℕ, ℤ, ◌-◌, ◌^◌, ◌<◌, Vec, Global, List, length, get_or, slice_index, refl, sym, ap, ◌∙◌, subst, arith}
 use Rattle.std.specs.Char.{IsScalar}
+use Rattle.std.specs.Prelude.{⊤, fold}
 use Rattle.std.specs.Int.{cast_unsigned, w32}
 use Rattle.std.specs.List.{Contains}
 use Rattle.std.proofs.lemmas.List.{get_or_default}
-use Rattle.icu_char16trie.specs.UnitGrammar.{IsListing, IsUnitTrie, IsWithin}
-use Rattle.icu_char16trie.specs.UnitMaps.{MapsKey, at_node}
+use Rattle.icu_char16trie.specs.KeyFolds.{AreFolded}
+use Rattle.icu_char16trie.specs.UnitGrammar.{IsUnitTrie}
 use Rattle.icu_normalizer_core.proofs.ScalarLemmas.{scalar_below}
 use Rattle.icu_collator_core.specs.Pools.{Pools, index_of, trie_of}
 use Rattle.icu_collator_core.specs.PrefixFaults.{HasValue}
+use Rattle.icu_collator_core.specs.WordForms.{keeps_nothing}
+use Rattle.icu_collator_core.proofs.checks.ValueLemmas.{folded_readable}
 use Rattle.icu_collator_core.proofs.apart.GrowthLemmas.{UpTo, item_at}
-use Rattle.icu_collator_core.proofs.apart.LevelLemmas.{from_mapped, mapped_in}
 
 -- ---- Entries of unit tries
 
 abbrev pub Entry : Type 0
 Entry = Vec ℕ Global × ℤ
 
-abbrev pub EntryAt : List Entry → ℕ → ℕ → Type 0
-EntryAt list k word = (entry : Entry) × ((d : Entry) → get_or list k d ≡ entry) × (cast_unsigned w32 entry.1 ≡ word)
+-- ---- Values
 
-abbrev pub HasEntry : List Entry → ℕ → Type 0
-HasEntry list word = (entry : Entry) × Contains list entry × (cast_unsigned w32 entry.1 ≡ word)
+abbrev pub Valued : Type 0
+Valued = ⊤ × ℤ
+
+abbrev pub EntryAt : List Valued → ℕ → ℕ → Type 0
+EntryAt list k word = (entry : Valued) × ((d : Valued) → get_or list k d ≡ entry) × (cast_unsigned w32 entry.1 ≡ word)
+
+abbrev pub HasEntry : List Valued → ℕ → Type 0
+HasEntry list word = (entry : Valued) × Contains list entry × (cast_unsigned w32 entry.1 ≡ word)
 
 -- the entry that was read is the one at the place
-pub entry_read : (list : List Entry) (k : ℕ) (entry : Entry) → k < length list → entry ≡ get_or list k entry
+pub entry_read : (list : List Valued) (k : ℕ) (entry : Valued) → k < length list → entry ≡ get_or list k entry
     → (word : ℕ) → (word ≡ cast_unsigned w32 entry.1) ↔ EntryAt list k word
 entry_read list k entry lt e word = (
   λ same. (entry, (λ d. get_or_default list k d entry lt ∙ sym e), sym same),
-  λ w. sym w.2 ∙ ap (λ (one : Entry). cast_unsigned w32 one.1) (sym (w.1 entry) ∙ sym e),
+  λ w. sym w.2 ∙ ap (λ (one : Valued). cast_unsigned w32 one.1) (sym (w.1 entry) ∙ sym e),
 )
 
-pub all_entries : (list : List Entry) (n : ℕ) → length list ≡ n → (word : ℕ) → UpTo (EntryAt list) n word ↔ HasEntry list word
+pub all_entries : (list : List Valued) (n : ℕ) → length list ≡ n → (word : ℕ) → UpTo (EntryAt list) n word ↔ HasEntry list word
 all_entries list n many word = (
   λ w. (w.2.0, (w.0, (let lt = w.1 in omega (arith, many, lt)), w.2.1 w.2.0), w.2.2),
   λ h. let found = item_at list h.1.0 h.1.1 in
@@ -45,27 +52,17 @@ units_and_value entry = (entry.0.items, entry.1)
 abbrev pub most : ℕ
 most = 2 ^ 64 - 1
 
-pub values_read : (pools : Pools) (word : ℕ) (units : List ℕ) (list : List Entry) → units ≡ trie_of pools.contexts (index_of word)
-    → IsListing units most (map units_and_value list) → (value : ℕ) → HasEntry list value ↔ HasValue pools word value
-values_read pools word units list same listing value = (
-  λ h. (
-    h.0.0.items,
-    h.0.1,
-    (subst IsUnitTrie same listing.trie, subst (λ units. IsWithin units most) same listing.bound),
-    subst (λ units. MapsKey units (at_node 0) h.0.0.items h.0.1) same
-        ((listing.entries h.0.0.items h.0.1).0 (mapped_in units_and_value list h.0 h.1)),
-    h.2,
-  ),
-  λ v.
-      let found = from_mapped units_and_value list (v.0, v.1)
-      ((listing.entries v.0 v.1).1 (subst (λ units. MapsKey units (at_node 0) v.0 v.1) (sym same) v.3)) in
-      (found.0, found.1, ap (λ (pair : List ℕ × ℤ). cast_unsigned w32 pair.1) found.2 ∙ v.4),
+pub values_read : (pools : Pools) (word : ℕ) (list : List Valued) → AreFolded keeps_nothing tt (trie_of pools.contexts (index_of word)) list
+    → length pools.contexts < 2 ^ 64 → (value : ℕ) → HasEntry list value ↔ HasValue pools word value
+values_read pools word list folded few value = (
+  λ h.
+      let from = (folded.said h.0.0 h.0.1).0 h.1 in
+      (from.0, h.0.1, folded_readable keeps_nothing tt pools.contexts (index_of word) list folded few, from.1, h.2),
+  λ v. ((fold keeps_nothing tt v.0, v.1), (folded.said (fold keeps_nothing tt v.0) v.1).1 (v.0, v.3, refl), v.4),
 )
 
-pub no_values : (pools : Pools) (word : ℕ) (units : List ℕ) → units ≡ trie_of pools.contexts (index_of word)
-    → (IsUnitTrie units → IsWithin units most → ⊥) → (value : ℕ) → HasValue pools word value → ⊥
-no_values pools word units same broken value v =
-    broken (subst IsUnitTrie (sym same) v.2.0) (subst (λ units. IsWithin units most) (sym same) v.2.1)
+pub no_values : (pools : Pools) (word : ℕ) → (IsUnitTrie (trie_of pools.contexts (index_of word)) → ⊥) → (value : ℕ) → HasValue pools word value → ⊥
+no_values pools word broken value v = broken v.2.0
 
 -- ---- Numbers of lists
 

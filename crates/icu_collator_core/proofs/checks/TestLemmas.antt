@@ -1,12 +1,9 @@
 -- Tests one after another: what the answer of the last says of all, where those before it said yes or no.
-use Rattle.std.proofs.Common.{◌≡◌, ◌↔◌, ℕ, ℤ, ◌-◌, ◌^◌, ◌<◌, ◌≤◌, Bool, true, false, ◌&&◌, ◌||◌, List, Option, Some, None, refl, ◌∙◌, sym, subst, arith, ◌⊎◌, inr, ⊎_elim}
+use Rattle.std.proofs.Common.{◌≡◌, ◌↔◌, ℕ, ◌<◌, ◌≤◌, Bool, true, false, ◌&&◌, ◌||◌, Option, Some, None, refl, ◌∙◌, sym, subst, arith, ◌⊎◌, inr, ⊎_elim}
 use Rattle.std.specs.Bool.{IsTrue}
 use Rattle.std.specs.Char.{IsScalar}
 use Rattle.std.specs.Option.{MatchOption}
 use Rattle.std.proofs.lemmas.Bool.{false≢true, cases_lt}
-use Rattle.icu_char16trie.specs.UnitGrammar.{IsUnitTrie, IsWithin}
-use Rattle.icu_char16trie.specs.UnitMaps.{MapsKey, at_node}
-use Rattle.icu_collator_core.specs.WordForms.{EntriesPass}
 
 -- ---- After a yes
 
@@ -55,21 +52,6 @@ shown p = (λ _. p, λ _. refl)
 -- a no says that it isn't so
 pub no_is : {P : Type 0} (test : Bool) → test ≡ false → (IsTrue test ↔ P) → P → ⊥
 no_is test e h p = false≢true (sym e ∙ h.1 p)
-
--- ---- Entries of contexts
-
-abbrev AllPass : (List ℕ → ℤ → Bool) → List ℕ → Type 0
-AllPass passes units = (key : List ℕ) (number : ℤ) → MapsKey units (at_node 0) key number → IsTrue (passes key number)
-
-pub entries_told : (passes : List ℕ → ℤ → Bool) (units others : List ℕ) (all : Bool) → units ≡ others
-    → (IsTrue all ↔ AllPass passes units) → IsUnitTrie units → IsWithin units (2 ^ 64 - 1) → IsTrue all ↔ EntriesPass passes others
-entries_told passes units others all same told trie within =
-    subst (λ others. IsTrue all ↔ EntriesPass passes others) same (λ t _. told.0 t, λ h. told.1 (h (trie, within)))
-
-pub no_entries : (passes : List ℕ → ℤ → Bool) (units others : List ℕ) → units ≡ others
-    → (IsUnitTrie units → IsWithin units (2 ^ 64 - 1) → ⊥) → EntriesPass passes others
-no_entries passes units others same broken =
-    subst (λ others. EntriesPass passes others) same (λ readable. absurd (broken readable.0 readable.1))
 
 -- ---- Characters in order
 

@@ -77,3 +77,11 @@ module _ (passes : List ℕ → Bool) where
       let few = short w.0 w.2 in
       let long = key_length key w.0 w.1 in
       omega (arith, few, long)))
+
+-- what passes a test passes a weaker one
+pub weaker_keys : (passes others : List ℕ → Bool) (units : List ℕ) → ((cs : List ℕ) → passes cs ≡ true → others cs ≡ true) → KeysPass passes units
+    → KeysPass others units
+weaker_keys passes others units weaker keys = (
+  keys.0,
+  λ key number maps. let found = keys.1 key number maps in (found.0, found.1, weaker found.0 found.2),
+)

@@ -14,11 +14,12 @@ use Rattle.icu_collator_types.specs.ElementWords.{has_tag}
 use Rattle.icu_collator_core.specs.declared.tables.data.CollationData.{CollationData}
 use Rattle.icu_collator_core.specs.declared.tied.texts.Side.TheVariants.{Before, Behind}
 use Rattle.icu_collator_core.specs.ContextFaults.{is_short}
-use Rattle.icu_collator_core.specs.ContextRules.{KeepsContextRules, KeysPass, is_prefix, is_recorded_by, is_suffix}
+use Rattle.icu_collator_core.specs.ContextRules.{KeepsContextRules, is_prefix, is_recorded_by, is_suffix}
 use Rattle.icu_collator_core.specs.Pools.{elements_of_word, index_of, prefix_word, suffix_word, unprefixed_word, word_in_context}
 use Rattle.icu_collator_core.specs.TableMeaning.{TableWord, pools_of, recorded_by, word_at, word_in}
 use Rattle.icu_collator_core.specs.TiedWords.{WordTies, names_context}
 use Rattle.icu_collator_core.proofs.apart.GrowthLemmas.{none_in}
+use Rattle.icu_collator_core.proofs.checks.WalkLemmas.{weaker_keys}
 use Rattle.icu_collator_core.proofs.lookups.PrefixLemmas.{scalars_back}
 use Rattle.icu_collator_core.proofs.meaning.GoodWordLemmas.{asked, prefix_short}
 use Rattle.icu_collator_core.proofs.meaning.WordTagLemmas.{unprefixed_same}
@@ -30,13 +31,6 @@ use Rattle.icu_collator_core.proofs.unsafety.TiedTextLemmas.{HasShortKeys, Recor
 pub record AreShortKeys (entry : TableWord) : Type 0 where
   pub behind : has_tag Contraction (unprefixed_word entry.pools entry.word) ≡ true → HasShortKeys entry.pools (unprefixed_word entry.pools entry.word)
   pub before : has_tag Prefix entry.word ≡ true → HasShortKeys entry.pools entry.word
-
-weaker_keys : (passes others : List ℕ → Bool) (units : List ℕ) → ((cs : List ℕ) → passes cs ≡ true → others cs ≡ true) → KeysPass passes units
-    → KeysPass others units
-weaker_keys passes others units weaker keys = (
-  keys.0,
-  λ key number maps. let found = keys.1 key number maps in (found.0, found.1, weaker found.0 found.2),
-)
 
 pub source_short : (canonical : Canonical) (digit : ℕ → Option ℕ) (source : CollationData) (c : ℕ)
     → KeepsContextRules canonical digit (word_in source c) c → AreShortKeys (word_in source c)

@@ -8,13 +8,13 @@ ghost use Rattle.icu_collator_core.specs.TableMeaning.{pools_of};
 ghost use Rattle.icu_collator_core.specs.WordForms.{states_element, is_list_of_words, is_other_own, is_own_word, is_digit_word, is_fallback, ValuesPass, IsContraction, IsUnprefixed, IsPrefixed, IsWord, states_primary, keeps_special};
 
 use super::characters::{CharacterTest, first_refused};
-use super::contexts::{default_of, entries_pass};
+use super::contexts::default_of;
 use super::fields::{digit_value, has_form, index_of, is_special, length_of, word_at};
 use super::layers::Layer;
 use super::runs::behind_unrecorded;
+use super::values::{ValueTest, values_pass};
 use crate::elements::special_primary;
 use crate::tables::{CollationData, CollationTables};
-use icu_char16trie::EntryTest;
 use icu_collator_types::elements::{CollationElement, CollationElement32, Tag};
 use icu_packed_vector::PackedVec;
 use std::alloc::{AllocError, Global};
@@ -99,14 +99,14 @@ struct OwnWords<'d, 'a> {
     source: &'d CollationData<'a>,
 }
 
-impl<'d, 'a> EntryTest for OwnWords<'d, 'a> {
+impl<'d, 'a> ValueTest for OwnWords<'d, 'a> {
     ghost use Rattle.icu_collator_core.specs.TableMeaning.{pools_of};
-    ghost use Rattle.icu_collator_core.specs.WordForms.{by_word, is_own_word};
+    ghost use Rattle.icu_collator_core.specs.WordForms.{is_own_word};
 
-    ghost test = { λ words. by_word (is_own_word (pools_of words.source.now)) };
+    ghost test = { λ words. is_own_word (pools_of words.source.now) };
 
-    fn passes(&self, _key: &[u16], value: i32) -> bool {
-        is_own_word(self.source, value.cast_unsigned())
+    fn passes(&self, word: u32) -> bool {
+        is_own_word(self.source, word)
     }
 }
 
@@ -115,7 +115,7 @@ fn gives_own_words(alloc: Global, source: &CollationData<'_>, word: u32) -> Resu
     ensures { IfOk result (λ all. IsTrue all ↔ ValuesPass (pools_of source.now) (is_own_word (pools_of source.now)) word) }
 {
     let test = OwnWords { source };
-    let all = entries_pass(alloc, &source.contexts, index_of(word), &test)?;
+    let all = values_pass(alloc, &source.contexts, index_of(word), &test)?;
     Ok(all)
 }
 

@@ -7,12 +7,12 @@ ghost use Rattle.icu_collator_core.specs.WordForms.{ValuesPass};
 ghost use Rattle.icu_collator_core.specs.WordPlaces.{has_list, has_items, has_digit_word, has_context, IsContractionInside, IsUnprefixedInside, IsPrefixInside, IsInside};
 
 use super::characters::{CharacterTest, first_refused};
-use super::contexts::{default_of, entries_pass};
+use super::contexts::default_of;
 use super::fields::{has_tag, index_of, length_of, word_at};
 use super::layers::Layer;
 use super::runs::behind_unrecorded;
+use super::values::{ValueTest, values_pass};
 use crate::tables::{CollationData, CollationTables};
-use icu_char16trie::EntryTest;
 use icu_collator_types::elements::Tag;
 use std::alloc::{AllocError, Global};
 
@@ -58,15 +58,14 @@ struct WordsInside<'d, 'a> {
     source: &'d CollationData<'a>,
 }
 
-impl<'d, 'a> EntryTest for WordsInside<'d, 'a> {
+impl<'d, 'a> ValueTest for WordsInside<'d, 'a> {
     ghost use Rattle.icu_collator_core.specs.TableMeaning.{pools_of};
-    ghost use Rattle.icu_collator_core.specs.WordForms.{by_word};
     ghost use Rattle.icu_collator_core.specs.WordPlaces.{has_items};
 
-    ghost test = { λ words. by_word (has_items (pools_of words.source.now)) };
+    ghost test = { λ words. has_items (pools_of words.source.now) };
 
-    fn passes(&self, _key: &[u16], value: i32) -> bool {
-        has_items(self.source, value.cast_unsigned())
+    fn passes(&self, word: u32) -> bool {
+        has_items(self.source, word)
     }
 }
 
@@ -79,7 +78,7 @@ fn are_values_inside(
     ensures { IfOk result (λ all. IsTrue all ↔ ValuesPass (pools_of source.now) (has_items (pools_of source.now)) word) }
 {
     let test = WordsInside { source };
-    let all = entries_pass(alloc, &source.contexts, index_of(word), &test)?;
+    let all = values_pass(alloc, &source.contexts, index_of(word), &test)?;
     Ok(all)
 }
 

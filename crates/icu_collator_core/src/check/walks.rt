@@ -1,11 +1,12 @@
 //! Tests of all keys of a context by their characters.
 
-ghost use Rattle.std.specs.Prelude.{◌≡◌, ◌^◌, ◌<◌, ◌↔◌, IsTrue, IfOk};
+ghost use Rattle.std.specs.Prelude.{◌≡◌, ◌^◌, ◌<◌, ◌↔◌, IsTrue, IfOk, length};
 ghost use Rattle.icu_collator_core.specs.ContextRules.{KeysPass};
 ghost use Rattle.icu_collator_core.specs.Pools.{trie_of};
 
 use super::contexts::trie_of;
 use super::keys::text_of;
+use super::lengths::has_long_key;
 use super::texts::KeyText;
 use icu_char16trie::{EntryTest, ReadUnitsError, all_pass};
 use icu_packed_vector::PackedVec;
@@ -52,7 +53,8 @@ impl<'t, T: TextTest> EntryTest for KeyTest<'t, T> {
 /// The units of the trie of the context at a place, and all behind it.
 pub(crate) fn units_of<'c>(contexts: &'c PackedVec<'_, u16>, place: usize) -> PackedVec<'c, u16>
     requires { place < 2 ^ 32 }
-    ensures { result ≡ trie_of contexts.now place }
+    ensures units { result ≡ trie_of contexts.now place }
+    ensures bound { length contexts.now < 2 ^ 64 }
 {
     match trie_of(contexts, place) {
         Some(units) => units,
@@ -71,6 +73,10 @@ pub(super) fn keys_pass<T: TextTest>(
     requires { place < 2 ^ 32 }
     ensures { IfOk result (λ all. IsTrue all ↔ KeysPass (T.test test.now) (trie_of contexts.now place)) }
 {
+    let is_long = has_long_key(alloc, contexts, place)?;
+    if is_long {
+        return Ok(false);
+    }
     let units = units_of(contexts, place);
     let keys = KeyTest { test };
     match all_pass(alloc, &units, KEY_LIMIT, &keys) {

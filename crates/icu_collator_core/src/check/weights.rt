@@ -10,13 +10,13 @@ ghost use Rattle.icu_collator_core.specs.WordForms.{ValuesPass};
 ghost use Rattle.icu_collator_core.specs.WordWeights.{HasSoundWords, HasWeights};
 
 use super::characters::{CharacterTest, first_refused};
-use super::contexts::{default_of, entries_pass};
+use super::contexts::default_of;
 use super::fields::{has_tag, index_of, word_at};
 use super::layers::Layer;
 use super::runs::behind_unrecorded;
+use super::values::{ValueTest, values_pass};
 use crate::check_weights::{is_sound_word, own_primary};
 use crate::tables::{CollationData, CollationSpecialPrimaries, CollationTables};
-use icu_char16trie::EntryTest;
 use icu_collator_types::elements::Tag;
 use std::alloc::{AllocError, Global};
 
@@ -55,21 +55,14 @@ struct SoundWords<'d, 'a> {
     c: char,
 }
 
-impl<'d, 'a> EntryTest for SoundWords<'d, 'a> {
+impl<'d, 'a> ValueTest for SoundWords<'d, 'a> {
     ghost use Rattle.icu_collator_core.specs.TableMeaning.{pools_of};
     ghost use Rattle.icu_collator_core.specs.WeightFaults.{is_sound_in_context};
-    ghost use Rattle.icu_collator_core.specs.WordForms.{by_word};
 
-    ghost test = { λ words. by_word (is_sound_in_context words.special.now (pools_of words.source.now) words.c) };
+    ghost test = { λ words. is_sound_in_context words.special.now (pools_of words.source.now) words.c };
 
-    fn passes(&self, _key: &[u16], value: i32) -> bool {
-        is_sound_word(
-            self.special,
-            self.source,
-            None,
-            self.c as u32,
-            value.cast_unsigned(),
-        )
+    fn passes(&self, word: u32) -> bool {
+        is_sound_word(self.special, self.source, None, self.c as u32, word)
     }
 }
 
@@ -84,7 +77,7 @@ fn are_sound_values(
     ensures { IfOk result (λ all. IsTrue all ↔ ValuesPass (pools_of source.now) (is_sound_in_context special.now (pools_of source.now) c) word) }
 {
     let test = SoundWords { special, source, c };
-    let all = entries_pass(alloc, &source.contexts, index_of(word), &test)?;
+    let all = values_pass(alloc, &source.contexts, index_of(word), &test)?;
     Ok(all)
 }
 

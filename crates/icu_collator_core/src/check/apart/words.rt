@@ -1,8 +1,7 @@
 //! The words of all characters, with those in their contexts, in a list.
 
-ghost use Rattle.std.specs.Prelude.{◌≡◌, ◌<◌, ◌≤◌, ℕ, ℤ, IsTrue, IfOk, OnOk, Vec};
+ghost use Rattle.std.specs.Prelude.{◌≡◌, ◌<◌, ◌≤◌, ℕ, ℤ, ⊤, IsTrue, IfOk, OnOk};
 ghost use Rattle.std.specs.Char.{IsScalar};
-ghost use Rattle.std.specs.Global.{Global};
 ghost use Rattle.std.specs.Int.{cast_unsigned, w32};
 ghost use Rattle.std.specs.List.{Contains};
 ghost use Rattle.icu_collator_types.specs.ElementWords.{has_tag};
@@ -12,11 +11,10 @@ ghost use Rattle.icu_collator_core.specs.WeightLists.{Grows, IsDiacriticWord, Is
 
 use crate::check::fields::{has_tag, index_of};
 use crate::check::runs::behind_run;
-use crate::check::walks::units_of;
+use crate::check::values::values_of;
 use crate::check::weights::{lone_word, unprefixed_word};
 use crate::reading::words::secondary_word;
 use crate::tables::{CollationData, CollationTables};
-use icu_char16trie::{ReadUnitsError, read_units};
 use icu_collator_types::elements::Tag;
 use std::alloc::{AllocError, Global};
 
@@ -32,9 +30,9 @@ pub(super) fn gather_word(words: &mut Vec<u32>, word: u32) -> Result<(), AllocEr
     Ok(())
 }
 
-/// The values of a list of keys, as words.
-fn gather_listed(words: &mut Vec<u32>, list: &Vec<(Vec<u16>, i32)>) -> Result<(), AllocError>
-    ensures { OnOk result (Grows (λ word. (entry : Vec ℕ Global × ℤ) × Contains list.now.items entry × (cast_unsigned w32 entry.1 ≡ word)) words.old.items words.new.items) }
+/// The values of a list, as words.
+fn gather_listed(words: &mut Vec<u32>, list: &Vec<((), i32)>) -> Result<(), AllocError>
+    ensures { OnOk result (Grows (λ word. (entry : ⊤ × ℤ) × Contains list.now.items entry × (cast_unsigned w32 entry.1 ≡ word)) words.old.items words.new.items) }
 {
     for place in 0..list.len() {
         let value = list[place].1;
@@ -52,14 +50,13 @@ fn gather_values(
 ) -> Result<(), AllocError>
     ensures { OnOk result (Grows (HasValue (pools_of source.now) word) words.old.items words.new.items) }
 {
-    let units = units_of(&source.contexts, index_of(word));
-    match read_units(alloc, &units, usize::MAX) {
-        Ok(list) => {
+    let found = values_of(alloc, &source.contexts, index_of(word))?;
+    match found {
+        Some(list) => {
             gather_listed(words, &list)?;
             Ok(())
         }
-        Err(ReadUnitsError::BadUnits(_)) => Ok(()),
-        Err(ReadUnitsError::Memory) => Err(AllocError),
+        None => Ok(()),
     }
 }
 

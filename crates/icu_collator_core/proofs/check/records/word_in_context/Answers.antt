@@ -13,4 +13,4 @@ returns c =
     let key = flat_map units_of (take c.args.count (text_items c.args.text.now)) in
     c.word_of.ensures
     ∙ ap (λ answer. option_map (cast_unsigned w32) (answered answer))
-    (c.answer_in.ensures ∙ ap (λ units. answer_to units (start units) key) c.units_of.ensures)
+    (c.answer_in.ensures ∙ ap (λ units. answer_to units (start units) key) c.units_of.ensures.units)
