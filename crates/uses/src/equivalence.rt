@@ -1,5 +1,5 @@
-//! Whether two texts are canonically equivalent, by the bytes of a records file: they are equal at `Identical`. One call for
-//! each encoding.
+//! Whether two texts are canonically equivalent, by the bytes of a records file: they are equal at `Identical`. One call
+//! for each encoding.
 ghost use Rattle.std.specs.Prelude.{◌≡◌, ◌↔◌, IfSome, IsTrue};
 ghost use Rattle.icu_normalizer.specs.Equivalence.{IsEquivalent};
 ghost use Rattle.icu_normalizer_core.specs.Decoding.{latin1_chars, utf16_chars, utf8_chars};
@@ -27,8 +27,8 @@ fn at_identical(options: CollatorOptions) -> CollatorOptions
     }
 }
 
-/// Whether two texts are equivalent by a records file's mapping steps and swaps of marks, whatever the other options are;
-/// `None` where the file breaks a rule, or memory is refused.
+/// Whether two texts are equivalent by a records file's mapping steps and swaps of marks, whatever the other options
+/// are; `None` where the file breaks a rule, or memory is refused.
 pub fn are_equivalent_by_file(
     alloc: Global,
     file: &[u8],

@@ -40,8 +40,8 @@ fn order_of_keys(
     Some(left_key.cmp(&right_key))
 }
 
-/// How the sort keys of two texts compare by a records file: as the texts do, where plain leads hold. `None` where the file
-/// breaks a rule, or memory is refused.
+/// How the sort keys of two texts compare by a records file: as the texts do, where plain leads hold. `None` where the
+/// file breaks a rule, or memory is refused.
 pub fn key_order_by_file(
     alloc: Global,
     file: &[u8],

@@ -132,8 +132,8 @@ fn order_of_composed(
     order_by_records(alloc, records, preferences, options, left.as_str(), right.as_str())
 }
 
-/// How two texts order by a records file where each is made NFD first: as the texts themselves do. `None` where the file
-/// breaks a rule, or memory is refused.
+/// How two texts order by a records file where each is made NFD first: as the texts themselves do. `None` where the
+/// file breaks a rule, or memory is refused.
 pub fn decomposed_order_by_file(
     alloc: Global,
     file: &[u8],

@@ -15,8 +15,8 @@ use icu_collator_types::options::{CollatorOptions, CollatorPreferences};
 use std::alloc::Global;
 use std::io::Write;
 
-/// Writes the replies to commands, a line each, which an index over a records file answers in turn. `None` where the file
-/// breaks a rule, memory is refused to the run, or a command is cut off or too long.
+/// Writes the replies to commands, a line each, which an index over a records file answers in turn. `None` where the
+/// file breaks a rule, memory is refused to the run, or a command is cut off or too long.
 pub fn reply_by_file<W: Write>(
     alloc: Global,
     file: &[u8],
