@@ -13,11 +13,13 @@ abbrev pub Replies : Catalogue → List ℕ → Option (List ℕ) → Option (Li
 Replies start commands old new = (replies : List ℕ) × AreReplies start (lines_of commands) replies × Appends old new replies
 
 -- a run that ended well read all commands
-pub replied : (start : Catalogue) (result : Result (Unit {0}) RunFault) (answer : Option (Unit {0})) (commands given left : List ℕ) (old new : Option (List ℕ))
-    → answer ≡ result_ok result → given ≡ commands → Ran start result (Some given) (Some left) old new → IfSome answer (λ _. Replies start commands old new)
-replied start (Ok done) answer commands given left old new is same ran =
+pub replied : (start other : Catalogue) (result : Result (Unit {0}) RunFault) (answer : Option (Unit {0})) (commands given left : List ℕ) (old new : Option (List ℕ))
+    → start ≡ other → answer ≡ result_ok result → given ≡ commands → Ran start result (Some given) (Some left) old new
+    → IfSome answer (λ _. Replies other commands old new)
+replied start other (Ok done) answer commands given left old new opens is same ran =
     let whole : ran.taken ≡ commands = sym (append-nil ran.taken) ∙ ap (λ (rest : List ℕ). ran.taken ++ rest) (sym ran.does.1) ∙ sym ran.consumes ∙ same in
-    subst (λ (o : Option (Unit {0})). IfSome o (λ _. Replies start commands old new)) (sym is)
-    (ran.out, subst (λ (bytes : List ℕ). AreReplies start (lines_of bytes) ran.out) whole ran.does.0, ran.appends)
-replied start (Err fault) answer commands given left old new is same ran =
-    subst (λ (o : Option (Unit {0})). IfSome o (λ _. Replies start commands old new)) (sym is) tt
+    let replies : AreReplies start (lines_of commands) ran.out = subst (λ (bytes : List ℕ). AreReplies start (lines_of bytes) ran.out) whole ran.does.0 in
+    subst (λ (o : Option (Unit {0})). IfSome o (λ _. Replies other commands old new)) (sym is)
+    (ran.out, subst (λ (s : Catalogue). AreReplies s (lines_of commands) ran.out) opens replies, ran.appends)
+replied start other (Err fault) answer commands given left old new opens is same ran =
+    subst (λ (o : Option (Unit {0})). IfSome o (λ _. Replies other commands old new)) (sym is) tt

@@ -1,10 +1,8 @@
-use Rattle.std.proofs.Common.{◌≡◌, List, ap}
-use Rattle.std.specs.Prelude.{IfSome}
-use Rattle.collate_lines.specs.Lines.{records_of}
+use Rattle.std.proofs.Common.{List, ℕ, ap}
+use denote.Bor.{Bor}
 use Rattle.collate_lines.specs.Record.{Record}
 use Rattle.collate_records.specs.Files.{IsAccepted}
 use Rattle.collate_index.specs.Catalogue.{opened}
-use Rattle.collate_run.specs.Watched.{watched_inner}
 use Rattle.uses.proofs.AnswerLemmas.{of_any}
 use Rattle.uses.proofs.FileLemmas.{records_read}
 use Rattle.uses.proofs.RunLemmas.{replied}
@@ -16,4 +14,8 @@ returns-clause-accepted g c =
     (records_read c.args.file.now c.read.result c.in_ok-records.records c.in_ok-records.ensures.value c.read.ensures).0
 
 pub returns-clause-replies : goal.returns-clause-replies
-returns-clause-replies g c = ?
+returns-clause-replies g c =
+    replied _ _ c.run.result c.ok-2.result _ _ _ _ _
+    (ap (λ (lines : List Record). opened lines c.args.preferences.now c.args.options.now)
+    (records_read c.args.file.now c.read.result c.in_ok-records.records c.in_ok-records.ensures.value c.read.ensures).1)
+    c.ok-2.ensures.value (ap (λ (r : Bor (List ℕ)). r.now) c.new-reader.ensures.inner) c.run.ensures.ran
