@@ -45,6 +45,7 @@ equal_is Greater = (λ is. cc, λ is. cc)
 -- an order that is asked for equality tells what its equality says
 pub tells_equal : (order said : Ordering) (are : Bool) (Same : Type 0) → are ≡ is_eq order → order ≡ said → ((said ≡ Equal) ↔ Same)
     → (IsTrue are ↔ Same)
-tells_equal order said are Same asked is law =
-    (λ holds. law.0 (sym is ∙ (equal_is order).0 (sym asked ∙ holds)),
-    λ holds. asked ∙ (equal_is order).1 (is ∙ law.1 holds))
+tells_equal order said are Same asked is law = (
+  λ holds. law.0 (sym is ∙ (equal_is order).0 (sym asked ∙ holds)),
+  λ holds. asked ∙ (equal_is order).1 (is ∙ law.1 holds),
+)

@@ -20,9 +20,7 @@ fn key_by_collator(alloc: Global, collator: &CollatorBorrowed<'_>, text: &[u8]) 
     ensures { IfSome result (λ key. key.items ≡ key_by collator.now (utf8_chars text.now)) }
 {
     let mut key = Vec::new(alloc);
-    collator
-        .write_sort_key_utf8_to(alloc, text, &mut key)
-        .ok()?;
+    collator.write_sort_key_utf8_to(alloc, text, &mut key).ok()?;
     Some(key)
 }
 

@@ -111,7 +111,14 @@ fn order_of_decomposed(
 {
     let left = decomposed_by_records(alloc, records, left)?;
     let right = decomposed_by_records(alloc, records, right)?;
-    order_by_records(alloc, records, preferences, options, left.as_str(), right.as_str())
+    order_by_records(
+        alloc,
+        records,
+        preferences,
+        options,
+        left.as_str(),
+        right.as_str(),
+    )
 }
 
 /// How the NFCs of two texts order.
@@ -129,7 +136,14 @@ fn order_of_composed(
 {
     let left = composed_by_records(alloc, records, left)?;
     let right = composed_by_records(alloc, records, right)?;
-    order_by_records(alloc, records, preferences, options, left.as_str(), right.as_str())
+    order_by_records(
+        alloc,
+        records,
+        preferences,
+        options,
+        left.as_str(),
+        right.as_str(),
+    )
 }
 
 /// How two texts order by a records file where each is made NFD first: as the texts themselves do. `None` where the

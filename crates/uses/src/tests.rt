@@ -209,8 +209,14 @@ fn ok_are_equivalent_by_file(rt: HostRuntime) {
     let options = CollatorOptions::default();
     let whole = [0xE1];
     let split = [0x61, 0x301];
-    let texts =
-        equivalence::are_equivalent_by_file(alloc, FILE, preferences, options, "á", "a\u{301}");
+    let texts = equivalence::are_equivalent_by_file(
+        alloc,
+        FILE,
+        preferences,
+        options,
+        "á",
+        "a\u{301}",
+    );
     assert_eq!(rt; texts, Some(true));
     let bytes = equivalence::bytes_are_equivalent_by_file(
         alloc,
@@ -255,11 +261,23 @@ fn ok_order_of_forms_by_file(rt: HostRuntime) {
     let alloc = rt.alloc();
     let preferences = CollatorPreferences::default();
     let options = CollatorOptions::default();
-    let decomposed =
-        normalised::decomposed_order_by_file(alloc, FILE, preferences, options, "b", "á");
+    let decomposed = normalised::decomposed_order_by_file(
+        alloc,
+        FILE,
+        preferences,
+        options,
+        "b",
+        "á",
+    );
     assert_eq!(rt; decomposed, Some(Ordering::Greater));
-    let composed =
-        normalised::composed_order_by_file(alloc, FILE, preferences, options, "a\u{301}", "á");
+    let composed = normalised::composed_order_by_file(
+        alloc,
+        FILE,
+        preferences,
+        options,
+        "a\u{301}",
+        "á",
+    );
     assert_eq!(rt; composed, Some(Ordering::Equal));
 }
 
@@ -269,11 +287,21 @@ fn ok_key_of_forms_by_file(rt: HostRuntime) -> Result<(), Fail> {
     let preferences = CollatorPreferences::default();
     let options = CollatorOptions::default();
     let key = [0x2A, 0x10, 0x01, 0x45, 0x88, 0x01, 0x01, 0x06, 0x01];
-    let decomposed =
-        normalised::decomposed_key_by_file(alloc, FILE, preferences, options, "á").ok_or("none")?;
+    let decomposed = normalised::decomposed_key_by_file(
+        alloc,
+        FILE,
+        preferences,
+        options,
+        "á",
+    ).ok_or("none")?;
     assert_eq!(rt; decomposed.as_slice(), key.as_slice());
-    let composed = normalised::composed_key_by_file(alloc, FILE, preferences, options, "a\u{301}")
-        .ok_or("none")?;
+    let composed = normalised::composed_key_by_file(
+        alloc,
+        FILE,
+        preferences,
+        options,
+        "a\u{301}",
+    ).ok_or("none")?;
     assert_eq!(rt; composed.as_slice(), key.as_slice());
     Ok(())
 }
@@ -282,8 +310,7 @@ fn ok_key_of_forms_by_file(rt: HostRuntime) -> Result<(), Fail> {
 fn ok_index_by_file(rt: HostRuntime) -> Result<(), Fail> {
     let preferences = CollatorPreferences::default();
     let options = CollatorOptions::default();
-    let index =
-        names::index_by_file(rt.alloc(), FILE, &preferences, &options).ok_or("no index")?;
+    let index = names::index_by_file(rt.alloc(), FILE, &preferences, &options).ok_or("no index")?;
     assert_eq!(rt; names::first_name(&index), None);
     Ok(())
 }
@@ -303,8 +330,9 @@ list
     let mut writer = Watched::new(&mut written);
     let preferences = CollatorPreferences::default();
     let options = CollatorOptions::default();
-    runs::reply_by_file(alloc, FILE, &preferences, &options, commands, &mut writer)
-        .ok_or("cut short")?;
+    runs::reply_by_file(alloc, FILE, &preferences, &options, commands, &mut writer).ok_or(
+        "cut short",
+    )?;
     let replies = b"added
 added
 names 2

@@ -16,12 +16,12 @@ returns c =
     let records = c.args.records.now in
     let compiled = of_given (IsCompiledOf records) c.compile.result c.in_ok-provider.provider c.in_ok-provider.ensures.value c.compile.ensures in
     let made = c.compiled_tables_make_canonical_normalizers.ensures records c.in_ok-provider.provider c.try_new_nfd_unstable.result
-        c.keep_rules.ensures.accepted compiled c.try_new_nfd_unstable.ensures in
+    c.keep_rules.ensures.accepted compiled c.try_new_nfd_unstable.ensures in
     let is = subst (λ r. MatchResult r (IsCanonicalNormalizerOf records) (λ error. error ≡ Memory))
-        (ok_gives c.try_new_nfd_unstable.result c.in_ok-normalizer.normalizer c.in_ok-normalizer.ensures.value) made in
+    (ok_gives c.try_new_nfd_unstable.result c.in_ok-normalizer.normalizer c.in_ok-normalizer.ensures.value) made in
     let normal : cow_str_bytes c.in_ok-form.form ≡ decomposed_text (normalizer_data c.as_borrowed.result) c.args.text.now =
-        subst (λ r. IfOk r (λ form. cow_str_bytes form ≡ decomposed_text (normalizer_data c.as_borrowed.result) c.args.text.now))
-        (ok_gives c.normalize.result c.in_ok-form.form c.in_ok-form.ensures.value) c.normalize.ensures.normal in
+    subst (λ r. IfOk r (λ form. cow_str_bytes form ≡ decomposed_text (normalizer_data c.as_borrowed.result) c.args.text.now))
+    (ok_gives c.normalize.result c.in_ok-form.form c.in_ok-form.ensures.value) c.normalize.ensures.normal in
     of_ok
     (λ form. string_bytes form ≡ cow_str_bytes c.in_ok-form.form)
     (λ form. string_bytes form ≡ decomposed_text (canonical_of records) c.args.text.now)

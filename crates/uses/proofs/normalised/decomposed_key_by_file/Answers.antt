@@ -19,7 +19,7 @@ returns-clause-key c =
     let records = c.in_ok-records.records in
     let read = records_read file c.read.result records c.in_ok-records.ensures.value c.read.ensures in
     let good = decomposed_good file c.args.options c.args.preferences read.0 text c.utf8.text
-        (c.normalising_first_is_as_good.ensures.decomposed file c.args.options c.args.preferences (utf8_chars text) read.0 (c.characters_are_scalars.ensures.utf8 text)) in
+    (c.normalising_first_is_as_good.ensures.decomposed file c.args.options c.args.preferences (utf8_chars text) read.0 (c.characters_are_scalars.ensures.utf8 text)) in
     c.in_ok-key.ensures
     ∙ ap (λ (bytes : List ℕ). key_of_text (collation_of records) (resolved_options c.args.options c.args.preferences (settings_of records)) (utf8_chars bytes))
     (c.as_str.ensures.value ∙ c.in_ok-form.ensures)
