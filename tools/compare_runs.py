@@ -4,9 +4,10 @@
   compare_runs.py ORACLE [RUNS [SEED [PROCESSES]]]
 
 ORACLE is a folder with an independent reading of the definitions in Python, which isn't part of this repository: a module
-`model` (`read`, `Fault`, `choice`, `serve`). There are 10,000 runs unless RUNS says otherwise, over random records files, words
+`model` (`read`, `Fault`, `choice`, `serve`, `decode_utf8`, `Index`). There are 10,000 runs unless RUNS says otherwise, over random records files, words
 and commands (tools/random_runs.py), ten over each file. crates/collate has to be built (`./collate` at the top; COLLATE names
-another executable). How often each reply was given is printed, and each run that differs; the status is then 1.
+another executable). How often each reply was given is printed, and what reloads did: whether a setting changed, and by how
+many mapping steps a touched name reaches the nearest changed character. So is each run that differs; the status is then 1.
 """
 import collections
 import multiprocessing
@@ -56,12 +57,46 @@ def kinds(answer):
             yield 'a key'
 
 
+def steps_to_a_change(old, new, characters):
+    """How many mapping steps of old records bring the nearest changed character into a text; None where none does."""
+    seen, here, steps = set(), set(characters), 0
+    while here:
+        if any(old.changed(new, character) for character in here):
+            return steps
+        seen |= here
+        here = {next_one for character in here for next_one in old.step(character) or ()} - seen
+        steps += 1
+    return None
+
+
+def watch_reloads(oracle, counts):
+    """Counts what the other program's reloads do, from now on."""
+    reload = oracle.Index.reload
+
+    def watched(index, data, *more):
+        old, names = index.records, index.list()
+        made = reload(index, data, *more)
+        if isinstance(made, oracle.Fault):
+            return made
+        if not old.settings_equal(index.records):
+            counts['reload that changes a setting'] += 1
+            return made
+        counts['reload that changes no setting'] += 1
+        for name in names:
+            steps = steps_to_a_change(old, index.records, oracle.decode_utf8(name))
+            counts['name that is not touched' if steps is None else f'name touched by {steps} steps'] += 1
+        return made
+    oracle.Index.reload = watched
+
+
 def compared(asked):
     """How often each kind of line is given to the runs of a seed, and the runs whose answers differ."""
     folder, seed, count = asked
     sys.path.insert(0, folder)
     import model as oracle
     source, counts, different = random.Random(seed), collections.Counter(), []
+    reload = oracle.Index.reload
+    watch_reloads(oracle, counts)
     lines, is_cut, texts = random_records(source, oracle.read, lambda said: isinstance(said, oracle.Fault))
     with tempfile.TemporaryDirectory() as place:
         path = os.path.join(place, 'records')
@@ -74,6 +109,7 @@ def compared(asked):
             counts.update(kinds(right))
             if right != given:
                 different.append((lines, words, commands, right, given))
+    oracle.Index.reload = reload
     return counts, different
 
 
@@ -90,7 +126,7 @@ def main(words):
             different += len(differing)
             for fault in differing[:3] if different < 10 else []:
                 print(*fault, sep='\n  ')
-    for kind, count in counts.most_common(30):
+    for kind, count in counts.most_common(40):
         print(f'{kind}: {count}')
     print(f'{runs} runs, {different} differ')
     return different != 0

@@ -82,6 +82,36 @@ def random_command(source, names):
     return source.choice(OTHER_LINES)
 
 
+def beneath_a_mapping(source, records):
+    """A character that has a mapping, and one that its mapping steps bring in, mostly by two steps where there are two; None for
+    both where no character has one."""
+    steps = {fields[1]: [word for word in fields[2:] if word != 'x'] for line in records
+             if (fields := line.split(' '))[0] == 'map' and len(fields) > 2}
+    if not steps:
+        return None, None
+    deep = [c for c in steps if any(part in steps for part in steps[c])]
+    whole = source.choice(deep if deep and source.random() < 0.7 else [*steps])
+    part = source.choice(steps[whole])
+    for further in [c for c in steps[whole] if c in steps and source.random() < 0.8][:1]:
+        part = source.choice(steps[further])
+    return whole, part
+
+
+def touching_reload(source, records):
+    """A reload that gives other elements to a character which a name reaches by its mapping steps, and the name's arrival."""
+    whole, part = beneath_a_mapping(source, records)
+    if not whole or not part or not 0 < int(whole, 16) < 0x110000 or 0xD800 <= int(whole, 16) < 0xE000:
+        return records, []
+    elements = source.choice([line.partition(';')[2] for line in records if line[:2] == 'w '] or [' [2A100000.0500.0.0500.0]'])
+    records = [line for line in records if not line.startswith(f'w {part} ;')] + [f'w {part} ;{elements}']
+    return records, [b'add ' + chr(int(whole, 16)).encode().replace(b'\n', b''), *reload_lines(records, len(records))]
+
+
+def reload_lines(records, count):
+    """The command that loads a file's lines, and these."""
+    return [b'reload %d' % max(count, 0), *(line.encode('utf-8', 'surrogateescape') for line in records)]
+
+
 def random_reload(source, records):
     """The lines of a file: a file's own, mostly a few changes apart, or of another; and the command that loads them, by a count
     that now and then is wrong."""
@@ -93,8 +123,7 @@ def random_reload(source, records):
     elif kind < 0.9:
         records = random_file(source)[0]
     count = len(records) + (source.choice([-1, 1, 2, 40]) if source.random() < 0.03 else 0)
-    lines = [b'reload %d' % max(count, 0), *(line.encode('utf-8', 'surrogateescape') for line in records)]
-    return records, lines
+    return records, reload_lines(records, count)
 
 
 def random_lines(source, names, records):
@@ -104,7 +133,7 @@ def random_lines(source, names, records):
         if source.random() < 0.93:
             lines.append(random_command(source, names))
             continue
-        changed, reload = random_reload(source, records)
+        changed, reload = source.choice([random_reload, random_reload, touching_reload])(source, records)
         records = changed if source.random() < 0.5 else records
         lines += [*reload, b'list']
     return lines

@@ -1,8 +1,17 @@
 -- What collators and normalisers over the tables of an accepted file answer, in the words of the file.
-use Rattle.std.proofs.Common.{◌≡◌, ℕ, List, sym, ap, ◌∙◌}
+use Rattle.std.proofs.Common.{◌≡◌, ℕ, List, Some, sym, ap, subst, ◌∙◌}
+use Rattle.std.specs.Prelude.{Result}
+use Rattle.std.specs.Result.{result_ok}
+use Rattle.std.specs.Str.{IsUtf8}
 use Rattle.std.specs.declared.cmp.Ordering.{Ordering}
+use Rattle.icu_normalizer_core.specs.Canonical.{composed, decomposed}
 use Rattle.icu_normalizer_core.specs.Decoding.{utf8_chars}
 use Rattle.icu_normalizer_core.proofs.DecodedLemmas.{utf8_scalars}
+use Rattle.icu_normalizer_core.proofs.DecomposedLemmas.{decomposed_all_scalars}
+use Rattle.icu_normalizer_core.proofs.TextLemmas.{utf8_text}
+use Rattle.icu_normalizer.specs.TextForms.{composed_text, decomposed_text}
+use Rattle.icu_normalizer.proofs.FormLawLemmas.{bytes_composed, bytes_decomposed}
+use Rattle.icu_normalizer.proofs.equivalence.NormalFormLemmas.{composed_scalars}
 use Rattle.icu_collator_types.specs.Options.{resolved_options}
 use Rattle.icu_collator_types.specs.declared.options.CollatorOptions.{CollatorOptions}
 use Rattle.icu_collator_types.specs.declared.options.CollatorPreferences.{CollatorPreferences}
@@ -12,11 +21,55 @@ use Rattle.icu_collator.specs.Collators.{CollatorParts, borrowed_collation, borr
 use Rattle.icu_collator.specs.KeyBytes.{key_of_text}
 use Rattle.icu_collator.specs.Order.{collation_order}
 use Rattle.icu_collator.specs.declared.comparison.borrowed.CollatorBorrowed.{CollatorBorrowed}
+use Rattle.collate_lines.specs.Lines.{records_of}
 use Rattle.collate_lines.specs.Record.{Record}
+use Rattle.collate_lines.specs.declared.rule.RecordsError.{RecordsError}
+use Rattle.collate_records.specs.Files.{IsAccepted, IsReadFrom}
+use Rattle.collate_records.proofs.reading.AcceptedLemmas.{accepted_lines}
 use Rattle.collate_rules.specs.Accepted.{AreAccepted}
 use Rattle.collate_rules.specs.Meaning.{collation_of, settings_of}
 use Rattle.collate_laws.specs.OverRecords.{IsCollatorOf}
 use Rattle.collate_laws.proofs.AnswerLemmas.{keys, orders}
+use Rattle.collate_laws.proofs.FormLemmas.{accepted_canonical}
+use Rattle.collate_file_laws.specs.Files.{IsAsGood, file_canonical, file_order}
+use Rattle.uses.proofs.AnswerLemmas.{ok_gives}
+
+-- records that were read are those of an accepted file
+pub records_read : (file : List ℕ) (result : Result (List Record) RecordsError) (records : List Record) → Some records ≡ result_ok result
+    → IsReadFrom file result → IsAccepted file × (records ≡ records_of file)
+records_read file result records is read = subst (IsReadFrom file) (ok_gives result records is) read
+
+-- ## Normal forms of texts
+
+module _ (file : List ℕ) (options : CollatorOptions) (preferences : CollatorPreferences) where
+  -- texts that are as good as others order as they do
+  pub good_order_alike : (a b x y : List ℕ) → IsAsGood file options preferences a x → IsAsGood file options preferences b y
+      → file_order file options preferences a b ≡ file_order file options preferences x y
+  good_order_alike a b x y first second = first.left b ∙ second.right x
+
+  module _ (accepted : IsAccepted file) (text : List ℕ) (whole : IsUtf8 text) where
+    -- the NFD of a text, read as characters
+    pub decomposed_read : utf8_chars (decomposed_text (file_canonical file) text) ≡ decomposed (file_canonical file) (utf8_chars text)
+    decomposed_read =
+        ap utf8_chars (sym (bytes_decomposed (file_canonical file) text whole))
+        ∙ utf8_text _ (decomposed_all_scalars (file_canonical file) (utf8_chars text) (accepted_canonical (records_of file) (accepted_lines file accepted)).decomposing (utf8_scalars text))
+
+    -- and its NFC
+    pub composed_read : utf8_chars (composed_text (file_canonical file) text) ≡ composed (file_canonical file) (utf8_chars text)
+    composed_read =
+        ap utf8_chars (sym (bytes_composed (file_canonical file) text whole))
+        ∙ utf8_text _ (composed_scalars (file_canonical file) (utf8_chars text) (accepted_canonical (records_of file) (accepted_lines file accepted)) (utf8_scalars text))
+
+    -- so a form is as good as its text where its characters are
+    pub decomposed_good : IsAsGood file options preferences (decomposed (file_canonical file) (utf8_chars text)) (utf8_chars text)
+        → IsAsGood file options preferences (utf8_chars (decomposed_text (file_canonical file) text)) (utf8_chars text)
+    decomposed_good good = subst (λ (x : List ℕ). IsAsGood file options preferences x (utf8_chars text)) (sym decomposed_read) good
+
+    pub composed_good : IsAsGood file options preferences (composed (file_canonical file) (utf8_chars text)) (utf8_chars text)
+        → IsAsGood file options preferences (utf8_chars (composed_text (file_canonical file) text)) (utf8_chars text)
+    composed_good good = subst (λ (x : List ℕ). IsAsGood file options preferences x (utf8_chars text)) (sym composed_read) good
+
+-- ## Orders and keys
 
 module _ (records : List Record) (options : CollatorOptions) (preferences : CollatorPreferences) (collator : CollatorParts) (borrowed : CollatorBorrowed)
     (accepted : AreAccepted records) (is : IsCollatorOf records options preferences collator)

@@ -9,10 +9,9 @@ ghost use Rattle.collate_lines.specs.Lines.{records_of};
 ghost use Rattle.collate_records.specs.Files.{IsAccepted};
 ghost use Rattle.collate_rules.specs.Meaning.{canonical_of, collation_of, settings_of};
 
-use collate_laws::alike::normalizers_give_forms_of_records;
+use crate::normalised::composed_by_records;
 use collate_laws::{
-    collators_order_as_records_say, collators_write_keys_of_records,
-    compiled_tables_make_canonical_normalizers, compiled_tables_make_collators,
+    collators_order_as_records_say, collators_write_keys_of_records, compiled_tables_make_collators,
 };
 use collate_records::compile::compile;
 use collate_records::records::Records;
@@ -20,7 +19,6 @@ use icu_collator::laws_collators::characters_are_scalars;
 use icu_collator::options::CollatorOptions;
 use icu_collator::{Collator, CollatorPreferences};
 use icu_collections::codepointtrie::TrieType;
-use icu_normalizer::composing::ComposingNormalizer;
 use std::alloc::Global;
 use std::cmp::Ordering;
 
@@ -81,11 +79,5 @@ pub fn composed_by_file(alloc: Global, file: &[u8], text: &str) -> Option<String
     ensures form { IfSome result (λ form. string_bytes form ≡ composed_text (canonical_of (records_of file.now)) text.now) }
 {
     let records = Records::read(alloc, file).ok()?;
-    let provider = compile(alloc, &records, TrieType::Fast).ok()?;
-    let normalizer = ComposingNormalizer::try_new_nfc_unstable(alloc, &provider).ok()?;
-    records.keep_rules();
-    compiled_tables_make_canonical_normalizers();
-    normalizers_give_forms_of_records();
-    let form = normalizer.as_borrowed().normalize(alloc, text).ok()?;
-    form.into_owned(alloc).ok()
+    composed_by_records(alloc, &records, text)
 }

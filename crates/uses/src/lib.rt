@@ -12,15 +12,23 @@ pub mod comparisons;
 #[cfg(test)]
 pub mod decoded;
 #[cfg(test)]
+pub mod equivalence;
+#[cfg(test)]
+pub mod keys;
+#[cfg(test)]
 pub mod names;
 #[cfg(test)]
 pub mod normal_forms;
+#[cfg(test)]
+pub mod normalised;
 #[cfg(test)]
 pub mod options;
 #[cfg(test)]
 pub mod packed;
 #[cfg(test)]
 pub mod records;
+#[cfg(test)]
+pub mod runs;
 #[cfg(test)]
 pub mod sets;
 #[cfg(test)]

@@ -1,11 +1,12 @@
 //! The index: putting names into it and taking one out, looking for names, listing them, and putting other records into it.
-ghost use Rattle.std.specs.Prelude.{◌≡◌, ◌≢◌, ◌↔◌, ◌∷◌, [], length, slice_get, IfOk, IsTrue, MatchBool};
+ghost use Rattle.std.specs.Prelude.{◌≡◌, ◌≢◌, ◌↔◌, ◌∷◌, [], length, slice_get, IfOk, IfSome, IsTrue, MatchBool};
 ghost use Rattle.std.specs.Bool.{OnFalse, OnTrue};
 ghost use Rattle.std.specs.List.{Contains};
 ghost use Rattle.std.specs.Option.{option_copied};
-ghost use Rattle.collate_index.specs.Catalogue.{order_of, reloaded, sorted_names, without_name};
+ghost use Rattle.collate_index.specs.Catalogue.{opened, order_of, reloaded, sorted_names, without_name};
 ghost use Rattle.collate_index.specs.Names.{equal_names, names_between};
 ghost use Rattle.collate_lines.specs.Lines.{records_of};
+ghost use Rattle.collate_records.specs.Files.{IsAccepted};
 
 use collate_index::index::{AddError, Index};
 use collate_records::records::Records;
@@ -19,6 +20,20 @@ const PREFERENCES: CollatorPreferences<'static> = CollatorPreferences {
     case_first: None,
     numeric_ordering: None,
 };
+
+/// An index with no names over a records file; `None` where the file breaks a rule, or memory is refused.
+pub fn index_by_file(
+    alloc: Global,
+    file: &[u8],
+    preferences: &CollatorPreferences<'_>,
+    options: &CollatorOptions,
+) -> Option<Index>
+    ensures accepted { IfSome result (λ _. IsAccepted file.now) }
+    ensures opened { IfSome result (λ index. index ≡ opened (records_of file.now) preferences.now options.now) }
+{
+    let records = Records::read(alloc, file).ok()?;
+    Index::new(alloc, records, preferences, options).ok()
+}
 
 /// An index of two names, which are not the same bytes.
 pub fn index_of_two(

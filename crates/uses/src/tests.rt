@@ -1,10 +1,11 @@
 //! Each public function is called once here, one test a subject.
 
 use crate::{
-    code_point_tries, collations, comparisons, decoded, names, normal_forms, options, packed,
-    records, sets, unit_tries,
+    code_point_tries, collations, comparisons, decoded, equivalence, keys, names, normal_forms,
+    normalised, options, packed, records, runs, sets, unit_tries,
 };
 use collate_records::records::Records;
+use collate_run::watched::Watched;
 use icu_collator::CollatorPreferences;
 use icu_collator::options::CollatorOptions;
 use icu_collator_types::options::{FileSettings, Strength};
@@ -190,4 +191,158 @@ fn ok_bytes_order_by_file(rt: HostRuntime) {
         &letter,
     );
     assert_eq!(rt; mixed, Some(Ordering::Equal));
+}
+
+#[test]
+fn ok_key_order_by_file(rt: HostRuntime) {
+    let preferences = CollatorPreferences::default();
+    let options = CollatorOptions::default();
+    let accented = "á".as_bytes();
+    let order = keys::key_order_by_file(rt.alloc(), FILE, preferences, options, b"b", accented);
+    assert_eq!(rt; order, Some(Ordering::Greater));
+}
+
+#[test]
+fn ok_are_equivalent_by_file(rt: HostRuntime) {
+    let alloc = rt.alloc();
+    let preferences = CollatorPreferences::default();
+    let options = CollatorOptions::default();
+    let whole = [0xE1];
+    let split = [0x61, 0x301];
+    let texts = equivalence::are_equivalent_by_file(
+        alloc,
+        FILE,
+        preferences,
+        options,
+        "á",
+        "a\u{301}",
+    );
+    assert_eq!(rt; texts, Some(true));
+    let bytes = equivalence::bytes_are_equivalent_by_file(
+        alloc,
+        FILE,
+        preferences,
+        options,
+        b"\xFF",
+        b"a",
+    );
+    assert_eq!(rt; bytes, Some(false));
+    let units = equivalence::units_are_equivalent_by_file(
+        alloc,
+        FILE,
+        preferences,
+        options,
+        &whole,
+        &split,
+    );
+    assert_eq!(rt; units, Some(true));
+    let latin1 = equivalence::latin1_are_equivalent_by_file(
+        alloc,
+        FILE,
+        preferences,
+        options,
+        b"\xE1",
+        b"a",
+    );
+    assert_eq!(rt; latin1, Some(false));
+    let mixed = equivalence::latin1_units_are_equivalent_by_file(
+        alloc,
+        FILE,
+        preferences,
+        options,
+        b"\xE1",
+        &split,
+    );
+    assert_eq!(rt; mixed, Some(true));
+}
+
+#[test]
+fn ok_order_of_forms_by_file(rt: HostRuntime) {
+    let alloc = rt.alloc();
+    let preferences = CollatorPreferences::default();
+    let options = CollatorOptions::default();
+    let decomposed = normalised::decomposed_order_by_file(
+        alloc,
+        FILE,
+        preferences,
+        options,
+        "b",
+        "á",
+    );
+    assert_eq!(rt; decomposed, Some(Ordering::Greater));
+    let composed = normalised::composed_order_by_file(
+        alloc,
+        FILE,
+        preferences,
+        options,
+        "a\u{301}",
+        "á",
+    );
+    assert_eq!(rt; composed, Some(Ordering::Equal));
+}
+
+#[test]
+fn ok_key_of_forms_by_file(rt: HostRuntime) -> Result<(), Fail> {
+    let alloc = rt.alloc();
+    let preferences = CollatorPreferences::default();
+    let options = CollatorOptions::default();
+    let key = [0x2A, 0x10, 0x01, 0x45, 0x88, 0x01, 0x01, 0x06, 0x01];
+    let decomposed = normalised::decomposed_key_by_file(
+        alloc,
+        FILE,
+        preferences,
+        options,
+        "á",
+    ).ok_or("none")?;
+    assert_eq!(rt; decomposed.as_slice(), key.as_slice());
+    let composed = normalised::composed_key_by_file(
+        alloc,
+        FILE,
+        preferences,
+        options,
+        "a\u{301}",
+    ).ok_or("none")?;
+    assert_eq!(rt; composed.as_slice(), key.as_slice());
+    Ok(())
+}
+
+#[test]
+fn ok_index_by_file(rt: HostRuntime) -> Result<(), Fail> {
+    let preferences = CollatorPreferences::default();
+    let options = CollatorOptions::default();
+    let index = names::index_by_file(rt.alloc(), FILE, &preferences, &options).ok_or("no index")?;
+    assert_eq!(rt; names::first_name(&index), None);
+    Ok(())
+}
+
+#[test]
+fn ok_reply_by_file(rt: HostRuntime) -> Result<(), Fail> {
+    let alloc = rt.alloc();
+    let commands = b"add b
+add a
+list
+reload 2
+w 0061 ; [2A300000.0500.0.0500.0]
+w 0062 ; [2A200000.0500.0.0500.0]
+list
+";
+    let mut written = Vec::new(alloc);
+    let mut writer = Watched::new(&mut written);
+    let preferences = CollatorPreferences::default();
+    let options = CollatorOptions::default();
+    runs::reply_by_file(alloc, FILE, &preferences, &options, commands, &mut writer).ok_or(
+        "cut short",
+    )?;
+    let replies = b"added
+added
+names 2
+a
+b
+reloaded 1
+names 2
+b
+a
+";
+    assert_eq!(rt; written.as_slice(), replies.as_slice());
+    Ok(())
 }

@@ -1,41 +1,24 @@
-use Rattle.std.proofs.Common.{◌≡◌, List, ap, ◌∙◌, string_bytes, subst}
-use Rattle.std.specs.Prelude.{Result, Ok, IfOk, MatchResult}
-use Rattle.std.specs.Cow.{cow_str_bytes}
-use Rattle.icu_normalizer_core.specs.Canonical.{Canonical}
-use Rattle.icu_normalizer_core.specs.declared.provider.error.DataError.TheVariants.{Memory}
-use Rattle.icu_normalizer.specs.Normalizers.{composing_data}
+use Rattle.std.proofs.Common.{◌≡◌, List, ap, ◌∙◌, string_bytes}
 use Rattle.icu_normalizer.specs.TextForms.{composed_text}
 use Rattle.collate_lines.specs.Lines.{records_of}
 use Rattle.collate_lines.specs.Record.{Record}
-use Rattle.collate_records.specs.CompiledOf.{IsCompiledOf}
-use Rattle.collate_records.specs.Files.{IsAccepted, IsReadFrom}
+use Rattle.collate_records.specs.Files.{IsAccepted}
 use Rattle.collate_rules.specs.Meaning.{canonical_of}
-use Rattle.collate_laws.specs.OverRecords.{IsCanonicalNormalizerOf}
-use Rattle.uses.proofs.AnswerLemmas.{of_any, of_ok, ok_gives}
+use Rattle.uses.proofs.AnswerLemmas.{of_any, of_some}
+use Rattle.uses.proofs.FileLemmas.{records_read}
 use Rattle.uses.proofs.collations.composed_by_file.Goals as goal
 
 pub returns-clause-accepted : goal.returns-clause-accepted
 returns-clause-accepted c =
-    let read = subst (IsReadFrom c.args.file.now) (ok_gives c.read.result c.in_ok-records.records c.in_ok-records.ensures.value) c.read.ensures in
-    of_any (IsAccepted c.args.file.now) c.ok-5.result read.0
+    of_any (IsAccepted c.args.file.now) c.composed_by_records.result
+    (records_read c.args.file.now c.read.result c.in_ok-records.records c.in_ok-records.ensures.value c.read.ensures).0
 
 pub returns-clause-form : goal.returns-clause-form
 returns-clause-form c =
-    let records = c.in_ok-records.records in
-    let read = subst (IsReadFrom c.args.file.now) (ok_gives c.read.result records c.in_ok-records.ensures.value) c.read.ensures in
-    let compiled = subst (λ r. IfOk r (IsCompiledOf records)) (ok_gives c.compile.result c.in_ok-provider.provider c.in_ok-provider.ensures.value) c.compile.ensures in
-    let made = c.compiled_tables_make_canonical_normalizers.ensures records c.in_ok-provider.provider c.try_new_nfc_unstable.result
-    c.keep_rules.ensures.accepted compiled c.try_new_nfc_unstable.ensures in
-    let is = subst (λ r. MatchResult r (IsCanonicalNormalizerOf records) (λ error. error ≡ Memory))
-    (ok_gives c.try_new_nfc_unstable.result c.in_ok-normalizer.normalizer c.in_ok-normalizer.ensures.value) made in
-    let normal : cow_str_bytes c.in_ok-form.form ≡ _ =
-    subst (λ r. IfOk r (λ form. cow_str_bytes form ≡ composed_text (composing_data c.as_borrowed.result) c.args.text.now)) (ok_gives c.normalize.result c.in_ok-form.form c.in_ok-form.ensures.value) c.normalize.ensures.normal in
-    of_ok
-    (λ form. string_bytes form ≡ cow_str_bytes c.in_ok-form.form)
+    of_some
+    (λ form. string_bytes form ≡ composed_text (canonical_of c.in_ok-records.records) c.args.text.now)
     (λ form. string_bytes form ≡ composed_text (canonical_of (records_of c.args.file.now)) c.args.text.now)
-    c.into_owned.result c.ok-5.result c.ok-5.ensures.value c.into_owned.ensures.ok
-    (λ form said.
-    said ∙ normal
-    ∙ ap (λ (canonical : Canonical). composed_text canonical c.args.text.now) c.as_borrowed.ensures.data
-    ∙ c.normalizers_give_forms_of_records.ensures.composed_text records c.in_ok-normalizer.normalizer c.args.text.now c.keep_rules.ensures.accepted is c.utf8.text
-    ∙ ap (λ (lines : List Record). composed_text (canonical_of lines) c.args.text.now) read.1)
+    c.composed_by_records.result c.composed_by_records.ensures
+    (λ form said. said
+    ∙ ap (λ (lines : List Record). composed_text (canonical_of lines) c.args.text.now)
+    (records_read c.args.file.now c.read.result c.in_ok-records.records c.in_ok-records.ensures.value c.read.ensures).1)
