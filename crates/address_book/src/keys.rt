@@ -5,8 +5,9 @@ ghost use Rattle.icu_normalizer_core.specs.Decoding.{utf8_chars};
 ghost use Rattle.icu_collator_types.specs.declared.options.Strength.TheVariants.{Primary};
 ghost use Rattle.icu_collator.specs.CollatorAnswers.{key_by};
 
-use icu_collator::CollatorBorrowed;
 use icu_collator::options::{CollatorOptions, Strength};
+use icu_collator::provider::CollatorProvider;
+use icu_collator::{Collator, CollatorBorrowed, CollatorPreferences};
 use sqlite::{Error, ErrorCode};
 use std::alloc::Global;
 
@@ -29,14 +30,19 @@ pub fn letters_alone() -> CollatorOptions
     }
 }
 
+/// A collator over a provider's tables; `None` where memory is refused, or the tables are.
+pub fn collator_over<P: CollatorProvider>(
+    alloc: Global,
+    provider: &P,
+    options: CollatorOptions,
+) -> Option<Collator<'_>> {
+    Collator::try_new_unstable(alloc, provider, CollatorPreferences::default(), options).ok()
+}
+
 /// The sort key of a name.
 ///
 /// Errors: want of memory, as the database names it.
-pub fn key_of(
-    alloc: Global,
-    collator: &CollatorBorrowed<'_>,
-    name: &str,
-) -> Result<Vec<u8>, Error>
+pub fn key_of(alloc: Global, collator: &CollatorBorrowed<'_>, name: &str) -> Result<Vec<u8>, Error>
     ensures { IfOk result (λ key. key.items ≡ key_by collator.now (utf8_chars name.now)) }
 {
     let mut key = Vec::new(alloc);

@@ -12,11 +12,12 @@ mod keys;
 
 use book::{ask, fill};
 use collate_lines::rule::RecordsError;
+use collate_records::compile::compile;
 use collate_records::records::Records;
-use keys::{Keying, letters_alone};
-use collate_index::collators::collator_of;
+use icu_codepointtrie::TrieType;
 use icu_collator::options::CollatorOptions;
-use icu_collator::CollatorPreferences;
+use icu_collator::provider::CollatorProvider;
+use keys::{Keying, collator_over, letters_alone};
 use sqlite::{Alter, Connection};
 use std::process::ExitCode;
 use std::{env, fs, io};
@@ -83,19 +84,15 @@ fn open_and_ask(
     Ok(closed?)
 }
 
-/// The same by keys of the records of a file.
-fn ask_by_file(
+/// The same by keys that a provider's tables give.
+fn ask_by_tables<P: CollatorProvider>(
     rt: &HostRuntime,
-    file: &str,
+    provider: &P,
     path: &str,
     asked: &Asked<'_>,
 ) -> Result<(), Fault> {
-    let alloc = rt.alloc();
-    let bytes = fs::read(rt, file)?;
-    let records = Records::read(alloc, &bytes)?;
-    let preferences = CollatorPreferences::default();
-    let all = collator_of(alloc, &records, preferences, CollatorOptions::default()).ok();
-    let letters = collator_of(alloc, &records, preferences, letters_alone()).ok();
+    let all = collator_over(rt.alloc(), provider, CollatorOptions::default());
+    let letters = collator_over(rt.alloc(), provider, letters_alone());
     let Some((all, letters)) = all.zip(letters) else {
         return Err(Fault::Refused(RecordsError::Memory));
     };
@@ -104,6 +101,16 @@ fn ask_by_file(
         letters: letters.as_borrowed(),
     };
     open_and_ask(rt, path, &keying, asked)
+}
+
+/// The same by the records of a file.
+fn ask_by_file(rt: &HostRuntime, file: &str, path: &str, asked: &Asked<'_>) -> Result<(), Fault> {
+    let bytes = fs::read(rt, file)?;
+    let records = Records::read(rt.alloc(), &bytes)?;
+    match compile(rt.alloc(), &records, TrieType::Fast) {
+        Ok(provider) => ask_by_tables(rt, &provider, path, asked),
+        Err(_) => Err(Fault::Refused(RecordsError::Memory)),
+    }
 }
 
 /// Does what the words say.
