@@ -1,5 +1,5 @@
 -- What the values of a context say of its entries.
-use Rattle.std.proofs.Common.{◌≡◌, ◌↔◌, ℕ, ℤ, ◌+◌, ◌-◌, ◌^◌, ◌<◌, ◌≤◌, Bool, List, length, drop, get_or, Option, Some, None, refl, sym, ◌∙◌, subst, arith, ⊎_elim, length-drop}
+use Rattle.std.proofs.Common.{◌≡◌, ◌↔◌, ℕ, ℤ, ◌+◌, ◌^◌, ◌<◌, ◌≤◌, Bool, List, length, get_or, Option, Some, None, refl, sym, ◌∙◌, subst, arith, ⊎_elim, length-drop}
 use Rattle.std.specs.Bool.{IsTrue}
 use Rattle.std.specs.Prelude.{fold}
 use Rattle.std.specs.Int.{cast_unsigned, w32}
@@ -8,8 +8,7 @@ use Rattle.std.specs.Option.{MatchOption}
 use Rattle.std.proofs.lemmas.Bool.{cases_lt}
 use Rattle.std.proofs.lemmas.List.{get_or_default}
 use Rattle.icu_char16trie.specs.KeyFolds.{AreFolded}
-use Rattle.icu_char16trie.specs.UnitGrammar.{IsUnitTrie, IsWithin}
-use Rattle.icu_char16trie.specs.UnitMaps.{MapsKey, at_node}
+use Rattle.icu_char16trie.specs.UnitGrammar.{IsUnitTrie}
 use Rattle.icu_collator_core.specs.Pools.{trie_of}
 use Rattle.icu_collator_core.specs.WordForms.{AreReadable, EntriesPass, by_word}
 
