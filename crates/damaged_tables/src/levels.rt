@@ -5,7 +5,6 @@ use std::alloc::Global;
 use std::cmp::Ordering;
 
 /// The levels, each a list of weights.
-#[derive(Drop)]
 pub struct Levels {
     /// Primaries, in the place of which others may stand.
     pub primaries: Vec<u32>,
@@ -19,6 +18,20 @@ pub struct Levels {
     pub quaternaries: Vec<u32>,
     /// The characters of the decomposed list; U+FFFE is 0, others are one more.
     pub characters: Vec<u32>,
+}
+
+// (let go of as one, and not part by part, so that what owns one is proved sooner)
+impl Drop for Levels {
+    fn drop(self) {
+        let Levels {
+            primaries: _,
+            compressible: _,
+            secondaries: _,
+            tertiaries: _,
+            quaternaries: _,
+            characters: _,
+        } = self;
+    }
 }
 
 /// The primary that stands in the place of another.
