@@ -63,7 +63,7 @@ fn is_compressible(special_primaries: &CollationSpecialPrimaries<'_>, lead: u32)
         return (0x61 <= lead && lead <= 0x80) || lead == 0xfe;
     }
     let word = words.get(4 + (lead >> 4) as usize % 16).unwrap_or(0);
-    word >> (lead & 15) & 1 == 1
+    (word >> (lead % 16)) & 1 == 1
 }
 
 impl Levels {
