@@ -25,7 +25,7 @@ impl<E> Answer<E> {
         match self {
             Answer::Refused(_) => Answer::Refused(()),
             Answer::Answered => Answer::Answered,
-            Answer::Misread(call) => Answer::Misread(call),
+            Answer::Misread(call) => Answer::Misread(*call),
         }
     }
 }

@@ -146,7 +146,11 @@ fn syllable_of(first: char, second: char) -> Option<char> {
     let (first, second) = (first as u32, second as u32);
     if let (Some(leading), Some(vowel)) = (first.checked_sub(0x1100), second.checked_sub(0x1161)) {
         if leading < 19 && vowel < 21 {
-            return char::from_u32(SYLLABLES.0 + (leading * 21 + vowel) * 28);
+            let place = leading
+                .wrapping_mul(21)
+                .wrapping_add(vowel)
+                .wrapping_mul(28);
+            return char::from_u32(SYLLABLES.0.wrapping_add(place));
         }
     }
     let last = second.checked_sub(0x11a7)?;

@@ -63,12 +63,12 @@ pub enum Field {
 impl Field {
     /// Whether it is a trie's: which cells a trie has is left to its builder.
     pub fn is_of_trie(self) -> bool {
-        match self {
-            Field::Canonical(CanonicalField::Index | CanonicalField::Cells) => true,
-            Field::Root(DataField::Index | DataField::Cells) => true,
-            Field::Tailoring(DataField::Index | DataField::Cells) => true,
-            _ => false,
-        }
+        matches!(
+            self,
+            Field::Canonical(CanonicalField::Index | CanonicalField::Cells)
+                | Field::Root(DataField::Index | DataField::Cells)
+                | Field::Tailoring(DataField::Index | DataField::Cells)
+        )
     }
 }
 

@@ -19,11 +19,21 @@ use std::alloc::Global;
 use std::cmp::Ordering;
 
 /// A text, and what the tables mean of it.
-#[derive(Drop)]
 struct Meant {
     text: Encoded,
     levels: Levels,
     key: Vec<u8>,
+}
+
+// (let go of as one, and not part by part, so that what owns one is proved sooner)
+impl Drop for Meant {
+    fn drop(self) {
+        let Meant {
+            text: _,
+            levels: _,
+            key: _,
+        } = self;
+    }
 }
 
 /// What the tables mean of characters.

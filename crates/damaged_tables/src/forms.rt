@@ -11,11 +11,21 @@ use icu_normalizer_core::provider::DataError;
 use std::alloc::Global;
 
 /// A text, and its forms by what the tables mean.
-#[derive(Drop)]
 struct Forms {
     text: Encoded,
     decomposed: Encoded,
     composed: Encoded,
+}
+
+// (let go of as one, and not part by part, so that what owns one is proved sooner)
+impl Drop for Forms {
+    fn drop(self) {
+        let Forms {
+            text: _,
+            decomposed: _,
+            composed: _,
+        } = self;
+    }
 }
 
 /// The forms of a text.

@@ -5,7 +5,6 @@ use std::alloc::Global;
 use std::cmp::Ordering;
 
 /// The levels, each a list of weights.
-#[derive(Drop)]
 pub struct Levels {
     /// Primaries, in the place of which others may stand.
     pub primaries: Vec<u32>,
@@ -19,6 +18,20 @@ pub struct Levels {
     pub quaternaries: Vec<u32>,
     /// The characters of the decomposed list; U+FFFE is 0, others are one more.
     pub characters: Vec<u32>,
+}
+
+// (let go of as one, and not part by part, so that what owns one is proved sooner)
+impl Drop for Levels {
+    fn drop(self) {
+        let Levels {
+            primaries: _,
+            compressible: _,
+            secondaries: _,
+            tertiaries: _,
+            quaternaries: _,
+            characters: _,
+        } = self;
+    }
 }
 
 /// The primary that stands in the place of another.
@@ -50,7 +63,7 @@ fn is_compressible(special_primaries: &CollationSpecialPrimaries<'_>, lead: u32)
         return (0x61 <= lead && lead <= 0x80) || lead == 0xfe;
     }
     let word = words.get(4 + (lead >> 4) as usize % 16).unwrap_or(0);
-    word >> (lead & 15) & 1 == 1
+    (word >> (lead % 16)) & 1 == 1
 }
 
 impl Levels {

@@ -242,8 +242,13 @@ fn invert_bits(rt: &HostRuntime, is_whole: bool) -> io::Result<()> {
         Sample::Letters(TrieType::Small)
     };
     match sample.tables(rt.alloc()) {
-        Some(mut held) if is_whole => invert_each(rt, &mut held),
-        Some(mut held) => invert_all(rt, &mut held),
+        Some(mut held) => {
+            if is_whole {
+                invert_each(rt, &mut held)
+            } else {
+                invert_all(rt, &mut held)
+            }
+        }
         None => println!(rt; "no memory"),
     }
 }

@@ -27,12 +27,18 @@ pub const TEXTS: [&str; 17] = [
 pub const LATIN1_TEXTS: [&[u8]; 5] = [b"", b"a", b"\xe1", b"abc\xe1", b"t12\xff"];
 
 /// A text in each encoding.
-#[derive(Drop)]
 pub struct Encoded {
     /// In UTF-8.
     pub text: String,
     /// In UTF-16.
     pub units: Vec<u16>,
+}
+
+// (let go of as one, and not part by part, so that what owns one is proved sooner)
+impl Drop for Encoded {
+    fn drop(self) {
+        let Encoded { text: _, units: _ } = self;
+    }
 }
 
 /// Characters in each encoding.
