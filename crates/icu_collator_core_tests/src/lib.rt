@@ -2,8 +2,6 @@
 #![tactic(auto)]
 
 #[cfg(test)]
-mod context_refusals;
-#[cfg(test)]
 mod copies;
 #[cfg(test)]
 mod element_calls;
