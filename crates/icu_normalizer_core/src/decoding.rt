@@ -47,6 +47,7 @@ impl<'a> Iterator for Utf8Chars<'a> {
 
     ghost remaining = { item_count (λ rest. rest) };
 
+    #[inline(always)]
     fn next(&mut self) -> Option<char> {
         self.chars.next()
     }
