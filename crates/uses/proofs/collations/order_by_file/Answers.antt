@@ -1,5 +1,5 @@
 use Rattle.std.proofs.Common.{◌≡◌, List, ap, ◌∙◌, subst}
-use Rattle.std.specs.Prelude.{Result, Ok, IfOk, MatchResult}
+use Rattle.std.specs.Prelude.{IfOk, MatchResult}
 use Rattle.icu_normalizer_core.specs.Decoding.{utf8_chars}
 use Rattle.icu_collator_types.specs.Options.{resolved_options}
 use Rattle.icu_collator.specs.Collators.{borrowed_collation, borrowed_options}
