@@ -69,15 +69,29 @@ fn tell_small_list(rt: &HostRuntime, collator: &CollatorBorrowed<'_>) {
     }
 }
 
-/// A key in a slice, whose zeros behind it are left out.
-fn tell_slice<const N: usize>(rt: &HostRuntime, collator: &CollatorBorrowed<'_>, name: &str) {
+/// Prints a key in a slice, whose zeros behind it are left out, and tells whether memory was granted.
+fn is_slice_told(
+    rt: &HostRuntime,
+    collator: &CollatorBorrowed<'_>,
+    name: &str,
+    room: &mut [u8],
+) -> bool {
+    let mut slice = &mut *room;
+    let answer = collator.write_sort_key_to(rt.alloc(), LONG, &mut slice);
+    let count = room.iter().take_while(|byte| **byte != 0).count();
+    print_sink(rt, name, room.get(..count).unwrap_or(&[]), &answer);
+    !matches!(answer, Err(KeyError::Memory))
+}
+
+/// A key in a slice that has room for it, and in one that hasn't.
+fn tell_slices(rt: &HostRuntime, collator: &CollatorBorrowed<'_>) {
     for _ in 0..2 {
-        let mut room = [0; N];
-        let mut slice = &mut room[..];
-        let answer = collator.write_sort_key_to(rt.alloc(), LONG, &mut slice);
-        let count = room.iter().take_while(|byte| **byte != 0).count();
-        print_sink(rt, name, room.get(..count).unwrap_or(&[]), &answer);
-        if !matches!(answer, Err(KeyError::Memory)) {
+        if is_slice_told(rt, collator, "a key in a slice", &mut [0; 128]) {
+            break;
+        }
+    }
+    for _ in 0..2 {
+        if is_slice_told(rt, collator, "a key in a short slice", &mut [0; 5]) {
             break;
         }
     }
@@ -88,6 +102,5 @@ pub fn tell_keys(rt: &HostRuntime, collator: &CollatorBorrowed<'_>) {
     tell_list(rt, collator);
     tell_queue(rt, collator);
     tell_small_list(rt, collator);
-    tell_slice::<128>(rt, collator, "a key in a slice");
-    tell_slice::<5>(rt, collator, "a key in a short slice");
+    tell_slices(rt, collator);
 }
