@@ -57,11 +57,11 @@ IsFlatNote source c (Two first second lead trail) = (numeric : Option ℕ) → I
 abbrev pub AreFlatNotes : CollationSource → List FlatNote → Type 0
 AreFlatNotes source notes = (c : ℕ) → IsFlatNote source c (get_or notes c Other)
 
--- The elements of a character's full list, each read alone, were appended to those that were there; behind a character of a class
--- its marks stand in order, and the last has that class.
-pub record IsPushed (source : CollationSource) (numeric : Option ℕ) (c before : ℕ) (old : List ℕ) (trail : ℕ) (new : List ℕ) : Type 0 where
+-- The elements of these characters, each read alone, were appended to those that were there; behind a character of a class their
+-- marks stand in order, and the last has that class.
+pub record IsPushed (source : CollationSource) (numeric : Option ℕ) (list : List ℕ) (before : ℕ) (old : List ℕ) (trail : ℕ) (new : List ℕ) : Type 0 where
   pub items : List ℕ
-  pub read : AreReadFlat source numeric ((canonical_by source).full c) items
-  pub order : StandInOrder (canonical_by source).class before ((canonical_by source).full c)
-  pub last : last_class (canonical_by source).class before ((canonical_by source).full c) ≡ trail
+  pub read : AreReadFlat source numeric list items
+  pub order : StandInOrder (canonical_by source).class before list
+  pub last : last_class (canonical_by source).class before list ≡ trail
   pub appended : new ≡ old ++ items

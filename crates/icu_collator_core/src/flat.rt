@@ -6,13 +6,15 @@ ghost use Rattle.icu_normalizer_core.specs.Iter.{Spells};
 ghost use Rattle.icu_collator_core.specs.ElementLists.{unpacked};
 ghost use Rattle.icu_collator_core.specs.ElementTexts.{text_elements};
 ghost use Rattle.icu_collator_core.specs.FlatNotes.{IsPushed};
+ghost use Rattle.icu_collator_core.specs.ReadSources.{canonical_by};
 
+mod found;
 mod list;
 pub(crate) mod notes;
 
 use crate::checked::CheckedTables;
+use found::push_found;
 pub use list::FlatElements;
-use notes::note_of;
 
 impl CheckedTables<'_> {
     /// Appends the elements of a character that stands behind one of this class, if each character of its full list is read
@@ -25,36 +27,20 @@ impl CheckedTables<'_> {
         before: u8,
         elements: &mut FlatElements<N>,
     ) -> Option<u8>
-        ensures { IfSome result (λ trail. IsPushed self.now numeric c before elements.old.items trail elements.new.items) }
+        ensures { IfSome result (λ trail. IsPushed self.now numeric ((canonical_by self.now).full c) before elements.old.items trail elements.new.items) }
     {
         match self.flat_note(c) {
             Some(note) => {
                 let trail = note.push(numeric, before, elements)?;
                 Some(trail)
             }
-            None => self.push_found(numeric, c, before, elements),
+            None => push_found(self, numeric, c, before, elements),
         }
     }
 
-    /// The same by the tables alone.
-    #[inline(never)]
-    fn push_found<const N: usize>(
-        &self,
-        numeric: Option<u8>,
-        c: char,
-        before: u8,
-        elements: &mut FlatElements<N>,
-    ) -> Option<u8>
-        ensures { IfSome result (λ trail. IsPushed self.now numeric c before elements.old.items trail elements.new.items) }
-    {
-        let note = note_of(self, c);
-        let trail = note.push(numeric, before, elements)?;
-        Some(trail)
-    }
-
-    /// Reads the text that an iterator gives into an empty list, if it is flat: each of its characters has a full list (UAX 15)
-    /// of one or two characters that are read alone, its marks stand in order, and the list has room for its elements. `false`
-    /// for another text; what the list has then is not said. Where a lead byte of numbers is given, a text with a digit is
+    /// Reads the text that an iterator gives into an empty list, if it is flat: each character of its decomposed list (NFD,
+    /// UAX 15) is read alone, its marks stand in order, and the list has room for its elements. `false` for another text, and
+    /// for some that are so; what the list has then is not said. Where a lead byte of numbers is given, a text with a digit is
     /// none. A character below U+0800 takes one read; no memory is taken.
     #[inline]
     pub fn read_flat<I: Iterator<Item = char> + Drop, const N: usize>(

@@ -1,7 +1,7 @@
 -- What a note of a character says of its elements.
-use Rattle.std.proofs.Common.{◌≡◌, ℕ, true, false, ◌==◌, ◌&&◌, ◌||◌, Option, None, refl, ap}
+use Rattle.std.proofs.Common.{◌≡◌, ℕ, true, false, ◌==◌, ◌&&◌, ◌||◌, Option, ap}
 use Rattle.std.specs.Option.{is_some}
-use Rattle.std.proofs.lemmas.Bool.{and_right, or_parts}
+use Rattle.std.proofs.lemmas.Bool.{and_left, and_right, or_parts}
 use lib.Utf8.{scalar}
 use Rattle.icu_collator_core.specs.Acceptance.{CollationSource}
 use Rattle.icu_collator_core.specs.Defaults.{special_primary}
@@ -26,13 +26,13 @@ module _ (source : CollationSource) (c bits : ℕ) (character : scalar c ≡ tru
       }
 
   -- the same of a digit, where digits don't count
-  pub digit_flat : IsReadUncounted (weights_by None source) c bits → IsReadFlat source None c bits
-  digit_flat alone =
+  pub digit_flat : (numeric : Option ℕ) → is_some numeric ≡ false → IsReadUncounted (weights_by numeric source) c bits → IsReadFlat source numeric c bits
+  digit_flat numeric off alone =
       let parts = or_parts (is_some (special_primary c)) (has_bit 6 source.tables.metadata.bits && (c == 0x307)) kept in
       record {
         character = character;
         ordinary = not_some (special_primary c) parts.0;
-        uncounted = refl;
+        uncounted = and_left (is_some numeric) (is_some ((weights_by numeric source).digit c)) off;
         undropped = parts.1;
         alone = alone;
       }

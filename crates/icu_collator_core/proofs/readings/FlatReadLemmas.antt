@@ -56,42 +56,50 @@ module _ (source : CollationSource) (numeric : Option ℕ) where
       ∙ ap (λ (es : List Element). element_of bits ∷ es)
       (flat_elements nearer cs items (scalars_front longest_prefix (c ∷ before) (and_from (scalar c) (scalars before) h.0.character ok)) h.1)
 
+  pub pushed_none : (before : ℕ) (old : List ℕ) → IsPushed source numeric [] before old before old
+  pushed_none before old = record { items = []; read = tt; order = tt; last = refl; appended = sym (append-nil old) }
+
+  -- characters, and others behind them
+  pub pushed_then : (xs ys : List ℕ) (before between trail : ℕ) (old middle new : List ℕ) → IsPushed source numeric xs before old between middle
+      → IsPushed source numeric ys between middle trail new → IsPushed source numeric (xs ++ ys) before old trail new
+  pushed_then xs ys before between trail old middle new h k =
+      record {
+        items = h.items ++ k.items;
+        read = read_appended xs h.items ys k.items h.read k.read;
+        order = order_appended class before xs ys h.order (subst (λ (n : ℕ). StandInOrder class n ys) (sym h.last) k.order);
+        last = last_appended class before xs ys ∙ ap (λ n. last_class class n ys) h.last ∙ k.last;
+        appended = k.appended ∙ ap (λ (l : List ℕ). l ++ k.items) h.appended ∙ append_assoc old h.items k.items;
+      }
+
   module _ {I : Type 0} (steps : I → Option ℕ → I → Type 0) where
     -- Of what an iterator gave, the full lists one after another are in order and are read so, with these elements; the last
     -- character has this class, and the rest is left to the iterator.
     pub record IsReadSoFar (first now : I) (items : List ℕ) (last : ℕ) : Type 0 where
       pub list : List ℕ
       pub left : (cs : List ℕ) → Spells steps first cs → (rest : List ℕ) × (flat_map full cs ≡ list ++ flat_map full rest) × Spells steps now rest
-      pub read : AreReadFlat source numeric list items
-      pub order : StandInOrder class 0 list
-      pub last_is : last_class class 0 list ≡ last
+      pub pushed : IsPushed source numeric list 0 [] last items
 
     pub nothing_read : (first now : I) (items : List ℕ) → now ≡ first → items ≡ [] → IsReadSoFar first now items 0
     nothing_read first now items same none =
         record {
           list = [];
           left = λ cs spelled. (cs, refl, subst (λ (it : I). Spells steps it cs) (sym same) spelled);
-          read = subst (λ (is : List ℕ). AreReadFlat source numeric [] is) (sym none) tt;
-          order = tt;
-          last_is = refl;
+          pushed = subst (λ (is : List ℕ). IsPushed source numeric [] 0 [] 0 is) (sym none) (pushed_none 0 []);
         }
 
     pub more_read : (first now next : I) (items new : List ℕ) (last is c : ℕ) → IsReadSoFar first now items last → steps now (Some c) next
-        → IsPushed source numeric c last items is new → IsReadSoFar first next new is
-    more_read first now next items new last is c h step pushed =
-        let here = full c in
+        → IsPushed source numeric (full c) last items is new → IsReadSoFar first next new is
+    more_read first now next items new last is c h step more =
         record {
-          list = h.list ++ here;
+          list = h.list ++ full c;
           left = λ cs spelled.
               let before = h.left cs spelled in
               let got = Spells-next steps now next c before.0 step before.2 in (
                 got.0,
-                before.1 ∙ ap (λ (l : List ℕ). h.list ++ flat_map full l) got.1 ∙ sym (append_assoc h.list here (flat_map full got.0)),
+                before.1 ∙ ap (λ (l : List ℕ). h.list ++ flat_map full l) got.1 ∙ sym (append_assoc h.list (full c) (flat_map full got.0)),
                 got.2,
               );
-          read = subst (λ (l : List ℕ). AreReadFlat source numeric (h.list ++ here) l) (sym pushed.appended) (read_appended h.list items here pushed.items h.read pushed.read);
-          order = order_appended class 0 h.list here h.order (subst (λ (k : ℕ). StandInOrder class k here) (sym h.last_is) pushed.order);
-          last_is = last_appended class 0 h.list here ∙ ap (λ k. last_class class k here) h.last_is ∙ pushed.last;
+          pushed = pushed_then h.list (full c) 0 last is [] items new h.pushed more;
         }
 
     pub all_read : (first now next : I) (items : List ℕ) (last : ℕ) → IsReadSoFar first now items last → steps now None next
@@ -102,6 +110,7 @@ module _ (source : CollationSource) (numeric : Option ℕ) where
         let before = h.left cs spelled in
         let none = Spells-end steps now next before.0 step before.2 in
         let all = before.1 ∙ ap (λ (l : List ℕ). h.list ++ flat_map full l) none ∙ append-nil h.list in
-        sym (flat_elements [] h.list items refl h.read)
+        ap (λ (is : List ℕ). unpacked is) h.pushed.appended
+        ∙ sym (flat_elements [] h.list h.pushed.items refl h.pushed.read)
         ∙ ap (λ (l : List ℕ). elements_within (length l) canonical (weights_by numeric source) (is_some numeric) (placed_behind [] l))
-        (sym (ap (λ (l : List ℕ). marks_in_order class l) all ∙ order_stands class 0 h.list h.order))
+        (sym (ap (λ (l : List ℕ). marks_in_order class l) all ∙ order_stands class 0 h.list h.pushed.order))

@@ -1,16 +1,13 @@
 //! Notes of low characters by which texts are read flat: found once for all, and looked up by one read.
 
-ghost use Rattle.std.specs.Prelude.{◌≡◌, ◌∷◌, ◌≤◌, ◌==◌, ◌&&◌, ◌||◌, ℕ, [], IfOk, IfSome, Option, None, is_some};
+ghost use Rattle.std.specs.Prelude.{◌≡◌, ◌∷◌, ℕ, [], IfOk, IfSome};
 ghost use Rattle.icu_collator_core.specs.Acceptance.{CollationSource};
-ghost use Rattle.icu_collator_core.specs.Defaults.{special_primary};
-ghost use Rattle.icu_collator_core.specs.FlatNotes.{AreFlatNotes, IsFlatNote, IsPushed, IsReadFlat, MayFollow};
+ghost use Rattle.icu_collator_core.specs.FlatNotes.{AreFlatNotes, IsFlatNote, IsPushed};
 ghost use Rattle.icu_collator_core.specs.ReadSources.{canonical_by};
-ghost use Rattle.icu_collator_core.specs.TableSettings.{has_bit};
 
+use super::found::{flat_digit, flat_element, highest_before};
 use super::list::FlatElements;
 use crate::checked::CheckedTables;
-use crate::elements::special_primary;
-use crate::reading::words::checked_word;
 use icu_collator_types::elements::CollationElement;
 use std::alloc::{AllocError, Global};
 
@@ -31,13 +28,6 @@ pub(crate) enum FlatNote {
     Two(CollationElement, CollationElement, u8, u8),
 }
 
-/// The highest class behind which a character of this class may stand: any behind which is a starter, else its own.
-fn highest_before(class: u8) -> u8
-    ensures { (before : ℕ) → before ≤ result → MayFollow before class }
-{
-    if class == 0 { u8::MAX } else { class }
-}
-
 impl FlatNote {
     /// Appends the elements of a character that stands behind one of this class, if it is read so, its marks stand in order, and
     /// there is room; answers the class of the last character of its full list. Where it isn't, the first may be appended.
@@ -49,7 +39,7 @@ impl FlatNote {
         elements: &mut FlatElements<N>,
     ) -> Option<u8>
         ensures { IfSome result (λ trail. (source : CollationSource) (c : ℕ) → IsFlatNote source c self.now
-            → IsPushed source numeric c before elements.old.items trail elements.new.items) }
+            → IsPushed source numeric ((canonical_by source).full c) before elements.old.items trail elements.new.items) }
     {
         if let FlatNote::One(element, lead, trail) = *self {
             if before <= lead && elements.push(element) {
@@ -69,7 +59,7 @@ impl FlatNote {
         elements: &mut FlatElements<N>,
     ) -> Option<u8>
         ensures { IfSome result (λ trail. (source : CollationSource) (c : ℕ) → IsFlatNote source c self.now
-            → IsPushed source numeric c before elements.old.items trail elements.new.items) }
+            → IsPushed source numeric ((canonical_by source).full c) before elements.old.items trail elements.new.items) }
     {
         match *self {
             FlatNote::Two(first, second, lead, trail) => {
@@ -91,36 +81,6 @@ impl FlatNote {
     }
 }
 
-/// Whether a character is special, or a dot above that may be dropped.
-fn is_kept_apart(checked: &CheckedTables<'_>, c: char) -> bool
-    ensures { result ≡ (is_some (special_primary c) || (has_bit 6 checked.now.tables.metadata.bits && (c == 0x307))) }
-{
-    special_primary(c as u32).is_some()
-        || checked.tables().metadata.lithuanian_dot_above() && c == '\u{307}'
-}
-
-/// The element of a character, if nothing that stands before or behind it changes it.
-fn flat_element(checked: &CheckedTables<'_>, c: char) -> Option<CollationElement>
-    ensures { IfSome result (λ bits. (numeric : Option ℕ) → IsReadFlat checked.now numeric c bits) }
-{
-    if is_kept_apart(checked, c) {
-        return None;
-    }
-    let element = checked_word(checked, c).alone_element(c)?;
-    Some(element)
-}
-
-/// The element of a digit, if nothing that stands before or behind it changes it where numbers aren't read.
-fn flat_digit(checked: &CheckedTables<'_>, c: char) -> Option<CollationElement>
-    ensures { IfSome result (λ bits. IsReadFlat checked.now None c bits) }
-{
-    if is_kept_apart(checked, c) {
-        return None;
-    }
-    let element = checked_word(checked, c).digit_element()?;
-    Some(element)
-}
-
 /// What is to be noted of a character whose full list is one.
 fn note_of_one(checked: &CheckedTables<'_>, first: char) -> FlatNote
     ensures { (c : ℕ) → (canonical_by checked.now).full c ≡ first ∷ [] → IsFlatNote checked.now c result }
@@ -129,7 +89,7 @@ fn note_of_one(checked: &CheckedTables<'_>, first: char) -> FlatNote
     let lead = highest_before(class);
     match flat_element(checked, first) {
         Some(element) => FlatNote::One(element, lead, class),
-        None => match flat_digit(checked, first) {
+        None => match flat_digit(checked, None, first) {
             Some(element) => FlatNote::Digit(element, lead, class),
             None => FlatNote::Other,
         },
@@ -155,7 +115,7 @@ fn note_of_two(checked: &CheckedTables<'_>, first: char, second: char) -> FlatNo
 }
 
 /// What is to be noted of a character.
-pub(crate) fn note_of(checked: &CheckedTables<'_>, c: char) -> FlatNote
+fn note_of(checked: &CheckedTables<'_>, c: char) -> FlatNote
     ensures { IsFlatNote checked.now c result }
 {
     let mut list = checked.canonical().full_list(c);

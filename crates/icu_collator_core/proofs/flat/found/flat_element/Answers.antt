@@ -1,7 +1,7 @@
 use Rattle.std.proofs.Common.{rules, sym, ◌∙◌}
 use Rattle.icu_collator_core.specs.ReadSources.{weights_by}
 use Rattle.icu_collator_core.proofs.readings.FlatNoteLemmas.{alone_flat}
-use Rattle.icu_collator_core.proofs.flat.notes.flat_element.Goals as goal
+use Rattle.icu_collator_core.proofs.flat.found.flat_element.Goals as goal
 
 pub returns : goal.returns
 returns c =
