@@ -12,6 +12,8 @@ use std::alloc::Global;
 const RECORDS: &str = "class 0300 230
 class 0316 220
 map 00E0 0061 0300
+map 1E00 0061 0316
+map 1E01 1E00 0300
 w 0061 ; [2A100000.0500.0.0500.0]
 w 0062 ; [2A200000.0500.0.0500.0]
 w 0062 0063 ; [2A400000.0500.0.0500.0]
@@ -87,6 +89,27 @@ fn ok_read_flat(rt: HostRuntime) {
             None,
             "\u{905}\u{300}",
             &[0x2a70_0000_0500_0500, 0x8600_0500]
+        )
+    );
+}
+
+#[test]
+fn full_lists_are_read_flat(rt: HostRuntime) {
+    assert!(rt;
+        has_elements(
+            rt.alloc(),
+            None,
+            "\u{1e01}",
+            &[0x2a10_0000_0500_0500, 0x8800_0500, 0x8600_0500]
+        )
+    );
+    assert!(rt; is_not_flat(rt.alloc(), None, "\u{e0}\u{1e01}"));
+    assert!(rt;
+        has_elements(
+            rt.alloc(),
+            None,
+            "c\u{1e00}",
+            &[0x2a30_0000_0500_0500, 0x2a10_0000_0500_0500, 0x8800_0500]
         )
     );
 }
