@@ -102,7 +102,7 @@ fn push_list<const N: usize>(
     before: u8,
     elements: &mut FlatElements<N>,
 ) -> Option<u8>
-    ensures { IfSome result (λ trail. IsPushed checked.now numeric list before elements.old.items trail elements.new.items) }
+    ensures { IfSome result (λ trail. IsPushed checked.now numeric list.entry before elements.old.items trail elements.new.items) }
 {
     let mut last = before;
     for c in list {
