@@ -25,25 +25,16 @@ digit 0031 1
 w 0905 ; [2A700000.0500.0.0500.0]
 ";
 
-/// The elements of a text that is read flat into room for three.
-fn flat(checked: &CheckedTables<'_>, numeric: Option<u8>, text: &str) -> Option<FlatElements<3>> {
-    let mut elements = FlatElements::new();
-    if checked.read_flat(numeric, text.chars(), &mut elements) {
-        Some(elements)
-    } else {
-        None
-    }
-}
-
-/// Whether a text is read flat and has these elements.
-fn has_elements(alloc: Global, numeric: Option<u8>, text: &str, expected: &[u64]) -> bool {
-    let Some(checked) = checked_tables(alloc, RECORDS, TrieType::Small) else {
-        return false;
-    };
-    let Some(elements) = flat(&checked, numeric, text) else {
-        return false;
-    };
-    elements.as_slice().len() == expected.len()
+/// Whether a text is read flat, into room for three elements, and has these.
+fn has_elements(
+    checked: &CheckedTables<'_>,
+    numeric: Option<u8>,
+    text: &str,
+    expected: &[u64],
+) -> bool {
+    let mut elements: FlatElements<3> = FlatElements::new();
+    checked.read_flat(numeric, text.chars(), &mut elements)
+        && elements.as_slice().len() == expected.len()
         && elements
             .as_slice()
             .iter()
@@ -52,100 +43,85 @@ fn has_elements(alloc: Global, numeric: Option<u8>, text: &str, expected: &[u64]
 }
 
 /// Whether a text isn't read flat.
-fn is_not_flat(alloc: Global, numeric: Option<u8>, text: &str) -> bool {
+fn is_not_flat(checked: &CheckedTables<'_>, numeric: Option<u8>, text: &str) -> bool {
+    let mut elements: FlatElements<3> = FlatElements::new();
+    !checked.read_flat(numeric, text.chars(), &mut elements)
+}
+
+/// Whether texts are read flat, character by character.
+fn are_read(checked: &CheckedTables<'_>) -> bool {
+    has_elements(checked, Some(0x10), "", &[])
+        && has_elements(
+            checked,
+            Some(0x10),
+            "ca",
+            &[0x2a30_0000_0500_0500, 0x2a10_0000_0500_0500],
+        )
+        && has_elements(
+            checked,
+            None,
+            "\u{e0}\u{300}",
+            &[0x2a10_0000_0500_0500, 0x8600_0500, 0x8600_0500],
+        )
+        && has_elements(
+            checked,
+            None,
+            "\u{905}\u{300}",
+            &[0x2a70_0000_0500_0500, 0x8600_0500],
+        )
+}
+
+/// Whether full lists of two and three characters are read flat, and a list that is too long isn't.
+fn are_read_from_full_lists(checked: &CheckedTables<'_>) -> bool {
+    has_elements(
+        checked,
+        None,
+        "\u{1e01}",
+        &[0x2a10_0000_0500_0500, 0x8800_0500, 0x8600_0500],
+    ) && has_elements(
+        checked,
+        None,
+        "c\u{1e00}",
+        &[0x2a30_0000_0500_0500, 0x2a10_0000_0500_0500, 0x8800_0500],
+    ) && is_not_flat(checked, None, "c\u{1e01}")
+}
+
+/// Whether marks are read flat in their order alone.
+fn are_read_in_order(checked: &CheckedTables<'_>) -> bool {
+    has_elements(
+        checked,
+        None,
+        "a\u{316}\u{300}",
+        &[0x2a10_0000_0500_0500, 0x8800_0500, 0x8600_0500],
+    ) && is_not_flat(checked, None, "a\u{300}\u{316}")
+        && is_not_flat(checked, None, "\u{e0}\u{316}")
+}
+
+/// Whether digits are read flat where numbers aren't read, and a letter that begins a longer text never is.
+fn are_left_to_others(checked: &CheckedTables<'_>) -> bool {
+    has_elements(
+        checked,
+        None,
+        "a1",
+        &[0x2a10_0000_0500_0500, 0x0f10_0000_0500_0500],
+    ) && is_not_flat(checked, Some(0x10), "a1")
+        && is_not_flat(checked, None, "ab")
+}
+
+/// Whether these texts are read flat, and those aren't.
+fn is_read_flat(alloc: Global) -> bool {
     match checked_tables(alloc, RECORDS, TrieType::Small) {
-        Some(checked) => flat(&checked, numeric, text).is_none(),
+        Some(checked) => {
+            are_read(&checked)
+                && are_read_from_full_lists(&checked)
+                && are_read_in_order(&checked)
+                && are_left_to_others(&checked)
+        }
         None => false,
     }
 }
 
 #[test]
 fn ok_read_flat(rt: HostRuntime) {
-    let alloc = rt.alloc();
-    assert!(rt; has_elements(alloc, Some(0x10), "", &[]));
-    assert!(rt;
-        has_elements(
-            alloc,
-            Some(0x10),
-            "aca",
-            &[
-                0x2a10_0000_0500_0500,
-                0x2a30_0000_0500_0500,
-                0x2a10_0000_0500_0500
-            ]
-        )
-    );
-    assert!(rt;
-        has_elements(
-            alloc,
-            None,
-            "\u{e0}\u{300}",
-            &[0x2a10_0000_0500_0500, 0x8600_0500, 0x8600_0500]
-        )
-    );
-    assert!(rt;
-        has_elements(
-            alloc,
-            None,
-            "\u{905}\u{300}",
-            &[0x2a70_0000_0500_0500, 0x8600_0500]
-        )
-    );
-}
-
-#[test]
-fn full_lists_are_read_flat(rt: HostRuntime) {
-    assert!(rt;
-        has_elements(
-            rt.alloc(),
-            None,
-            "\u{1e01}",
-            &[0x2a10_0000_0500_0500, 0x8800_0500, 0x8600_0500]
-        )
-    );
-    assert!(rt; is_not_flat(rt.alloc(), None, "\u{e0}\u{1e01}"));
-    assert!(rt;
-        has_elements(
-            rt.alloc(),
-            None,
-            "c\u{1e00}",
-            &[0x2a30_0000_0500_0500, 0x2a10_0000_0500_0500, 0x8800_0500]
-        )
-    );
-}
-
-#[test]
-fn marks_are_read_flat_in_order(rt: HostRuntime) {
-    let alloc = rt.alloc();
-    assert!(rt;
-        has_elements(
-            alloc,
-            None,
-            "a\u{316}\u{300}",
-            &[0x2a10_0000_0500_0500, 0x8800_0500, 0x8600_0500]
-        )
-    );
-    assert!(rt; is_not_flat(alloc, None, "a\u{300}\u{316}"));
-    assert!(rt; is_not_flat(alloc, None, "\u{e0}\u{316}"));
-}
-
-#[test]
-fn digits_are_read_flat_without_numbers(rt: HostRuntime) {
-    assert!(rt;
-        has_elements(
-            rt.alloc(),
-            None,
-            "a1",
-            &[0x2a10_0000_0500_0500, 0x0f10_0000_0500_0500]
-        )
-    );
-    assert!(rt; is_not_flat(rt.alloc(), Some(0x10), "a1"));
-}
-
-#[test]
-fn other_texts_are_not_read_flat(rt: HostRuntime) {
-    let alloc = rt.alloc();
-    assert!(rt; is_not_flat(alloc, None, "ab"));
-    assert!(rt; is_not_flat(alloc, None, "acac"));
-    assert!(rt; is_not_flat(alloc, None, "ac\u{e0}"));
+    assert!(rt; is_read_flat(rt.alloc()));
 }
