@@ -44,7 +44,10 @@ def keys_by_program(records, names):
         file.write(records)
         file.flush()
         commands = ''.join(f'key {name}\n' for name in names)
-        answer = subprocess.run([PROGRAM, file.name], input=commands, stdout=subprocess.PIPE, text=True, check=True)
+        try:
+            answer = subprocess.run([PROGRAM, file.name], input=commands, stdout=subprocess.PIPE, text=True, check=True)
+        except FileNotFoundError:
+            sys.exit(f'{os.path.basename(sys.argv[0])}: there is no {PROGRAM}: ./collate builds it')
     return [bytes.fromhex(key) for key in answer.stdout.split('\n')[:-1]]
 
 

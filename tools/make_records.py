@@ -11,6 +11,7 @@ characters; a run of Han characters counts as one, and a Hangul syllable as its 
 The order is that of the default table (allkeys.txt) but for the rules; the weights are new ones, in bytes. What is left out
 is named on standard error.
 """
+import os
 import re
 import sys
 
@@ -234,7 +235,12 @@ def main(words):
         sys.exit(f'make_records.py: {error} (Debian has it in the package unicode-data)')
     except ValueError as error:
         sys.exit(f'make_records.py: {error}')
-    print('\n'.join([*(f'# {line}' for line in header.split('\n')), '', *file.lines()]))
+    lines = [*(f'# {line}' for line in header.split('\n')), '', *file.lines()]
+    try:
+        print('\n'.join(lines), flush=True)
+    except BrokenPipeError:  # the reader has enough
+        os.dup2(os.open(os.devnull, os.O_WRONLY), sys.stdout.fileno())
+        sys.exit(1)
 
 
 if __name__ == '__main__':

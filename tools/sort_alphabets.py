@@ -10,7 +10,10 @@ ones as they stood. tools/make_records.py writes the records.
 import os
 import sys
 
-import icu
+try:
+    import icu
+except ImportError as error:
+    sys.exit(f'{os.path.basename(sys.argv[0])}: {error} (Debian has it in the package python3-icu)')
 
 from alphabets import ALPHABETS
 
