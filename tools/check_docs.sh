@@ -1,41 +1,79 @@
 #!/usr/bin/env bash
-# Finds in the documents names that exist nowhere in the crates, and paths and links that lead nowhere: tools/check_docs.sh
-# A line each; the status is 0 only where there is none. Names are what stands in backquotes and is one word of code.
+# Looks over all pages: tools/check_docs.sh. A line each, and the status is 0 only where there is none, of
+#   a name that exists nowhere in the crates (what stands in backquotes and is one word of code), a path or link that leads nowhere
+#   a module of a crate's lib.rt that the crate's README doesn't name, and a crate without README
+#   a line of over 120 columns, and a cell of a table of over 30 words
 set -eu
 cd "$(dirname "$(readlink -f "${BASH_SOURCE[0]}")")/.."
-documents=(README.md NOTICE.md docs/*.md bench/*.md)
+mapfile -t documents < <(git ls-files '*.md')
 words=$(mktemp)
 trap 'rm -f "$words"' EXIT
 # every word of code, of file names and of crates
-{ git ls-files crates tools bench examples .ci | tr '/.' '\n\n'; git grep -hoE '[A-Za-z_][A-Za-z0-9_-]*' -- crates collate crates.txt tools bench .ci; } | sort -u >"$words"
-# names of the kit, of what is to come, of wrong bodies that tests refuse, and how tests are named
-others=" rattle-kit-13b rattle-kit-13f icu_normalizer compile reload always_memory compile_gives_up_on_large run_stops_at_first_line run_stops_after_one_line ok_ "
+{
+    git ls-files | tr '/.' '\n\n'
+    git grep -hoE '[A-Za-z_][A-Za-z0-9_-]*' -- '*.rt' '*.antt' '*.edit' '*.py' '*.sh' '*.cpp' collate sort_names crates.txt .ci
+} | sort -u >"$words"
+# names of the kit and of ICU4X, and how tests are named
+others=" rattle-kit-13b rattle-kit-13f VarZeroVec ZeroVec Cow Write16 utf8_iter utf16_iter DataProvider non_exhaustive yoke zerofrom icu_normalizer icu_collections harfbuzz CanonicalCombiningClass RangeBounds ok_ "
 status=0
 complain() {
     echo "$1"
     status=1
 }
-for document in "${documents[@]}"; do
+is_path() {
+    compgen -G "$1" >/dev/null || compgen -G "$2/$1" >/dev/null || compgen -G "docs/$1" >/dev/null
+}
+# A path is one from the top, from the page's folder, or from a crate's folder, its src or its specs.
+check_path() {
+    local path=${1//NAME/*} folder place
+    folder=$(dirname "$2")
+    for place in "$folder" "$folder/src" "$folder/data" 'crates/*' 'crates/*/src' 'crates/*/specs'; do
+        if is_path "$path" "$place"; then return; fi
+    done
+    complain "$2: no file $1"
+}
+check_names() {
+    local name word
     while IFS= read -r name; do
         case $name in
-        */*.md | */*.sh | crates/* | docs/* | tools/* | bench/* | examples/*)
-            path=${name//NAME/*}
-            compgen -G "$path" >/dev/null || compgen -G "docs/$path" >/dev/null || complain "$document: no file $name"
-            ;;
-        *.md | *.sh | *.py | *.txt | ./* | .ci/*)
-            [ -e "$name" ] || [ -e "$(dirname "$document")/$name" ] || [ -e "docs/$name" ] || complain "$document: no document $name"
-            ;;
+        */*.* | crates/* | docs/* | tools/* | bench/* | examples/* | *.md | *.sh | *.py | *.txt | *.rt | *.antt | *.svg | NAME.* | ./* | .ci/*) check_path "$name" "$1" ;;
         *)
-            # that page speaks of ICU4X's own names
-            [ "$document" = docs/DIFFERENCES.md ] && continue
-            word=${name##*::}
-            word=${word%.antt}
-            [[ $name == *\** || $others == *" $word "* ]] || grep -qxF -- "$word" "$words" || complain "$document: no such name: $name"
+            word=${name##*[:.]}
+            [[ $name == *\** || $name == *.. || $others == *" $word "* ]] || grep -qxF -- "$word" "$words" || complain "$1: no such name: $name"
             ;;
         esac
-    done < <(grep -v '^    ' "$document" | grep -oE '`[A-Za-z_.][A-Za-z0-9_./:*-]*`' | tr -d '`' | sort -u)
+    done < <(grep -v '^    ' "$1" | grep -oE '`[A-Za-z_.][A-Za-z0-9_./:*-]*`' | tr -d '`' | sort -u)
+}
+check_links() {
+    local link
     while IFS= read -r link; do
-        [ -e "$(dirname "$document")/$link" ] || complain "$document: a link to $link leads nowhere"
-    done < <(grep -oE '\]\([^)#]+' "$document" | sed 's/^](//' | grep -v '://' | sort -u)
+        [ -e "$(dirname "$1")/$link" ] || complain "$1: a link to $link leads nowhere"
+    done < <(grep -oE '\]\([^)#]+' "$1" | sed 's/^](//' | grep -v '://' | sort -u)
+}
+check_modules() {
+    local page=crates/$1/README.md module
+    [ -e "$page" ] || { complain "crates/$1 has no README.md"; return; }
+    [ -e "crates/$1/src/lib.rt" ] || return 0
+    while IFS= read -r module; do
+        grep -qF "\`$module\`" "$page" || complain "$page: the module $module is not named"
+    done < <(sed -nE 's/^(pub )?mod ([a-z0-9_]+);.*/\2/p; s/^pub use [a-z0-9_]+ as ([a-z0-9_]+);.*/\1/p' "crates/$1/src/lib.rt")
+}
+check_lengths() {
+    local found
+    found=$(LC_ALL=C.UTF-8 grep -nE '^.{121,}' "$1" | sed -E "s#^([0-9]+):.*#$1:\\1: a line of over 120 columns#"
+        awk -v page="$1" '/^\|/ {
+            count = split($0, cells, "|")
+            for (place = 2; place < count; place++)
+                if (split(cells[place], unused, " ") > 30) print page ":" FNR ": a cell of over 30 words"
+        }' "$1")
+    [ -z "$found" ] || complain "$found"
+}
+for document in "${documents[@]}"; do
+    check_names "$document"
+    check_links "$document"
+    check_lengths "$document"
+done
+for folder in crates/*/; do
+    check_modules "$(basename "$folder")"
 done
 exit "$status"
