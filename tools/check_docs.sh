@@ -3,6 +3,7 @@
 #   a name that exists nowhere in the crates (what stands in backquotes and is one word of code), a path or link that leads nowhere
 #   a module of a crate's lib.rt that the crate's README doesn't name, and a crate without README
 #   a line of over 120 columns, and a cell of a table of over 30 words
+#   a page that code, a tool or the manual page names and that isn't there
 set -eu
 cd "$(dirname "$(readlink -f "${BASH_SOURCE[0]}")")/.."
 mapfile -t documents < <(git ls-files '*.md')
@@ -68,6 +69,12 @@ check_lengths() {
         }' "$1")
     [ -z "$found" ] || complain "$found"
 }
+check_pages_named() {
+    local found
+    while IFS= read -r found; do
+        [ -e "${found#*:}" ] || complain "${found%%:*}: no page ${found#*:}"
+    done < <(git grep -oE '\bdocs/[A-Za-z]+\.(md|1)\b|\bCONTRIBUTING\.md\b' -- ':!*.md' | sort -u)
+}
 for document in "${documents[@]}"; do
     check_names "$document"
     check_links "$document"
@@ -76,4 +83,5 @@ done
 for folder in crates/*/; do
     check_modules "$(basename "$folder")"
 done
+check_pages_named
 exit "$status"
