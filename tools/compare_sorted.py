@@ -21,7 +21,8 @@ from random_runs import random_names, random_records, random_words
 
 ROOT = os.path.dirname(os.path.dirname(os.path.realpath(__file__)))
 SCRIPT = os.path.join(ROOT, 'sort_names')
-USAGE = 'usage: sort_names [--keys] RECORDS [OPTION=VALUE]..  < names, or: sort_names [--keys] --merge FILE..\n'
+USAGE = ('usage: sort_names [--keys] RECORDS [OPTION=VALUE]..  < names, or: sort_names [--keys] --merge FILE.., '
+         'or: sort_names --help\n')
 LONGEST = 65532
 PART = 65536
 
