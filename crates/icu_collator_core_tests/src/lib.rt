@@ -2,6 +2,8 @@
 #![tactic(auto)]
 
 #[cfg(test)]
+mod context_refusals;
+#[cfg(test)]
 mod copies;
 #[cfg(test)]
 mod element_calls;
