@@ -11,10 +11,10 @@ use Rattle.collate_places.specs.Fronts.{IsFrontOf}
 use Rattle.collate_places.specs.Windows.{shows}
 use Rattle.collate_places.specs.declared.windows.Placed.{Placed}
 use Rattle.collate_name_list.specs.StoredNames.{StoredName}
-use Rattle.collate_name_list.specs.Slots.{AreFronted, IsFull, compared, entry_at, entry_of, places_of, sought_bytes, sought_in}
+use Rattle.collate_name_list.specs.Slots.{AreFronted, IsFull, compared, entry_at, entry_of, places_of, sought_key}
 use Rattle.collate_name_list.specs.declared.slots.Stored.{Stored}
 use Rattle.collate_name_list.specs.declared.slots.Sought.{Sought}
-use Rattle.collate_name_list.specs.declared.slots.Sought.TheVariants.{Key, Name, Slot}
+use Rattle.collate_name_list.specs.declared.slots.Sought.TheVariants.{Key, Slot}
 use Rattle.collate_name_list.proofs.SlotLemmas.{IsSlot, entry_before, entry_pushed, entry_other, still_full}
 
 -- ---- lists
@@ -64,24 +64,24 @@ all_read P ps n p h e = subst P (get_or_from_slice_get ps n p p e) (h n p (slice
 
 -- ---- fronts
 
-pub fronts_alike : (f : StoredName → List ℕ) (old new : List (Option Stored)) (ps : List Placed) → All (λ p. entry_at new p.place ≡ entry_at old p.place) ps → AreFronted f old ps → AreFronted f new ps
-fronts_alike f old new ps same fronts i d l = subst (λ e. IsFrontOf (get_or ps i d).front (f e)) (sym (same i d l)) (fronts i d l)
+pub fronts_alike : (old new : List (Option Stored)) (ps : List Placed) → All (λ p. entry_at new p.place ≡ entry_at old p.place) ps → AreFronted old ps → AreFronted new ps
+fronts_alike old new ps same fronts i d l = subst (λ (e : StoredName). IsFrontOf (get_or ps i d).front e.key) (sym (same i d l)) (fronts i d l)
 
-pub push_fronts : (f : StoredName → List ℕ) (slots : List (Option Stored)) (n : Stored) (ps : List Placed) (at : ℕ) (p : Placed) → All (IsSlot slots) (places_of ps) → AreFronted f slots ps → p.place ≡ length slots → IsFrontOf p.front (f (entry_of n)) → AreFronted f (slots ++ Some n ∷ []) (insert ps at p)
-push_fronts f slots n ps at p are fronts newest front =
+pub push_fronts : (slots : List (Option Stored)) (n : Stored) (ps : List Placed) (at : ℕ) (p : Placed) → All (IsSlot slots) (places_of ps) → AreFronted slots ps → p.place ≡ length slots → IsFrontOf p.front (entry_of n).key → AreFronted (slots ++ Some n ∷ []) (insert ps at p)
+push_fronts slots n ps at p are fronts newest front =
     let more : List (Option Stored) = slots ++ Some n ∷ [] in
     let same : All (λ m. entry_at more m ≡ entry_at slots m) (places_of ps) = All-weaker (IsSlot slots) (λ m. entry_at more m ≡ entry_at slots m) (λ m h. entry_before slots n m h.within) (places_of ps) are in
-    All-insert (λ q. IsFrontOf q.front (f (entry_at more q.place))) ps at p
-    (fronts_alike f slots more ps (all_places (λ m. entry_at more m ≡ entry_at slots m) ps same) fronts)
-    (subst (λ e. IsFrontOf p.front (f e)) (sym (entry_pushed slots n p.place (sym newest))) front)
+    All-insert (λ q. IsFrontOf q.front (entry_at more q.place).key) ps at p
+    (fronts_alike slots more ps (all_places (λ m. entry_at more m ≡ entry_at slots m) ps same) fronts)
+    (subst (λ (e : StoredName). IsFrontOf p.front e.key) (sym (entry_pushed slots n p.place (sym newest))) front)
 
-pub remove_fronts : (f : StoredName → List ℕ) (slots : List (Option Stored)) (k at : ℕ) (ps : List Placed) → k < length slots → All (IsFull (set slots k None)) (places_of (remove ps at)) → AreFronted f slots ps → AreFronted f (set slots k None) (remove ps at)
-remove_fronts f slots k at ps l full fronts =
+pub remove_fronts : (slots : List (Option Stored)) (k at : ℕ) (ps : List Placed) → k < length slots → All (IsFull (set slots k None)) (places_of (remove ps at)) → AreFronted slots ps → AreFronted (set slots k None) (remove ps at)
+remove_fronts slots k at ps l full fronts =
     let less : List (Option Stored) = set slots k None in
     let same : All (λ m. entry_at less m ≡ entry_at slots m) (places_of (remove ps at)) =
     All-weaker (IsFull less) (λ m. entry_at less m ≡ entry_at slots m) (λ m h. entry_other slots k m (still_full slots k m l h).0) (places_of (remove ps at)) full in
-    fronts_alike f slots less (remove ps at) (all_places (λ m. entry_at less m ≡ entry_at slots m) (remove ps at) same)
-    (All-remove (λ q. IsFrontOf q.front (f (entry_at slots q.place))) ps at fronts)
+    fronts_alike slots less (remove ps at) (all_places (λ m. entry_at less m ≡ entry_at slots m) (remove ps at) same)
+    (All-remove (λ q. IsFrontOf q.front (entry_at slots q.place).key) ps at fronts)
 
 -- ---- what fronts tell
 
@@ -90,7 +90,6 @@ then_decided Less t h = refl
 then_decided Equal t h = absurd (h refl)
 then_decided Greater t h = refl
 
-pub front_decides : (slots : List (Option Stored)) (sought : Sought) (slot : ℕ) (r : Ordering) → slice_cmp nat_cmp (sought_in sought (entry_at slots slot)) (sought_bytes sought) ≡ r → (r ≡ Equal → ⊥) → r ≡ compared slots sought slot
+pub front_decides : (slots : List (Option Stored)) (sought : Sought) (slot : ℕ) (r : Ordering) → slice_cmp nat_cmp (entry_at slots slot).key (sought_key sought) ≡ r → (r ≡ Equal → ⊥) → r ≡ compared slots sought slot
 front_decides slots (Key key) slot r h n = sym h
-front_decides slots (Name name) slot r h n = sym h
 front_decides slots (Slot key other) slot r h n = sym (ap (λ o. ordering_then o (nat_cmp slot other)) h ∙ then_decided r (nat_cmp slot other) n)

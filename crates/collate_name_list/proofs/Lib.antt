@@ -5,3 +5,4 @@ pub mod PlacesLemmas
 pub mod RoomLemmas
 pub mod SlotLemmas
 pub mod FrontedLemmas
+pub mod HashLemmas

@@ -1,4 +1,4 @@
--- the full slots in order, by keys or by names' bytes: searched, with one more, and with one less
+-- the full slots in order: searched, with one more, and with one less
 use Rattle.std.proofs.Common.{◌≡◌, ℕ, ◌+◌, ◌<◌, ◌≤◌, Bool, true, false, not, eqb, List, [], ◌∷◌, ◌++◌, length, map, get_or, set, slice_get, Option, Some, None, refl, sym, ap, ◌∙◌, subst, arith, Ordering, Less, Equal, Greater, nat_cmp}
 use Rattle.std.specs.List.{All, Contains, HoldsAt, filter, insert, remove, sum_by}
 use Rattle.std.specs.List.Sorted.{IsPartitionedBy, IsPermutation}
@@ -6,10 +6,10 @@ use Rattle.std.specs.Cmp.{IsTotalOrder}
 use Rattle.std.specs.Cmp.Lexicographic.{slice_cmp}
 use Rattle.std.specs.Ordering.{on, then_cmp, ordering_then}
 use Rattle.std.proofs.lemmas.Bool.{not-true, eqb-false}
-use Rattle.std.proofs.lemmas.Cmp.{on_total, then_total, nat_cmp_total, nat_list_cmp_total, ranked, tied_itself}
-use Rattle.std.proofs.lemmas.List.{length-map, get_or-map}
+use Rattle.std.proofs.lemmas.Cmp.{on_total, then_total, nat_cmp_total, nat_list_cmp_total, ranked}
+use Rattle.std.proofs.lemmas.List.{length-map}
 use Rattle.std.proofs.lemmas.List.Elements.{All-weaker, All-contains, filter_passes}
-use Rattle.std.proofs.lemmas.List.Sorted.{All-permutation, Contains-permutation, sum_by-IsPermutation}
+use Rattle.std.proofs.lemmas.List.Sorted.{All-permutation, sum_by-IsPermutation}
 use Rattle.std.specs.Option.{option_map}
 use Rattle.std.proofs.lemmas.Option.{slice_get-get_or, slice_get_within, get_or_from_slice_get, slice_get-map}
 use Rattle.collate_names.specs.Names.{in_order}
@@ -17,19 +17,15 @@ use Rattle.collate_names.specs.Search.{stands_before, IsPlaceOf}
 use Rattle.collate_names.proofs.NamesLemmas.{in_order_is_permutation, length-in_order}
 use Rattle.collate_names.proofs.SearchLemmas.{in_order_parted}
 use Rattle.collate_names.proofs.ChangeLemmas.{in_order_map, in_order_alike, in_order_tied, in_order_filter}
-use Rattle.collate_names.proofs.PlaceLemmas.{in_order_append, in_order_found, place_alike, place_map, place_found}
+use Rattle.collate_names.proofs.PlaceLemmas.{in_order_append, in_order_found, place_alike}
 use Rattle.collate_name_list.specs.StoredNames.{StoredName, key_order, names_of, sorted}
-use Rattle.collate_name_list.specs.Slots.{entry_of, entry_or_none, entry_at, IsFull, full_slots, entries, bytes_order, slots_by_key, slots_by_name}
+use Rattle.collate_name_list.specs.Slots.{entry_of, entry_or_none, entry_at, IsFull, full_slots, entries, slots_by_key}
 use Rattle.collate_name_list.specs.declared.slots.Stored.{Stored}
 use Rattle.collate_name_list.proofs.ListLemmas.{one_if, one_gone, parted_map}
 use Rattle.collate_name_list.proofs.SlotLemmas.{IsSlot, full_are_slots, slot_from_contains, contains_full, full_once, full_less, full_push, full_emptied, entry_before, entry_pushed, entry_other}
-use Rattle.collate_name_list.proofs.EntryLemmas.{name_there, slot_there}
 
 pub key_total : IsTotalOrder key_order
 key_total = on_total (λ (e : StoredName). e.key) nat_list_cmp_total
-
-pub bytes_total : IsTotalOrder bytes_order
-bytes_total = on_total (λ (e : StoredName). e.name) nat_list_cmp_total
 
 -- ---- by any order of names
 
@@ -54,10 +50,6 @@ module _ (S : StoredName → StoredName → Ordering) (slots : List (Option Stor
 
   pub length_slots : length (slots_by S slots) ≡ length (entries slots)
   length_slots = length-in_order (on (entry_at slots) S) (full_slots 0 slots) ∙ sym (length-map (full_slots 0 slots) (entry_at slots))
-
-  pub contains_slot : (m : ℕ) → IsFull slots m → Contains (slots_by S slots) m
-  unfolding moved
-  contains_slot m h = Contains-permutation (full_slots 0 slots) (slots_by S slots) m moved (contains_full slots m h)
 
   module _ (o : IsTotalOrder S) where
     slots_total : IsTotalOrder (on (entry_at slots) S)
@@ -138,11 +130,6 @@ then_last Less t h = cc
 then_last Equal t h = h
 then_last Greater t h = cc
 
-then_first : (r t : Ordering) → ordering_then r t ≡ Equal → r ≡ Equal
-then_first Less t h = cc
-then_first Equal t h = refl
-then_first Greater t h = cc
-
 -- by its key and itself
 pub slot_found : (slots : List (Option Stored)) (k at : ℕ) → IsFull slots k → IsPlaceOf (λ m. ordering_then (slice_cmp nat_cmp (entry_at slots m).key (entry_at slots k).key) (nat_cmp m k)) false (slots_by_key slots) at → slice_get (slots_by_key slots) at ≡ Some k
 slot_found slots k at full place =
@@ -155,56 +142,6 @@ slot_found slots k at full place =
     (λ y h e. ranked y k Equal (sym (then_last (R y k) (nat_cmp y k) e))) in
     let within : at < length (slots_by_key slots) = omega (arith, found.0, length-in_order R (full_slots 0 slots)) in
     slice_get-get_or (slots_by_key slots) at k within ∙ ap (λ m. Some m) (ap (λ ms. get_or ms at k) tied ∙ found.1 k)
-
-pub bytes_same : (xs ys : List ℕ) → slice_cmp nat_cmp xs ys ≡ Equal → xs ≡ ys
-bytes_same [] [] h = refl
-bytes_same [] (y ∷ ys) h = cc
-bytes_same (x ∷ xs) [] h = cc
-bytes_same (x ∷ xs) (y ∷ ys) h =
-    let first : x ≡ y = ranked x y Equal (sym (then_first (nat_cmp x y) (slice_cmp nat_cmp xs ys) h)) in
-    ap (λ z. z ∷ xs) first ∙ ap (λ zs. y ∷ zs) (bytes_same xs ys (then_last (nat_cmp x y) (slice_cmp nat_cmp xs ys) h))
-
-module _ (slots : List (Option Stored)) (name : List ℕ) (at : ℕ) (place : IsPlaceOf (λ m. slice_cmp nat_cmp (entry_at slots m).name name) false (slots_by_name slots) at) where
-  name_of : ℕ → List ℕ
-  name_of m = (entry_at slots m).name
-
-  -- by its name: the slot at the place of the name has it, if any has
-  pub name_found : at ≤ length (slots_by_name slots) → Contains (names_of (entries slots)) name → (m : ℕ) × (slice_get (slots_by_name slots) at ≡ Some m) × ((entry_at slots m).name ≡ name)
-  unfolding name_of
-  name_found l h =
-      let there : (m : ℕ) × IsFull slots m × ((entry_at slots m).name ≡ name) = slot_there slots name h in
-      let k : Contains (slots_by_name slots) there.0 = contains_slot bytes_order slots there.0 there.1 in
-      let places : List ℕ = slots_by_name slots in
-      let long : length (map name_of places) ≡ length places = length-map places name_of in
-      let listed : map name_of places ≡ in_order (slice_cmp nat_cmp) (map name_of (full_slots 0 slots)) = in_order_map name_of (on (entry_at slots) bytes_order) (slice_cmp nat_cmp) (λ x y. refl) (full_slots 0 slots) in
-      let parted : IsPartitionedBy (λ other. stands_before true (slice_cmp nat_cmp other name)) (map name_of places) =
-      subst (λ ns. IsPartitionedBy (λ other. stands_before true (slice_cmp nat_cmp other name)) ns) (sym listed) (in_order_parted (slice_cmp nat_cmp) nat_list_cmp_total true name (map name_of (full_slots 0 slots))) in
-      let inside : Contains (map name_of places) name = (k.0, omega (arith, k.1, long), get_or-map name_of places k.0 there.0 name k.1 ∙ ap name_of k.2 ∙ there.2) in
-      let here : (at < length (map name_of places)) × HoldsAt (λ y. y ≡ name) (map name_of places) at =
-      place_found (λ other. slice_cmp nat_cmp other name) (map name_of places) at (place_map name_of (λ other. slice_cmp nat_cmp other name) false places at l place) parted name inside
-      (tied_itself nat_list_cmp_total name) (λ y within e. bytes_same y name e) in
-      let within : at < length places = omega (arith, here.0, long) in
-      (get_or places at 0, slice_get-get_or places at 0 within, sym (get_or-map name_of places at 0 name within) ∙ here.1 name)
-
-  lower : (r : Ordering) → stands_before false r ≡ true → stands_before true r ≡ true
-  lower Less h = refl
-  lower Equal h = refl
-  lower Greater h = h
-
-  upper : (r : Ordering) → stands_before false r ≡ false → (r ≡ Equal → ⊥) → stands_before true r ≡ false
-  upper Less h n = h
-  upper Equal h n = absurd (n refl)
-  upper Greater h n = refl
-
-  -- where a name is absent, the two places of it are one
-  pub place_of_absent : (Contains (names_of (entries slots)) name → ⊥) → IsPlaceOf (λ m. slice_cmp nat_cmp (entry_at slots m).name name) true (slots_by_name slots) at
-  place_of_absent absent = (
-    λ k d low high. lower (slice_cmp nat_cmp (entry_at slots (get_or (slots_by_name slots) k d)).name name) (place.0 k d low high),
-    λ k d low high.
-        let m : ℕ = get_or (slots_by_name slots) k d in
-        upper (slice_cmp nat_cmp (entry_at slots m).name name) (place.1 k d low high)
-        (λ e. absent (name_there slots m name (all_full bytes_order slots k d high) (bytes_same (entry_at slots m).name name e))),
-  )
 
 -- ---- the same over lists that are these orders
 
@@ -230,14 +167,6 @@ slot_at_place slots by_key k key at e f full place =
     subst (λ x. IsPlaceOf (λ m. ordering_then (slice_cmp nat_cmp (entry_at slots m).key x) (nat_cmp m k)) false by_key at) f place in
     ap (λ ms. slice_get ms at) e
     ∙ slot_found slots k at full (subst (λ ms. IsPlaceOf (λ m. ordering_then (slice_cmp nat_cmp (entry_at slots m).key (entry_at slots k).key) (nat_cmp m k)) false ms at) e same_key)
-
-pub name_at_place : (slots : List (Option Stored)) (by_name : List ℕ) (name : List ℕ) (at : ℕ) → by_name ≡ slots_by_name slots → at ≤ length by_name → IsPlaceOf (λ m. slice_cmp nat_cmp (entry_at slots m).name name) false by_name at → Contains (names_of (entries slots)) name → (m : ℕ) × (slice_get by_name at ≡ Some m) × ((entry_at slots m).name ≡ name)
-name_at_place slots by_name name at e l place h =
-    let there : IsPlaceOf (λ m. slice_cmp nat_cmp (entry_at slots m).name name) false (slots_by_name slots) at =
-    subst (λ ms. IsPlaceOf (λ m. slice_cmp nat_cmp (entry_at slots m).name name) false ms at) e place in
-    let within : at ≤ length (slots_by_name slots) = omega (arith, ap length e) in
-    let found : (m : ℕ) × (slice_get (slots_by_name slots) at ≡ Some m) × ((entry_at slots m).name ≡ name) = name_found slots name at there within h in
-    (found.0, ap (λ ms. slice_get ms at) e ∙ found.1, found.2)
 
 -- the name at a place of the order of keys
 pub name_listed : (slots : List (Option Stored)) (by_key : List ℕ) (place : ℕ) → by_key ≡ slots_by_key slots → slice_get (names_of (sorted (entries slots))) place ≡ option_map (λ (e : StoredName). e.name) (option_map (entry_at slots) (slice_get by_key place))

@@ -1,16 +1,19 @@
 -- the empty slots dropped: the full ones with their new numbers stand for the same names, in the same orders
-use Rattle.std.proofs.Common.{◌≡◌, ℕ, ◌+◌, ◌<◌, List, [], ◌∷◌, ◌++◌, length, map, get_or, Option, Some, None, is_some, refl, sym, ap, ◌∙◌, subst, arith, append_assoc, Ordering}
+use Rattle.std.proofs.Common.{◌≡◌, ℕ, ◌+◌, ◌<◌, List, [], ◌∷◌, ◌++◌, length, map, get_or, Option, Some, None, true, false, true≢false, cond, ◌≤◌, ⊎_elim, lt-ltb, eq-eqb, is_some, refl, sym, ap, ◌∙◌, subst, arith, append_assoc, Ordering}
+use Rattle.std.specs.Prelude.{◌==◌}
 use Rattle.std.specs.List.{All, Contains, filter}
 use Rattle.std.specs.Ordering.{on}
+use Rattle.std.proofs.lemmas.Bool.{cases_lt}
 use Rattle.std.proofs.lemmas.List.{length-map, get_or-map, get_or_at, length_push}
 use Rattle.std.proofs.lemmas.List.Elements.{All-map, All-weaker, Contains-get_or}
 use Rattle.collate_names.specs.Names.{in_order}
 use Rattle.collate_names.proofs.ChangeLemmas.{in_order_map, in_order_alike}
+use Rattle.collate_hashes.specs.Hashes.{hash_of, hash_from, is_hash}
 use Rattle.collate_places.specs.Fronts.{IsFrontOf}
 use Rattle.collate_places.specs.Lists.{renumbered, numbered as numbered_placed}
 use Rattle.collate_places.specs.declared.windows.Placed.{Placed}
 use Rattle.collate_name_list.specs.StoredNames.{StoredName, key_order}
-use Rattle.collate_name_list.specs.Slots.{AreFronted, IsFull, places_of, entry_of, entry_or_none, entry_at, full_slots, entries, names_in, bytes_order, slots_by_key, slots_by_name, HaveOwnNames, IsKept}
+use Rattle.collate_name_list.specs.Slots.{AreFronted, IsFull, places_of, entry_of, entry_or_none, entry_at, full_slots, entries, names_in, hashes_in, slots_by_key, HaveOwnNames, IsKept}
 use Rattle.collate_name_list.specs.Room.{numbers_from}
 use Rattle.collate_name_list.specs.declared.slots.Stored.{Stored}
 use Rattle.collate_name_list.specs.declared.name_list.NameList.TheInside.{Inside}
@@ -126,29 +129,42 @@ numbers_within S slots ps numbers e n =
 places_renumbered : (numbers : List ℕ) (ps : List Placed) → places_of (renumbered numbers ps) ≡ map (λ m. get_or numbers m 0) (places_of ps)
 places_renumbered numbers ps = map_map (λ (p : Placed). p.place) (numbered_placed numbers) ps ∙ sym (map_map (λ m. get_or numbers m 0) (λ (p : Placed). p.place) ps)
 
-fronts_dense : (S : StoredName → StoredName → Ordering) (f : StoredName → List ℕ) (slots : List (Option Stored)) (ps : List Placed) → places_of ps ≡ slots_by S slots → AreFronted f slots ps → AreFronted f (dense slots) (renumbered (numbers_from 0 slots) ps)
-fronts_dense S f slots ps e fronts =
-    let full : All (λ p. IsFull slots p.place) ps = all_places (IsFull slots) ps (subst (All (IsFull slots)) (sym e) (all_full S slots)) in
-    All-map (λ p. IsFrontOf p.front (f (entry_at (dense slots) p.place))) (numbered_placed (numbers_from 0 slots)) ps
-    (λ i d l. let p : Placed = get_or ps i d in subst (λ n. IsFrontOf p.front (f n)) (sym (entry_stays slots p.place (contains_full slots p.place (full i d l)))) (fronts i d l))
+fronts_dense : (slots : List (Option Stored)) (ps : List Placed) → places_of ps ≡ slots_by_key slots → AreFronted slots ps → AreFronted (dense slots) (renumbered (numbers_from 0 slots) ps)
+fronts_dense slots ps e fronts =
+    let full : All (λ p. IsFull slots p.place) ps = all_places (IsFull slots) ps (subst (All (IsFull slots)) (sym e) (all_full key_order slots)) in
+    All-map (λ p. IsFrontOf p.front (entry_at (dense slots) p.place).key) (numbered_placed (numbers_from 0 slots)) ps
+    (λ i d l. let p : Placed = get_or ps i d in subst (λ (n : StoredName). IsFrontOf p.front n.key) (sym (entry_stays slots p.place (contains_full slots p.place (full i d l)))) (fronts i d l))
 
-pub kept_dense : (s t : Inside) (numbers : List ℕ) → IsKept s → numbers ≡ numbers_from 0 s.slots.items → t.slots.items ≡ filter is_some s.slots.items → t.by_key ≡ renumbered numbers s.by_key → t.by_name ≡ renumbered numbers s.by_name → IsKept t
-kept_dense s t numbers kept n e k b =
+above : (hash : ℕ) → (hash == 0) ≡ false → is_hash hash ≡ true
+above hash e =
+    ⊎_elim (λ (l : 0 < hash). lt-ltb 0 hash l)
+    (λ (l : hash ≤ 0). let none : hash ≡ 0 = omega arith in absurd (true≢false (sym (eq-eqb hash 0 none) ∙ e)))
+    (cases_lt 0 hash)
+
+hash_above : (bytes : List ℕ) → is_hash (hash_of bytes) ≡ true
+hash_above bytes =
+    let hash : ℕ = hash_from 0 bytes in
+    elim (hash == 0) as (λ b. hash == 0 ≡ b → is_hash (cond b 1 hash) ≡ true) [ true ↦ λ e. refl | false ↦ λ e. above hash e ] refl
+
+-- the hashes of the full slots
+hashes_dense : (slots : List (Option Stored)) → hashes_in (dense slots) ≡ filter is_hash (hashes_in slots)
+hashes_dense [] = refl
+hashes_dense (None ∷ slots) = hashes_dense slots
+hashes_dense (Some s ∷ slots) =
+    ap (λ hs. hash_of s.bytes.items ∷ hs) (hashes_dense slots)
+    ∙ sym (ap (λ b. cond b (hash_of s.bytes.items ∷ filter is_hash (hashes_in slots)) (filter is_hash (hashes_in slots))) (hash_above s.bytes.items))
+
+pub kept_dense : (s t : Inside) (numbers : List ℕ) → IsKept s → numbers ≡ numbers_from 0 s.slots.items → t.slots.items ≡ filter is_some s.slots.items → t.by_key ≡ renumbered numbers s.by_key → t.hashes ≡ filter is_hash s.hashes → IsKept t
+kept_dense s t numbers kept n e k h =
     let slots : List (Option Stored) = s.slots.items in
     let keys : t.by_key ≡ renumbered (numbers_from 0 slots) s.by_key = k ∙ ap (λ ns. renumbered ns s.by_key) n in
-    let names : t.by_name ≡ renumbered (numbers_from 0 slots) s.by_name = b ∙ ap (λ ns. renumbered ns s.by_name) n in
     record {
       by_key =
           ap places_of keys ∙ places_renumbered (numbers_from 0 slots) s.by_key ∙ ap (map (number_of slots)) kept.by_key
           ∙ orders_dense slots key_order ∙ sym (ap slots_by_key e);
-      by_name =
-          ap places_of names ∙ places_renumbered (numbers_from 0 slots) s.by_name ∙ ap (map (number_of slots)) kept.by_name
-          ∙ orders_dense slots bytes_order ∙ sym (ap slots_by_name e);
-      key_fronts =
-          subst (λ (ss : List (Option Stored)). AreFronted (λ m. m.key) ss t.by_key) (sym e)
-          (subst (AreFronted (λ m. m.key) (dense slots)) (sym keys) (fronts_dense key_order (λ m. m.key) slots s.by_key kept.by_key kept.key_fronts));
-      name_fronts =
-          subst (λ (ss : List (Option Stored)). AreFronted (λ m. m.name) ss t.by_name) (sym e)
-          (subst (AreFronted (λ m. m.name) (dense slots)) (sym names) (fronts_dense bytes_order (λ m. m.name) slots s.by_name kept.by_name kept.name_fronts));
+      fronts =
+          subst (λ (ss : List (Option Stored)). AreFronted ss t.by_key) (sym e)
+          (subst (AreFronted (dense slots)) (sym keys) (fronts_dense slots s.by_key kept.by_key kept.fronts));
+      hashes = h ∙ ap (filter is_hash) kept.hashes ∙ sym (hashes_dense slots) ∙ sym (ap hashes_in e);
       distinct = subst HaveOwnNames (sym e) (own_dense slots kept.distinct);
     }

@@ -1,16 +1,17 @@
--- how a list of names is kept: its names in slots, as they arrived, some of the slots emptied; and the full slots in two orders
+-- how a list of names is kept: its names in slots, as they arrived, some of the slots emptied; the full slots in order of their keys; and the hashes of the names
 use Rattle.std.specs.Borrow.{Bor}
 use Rattle.std.specs.Prelude.{All, ◌≡◌, ℕ, ◌+◌, List, [], ◌∷◌, map, slice_index_or, Option, Some, None, IsSome}
 use Rattle.std.specs.Cmp.Lexicographic.{slice_cmp}
 use Rattle.std.specs.Ordering.{nat_cmp, on, ordering_then}
 use Rattle.std.specs.declared.cmp.Ordering.{Ordering}
 use Rattle.collate_names.specs.Names.{in_order}
+use Rattle.collate_hashes.specs.Hashes.{hash_of}
 use Rattle.collate_places.specs.Fronts.{IsFrontOf}
 use Rattle.collate_places.specs.declared.windows.Placed.{Placed}
 use Rattle.collate_name_list.specs.StoredNames.{StoredName, key_order}
 use Rattle.collate_name_list.specs.declared.slots.Stored.{Stored}
 use Rattle.collate_name_list.specs.declared.slots.Sought.{Sought}
-use Rattle.collate_name_list.specs.declared.slots.Sought.TheVariants.{Key, Name, Slot}
+use Rattle.collate_name_list.specs.declared.slots.Sought.TheVariants.{Key, Slot}
 use Rattle.collate_name_list.specs.declared.name_list.NameList.TheInside.{Inside}
 
 -- what a slot holds
@@ -50,21 +51,21 @@ names_in (Some s ∷ slots) = entry_of s ∷ names_in slots
 abbrev pub lent_name : Bor (List ℕ) × Bor (List ℕ) → StoredName
 lent_name lent = record { key = lent.1.now; name = lent.0.now }
 
--- names compare as their bytes do
-abbrev pub bytes_order : StoredName → StoredName → Ordering
-bytes_order a b = slice_cmp nat_cmp a.name b.name
-
--- the full slots in order of their keys, and of their names' bytes
+-- the full slots in order of their keys
 abbrev pub slots_by_key : List (Option Stored) → List ℕ
 slots_by_key slots = in_order (on (entry_at slots) key_order) (full_slots 0 slots)
 
-abbrev pub slots_by_name : List (Option Stored) → List ℕ
-slots_by_name slots = in_order (on (entry_at slots) bytes_order) (full_slots 0 slots)
+-- the hash of a slot's name, 0 if it is empty
+abbrev pub hash_in : Option Stored → ℕ
+hash_in None = 0
+hash_in (Some s) = hash_of s.bytes.items
+
+abbrev pub hashes_in : List (Option Stored) → List ℕ
+hashes_in slots = map hash_in slots
 
 -- how what stands at a slot compares with what is looked for
 abbrev pub compared : List (Option Stored) → Sought → ℕ → Ordering
 compared slots (Key key) slot = slice_cmp nat_cmp (entry_at slots slot).key key.now
-compared slots (Name name) slot = slice_cmp nat_cmp (entry_at slots slot).name name.now
 compared slots (Slot key other) slot = ordering_then (slice_cmp nat_cmp (entry_at slots slot).key key.now) (nat_cmp slot other)
 
 -- no two slots have one name
@@ -79,25 +80,18 @@ names_inside s = entries s.slots.items
 abbrev pub places_of : List Placed → List ℕ
 places_of placed = map (λ p. p.place) placed
 
--- each place has the front of these bytes of what stands there
-abbrev pub AreFronted : (StoredName → List ℕ) → List (Option Stored) → List Placed → Type 0
-AreFronted bytes slots placed = All (λ p. IsFrontOf p.front (bytes (entry_at slots p.place))) placed
+-- each place has the front of the key of what stands there
+abbrev pub AreFronted : List (Option Stored) → List Placed → Type 0
+AreFronted slots placed = All (λ p. IsFrontOf p.front (entry_at slots p.place).key) placed
 
--- the bytes that are looked for, and those of a name with its key that are compared with them
-abbrev pub sought_bytes : Sought → List ℕ
-sought_bytes (Key key) = key.now
-sought_bytes (Name name) = name.now
-sought_bytes (Slot key other) = key.now
+-- the key that is looked for
+abbrev pub sought_key : Sought → List ℕ
+sought_key (Key key) = key.now
+sought_key (Slot key other) = key.now
 
-abbrev pub sought_in : Sought → StoredName → List ℕ
-sought_in (Key key) = λ e. e.key
-sought_in (Name name) = λ e. e.name
-sought_in (Slot key other) = λ e. e.key
-
--- both orders are those of the full slots, with the fronts of what they are by, and no two slots have one name
+-- the order is that of the full slots, with the fronts of their keys, the hashes are those of the names, and no two slots have one name
 pub record IsKept (s : Inside) : Type 0 where
   pub by_key : places_of s.by_key ≡ slots_by_key s.slots.items
-  pub by_name : places_of s.by_name ≡ slots_by_name s.slots.items
-  pub key_fronts : AreFronted (λ e. e.key) s.slots.items s.by_key
-  pub name_fronts : AreFronted (λ e. e.name) s.slots.items s.by_name
+  pub fronts : AreFronted s.slots.items s.by_key
+  pub hashes : s.hashes ≡ hashes_in s.slots.items
   pub distinct : HaveOwnNames s.slots.items

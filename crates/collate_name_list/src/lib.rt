@@ -1,5 +1,5 @@
-//! The names of an index with their keys: in order of arrival, found by binary search over their keys and over their
-//! bytes. Begin with `name_list::NameList`.
+//! The names of an index with their keys: in order of arrival, found by binary search over their keys, and by the hashes of
+//! their bytes. Begin with `name_list::NameList`.
 #![tactic(auto)]
 
 pub mod arrived;

@@ -11,10 +11,11 @@ ghost use Rattle.collate_name_list.specs.StoredNames.{AreDistinct, names_of, sor
 use crate::arrived::Arrived;
 use crate::errors::AddError;
 use crate::room::{drop_empty, numbers_of};
-use crate::slots::{Stored, place_of_key, place_of_name, place_of_slot, slot_of_name, stored_in};
+use crate::slots::{Stored, place_of_key, place_of_slot, slot_of_name, stored_in};
+use collate_hashes::HashList;
+use collate_hashes::hashing::hash_of;
 use collate_keys::IndexKey;
 use collate_places::PlaceList;
-use collate_places::fronts::front_of;
 use collate_places::windows::Placed;
 use std::alloc::{AllocError, Global};
 use std::marker::Model;
@@ -30,8 +31,8 @@ pub struct NameList {
     slots: Vec<Option<Stored>>,
     /// The full slots, in order of their keys.
     by_key: PlaceList,
-    /// The full slots, in order of their names' bytes.
-    by_name: PlaceList,
+    /// The hash of each slot's name.
+    hashes: HashList,
 }
 
 // (let go of as one, and not part by part, so that what owns one is proved sooner)
@@ -41,7 +42,7 @@ impl Drop for NameList {
             alloc: _,
             slots: _,
             by_key: _,
-            by_name: _,
+            hashes: _,
         } = self;
     }
 }
@@ -68,7 +69,7 @@ impl NameList {
             alloc,
             slots: Vec::new(alloc),
             by_key: PlaceList::new(alloc),
-            by_name: PlaceList::new(alloc),
+            hashes: HashList::new(alloc),
         }
     }
 
@@ -90,9 +91,7 @@ impl NameList {
     pub fn contains(&self, name: &[u8]) -> bool
         ensures { IsTrue result ↔ Contains (names_of self.now) name.now }
     {
-        let slots = self.slots.as_slice();
-        let place = place_of_name(slots, &self.by_name, name);
-        slot_of_name(slots, &self.by_name, place, name).is_some()
+        slot_of_name(self.slots.as_slice(), &self.hashes, hash_of(name), name).is_some()
     }
 
     /// Adds a name with its key, as the newest. It is `Duplicate` if the name is there already, byte for byte, and `Memory`
@@ -115,12 +114,11 @@ impl NameList {
         ensures found { IsTrue result ↔ Contains (names_of self.old) name.now }
     {
         let slots = self.slots.as_slice();
-        let named = place_of_name(slots, &self.by_name, name);
-        match slot_of_name(slots, &self.by_name, named, name) {
+        match slot_of_name(slots, &self.hashes, hash_of(name), name) {
             Some(slot) => {
                 let keyed = place_of_slot(slots, &self.by_key, slot);
                 self.by_key.remove(keyed);
-                self.by_name.remove(named);
+                self.hashes.take_out(slot);
                 self.slots[slot] = None;
                 true
             }
@@ -174,24 +172,22 @@ impl NameList {
         ensures few { (digits : ℕ) → length self.old < 2 ^ digits → count.new ≤ count.old + digits }
     {
         let slots = self.slots.as_slice();
-        let named = place_of_name(slots, &self.by_name, name);
-        if slot_of_name(slots, &self.by_name, named, name).is_some() {
+        let hash = hash_of(name);
+        if slot_of_name(slots, &self.hashes, hash, name).is_some() {
             return Err(AddError::Duplicate);
         }
         let keyed = place_of_key(slots, &self.by_key, &key, true, count);
         let bytes = Vec::from_slice(self.alloc, name)?;
         self.slots.reserve(1)?;
-        self.by_name.reserve()?;
         let place = self.slots.len();
         let front = key.front();
         self.by_key.insert(keyed, Placed { front, place })?;
-        let front = front_of(name);
-        match self.by_name.insert(named, Placed { front, place }) {
+        match self.hashes.push(hash) {
             Ok(()) => {
                 self.slots.push(Some(Stored { bytes, key })).unwrap();
                 Ok(())
             }
-            // (one order without the other: as before)
+            // (the order without the hash: as before)
             Err(_) => {
                 self.by_key.remove(keyed);
                 Err(AddError::Memory)
@@ -206,7 +202,7 @@ impl NameList {
         let is_sparse = self.by_key.len().saturating_add(SPARE_SLOTS) < self.slots.len() / 2;
         if is_sparse && let Ok(numbers) = numbers_of(self.alloc, self.slots.as_slice()) {
             self.by_key.renumber(numbers.as_slice());
-            self.by_name.renumber(numbers.as_slice());
+            self.hashes.drop_empty();
             drop_empty(&mut self.slots);
         }
     }

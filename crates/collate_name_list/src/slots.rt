@@ -1,20 +1,22 @@
 //! The slots of a list of names, and binary search among the full ones.
 
-ghost use Rattle.std.specs.Prelude.{◌≡◌, ◌≢◌, ℕ, ◌+◌, ◌-◌, ◌^◌, ◌<◌, ◌≤◌, ◌↔◌, false, List, length, Some, None, IfSome, IfNone, IsTrue, IsSome, slice_get, slice_index_or};
+ghost use Rattle.std.specs.Prelude.{◌≡◌, ℕ, ◌+◌, ◌-◌, ◌^◌, ◌<◌, ◌≤◌, ◌↔◌, length, Some, None, IfSome, IfNone, IsTrue, slice_get, slice_index_or};
 ghost use Rattle.std.specs.Cmp.Lexicographic.{slice_cmp};
 ghost use Rattle.std.specs.List.{All, Contains};
 ghost use Rattle.std.specs.List.Sorted.{IsPartitionedBy};
 ghost use Rattle.std.specs.Option.{option_copied};
 ghost use Rattle.std.specs.Ordering.{nat_cmp};
 ghost use Rattle.collate_names.specs.Search.{IsPlaceOf, stands_before};
+ghost use Rattle.collate_hashes.specs.Hashes.{hash_of};
 ghost use Rattle.collate_name_list.specs.StoredNames.{names_of};
 ghost use Rattle.collate_places.specs.Fronts.{IsFrontOf};
 ghost use Rattle.collate_places.specs.Windows.{shows};
-ghost use Rattle.collate_name_list.specs.Slots.{AreFronted, IsFull, compared, entries, entry_at, places_of, slots_by_key, slots_by_name, sought_bytes, sought_in};
+ghost use Rattle.collate_name_list.specs.Slots.{AreFronted, IsFull, compared, entries, entry_at, hashes_in, places_of, slots_by_key, sought_key};
 
+use collate_hashes::HashList;
 use collate_keys::IndexKey;
 use collate_places::PlaceList;
-use collate_places::fronts::{compare_fronts, front_of};
+use collate_places::fronts::compare_fronts;
 use collate_places::windows::{Placed, Window};
 use std::cmp::Ordering;
 
@@ -31,14 +33,12 @@ impl Drop for Stored {
     }
 }
 
-/// What is looked for among slots in order.
+/// What is looked for among slots in order of their keys.
 #[derive(Drop)]
 pub enum Sought<'a> {
-    /// A key, in the order of keys.
+    /// A key.
     Key(&'a IndexKey),
-    /// The bytes of a name, in the order of bytes.
-    Name(&'a [u8]),
-    /// A key and the slot that has it, in the order of keys.
+    /// A key and the slot that has it.
     Slot(&'a IndexKey, usize),
 }
 
@@ -49,17 +49,12 @@ pub fn stored_in(slots: &[Option<Stored>], slot: usize) -> Option<&Stored>
     slots.get(slot)?.as_ref()
 }
 
-/// Whether a full slot has a name. Where their fronts differ the slot isn't read.
-pub fn has_name(slots: &[Option<Stored>], placed: Placed, name: &[u8]) -> bool
-    requires full { IsFull slots.now placed.place }
-    requires front { IsFrontOf placed.front (entry_at slots.now placed.place).name }
-    ensures { IsTrue result ↔ ((entry_at slots.now placed.place).name ≡ name.now) }
+/// Whether a full slot has a name.
+fn has_name(slots: &[Option<Stored>], slot: usize, name: &[u8]) -> bool
+    requires { IsFull slots.now slot }
+    ensures { IsTrue result ↔ ((entry_at slots.now slot).name ≡ name.now) }
 {
-    let front = front_of(name);
-    if placed.front != front {
-        return false;
-    }
-    match stored_in(slots, placed.place) {
+    match stored_in(slots, slot) {
         Some(stored) => stored.bytes.as_slice() == name,
         None => unreachable!(),
     }
@@ -67,11 +62,10 @@ pub fn has_name(slots: &[Option<Stored>], placed: Placed, name: &[u8]) -> bool
 
 /// The front of what is looked for.
 fn front_sought(sought: &Sought<'_>) -> u64
-    ensures { IsFrontOf result (sought_bytes sought.now) }
+    ensures { IsFrontOf result (sought_key sought.now) }
 {
     match sought {
         Sought::Key(key) | Sought::Slot(key, _) => key.front(),
-        Sought::Name(name) => front_of(*name),
     }
 }
 
@@ -93,7 +87,6 @@ fn compare_whole(
     match stored_in(slots, slot) {
         Some(stored) => match sought {
             Sought::Key(key) => stored.key.compare(key, count),
-            Sought::Name(name) => stored.bytes.as_slice().cmp(*name),
             Sought::Slot(key, other) => stored.key.compare(key, count).then(slot.cmp(other)),
         },
         None => unreachable!(),
@@ -110,8 +103,8 @@ pub fn compare(
     count: &mut usize,
 ) -> Ordering
     requires full { IsFull slots.now placed.place }
-    requires stored { IsFrontOf placed.front (sought_in sought.now (entry_at slots.now placed.place)) }
-    requires sought { IsFrontOf front (sought_bytes sought.now) }
+    requires stored { IsFrontOf placed.front (entry_at slots.now placed.place).key }
+    requires sought { IsFrontOf front (sought_key sought.now) }
     ensures order { result ≡ compared slots.now sought.now placed.place }
     ensures grown { count.old ≤ count.new }
     ensures few { count.new ≤ count.old + 1 }
@@ -177,7 +170,7 @@ fn place_of(
     count: &mut usize,
 ) -> usize
     requires full { All (IsFull slots.now) (places_of places.now) }
-    requires fronts { AreFronted (sought_in sought.now) slots.now places.now }
+    requires fronts { AreFronted slots.now places.now }
     requires parted { IsPartitionedBy (λ slot. stands_before past_equal (compared slots.now sought.now slot)) (places_of places.now) }
     ensures bound { result ≤ length (places_of places.now) }
     ensures place { IsPlaceOf (compared slots.now sought.now) past_equal (places_of places.now) result }
@@ -213,7 +206,7 @@ pub fn place_of_key(
     count: &mut usize,
 ) -> usize
     requires order { places_of by_key.now ≡ slots_by_key slots.now }
-    requires fronts { AreFronted (λ e. e.key) slots.now by_key.now }
+    requires fronts { AreFronted slots.now by_key.now }
     ensures bound { result ≤ length (places_of by_key.now) }
     ensures place { IsPlaceOf (λ slot. slice_cmp nat_cmp (entry_at slots.now slot).key key.now) past_equal (places_of by_key.now) result }
     ensures grown { count.old ≤ count.new }
@@ -225,7 +218,7 @@ pub fn place_of_key(
 /// The place of a full slot in the order of keys.
 pub fn place_of_slot(slots: &[Option<Stored>], by_key: &PlaceList, slot: usize) -> usize
     requires order { places_of by_key.now ≡ slots_by_key slots.now }
-    requires fronts { AreFronted (λ e. e.key) slots.now by_key.now }
+    requires fronts { AreFronted slots.now by_key.now }
     requires full { IsFull slots.now slot }
     ensures { slice_get (places_of by_key.now) result ≡ Some slot }
 {
@@ -239,36 +232,26 @@ pub fn place_of_slot(slots: &[Option<Stored>], by_key: &PlaceList, slot: usize) 
     }
 }
 
-/// The first place in the order of bytes of a slot whose name isn't below a name.
-pub fn place_of_name(slots: &[Option<Stored>], by_name: &PlaceList, name: &[u8]) -> usize
-    requires order { places_of by_name.now ≡ slots_by_name slots.now }
-    requires fronts { AreFronted (λ e. e.name) slots.now by_name.now }
-    ensures bound { result ≤ length (places_of by_name.now) }
-    ensures place { IsPlaceOf (λ slot. slice_cmp nat_cmp (entry_at slots.now slot).name name.now) false (places_of by_name.now) result }
-{
-    let mut count = 0;
-    place_of(slots, by_name, &Sought::Name(name), false, &mut count)
-}
-
-/// The slot of a name, if the name is there. The place is where it stands in the order of bytes, or would stand.
+/// The slot of a name, whose hash is given, if the name is there.
 pub fn slot_of_name(
     slots: &[Option<Stored>],
-    by_name: &PlaceList,
-    place: usize,
+    hashes: &HashList,
+    hash: usize,
     name: &[u8],
 ) -> Option<usize>
-    requires order { places_of by_name.now ≡ slots_by_name slots.now }
-    requires fronts { AreFronted (λ e. e.name) slots.now by_name.now }
-    requires bound { place ≤ length (places_of by_name.now) }
-    requires place { IsPlaceOf (λ slot. slice_cmp nat_cmp (entry_at slots.now slot).name name.now) false (places_of by_name.now) place }
-    ensures slot { IfSome result (λ slot. slice_get (places_of by_name.now) place ≡ Some slot) }
+    requires hashes { hashes.now ≡ hashes_in slots.now }
+    requires hash { hash ≡ hash_of name.now }
+    requires positive { 0 < hash }
+    ensures full { IfSome result (IsFull slots.now) }
     ensures name { IfSome result (λ slot. (entry_at slots.now slot).name ≡ name.now) }
     ensures absent { IfNone result (¬ Contains (names_of (entries slots.now)) name.now) }
 {
-    let placed = by_name.at(place)?;
-    if has_name(slots, placed, name) {
-        Some(placed.place)
-    } else {
-        None
+    let mut end = slots.len();
+    while let Some(slot) = hashes.last_before(hash, end) {
+        if has_name(slots, slot, name) {
+            return Some(slot);
+        }
+        end = slot;
     }
+    None
 }

@@ -3,7 +3,7 @@ use Rattle.std.proofs.lemmas.Option.{get_or_from_slice_get}
 use Rattle.collate_names.specs.Search.{stands_before}
 use Rattle.collate_names.proofs.SearchLemmas.{IsNarrowed, narrowed_none, narrowed_all, narrowed_few, narrowed_low, narrowed_high}
 use Rattle.collate_places.specs.Fronts.{IsFrontOf}
-use Rattle.collate_name_list.specs.Slots.{IsFull, compared, entry_at, places_of, sought_in}
+use Rattle.collate_name_list.specs.Slots.{IsFull, compared, entry_at, places_of}
 use Rattle.collate_name_list.proofs.FrontedLemmas.{all_places, all_read, length_places, place_read, shown_at}
 use Rattle.collate_name_list.proofs.slots.place_of.Goals as goal
 
@@ -34,7 +34,7 @@ compare-requires-clause-stored c =
     let middle : ℕ = c.loop-low.low + (c.loop-low.high - c.loop-low.low) / 2 in
     let there : slice_get ps middle ≡ Some c.placed_in-placed.result =
     shown_at ps c.window_around-window.result.places.now c.window_around-window.result.start middle c.placed_in-placed.result c.window_around-window.ensures.shown c.window_around-window.ensures.from c.placed_in-placed.ensures in
-    all_read (λ p. IsFrontOf p.front (sought_in c.args.sought.now (entry_at c.args.slots.now p.place))) ps middle c.placed_in-placed.result c.requires.fronts there
+    all_read (λ p. IsFrontOf p.front (entry_at c.args.slots.now p.place).key) ps middle c.placed_in-placed.result c.requires.fronts there
 
 pub loop-low-preserved-then-stands_before : goal.loop-low-preserved-then-stands_before
 loop-low-preserved-then-stands_before c =

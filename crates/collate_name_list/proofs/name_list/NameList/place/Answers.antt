@@ -11,7 +11,7 @@ place_of_key-requires-clause-order c = c.self.invariant.by_key ∙ sym (ap slots
 
 pub place_of_key-requires-clause-fronts : goal.place_of_key-requires-clause-fronts
 place_of_key-requires-clause-fronts c =
-    subst (λ (slots : List (Option Stored)). AreFronted (λ e. e.key) slots c.self.inside.by_key) (sym c.as_slice.ensures.value) c.self.invariant.key_fronts
+    subst (λ (slots : List (Option Stored)). AreFronted slots c.self.inside.by_key) (sym c.as_slice.ensures.value) c.self.invariant.fronts
 
 pub returns-clause-bound : goal.returns-clause-bound
 returns-clause-bound c = omega (arith, c.place_of_key.ensures.bound, length_sorted c.self.inside c.self.invariant c.args.self.now c.self.view_is)

@@ -1,0 +1,14 @@
+use Rattle.std.proofs.Common.{◌≡◌, ℕ, List, length, sym, ◌∙◌, subst}
+use Rattle.collate_hashes.specs.Chains.{IsLinkedTo}
+use Rattle.collate_hashes.specs.declared.chains.Link.{Link}
+use Rattle.collate_hashes.proofs.ChainLemmas.{linked_push}
+use Rattle.collate_hashes.proofs.chains.push.Goals as goal
+
+pub put_in-requires-clause-linked : goal.put_in-requires-clause-linked
+put_in-requires-clause-linked c =
+    let heads : List ℕ = c.make_buckets.new.heads.items in
+    let links : List Link = c.make_buckets.new.links.items in
+    let place : c.len-place.result ≡ length links = c.len-place.ensures ∙ c.make_buckets.new.links.ok.0 in
+    subst (IsLinkedTo heads c.push.new.self.items) (sym place)
+    (subst (λ (ls : List Link). IsLinkedTo heads ls (length links)) (sym c.in_ok-push.ensures.items)
+    (linked_push heads links (record { hash = c.args.hash; before = 0 }) c.make_buckets.ensures.linked.all))

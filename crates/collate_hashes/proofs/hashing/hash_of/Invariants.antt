@@ -1,0 +1,6 @@
+use Rattle.std.proofs.Common.{◌≡◌, drop}
+use Rattle.collate_hashes.specs.Hashes.{hash_from}
+use Rattle.collate_hashes.proofs.hashing.hash_of.Given as goal
+
+abbrev pub invariant-bytes : goal.invariant-bytes
+invariant-bytes l = hash_from l.hash (drop l.byte-index l.bytes) ≡ hash_from 0 l.bytes

@@ -1,0 +1,172 @@
+//! Chains of places, one for each bucket: the last place of the bucket, and from each place the last one before it.
+
+ghost use Rattle.std.specs.Prelude.{◌≡◌, ℕ, ◌+◌, ◌-◌, ◌%◌, ◌<◌, ◌≤◌, [], ◌∷◌, ◌++◌, All, IfNone, IfSome, OnErr, OnOk, filter, length, slice_index, slice_set};
+ghost use Rattle.collate_hashes.specs.Hashes.{is_hash};
+ghost use Rattle.collate_hashes.specs.Chains.{befores_of, hashes_of, IsIn, IsLinked, IsLinkedTo};
+
+use std::alloc::{AllocError, Global};
+
+/// A hash at a place, and the last place before it whose hash is in the same bucket.
+#[derive(Clone, Copy)]
+pub(crate) struct Link {
+    /// The hash; 0 once it was taken out.
+    pub(crate) hash: usize,
+    /// That place, counted from 1; 0 if there is none.
+    pub(crate) before: usize,
+}
+
+/// The bucket of a hash, of so many.
+fn bucket_of(hash: usize, buckets: usize) -> usize
+    requires { 0 < buckets }
+    ensures bucket { result ≡ hash % buckets }
+    ensures within { result < buckets }
+{
+    hash % buckets
+}
+
+/// Puts a place into the chain of its hash, if it has one; those before it are in theirs.
+pub(crate) fn put_in(heads: &mut Vec<usize>, links: &mut Vec<Link>, place: usize)
+    requires place { place < length links.old.items }
+    requires buckets { 0 < length heads.old.items }
+    requires linked { IsLinkedTo heads.old.items links.old.items place }
+    ensures linked { IsLinkedTo heads.new.items links.new.items (place + 1) }
+    ensures hashes { hashes_of links.new.items ≡ hashes_of links.old.items }
+    ensures buckets { length heads.new.items ≡ length heads.old.items }
+    ensures places { length links.new.items ≡ length links.old.items }
+{
+    let hash = links[place].hash;
+    if hash > 0 {
+        let bucket = bucket_of(hash, heads.len());
+        let before = heads[bucket];
+        links[place] = Link { hash, before };
+        heads[bucket] = place + 1;
+    }
+}
+
+/// Puts all places into the chains of their hashes.
+pub(crate) fn relink(heads: &mut Vec<usize>, links: &mut Vec<Link>)
+    requires empty { All (λ head. head ≡ 0) heads.old.items }
+    requires room { length links.old.items ≤ length heads.old.items }
+    ensures linked { IsLinked heads.new.items links.new.items }
+    ensures hashes { hashes_of links.new.items ≡ hashes_of links.old.items }
+    ensures buckets { length heads.new.items ≡ length heads.old.items }
+{
+    'places: for place in 0..links.len() {
+        put_in(heads, links, place);
+    }
+}
+
+/// Makes buckets for one place more, if there are as many places as buckets.
+fn make_buckets(
+    alloc: Global,
+    heads: &mut Vec<usize>,
+    links: &mut Vec<Link>,
+) -> Result<(), AllocError>
+    requires linked { IsLinked heads.old.items links.old.items }
+    ensures linked { IsLinked heads.new.items links.new.items }
+    ensures hashes { hashes_of links.new.items ≡ hashes_of links.old.items }
+    ensures room { OnOk result (length links.new.items < length heads.new.items) }
+{
+    if links.len() >= heads.len() {
+        let buckets = links.len().saturating_mul(2).saturating_add(9);
+        let mut more = Vec::from_elem(alloc, 0, buckets)?;
+        relink(&mut more, links);
+        *heads = more;
+    }
+    Ok(())
+}
+
+/// Puts a hash behind the others. An error if memory is refused; the hashes are then as before.
+pub(crate) fn push(
+    alloc: Global,
+    heads: &mut Vec<usize>,
+    links: &mut Vec<Link>,
+    hash: usize,
+) -> Result<(), AllocError>
+    requires linked { IsLinked heads.old.items links.old.items }
+    ensures linked { IsLinked heads.new.items links.new.items }
+    ensures pushed { OnOk result (hashes_of links.new.items ≡ hashes_of links.old.items ++ hash ∷ []) }
+    ensures unchanged { OnErr result (hashes_of links.new.items ≡ hashes_of links.old.items) }
+{
+    make_buckets(alloc, heads, links)?;
+    let place = links.len();
+    links.push(Link { hash, before: 0 })?;
+    put_in(heads, links, place);
+    Ok(())
+}
+
+/// The last place before an end at which a hash stands.
+pub(crate) fn last_before(heads: &[usize], links: &[Link], hash: usize, end: usize) -> Option<usize>
+    requires linked { IsLinked heads.now links.now }
+    requires hash { 0 < hash }
+    ensures before { IfSome result (λ place. place < end) }
+    ensures there { IfSome result (λ place. slice_index (hashes_of links.now) place ≡ hash) }
+    ensures last { IfSome result (λ place. (later : ℕ) → place < later → later < end → slice_index (hashes_of links.now) later ≡ hash → ⊥) }
+    ensures none { IfNone result ((place : ℕ) → place < end → slice_index (hashes_of links.now) place ≡ hash → ⊥) }
+{
+    if heads.is_empty() {
+        return None;
+    }
+    let mut place = heads[bucket_of(hash, heads.len())];
+    'chain: while place > 0 {
+        let link = links[place - 1];
+        if link.hash == hash && place <= end {
+            return Some(place - 1);
+        }
+        place = link.before;
+    }
+    None
+}
+
+/// The place behind another one in the chain of a bucket, which both are in: looked for from one on, counted from 1.
+fn place_behind(heads: &[usize], links: &[Link], from: usize, place: usize, bucket: usize) -> usize
+    requires linked { IsLinked heads.now links.now }
+    requires from { place + 1 < from }
+    requires upto { from ≤ length links.now }
+    requires first { IsIn (length heads.now) bucket (slice_index (hashes_of links.now) (from - 1)) }
+    requires last { IsIn (length heads.now) bucket (slice_index (hashes_of links.now) place) }
+    ensures behind { place < result }
+    ensures within { result < length links.now }
+    ensures bucket { IsIn (length heads.now) bucket (slice_index (hashes_of links.now) result) }
+    ensures next { slice_index (befores_of links.now) result ≡ place + 1 }
+{
+    let mut next = from;
+    'chain: while links[next - 1].before > place + 1 {
+        next = links[next - 1].before;
+    }
+    next - 1
+}
+
+/// Takes a hash out of its chain, and puts 0 in its place.
+pub(crate) fn take_out(heads: &mut Vec<usize>, links: &mut Vec<Link>, place: usize)
+    requires linked { IsLinked heads.old.items links.old.items }
+    requires place { place < length links.old.items }
+    ensures linked { IsLinked heads.new.items links.new.items }
+    ensures hashes { hashes_of links.new.items ≡ slice_set (hashes_of links.old.items) place 0 }
+{
+    let Link { hash, before } = links[place];
+    if hash == 0 {
+        return;
+    }
+    let bucket = bucket_of(hash, heads.len());
+    let last = heads[bucket];
+    if last == place + 1 {
+        heads[bucket] = before;
+        links[place].hash = 0;
+    } else {
+        let behind = place_behind(heads.as_slice(), links.as_slice(), last, place, bucket);
+        links[behind].before = before;
+        links[place].hash = 0;
+    }
+}
+
+/// Drops the places with no hash.
+pub(crate) fn drop_empty(heads: &mut Vec<usize>, links: &mut Vec<Link>)
+    requires { IsLinked heads.old.items links.old.items }
+    ensures linked { IsLinked heads.new.items links.new.items }
+    ensures hashes { hashes_of links.new.items ≡ filter is_hash (hashes_of links.old.items) }
+{
+    links.retain(|link| link.hash > 0);
+    heads.fill(0);
+    relink(heads, links);
+}
