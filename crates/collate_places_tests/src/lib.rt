@@ -1,5 +1,7 @@
-//! Tests of lists of places, by public calls. They stand here so that the crate below is proved once.
+//! Tests of lists of places and of hashes, by public calls. They stand here so that the crates below are proved once.
 #![tactic(auto)]
 
+#[cfg(test)]
+mod hashes;
 #[cfg(test)]
 mod places;

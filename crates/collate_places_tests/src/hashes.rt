@@ -1,0 +1,91 @@
+//! Hashes are put in, taken out and found again, few and many.
+
+use collate_hashes::HashList;
+use collate_hashes::hashing::hash_of;
+use std::alloc::{AllocError, Global};
+use std::test::Fail;
+
+// by powers of 1,099,511,628,211 modulo 2^64, in Python
+#[test]
+fn ok_hash_of(rt: HostRuntime) {
+    assert_eq!(rt; hash_of(b""), 1);
+    assert_eq!(rt; hash_of(b"a"), 97);
+    assert_eq!(rt; hash_of(b"ab"), 106_652_627_936_565);
+    assert_eq!(rt;
+        hash_of(b"a name of more than eight bytes"),
+        6_068_066_113_866_566_447
+    );
+}
+
+#[test]
+fn ok_push(rt: HostRuntime) -> Result<(), Fail> {
+    let mut list = HashList::new(rt.alloc());
+    assert_eq!(rt; list.last_before(7, 3), None);
+    list.push(7)?;
+    list.push(5)?;
+    list.push(7)?;
+    assert_eq!(rt; list.last_before(7, 3), Some(2));
+    assert_eq!(rt; list.last_before(7, 2), Some(0));
+    assert_eq!(rt; list.last_before(7, 0), None);
+    assert_eq!(rt; list.last_before(16, 3), None);
+    if !list.is_empty() {
+        list.take_out(0);
+    }
+    assert_eq!(rt; list.last_before(7, 3), Some(2));
+    assert_eq!(rt; list.last_before(7, 2), None);
+    list.drop_empty();
+    assert_eq!(rt; list.last_before(5, 2), Some(0));
+    assert_eq!(rt; list.last_before(7, 2), Some(1));
+    Ok(())
+}
+
+/// The last place before an end at which a number stands, looked for one by one.
+fn plain_last(plain: &[usize], hash: usize, end: usize) -> Option<usize> {
+    let mut last = None;
+    for (place, other) in plain.iter().enumerate() {
+        if place < end && *other == hash {
+            last = Some(place);
+        }
+    }
+    last
+}
+
+/// So many hashes, of few values, some of them taken out.
+fn put_in(alloc: Global, count: usize) -> Result<(HashList, Vec<usize>), AllocError> {
+    let mut list = HashList::new(alloc);
+    let mut plain = Vec::new(alloc);
+    for step in 0..count {
+        let hash = step.wrapping_mul(step) % 37 + 1;
+        list.push(hash)?;
+        plain.push(hash)?;
+    }
+    for step in 0..count {
+        if step % 3 == 1 && step < plain.len() && step < list.len() {
+            plain[step] = 0;
+            list.take_out(step);
+        }
+    }
+    Ok((list, plain))
+}
+
+/// Whether each hash is found before each of some ends.
+fn are_found(list: &HashList, plain: &[usize]) -> bool {
+    for hash in 1..40 {
+        for end in [0, 1, 7, 100, 255, 300, 700] {
+            if hash > 0 && list.last_before(hash, end) != plain_last(plain, hash, end) {
+                return false;
+            }
+        }
+    }
+    true
+}
+
+#[test]
+fn ok_many(rt: HostRuntime) -> Result<(), Fail> {
+    let (mut list, mut plain) = put_in(rt.alloc(), 500)?;
+    assert!(rt; are_found(&list, plain.as_slice()));
+    list.drop_empty();
+    plain.retain(|hash| *hash > 0);
+    assert!(rt; are_found(&list, plain.as_slice()));
+    Ok(())
+}
