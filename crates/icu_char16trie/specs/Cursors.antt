@@ -5,6 +5,7 @@ use Rattle.icu_char16trie.specs.UnitMaps.{at_state, MapsKey, IsWhole, HasValue, 
 use Rattle.icu_char16trie.specs.UnitAnswers.{IsAnswer}
 use Rattle.icu_char16trie.specs.declared.Char16Trie.{Char16Trie}
 use Rattle.icu_char16trie.specs.declared.Char16TrieIterator.{Char16TrieIterator}
+use Rattle.icu_char16trie.specs.declared.CursorPlace.{CursorPlace}
 use Rattle.icu_char16trie.specs.declared.node.State.{State}
 use Rattle.icu_char16trie.specs.declared.node.State.TheVariants.{Stopped}
 use Rattle.icu_char16trie.specs.declared.node.Arrival.{Arrival}
@@ -22,6 +23,10 @@ cursor_units cursor = cursor.units.now
 -- where a cursor stands
 abbrev pub cursor_state : Char16TrieIterator → State
 cursor_state cursor = cursor.state
+
+-- where a cursor stood
+abbrev pub place_state : CursorPlace → State
+place_state place = place.state
 
 -- the trie maps the key to the number
 abbrev pub IsEntry : Char16Trie → List ℕ → ℤ → Type 0
@@ -63,6 +68,10 @@ units_of code =
 abbrev pub follow : List ℕ → State → List ℕ → State
 follow units state [] = state
 follow units state (unit ∷ rest) = follow units (state_of (step units state unit)) rest
+
+-- where one stands that goes on from a place
+abbrev pub place_after : List ℕ → CursorPlace → List ℕ → CursorPlace
+place_after units place key = record { state = follow units place.state key }
 
 -- what a cursor answers to the last of the units
 abbrev pub answer_to : List ℕ → State → List ℕ → TrieResult

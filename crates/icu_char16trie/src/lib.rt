@@ -3,8 +3,8 @@
 //! units; `Char16Trie::new` and `iter` give a cursor over them. Callers use it through `icu_collections`.
 #![tactic(auto)]
 
-ghost use Rattle.std.specs.Prelude.{◌≡◌, ◌+◌, ◌*◌, ◌^◌, ◌<◌, ◌≤◌, ◌-◌, ◌/◌, ◌%◌, [], ◌∷◌, ◌↔◌, ℕ, ℤ, List, IfOk};
-ghost use Rattle.icu_char16trie.specs.Cursors.{IsEntry, IsEntryFrom, IsStopped, IsWholeFrom, IsWholeTrie, Follows, trie_units, cursor_units, cursor_state, follow, answer_of, answer_to, state_of, units_of};
+ghost use Rattle.std.specs.Prelude.{◌≡◌, ◌+◌, ◌*◌, ◌^◌, ◌<◌, ◌≤◌, ◌-◌, ◌/◌, ◌%◌, [], ◌∷◌, ◌↔◌, ℕ, ℤ, List, IfOk, IsTrue};
+ghost use Rattle.icu_char16trie.specs.Cursors.{IsEntry, IsEntryFrom, IsStopped, IsWholeFrom, IsWholeTrie, Follows, trie_units, cursor_units, cursor_state, place_state, follow, answer_of, answer_to, state_of, units_of};
 ghost use Rattle.icu_char16trie.specs.UnitSteps.{start, step};
 
 use icu_packed_vector::PackedVec;
@@ -16,7 +16,7 @@ mod node;
 mod reader;
 mod writer;
 
-use node::{State, start, step};
+use node::{State, is_same_state, start, step};
 pub use reader::{EntryTest, KeyFold, ReadUnitsError, all_pass, fold_keys, read_units};
 pub use writer::{WriteUnitsError, write_units};
 
@@ -47,6 +47,21 @@ pub struct Char16TrieIterator<'t> {
     state: State,
 }
 
+/// A place in a unit trie where a cursor stood, from which another one may go on.
+#[derive(Clone, Copy, Debug)]
+pub struct CursorPlace {
+    state: State,
+}
+
+impl CursorPlace {
+    /// Whether two places are the same.
+    pub fn is_same(self, other: CursorPlace) -> bool
+        ensures { IsTrue result → self ≡ other }
+    {
+        is_same_state(self.state, other.state)
+    }
+}
+
 impl<'a> Char16Trie<'a> {
     /// The trie of these units, whatever they are: units that break the grammar match nothing.
     pub fn new(units: PackedVec<'a, u16>) -> Char16Trie<'a>
@@ -68,6 +83,17 @@ impl<'a> Char16Trie<'a> {
         }
     }
 
+    /// A cursor at a place where another one stood.
+    pub fn iter_from(&self, place: CursorPlace) -> Char16TrieIterator<'_>
+        ensures units { cursor_units result ≡ trie_units self.now }
+        ensures stands { cursor_state result ≡ place_state place }
+    {
+        Char16TrieIterator {
+            units: &self.units,
+            state: place.state,
+        }
+    }
+
     /// The same trie: borrowed units are borrowed again, others copied. Fails only when out of
     /// memory.
     pub fn clone(&self, alloc: Global) -> Result<Char16Trie<'a>, AllocError>
@@ -79,6 +105,13 @@ impl<'a> Char16Trie<'a> {
 }
 
 impl Char16TrieIterator<'_> {
+    /// The place where it stands.
+    pub fn place(&self) -> CursorPlace
+        ensures { place_state result ≡ cursor_state self.now }
+    {
+        CursorPlace { state: self.state }
+    }
+
     /// Follows one unit more, and answers what the units so far are. After `NoMatch` or `FinalValue`
     /// every answer is `NoMatch`, and so it is where the units of the trie break the grammar.
     pub fn next16(&mut self, unit: u16) -> TrieResult

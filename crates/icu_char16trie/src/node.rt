@@ -1,6 +1,6 @@
 //! The nodes of a unit trie, and what a unit leads to at one. There is nothing where the units
 //! match no key or break the grammar.
-ghost use Rattle.std.specs.Prelude.{◌≡◌, ◌+◌, ◌*◌, ◌^◌, ◌<◌, ◌≤◌, ◌-◌, slice_get, IfSome, length};
+ghost use Rattle.std.specs.Prelude.{◌≡◌, ◌+◌, ◌*◌, ◌^◌, ◌<◌, ◌≤◌, ◌-◌, slice_get, IfSome, IsTrue, length};
 ghost use Rattle.icu_char16trie.specs.UnitSteps.{half_of, small_part, entry_at, entry_target, target_in, opened, arrive_at, reached, matched, branched, step, start_node, start};
 
 use super::TrieResult;
@@ -45,6 +45,22 @@ pub(super) enum State {
     Branch(Branch),
     /// A unit must match.
     Match(Match),
+}
+
+/// Whether two states are the same.
+pub(super) fn is_same_state(one: State, other: State) -> bool
+    ensures { IsTrue result → one ≡ other }
+{
+    match (one, other) {
+        (State::Stopped, State::Stopped) => true,
+        (State::Branch(one), State::Branch(other)) => {
+            one.count == other.count && one.place == other.place
+        }
+        (State::Match(one), State::Match(other)) => {
+            one.left == other.left && one.place == other.place
+        }
+        _ => false,
+    }
 }
 
 /// What a unit led to: the answer, and where the cursor stands then.

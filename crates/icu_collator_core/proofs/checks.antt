@@ -2,10 +2,10 @@
 pub mod ContextLemmas
 pub mod KeyLemmas
 pub mod FlagLemmas
-pub mod LengthLemmas
+pub mod FoldLemmas
 pub mod ListLemmas
 pub mod LookupLemmas
-pub mod MarkLemmas
+pub mod RecordLemmas
 pub mod TestLemmas
 pub mod UnrecordedLemmas
 pub mod ValueLemmas

@@ -39,10 +39,6 @@ answer canonical HoldsNoStarter suffix = not (holds_starter canonical suffix)
 abbrev pub is_short : List ℕ → Bool
 is_short suffix = leb (length suffix) longest_suffix
 
--- the same asked of such suffixes alone; a longer one fails
-abbrev pub short_answer : Canonical → Question → List ℕ → Bool
-short_answer canonical question suffix = is_short suffix && answer canonical question suffix
-
 -- a flag is set just where a fact holds
 abbrev pub agree : Bool → Bool → Bool
 agree flag fact = cond flag fact (not fact)

@@ -1,30 +1,29 @@
--- The characters that keys of contexts spell, of which at most seven are read.
-use Rattle.std.specs.Prelude.{◌≡◌, ℕ, ℤ, ◌+◌, ◌<◌, ◌≤◌, Bool, false, cond, ◌||◌, leb, ltb, List, ◌∷◌, length, take, drop, Some, None, option_map}
-use Rattle.icu_collator_core.specs.declared.check.texts.KeyText.{KeyText}
-use Rattle.icu_collator_core.specs.ContextRules.{characters_of_units, is_lower_half, longest_suffix}
+-- What the units of keys of contexts spell, folded one character after another.
+use Rattle.std.specs.Prelude.{ℕ, Bool, false, cond, ◌&&◌, leb, List, fold}
+use Rattle.icu_normalizer_core.specs.BuiltIn.{is_within}
+use Rattle.icu_collator_core.specs.declared.check.walks.Reading.{Reading}
+use Rattle.icu_collator_core.specs.declared.check.walks.Reading.TheVariants.{Whole, Half, Broken}
+use Rattle.icu_collator_core.specs.ContextRules.{is_lower_half, is_upper_half, joined_halves}
 
--- the characters of a text that was read
-abbrev pub text_items : KeyText → List ℕ
-text_items text = take text.count text.characters
+module _ {A : Type 0} where
+  -- what a unit more makes of what the units so far come to
+  abbrev pub read_unit : (A → ℕ → A) → Reading A → ℕ → Reading A
+  read_unit onward (Whole folded) unit =
+      cond (is_within 0xd800 0xdfff unit) (cond (is_upper_half unit) (Half folded unit) Broken) (Whole (onward folded unit))
+  read_unit onward (Half folded upper) unit =
+      cond (is_upper_half upper && is_lower_half unit) (Whole (onward folded (joined_halves upper unit))) Broken
+  read_unit onward Broken unit = Broken
 
--- how many units a character has
-abbrev pub unit_count : ℕ → ℕ
-unit_count c = cond (ltb c 0x10000) 1 2
+  -- the same of units of 16 bits alone
+  abbrev pub read_small : (A → ℕ → A) → Reading A → ℕ → Reading A
+  read_small onward reading unit = cond (leb unit 0xffff) (read_unit onward reading unit) Broken
 
--- behind a place of a key stand a character, and the characters of the units behind it
-abbrev pub BeginsWith : List ℕ → ℕ → ℕ → Type 0
-BeginsWith key place c =
-    (place + unit_count c ≤ length key)
-    × (characters_of_units (drop place key) ≡ option_map (λ cs. c ∷ cs) (characters_of_units (drop (place + unit_count c) key)))
+  -- units are whole characters that pass
+  abbrev pub tells : (A → Bool) → Reading A → Bool
+  tells passes (Whole folded) = passes folded
+  tells passes (Half folded upper) = false
+  tells passes Broken = false
 
--- a key spells no text, or too long a one
-abbrev pub HasNoText : List ℕ → Type 0
-HasNoText key = (cs : List ℕ) → characters_of_units key ≡ Some cs → longest_suffix < length cs
-
--- how many characters there are with a unit more, up to eight
-abbrev pub counted : ℕ → ℕ → ℕ
-counted count unit = cond (leb 8 count || is_lower_half unit) count (count + 1)
-
--- a test of the characters of keys; a key that is not whole characters fails
-abbrev pub by_text : (List ℕ → Bool) → List ℕ → ℤ → Bool
-by_text passes key number = elim (characters_of_units key) [ Some cs ↦ passes cs | None ↦ false ]
+  -- characters pass by what they are folded to
+  abbrev pub by_fold : (A → Bool) → (A → ℕ → A) → A → List ℕ → Bool
+  by_fold passes onward start cs = passes (fold onward start cs)

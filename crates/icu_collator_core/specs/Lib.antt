@@ -29,6 +29,7 @@ pub mod WordWeights
 pub mod PrefixFaults
 pub mod WeightLists
 pub mod KeyTexts
+pub mod TextFolds
 pub mod ContextFaults
 pub mod Acceptance
 pub mod ReadWords

@@ -1,6 +1,6 @@
 -- Which characters the words of tables tie to what stands before them: those of the texts in contexts behind a character, and
 -- a character with texts in its context before it.
-use Rattle.std.specs.Prelude.{◌≡◌, ℕ, ℤ, ◌⊎◌, ◌≤◌, Bool, true, ◌||◌, List, length, flat_map, IsTrue, MatchOption}
+use Rattle.std.specs.Prelude.{◌≡◌, ℕ, zero, suc, ℤ, ◌⊎◌, ◌<◌, ◌≤◌, Bool, true, ◌||◌, List, length, flat_map, slice_index, IsTrue, MatchOption}
 use Rattle.std.specs.Char.{IsScalar}
 use Rattle.std.specs.Int.{cast_unsigned, w32}
 use Rattle.std.specs.List.{Contains}
@@ -14,11 +14,15 @@ use Rattle.icu_collator_types.specs.declared.elements.word_tags.Tag.TheVariants.
 use Rattle.icu_collator_types.specs.ElementWords.{has_tag}
 use Rattle.icu_collator_core.specs.declared.tables.CollationTables.{CollationTables}
 use Rattle.icu_collator_core.specs.declared.tables.data.CollationData.{CollationData}
+use Rattle.icu_collator_core.specs.declared.check.walks.Reading.{Reading}
+use Rattle.icu_collator_core.specs.declared.check.walks.Reading.TheVariants.{Whole, Half, Broken}
+use Rattle.icu_collator_core.specs.declared.tied.texts.Met.{Met}
 use Rattle.icu_collator_core.specs.declared.tied.texts.Side.{Side}
 use Rattle.icu_collator_core.specs.declared.tied.texts.Side.TheVariants.{Before, Behind}
 use Rattle.icu_collator_core.specs.ContextRules.{longest_suffix}
 use Rattle.icu_collator_core.specs.Pools.{Pools, elements_of_word, index_of, trie_of, unprefixed_word}
 use Rattle.icu_collator_core.specs.TableMeaning.{TableWord, counting_word, word_at}
+use Rattle.icu_collator_core.specs.TextFolds.{has_met}
 use Rattle.icu_collator_core.specs.UnsafeCharacters.{IsTied}
 use Rattle.icu_collator_core.specs.WeightLists.{Lists}
 use Rattle.icu_collator_core.specs.Weights.{Weights}
@@ -53,6 +57,32 @@ ContextTies pools side word d =
     × AreReadable (trie_of pools.contexts (index_of word))
     × MapsKey (trie_of pools.contexts (index_of word)) (at_node 0) key number
     × EntryTies pools side key number d
+
+-- ## The characters at a place of texts
+
+-- the last of so many characters of a text, or for none of them the first
+abbrev pub IsLastOf : ℕ → ℕ → List ℕ → ℕ → Type 0
+IsLastOf zero first cs d = d ≡ first
+IsLastOf (suc place) first cs d = (place < length cs) × (d ≡ slice_index cs place)
+
+-- a key gives it
+abbrev pub KeyGives : ℕ → ℕ → List ℕ → ℕ → Type 0
+KeyGives many first key d = (cs : List ℕ) × IsKeyOf cs key × IsLastOf many first cs d
+
+-- the context that a word names does, by a key whose word has elements
+abbrev pub ContextGives : Pools → ℕ → ℕ → ℕ → ℕ → Type 0
+ContextGives pools many first word d =
+    (key : List ℕ) × (number : ℤ)
+    × AreReadable (trie_of pools.contexts (index_of word))
+    × MapsKey (trie_of pools.contexts (index_of word)) (at_node 0) key number
+    × IsTrue (is_some (elements_of_word pools (cast_unsigned w32 number)))
+    × KeyGives many first key d
+
+-- what the units of a key come to gives it, with a word
+abbrev pub ReadingGives : Pools → ℕ → Reading Met → ℕ → ℕ → Type 0
+ReadingGives pools many (Whole met) word d = IsTrue (is_some (elements_of_word pools word)) × IsTrue (has_met many met) × (d ≡ met.character)
+ReadingGives pools many (Half met upper) word d = ⊥
+ReadingGives pools many Broken word d = ⊥
 
 -- ## Words of characters
 

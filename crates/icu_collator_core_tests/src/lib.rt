@@ -22,6 +22,8 @@ mod refusals;
 #[cfg(test)]
 mod settings;
 #[cfg(test)]
+mod shared_nodes;
+#[cfg(test)]
 mod tables;
 #[cfg(test)]
 mod weight_rules;

@@ -8,11 +8,15 @@ use std::alloc::Global;
 
 /// Another word of "a", and the lists that it names.
 #[derive(Clone, Copy)]
-struct Change<'l> {
-    word: u32,
-    ces: &'l [u64],
-    ce32s: &'l [u32],
-    contexts: &'l [u16],
+pub struct Change<'l> {
+    /// The word.
+    pub word: u32,
+    /// Elements of 64 bits.
+    pub ces: &'l [u64],
+    /// Words.
+    pub ce32s: &'l [u32],
+    /// Contexts.
+    pub contexts: &'l [u16],
 }
 
 /// The data of the worked rows with a change; `None` where memory is refused.
@@ -31,7 +35,7 @@ fn changed_tailoring(alloc: Global, change: &Change<'_>) -> Option<CollationTabl
 }
 
 /// Whether a change is judged so, in the root and in a tailoring.
-fn is_judged(alloc: Global, change: &Change<'_>, expected: Option<TableFault>) -> bool {
+pub fn is_judged(alloc: Global, change: &Change<'_>, expected: Option<TableFault>) -> bool {
     judged(alloc, changed_root(alloc, change), expected)
         && judged(alloc, changed_tailoring(alloc, change), expected)
 }

@@ -14,8 +14,8 @@ use lib.Utf8.{scalar, scalars}
 use Rattle.icu_char16trie.specs.Cursors.{units_of}
 use Rattle.icu_collator_core.specs.ContextRules.{characters_of_units}
 use Rattle.icu_collator_core.proofs.apart.GrowthLemmas.{first_in, first_or_later, later_in, none_in}
-use Rattle.icu_collator_core.proofs.checks.WalkLemmas.{key_length}
 use Rattle.icu_collator_core.proofs.meaning.ContextTextLemmas.{units_spell}
+use Rattle.icu_collator_core.proofs.meaning.KeyValueLemmas.{units_few}
 use Rattle.collate_words.specs.ContextKeys.{key_text}
 use Rattle.collate_words.specs.Fits.{are_different}
 use Rattle.collate_words.specs.Sayings.{SaidBeside, texts_beside}
@@ -151,7 +151,7 @@ same_text backward cs ds first second e =
 pub key_short : (backward : Bool) (cs : List ℕ) → All IsScalar cs
     → length (flat_map units_of (key_text backward cs)) ≤ 2 * length cs
 key_short backward cs all =
-    let bound = key_length (flat_map units_of (key_text backward cs)) (key_text backward cs)
+    let bound = units_few (flat_map units_of (key_text backward cs)) (key_text backward cs)
     (key_spells backward cs all) in
     let same = turned_length backward cs in
     omega (arith, bound, same)

@@ -1,5 +1,5 @@
 -- What is gathered at the places of lists.
-use Rattle.std.proofs.Common.{◌≡◌, ◌↔◌, ℕ, ℤ, ◌-◌, ◌^◌, ◌<◌, Vec, Global, List, length, get_or, slice_index, refl, sym, ap, ◌∙◌, subst, arith}
+use Rattle.std.proofs.Common.{◌≡◌, ◌↔◌, ℕ, ℤ, ◌^◌, ◌<◌, List, length, get_or, slice_index, refl, sym, ap, ◌∙◌, subst, arith}
 use Rattle.std.specs.Char.{IsScalar}
 use Rattle.std.specs.Prelude.{⊤, fold}
 use Rattle.std.specs.Int.{cast_unsigned, w32}
@@ -13,11 +13,6 @@ use Rattle.icu_collator_core.specs.PrefixFaults.{HasValue}
 use Rattle.icu_collator_core.specs.WordForms.{keeps_nothing}
 use Rattle.icu_collator_core.proofs.checks.ValueLemmas.{folded_readable}
 use Rattle.icu_collator_core.proofs.apart.GrowthLemmas.{UpTo, item_at}
-
--- ---- Entries of unit tries
-
-abbrev pub Entry : Type 0
-Entry = Vec ℕ Global × ℤ
 
 -- ---- Values
 
@@ -44,13 +39,6 @@ all_entries list n many word = (
   λ h. let found = item_at list h.1.0 h.1.1 in
       (h.1.0, (let lt = h.1.1 in omega (arith, many, lt)), (h.0, (λ d. found.1 d ∙ sym (found.1 h.0) ∙ h.1.2), h.2)),
 )
-
-abbrev pub units_and_value : Entry → List ℕ × ℤ
-units_and_value entry = (entry.0.items, entry.1)
-
--- 2 ^ 64 - 1 limits no key
-abbrev pub most : ℕ
-most = 2 ^ 64 - 1
 
 pub values_read : (pools : Pools) (word : ℕ) (list : List Valued) → AreFolded keeps_nothing tt (trie_of pools.contexts (index_of word)) list
     → length pools.contexts < 2 ^ 64 → (value : ℕ) → HasEntry list value ↔ HasValue pools word value

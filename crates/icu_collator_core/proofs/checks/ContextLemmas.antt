@@ -1,37 +1,18 @@
--- The rules on contexts: texts that pass are short, words that record something, and the rules one after another.
-use Rattle.std.proofs.Common.{◌≡◌, ◌↔◌, ℕ, ◌<◌, ◌≤◌, Bool, true, false, cond, not, ◌&&◌, ◌||◌, List, [], ◌∷◌, length, take, Option, Some, None, refl, sym, ◌∙◌, arith}
+-- The rules on contexts: words that record something, and the rules one after another.
+use Rattle.std.proofs.Common.{◌≡◌, ◌↔◌, ℕ, ◌<◌, Bool, true, false, cond, not, ◌&&◌, ◌||◌, List, [], ◌∷◌, length, Option, Some, None, refl, sym, ◌∙◌, arith}
 use Rattle.std.specs.Bool.{IsTrue}
-use Rattle.std.proofs.lemmas.List.{length-take-le}
-use Rattle.std.specs.Prelude.{is_some, option_and_then, leb}
-use Rattle.std.proofs.lemmas.Bool.{and_parts, false≢true, leb-true}
+use Rattle.std.specs.Prelude.{is_some, option_and_then}
+use Rattle.std.proofs.lemmas.Bool.{false≢true}
 use Rattle.icu_normalizer_core.specs.Canonical.{Canonical}
 use Rattle.icu_collator_types.specs.declared.elements.Element.{Element}
 use Rattle.icu_collator_types.specs.declared.elements.word_tags.Tag.TheVariants.{Digit}
 use Rattle.icu_collator_types.specs.ElementWords.{has_tag}
-use Rattle.icu_collator_core.specs.declared.check.flags.Question.{Question}
-use Rattle.icu_collator_core.specs.ContextFaults.{KeepsPrefixRules, KeepsSuffixRules, are_others, is_short, keeps_digit_rule, short_answer}
-use Rattle.icu_collator_core.specs.ContextRules.{KeepsContextRules, is_prefix, is_recorded_by, is_suffix, may_be_digit}
+use Rattle.icu_collator_core.specs.ContextFaults.{KeepsPrefixRules, KeepsSuffixRules, are_others, is_short, keeps_digit_rule}
+use Rattle.icu_collator_core.specs.ContextRules.{KeepsContextRules, KeysPass, has_marks_last, is_recorded_by, is_recorded_shorter, is_suffix, may_be_digit}
 use Rattle.icu_collator_core.specs.Pools.{elements_of_word, lone_word, suffix_word, unprefixed_word}
 use Rattle.icu_collator_core.specs.TableMeaning.{TableWord, is_primary_alone, own_primary, recorded_by, unless_own}
-
--- ---- Texts that pass are short
-
-at_most : (n : ℕ) (cs : List ℕ) (b : Bool) → (leb (length cs) n && b) ≡ true → length cs ≤ n
-at_most n cs b e = leb-true (length cs) n (and_parts (leb (length cs) n) b e).0
-
-pub short_prefix : (canonical : Canonical) (digit : ℕ → Option ℕ) (cs : List ℕ) → is_prefix canonical digit cs ≡ true → length cs ≤ 7
-short_prefix canonical digit cs e = let few = at_most 3 cs _ e in omega (arith, few)
-
-pub short_suffix : (canonical : Canonical) (is_recorded : List ℕ → List ℕ → Bool) (c : ℕ) (cs : List ℕ) → is_suffix canonical is_recorded c cs ≡ true
-    → length cs ≤ 7
-short_suffix canonical is_recorded c cs e = at_most 7 cs _ e
-
-pub short_answered : (canonical : Canonical) (question : Question) (cs : List ℕ) → short_answer canonical question cs ≡ true → length cs ≤ 7
-short_answered canonical question cs e = at_most 7 cs _ e
-
-pub suffix_is_short : (canonical : Canonical) (is_recorded : List ℕ → List ℕ → Bool) (c : ℕ) (cs : List ℕ) → IsTrue (is_suffix canonical is_recorded c cs)
-    → IsTrue (is_short cs)
-suffix_is_short canonical is_recorded c cs e = (and_parts (is_short cs) _ e).0
+use Rattle.icu_collator_core.proofs.checks.TestLemmas.{no_is}
+use Rattle.icu_collator_core.proofs.checks.WalkLemmas.{parts_pass}
 
 -- ---- Words that record something
 
@@ -54,9 +35,6 @@ pub behind_recorded : (entry : TableWord) (c : ℕ) (ds : List ℕ) → 0 < leng
 unfolding recorded_by
 behind_recorded entry c [] some = absurd (omega (arith, some))
 behind_recorded entry c (d ∷ ds) some = refl
-
-pub some_taken : (items : List ℕ) (count : ℕ) → 0 < count → count ≤ length items → 0 < length (take count items)
-some_taken items count some inside = let same = length-take-le count items inside in omega (arith, some, same)
 
 -- ---- The rules one after another
 
@@ -101,3 +79,28 @@ module _ (canonical : Canonical) (digit : ℕ → Option ℕ) (entry : TableWord
       → IsTrue answer ↔ KeepsContextRules canonical digit entry c
   suffixes_told answer digits prefixes told =
       (λ t. rules_kept.0 (digits, prefixes, told.0 t), λ kept. told.1 (rules_kept.1 kept).2)
+
+-- ---- The rules on suffixes one after another
+
+module _ (canonical : Canonical) (is_recorded : List ℕ → List ℕ → Bool) (c : ℕ) (units : List ℕ) where
+  abbrev Last : List ℕ → Bool
+  Last cs = has_marks_last canonical (c ∷ cs)
+
+  abbrev Shorter : List ℕ → Bool
+  Shorter = is_recorded_shorter canonical is_recorded c
+
+  pub long_refused : (short : Bool) → short ≡ false → (IsTrue short ↔ KeysPass is_short units) → KeysPass (is_suffix canonical is_recorded c) units → ⊥
+  long_refused short e told pass = no_is short e told ((parts_pass units is_short (λ cs. Last cs && Shorter cs)).0 pass).0
+
+  pub mixed_refused : (last : Bool) → last ≡ false → (IsTrue last ↔ KeysPass Last units) → KeysPass (is_suffix canonical is_recorded c) units → ⊥
+  mixed_refused last e told pass =
+      no_is last e told ((parts_pass units Last Shorter).0 ((parts_pass units is_short (λ cs. Last cs && Shorter cs)).0 pass).1).0
+
+  pub suffixes_by_parts : (short last recorded : Bool) → short ≡ true → last ≡ true → (IsTrue short ↔ KeysPass is_short units)
+      → (IsTrue last ↔ KeysPass Last units) → (IsTrue recorded ↔ KeysPass Shorter units)
+      → IsTrue recorded ↔ KeysPass (is_suffix canonical is_recorded c) units
+  suffixes_by_parts short last recorded is_few are_last few told_last told = (
+    λ t. (parts_pass units is_short (λ cs. Last cs && Shorter cs)).1
+        (few.0 is_few, (parts_pass units Last Shorter).1 (told_last.0 are_last, told.0 t)),
+    λ pass. told.1 ((parts_pass units Last Shorter).0 ((parts_pass units is_short (λ cs. Last cs && Shorter cs)).0 pass).1).1,
+  )

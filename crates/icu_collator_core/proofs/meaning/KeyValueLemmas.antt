@@ -21,7 +21,7 @@ one_more c (Some xs) cs n e few =
     let more = few xs refl in subst (λ ys. n + 2 ≤ 2 * length ys) (same_Some (c ∷ xs) cs e) (omega (arith, more))
 
 -- a key has at most two units a character
-units_few : (key cs : List ℕ) → characters_of_units key ≡ Some cs → length key ≤ 2 * length cs
+pub units_few : (key cs : List ℕ) → characters_of_units key ≡ Some cs → length key ≤ 2 * length cs
 unfolding characters_of_units
 units_few [] cs e = omega arith
 units_few (unit ∷ []) cs e =

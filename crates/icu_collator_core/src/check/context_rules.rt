@@ -4,8 +4,9 @@ ghost use Rattle.std.specs.Prelude.{◌≡◌, ◌↔◌, IsTrue, IfOk, MatchOpt
 ghost use Rattle.icu_normalizer_core.specs.BorrowedMeaning.{borrowed_meaning};
 ghost use Rattle.icu_collator_core.specs.ContextFaults.{HasContexts, KeepsPrefixRules, KeepsSuffixRules, entry_in, keeps_digit_rule};
 ghost use Rattle.icu_collator_core.specs.ContextRules.{KeepsContextRules, is_recorded_by, may_be_digit, may_have_prefix};
+ghost use Rattle.icu_collator_core.specs.Pools.{unprefixed_word};
 ghost use Rattle.icu_collator_core.specs.TableFaults.{AllPassIn, IsFirstRefused};
-ghost use Rattle.icu_collator_core.specs.TableMeaning.{weights_of};
+ghost use Rattle.icu_collator_core.specs.TableMeaning.{pools_of, weights_of};
 
 use super::characters::{CharacterTest, first_refused};
 use super::digits::is_digit;
@@ -98,6 +99,7 @@ fn keeps_suffix_rules(
     word: u32,
     unprefixed: u32,
 ) -> Result<bool, AllocError>
+    requires { unprefixed ≡ unprefixed_word (pools_of source.now) word }
     ensures { IfOk result (λ yes. IsTrue yes ↔ KeepsSuffixRules (borrowed_meaning canonical.entry) (entry_in source.now word) c unprefixed) }
 {
     if !has_tag(unprefixed, Tag::Contraction) {

@@ -2,13 +2,11 @@
 
 ghost use Rattle.std.specs.Prelude.{◌≡◌, ◌^◌, ◌<◌, ◌↔◌, ◌&&◌, IsTrue, IfOk};
 ghost use Rattle.icu_normalizer_core.specs.BorrowedMeaning.{borrowed_meaning};
-ghost use Rattle.icu_collator_core.specs.ContextFaults.{agree, answer, is_short, short_answer};
+ghost use Rattle.icu_collator_core.specs.ContextFaults.{agree, answer};
 ghost use Rattle.icu_collator_core.specs.ContextRules.{AreFlagsTrue, KeysPass, has_flag};
-ghost use Rattle.icu_collator_core.specs.KeyTexts.{text_items};
 ghost use Rattle.icu_collator_core.specs.Pools.{trie_of};
+ghost use Rattle.icu_collator_core.specs.TextFolds.{answered_first};
 
-use super::marks::{begins_with_mark, ends_in_mark, holds_starter};
-use super::texts::KeyText;
 use super::walks::{TextTest, keys_pass};
 use icu_normalizer_core::canonical::CanonicalBorrowed;
 use icu_packed_vector::PackedVec;
@@ -25,15 +23,13 @@ pub(super) enum Question {
     HoldsNoStarter,
 }
 
-/// The answer for a suffix.
-fn answer(canonical: CanonicalBorrowed<'_>, question: Question, text: &KeyText) -> bool
-    ensures { result ≡ answer (borrowed_meaning canonical.entry) question (text_items text.now) }
-{
-    match question {
-        Question::BeginsWithMark => begins_with_mark(canonical, text),
-        Question::EndsInNoMark => !ends_in_mark(canonical, text),
-        Question::HoldsNoStarter => !holds_starter(canonical, text),
-    }
+/// What is answered for the characters so far.
+#[derive(Clone, Copy, Debug)]
+pub(super) struct Answered {
+    /// There are none.
+    is_empty: bool,
+    /// The answer.
+    is_yes: bool,
 }
 
 /// The test for suffixes of which a question is answered yes.
@@ -44,21 +40,59 @@ struct AnswerTest<'d> {
 }
 
 impl<'d> TextTest for AnswerTest<'d> {
-    ghost use Rattle.std.proofs.Common.{rules};
     ghost use Rattle.icu_normalizer_core.specs.BorrowedMeaning.{borrowed_meaning};
-    ghost use Rattle.icu_collator_core.specs.ContextFaults.{short_answer};
+    ghost use Rattle.icu_collator_core.specs.TextFolds.{answered_with, is_yes};
 
-    ghost test = { λ asked. short_answer (borrowed_meaning asked.canonical) asked.question };
+    type Folded = Answered;
 
-    fn passes(&self, text: &KeyText) -> bool {
-        text.count <= 7 && answer(self.canonical, self.question, text)
+    ghost onward = { λ asked. answered_with (borrowed_meaning asked.canonical) asked.question };
+
+    ghost test = { λ _ answered. is_yes answered };
+
+    fn fold_character(&self, before: Answered, c: char) -> Answered {
+        let is_starter = self.canonical.is_starter(c);
+        let is_yes = match self.question {
+            Question::BeginsWithMark => {
+                if before.is_empty {
+                    !is_starter
+                } else {
+                    before.is_yes
+                }
+            }
+            Question::EndsInNoMark => is_starter,
+            Question::HoldsNoStarter => before.is_yes && !is_starter,
+        };
+        Answered {
+            is_empty: false,
+            is_yes,
+        }
     }
 
-    ghost short = { λ asked cs e. Prim.search rules };
+    fn passes(&self, answered: Answered) -> bool {
+        answered.is_yes
+    }
+
+    fn is_same(&self, one: Answered, other: Answered) -> bool {
+        one.is_empty == other.is_empty && one.is_yes == other.is_yes
+    }
 }
 
-/// Whether the units of the context at a place keep the grammar of unit tries, and all its keys are characters, at most
-/// seven, of which a question is answered yes. Fails only when out of memory.
+/// What is answered for no characters.
+fn answered_first(question: Question) -> Answered
+    ensures { result ≡ answered_first question }
+{
+    let is_yes = match question {
+        Question::BeginsWithMark => false,
+        Question::EndsInNoMark | Question::HoldsNoStarter => true,
+    };
+    Answered {
+        is_empty: true,
+        is_yes,
+    }
+}
+
+/// Whether the units of the context at a place keep the grammar of unit tries, and all its keys are characters of which a
+/// question is answered yes. Fails only when out of memory.
 fn is_answered(
     alloc: Global,
     canonical: CanonicalBorrowed<'_>,
@@ -67,13 +101,13 @@ fn is_answered(
     question: Question,
 ) -> Result<bool, AllocError>
     requires { place < 2 ^ 32 }
-    ensures { IfOk result (λ all. IsTrue all ↔ KeysPass (short_answer (borrowed_meaning canonical.entry) question) (trie_of contexts.now place)) }
+    ensures { IfOk result (λ all. IsTrue all ↔ KeysPass (answer (borrowed_meaning canonical.entry) question) (trie_of contexts.now place)) }
 {
     let test = AnswerTest {
         canonical,
         question,
     };
-    let all = keys_pass(alloc, contexts, place, &test)?;
+    let all = keys_pass(alloc, contexts, place, &test, answered_first(question))?;
     Ok(all)
 }
 
@@ -101,8 +135,7 @@ fn are_flags_set(word: u32, all_begin: bool, one_ends: bool, one_holds: bool) ->
         && agree(has_flag(word, 11), one_holds)
 }
 
-/// Whether the flags of a contraction are true of the context at a place, where no suffix is too long. Fails only when
-/// out of memory.
+/// Whether the flags of a contraction are true of the context at a place. Fails only when out of memory.
 pub(super) fn are_flags_true(
     alloc: Global,
     canonical: CanonicalBorrowed<'_>,
@@ -110,8 +143,7 @@ pub(super) fn are_flags_true(
     place: usize,
     word: u32,
 ) -> Result<bool, AllocError>
-    requires place { place < 2 ^ 32 }
-    requires short { KeysPass is_short (trie_of contexts.now place) }
+    requires { place < 2 ^ 32 }
     ensures { IfOk result (λ yes. IsTrue yes ↔ AreFlagsTrue (borrowed_meaning canonical.entry) word (trie_of contexts.now place)) }
 {
     let all_begin = is_answered(alloc, canonical, contexts, place, Question::BeginsWithMark)?;

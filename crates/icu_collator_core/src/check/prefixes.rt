@@ -1,24 +1,18 @@
 //! Texts that stand before a character: of which characters they are made.
 
 ghost use Rattle.std.specs.Prelude.{◌≡◌, ◌^◌, ◌<◌, ◌↔◌, IsTrue, IfOk};
-ghost use Rattle.std.specs.List.{list_all};
 ghost use Rattle.icu_normalizer_core.specs.BorrowedMeaning.{borrowed_meaning};
 ghost use Rattle.icu_collator_core.specs.ContextRules.{KeysPass, is_prefix, is_prefix_character};
-ghost use Rattle.icu_collator_core.specs.KeyTexts.{text_items};
 ghost use Rattle.icu_collator_core.specs.Pools.{trie_of};
 ghost use Rattle.icu_collator_core.specs.TableMeaning.{weights_of};
 
 use super::digits::is_digit;
-use super::texts::KeyText;
 use super::walks::{TextTest, keys_pass};
 use crate::tables::CollationTables;
 use icu_normalizer_core::built_in::is_jamo;
 use icu_normalizer_core::canonical::CanonicalBorrowed;
 use icu_packed_vector::PackedVec;
 use std::alloc::{AllocError, Global};
-
-/// How many characters a prefix may have.
-const LONGEST_PREFIX: usize = 3;
 
 /// Whether a character may stand in a prefix.
 fn is_prefix_character(
@@ -31,23 +25,7 @@ fn is_prefix_character(
     canonical.is_starter(c) && !is_digit(canonical, tables, c) && !is_jamo(c as u32) && c != '\0'
 }
 
-/// Whether each character of a text may stand in a prefix.
-fn are_prefix_characters(
-    canonical: CanonicalBorrowed<'_>,
-    tables: &CollationTables<'_>,
-    text: &KeyText,
-) -> bool
-    ensures { result ≡ list_all (is_prefix_character (borrowed_meaning canonical.entry) (weights_of (borrowed_meaning canonical.entry) tables.now).digit) (text_items text.now) }
-{
-    for place in 0..text.count {
-        if !is_prefix_character(canonical, tables, text.at(place)) {
-            return false;
-        }
-    }
-    true
-}
-
-/// The test for prefixes.
+/// The test for prefixes, which counts their characters: four are too many, and stand for what is no prefix.
 #[derive(Drop)]
 struct PrefixTest<'d, 'a> {
     canonical: CanonicalBorrowed<'d>,
@@ -55,18 +33,31 @@ struct PrefixTest<'d, 'a> {
 }
 
 impl<'d, 'a> TextTest for PrefixTest<'d, 'a> {
-    ghost use Rattle.std.proofs.Common.{rules};
     ghost use Rattle.icu_normalizer_core.specs.BorrowedMeaning.{borrowed_meaning};
-    ghost use Rattle.icu_collator_core.specs.ContextRules.{is_prefix};
     ghost use Rattle.icu_collator_core.specs.TableMeaning.{weights_of};
+    ghost use Rattle.icu_collator_core.specs.TextFolds.{is_prefix_count, prefix_with};
 
-    ghost test = { λ prefixes. is_prefix (borrowed_meaning prefixes.canonical) (weights_of (borrowed_meaning prefixes.canonical) prefixes.tables.now).digit };
+    type Folded = usize;
 
-    fn passes(&self, text: &KeyText) -> bool {
-        text.count <= LONGEST_PREFIX && are_prefix_characters(self.canonical, self.tables, text)
+    ghost onward = { λ prefixes. prefix_with (borrowed_meaning prefixes.canonical) (weights_of (borrowed_meaning prefixes.canonical) prefixes.tables.now).digit };
+
+    ghost test = { λ _ count. is_prefix_count count };
+
+    fn fold_character(&self, count: usize, c: char) -> usize {
+        if count <= 2 && is_prefix_character(self.canonical, self.tables, c) {
+            count + 1
+        } else {
+            4
+        }
     }
 
-    ghost short = { λ prefixes cs e. Prim.search rules };
+    fn passes(&self, count: usize) -> bool {
+        count <= 3
+    }
+
+    fn is_same(&self, one: usize, other: usize) -> bool {
+        one == other
+    }
 }
 
 /// Whether all keys of the context at a place are prefixes. Fails only when out of memory.
@@ -81,6 +72,6 @@ pub(super) fn are_prefixes(
     ensures { IfOk result (λ all. IsTrue all ↔ KeysPass (is_prefix (borrowed_meaning canonical.entry) (weights_of (borrowed_meaning canonical.entry) tables.now).digit) (trie_of contexts.now place)) }
 {
     let test = PrefixTest { canonical, tables };
-    let all = keys_pass(alloc, contexts, place, &test)?;
+    let all = keys_pass(alloc, contexts, place, &test, 0)?;
     Ok(all)
 }

@@ -1,28 +1,24 @@
 //! What the words of characters record: of the character alone, and with suffixes.
 
-ghost use Rattle.std.specs.Prelude.{◌≡◌, ◌≤◌, ◌^◌, ◌<◌, ℕ, [], is_some, take, flat_map};
-ghost use Rattle.icu_char16trie.specs.Cursors.{answer_to, units_of};
-ghost use Rattle.icu_char16trie.specs.UnitSteps.{start};
+ghost use Rattle.std.specs.Prelude.{◌≡◌, ◌^◌, ◌<◌, ◌↔◌, [], IsTrue, IfOk, is_some};
 ghost use Rattle.icu_normalizer_core.specs.BorrowedMeaning.{borrowed_meaning};
+ghost use Rattle.icu_collator_types.specs.declared.elements.word_tags.Tag.TheVariants.{Contraction};
+ghost use Rattle.icu_collator_types.specs.ElementWords.{has_tag};
 ghost use Rattle.icu_collator_core.specs.ContextFaults.{entry_in};
-ghost use Rattle.icu_collator_core.specs.ContextRules.{is_recorded_by, is_recorded_shorter, is_suffix};
-ghost use Rattle.icu_collator_core.specs.KeyTexts.{text_items};
-ghost use Rattle.icu_collator_core.specs.Pools.{suffix_word, word_in_context};
+ghost use Rattle.icu_collator_core.specs.ContextRules.{KeysPass, is_recorded_by, is_recorded_shorter};
+ghost use Rattle.icu_collator_core.specs.Pools.{index_of, trie_of, unprefixed_word};
 ghost use Rattle.icu_collator_core.specs.TableMeaning.{pools_of, recorded_by};
+ghost use Rattle.icu_collator_core.specs.TextFolds.{says_elements};
 
-use super::fields::{has_tag, index_of};
-use super::marks::{ends_in_mark, has_marks_last};
-use super::texts::KeyText;
-use super::walks::units_of;
-use super::weights::{lone_word, unprefixed_word};
+use super::walks::{TextTest, keys_pass, units_of};
+use super::weights::lone_word;
 use crate::check_weights::has_other_elements;
 use crate::reading::elements::has_elements;
 use crate::reading::suffixes::word_of;
 use crate::tables::{CollationData, CollationSpecialPrimaries};
-use icu_char16trie::{Char16Trie, TrieResult};
-use icu_collator_types::elements::Tag;
+use icu_char16trie::{Char16Trie, CursorPlace, TrieResult};
 use icu_normalizer_core::canonical::CanonicalBorrowed;
-use icu_packed_vector::PackedVec;
+use std::alloc::{AllocError, Global};
 
 /// Whether a character is recorded alone, by its word.
 pub(super) fn is_recorded_alone(
@@ -36,87 +32,94 @@ pub(super) fn is_recorded_alone(
     has_other_elements(special, source, c as u32, lone_word(source, word))
 }
 
-/// What a cursor answers to the first characters of a text, from the start of the units of a trie.
-fn answer_in(units: PackedVec<'_, u16>, text: &KeyText, count: usize) -> TrieResult
-    requires { count ≤ text.now.count }
-    ensures { result ≡ answer_to units.entry (start units.entry) (flat_map units_of (take count (text_items text.now))) }
+/// Whether an answer has a word that says elements.
+fn says_elements(source: &CollationData<'_>, answer: TrieResult) -> bool
+    ensures { result ≡ says_elements (pools_of source.now) answer }
 {
-    let trie = Char16Trie::new(units);
-    let mut cursor = trie.iter();
-    let mut answer = TrieResult::NoMatch;
-    for place in 0..count {
-        answer = cursor.next(text.at(place));
-    }
-    answer
-}
-
-/// The word that the context at a place has for the first characters of a text.
-fn word_in_context(
-    contexts: &PackedVec<'_, u16>,
-    place: usize,
-    text: &KeyText,
-    count: usize,
-) -> Option<u32>
-    requires place { place < 2 ^ 32 }
-    requires count { count ≤ text.now.count }
-    ensures { result ≡ word_in_context contexts.now place (take count (text_items text.now)) }
-{
-    word_of(answer_in(units_of(contexts, place), text, count))
-}
-
-/// The word of a character with the first characters of a text behind it.
-#[tactic(auto, unfolding(crate::specs::Pools::suffix_word))]
-fn suffix_word(source: &CollationData<'_>, word: u32, text: &KeyText, count: usize) -> Option<u32>
-    requires { count ≤ text.now.count }
-    ensures { result ≡ suffix_word (pools_of source.now) word (take count (text_items text.now)) }
-{
-    let unprefixed = unprefixed_word(source, word);
-    if has_tag(unprefixed, Tag::Contraction) {
-        word_in_context(&source.contexts, index_of(unprefixed), text, count)
-    } else {
-        None
-    }
-}
-
-/// Whether a character of this word is recorded with the first characters of a text behind it.
-fn is_recorded_with(source: &CollationData<'_>, word: u32, text: &KeyText, count: usize) -> bool
-    requires some { 0 < count }
-    requires count { count ≤ text.now.count }
-    ensures { (c : ℕ) → result ≡ is_some (recorded_by (entry_in source.now word) c [] (take count (text_items text.now))) }
-{
-    match suffix_word(source, word, text, count) {
-        Some(found) => has_elements(source, found),
+    match word_of(answer) {
+        Some(word) => has_elements(source, word),
         None => false,
     }
 }
 
-/// Whether a character of this word is recorded with a text behind it but for its last mark, where it has two characters
-/// or more and ends in one; true of other texts.
-fn is_recorded_shorter(
-    canonical: CanonicalBorrowed<'_>,
-    source: &CollationData<'_>,
-    word: u32,
-    text: &KeyText,
-) -> bool
-    ensures { (c : ℕ) → result ≡ is_recorded_shorter (borrowed_meaning canonical.entry) (is_recorded_by (entry_in source.now word)) c (text_items text.now) }
-{
-    if text.count <= 1 || !ends_in_mark(canonical, text) {
-        return true;
-    }
-    is_recorded_with(source, word, text, text.count - 1)
+/// What is known of the characters so far of a text that stands behind a character.
+#[derive(Clone, Copy)]
+pub(super) struct Recorded {
+    /// Where a cursor stands that was given them.
+    place: CursorPlace,
+    /// They are recorded behind the character, or there are none.
+    is_recorded: bool,
+    /// They don't end in a mark, or are recorded without it.
+    is_kept: bool,
 }
 
-/// Whether a text may stand behind a character, by the word of that.
-pub(super) fn is_suffix(
+/// The test for texts that end in no mark or are recorded without it.
+#[derive(Drop)]
+struct RecordTest<'t, 'd, 'a> {
+    canonical: CanonicalBorrowed<'d>,
+    source: &'d CollationData<'a>,
+    trie: &'d Char16Trie<'t>,
+}
+
+impl<'t, 'd, 'a> TextTest for RecordTest<'t, 'd, 'a> {
+    ghost use Rattle.icu_char16trie.specs.Cursors.{trie_units};
+    ghost use Rattle.icu_normalizer_core.specs.BorrowedMeaning.{borrowed_meaning};
+    ghost use Rattle.icu_collator_core.specs.TableMeaning.{pools_of};
+    ghost use Rattle.icu_collator_core.specs.TextFolds.{is_kept, recorded_with};
+
+    type Folded = Recorded;
+
+    ghost onward = { λ records. recorded_with (borrowed_meaning records.canonical) (pools_of records.source.now) (trie_units records.trie.now) };
+
+    ghost test = { λ _ recorded. is_kept recorded };
+
+    fn fold_character(&self, recorded: Recorded, c: char) -> Recorded {
+        let mut cursor = self.trie.iter_from(recorded.place);
+        let answer = cursor.next(c);
+        Recorded {
+            place: cursor.place(),
+            is_recorded: says_elements(self.source, answer),
+            is_kept: self.canonical.is_starter(c) || recorded.is_recorded,
+        }
+    }
+
+    fn passes(&self, recorded: Recorded) -> bool {
+        recorded.is_kept
+    }
+
+    fn is_same(&self, one: Recorded, other: Recorded) -> bool {
+        one.is_recorded == other.is_recorded
+            && one.is_kept == other.is_kept
+            && one.place.is_same(other.place)
+    }
+}
+
+/// Whether each key of the context that the word of a character names where no prefix counts is recorded behind it without
+/// its last mark, if it has two characters or more and ends in one. Fails only when out of memory.
+pub(super) fn are_recorded_shorter(
+    alloc: Global,
     canonical: CanonicalBorrowed<'_>,
     source: &CollationData<'_>,
     c: char,
     word: u32,
-    text: &KeyText,
-) -> bool
-    ensures { result ≡ is_suffix (borrowed_meaning canonical.entry) (is_recorded_by (entry_in source.now word)) c (text_items text.now) }
+    place: usize,
+) -> Result<bool, AllocError>
+    requires tagged { IsTrue (has_tag Contraction (unprefixed_word (pools_of source.now) word)) }
+    requires named { place ≡ index_of (unprefixed_word (pools_of source.now) word) }
+    requires place { place < 2 ^ 32 }
+    ensures { IfOk result (λ all. IsTrue all ↔ KeysPass (is_recorded_shorter (borrowed_meaning canonical.entry) (is_recorded_by (entry_in source.now word)) c) (trie_of source.now.contexts place)) }
 {
-    text.count <= 7
-        && has_marks_last(canonical, c, text)
-        && is_recorded_shorter(canonical, source, word, text)
+    let trie = Char16Trie::new(units_of(&source.contexts, place));
+    let start = Recorded {
+        place: trie.iter().place(),
+        is_recorded: true,
+        is_kept: true,
+    };
+    let test = RecordTest {
+        canonical,
+        source,
+        trie: &trie,
+    };
+    let all = keys_pass(alloc, &source.contexts, place, &test, start)?;
+    Ok(all)
 }

@@ -7,39 +7,15 @@ ghost use Rattle.icu_collator_core.specs.TableMeaning.{pools_of};
 ghost use Rattle.icu_collator_core.specs.TiedWords.{ContextTies, WordTies, names_context};
 ghost use Rattle.icu_collator_core.specs.WeightLists.{Grows};
 
-use super::texts::{Side, gather_listed};
-use crate::check::fields::{has_tag, index_of};
-use crate::check::walks::units_of;
+use super::texts::{Side, gather_context};
+use crate::check::fields::has_tag;
 use crate::check::weights::unprefixed_word;
 use crate::reading::words::CountingWord;
 use crate::tables::CollationData;
-use icu_char16trie::{ReadUnitsError, read_units};
 use icu_collator_types::elements::Tag;
 use std::alloc::{AllocError, Global};
 
-/// The characters that the context that a word names ties. Where its units break the grammar of unit tries, there are
-/// none.
-fn gather_context(
-    alloc: Global,
-    characters: &mut Vec<u32>,
-    source: &CollationData<'_>,
-    side: Side,
-    word: u32,
-) -> Result<(), AllocError>
-    ensures { OnOk result (Grows (ContextTies (pools_of source.now) side word) characters.old.items characters.new.items) }
-{
-    let units = units_of(&source.contexts, index_of(word));
-    match read_units(alloc, &units, usize::MAX) {
-        Ok(list) => {
-            gather_listed(characters, source, side, &list)?;
-            Ok(())
-        }
-        Err(ReadUnitsError::BadUnits(_)) => Ok(()),
-        Err(ReadUnitsError::Memory) => Err(AllocError),
-    }
-}
-
-/// The same where the word has a tag.
+/// The characters that the context that a word names ties, where the word has a tag.
 fn gather_where(
     alloc: Global,
     characters: &mut Vec<u32>,

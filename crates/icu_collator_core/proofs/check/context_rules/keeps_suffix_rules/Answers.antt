@@ -1,13 +1,11 @@
-use Rattle.std.proofs.Common.{◌↔◌, sym, ◌∙◌, subst}
+use Rattle.std.proofs.Common.{◌↔◌, ap, sym, ◌∙◌, subst}
 use Rattle.std.specs.Bool.{IsTrue}
 use Rattle.icu_collator_types.specs.declared.elements.word_tags.Tag.TheVariants.{Contraction}
 use Rattle.icu_collator_types.specs.ElementWords.{has_tag}
 use Rattle.icu_normalizer_core.specs.BorrowedMeaning.{borrowed_meaning}
-use Rattle.icu_collator_core.specs.ContextFaults.{entry_in, is_short}
+use Rattle.icu_collator_core.specs.ContextFaults.{entry_in}
 use Rattle.icu_collator_core.specs.ContextRules.{AreFlagsTrue, KeysPass, is_recorded_by, is_suffix}
-use Rattle.icu_collator_core.specs.Pools.{trie_of}
-use Rattle.icu_collator_core.proofs.checks.ContextLemmas.{suffix_is_short}
-use Rattle.icu_collator_core.proofs.checks.FlagLemmas.{keys_pass_also}
+use Rattle.icu_collator_core.specs.Pools.{index_of, trie_of}
 use Rattle.icu_collator_core.proofs.checks.TestLemmas.{after_yes, no_is, refuted, where_asked}
 use Rattle.icu_collator_core.proofs.check.context_rules.keeps_suffix_rules.Goals as goal
 
@@ -19,12 +17,12 @@ returns-then-not-suffixes c =
     c.index_of-place.ensures.index c.in_ok-suffixes.ensures in
     refuted (λ rules. no_is c.in_ok-suffixes.suffixes c.if-not-suffixes.true told (rules (sym c.has_tag.ensures ∙ c.if-not-has_tag.false)).0)
 
-pub are_flags_true-requires-clause-short : goal.are_flags_true-requires-clause-short
-are_flags_true-requires-clause-short c =
-    let canonical = borrowed_meaning c.args.canonical in
-    let entry = entry_in c.args.source.now c.args.word in
-    keys_pass_also (trie_of c.args.source.now.contexts c.index_of-place.result) (is_suffix canonical (is_recorded_by entry) c.args.c) is_short
-    (suffix_is_short canonical (is_recorded_by entry) c.args.c) (c.in_ok-suffixes.ensures.0 c.if-not-suffixes.false)
+pub are_suffixes-requires-clause-tagged : goal.are_suffixes-requires-clause-tagged
+are_suffixes-requires-clause-tagged c =
+    subst (λ word. IsTrue (has_tag Contraction word)) c.requires (sym c.has_tag.ensures ∙ c.if-not-has_tag.false)
+
+pub are_suffixes-requires-clause-named : goal.are_suffixes-requires-clause-named
+are_suffixes-requires-clause-named c = c.index_of-place.ensures.index ∙ ap index_of c.requires
 
 pub returns : goal.returns
 returns c =

@@ -11,5 +11,5 @@ returns c =
     let canonical = borrowed_meaning c.args.canonical in
     let units = trie_of c.args.contexts.now c.args.place in
     subst (λ yes. IsTrue yes ↔ AreFlagsTrue canonical c.args.word units) (sym c.are_flags_set-yes.ensures)
-    (flags_told canonical c.args.word units c.in_ok-all_begin.all_begin c.in_ok-none_ends.none_ends c.in_ok-none_holds.none_holds c.requires.short
+    (flags_told canonical c.args.word units c.in_ok-all_begin.all_begin c.in_ok-none_ends.none_ends c.in_ok-none_holds.none_holds
     c.in_ok-all_begin.ensures c.in_ok-none_ends.ensures c.in_ok-none_holds.ensures)
