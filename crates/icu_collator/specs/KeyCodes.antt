@@ -1,9 +1,11 @@
 -- How the bytes of keys are written in one pass: levels by the ranks of their weights, and primaries by the run that each
 -- leaves behind.
-use Rattle.std.specs.Prelude.{◌≡◌, ℕ, ◌+◌, ◌-◌, ◌/◌, ◌^◌, ◌<◌, ◌≤◌, Bool, true, cond, not, ◌==◌, ◌&&◌, ltb, List, [], ◌∷◌, ◌++◌, Option, Some, None}
+use Rattle.std.specs.Prelude.{◌≡◌, ℕ, ◌+◌, ◌-◌, ◌/◌, ◌^◌, ◌<◌, ◌≤◌, Bool, true, cond, not, ◌==◌, ◌&&◌, ltb, List, [], ◌∷◌, ◌++◌, Option, Some, None, drop}
 use Rattle.std.specs.List.{cons_option, list_all}
+use Rattle.icu_collator_core.specs.Collation.{Collation}
 use Rattle.icu_collator_core.specs.WeightRules.{weight_bytes}
-use Rattle.icu_collator.specs.KeyBytes.{RunCode, behind_run, codes_from, primary_code, primary_run, with_runs, secondary_code, lower_case_code, upper_case_code, tertiary_code, lower_first_code, upper_first_code, quaternary_code, shifted_bytes}
+use Rattle.icu_collator.specs.KeyBytes.{RunCode, behind_run, codes_from, primary_code, primary_run, with_runs, secondary_code, lower_case_code, upper_case_code, tertiary_code, lower_first_code, upper_first_code, quaternary_code, shifted_bytes, was_compressible}
+use Rattle.icu_collator.specs.LevelLists.{counted_list, primaries_by}
 use Rattle.icu_collator.specs.Levels.{QuaternaryPlace, shifted, quaternary}
 use Rattle.icu_collator.specs.declared.key_bytes.run_level.RunBytes.{RunBytes}
 use Rattle.icu_collator.specs.declared.key_bytes.run_level.RunLevel.{RunLevel}
@@ -22,6 +24,12 @@ pub record AddsPrimary (starts_run : ℕ → Bool) (given : Option ℕ) (run : O
   pub level : (ps : List ℕ) → after ++ codes_from primary_code (primary_run starts_run) now ps
       ≡ before ++ codes_from primary_code (primary_run starts_run) run (cons_option given ps)
   pub goes_on : IsRun starts_run now
+
+-- What the elements from one place up to another give was added to the primary level, and the run before it is there behind it.
+pub record IsWrittenUpTo (collation : Collation) (end : ℕ) (items : List ℕ) (run : Option ℕ) (from : ℕ) (before : List ℕ) (behind : ℕ) (after : List ℕ) : Type 0 where
+  pub onward : from ≤ behind
+  pub level : after ++ codes_from primary_code (primary_run (was_compressible collation)) run (primaries_by collation (counted_list end (drop behind items)))
+      ≡ before ++ codes_from primary_code (primary_run (was_compressible collation)) run (primaries_by collation (counted_list end (drop from items)))
 
 -- ## Runs
 

@@ -6,9 +6,10 @@ ghost use Rattle.std.specs.Iterator.{IsFinite};
 ghost use Rattle.icu_normalizer_core.specs.Decoding.{latin1_chars, utf16_chars, utf8_chars};
 ghost use Rattle.icu_normalizer_core.specs.Iter.{Spells};
 
-use icu_normalizer_core::decoding::{
-    Latin1Chars, Utf8Chars, Utf16Chars, decode_latin1, decode_utf8, decode_utf16,
-};
+mod utf8;
+
+use icu_normalizer_core::decoding::{Latin1Chars, Utf16Chars, decode_latin1, decode_utf16};
+use utf8::Utf8Steps;
 
 /// A text that can be read more than once: it gives its characters anew each time.
 pub(crate) trait Characters: Copy {
@@ -24,6 +25,9 @@ pub(crate) trait Characters: Copy {
         ensures ready { Self.Chars.can_next result }
         ensures ends { IsFinite (Self.Chars.remaining result) }
         ensures scalars { All IsScalar (characters self) };
+
+    /// How many bytes or units it has: by this it is told how much room is made for what is read, and nothing else.
+    fn size(self) -> usize;
 }
 
 /// A text in UTF-8: what is damaged reads as U+FFFD.
@@ -34,12 +38,18 @@ pub(crate) struct Utf8Text<'a> {
 }
 
 impl<'a> Characters for Utf8Text<'a> {
-    type Chars = Utf8Chars<'a>;
+    type Chars = Utf8Steps<'a>;
 
     ghost characters = { λ text. utf8_chars text.bytes.now };
 
-    fn chars(self) -> Utf8Chars<'a> {
-        decode_utf8(self.bytes)
+    #[inline(always)]
+    fn chars(self) -> Utf8Steps<'a> {
+        Utf8Steps::new(self.bytes)
+    }
+
+    #[inline(always)]
+    fn size(self) -> usize {
+        self.bytes.len()
     }
 }
 
@@ -58,6 +68,11 @@ impl<'a> Characters for Utf16Text<'a> {
     fn chars(self) -> Utf16Chars<'a> {
         decode_utf16(self.units)
     }
+
+    #[inline(always)]
+    fn size(self) -> usize {
+        self.units.len()
+    }
 }
 
 /// A text in Latin-1: each byte is a character.
@@ -74,5 +89,10 @@ impl<'a> Characters for Latin1Text<'a> {
 
     fn chars(self) -> Latin1Chars<'a> {
         decode_latin1(self.bytes)
+    }
+
+    #[inline(always)]
+    fn size(self) -> usize {
+        self.bytes.len()
     }
 }

@@ -1,6 +1,6 @@
 //! The bytes of a key while it is written.
 
-ghost use Rattle.std.specs.Prelude.{◌≡◌, ◌∷◌, [], ◌++◌, OnOk};
+ghost use Rattle.std.specs.Prelude.{◌≡◌, ◌≤◌, ◌∷◌, [], ◌++◌, false, true, take, OnOk};
 
 use std::alloc::{AllocError, Global};
 use std::marker::Model;
@@ -83,6 +83,41 @@ impl KeyBytes {
             return Ok(());
         }
         self.push_long(byte)
+    }
+
+    /// Appends so many of four bytes, where there is room for all four without memory; else nothing.
+    #[inline(always)]
+    pub(crate) fn put(&mut self, first: u8, second: u8, third: u8, fourth: u8, count: usize) -> bool
+        requires { count ≤ 4 }
+        ensures put { result ≡ true → self.new.items ≡ self.old.items ++ take count (first ∷ second ∷ third ∷ fourth ∷ []) }
+        ensures full { result ≡ false → self.new.items ≡ self.old.items }
+    {
+        let place = self.length;
+        if place > ROOM - 4 {
+            return false;
+        }
+        self.array[place] = first;
+        self.array[place + 1] = second;
+        self.array[place + 2] = third;
+        self.array[place + 3] = fourth;
+        self.length = place + count;
+        true
+    }
+
+    /// Appends two bytes, where there is room for both without memory; else nothing.
+    #[inline(always)]
+    pub(crate) fn put_two(&mut self, first: u8, second: u8) -> bool
+        ensures put { result ≡ true → self.new.items ≡ self.old.items ++ first ∷ second ∷ [] }
+        ensures full { result ≡ false → self.new.items ≡ self.old.items }
+    {
+        let place = self.length;
+        if place > ROOM - 2 {
+            return false;
+        }
+        self.array[place] = first;
+        self.array[place + 1] = second;
+        self.length = place + 2;
+        true
     }
 
     /// Appends a byte to an array that is full, or to those that don't fit. Fails only when out of memory.

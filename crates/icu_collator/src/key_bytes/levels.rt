@@ -38,7 +38,8 @@ pub(super) fn write_secondary_level(ranks: &[u32], key: &mut KeyBytes) -> Result
 }
 
 /// Appends the secondary level in the order of the text. Fails only when out of memory.
-pub(super) fn write_forward_level(
+#[inline(always)]
+fn write_forward_by(
     elements: &[CollationElement],
     variable_end: u32,
     key: &mut KeyBytes,
@@ -56,6 +57,40 @@ pub(super) fn write_forward_level(
         key,
     )?;
     key.push(LEVEL_SEPARATOR)?;
+    Ok(())
+}
+
+/// The same where no element is variable.
+#[inline(never)]
+fn write_unshifted_forward(
+    elements: &[CollationElement],
+    key: &mut KeyBytes,
+) -> Result<(), AllocError>
+    requires { list_all has_sound_case (counted_list 0 elements.now) ≡ true }
+    ensures { OnOk result (key.new.items ≡ key.old.items
+        ++ 0x01 ∷ (with_runs secondary_code (filter_map secondary_at (counted_list 0 elements.now)) ++ 0x01 ∷ [])) }
+{
+    write_forward_by(elements, 0, key)?;
+    Ok(())
+}
+
+/// Appends the secondary level in the order of the text: where no element is variable, by a loop that asks for none. Fails only
+/// when out of memory.
+#[inline(always)]
+pub(super) fn write_forward_level(
+    elements: &[CollationElement],
+    variable_end: u32,
+    key: &mut KeyBytes,
+) -> Result<(), AllocError>
+    requires { list_all has_sound_case (counted_list variable_end elements.now) ≡ true }
+    ensures { OnOk result (key.new.items ≡ key.old.items
+        ++ 0x01 ∷ (with_runs secondary_code (filter_map secondary_at (counted_list variable_end elements.now)) ++ 0x01 ∷ [])) }
+{
+    if variable_end == 0 {
+        write_unshifted_forward(elements, key)?;
+        return Ok(());
+    }
+    write_forward_by(elements, variable_end, key)?;
     Ok(())
 }
 
@@ -97,6 +132,7 @@ fn tertiary_level(options: &ResolvedCollatorOptions) -> RunLevel
 }
 
 /// Appends the weights of the tertiary level. Fails only when out of memory.
+#[inline(always)]
 fn write_tertiaries(
     options: &ResolvedCollatorOptions,
     elements: &[CollationElement],
@@ -128,7 +164,8 @@ fn write_tertiaries(
 }
 
 /// Appends the tertiary level. Fails only when out of memory.
-pub(super) fn write_tertiary_level(
+#[inline(always)]
+fn write_tertiary_by(
     options: &ResolvedCollatorOptions,
     elements: &[CollationElement],
     variable_end: u32,
@@ -141,6 +178,41 @@ pub(super) fn write_tertiary_level(
     key.push(LEVEL_SEPARATOR)?;
     write_tertiaries(options, elements, variable_end, key)?;
     key.push(LEVEL_SEPARATOR)?;
+    Ok(())
+}
+
+/// The same where no element is variable.
+#[inline(never)]
+fn write_unshifted_tertiaries(
+    options: &ResolvedCollatorOptions,
+    elements: &[CollationElement],
+    key: &mut KeyBytes,
+) -> Result<(), AllocError>
+    requires { list_all has_sound_case (counted_list 0 elements.now) ≡ true }
+    ensures { OnOk result (key.new.items ≡ key.old.items
+        ++ 0x01 ∷ (with_runs (tertiary_code_of options.now) (tertiaries_by options.now (counted_list 0 elements.now)) ++ 0x01 ∷ [])) }
+{
+    write_tertiary_by(options, elements, 0, key)?;
+    Ok(())
+}
+
+/// Appends the tertiary level: where no element is variable, by a loop that asks for none. Fails only when out of memory.
+#[inline(always)]
+pub(super) fn write_tertiary_level(
+    options: &ResolvedCollatorOptions,
+    elements: &[CollationElement],
+    variable_end: u32,
+    key: &mut KeyBytes,
+) -> Result<(), AllocError>
+    requires { list_all has_sound_case (counted_list variable_end elements.now) ≡ true }
+    ensures { OnOk result (key.new.items ≡ key.old.items
+        ++ 0x01 ∷ (with_runs (tertiary_code_of options.now) (tertiaries_by options.now (counted_list variable_end elements.now)) ++ 0x01 ∷ [])) }
+{
+    if variable_end == 0 {
+        write_unshifted_tertiaries(options, elements, key)?;
+        return Ok(());
+    }
+    write_tertiary_by(options, elements, variable_end, key)?;
     Ok(())
 }
 

@@ -1,10 +1,11 @@
 //! The primary level of a key.
 
-ghost use Rattle.std.specs.Prelude.{◌≡◌, ◌/◌, ◌^◌, ◌++◌, IfOk, OnOk, option_map};
+ghost use Rattle.std.specs.Prelude.{◌≡◌, ◌<◌, ◌≤◌, ◌/◌, ◌^◌, ◌++◌, false, length, true, None, IfOk, OnOk, option_map};
+ghost use Rattle.icu_collator_core.specs.TableSettings.{is_compressible_in};
 ghost use Rattle.icu_collator.specs.Collators.{source_collation};
 ghost use Rattle.icu_collator.specs.KeyBytes.{primary_code, primary_level, primary_run, run_end, was_compressible};
-ghost use Rattle.icu_collator.specs.AskedLeads.{IsAnswered};
-ghost use Rattle.icu_collator.specs.KeyCodes.{AddsPrimary, IsRun};
+ghost use Rattle.icu_collator.specs.AskedLeads.{IsAnswered, IsPlainLead, IsWrittenWhole};
+ghost use Rattle.icu_collator.specs.KeyCodes.{AddsPrimary, IsRun, IsWrittenUpTo};
 ghost use Rattle.icu_collator.specs.LevelLists.{counted_list, primaries_by};
 
 use super::buffer::KeyBytes;
@@ -16,6 +17,7 @@ use icu_collator_types::elements::CollationElement;
 use std::alloc::AllocError;
 
 /// The lead byte of a primary.
+#[inline(always)]
 fn lead_of(primary: u32) -> u8
     ensures { result ≡ primary / 2 ^ 24 }
 {
@@ -57,21 +59,28 @@ fn write_primary(run: Option<u8>, primary: u32, key: &mut KeyBytes) -> Result<()
     Ok(())
 }
 
-/// A lead byte that the tables were asked for, and whether it is compressible.
+/// A lead byte that the tables were asked for, and what they say of it.
 #[derive(Clone, Copy)]
 struct AskedLead {
     /// The lead byte.
     lead: u8,
-    /// What the tables say of it.
+    /// Whether it is compressible.
     is_compressible: bool,
+    /// The lead byte once more, where it isn't compressible and no primary is reordered; else none.
+    plain: u16,
 }
+
+/// No lead byte.
+const NO_LEAD: u16 = 0x100;
 
 /// A lead byte with what the tables say of it: they are asked only where it isn't the one that was asked for last.
 #[inline(always)]
 fn ask(checked: &CheckedTables<'_>, asked: AskedLead, lead: u8) -> AskedLead
-    requires { IsAnswered checked.now asked }
+    requires asked { IsAnswered checked.now asked }
+    requires plain { IsPlainLead checked.now asked }
     ensures lead { result.lead ≡ lead }
     ensures answered { IsAnswered checked.now result }
+    ensures plain { IsPlainLead checked.now result }
 {
     if asked.lead == lead {
         return asked;
@@ -79,14 +88,33 @@ fn ask(checked: &CheckedTables<'_>, asked: AskedLead, lead: u8) -> AskedLead
     asked_lead(checked, lead)
 }
 
+/// A lead byte, where it isn't compressible and no primary is reordered; else none.
+fn plain_lead(checked: &CheckedTables<'_>, lead: u8, is_compressible: bool) -> u16
+    requires { is_compressible ≡ is_compressible_in checked.now.tables.special_primaries.last_primaries lead }
+    ensures { result < 256 → IsWrittenWhole checked.now result }
+{
+    if is_compressible {
+        return NO_LEAD;
+    }
+    match &checked.tables().reordering {
+        Some(_) => NO_LEAD,
+        None => u16::from(lead),
+    }
+}
+
 /// A lead byte with what the tables say of it.
+#[inline(never)]
 fn asked_lead(checked: &CheckedTables<'_>, lead: u8) -> AskedLead
     ensures lead { result.lead ≡ lead }
     ensures answered { IsAnswered checked.now result }
+    ensures plain { IsPlainLead checked.now result }
 {
+    let is_compressible = checked.tables().special_primaries.is_compressible(lead);
+    let plain = plain_lead(checked, lead, is_compressible);
     AskedLead {
         lead,
-        is_compressible: checked.tables().special_primaries.is_compressible(lead),
+        is_compressible,
+        plain,
     }
 }
 
@@ -121,7 +149,7 @@ fn run_after(
 
 /// Appends what an element gives, if it has a primary that counts; answers the lead of the run then, and keeps the lead that the
 /// tables were asked for. Fails only when out of memory.
-#[inline(always)]
+#[inline(never)]
 fn write_given(
     checked: &CheckedTables<'_>,
     run: Option<u8>,
@@ -131,7 +159,9 @@ fn write_given(
 ) -> Result<Option<u8>, AllocError>
     requires run { IsRun (was_compressible (source_collation checked.now)) run }
     requires asked { IsAnswered checked.now asked.old }
+    requires plain { IsPlainLead checked.now asked.old }
     ensures answered { IsAnswered checked.now asked.new }
+    ensures plain { IsPlainLead checked.now asked.new }
     ensures adds { IfOk result (λ now. AddsPrimary (was_compressible (source_collation checked.now)) (option_map (source_collation checked.now).reordered primary) run key.old.items now key.new.items) }
 {
     let Some(primary) = primary else {
@@ -143,7 +173,90 @@ fn write_given(
     Ok(run_after(checked, run, primary, in_place, *asked))
 }
 
+/// Whether a primary has a plain lead.
+#[inline(always)]
+fn has_lead(primary: u32, plain: u16) -> bool
+    ensures lead { result ≡ true → plain ≡ primary / 2 ^ 24 }
+    ensures low { result ≡ true → plain < 256 }
+{
+    u32::from(plain) == primary >> 24
+}
+
+/// Appends what an element gives behind no run, if it gives nothing or a primary with a plain lead: then no run is behind it.
+/// `false` for another, and then nothing. Fails only when out of memory.
+#[inline(always)]
+fn write_plain(
+    checked: &CheckedTables<'_>,
+    plain: u16,
+    primary: Option<u32>,
+    key: &mut KeyBytes,
+) -> Result<bool, AllocError>
+    requires { plain < 256 → IsWrittenWhole checked.now plain }
+    ensures adds { IfOk result (λ goes_on. goes_on ≡ true
+        → AddsPrimary (was_compressible (source_collation checked.now)) (option_map (source_collation checked.now).reordered primary) None key.old.items None key.new.items) }
+    ensures stays { IfOk result (λ goes_on. goes_on ≡ false → key.new.items ≡ key.old.items) }
+{
+    let Some(primary) = primary else {
+        return Ok(true);
+    };
+    checked.keep_promise();
+    if !has_lead(primary, plain) {
+        return Ok(false);
+    }
+    write_primary_bytes(primary, key)?;
+    Ok(true)
+}
+
+/// Appends what the elements from a place on give behind no run, up to the first with a primary that has another than a plain
+/// lead; answers its place, or their count. Fails only when out of memory.
+#[inline(always)]
+fn write_plain_ones(
+    checked: &CheckedTables<'_>,
+    elements: &[CollationElement],
+    variable_end: u32,
+    from: usize,
+    plain: u16,
+    key: &mut KeyBytes,
+) -> Result<usize, AllocError>
+    requires plain { plain < 256 → IsWrittenWhole checked.now plain }
+    requires within { from ≤ length elements.now }
+    ensures { IfOk result (λ behind. IsWrittenUpTo (source_collation checked.now) variable_end elements.now None from key.old.items behind key.new.items) }
+{
+    for place in from..elements.len() {
+        let primary = own_primary_at(counted_element(elements[place], variable_end));
+        if !write_plain(checked, plain, primary, key)? {
+            return Ok(place);
+        }
+    }
+    Ok(elements.len())
+}
+
+/// The same behind any run: behind one of primaries with a compressible lead nothing is appended.
+#[inline(always)]
+fn write_plain_front(
+    checked: &CheckedTables<'_>,
+    elements: &[CollationElement],
+    variable_end: u32,
+    from: usize,
+    run: Option<u8>,
+    plain: u16,
+    key: &mut KeyBytes,
+) -> Result<usize, AllocError>
+    requires plain { plain < 256 → IsWrittenWhole checked.now plain }
+    requires within { from ≤ length elements.now }
+    ensures { IfOk result (λ behind. IsWrittenUpTo (source_collation checked.now) variable_end elements.now run from key.old.items behind key.new.items) }
+{
+    match run {
+        None => {
+            let behind = write_plain_ones(checked, elements, variable_end, from, plain, key)?;
+            Ok(behind)
+        }
+        Some(_) => Ok(from),
+    }
+}
+
 /// Appends the primary level. Fails only when out of memory.
+#[inline(always)]
 pub(super) fn write_primaries(
     checked: &CheckedTables<'_>,
     elements: &[CollationElement],
@@ -155,9 +268,23 @@ pub(super) fn write_primaries(
 {
     let mut run: Option<u8> = None;
     let mut asked = asked_lead(checked, 0);
-    for element in elements {
-        let primary = own_primary_at(counted_element(*element, variable_end));
+    let mut place = 0;
+    'elements: while place < elements.len() {
+        let behind = write_plain_front(
+            checked,
+            elements,
+            variable_end,
+            place,
+            run,
+            asked.plain,
+            key,
+        )?;
+        if behind >= elements.len() {
+            return Ok(());
+        }
+        let primary = own_primary_at(counted_element(elements[behind], variable_end));
         run = write_given(checked, run, &mut asked, primary, key)?;
+        place = behind + 1;
     }
     Ok(())
 }

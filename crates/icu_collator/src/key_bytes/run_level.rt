@@ -108,6 +108,7 @@ fn write_quaternary(rank: u64, key: &mut KeyBytes) -> Result<(), AllocError>
 
 impl RunLevel {
     /// The rank of the common weight.
+    #[inline(always)]
     #[tactic(auto, unfolding(crate::specs::KeyCodes::code_of))]
     pub(super) fn common(self) -> u64
         ensures { result ≡ (code_of self).common }
@@ -123,6 +124,7 @@ impl RunLevel {
     }
 
     /// The bytes of runs of the common weight.
+    #[inline(always)]
     #[tactic(auto, unfolding(crate::specs::KeyCodes::code_of))]
     pub(super) fn run_bytes(self) -> RunBytes
         ensures { HasRunBytes (code_of self) result }

@@ -15,6 +15,7 @@ use icu_collator_types::elements::CollationElement;
 use std::alloc::AllocError;
 
 /// The byte that ends a run, where so many common weights are left for it.
+#[inline(always)]
 fn last_byte(bytes: RunBytes, is_below_next: bool, rest: u8) -> u8
     requires rest { rest < bytes.most }
     requires low { bytes.low + bytes.most ≤ 256 }
@@ -29,6 +30,7 @@ fn last_byte(bytes: RunBytes, is_below_next: bool, rest: u8) -> u8
 }
 
 /// Appends a run of one common weight and so many more. Fails only when out of memory.
+#[inline(always)]
 fn write_filled_run(
     bytes: RunBytes,
     is_below_next: bool,
@@ -52,7 +54,7 @@ fn write_filled_run(
 
 /// Appends a run of so many common weights, before a higher weight or before a lower one or the end. Fails only when out
 /// of memory.
-#[inline(never)]
+#[inline(always)]
 fn write_run(
     level: RunLevel,
     is_below_next: bool,
@@ -113,6 +115,7 @@ fn write_given(
 }
 
 /// Appends a level of the weights that elements give, by their ranks. Fails only when out of memory.
+#[inline(always)]
 pub(super) fn write_given_runs<F: Fn(CountedElement) -> Option<u32>>(
     level: RunLevel,
     elements: &[CollationElement],

@@ -1,15 +1,18 @@
 //! The key of a text.
 
-ghost use Rattle.std.specs.Prelude.{◌≡◌, [], IfErr, IfOk, OnOk, false, true};
+ghost use Rattle.std.specs.Prelude.{◌≡◌, [], ◌++◌, List, IfErr, IfOk, OnOk, false, true};
+ghost use Rattle.std.specs.List.{list_all};
 ghost use Rattle.icu_normalizer_core.specs.Canonical.{decomposed};
-ghost use Rattle.icu_collator_types.specs.Options.{is_at_least};
-ghost use Rattle.icu_collator_types.specs.declared.options.Strength.TheVariants.{Identical};
+ghost use Rattle.icu_collator_types.specs.declared.elements.Element.{Element};
 ghost use Rattle.icu_collator.specs.Collators.{source_collation};
-ghost use Rattle.icu_collator.specs.KeyBytes.{key_of_text};
+ghost use Rattle.icu_collator.specs.KeyBytes.{key_bytes, key_of_text};
+ghost use Rattle.icu_collator.specs.LevelLists.{counted_list, has_sound_case};
+ghost use Rattle.icu_collator.specs.Levels.{levels_of};
+ghost use Rattle.icu_collator.specs.Shifted.{counted};
 ghost use Rattle.icu_collator.specs.Sinks.{IsRefusedKey};
 
 use super::buffer::KeyBytes;
-use super::whole::write_whole_key;
+use super::whole::{write_unshifted_key, write_whole_key};
 use crate::reading::{is_unshifted, numeric_lead, read_text};
 use crate::sinks::whole::write_key;
 use crate::sinks::{CollationKeySink, KeyError};
@@ -17,33 +20,55 @@ use crate::texts::Characters;
 use icu_collator_core::checked::CheckedTables;
 use icu_collator_core::elements::texts::decomposed_list;
 use icu_collator_core::flat::FlatElements;
+use icu_collator_types::elements::CollationElement;
 use icu_collator_types::options::{ResolvedCollatorOptions, Strength};
 use smallvec::SmallVec;
 use std::alloc::{AllocError, Global};
 
-/// How many elements a text may have that is read without memory.
-const FLAT_ELEMENTS: usize = 64;
+/// A text of at most so many bytes or units is short.
+const SHORT: usize = 60;
 
-/// The decomposed list of a text at strength `Identical`, else nothing. Fails only when out of memory.
+/// How many elements a short text may have that is read without memory.
+const FEW_ELEMENTS: usize = 64;
+
+/// The same of a longer one.
+const MANY_ELEMENTS: usize = 512;
+
+/// The decomposed list of a text. Fails only when out of memory.
 fn listed_characters<T: Characters>(
     alloc: Global,
     checked: &CheckedTables<'_>,
-    options: &ResolvedCollatorOptions,
     text: T,
 ) -> Result<SmallVec<char, 64>, AllocError>
-    ensures { IfOk result (λ list. is_at_least options.now.strength Identical ≡ true
-        → list.items ≡ decomposed (source_collation checked.now).canonical (T.characters text)) }
+    ensures { IfOk result (λ list. list.items ≡ decomposed (source_collation checked.now).canonical (T.characters text)) }
 {
-    if options.strength.is_at_least(Strength::Identical) {
-        let list = decomposed_list(alloc, checked.canonical(), text.chars())?;
-        Ok(list)
-    } else {
-        Ok(SmallVec::new(alloc))
-    }
+    let list = decomposed_list(alloc, checked.canonical(), text.chars())?;
+    Ok(list)
 }
 
-/// Appends the key of a text that is read flat to no byte; `false` for another text, and then nothing. Fails only when out of
-/// memory.
+/// Appends the key of the elements of a text none of which is variable, at `Identical`. Fails only when out of memory.
+#[inline(never)]
+fn write_exact_key<T: Characters>(
+    alloc: Global,
+    checked: &CheckedTables<'_>,
+    options: &ResolvedCollatorOptions,
+    elements: &[CollationElement],
+    text: T,
+    key: &mut KeyBytes,
+) -> Result<(), AllocError>
+    requires { list_all has_sound_case (counted_list 0 elements.now) ≡ true }
+    ensures { OnOk result ((es : List Element) → counted_list 0 elements.now ≡ counted (source_collation checked.now) options.now es
+        → key.new.items ≡ key.old.items ++ key_bytes (source_collation checked.now) options.now
+        (levels_of (source_collation checked.now) options.now es (decomposed (source_collation checked.now).canonical (T.characters text)))) }
+{
+    let characters = listed_characters(alloc, checked, text)?;
+    write_unshifted_key(checked, options, elements, &characters, key)?;
+    Ok(())
+}
+
+/// Appends the key of a short text that is read flat to no byte; `false` for another text, and then nothing. Fails only when out
+/// of memory.
+#[inline(always)]
 fn write_flat_key<T: Characters>(
     alloc: Global,
     checked: &CheckedTables<'_>,
@@ -61,16 +86,72 @@ fn write_flat_key<T: Characters>(
     if !is_unshifted(options) {
         return Ok(false);
     }
-    let mut flat = FlatElements::<FLAT_ELEMENTS>::new();
+    let mut flat = FlatElements::<FEW_ELEMENTS>::new();
     if !checked.read_flat(numeric_lead(checked, options), text.chars(), &mut flat) {
         return Ok(false);
     }
-    let characters = listed_characters(alloc, checked, options, text)?;
-    write_whole_key(checked, options, flat.as_slice(), 0, &characters, key)?;
+    if options.strength.is_at_least(Strength::Identical) {
+        write_exact_key(alloc, checked, options, flat.as_slice(), text, key)?;
+        return Ok(true);
+    }
+    write_unshifted_key(checked, options, flat.as_slice(), &[], key)?;
     Ok(true)
 }
 
+/// The same of a longer text: short ones don't pay for clearing as much room.
+#[inline(never)]
+fn write_long_key<T: Characters>(
+    alloc: Global,
+    checked: &CheckedTables<'_>,
+    options: &ResolvedCollatorOptions,
+    text: T,
+    key: &mut KeyBytes,
+) -> Result<bool, AllocError>
+    requires { key.old.items ≡ [] }
+    ensures written { IfOk result (λ is_written. is_written ≡ true
+        → key.new.items ≡ key_of_text (source_collation checked.now) options.now (T.characters text)) }
+    ensures unwritten { IfOk result (λ is_written. is_written ≡ false → key.new.items ≡ []) }
+{
+    checked.keep_promise();
+    checked.canonical().keep_promise();
+    if !is_unshifted(options) {
+        return Ok(false);
+    }
+    let mut flat = FlatElements::<MANY_ELEMENTS>::new();
+    if !checked.read_flat(numeric_lead(checked, options), text.chars(), &mut flat) {
+        return Ok(false);
+    }
+    if options.strength.is_at_least(Strength::Identical) {
+        write_exact_key(alloc, checked, options, flat.as_slice(), text, key)?;
+        return Ok(true);
+    }
+    write_unshifted_key(checked, options, flat.as_slice(), &[], key)?;
+    Ok(true)
+}
+
+/// The same with as much room as the text wants.
+fn write_roomy_key<T: Characters>(
+    alloc: Global,
+    checked: &CheckedTables<'_>,
+    options: &ResolvedCollatorOptions,
+    text: T,
+    key: &mut KeyBytes,
+) -> Result<bool, AllocError>
+    requires { key.old.items ≡ [] }
+    ensures written { IfOk result (λ is_written. is_written ≡ true
+        → key.new.items ≡ key_of_text (source_collation checked.now) options.now (T.characters text)) }
+    ensures unwritten { IfOk result (λ is_written. is_written ≡ false → key.new.items ≡ []) }
+{
+    if text.size() > SHORT {
+        let is_written = write_long_key(alloc, checked, options, text, key)?;
+        return Ok(is_written);
+    }
+    let is_written = write_flat_key(alloc, checked, options, text, key)?;
+    Ok(is_written)
+}
+
 /// Appends the key of a text to no byte. Fails only when out of memory.
+#[inline(never)]
 fn write_read_key<T: Characters>(
     alloc: Global,
     checked: &CheckedTables<'_>,
@@ -106,7 +187,7 @@ fn write_key_bytes<T: Characters>(
     requires { key.old.items ≡ [] }
     ensures { OnOk result (key.new.items ≡ key_of_text (source_collation checked.now) options.now (T.characters text)) }
 {
-    if write_flat_key(alloc, checked, options, text, key)? {
+    if write_roomy_key(alloc, checked, options, text, key)? {
         return Ok(());
     }
     write_read_key(alloc, checked, options, text, key)?;

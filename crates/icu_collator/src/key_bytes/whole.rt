@@ -24,6 +24,7 @@ use icu_collator_types::options::{CaseLevel, ResolvedCollatorOptions, Strength};
 use std::alloc::AllocError;
 
 /// Appends the primary level. Fails only when out of memory.
+#[inline(always)]
 fn add_primaries(
     checked: &CheckedTables<'_>,
     elements: &[CollationElement],
@@ -38,6 +39,7 @@ fn add_primaries(
 }
 
 /// Appends the secondary level, where it is in force. Fails only when out of memory.
+#[inline(always)]
 fn add_secondaries(
     checked: &CheckedTables<'_>,
     options: &ResolvedCollatorOptions,
@@ -62,6 +64,7 @@ fn add_secondaries(
 }
 
 /// Appends the case level, where it is in force. Fails only when out of memory.
+#[inline(always)]
 fn add_cases(
     options: &ResolvedCollatorOptions,
     elements: &[CollationElement],
@@ -83,6 +86,7 @@ fn add_cases(
 }
 
 /// Appends the tertiary level, where it is in force. Fails only when out of memory.
+#[inline(always)]
 fn add_tertiaries(
     options: &ResolvedCollatorOptions,
     elements: &[CollationElement],
@@ -101,6 +105,7 @@ fn add_tertiaries(
 }
 
 /// Appends the quaternary level, where it is in force. Fails only when out of memory.
+#[inline(always)]
 fn add_quaternaries(
     checked: &CheckedTables<'_>,
     options: &ResolvedCollatorOptions,
@@ -120,6 +125,7 @@ fn add_quaternaries(
 }
 
 /// Appends the identical level, where it is in force. Fails only when out of memory.
+#[inline(always)]
 fn add_characters(
     options: &ResolvedCollatorOptions,
     characters: &[char],
@@ -136,7 +142,8 @@ fn add_characters(
 
 /// Appends the key of a text's levels, given as the elements that count and, at `Identical`, the decomposed list of its
 /// characters. Fails only when out of memory.
-pub(crate) fn write_whole_key(
+#[inline(always)]
+fn write_levels(
     checked: &CheckedTables<'_>,
     options: &ResolvedCollatorOptions,
     elements: &[CollationElement],
@@ -154,5 +161,40 @@ pub(crate) fn write_whole_key(
     add_tertiaries(options, elements, variable_end, key)?;
     add_quaternaries(checked, options, elements, variable_end, key)?;
     add_characters(options, characters, key)?;
+    Ok(())
+}
+
+/// The same.
+#[inline(never)]
+pub(crate) fn write_whole_key(
+    checked: &CheckedTables<'_>,
+    options: &ResolvedCollatorOptions,
+    elements: &[CollationElement],
+    variable_end: u32,
+    characters: &[char],
+    key: &mut KeyBytes,
+) -> Result<(), AllocError>
+    requires { list_all has_sound_case (counted_list variable_end elements.now) ≡ true }
+    ensures { OnOk result ((es : List Element) → counted_list variable_end elements.now ≡ counted (source_collation checked.now) options.now es
+        → key.new.items ≡ key.old.items ++ key_bytes (source_collation checked.now) options.now (levels_of (source_collation checked.now) options.now es characters.now)) }
+{
+    write_levels(checked, options, elements, variable_end, characters, key)?;
+    Ok(())
+}
+
+/// The same where no element is variable, so that none is asked.
+#[inline(never)]
+pub(crate) fn write_unshifted_key(
+    checked: &CheckedTables<'_>,
+    options: &ResolvedCollatorOptions,
+    elements: &[CollationElement],
+    characters: &[char],
+    key: &mut KeyBytes,
+) -> Result<(), AllocError>
+    requires { list_all has_sound_case (counted_list 0 elements.now) ≡ true }
+    ensures { OnOk result ((es : List Element) → counted_list 0 elements.now ≡ counted (source_collation checked.now) options.now es
+        → key.new.items ≡ key.old.items ++ key_bytes (source_collation checked.now) options.now (levels_of (source_collation checked.now) options.now es characters.now)) }
+{
+    write_levels(checked, options, elements, 0, characters, key)?;
     Ok(())
 }

@@ -1,6 +1,6 @@
 use Rattle.std.proofs.Common.{◌++◌, ◌∙◌, [], ◌∷◌, ◌/◌, ◌^◌, sym, ap, append-nil, append_assoc, bit_and}
 use Rattle.icu_collator.proofs.key_writing.WeightWrittenLemmas.{none_behind, one_behind, two_behind, three_behind}
-use Rattle.icu_collator.proofs.key_bytes.weights.write_primary_rest.Goals as goal
+use Rattle.icu_collator.proofs.key_bytes.weights.push_primary_rest.Goals as goal
 
 pub returns-then-primary-eq0 : goal.returns-then-primary-eq0
 returns-then-primary-eq0 c =

@@ -2,7 +2,7 @@ use Rattle.std.proofs.Common.{◌++◌, ◌∙◌, ap}
 use Rattle.icu_collator.specs.Collators.{source_collation}
 use Rattle.icu_collator.specs.LevelLists.{counted_list}
 use Rattle.icu_collator.proofs.key_writing.KeyWrittenLemmas.{key_counted, six_pieces}
-use Rattle.icu_collator.proofs.key_bytes.whole.write_whole_key.Goals as goal
+use Rattle.icu_collator.proofs.key_bytes.whole.write_levels.Goals as goal
 
 pub returns : goal.returns
 returns c = λ es are.
