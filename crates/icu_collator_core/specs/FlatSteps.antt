@@ -1,6 +1,7 @@
 -- Texts that are read flat, one primary after another.
-use Rattle.std.specs.Prelude.{◌≡◌, ℕ, ◌==◌, false, cond, All, List, [], ◌∷◌, ◌++◌, filter_map, flat_map, Option, Some, None}
+use Rattle.std.specs.Prelude.{◌≡◌, ◌≤◌, ℕ, ◌==◌, false, cond, All, List, [], ◌∷◌, ◌++◌, filter_map, flat_map, Option, Some, None}
 use Rattle.std.specs.Char.{IsScalar}
+use Rattle.std.specs.Iterator.{Count, IsFinite, size}
 use Rattle.icu_normalizer_core.specs.Iter.{Spells}
 use Rattle.icu_collator_types.specs.declared.elements.Element.{Element}
 use Rattle.icu_collator_core.specs.Acceptance.{CollationSource}
@@ -41,6 +42,11 @@ pub record IsStep (source : CollationSource) (numeric : Option ℕ) (c before : 
   pub primaries : primaries_in pushed.items ≡ primary_if_any p
   pub begins : (p == 0) ≡ false → BeginsWithStarter source c p pushed.items
 
+-- A character behind one of a class has this primary, 0 for none, and the last of its full list this class, whatever elements
+-- stand before its own.
+abbrev pub StepsTo : CollationSource → Option ℕ → ℕ → ℕ → ℕ → ℕ → Type 0
+StepsTo source numeric c before p trail = (old : List ℕ) → (new : List ℕ) × IsStep source numeric c before old p trail new
+
 -- Of a text, the full lists of its first characters are in order and are read flat, with these elements; the last character
 -- has this class, and the characters behind are left to an iterator.
 pub record IsReadUpTo {I : Type 0} (source : CollationSource) (numeric : Option ℕ) (steps : I → Option ℕ → I → Type 0) (text : List ℕ) (chars : I) (class : ℕ) (items : List ℕ) : Type 0 where
@@ -68,3 +74,12 @@ IsNextStep source numeric steps text old (Primary p) chars class new =
 IsNextStep source numeric steps text old End chars class new =
     (unpacked new ≡ text_elements source numeric text) × (primaries_in new ≡ primaries_in old)
 IsNextStep source numeric steps text old Other chars class new = Unit {0}
+
+-- What comes next of a text of which these elements were read: so it is with some elements behind them.
+abbrev pub IsNextPrimary : {I : Type 0} → CollationSource → Option ℕ → (I → Option ℕ → I → Type 0) → List ℕ → List ℕ → FlatStep → I → ℕ → Type 0
+IsNextPrimary source numeric steps text old result chars class =
+    (new : List ℕ) × IsNextStep source numeric steps text old result chars class new
+
+-- an iterator may be called, and has no more characters left than another
+abbrev pub IsLeftBehind : {I : Type 0} → (I → Type 0) → (I → Count) → I → I → Type 0
+IsLeftBehind can left old new = can new × IsFinite (left new) × (size (left new) ≤ size (left old))

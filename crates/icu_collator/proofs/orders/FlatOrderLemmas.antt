@@ -9,7 +9,7 @@ use Rattle.std.specs.declared.cmp.Ordering.TheVariants.{Less, Equal, Greater}
 use Rattle.std.proofs.lemmas.Bool.{cases_Bool, true≢false}
 use Rattle.std.proofs.lemmas.List.{map-append}
 use Rattle.std.proofs.lemmas.List.Elements.{filter_map-append}
-use Rattle.icu_normalizer_core.specs.Canonical.{decomposed}
+use Rattle.icu_normalizer_core.specs.Canonical.{IsDecomposing, decomposed}
 use Rattle.icu_normalizer_core.specs.Iter.{Spells}
 use Rattle.icu_collator_types.specs.declared.elements.Element.{Element}
 use Rattle.icu_collator_types.specs.declared.options.ResolvedCollatorOptions.{ResolvedCollatorOptions}
@@ -20,20 +20,21 @@ use Rattle.icu_collator_core.specs.Collation.{Collation}
 use Rattle.icu_collator_core.specs.ElementLists.{unpacked}
 use Rattle.icu_collator_core.specs.Elements.{elements_of_list}
 use Rattle.icu_collator_core.specs.ElementTexts.{text_elements}
-use Rattle.icu_collator_core.specs.FlatSteps.{BeginsWithPrimaries, IsNextStep, IsReadUpTo, primaries_in, primary_in}
+use Rattle.icu_collator_core.specs.FlatSteps.{BeginsWithPrimaries, IsNextPrimary, IsReadUpTo, primaries_in, primary_in}
 use Rattle.icu_collator_core.specs.Pools.{element_of}
 use Rattle.icu_collator_core.specs.ReadSources.{canonical_by, weights_by}
 use Rattle.icu_collator_core.specs.declared.flat.steps.FlatStep.{FlatStep}
 use Rattle.icu_collator_core.specs.declared.flat.steps.FlatStep.TheVariants.{Primary, End, Other}
-use Rattle.icu_collator_core.proofs.readings.FlatStepLemmas.{nothing_read_to}
+use Rattle.icu_collator_core.proofs.readings.FlatStepLemmas.{next_primary, nothing_read_to}
 use Rattle.icu_collator.specs.Collators.{source_collation}
-use Rattle.icu_collator.specs.FlatOrders.{IsByPrimaries, IsMeeting, moved_primaries, reordered_by}
+use Rattle.icu_collator.specs.FlatOrders.{AreAlike, AreReadAlike, AreStarters, HaveSamePrimaries, IsByPrimaries, IsMeeting, IsMet, moved_primaries, reordered_by}
 use Rattle.icu_collator.specs.LevelLists.{counted_by, counted_list, primaries_by}
 use Rattle.icu_collator.specs.Levels.{elements_of_text, levels_of, levels_of_text, primary_at}
 use Rattle.icu_collator.specs.Order.{collation_order, list_order}
 use Rattle.icu_collator.specs.Shifted.{Counted, counted, counted_behind, whole}
 use Rattle.icu_collator.specs.TextsRead.{IsReadOf, counted_in, numeric_by, order_from_secondaries}
 use Rattle.icu_collator.specs.declared.compare.flat.ByPrimaries.TheVariants.{Decided, Same}
+use Rattle.icu_collator.specs.declared.compare.flat.Meeting.{Meeting}
 use Rattle.icu_collator.specs.declared.compare.flat.Meeting.TheVariants.{Alike, BothEnd, Parted, Stopped}
 use Rattle.icu_collator.specs.declared.reading.ReadText.{ReadText}
 use Rattle.icu_collator.proofs.boundaries.DecidingCharacterLemmas.{primaries_decide}
@@ -168,33 +169,40 @@ module _ (source : CollationSource) where
   alike_right Other Other m = absurd m
 
   module _ {I J : Type 0} (left_steps : I → Option ℕ → I → Type 0) (right_steps : J → Option ℕ → J → Type 0) (numeric : Option ℕ) (a b : List ℕ) where
-    -- both texts were read up to primaries that are alike so far
-    pub record AreReadAlike (left : I) (right : J) (left_class right_class : ℕ) (lefts rights : List ℕ) : Type 0 where
-      pub left_read : IsReadUpTo source numeric left_steps a left left_class lefts
-      pub right_read : IsReadUpTo source numeric right_steps b right right_class rights
-      pub same : moved_primaries source lefts ≡ moved_primaries source rights
+    abbrev ReadAlike : I → J → ℕ → ℕ → Type 0
+    ReadAlike left right left_class right_class = AreAlike source numeric left_steps right_steps a b left right left_class right_class
 
-    pub begin_alike : (left : I) (right : J) (lefts rights : List ℕ) → Spells left_steps left a → Spells right_steps right b → lefts ≡ [] → rights ≡ []
-        → AreReadAlike left right 0 0 lefts rights
-    begin_alike left right lefts rights spelled others none also =
+    pub begin_alike : (left : I) (right : J) → Spells left_steps left a → Spells right_steps right b → ReadAlike left right 0 0
+    begin_alike left right spelled others = (
+      [],
+      [],
+      record {
+        left_read = nothing_read_to source numeric left_steps a left [] spelled refl;
+        right_read = nothing_read_to source numeric right_steps b right [] others refl;
+        same = refl;
+      },
+    )
+
+    module _ (old_lefts old_rights : List ℕ) (same : moved_primaries source old_lefts ≡ moved_primaries source old_rights) (left : I) (right : J) (left_class right_class : ℕ) where
+      abbrev pub LeftNext : FlatStep → Type 0
+      LeftNext first = IsNextPrimary source numeric left_steps a old_lefts first left left_class
+
+      abbrev pub RightNext : FlatStep → Type 0
+      RightNext second = IsNextPrimary source numeric right_steps b old_rights second right right_class
+
+      pub read_alike : (first second : FlatStep) → IsMeeting source first second Alike → LeftNext first → RightNext second
+          → ReadAlike left right left_class right_class
+      read_alike (Primary p) (Primary q) m l r = (
+        l.0,
+        r.0,
         record {
-          left_read = nothing_read_to source numeric left_steps a left lefts spelled none;
-          right_read = nothing_read_to source numeric right_steps b right rights others also;
-          same = ap (moved_primaries source) (none ∙ sym also);
-        }
-
-    module _ (old_lefts old_rights : List ℕ) (same : moved_primaries source old_lefts ≡ moved_primaries source old_rights) (left : I) (right : J) (left_class right_class : ℕ) (lefts rights : List ℕ) where
-      pub read_alike : (first second : FlatStep) → IsMeeting source first second Alike
-          → IsNextStep source numeric left_steps a old_lefts first left left_class lefts → IsNextStep source numeric right_steps b old_rights second right right_class rights
-          → AreReadAlike left right left_class right_class lefts rights
-      read_alike (Primary p) (Primary q) m l r =
-          record {
-            left_read = l.0;
-            right_read = r.0;
-            same = ap (map (reordered_by source)) l.1 ∙ map-append (reordered_by source) (primaries_in old_lefts) (p ∷ [])
-                ∙ ap (λ (x : ℕ). moved_primaries source old_lefts ++ x ∷ []) m ∙ ap (λ (ps : List ℕ). ps ++ reordered_by source q ∷ []) same
-                ∙ sym (ap (map (reordered_by source)) r.1 ∙ map-append (reordered_by source) (primaries_in old_rights) (q ∷ []));
-          }
+          left_read = l.1.0;
+          right_read = r.1.0;
+          same = ap (map (reordered_by source)) l.1.1 ∙ map-append (reordered_by source) (primaries_in old_lefts) (p ∷ [])
+              ∙ ap (λ (x : ℕ). moved_primaries source old_lefts ++ x ∷ []) m ∙ ap (λ (ps : List ℕ). ps ++ reordered_by source q ∷ []) same
+              ∙ sym (ap (map (reordered_by source)) r.1.1 ∙ map-append (reordered_by source) (primaries_in old_rights) (q ∷ []));
+        },
+      )
       read_alike (Primary p) End m l r = absurd m
       read_alike (Primary p) Other m l r = absurd m
       read_alike End (Primary q) m l r = absurd m
@@ -204,11 +212,12 @@ module _ (source : CollationSource) where
       read_alike Other End m l r = absurd m
       read_alike Other Other m l r = absurd m
 
-      pub both_ended : (first second : FlatStep) → IsMeeting source first second BothEnd
-          → IsNextStep source numeric left_steps a old_lefts first left left_class lefts → IsNextStep source numeric right_steps b old_rights second right right_class rights
-          → IsByPrimaries source numeric a b Same lefts rights
-      both_ended End End m l r =
-          (l.0, r.0, ap (map (reordered_by source)) l.1 ∙ same ∙ sym (ap (map (reordered_by source)) r.1))
+      pub both_ended : (first second : FlatStep) → IsMeeting source first second BothEnd → LeftNext first → RightNext second
+          → IsByPrimaries source numeric a b Same
+      both_ended End End m l r = λ options unshifted is.
+          whole_of numeric options unshifted is a l.0 l.1.0
+          ∙ (ap (map (reordered_by source)) l.1.1 ∙ same ∙ sym (ap (map (reordered_by source)) r.1.1))
+          ∙ sym (whole_of numeric options unshifted is b r.0 r.1.0)
       both_ended (Primary p) (Primary q) m l r = absurd m
       both_ended (Primary p) End m l r = absurd m
       both_ended (Primary p) Other m l r = absurd m
@@ -218,21 +227,41 @@ module _ (source : CollationSource) where
       both_ended Other End m l r = absurd m
       both_ended Other Other m l r = absurd m
 
-      pub meeting_decides : (first second : FlatStep) (o : Ordering) → IsMeeting source first second (Parted o)
-          → IsNextStep source numeric left_steps a old_lefts first left left_class lefts → IsNextStep source numeric right_steps b old_rights second right right_class rights
-          → All IsScalar a → All IsScalar b → IsByPrimaries source numeric a b (Decided o) lefts rights
+      pub meeting_decides : (first second : FlatStep) (o : Ordering) → IsMeeting source first second (Parted o) → LeftNext first → RightNext second
+          → All IsScalar a → All IsScalar b → IsByPrimaries source numeric a b (Decided o)
       meeting_decides (Primary p) (Primary q) o m l r ok also = λ options unshifted is.
-          parted numeric options unshifted is a b (primaries_in old_lefts) (primaries_in old_rights) p q o same (l.2 ok) (r.2 also) m.0 m.1
+          parted numeric options unshifted is a b (primaries_in old_lefts) (primaries_in old_rights) p q o same (l.1.2 ok) (r.1.2 also) m.0 m.1
       meeting_decides (Primary p) End o m l r ok also = λ options unshifted is.
-          m ∙ right_ends numeric options unshifted is a b (primaries_in old_lefts) rights p (same ∙ sym (ap (map (reordered_by source)) r.1)) (l.2 ok) r.0
+          m ∙ right_ends numeric options unshifted is a b (primaries_in old_lefts) r.0 p (same ∙ sym (ap (map (reordered_by source)) r.1.1)) (l.1.2 ok) r.1.0
       meeting_decides End (Primary q) o m l r ok also = λ options unshifted is.
-          m ∙ left_ends numeric options unshifted is a b lefts (primaries_in old_rights) q (ap (map (reordered_by source)) l.1 ∙ same) l.0 (r.2 also)
+          m ∙ left_ends numeric options unshifted is a b l.0 (primaries_in old_rights) q (ap (map (reordered_by source)) l.1.1 ∙ same) l.1.0 (r.1.2 also)
       meeting_decides (Primary p) Other o m l r ok also = absurd m
       meeting_decides End End o m l r ok also = absurd m
       meeting_decides End Other o m l r ok also = absurd m
       meeting_decides Other (Primary q) o m l r ok also = absurd m
       meeting_decides Other End o m l r ok also = absurd m
       meeting_decides Other Other o m l r ok also = absurd m
+
+      -- what they say, with what is left of both
+      pub met : (first second : FlatStep) (meeting : Meeting) → IsMeeting source first second meeting → LeftNext first → RightNext second
+          → All IsScalar a → All IsScalar b → IsMet source numeric left_steps right_steps a b meeting left right left_class right_class
+      met first second Alike m l r ok also = read_alike first second m l r
+      met first second BothEnd m l r ok also = both_ended first second m l r
+      met first second (Parted o) m l r ok also = meeting_decides first second o m l r ok also
+      met first second Stopped m l r ok also = tt
+
+    -- where both go on with starters
+    pub starters_met : IsDecomposing (canonical_by source) → (left next_left : I) (right next_right : J) (first second : Option ℕ) (last other : ℕ) (meeting : Meeting)
+        → ReadAlike left right last other → AreStarters source first second last other meeting → left_steps left first next_left → right_steps right second next_right
+        → All IsScalar a → All IsScalar b → IsMet source numeric left_steps right_steps a b meeting next_left next_right 0 0
+    starters_met decomposing left next_left right next_right first second last other meeting h starters step also ok scalars =
+        let s = starters in
+        met h.0 h.1 h.2.same next_left next_right 0 0 (Primary s.p) (Primary s.q) meeting s.meets
+        (next_primary source numeric left_steps a left next_left last s.c s.p 0 h.0 h.0 decomposing h.2.left_read refl
+        (subst (λ (next : Option ℕ). left_steps left next next_left) s.first_is step) (s.first_steps numeric) s.some)
+        (next_primary source numeric right_steps b right next_right other s.d s.q 0 h.1 h.1 decomposing h.2.right_read refl
+        (subst (λ (next : Option ℕ). right_steps right next next_right) s.second_is also) (s.second_steps numeric) s.also)
+        ok scalars
 
   -- ---- texts with equal primaries
 
@@ -255,9 +284,10 @@ module _ (source : CollationSource) where
 
     pub same_primaries : (inexact : is_at_least options.strength Identical ≡ false) (a b : List ℕ) (left right : ReadText) → left.variable_end ≡ 0 → right.variable_end ≡ 0
         → unpacked left.elements.now ≡ text_elements source numeric a → unpacked right.elements.now ≡ text_elements source numeric b
-        → moved_primaries source left.elements.now ≡ moved_primaries source right.elements.now
+        → HaveSamePrimaries collation options a b
         → order_from_secondaries collation options left right ≡ collation_order collation options a b
-    same_primaries inexact a b left right zero also one two same =
+    same_primaries inexact a b left right zero also one two primaries =
+        let same = sym (whole_of numeric options unshifted is a left.elements.now one) ∙ primaries ∙ whole_of numeric options unshifted is b right.elements.now two in
         let of : ℕ → List ℕ → List ℕ = λ end items. filter_map (primary_at collation) (counted_list end items) in
         let counts : (end : ℕ) (items : List ℕ) → end ≡ 0 → of end items ≡ moved_primaries source items =
         λ end items none. ap (λ (n : ℕ). of n items) none ∙ ap (filter_map (primary_at collation)) (zero_counted items) ∙ whole_primaries items in

@@ -1,17 +1,23 @@
 //! The comparison of texts that are read flat: by their primaries while they are read, then by the other levels.
 
 ghost use Rattle.std.specs.Char.{IsScalar};
-ghost use Rattle.std.specs.Iterator.{IsFinite};
-ghost use Rattle.std.specs.Prelude.{◌≡◌, ℕ, All, List, [], IfOk, IfSome};
+ghost use Rattle.std.specs.Iterator.{IsFinite, IsNearerEnd};
+ghost use Rattle.std.specs.Prelude.{◌≡◌, ◌≤◌, ℕ, All, List, IfOk, IfSome, IsSome, drop, false, length};
 ghost use Rattle.icu_normalizer_core.specs.Iter.{Spells};
+ghost use Rattle.icu_collator_core.specs.FlatSteps.{IsLeftBehind};
 ghost use Rattle.icu_collator_core.specs.declared.flat.steps.FlatStep.TheVariants.{Primary};
 ghost use Rattle.icu_collator.specs.Collators.{source_collation};
-ghost use Rattle.icu_collator.specs.FlatOrders.{IsByPrimaries, IsMeeting};
+ghost use Rattle.icu_collator_types.specs.Options.{is_at_least, is_shifted};
+ghost use Rattle.icu_collator_types.specs.declared.options.Strength.TheVariants.{Identical};
+ghost use Rattle.icu_collator.specs.FlatOrders.{AreAlike, AreStarters, HaveSamePrimaries, IsByPrimaries, IsMeeting, IsMet};
 ghost use Rattle.icu_collator.specs.Order.{collation_order};
+ghost use Rattle.icu_collator.specs.declared.compare.flat.Meeting.TheVariants.{Alike};
 
 use super::orders::compare_from_secondaries;
+use crate::front::behind;
 use crate::levels::weights::reordered;
 use crate::reading::{ReadText, is_unshifted, numeric_lead};
+use crate::texts::Characters;
 use icu_collator_core::checked::CheckedTables;
 use icu_collator_core::flat::{FlatElements, FlatStep};
 use icu_collator_types::options::{ResolvedCollatorOptions, Strength};
@@ -83,81 +89,238 @@ enum ByPrimaries {
     NotFlat,
 }
 
-/// Reads two texts side by side as long as their primaries are alike. No memory is taken.
-#[inline]
-fn by_primaries<I: Iterator<Item = char> + Drop, J: Iterator<Item = char> + Drop, const N: usize>(
+/// What the next characters of two texts say, each behind a character of a class, if both are starters of one element with a
+/// primary; `None` for others, and at an end.
+#[inline(always)]
+fn meet_starters(
+    checked: &CheckedTables<'_>,
+    first: Option<char>,
+    second: Option<char>,
+    first_class: u32,
+    second_class: u32,
+) -> Option<Meeting>
+    ensures { IfSome result (λ meeting. AreStarters checked.now first second first_class second_class meeting) }
+{
+    let c = first?;
+    let d = second?;
+    let primary = checked.starter_primary(c, first_class);
+    if primary == 0 {
+        return None;
+    }
+    if c == d && first_class == second_class {
+        return Some(Meeting::Alike);
+    }
+    let other = checked.starter_primary(d, second_class);
+    if other == 0 {
+        return None;
+    }
+    Some(meet_primaries(checked, primary, other))
+}
+
+/// What the next primaries of two texts say, that were read up to primaries that are alike, each behind a character of a class,
+/// and whose next characters were taken; with the texts behind these primaries, and the classes of the last characters. No
+/// memory is taken.
+#[inline(never)]
+fn meet_others<I: Iterator<Item = char> + Drop, J: Iterator<Item = char> + Drop>(
+    checked: &CheckedTables<'_>,
+    numeric: Option<u8>,
+    first: Option<char>,
+    second: Option<char>,
+    left: I,
+    right: J,
+    left_class: u32,
+    right_class: u32,
+) -> (Meeting, I, J, u32, u32)
+    requires left { IfSome first (λ _. I.can_next left) }
+    requires left_ends { IfSome first (λ _. IsFinite (I.remaining left)) }
+    requires right { IfSome second (λ _. J.can_next right) }
+    requires right_ends { IfSome second (λ _. IsFinite (J.remaining right)) }
+    ensures next { (a b : List ℕ) → All IsScalar a → All IsScalar b → (before : I) (also : J)
+        → AreAlike checked.now numeric I.next_gives J.next_gives a b before also left_class right_class
+        → I.next_gives before first left → J.next_gives also second right
+        → IsMet checked.now numeric I.next_gives J.next_gives a b result.0 result.1 result.2 result.3 result.4 }
+    ensures left_nearer { result.0 ≡ Alike → IsLeftBehind I.can_next I.remaining left result.1 }
+    ensures right_nearer { result.0 ≡ Alike → IsLeftBehind J.can_next J.remaining right result.2 }
+    ensures left_given { result.0 ≡ Alike → IsSome first }
+    ensures right_given { result.0 ≡ Alike → IsSome second }
+{
+    let (one, left_rest, left_last) = checked.read_to_primary(numeric, first, left, left_class);
+    let (two, right_rest, right_last) = checked.read_to_primary(
+        numeric,
+        second,
+        right,
+        right_class,
+    );
+    let meeting = meet(checked, one, two);
+    (meeting, left_rest, right_rest, left_last, right_last)
+}
+
+/// The same, where the next characters are still to be taken.
+#[inline(always)]
+fn meet_next<I: Iterator<Item = char> + Drop, J: Iterator<Item = char> + Drop>(
     checked: &CheckedTables<'_>,
     numeric: Option<u8>,
     left: I,
     right: J,
-    lefts: &mut FlatElements<N>,
-    rights: &mut FlatElements<N>,
+    left_class: u32,
+    right_class: u32,
+) -> (Meeting, I, J, u32, u32)
+    requires left { I.can_next left }
+    requires left_ends { IsFinite (I.remaining left) }
+    requires right { J.can_next right }
+    requires right_ends { IsFinite (J.remaining right) }
+    ensures next { (a b : List ℕ) → All IsScalar a → All IsScalar b
+        → AreAlike checked.now numeric I.next_gives J.next_gives a b left right left_class right_class
+        → IsMet checked.now numeric I.next_gives J.next_gives a b result.0 result.1 result.2 result.3 result.4 }
+    ensures left_nearer { result.0 ≡ Alike → IsNearerEnd I.can_next I.remaining left result.1 }
+    ensures right_nearer { result.0 ≡ Alike → IsNearerEnd J.can_next J.remaining right result.2 }
+{
+    checked.canonical().keep_promise();
+    let mut left = left;
+    let mut right = right;
+    let c = left.next();
+    let d = right.next();
+    if let Some(meeting) = meet_starters(checked, c, d, left_class, right_class) {
+        return (meeting, left, right, 0, 0);
+    }
+    meet_others(checked, numeric, c, d, left, right, left_class, right_class)
+}
+
+/// Reads two texts side by side as long as their primaries are alike. No memory is taken.
+#[inline(always)]
+fn by_primaries<I: Iterator<Item = char> + Drop, J: Iterator<Item = char> + Drop>(
+    checked: &CheckedTables<'_>,
+    numeric: Option<u8>,
+    left: I,
+    right: J,
 ) -> ByPrimaries
     requires left { I.can_next left }
     requires left_ends { IsFinite (I.remaining left) }
     requires right { J.can_next right }
     requires right_ends { IsFinite (J.remaining right) }
-    requires left_empty { lefts.old.items ≡ [] }
-    requires right_empty { rights.old.items ≡ [] }
     ensures { (a b : List ℕ) → All IsScalar a → All IsScalar b → Spells I.next_gives left a → Spells J.next_gives right b
-        → IsByPrimaries checked.now numeric a b result lefts.new.items rights.new.items }
+        → IsByPrimaries checked.now numeric a b result }
 {
     let mut left = left;
     let mut right = right;
     let mut left_class = 0;
     let mut right_class = 0;
     'primaries: loop {
-        let first = checked.read_to_primary(numeric, &mut left, &mut left_class, lefts);
-        let second = checked.read_to_primary(numeric, &mut right, &mut right_class, rights);
-        match meet(checked, first, second) {
+        let (meeting, left_rest, right_rest, left_last, right_last) = meet_next(
+            checked,
+            numeric,
+            left,
+            right,
+            left_class,
+            right_class,
+        );
+        match meeting {
             Meeting::Alike => {}
             Meeting::BothEnd => return ByPrimaries::Same,
             Meeting::Parted(order) => return ByPrimaries::Decided(order),
             Meeting::Stopped => return ByPrimaries::NotFlat,
         }
+        left = left_rest;
+        right = right_rest;
+        left_class = left_last;
+        right_class = right_last;
     }
 }
 
-/// The order of two texts, if both are read flat as far as it takes: `None` for others. Fails only when out of memory.
-pub(super) fn compare_flat<I: Iterator<Item = char> + Drop, J: Iterator<Item = char> + Drop>(
+/// The order of what stands in two texts with the same primaries behind so many characters, by the levels behind these, if both
+/// are read flat and have few elements: `None` for others. Fails only when out of memory.
+#[inline(never)]
+fn compare_kept<T: Characters, U: Characters>(
     alloc: Global,
     checked: &CheckedTables<'_>,
     options: &ResolvedCollatorOptions,
-    left: I,
-    right: J,
+    left: T,
+    right: U,
+    place: usize,
 ) -> Result<Option<Ordering>, AllocError>
-    requires left { I.can_next left }
-    requires left_ends { IsFinite (I.remaining left) }
-    requires right { J.can_next right }
-    requires right_ends { IsFinite (J.remaining right) }
-    ensures { IfOk result (λ answer. IfSome answer (λ order. (a b : List ℕ) → All IsScalar a → All IsScalar b
-        → Spells I.next_gives left a → Spells J.next_gives right b → order ≡ collation_order (source_collation checked.now) options.now a b)) }
+    requires left_reaches { place ≤ length (T.characters left) }
+    requires right_reaches { place ≤ length (U.characters right) }
+    requires unshifted { is_shifted options.now.alternate_handling ≡ false }
+    requires inexact { is_at_least options.now.strength Identical ≡ false }
+    requires same { HaveSamePrimaries (source_collation checked.now) options.now (drop place (T.characters left)) (drop place (U.characters right)) }
+    ensures { IfOk result (λ answer. IfSome answer (λ order.
+        order ≡ collation_order (source_collation checked.now) options.now (drop place (T.characters left)) (drop place (U.characters right)))) }
+{
+    let numeric = numeric_lead(checked, options);
+    let mut lefts = FlatElements::<KEPT>::new();
+    if !checked.read_flat(numeric, behind(left.chars(), place), &mut lefts) {
+        return Ok(None);
+    }
+    let mut rights = FlatElements::<KEPT>::new();
+    if !checked.read_flat(numeric, behind(right.chars(), place), &mut rights) {
+        return Ok(None);
+    }
+    let left = ReadText {
+        elements: lefts.as_slice(),
+        variable_end: 0,
+        characters: &[],
+    };
+    let right = ReadText {
+        elements: rights.as_slice(),
+        variable_end: 0,
+        characters: &[],
+    };
+    let order = compare_from_secondaries(alloc, checked, options, left, right)?;
+    Ok(Some(order))
+}
+
+/// The same at each strength: `None` at `Identical`. Fails only when out of memory.
+#[inline(never)]
+fn compare_same<T: Characters, U: Characters>(
+    alloc: Global,
+    checked: &CheckedTables<'_>,
+    options: &ResolvedCollatorOptions,
+    left: T,
+    right: U,
+    place: usize,
+) -> Result<Option<Ordering>, AllocError>
+    requires left_reaches { place ≤ length (T.characters left) }
+    requires right_reaches { place ≤ length (U.characters right) }
+    requires unshifted { is_shifted options.now.alternate_handling ≡ false }
+    requires same { HaveSamePrimaries (source_collation checked.now) options.now (drop place (T.characters left)) (drop place (U.characters right)) }
+    ensures { IfOk result (λ answer. IfSome answer (λ order.
+        order ≡ collation_order (source_collation checked.now) options.now (drop place (T.characters left)) (drop place (U.characters right)))) }
+{
+    if options.strength.is_at_least(Strength::Identical) {
+        return Ok(None);
+    }
+    let answer = compare_kept(alloc, checked, options, left, right, place)?;
+    Ok(answer)
+}
+
+/// The order of what stands in two texts behind so many characters, if both are read flat as far as it takes: `None` for
+/// others. Fails only when out of memory.
+#[inline(always)]
+pub(super) fn compare_flat<T: Characters, U: Characters>(
+    alloc: Global,
+    checked: &CheckedTables<'_>,
+    options: &ResolvedCollatorOptions,
+    left: T,
+    right: U,
+    place: usize,
+) -> Result<Option<Ordering>, AllocError>
+    requires left_reaches { place ≤ length (T.characters left) }
+    requires right_reaches { place ≤ length (U.characters right) }
+    ensures { IfOk result (λ answer. IfSome answer (λ order.
+        order ≡ collation_order (source_collation checked.now) options.now (drop place (T.characters left)) (drop place (U.characters right)))) }
 {
     if !is_unshifted(options) {
         return Ok(None);
     }
     let numeric = numeric_lead(checked, options);
-    let mut lefts = FlatElements::<KEPT>::new();
-    let mut rights = FlatElements::<KEPT>::new();
-    match by_primaries(checked, numeric, left, right, &mut lefts, &mut rights) {
+    let lefts = behind(left.chars(), place);
+    let rights = behind(right.chars(), place);
+    match by_primaries(checked, numeric, lefts, rights) {
         ByPrimaries::Decided(order) => Ok(Some(order)),
         ByPrimaries::NotFlat => Ok(None),
         ByPrimaries::Same => {
-            if options.strength.is_at_least(Strength::Identical) {
-                return Ok(None);
-            }
-            let left = ReadText {
-                elements: lefts.as_slice(),
-                variable_end: 0,
-                characters: &[],
-            };
-            let right = ReadText {
-                elements: rights.as_slice(),
-                variable_end: 0,
-                characters: &[],
-            };
-            let order = compare_from_secondaries(alloc, checked, options, left, right)?;
-            Ok(Some(order))
+            let answer = compare_same(alloc, checked, options, left, right, place)?;
+            Ok(answer)
         }
     }
 }

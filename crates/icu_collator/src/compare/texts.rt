@@ -53,9 +53,7 @@ fn compare_flat_behind<T: Characters, U: Characters>(
     if place == 0 {
         return Ok(None);
     }
-    let lefts = behind(left.chars(), place);
-    let rights = behind(right.chars(), place);
-    let answer = compare_flat(alloc, checked, options, lefts, rights)?;
+    let answer = compare_flat(alloc, checked, options, left, right, place)?;
     Ok(answer)
 }
 
@@ -103,6 +101,7 @@ fn compare_past<T: Characters, U: Characters>(
 
 /// The order of two texts: where they first differ decides it, or both are read from a place before that. Fails only
 /// when out of memory.
+#[inline(never)]
 fn compare_by_difference<T: Characters, U: Characters>(
     alloc: Global,
     checked: &CheckedTables<'_>,
@@ -133,7 +132,7 @@ pub(crate) fn compare_texts<T: Characters, U: Characters>(
 ) -> Result<Ordering, AllocError>
     ensures { IfOk result (λ order. order ≡ collation_order (source_collation checked.now) options.now (T.characters left) (U.characters right)) }
 {
-    match compare_flat(alloc, checked, options, left.chars(), right.chars())? {
+    match compare_flat(alloc, checked, options, left, right, 0)? {
         Some(order) => Ok(order),
         None => {
             let order = compare_by_difference(alloc, checked, options, left, right)?;

@@ -16,7 +16,9 @@ use Rattle.icu_collator_core.specs.ElementLists.{unpacked}
 use Rattle.icu_collator_core.specs.Elements.{Placed, Reading, elements_within, longest_prefix, placed_behind}
 use Rattle.icu_collator_core.specs.ElementTexts.{text_elements}
 use Rattle.icu_collator_core.specs.FlatNotes.{AreReadFlat, IsFlat, IsPushed, MayFollow, StandInOrder, last_class}
-use Rattle.icu_collator_core.specs.FlatSteps.{BeginsWithPrimaries, BeginsWithStarter, IsReadUpTo, IsStep, primaries_in, primary_if_any, primary_in}
+use Rattle.icu_collator_core.specs.FlatSteps.{BeginsWithPrimaries, BeginsWithStarter, IsNextPrimary, IsReadUpTo, IsStep, StepsTo, primaries_in, primary_if_any, primary_in}
+use Rattle.icu_collator_core.specs.declared.flat.steps.FlatStep.{FlatStep}
+use Rattle.icu_collator_core.specs.declared.flat.steps.FlatStep.TheVariants.{Primary, End, Other}
 use Rattle.icu_collator_core.specs.Pools.{element_of}
 use Rattle.icu_collator_core.specs.ReadSources.{canonical_by, weights_by}
 use Rattle.icu_collator_core.proofs.lookups.MatchLemmas.{scalars_front}
@@ -240,3 +242,59 @@ module _ (source : CollationSource) (numeric : Option ℕ) where
 
         primary_of_one : (bits : ℕ) → primary_in bits ≡ Some p → primaries_in (bits ∷ []) ≡ p ∷ []
         primary_of_one bits e = rw e refl
+
+    -- ---- what comes next
+
+    some_primary : (p : ℕ) → (p == 0) ≡ false → primary_if_any p ≡ p ∷ []
+    some_primary p e = rw e refl
+
+    no_primary : (p : ℕ) → (p == 0) ≡ true → primary_if_any p ≡ []
+    no_primary p e = rw e refl
+
+    pub next_primary : (now next : I) (last c p trail : ℕ) (items old : List ℕ) → IsDecomposing (canonical_by source) → ReadTo now last items → primaries_in items ≡ primaries_in old
+        → steps now (Some c) next → StepsTo source numeric c last p trail → (p == 0) ≡ false → IsNextPrimary source numeric steps text old (Primary p) next trail
+    next_primary now next last c p trail items old decomposing h same step steps_to some =
+        let stepped = steps_to items in
+        let new = stepped.0 in (
+          new,
+          (
+            read_on now next last c p trail items new h step stepped.1,
+            primaries_on last c p trail items new stepped.1
+                ∙ ap (λ (ps : List ℕ). primaries_in items ++ ps) (some_primary p some) ∙ ap (λ (ps : List ℕ). ps ++ p ∷ []) same,
+            λ ok. subst (λ (ps : List ℕ). BeginsWithPrimaries source numeric text (ps ++ p ∷ [])) same
+                (primary_reached now next last c p trail items new decomposing ok h step stepped.1 some),
+          ),
+        )
+
+    -- what was read to, with no more primaries
+    abbrev pub IsReadWithout : List ℕ → I → ℕ → Type 0
+    IsReadWithout old next trail = (new : List ℕ) × IsReadUpTo source numeric steps text next trail new × (primaries_in new ≡ primaries_in old)
+
+    pub none_next : (now next : I) (last c p trail : ℕ) (items old : List ℕ) → ReadTo now last items → primaries_in items ≡ primaries_in old
+        → steps now (Some c) next → StepsTo source numeric c last p trail → (p == 0) ≡ true → IsReadWithout old next trail
+    none_next now next last c p trail items old h same step steps_to none =
+        let stepped = steps_to items in
+        let new = stepped.0 in (
+          new,
+          read_on now next last c p trail items new h step stepped.1,
+          primaries_on last c p trail items new stepped.1
+              ∙ ap (λ (ps : List ℕ). primaries_in items ++ ps) (no_primary p none) ∙ append-nil (primaries_in items) ∙ same,
+        )
+
+    pub end_next : (now next : I) (last class_then : ℕ) (items old : List ℕ) → ReadTo now last items → primaries_in items ≡ primaries_in old
+        → steps now None next → IsNextPrimary source numeric steps text old End next class_then
+    end_next now next last class_then items old h same step = (items, (read_whole now next last items h step, same))
+
+    -- the same of other elements with the same primaries
+    pub next_from : (chars : I) (last : ℕ) (items old : List ℕ) (result : FlatStep) → primaries_in items ≡ primaries_in old
+        → IsNextPrimary source numeric steps text items result chars last → IsNextPrimary source numeric steps text old result chars last
+    next_from chars last items old (Primary p) same h = (
+      h.0,
+      (
+        h.1.0,
+        h.1.1 ∙ ap (λ (ps : List ℕ). ps ++ p ∷ []) same,
+        λ ok. subst (λ (ps : List ℕ). BeginsWithPrimaries source numeric text (ps ++ p ∷ [])) same (h.1.2 ok),
+      ),
+    )
+    next_from chars last items old End same h = (h.0, (h.1.0, h.1.1 ∙ same))
+    next_from chars last items old Other same h = (h.0, tt)

@@ -1,16 +1,15 @@
 //! Flat reading, one primary after another.
 
-ghost use Rattle.std.specs.Prelude.{◌≡◌, ◌≤◌, ◌==◌, ◌∷◌, ◌++◌, ℕ, false, List, [], IfSome};
-ghost use Rattle.std.specs.Iterator.{IsFinite, IsNearerEnd};
+ghost use Rattle.std.specs.Prelude.{◌≡◌, ◌≤◌, ◌==◌, ℕ, false, true, List, IfSome, IsSome, Option};
+ghost use Rattle.std.specs.Iterator.{IsFinite};
 ghost use Rattle.icu_normalizer_core.specs.Canonical.{IsDecomposing};
 ghost use Rattle.icu_collator_core.specs.Acceptance.{CollationSource};
 ghost use Rattle.icu_collator_core.specs.FlatNotes.{IsFlatNote};
-ghost use Rattle.icu_collator_core.specs.FlatSteps.{IsNextStep, IsReadUpTo, IsStep};
+ghost use Rattle.icu_collator_core.specs.FlatSteps.{IsLeftBehind, IsNextPrimary, IsReadUpTo, StepsTo};
 ghost use Rattle.icu_collator_core.specs.Pools.{element_of};
 ghost use Rattle.icu_collator_core.specs.ReadSources.{canonical_by};
 ghost use Rattle.icu_collator_core.specs.declared.flat.steps.FlatStep.TheVariants.{Primary};
 
-use super::list::FlatElements;
 use super::notes::{FlatNote, note_of};
 use crate::checked::CheckedTables;
 use icu_collator_types::elements::CollationElement;
@@ -25,161 +24,208 @@ pub enum FlatStep {
     Primary(u32),
     /// The end of the text.
     End,
-    /// A character that isn't read flat where it stands, or for whose elements there is no room.
+    /// A character that isn't read flat where it stands.
     Other,
 }
 
-/// Appends the element of a character with this class, if it may stand behind one of another; a primary only where it is a
-/// starter. Answers the primary.
+/// The primary of an element, the only one of a character with this class, if it may stand behind one of another; a primary
+/// only where it is a starter.
 #[inline(always)]
-fn push_one<const N: usize>(
-    element: CollationElement,
-    lead: u8,
-    trail: u8,
-    before: u8,
-    elements: &mut FlatElements<N>,
-) -> Option<u32>
+fn primary_of_one(element: CollationElement, lead: u8, trail: u8, before: u32) -> Option<u32>
     ensures primary { IfSome result (λ p. (element_of element).primary ≡ p) }
     ensures follows { IfSome result (λ p. before ≤ lead) }
     ensures starter { IfSome result (λ p. (p == 0) ≡ false → trail ≡ 0) }
-    ensures appended { IfSome result (λ p. elements.new.items ≡ elements.old.items ++ element ∷ []) }
 {
     let primary = element.primary();
-    if before <= lead && (primary == 0 || trail == 0) && elements.push(element) {
+    if before <= lead as u32 && (primary == 0 || trail == 0) {
         Some(primary)
     } else {
         None
     }
 }
 
-/// Appends two elements of a character, if it may stand behind one of a class; a primary only where the first is that of a
-/// starter, and none from the second. Answers the primary.
+/// The primary of the first of two elements of a character, if it may stand behind one of a class; a primary only where the
+/// first is that of a starter, and none of the second.
 #[inline(always)]
-fn push_two<const N: usize>(
+fn primary_of_two(
     first: CollationElement,
     second: CollationElement,
     lead: u8,
-    before: u8,
-    elements: &mut FlatElements<N>,
+    before: u32,
 ) -> Option<u32>
     ensures primary { IfSome result (λ p. (element_of first).primary ≡ p) }
     ensures none { IfSome result (λ p. (element_of second).primary ≡ 0) }
     ensures follows { IfSome result (λ p. before ≤ lead) }
     ensures starter { IfSome result (λ p. (p == 0) ≡ false → lead ≡ 255) }
-    ensures appended { IfSome result (λ p. elements.new.items ≡ elements.old.items ++ first ∷ second ∷ []) }
 {
     let primary = first.primary();
-    if before > lead || (primary != 0 && lead != STARTER) || second.primary() != 0 {
+    if before > lead as u32 || (primary != 0 && lead != STARTER) || second.primary() != 0 {
         return None;
     }
-    if elements.push(first) && elements.push(second) {
-        Some(primary)
-    } else {
-        None
-    }
+    Some(primary)
+}
+
+/// Whether a character behind which any may stand, of whose full list the last is a starter, may stand behind one of a class.
+#[inline(always)]
+fn may_start(lead: u8, trail: u8, before: u32) -> bool
+    ensures follows { result ≡ true → before ≤ lead }
+    ensures starter { result ≡ true → trail ≡ 0 }
+{
+    before <= lead as u32 && trail == 0
 }
 
 impl FlatNote {
-    /// Appends the elements of a character that stands behind one of this class, if it is read flat, its marks stand in order,
-    /// none but the first, of a starter, has a primary, and there is room. Answers the primary, 0 for none, and the class of the
-    /// last character of its full list.
+    /// The primary of a starter of one element that stands behind one of this class; 0 for another character.
     #[inline(always)]
-    fn step<const N: usize>(
-        &self,
-        numeric: Option<u8>,
-        before: u8,
-        elements: &mut FlatElements<N>,
-    ) -> Option<(u32, u8)>
+    fn starter_primary(&self, before: u32) -> u32
+        ensures { (result == 0) ≡ false → (source : CollationSource) (c : ℕ) → IsFlatNote source c self.now
+            → (numeric : Option ℕ) → StepsTo source numeric c before result 0 }
+    {
+        if let FlatNote::One(element, lead, trail) = *self {
+            if may_start(lead, trail, before) {
+                return element.primary();
+            }
+        }
+        0
+    }
+
+    /// The primary of a character that stands behind one of this class, 0 for none, and the class of the last character of its
+    /// full list, if it is read flat, its marks stand in order, and none of its elements but the first, of a starter, has a
+    /// primary.
+    #[inline(always)]
+    fn step(&self, numeric: Option<u8>, before: u32) -> Option<(u32, u32)>
         ensures { IfSome result (λ step. (source : CollationSource) (c : ℕ) → IsDecomposing (canonical_by source) → IsFlatNote source c self.now
-            → IsStep source numeric c before elements.old.items step.0 step.1 elements.new.items) }
+            → StepsTo source numeric c before step.0 step.1) }
+    {
+        if let FlatNote::One(element, lead, trail) = *self {
+            let primary = primary_of_one(element, lead, trail, before)?;
+            return Some((primary, trail as u32));
+        }
+        self.step_other(numeric, before)
+    }
+
+    /// The same, whatever is noted.
+    #[inline(always)]
+    fn step_other(&self, numeric: Option<u8>, before: u32) -> Option<(u32, u32)>
+        ensures { IfSome result (λ step. (source : CollationSource) (c : ℕ) → IsDecomposing (canonical_by source) → IsFlatNote source c self.now
+            → StepsTo source numeric c before step.0 step.1) }
     {
         match *self {
-            FlatNote::One(element, lead, trail) => {
-                let primary = push_one(element, lead, trail, before, elements)?;
-                Some((primary, trail))
-            }
             FlatNote::Two(first, second, lead, trail) => {
-                let primary = push_two(first, second, lead, before, elements)?;
-                Some((primary, trail))
+                let primary = primary_of_two(first, second, lead, before)?;
+                Some((primary, trail as u32))
             }
             FlatNote::Digit(element, lead, trail) => {
                 if numeric.is_some() {
                     return None;
                 }
-                let primary = push_one(element, lead, trail, before, elements)?;
-                Some((primary, trail))
+                let primary = primary_of_one(element, lead, trail, before)?;
+                Some((primary, trail as u32))
             }
-            FlatNote::Other => None,
+            _ => None,
         }
     }
 }
 
 impl CheckedTables<'_> {
-    /// Appends the elements of a character that stands behind one of this class, as `FlatNote::step` does.
+    /// The primary of a starter of one element that is read flat behind a character of this class, be numbers read or not; 0
+    /// for another, for some that are so, and for all from U+0800 on. It takes one read and no memory.
     #[inline(always)]
-    fn step_flat<const N: usize>(
-        &self,
-        numeric: Option<u8>,
-        c: char,
-        before: u8,
-        elements: &mut FlatElements<N>,
-    ) -> Option<(u32, u8)>
-        ensures { IfSome result (λ step. IsDecomposing (canonical_by self.now)
-            → IsStep self.now numeric c before elements.old.items step.0 step.1 elements.new.items) }
+    pub fn starter_primary(&self, c: char, before: u32) -> u32
+        ensures { (result == 0) ≡ false → (numeric : Option ℕ) → StepsTo self.now numeric c before result 0 }
     {
         match self.flat_note(c) {
+            Some(note) => note.starter_primary(before),
+            None => 0,
+        }
+    }
+
+    /// The primary of a character that stands behind one of this class, 0 for none, and the class of the last character of its
+    /// full list (UAX 15), if it is read flat there: each character of its full list is read alone, its marks stand in order,
+    /// and none but the first, a starter, has a primary. `None` for another, and for some that are so. Where a lead byte of
+    /// numbers is given, no digit is read so. A character below U+0800 takes one read; no memory is taken.
+    #[inline(always)]
+    pub fn flat_primary(&self, numeric: Option<u8>, c: char, before: u32) -> Option<(u32, u32)>
+        ensures { IfSome result (λ step. StepsTo self.now numeric c before step.0 step.1) }
+    {
+        self.canonical().keep_promise();
+        match self.flat_note(c) {
             Some(note) => {
-                let step = note.step(numeric, before, elements)?;
-                Some(step)
+                let (primary, trail) = note.step(numeric, before)?;
+                Some((primary, trail))
             }
-            None => self.step_found(numeric, c, before, elements),
+            None => self.find_flat_primary(numeric, c, before),
         }
     }
 
     /// The same by the tables alone.
     #[inline(never)]
-    fn step_found<const N: usize>(
-        &self,
-        numeric: Option<u8>,
-        c: char,
-        before: u8,
-        elements: &mut FlatElements<N>,
-    ) -> Option<(u32, u8)>
-        ensures { IfSome result (λ step. IsDecomposing (canonical_by self.now)
-            → IsStep self.now numeric c before elements.old.items step.0 step.1 elements.new.items) }
+    fn find_flat_primary(&self, numeric: Option<u8>, c: char, before: u32) -> Option<(u32, u32)>
+        ensures { IfSome result (λ step. StepsTo self.now numeric c before step.0 step.1) }
     {
+        self.canonical().keep_promise();
         let note = note_of(self, c);
-        let step = note.step(numeric, before, elements)?;
+        let step = note.step(numeric, before)?;
         Some(step)
     }
 
-    /// Reads a text flat, from the place to which it was read so up to its next primary, which it answers: the elements up to
-    /// there are appended, and the class of the last character is kept. Where a lead byte of numbers is given, no digit is
-    /// read so. No memory is taken.
-    #[inline(always)]
-    pub fn read_to_primary<I: Iterator<Item = char> + Drop, const N: usize>(
+    /// Reads a text flat, from the place to which it was read so, behind a character of a class, up to its next primary: answers
+    /// that, the text behind it, and the class of the last character that was read. No element is kept. Where a lead byte of
+    /// numbers is given, no digit is read so. No memory is taken.
+    #[inline(never)]
+    fn search_primary<I: Iterator<Item = char> + Drop>(
         &self,
         numeric: Option<u8>,
-        chars: &mut I,
-        class: &mut u8,
-        elements: &mut FlatElements<N>,
-    ) -> FlatStep
-        requires can { I.can_next chars.old }
-        requires finite { IsFinite (I.remaining chars.old) }
-        ensures next { (text : List ℕ) → IsReadUpTo self.now numeric I.next_gives text chars.old class.old elements.old.items
-            → IsNextStep self.now numeric I.next_gives text elements.old.items result chars.new class.new elements.new.items }
-        ensures nearer { (p : ℕ) → result ≡ Primary p → IsNearerEnd I.can_next I.remaining chars.old chars.new }
+        chars: I,
+        class: u32,
+    ) -> (FlatStep, I, u32)
+        requires can { I.can_next chars }
+        requires finite { IsFinite (I.remaining chars) }
+        ensures next { (text items : List ℕ) → IsReadUpTo self.now numeric I.next_gives text chars class items
+            → IsNextPrimary self.now numeric I.next_gives text items result.0 result.1 result.2 }
+        ensures nearer { (p : ℕ) → result.0 ≡ Primary p → IsLeftBehind I.can_next I.remaining chars result.1 }
     {
         self.canonical().keep_promise();
+        let mut chars = chars;
+        let mut class = class;
         'reading: while let Some(c) = chars.next() {
-            let Some((primary, trail)) = self.step_flat(numeric, c, *class, elements) else {
-                return FlatStep::Other;
+            let Some((primary, trail)) = self.flat_primary(numeric, c, class) else {
+                return (FlatStep::Other, chars, class);
             };
-            *class = trail;
+            class = trail;
             if primary != 0 {
-                return FlatStep::Primary(primary);
+                return (FlatStep::Primary(primary), chars, class);
             }
         }
-        FlatStep::End
+        (FlatStep::End, chars, class)
+    }
+
+    /// The same, where the next character was taken from the text, `None` at its end.
+    #[inline(always)]
+    pub fn read_to_primary<I: Iterator<Item = char> + Drop>(
+        &self,
+        numeric: Option<u8>,
+        next: Option<char>,
+        chars: I,
+        class: u32,
+    ) -> (FlatStep, I, u32)
+        requires can { IfSome next (λ _. I.can_next chars) }
+        requires finite { IfSome next (λ _. IsFinite (I.remaining chars)) }
+        ensures next { (text items : List ℕ) (before : I) → IsReadUpTo self.now numeric I.next_gives text before class items
+            → I.next_gives before next chars → IsNextPrimary self.now numeric I.next_gives text items result.0 result.1 result.2 }
+        ensures nearer { (p : ℕ) → result.0 ≡ Primary p → IsLeftBehind I.can_next I.remaining chars result.1 }
+        ensures given { (p : ℕ) → result.0 ≡ Primary p → IsSome next }
+    {
+        self.canonical().keep_promise();
+        let Some(c) = next else {
+            return (FlatStep::End, chars, class);
+        };
+        let Some((primary, trail)) = self.flat_primary(numeric, c, class) else {
+            return (FlatStep::Other, chars, class);
+        };
+        if primary != 0 {
+            return (FlatStep::Primary(primary), chars, trail);
+        }
+        self.search_primary(numeric, chars, trail)
     }
 }

@@ -3,7 +3,7 @@ use Rattle.std.specs.Prelude.{All}
 use Rattle.std.specs.Char.{IsScalar}
 use Rattle.std.specs.Iterator.{IsFinite, size}
 use Rattle.icu_normalizer_core.specs.Iter.{Spells}
-use Rattle.icu_collator.proofs.orders.FlatOrderLemmas.{AreReadAlike}
+use Rattle.icu_collator.specs.FlatOrders.{AreAlike}
 use Rattle.icu_collator.proofs.compare.flat.by_primaries.Given as goal
 
 abbrev pub invariant-primaries : goal.invariant-primaries
@@ -12,8 +12,8 @@ invariant-primaries g l = record {
   left_ends : IsFinite (g.I.Iterator.remaining l.left);
   right_can : g.J.Iterator.can_next l.right;
   right_ends : IsFinite (g.J.Iterator.remaining l.right);
-  alike : (a b : List ℕ) → Spells g.I.Iterator.next_gives l.fn.left a → Spells g.J.Iterator.next_gives l.fn.right b
-      → AreReadAlike l.checked g.I.Iterator.next_gives g.J.Iterator.next_gives l.numeric a b l.left l.right l.left_class l.right_class l.lefts.items l.rights.items;
+  alike : (a b : List ℕ) → All IsScalar a → All IsScalar b → Spells g.I.Iterator.next_gives l.fn.left a → Spells g.J.Iterator.next_gives l.fn.right b
+      → AreAlike l.checked l.numeric g.I.Iterator.next_gives g.J.Iterator.next_gives a b l.left l.right l.left_class l.right_class;
 }
 
 abbrev pub decreases-primaries : goal.decreases-primaries

@@ -1,30 +1,14 @@
-use Rattle.std.proofs.Common.{◌≡◌, Option, ℕ, [], ◌∷◌, false, rules, subst, sym}
-use Rattle.std.specs.Option.{is_some}
-use Rattle.icu_collator_core.specs.FlatNotes.{IsFlat, IsFlatNote}
+use Rattle.std.proofs.Common.{[], ◌∷◌, ◌++◌, refl, subst}
+use Rattle.icu_collator_core.specs.FlatNotes.{IsFlatNote}
 use Rattle.icu_collator_core.specs.declared.flat.notes.FlatNote.{FlatNote}
-use Rattle.icu_collator_core.proofs.readings.AloneReadLemmas.{not_some}
-use Rattle.icu_collator_core.proofs.readings.FlatStepLemmas.{one_step, two_step}
+use Rattle.icu_collator_core.proofs.readings.FlatStepLemmas.{one_step}
 use Rattle.icu_collator_core.proofs.flat.notes.FlatNote.step.Goals as goal
 
-pub returns-in_ok-primary-in-One : goal.returns-in_ok-primary-in-One
-returns-in_ok-primary-in-One g c = λ source d decomposing note.
+pub returns-in-One : goal.returns-in-One
+returns-in-One c = λ source d decomposing note old.
     let noted = subst (λ (n : FlatNote). IsFlatNote source d n) c.in-One.is note in
-    let pushed = c.in_ok-primary-in-One.ensures in
-    one_step source c.args.numeric d c.in-One.element c.in-One.lead c.in-One.trail c.args.before c.args.elements.now.items c.push_one.new.elements.items
-    c.in_ok-primary-in-One.primary (noted c.args.numeric) pushed.follows pushed.primary pushed.starter pushed.appended
-
-pub returns-in_ok-primary-in-Two : goal.returns-in_ok-primary-in-Two
-returns-in_ok-primary-in-Two g c = λ source d decomposing note.
-    let noted = subst (λ (n : FlatNote). IsFlatNote source d n) c.in-Two.is note in
-    let pushed = c.in_ok-primary-in-Two.ensures in
-    two_step source c.args.numeric d c.in-Two.first c.in-Two.second c.in-Two.lead c.in-Two.trail c.args.before c.args.elements.now.items c.push_two.new.elements.items
-    c.in_ok-primary-in-Two.primary decomposing (noted c.args.numeric) pushed.follows pushed.primary pushed.starter pushed.none pushed.appended
-
-pub returns-in_ok-primary-in-Digit : goal.returns-in_ok-primary-in-Digit
-returns-in_ok-primary-in-Digit g c = λ source d decomposing note.
-    let noted = subst (λ (n : FlatNote). IsFlatNote source d n) c.in-Digit.is note in
-    let pushed = c.in_ok-primary-in-Digit.ensures in
-    let uncounted : is_some c.args.numeric ≡ false = search rules in
-    let counted = subst (λ (n : Option ℕ). IsFlat source n d (c.in-Digit.element ∷ []) c.in-Digit.lead c.in-Digit.trail) (sym (not_some c.args.numeric uncounted)) noted in
-    one_step source c.args.numeric d c.in-Digit.element c.in-Digit.lead c.in-Digit.trail c.args.before c.args.elements.now.items c.push_one-in-Digit.new.elements.items
-    c.in_ok-primary-in-Digit.primary counted pushed.follows pushed.primary pushed.starter pushed.appended
+    let pushed = c.in_ok-primary.ensures in (
+      old ++ c.in-One.element ∷ [],
+      one_step source c.args.numeric d c.in-One.element c.in-One.lead c.in-One.trail c.args.before old (old ++ c.in-One.element ∷ [])
+          c.in_ok-primary.primary (noted c.args.numeric) pushed.follows pushed.primary pushed.starter refl,
+    )
