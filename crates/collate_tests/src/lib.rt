@@ -5,6 +5,8 @@
 #[cfg(test)]
 mod commands;
 #[cfg(test)]
+mod failing;
+#[cfg(test)]
 mod names;
 #[cfg(test)]
 mod reloads;
@@ -12,3 +14,5 @@ mod reloads;
 mod runs;
 #[cfg(test)]
 mod words;
+#[cfg(test)]
+mod worked;

@@ -11,10 +11,10 @@ use std::alloc::{AllocError, Global};
 use std::test::Fail;
 
 /// "ch" between l and o.
-const CH: &[u8] = b"w 0063 0068 ; [2A400000.0500.0.0500.0]\n";
+pub(crate) const CH: &[u8] = b"w 0063 0068 ; [2A400000.0500.0.0500.0]\n";
 
 /// Texts, one after another.
-fn joined(alloc: Global, texts: &[&[u8]]) -> Result<Vec<u8>, AllocError> {
+pub(crate) fn joined(alloc: Global, texts: &[&[u8]]) -> Result<Vec<u8>, AllocError> {
     let mut whole = Vec::new(alloc);
     for text in texts {
         whole.extend_from_slice(text)?;

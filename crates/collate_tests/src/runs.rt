@@ -1,6 +1,7 @@
 //! Runs over fakes of a reader and a writer that fail in mid-stream, and the program's texts and statuses.
 
 use crate::commands::words_of;
+use crate::failing::{FailingReader, FailingWriter, Failure};
 use collate_index::index::{Absent, AddError, ReloadError};
 use collate_records::records::Records;
 use collate_run::choice::Choice;
@@ -32,58 +33,6 @@ const PREFERENCES: CollatorPreferences<'static> = CollatorPreferences {
     case_first: None,
     numeric_ordering: None,
 };
-
-/// How a fake fails.
-#[derive(Clone, Copy)]
-enum Failure {
-    Error(io::ErrorKind),
-    NoByte,
-}
-
-/// A reader of a text that fails after some calls.
-#[derive(Drop)]
-struct FailingReader<'a> {
-    text: &'a [u8],
-    calls: usize,
-    kind: io::ErrorKind,
-}
-
-impl Read for FailingReader<'_> {
-    fn read(&mut self, buf: &mut [u8]) -> io::Result<usize> {
-        if self.calls == 0 {
-            return Err(io::Error::from(self.kind));
-        }
-        self.calls -= 1;
-        Read::read(&mut self.text, buf)
-    }
-}
-
-/// A writer that takes up to four bytes a call, and fails after some calls.
-#[derive(Drop)]
-struct FailingWriter<'a> {
-    written: &'a mut Vec<u8>,
-    calls: usize,
-    failure: Failure,
-}
-
-impl Write for FailingWriter<'_> {
-    fn write(&mut self, buf: &[u8]) -> io::Result<usize> {
-        if self.calls == 0 {
-            return match self.failure {
-                Failure::Error(kind) => Err(io::Error::from(kind)),
-                Failure::NoByte => Ok(0),
-            };
-        }
-        self.calls -= 1;
-        let count = buf.len().min(4);
-        self.written.extend_from_slice(&buf[..count])?;
-        Ok(count)
-    }
-
-    fn flush(&mut self) -> io::Result<()> {
-        Ok(())
-    }
-}
 
 /// Runs over no records.
 fn run_over_nothing<R: Read, W: Write>(
@@ -146,6 +95,7 @@ fn run_ends_where_a_read_fails(rt: HostRuntime) {
             let mut written = Vec::new(alloc);
             let reader = FailingReader {
                 text: TEXT,
+                most: TEXT.len(),
                 calls,
                 kind,
             };
@@ -174,6 +124,7 @@ fn run_ends_where_a_write_fails(rt: HostRuntime) {
             let mut written = Vec::new(alloc);
             let writer = FailingWriter {
                 written: &mut written,
+                most: 4,
                 calls,
                 failure,
             };
@@ -221,11 +172,13 @@ fn assert_served(
     let mut errors = Vec::new(alloc);
     let mut reader = Watched::new(FailingReader {
         text: b"list\n",
+        most: 5,
         calls: reads,
         kind: io::ErrorKind::Interrupted,
     });
     let mut writer = Watched::new(FailingWriter {
         written: &mut written,
+        most: 4,
         calls: writes,
         failure: Failure::NoByte,
     });
@@ -280,6 +233,7 @@ fn serve_drops_an_error_of_the_writer_of_errors(rt: HostRuntime) {
     let (mut written, mut told) = (Vec::new(alloc), Vec::new(alloc));
     let mut errors = FailingWriter {
         written: &mut told,
+        most: 4,
         calls: 2,
         failure: Failure::Error(io::ErrorKind::Other),
     };
