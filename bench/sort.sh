@@ -16,7 +16,7 @@ export COLLATE=${COLLATE:-$PWD/collate} TMPDIR=$work LOCPATH=$work TIMEFORMAT='%
 
 PYTHONPATH=bench python3 - "$count" "$work" <<'PY'
 import sys
-from collator import names, records
+from sets import latin as names, latin_records as records
 for name, lines in (('records', records()), ('names', names(int(sys.argv[1])))):
     with open(f'{sys.argv[2]}/{name}', 'w', encoding='utf-8') as file:
         file.writelines(line + '\n' for line in lines)
