@@ -2,7 +2,7 @@
 """Times sort keys and comparisons beside ICU4C's: collator.py [NAMES] [--instructions] [--requests] [SET..]
 
 Each set of bench/sets.py, or of those that are named, has 200,000 names unless NAMES says otherwise. The program of
-crates/collator_speed and ICU4C (bench/icu4c.cpp) take turns over it, three times, and the best of each counts. Printed is a
+crates/speed_collator and ICU4C (bench/icu4c.cpp) take turns over it, three times, and the best of each counts. Printed is a
 row a set: millions of keys, of comparisons of random pairs and of neighbours a second of a processor, ours : ICU4C's, and
 ours by ICU4C's. ICU4C makes keys of UTF-8 by way of UTF-16, and that counts; in parentheses stands what it makes without.
 With NAMES 0 no times are taken.
@@ -24,8 +24,8 @@ import tempfile
 
 from sets import ROOT, SETS, latin, latin_records
 
-FOLDER = os.path.join(ROOT, 'crates/collator_speed')
-PROGRAM = os.environ.get('COLLATOR_SPEED', os.path.join(FOLDER, 'out/collator_speed'))
+FOLDER = os.path.join(ROOT, 'crates/speed_collator')
+PROGRAM = os.environ.get('COLLATOR_SPEED', os.path.join(FOLDER, 'out/speed_collator'))
 TITLES = {'keys': 'keys', 'cmp_random': 'random pairs', 'cmp_near': 'neighbours'}
 TASKS = {'keys': 'keys', 'random': 'cmp_random', 'near': 'cmp_near'}
 TURNS = 3

@@ -1,5 +1,5 @@
 #!/usr/bin/env python3
-"""Times the reading of collation elements and the check of tables, by the program of crates/collator_speed: elements.py [NAMES]
+"""Times the reading of collation elements and the check of tables, by the program of crates/speed_collator: elements.py [NAMES]
 
 The elements are read over the letters of the worked rows: 200,000 random names unless NAMES says otherwise, of 5 to 30
 characters each, eight letters with weights, other Latin letters, and marks in and behind letters. The tables that are
@@ -17,8 +17,8 @@ import sys
 import tempfile
 
 ROOT = os.path.dirname(os.path.dirname(os.path.realpath(__file__)))
-FOLDER = os.path.join(ROOT, 'crates/collator_speed')
-PROGRAM = os.environ.get('COLLATOR_SPEED', os.path.join(FOLDER, 'out/collator_speed'))
+FOLDER = os.path.join(ROOT, 'crates/speed_collator')
+PROGRAM = os.environ.get('COLLATOR_SPEED', os.path.join(FOLDER, 'out/speed_collator'))
 LETTERS = [('0061', '2A10'), ('0062', '2A20'), ('0063', '2A30'), ('0065', '2A50'), ('0068', '2A80'), ('006C', '2AC0'),
            ('006F', '2AF0'), ('0074', '2B40')]
 MARKS = [('0301', '8800', 230), ('0302', '8A00', 230), ('0323', '8C00', 220)]

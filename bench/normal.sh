@@ -1,14 +1,14 @@
 #!/usr/bin/env bash
-# Times normal forms by the program of crates/normal_speed, a line a measurement: bench/normal.sh [FILE:TASK..]
+# Times normal forms by the program of crates/speed_normal, a line a measurement: bench/normal.sh [FILE:TASK..]
 # The files: names, 5 MB of random names of 150 Latin letters and marks, one name a call; names16, the same in UTF-16;
 # nfc, the names in NFC; ascii, 5 MB of ASCII in one call. The tasks are those of the program. With no word all are timed.
 set -eu
 cd "$(dirname "$(readlink -f "${BASH_SOURCE[0]}")")/.."
-program=crates/normal_speed/out/normal_speed
+program=crates/speed_normal/out/speed_normal
 work=$(mktemp -d)
 trap 'rm -rf "$work"' EXIT
 
-(cd crates/normal_speed && rt run -- none >/dev/null 2>&1) || true # proves and builds it, outside the times
+(cd crates/speed_normal && rt run -- none >/dev/null 2>&1) || true # proves and builds it, outside the times
 python3 bench/names.py records >"$work/records"
 python3 bench/names.py texts 5000000 >"$work/names"
 python3 bench/names.py ascii 5000000 >"$work/ascii"

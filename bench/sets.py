@@ -1,7 +1,7 @@
 """The sets of names that bench/collator.py measures: the names of each, the same each time, and its records.
 
 A set's names are random ones over its own letters, as long as names of its language are, with its contractions, marks and
-prefixes among them. The records of Latin names are made here; those of other scripts are crates/alphabets/data/*.records.
+prefixes among them. The records of Latin names are made here; those of other scripts are crates/examples_alphabets/data/*.records.
 """
 import os
 import random
@@ -56,7 +56,7 @@ def backward_records():
 
 def records_of(alphabet, left_out=()):
     """The records of an alphabet, but for some lines."""
-    with open(os.path.join(ROOT, f'crates/alphabets/data/{alphabet}.records'), encoding='utf-8') as file:
+    with open(os.path.join(ROOT, f'crates/examples_alphabets/data/{alphabet}.records'), encoding='utf-8') as file:
         return [line for line in file.read().split('\n') if line not in left_out]
 
 

@@ -1,5 +1,5 @@
 #!/usr/bin/env python3
-"""Times tasks of crates/normal_speed in turn: turns.py PROGRAM FOLDER FILE:TASK..
+"""Times tasks of crates/speed_normal in turn: turns.py PROGRAM FOLDER FILE:TASK..
 
 FOLDER has `records`, and each FILE. A measurement is the user time of 21 rounds less that of 1, each the best of five; the
 tasks take turns, so that what else the machine does slows all of them alike. Prints a line a task: megabytes and, for

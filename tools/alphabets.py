@@ -1,4 +1,4 @@
-"""The alphabets of crates/alphabets/data, as tools/make_records.py makes them: characters, rules and a header for each.
+"""The alphabets of crates/examples_alphabets/data, as tools/make_records.py makes them: characters, rules and a header for each.
 
 `locale` is the collator of ICU4C that orders the same names (tools/sort_alphabets.py). Characters in `whole` are not decomposed.
 """

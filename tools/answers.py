@@ -1,7 +1,7 @@
-"""What a script of crates/collation_rows is answered by an independent reading of the definitions in Python, which isn't part
+"""What a script of crates/tests_collation_rows is answered by an independent reading of the definitions in Python, which isn't part
 of this repository: a folder with modules `records` (`read`, `Fault`), `decode` (`decode_utf8`, `decode_utf16`, `decode_latin1`),
 `norm` (`composed`, `decomposed`) and `collate` (`Options`, `resolve`, `levels`, `compare`, `key`, `elements_of_list`). The
-program is `out/collation_rows` of the crate's folder, where `rt run` puts it, or the one that the environment variable
+program is `out/tests_collation_rows` of the crate's folder, where `rt run` puts it, or the one that the environment variable
 `COLLATION_ROWS` names."""
 import functools
 import os
@@ -9,8 +9,8 @@ import subprocess
 import sys
 
 ROOT = os.path.dirname(os.path.dirname(os.path.realpath(__file__)))
-FOLDER = os.path.join(ROOT, 'crates/collation_rows')
-PROGRAM = os.environ.get('COLLATION_ROWS', os.path.join(FOLDER, 'out/collation_rows'))
+FOLDER = os.path.join(ROOT, 'crates/tests_collation_rows')
+PROGRAM = os.environ.get('COLLATION_ROWS', os.path.join(FOLDER, 'out/tests_collation_rows'))
 ORDERS = {-1: 'Less', 0: 'Equal', 1: 'Greater'}
 WORDS = {'strength': ['primary', 'secondary', 'tertiary', 'quaternary', 'identical'], 'alternate': ['nonignorable', 'shifted'],
          'maxvariable': ['space', 'punctuation', 'symbol', 'currency'], 'casefirst': ['off', 'lower', 'upper']}

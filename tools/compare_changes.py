@@ -5,7 +5,7 @@
 
 ORACLE is a folder with an independent reading of the format in Python, which isn't part of this repository: a module `records`
 (`read`, `Fault`). There are 5,000 pairs unless PAIRS says otherwise, of accepted files most of which differ in a few lines
-(tools/random_changes.py), with some 50 questions each. crates/records_rows has to be built (`rt run` in its folder;
+(tools/random_changes.py), with some 50 questions each. crates/tests_records_rows has to be built (`rt run` in its folder;
 RECORDS_ROWS names another executable, and `none` none: then the answers are only counted). How often each answer is right is
 printed, and each that differs with its files; the status is then 1.
 """

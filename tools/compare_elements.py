@@ -5,7 +5,7 @@
 
 ORACLE is a folder with an independent reading of the definitions (tools/answers.py). There are 3,000 texts over 60 sets of records
 unless TEXTS and SETS say otherwise, half of them with numbers read by value. The records have contractions to eight characters, prefixes of one to
-three, digits, dots above, jamo, ranges and tailorings. crates/collation_rows compiles each set, with fast and with small tries,
+three, digits, dots above, jamo, ranges and tailorings. crates/tests_collation_rows compiles each set, with fast and with small tries,
 and answers the elements of each text, as the reader of elements reads them (`read`) and as they are read slowly by the rules
 alone (`plain`); it has to be built (`rt run` in its folder; tools/answers.py). What differs is printed, and the status is then 1.
 """

@@ -7,7 +7,7 @@ ORACLE is a folder with an independent reading of the definitions (tools/answers
 records unless PAIRS and SETS say otherwise, each set with eight choices of options. Two of three pairs are nearly equal
 (tools/random_pairs.py): a mark, a variant of a letter, a space or stop, an ignorable character, zeros before a number, or another
 normal form; some begin with the same long text. Each pair is asked in all five encodings, its bytes and units damaged at times,
-and for both keys. crates/collation_rows compiles each set, with fast and with small tries, and answers; it has to be built
+and for both keys. crates/tests_collation_rows compiles each set, with fast and with small tries, and answers; it has to be built
 (`rt run` in its folder; tools/answers.py). What differs is printed, and the status is then 1, as it is where a level decides less
 than one pair of a hundred. How many pairs each level decided is printed, and how many sets had lines of each kind.
 """

@@ -5,7 +5,7 @@
 
 ORACLE is a folder with an independent reading of the format in Python, which isn't part of this repository: a module `records`
 (`read`, `Fault`). There are 50,000 files unless FILES says otherwise, most of them near to a rule on either side
-(tools/random_files.py). Each is accepted, or refused with a line and a rule, by both. crates/records_rows has to be built
+(tools/random_files.py). Each is accepted, or refused with a line and a rule, by both. crates/tests_records_rows has to be built
 (`rt run` in its folder; RECORDS_ROWS names another executable, and `none` none: then the files are only counted). How often
 each rule is the first fault is printed, and each file that differs; the status is then 1.
 """
@@ -19,7 +19,7 @@ import sys
 from random_files import random_file
 
 ROOT = os.path.dirname(os.path.dirname(os.path.realpath(__file__)))
-PROGRAM = os.environ.get('RECORDS_ROWS', os.path.join(ROOT, 'crates/records_rows/out/records_rows'))
+PROGRAM = os.environ.get('RECORDS_ROWS', os.path.join(ROOT, 'crates/tests_records_rows/out/tests_records_rows'))
 FILES_A_SCRIPT = 250
 
 

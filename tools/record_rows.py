@@ -1,5 +1,5 @@
 #!/usr/bin/env python3
-"""Writes the stored script of crates/records_rows and its answers: record_rows.py ORACLE [--check]
+"""Writes the stored script of crates/tests_records_rows and its answers: record_rows.py ORACLE [--check]
 
 The files and their answers stand in tools/record_tables.py and, the fewest lines that break each rule, in docs/RECORDS.md;
 pairs of files, with questions and answers, in tools/record_pair_tables.py. ORACLE is a folder with an independent reading of
@@ -15,7 +15,7 @@ from record_questions import answer_of
 from record_tables import SECTIONS
 
 ROOT = os.path.dirname(os.path.dirname(os.path.realpath(__file__)))
-FOLDER = os.path.join(ROOT, 'crates/records_rows')
+FOLDER = os.path.join(ROOT, 'crates/tests_records_rows')
 PAGE = os.path.join(ROOT, 'docs/RECORDS.md')
 
 

@@ -4,12 +4,12 @@
   refuse_memory.py ORACLE
 
 ORACLE is a folder with an independent reading of the program `collate`, a module `model` (`choice`, `serve`). crates/collate and
-crates/refused_memory have to be built (`rt run` in their folders; COLLATE and REFUSED_MEMORY name other executables), and a C
+crates/tests_refused_memory have to be built (`rt run` in their folders; COLLATE and REFUSED_MEMORY name other executables), and a C
 compiler has to be there (`cc`), for tools/refuse_memory.c, which is preloaded. The first run is refused its first request, the
 next one its second, until a run makes none more.
 
 A run of `collate` that is refused one either ends with `collate: memory`, behind the replies to the commands before; or replies
-`memory` to one command, and to all others as if that one weren't there; or replies to all of them. A run of `refused_memory`,
+`memory` to one command, and to all others as if that one weren't there; or replies to all of them. A run of `tests_refused_memory`,
 which makes each call of the libraries that takes memory, prints what is stored in its folder; or one line more, by which a call
 was refused memory and has left a first part of its answer or, of an index, the names as they were, and behind which stands the
 same call, made again. How often each was so is printed, and each other answer; the status is then 1.
@@ -26,7 +26,7 @@ from row_tables import LETTERS, at
 
 ROOT = os.path.dirname(os.path.dirname(os.path.realpath(__file__)))
 PROGRAM = os.environ.get('COLLATE', os.path.join(ROOT, 'crates/collate/out/collate'))
-CALLS = os.environ.get('REFUSED_MEMORY', os.path.join(ROOT, 'crates/refused_memory/out/refused_memory'))
+CALLS = os.environ.get('REFUSED_MEMORY', os.path.join(ROOT, 'crates/tests_refused_memory/out/tests_refused_memory'))
 MEMORY = b'collate: memory\n'
 SIDE_BY_SIDE = os.cpu_count() or 1
 CHANGED = [*LETTERS, at('ch', '2A40')]
@@ -95,7 +95,7 @@ def is_refused_line(line, again, before):
 
 
 def kind_of_lines(wanted, given):
-    """What a run of `refused_memory` printed, as against one with ample memory."""
+    """What a run of `tests_refused_memory` printed, as against one with ample memory."""
     if given == wanted:
         return 'made each call once'
     place = next((i for i, (a, b) in enumerate(zip(wanted, given)) if a != b), len(wanted))
@@ -167,14 +167,14 @@ def refuse_commands(oracle, refusing):
 
 
 def refuse_calls(refusing):
-    """Refuses `refused_memory` its requests; how many runs printed otherwise."""
-    with open(os.path.join(ROOT, 'crates/refused_memory/stdout'), encoding='utf-8') as lines:
+    """Refuses `tests_refused_memory` its requests; how many runs printed otherwise."""
+    with open(os.path.join(ROOT, 'crates/tests_refused_memory/stdout'), encoding='utf-8') as lines:
         wanted = lines.read().splitlines()
 
     def kind_of(answer):
         out, errors, status = answer
         return kind_of_lines(wanted, out.decode().splitlines()) if not errors and status == 0 else None
-    return told('refused_memory', *refused_runs(refusing, [CALLS], b'', kind_of, 'made each call once'))
+    return told('tests_refused_memory', *refused_runs(refusing, [CALLS], b'', kind_of, 'made each call once'))
 
 
 def main(words):

@@ -1,4 +1,4 @@
-"""The rows of crates/collation_rows: sections of a title, records, and paragraphs of questions. A question is a call, texts and
+"""The rows of crates/tests_collation_rows: sections of a title, records, and paragraphs of questions. A question is a call, texts and
 the worked answer, which is None where the definitions alone give it (tools/answers.py), and begins with `..` where only its
 end is worked out. Weights, and bytes of keys, are hexadecimal."""
 

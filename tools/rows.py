@@ -1,5 +1,5 @@
 #!/usr/bin/env python3
-"""Writes the stored script of crates/collation_rows and its answers: rows.py ORACLE [--check]
+"""Writes the stored script of crates/tests_collation_rows and its answers: rows.py ORACLE [--check]
 
 ORACLE is a folder with an independent reading of the definitions (tools/answers.py), which gives the answers. Those of worked
 rows, and all of what a provider's changed tables are refused for, stand here, and are compared with it. With --check nothing is

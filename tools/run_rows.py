@@ -1,5 +1,5 @@
 #!/usr/bin/env python3
-"""Writes the stored script of crates/run_rows and its answers: run_rows.py ORACLE [--check]
+"""Writes the stored script of crates/tests_run_rows and its answers: run_rows.py ORACLE [--check]
 
 The runs and what is worked out of their replies stand in tools/run_tables.py. ORACLE is a folder with an independent reading of
 the program, a module `model` (`choice`, `serve`), which gives all replies and has to agree. With --check nothing is written:
@@ -12,7 +12,7 @@ import sys
 from run_tables import RUNS, SERVED, said
 
 ROOT = os.path.dirname(os.path.dirname(os.path.realpath(__file__)))
-FOLDER = os.path.join(ROOT, 'crates/run_rows')
+FOLDER = os.path.join(ROOT, 'crates/tests_run_rows')
 SHORT = {'\0': '\\0', '\t': '\\t', '\r': '\\r', '\n': '\\n', '\\': '\\\\'}
 
 

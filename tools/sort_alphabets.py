@@ -1,7 +1,7 @@
 #!/usr/bin/python3
-"""Writes what the program crate `alphabets` is run on, and what it must print: by ICU4C, never by a program of this repository.
+"""Writes what the program crate `examples_alphabets` is run on, and what it must print: by ICU4C, never by a program of this repository.
 
-  sort_alphabets.py            crates/alphabets/data/LANGUAGE.sorted, and stdin and stdout of the crate
+  sort_alphabets.py            crates/examples_alphabets/data/LANGUAGE.sorted, and stdin and stdout of the crate
   sort_alphabets.py --check    says where those that stand there are others
 
 LANGUAGE.sorted has the names of LANGUAGE.names in the order of ICU4C's collator for the language (Debian's python3-icu), equal
@@ -17,7 +17,7 @@ except ImportError as error:
 
 from alphabets import ALPHABETS
 
-FOLDER = os.path.join(os.path.dirname(os.path.dirname(os.path.realpath(__file__))), 'crates/alphabets')
+FOLDER = os.path.join(os.path.dirname(os.path.dirname(os.path.realpath(__file__))), 'crates/examples_alphabets')
 
 
 def collator_of(alphabet):

@@ -1,3 +1,3 @@
-pub mod GivenLemmas
-pub mod NameLemmas
-pub mod WordLemmas
+pub mod ChoiceGivenLemmas
+pub mod ChoiceNameLemmas
+pub mod ChoiceWordLemmas

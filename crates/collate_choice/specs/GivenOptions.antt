@@ -3,8 +3,8 @@ use Rattle.std.specs.Prelude.{◌≡◌, ℕ, Bool, Option, None, Some, is_some,
 use Rattle.std.specs.List.Sorted.{IsPermutation}
 use Rattle.collate_choice.specs.OptionWords.{option_word}
 use Rattle.collate_choice.specs.declared.given.GivenOptions.{GivenOptions}
-use Rattle.collate_choice.specs.declared.words.GivenOption.{GivenOption}
-use Rattle.collate_choice.specs.declared.words.GivenOption.TheVariants.{GivenStrength, GivenHandling, GivenVariable, GivenCaseLevel, GivenCaseFirst, GivenOrdering}
+use Rattle.collate_choice.specs.declared.option_words.GivenOption.{GivenOption}
+use Rattle.collate_choice.specs.declared.option_words.GivenOption.TheVariants.{GivenStrength, GivenHandling, GivenVariable, GivenCaseLevel, GivenCaseFirst, GivenOrdering}
 
 -- an option, where it has a value
 abbrev pub option_of : {V : Type 0} → (V → GivenOption) → Option V → List GivenOption

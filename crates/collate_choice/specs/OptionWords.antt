@@ -12,8 +12,8 @@ use Rattle.icu_collator_types.specs.declared.options.MaxVariable.{MaxVariable}
 use Rattle.icu_collator_types.specs.declared.options.MaxVariable.TheVariants.{Space, Punctuation, Symbol, Currency}
 use Rattle.icu_collator_types.specs.declared.options.Strength.{Strength}
 use Rattle.icu_collator_types.specs.declared.options.Strength.TheVariants.{Primary, Secondary, Tertiary, Quaternary, Identical}
-use Rattle.collate_choice.specs.declared.words.GivenOption.{GivenOption}
-use Rattle.collate_choice.specs.declared.words.GivenOption.TheVariants.{GivenStrength, GivenHandling, GivenVariable, GivenCaseLevel, GivenCaseFirst, GivenOrdering}
+use Rattle.collate_choice.specs.declared.option_words.GivenOption.{GivenOption}
+use Rattle.collate_choice.specs.declared.option_words.GivenOption.TheVariants.{GivenStrength, GivenHandling, GivenVariable, GivenCaseLevel, GivenCaseFirst, GivenOrdering}
 
 abbrev pub strength_word : Strength → List ℕ
 strength_word Primary = codes "strength=primary"

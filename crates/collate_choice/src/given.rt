@@ -4,7 +4,7 @@ ghost use Rattle.std.specs.Prelude.{◌≡◌, MatchOption, map, string_bytes};
 ghost use Rattle.collate_choice.specs.GivenOptions.{AreWordsOf, has_value, with_value};
 ghost use Rattle.collate_choice.specs.declared.given.GivenOptions.{GivenOptions};
 
-use crate::words::{GivenOption, parse_option};
+use crate::option_words::{GivenOption, parse_option};
 use icu_collator_types::options::{
     AlternateHandling, CaseLevel, CollationCaseFirst, CollationNumericOrdering, MaxVariable,
     Strength,

@@ -4,7 +4,7 @@
 ghost use Rattle.std.specs.Prelude.{◌≡◌, MatchOption, map, string_bytes};
 
 mod given;
-mod words;
+mod option_words;
 
 use given::options_given;
 use icu_collator_types::options::{CollatorOptions, CollatorPreferences};

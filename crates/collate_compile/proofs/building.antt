@@ -1,5 +1,5 @@
 -- how layers are built
-pub mod GrowthLemmas
+pub mod BuildingGrowthLemmas
 pub mod LayerLemmas
 pub mod LineLemmas
 pub mod MapLemmas

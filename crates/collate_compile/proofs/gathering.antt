@@ -2,8 +2,8 @@
 pub mod GatherLemmas
 pub mod BesideLemmas
 pub mod AcceptedLineLemmas
-pub mod FlagLemmas
-pub mod EntryLemmas
-pub mod BeginningLemmas
+pub mod GatheringFlagLemmas
+pub mod GatheringEntryLemmas
+pub mod GatheringBeginningLemmas
 pub mod NameLemmas
 pub mod JamoLineLemmas

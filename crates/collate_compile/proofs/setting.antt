@@ -1,4 +1,4 @@
 -- settings of compiled tables
 pub mod LeadBitLemmas
-pub mod ReorderingLemmas
+pub mod SettingReorderingLemmas
 pub mod SettingBitLemmas

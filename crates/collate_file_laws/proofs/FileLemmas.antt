@@ -32,12 +32,12 @@ use Rattle.icu_collator.proofs.orders.StrengthsLemmas.{raised_order}
 use Rattle.icu_collator.proofs.orders.TotalOrderLemmas.{collation_order_total}
 use Rattle.collate_lines.specs.Lines.{records_of}
 use Rattle.collate_records.specs.Files.{IsAccepted}
-use Rattle.collate_records.proofs.reading.AcceptedLemmas.{accepted_lines}
+use Rattle.collate_records.proofs.reading.ReadingAcceptedLemmas.{accepted_lines}
 use Rattle.collate_rules.specs.Meaning.{collation_of}
 use Rattle.collate_laws.specs.OverRecords.{IsCollatorOf}
-use Rattle.collate_laws.proofs.AnswerLemmas.{keys, orders}
-use Rattle.collate_laws.proofs.FormLemmas.{accepted_canonical}
-use Rattle.collate_laws.proofs.SoundLemmas.{accepted_sound}
+use Rattle.collate_laws.proofs.LawAnswerLemmas.{keys, orders}
+use Rattle.collate_laws.proofs.LawFormLemmas.{accepted_canonical}
+use Rattle.collate_laws.proofs.LawSoundLemmas.{accepted_sound}
 use Rattle.collate_file_laws.specs.Files.{HasPlainLeads, IsAsGood, file_canonical, file_key, file_options, file_order, with_strength}
 
 module _ (file : List ℕ) (options : CollatorOptions) (preferences : CollatorPreferences) where

@@ -1,4 +1,4 @@
 pub mod FileLemmas
-pub mod FormLemmas
-pub mod LineOrderLemmas
-pub mod SplitLemmas
+pub mod FileLawFormLemmas
+pub mod FileLawLineOrderLemmas
+pub mod FileLawSplitLemmas

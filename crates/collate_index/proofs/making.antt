@@ -1,3 +1,3 @@
 -- making a collator of records
 pub mod LentLemmas
-pub mod MadeLemmas
+pub mod IndexMadeLemmas

@@ -1,3 +1,3 @@
 -- the places of names in an index
 pub mod IndexLemmas
-pub mod ListingLemmas
+pub mod SearchListingLemmas

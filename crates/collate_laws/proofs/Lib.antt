@@ -1,8 +1,8 @@
-pub mod AlikeLemmas
-pub mod AnswerLemmas
-pub mod FaultLemmas
-pub mod FormLemmas
-pub mod KeyLemmas
+pub mod LawAlikeLemmas
+pub mod LawAnswerLemmas
+pub mod LawFaultLemmas
+pub mod LawFormLemmas
+pub mod LawKeyLemmas
 pub mod MadeLemmas
-pub mod SoundLemmas
+pub mod LawSoundLemmas
 pub mod UnchangedLemmas

@@ -29,12 +29,12 @@ use Rattle.icu_collator_types.specs.Options.{resolved_options}
 use Rattle.collate_lines.specs.Record.{Record}
 use Rattle.collate_provider.specs.Provided.{Provided}
 use Rattle.collate_records.specs.CompiledOf.{IsCompiledOf}
-use Rattle.collate_records.proofs.maps.AcceptedMapLemmas.{accepted_pairs, accepted_same}
+use Rattle.collate_records.proofs.maps.AcceptedAllMapsLemmas.{accepted_pairs, accepted_same}
 use Rattle.collate_rules.specs.Accepted.{AreAccepted}
 use Rattle.collate_rules.specs.Meaning.{canonical_of}
 use Rattle.collate_laws.specs.Loads.{canonical_loads, compatibility_loads, reordering_load, tailoring_load}
 use Rattle.collate_laws.specs.OverRecords.{AreBothOf, IsCanonicalNormalizerOf, IsCollatorOf, IsCompatibilityNormalizerOf}
-use Rattle.collate_laws.proofs.FaultLemmas.{table_fault_refutes, word_fault_refutes}
+use Rattle.collate_laws.proofs.LawFaultLemmas.{table_fault_refutes, word_fault_refutes}
 
 -- canonical data of compiled tables say what the lines say
 same_characters : (records : List Record) (provided : Provided) → AreAccepted records → IsCompiledOf records provided

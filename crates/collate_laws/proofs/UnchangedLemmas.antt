@@ -20,17 +20,17 @@ use Rattle.icu_collator_core.proofs.readings.ReachedLemmas.{reached_decomposed, 
 use Rattle.icu_collator_core.proofs.readings.SamenessLemmas.{elements_same}
 use Rattle.icu_collator.specs.Collators.{CollatorParts, source_collation}
 use Rattle.icu_collator.specs.Levels.{elements_of_text}
-use Rattle.icu_collator.proofs.orders.SamenessLemmas.{reached_keys, reached_order}
+use Rattle.icu_collator.proofs.orders.OrderSamenessLemmas.{reached_keys, reached_order}
 use Rattle.collate_lines.specs.Record.{Record}
 use Rattle.collate_records.specs.Changes.{AreSettingsEqual, IsUnchanged}
 use Rattle.collate_records.proofs.comparing.LocalityLemmas.{leads_alike, ranged_alike, read_alike, settings_alike}
-use Rattle.collate_records.proofs.reading.AcceptedLemmas.{accepted_decompose}
+use Rattle.collate_records.proofs.reading.ReadingAcceptedLemmas.{accepted_decompose}
 use Rattle.collate_rules.specs.Accepted.{AreAccepted}
 use Rattle.collate_rules.specs.Meaning.{canonical_of, collation_of, weights_of}
 use Rattle.collate_laws.specs.Alike.{ReadAlike, order_of}
 use Rattle.collate_laws.specs.OverRecords.{IsCollatorOf}
 use Rattle.collate_laws.specs.Unchanged.{ReachesUnchanged, lone_elements}
-use Rattle.collate_laws.proofs.AlikeLemmas.{joined_key, joined_order}
+use Rattle.collate_laws.proofs.LawAlikeLemmas.{joined_key, joined_order}
 
 -- ## A character alone
 

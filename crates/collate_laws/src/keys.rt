@@ -32,7 +32,7 @@ pub fn accepted_records_are_sound()
     ensures { (records : List Record) → AreAccepted records → IsSoundCollation (collation_of records) }
 {}
 
-/// A collator of a file, borrowed, has its keys in order: what the laws of `icu_collator::laws_collators` on keys ask for.
+/// A collator of a file, borrowed, has its keys in order: what the laws of `icu_collator::laws::collators` on keys ask for.
 pub fn collators_of_files_have_keys_in_order()
     ensures { (records : List Record) (options : CollatorOptions) (preferences : CollatorPreferences) (collator : CollatorParts) (borrowed : CollatorBorrowed)
         → IsCollatorOf records options preferences collator

@@ -57,7 +57,7 @@ pub fn compiled_tables_make_compatibility_normalizers()
 {}
 
 /// A collator of a file answers straight from its records: two texts compare as their lines say, under all options.
-#[tactic(auto, using(crate::proofs::AnswerLemmas::orders))]
+#[tactic(auto, using(crate::proofs::LawAnswerLemmas::orders))]
 pub fn collators_order_as_records_say()
     ensures { (records : List Record) (options : CollatorOptions) (preferences : CollatorPreferences) (collator : CollatorParts) (x y : List ℕ)
         → AreAccepted records → IsCollatorOf records options preferences collator → All IsScalar x → All IsScalar y
@@ -66,7 +66,7 @@ pub fn collators_order_as_records_say()
 {}
 
 /// And a text has the sort key that the records give it.
-#[tactic(auto, using(crate::proofs::AnswerLemmas::keys))]
+#[tactic(auto, using(crate::proofs::LawAnswerLemmas::keys))]
 pub fn collators_write_keys_of_records()
     ensures { (records : List Record) (options : CollatorOptions) (preferences : CollatorPreferences) (collator : CollatorParts) (x : List ℕ)
         → AreAccepted records → IsCollatorOf records options preferences collator → All IsScalar x

@@ -4,4 +4,4 @@ pub mod GrammarExamples
 pub mod NumberLemmas
 pub mod SeenLemmas
 pub mod WordLemmas
-pub mod SplitLemmas
+pub mod ReadingSplitLemmas

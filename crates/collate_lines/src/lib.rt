@@ -5,7 +5,7 @@
 mod fields;
 pub mod line;
 pub mod lines;
-mod lists;
+mod list_fields;
 pub mod record;
 pub mod rule;
 pub mod seen;

@@ -5,7 +5,7 @@ ghost use Rattle.collate_lines.specs.Record.{layer_of, said};
 ghost use Rattle.collate_lines.specs.Grammar.{class_by, compatibility_by, digit_by, ending_by, is_remark, is_short_ascii, mapping_by, range_by, record_by, record_of, set_by, weights_by};
 
 use crate::fields::{character, class_value, digit_up_to, eight_digits, split_by, step_value};
-use crate::lists::{parse_elements, parse_key, parse_some_characters, split_at_word};
+use crate::list_fields::{parse_elements, parse_key, parse_some_characters, split_at_word};
 use crate::record::{Layer, Range, Record};
 use crate::settings::parse_setting;
 use std::alloc::{AllocError, Global};

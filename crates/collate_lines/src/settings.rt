@@ -5,7 +5,7 @@ ghost use Rattle.collate_lines.specs.Grammar.{four_groups, one_lead, setting_by,
 ghost use Rattle.collate_lines.specs.Record.{set_by_line};
 
 use crate::fields::{lead_value, weight};
-use crate::lists::{parse_some_lead_pairs, parse_some_leads};
+use crate::list_fields::{parse_some_lead_pairs, parse_some_leads};
 use crate::record::Setting;
 use icu_collator_types::options::{AlternateHandling, CollationCaseFirst, MaxVariable};
 use std::alloc::{AllocError, Global};

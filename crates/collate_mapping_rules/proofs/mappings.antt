@@ -1,4 +1,4 @@
 -- what mapping steps reach, and marks put in order
 pub mod ExploringLemmas
-pub mod OrderLemmas
-pub mod ReachedLemmas
+pub mod MappingOrderLemmas
+pub mod MappingReachedLemmas

@@ -3,8 +3,8 @@
 #![tactic(auto)]
 
 pub mod lines;
-pub mod lists;
+pub mod full_lists;
 pub mod loops;
-pub mod low;
+pub mod below_marks;
 pub mod marks;
 pub mod pairs;

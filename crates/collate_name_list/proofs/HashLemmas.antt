@@ -6,7 +6,7 @@ use Rattle.collate_hashes.specs.Hashes.{hash_of}
 use Rattle.collate_name_list.specs.StoredNames.{names_of}
 use Rattle.collate_name_list.specs.Slots.{entry_at, entry_or_none, IsFull, entries, hash_in, hashes_in}
 use Rattle.collate_name_list.specs.declared.slots.Stored.{Stored}
-use Rattle.collate_name_list.proofs.EntryLemmas.{slot_there}
+use Rattle.collate_name_list.proofs.NameListEntryLemmas.{slot_there}
 
 hash_at : (slots : List (Option Stored)) (slot : ℕ) → get_or (hashes_in slots) slot 0 ≡ hash_in (get_or slots slot None)
 hash_at [] slot = refl

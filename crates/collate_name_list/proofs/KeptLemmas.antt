@@ -8,8 +8,8 @@ use Rattle.std.proofs.lemmas.List.{length-map, get_or-map, map_push, map-set}
 use Rattle.std.specs.Option.{option_map}
 use Rattle.collate_names.specs.Names.{in_order}
 use Rattle.collate_names.specs.Search.{IsPlaceOf}
-use Rattle.collate_names.proofs.SearchLemmas.{filter_all}
-use Rattle.collate_names.proofs.PlaceLemmas.{place_map}
+use Rattle.collate_names.proofs.NameSearchLemmas.{filter_all}
+use Rattle.collate_names.proofs.NamePlaceLemmas.{place_map}
 use Rattle.collate_hashes.specs.Hashes.{hash_of}
 use Rattle.collate_places.specs.Fronts.{IsFrontOf}
 use Rattle.collate_places.specs.declared.windows.Placed.{Placed}
@@ -18,7 +18,7 @@ use Rattle.collate_name_list.specs.Slots.{AreFronted, places_of, entry_of, entry
 use Rattle.collate_name_list.specs.declared.slots.Stored.{Stored}
 use Rattle.collate_name_list.specs.declared.name_list.NameList.TheInside.{Inside}
 use Rattle.collate_name_list.proofs.SlotLemmas.{IsSlot, full_below}
-use Rattle.collate_name_list.proofs.EntryLemmas.{distinct_from_own, own_push, own_emptied, name_there}
+use Rattle.collate_name_list.proofs.NameListEntryLemmas.{distinct_from_own, own_push, own_emptied, name_there}
 use Rattle.collate_name_list.proofs.PlacesLemmas.{key_total, names_listed, length_slots, slots_push, slots_remove, all_slots, all_full, name_listed}
 use Rattle.collate_name_list.proofs.FrontedLemmas.{places-insert, places-remove, push_fronts, remove_fronts}
 

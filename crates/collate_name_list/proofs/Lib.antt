@@ -1,6 +1,6 @@
-pub mod EntryLemmas
+pub mod NameListEntryLemmas
 pub mod KeptLemmas
-pub mod ListLemmas
+pub mod NameListItemLemmas
 pub mod PlacesLemmas
 pub mod RoomLemmas
 pub mod SlotLemmas

@@ -15,13 +15,13 @@ use Rattle.std.proofs.lemmas.Option.{slice_get-get_or, slice_get_within, get_or_
 use Rattle.collate_names.specs.Names.{in_order}
 use Rattle.collate_names.specs.Search.{stands_before, IsPlaceOf}
 use Rattle.collate_names.proofs.NamesLemmas.{in_order_is_permutation, length-in_order}
-use Rattle.collate_names.proofs.SearchLemmas.{in_order_parted}
-use Rattle.collate_names.proofs.ChangeLemmas.{in_order_map, in_order_alike, in_order_tied, in_order_filter}
-use Rattle.collate_names.proofs.PlaceLemmas.{in_order_append, in_order_found, place_alike}
+use Rattle.collate_names.proofs.NameSearchLemmas.{in_order_parted}
+use Rattle.collate_names.proofs.NameChangeLemmas.{in_order_map, in_order_alike, in_order_tied, in_order_filter}
+use Rattle.collate_names.proofs.NamePlaceLemmas.{in_order_append, in_order_found, place_alike}
 use Rattle.collate_name_list.specs.StoredNames.{StoredName, key_order, names_of, sorted}
 use Rattle.collate_name_list.specs.Slots.{entry_of, entry_or_none, entry_at, IsFull, full_slots, entries, slots_by_key}
 use Rattle.collate_name_list.specs.declared.slots.Stored.{Stored}
-use Rattle.collate_name_list.proofs.ListLemmas.{one_if, one_gone, parted_map}
+use Rattle.collate_name_list.proofs.NameListItemLemmas.{one_if, one_gone, parted_map}
 use Rattle.collate_name_list.proofs.SlotLemmas.{IsSlot, full_are_slots, slot_from_contains, contains_full, full_once, full_less, full_push, full_emptied, entry_before, entry_pushed, entry_other}
 
 pub key_total : IsTotalOrder key_order

@@ -7,7 +7,7 @@ use Rattle.std.proofs.lemmas.Bool.{cases_lt}
 use Rattle.std.proofs.lemmas.List.{length-map, get_or-map, get_or_at, length_push}
 use Rattle.std.proofs.lemmas.List.Elements.{All-map, All-weaker, Contains-get_or}
 use Rattle.collate_names.specs.Names.{in_order}
-use Rattle.collate_names.proofs.ChangeLemmas.{in_order_map, in_order_alike}
+use Rattle.collate_names.proofs.NameChangeLemmas.{in_order_map, in_order_alike}
 use Rattle.collate_hashes.specs.Hashes.{hash_of, hash_from, is_hash}
 use Rattle.collate_places.specs.Fronts.{IsFrontOf}
 use Rattle.collate_places.specs.Lists.{renumbered, numbered as numbered_placed}

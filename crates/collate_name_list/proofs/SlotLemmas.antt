@@ -8,7 +8,7 @@ use Rattle.std.proofs.lemmas.List.Kept.{AllPairs-cons}
 use Rattle.std.proofs.lemmas.List.Sums.{sum_by-cons}
 use Rattle.collate_name_list.specs.Slots.{entry_of, entry_or_none, entry_at, IsFull, full_slots}
 use Rattle.collate_name_list.specs.declared.slots.Stored.{Stored}
-use Rattle.collate_name_list.proofs.ListLemmas.{one_if, none_left}
+use Rattle.collate_name_list.proofs.NameListItemLemmas.{one_if, none_left}
 
 -- ---- which slots are full
 

@@ -1,4 +1,4 @@
-pub mod ChangeLemmas
+pub mod NameChangeLemmas
 pub mod NamesLemmas
-pub mod PlaceLemmas
-pub mod SearchLemmas
+pub mod NamePlaceLemmas
+pub mod NameSearchLemmas

@@ -1,2 +1,2 @@
-pub mod ApartLemmas
-pub mod NumberLemmas
+pub mod NumberLawApartLemmas
+pub mod FileNumberLemmas

@@ -1,4 +1,4 @@
 pub mod Renumbering
 pub mod Rows
 pub mod Places
-pub mod FrontLemmas
+pub mod PlaceFrontLemmas

@@ -7,7 +7,7 @@ use Rattle.std.proofs.lemmas.List.Edits.{length-insert, get_or-insert_below, get
 use Rattle.std.proofs.lemmas.List.Elements.{All-drop, All-weaker}
 use Rattle.std.specs.Prelude.{insert, slice_index}
 use Rattle.std.specs.Global.{Vec}
-use Rattle.collate_places.specs.declared.lists.TheConstants.{FULL}
+use Rattle.collate_places.specs.declared.list_rows.TheConstants.{FULL}
 use Rattle.collate_places.specs.declared.windows.Placed.{Placed}
 use Rattle.collate_places.specs.Lists.{joined, lengths, starts_from, starts_of}
 use Rattle.collate_places.specs.Parts.{IsPlaceOf, IsFreeFor}

@@ -5,7 +5,7 @@ use Rattle.std.proofs.lemmas.List.{length-map, map-append, get_or_append_left, g
 use Rattle.std.specs.Prelude.{slice_index, vec_capacity}
 use Rattle.std.specs.Global.{Vec}
 use Rattle.collate_places.specs.Lists.{joined, starts_from, numbered, renumbered, AreRoomy}
-use Rattle.collate_places.specs.declared.lists.TheConstants.{FULL}
+use Rattle.collate_places.specs.declared.list_rows.TheConstants.{FULL}
 use Rattle.collate_places.specs.declared.windows.Placed.{Placed}
 
 -- a list with its values renumbered

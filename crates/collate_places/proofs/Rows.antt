@@ -8,7 +8,7 @@ use Rattle.std.proofs.lemmas.Option.{slice_get-get_or}
 use Rattle.std.proofs.lemmas.List.Edits.{length-insert, length-remove}
 use Rattle.std.proofs.Math.ListN.{get_or-append}
 use Rattle.std.specs.Prelude.{insert, remove, slice_get, slice_index, vec_len, vec_capacity}
-use Rattle.collate_places.specs.declared.lists.TheConstants.{FULL}
+use Rattle.collate_places.specs.declared.list_rows.TheConstants.{FULL}
 use Rattle.collate_places.specs.declared.windows.Placed.{Placed}
 use Rattle.std.specs.Global.{Vec}
 use Rattle.collate_places.specs.Lists.{joined, lengths, rank_of, starts_from, starts_of, raised, lowered, AreRoomy}

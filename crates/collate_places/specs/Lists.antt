@@ -1,7 +1,7 @@
 -- lists in a row that are seen as one
 use Rattle.std.specs.Prelude.{ℕ, ◌+◌, ◌-◌, ◌≤◌, List, [], ◌∷◌, ◌++◌, All, drop, flat_map, length, map, slice_index, take, vec_capacity}
 use Rattle.std.specs.Global.{Vec}
-use Rattle.collate_places.specs.declared.lists.TheConstants.{FULL}
+use Rattle.collate_places.specs.declared.list_rows.TheConstants.{FULL}
 use Rattle.collate_places.specs.declared.windows.Placed.{Placed}
 
 -- the values of all lists, one after another

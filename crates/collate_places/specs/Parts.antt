@@ -2,7 +2,7 @@
 use Rattle.std.specs.Prelude.{◌≡◌, ℕ, ◌+◌, ◌^◌, ◌<◌, ◌≤◌, List, [], length, slice_index, vec_capacity}
 use Rattle.std.specs.Global.{Vec}
 use Rattle.collate_places.specs.Lists.{joined, lengths, rank_of, starts_of, AreRoomy}
-use Rattle.collate_places.specs.declared.lists.TheConstants.{FULL}
+use Rattle.collate_places.specs.declared.list_rows.TheConstants.{FULL}
 use Rattle.collate_places.specs.declared.windows.Placed.{Placed}
 use Rattle.collate_places.specs.declared.parts.Parts.{Parts}
 

@@ -7,7 +7,7 @@ ghost use Rattle.collate_places.specs.Lists.{renumbered};
 ghost use Rattle.collate_places.specs.Windows.{shows};
 
 pub mod fronts;
-mod lists;
+mod list_rows;
 mod parts;
 mod starts;
 pub mod windows;

@@ -5,7 +5,7 @@ ghost use Rattle.collate_places.specs.Lists.{joined, lengths, renumbered};
 ghost use Rattle.collate_places.specs.Parts.{IsSound, HasRoom, IsSame, IsPlaceOf, IsFreeFor};
 ghost use Rattle.collate_places.specs.Windows.{shows};
 
-use crate::lists::{FULL, HALF, halve, let_go, put, renumber, take_out};
+use crate::list_rows::{FULL, HALF, halve, let_go, put, renumber, take_out};
 use crate::starts::{list_around, lower, raise};
 use crate::windows::{Placed, Window};
 use std::alloc::{AllocError, Global};

@@ -2,10 +2,10 @@
 pub mod DecomposedTextLemmas
 pub mod DropLemmas
 pub mod ExchangeLemmas
-pub mod GrowthLemmas
+pub mod RecordGrowthLemmas
 pub mod OrderedLemmas
 mod RecordRuleExamples
-pub mod SettingLemmas
+pub mod RecordSettingLemmas
 pub mod ShorterLemmas
 pub mod SoundSettingLemmas
 pub mod UnlikeDecomposedLemmas

@@ -8,4 +8,4 @@ pub mod laws;
 pub mod named;
 pub mod prefixes;
 pub mod settings;
-pub mod texts;
+pub mod recorded_texts;

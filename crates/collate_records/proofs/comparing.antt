@@ -1,5 +1,5 @@
 pub mod ChangeLemmas
-pub mod ElementLemmas
+pub mod ComparingElementLemmas
 pub mod LineOrderLemmas
 pub mod LocalityLemmas
 pub mod OneLineLemmas

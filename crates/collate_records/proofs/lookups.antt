@@ -1,2 +1,2 @@
 -- what is found in lines and in tables of characters
-pub mod KeyLemmas
+pub mod LookedUpKeyLemmas

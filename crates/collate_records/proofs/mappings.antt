@@ -1,4 +1,4 @@
 -- mapping steps of lines that keep the rules: where they end, and what composes
 pub mod ComposedPairLemmas
-pub mod DecomposingLemmas
-pub mod StepLemmas
+pub mod MappingDecomposingLemmas
+pub mod MappingStepLemmas

@@ -1,5 +1,5 @@
 -- what lines say, as maps of canonical data and of compatibility data
-pub mod AcceptedMapLemmas
+pub mod AcceptedAllMapsLemmas
 pub mod AllMapLemmas
 pub mod AnyStepLemmas
 pub mod BuildErrorLemmas

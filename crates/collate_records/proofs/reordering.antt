@@ -3,7 +3,7 @@ pub mod AcceptedMovedLemmas
 pub mod CanonicalMovedLemmas
 pub mod FewerLineLemmas
 pub mod LimitMovedLemmas
-pub mod LineRuleLemmas
+pub mod ReorderedRuleLemmas
 pub mod LowMovedLemmas
 pub mod LowRuleLemmas
 pub mod MovedListLemmas

@@ -13,12 +13,16 @@ ghost use Rattle.collate_rules.specs.Accepted.{AreAccepted, AreScalars};
 ghost use Rattle.collate_records.specs.Files.{IsAccepted};
 ghost use Rattle.collate_lines.specs.Lines.{records_of};
 
+pub mod changes;
+pub mod files;
+pub mod maps;
+pub mod order;
 /// Lines of the grammar of which none breaks `C1` to `C4` or `C9` give canonical data, as far as
 /// decomposing goes: mapping steps end, and a full list has at most eight characters
 /// (docs/RECORDS.md; UAX 15).
 ///
 /// It computes nothing: its contract is the law.
-#[tactic(auto, using(crate::proofs::mappings::DecomposingLemmas::decomposing))]
+#[tactic(auto, using(crate::proofs::mappings::MappingDecomposingLemmas::decomposing))]
 pub fn accepted_lines_decompose()
     ensures { (records : List Record) → AreScalars records → NoneOffends C1 records → NoneOffends C2 records
         → NoneOffends C3 records → NoneOffends C4 records → NoneOffends C9 records → IsDecomposing (canonical_of records) }
@@ -28,7 +32,7 @@ pub fn accepted_lines_decompose()
 /// rule (docs/RECORDS.md).
 ///
 /// It computes nothing: its contract is the law.
-#[tactic(auto, using(crate::proofs::reading::AcceptedLemmas::accepted_lines))]
+#[tactic(auto, using(crate::proofs::reading::ReadingAcceptedLemmas::accepted_lines))]
 pub fn accepted_files_have_accepted_lines()
     ensures { (file : List ℕ) → IsAccepted file → AreAccepted (records_of file) }
 {}
@@ -37,7 +41,7 @@ pub fn accepted_files_have_accepted_lines()
 /// (docs/RECORDS.md; UAX 15).
 ///
 /// It computes nothing: its contract is the law.
-#[tactic(auto, using(crate::proofs::reading::AcceptedLemmas::accepted_decompose))]
+#[tactic(auto, using(crate::proofs::reading::ReadingAcceptedLemmas::accepted_decompose))]
 pub fn accepted_records_decompose()
     ensures { (records : List Record) → AreAccepted records → IsDecomposing (canonical_of records) }
 {}
@@ -46,7 +50,7 @@ pub fn accepted_records_decompose()
 /// of what it composes to, and a character below U+0300 is a starter and its own composed list (docs/RECORDS.md; UAX 15).
 ///
 /// It computes nothing: its contract is the law.
-#[tactic(auto, using(crate::proofs::reading::AcceptedLemmas::accepted_compose))]
+#[tactic(auto, using(crate::proofs::reading::ReadingAcceptedLemmas::accepted_compose))]
 pub fn accepted_records_compose()
     ensures { (records : List Record) → AreAccepted records → IsComposing (canonical_of records) }
 {}
@@ -54,7 +58,7 @@ pub fn accepted_records_compose()
 /// An accepted file gives canonical data, as far as decomposing goes (docs/RECORDS.md; UAX 15).
 ///
 /// It computes nothing: its contract is the law.
-#[tactic(auto, using(crate::proofs::reading::AcceptedLemmas::accepted_file))]
+#[tactic(auto, using(crate::proofs::reading::ReadingAcceptedLemmas::accepted_file))]
 pub fn accepted_files_decompose()
     ensures { (file : List ℕ) → IsAccepted file → IsDecomposing (canonical_of (records_of file)) }
 {}
@@ -63,7 +67,7 @@ pub fn accepted_files_decompose()
 /// (docs/RECORDS.md; UAX 15).
 ///
 /// It computes nothing: its contract is the law.
-#[tactic(auto, using(crate::proofs::maps::AcceptedMapLemmas::accepted_maps_mean))]
+#[tactic(auto, using(crate::proofs::maps::AcceptedAllMapsLemmas::accepted_maps_mean))]
 pub fn accepted_records_mean_their_maps()
     ensures { (records : List Record) → AreAccepted records → AreMeaning (maps_of records) (canonical_of records) }
 {}

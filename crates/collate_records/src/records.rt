@@ -90,7 +90,7 @@ impl Records {
     /// they give canonical data, for decomposing and for composing (docs/RECORDS.md; UAX 15).
     ///
     /// It computes nothing: its contract is what every holder of records knows.
-    #[tactic(auto, using(crate::proofs::reading::AcceptedLemmas::accepted_decompose, crate::proofs::reading::AcceptedLemmas::accepted_compose))]
+    #[tactic(auto, using(crate::proofs::reading::ReadingAcceptedLemmas::accepted_decompose, crate::proofs::reading::ReadingAcceptedLemmas::accepted_compose))]
     pub fn keep_rules(&self)
         ensures accepted { AreAccepted self.now }
         ensures canonical { IsDecomposing (canonical_of self.now) }

@@ -1,7 +1,7 @@
 -- What lines give of weights and counts.
-pub mod CountLemmas
+pub mod GivenCountLemmas
 pub mod GivesLemmas
 pub mod GrammarLemmas
-pub mod ListLemmas
-pub mod PlaceLemmas
-pub mod SoundLemmas
+pub mod GivenListLemmas
+pub mod GivenPlaceLemmas
+pub mod GivenSoundLemmas

@@ -1,4 +1,4 @@
 -- full lists
 pub mod BadListLemmas
-pub mod FullListLemmas
+pub mod RuleFullListLemmas
 pub mod LowLemmas

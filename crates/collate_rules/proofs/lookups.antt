@@ -1,3 +1,3 @@
 -- what is found in lines
 pub mod FoundLemmas
-pub mod LookupLemmas
+pub mod RuleLookupLemmas

@@ -1,7 +1,7 @@
 -- mapping steps: what is built in, what lines say, and where steps end
 pub mod BuiltInFallLemmas
 pub mod CanonicalPartLemmas
-pub mod EndingLemmas
+pub mod MappingEndingLemmas
 pub mod LoopLemmas
 pub mod LoopPartLemmas
 pub mod SoonEndedLemmas

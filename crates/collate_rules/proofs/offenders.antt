@@ -4,6 +4,6 @@ pub mod LimitLemmas
 pub mod LineRuleLemmas
 pub mod MappedMarkLemmas
 pub mod NamedCharacterLemmas
-pub mod PairLemmas
+pub mod OffenderPairLemmas
 pub mod PartRuleLemmas
 pub mod ShortLineLemmas

@@ -1,4 +1,4 @@
 -- what lines note of characters and record of texts
 pub mod BreakLemmas
-pub mod NotedLemmas
+pub mod RecordNotedLemmas
 pub mod RecordedLemmas

@@ -1,4 +1,4 @@
 -- what a line asks for, and the reply
-pub mod AnswerLemmas
+pub mod CommandAnswerLemmas
 pub mod CommandLemmas
-pub mod ListingLemmas
+pub mod CommandListingLemmas

@@ -1,7 +1,7 @@
 -- the lines of a run
-pub mod ExampleLemmas
-pub mod LineLemmas
-pub mod ReadLineLemmas
+pub mod CommandLineExampleLemmas
+pub mod CommandLineLemmas
+pub mod CommandLineReadLemmas
 pub mod RequestLemmas
-pub mod RunLemmas
-pub mod WholeLemmas
+pub mod CommandLineRunLemmas
+pub mod CommandLineWholeLemmas

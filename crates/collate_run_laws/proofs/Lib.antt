@@ -1,3 +1,3 @@
-pub mod MovedLemmas
+pub mod RunLawMovedLemmas
 pub mod ReplyLemmas
 pub mod TouchedLemmas

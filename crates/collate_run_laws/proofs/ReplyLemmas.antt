@@ -6,7 +6,7 @@ use Rattle.std.specs.Prelude.{bytes_eq, not, Option}
 use Rattle.std.proofs.lemmas.List.Sorted.{IsPermutation-refl}
 use Rattle.collate_lines.specs.Lines.{lines_of, records_of}
 use Rattle.collate_records.specs.Files.{IsAccepted}
-use Rattle.collate_records.proofs.reading.AcceptedLemmas.{accepted_lines}
+use Rattle.collate_records.proofs.reading.ReadingAcceptedLemmas.{accepted_lines}
 use Rattle.collate_records.proofs.reordering.AcceptedMovedLemmas.{records_moved}
 use Rattle.icu_collator_types.specs.declared.options.CollatorOptions.{CollatorOptions}
 use Rattle.icu_collator_types.specs.declared.options.CollatorPreferences.{CollatorPreferences}
@@ -16,7 +16,7 @@ use Rattle.collate_run.specs.Replies.{Answers, AreReplies, Denies, Grants, LineC
 use Rattle.collate_run.specs.Runs.{Does, Ran, input_limit, lines_read}
 use Rattle.collate_run.specs.declared.run.RunFault.{RunFault}
 use Rattle.collate_run.specs.declared.run.RunFault.TheVariants.{Memory, Read, Write, LineTooLong, InputTooLong, CutReload}
-use Rattle.collate_run_laws.proofs.MovedLemmas.{AreMoved, between_same, equal_same, key_same, made_same, sorted_same}
+use Rattle.collate_run_laws.proofs.RunLawMovedLemmas.{AreMoved, between_same, equal_same, key_same, made_same, sorted_same}
 
 -- a catalogue that the other catalogue comes to
 abbrev Comes : (Catalogue → Type 0) → Catalogue → Type 0

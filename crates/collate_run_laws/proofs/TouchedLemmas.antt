@@ -6,7 +6,7 @@ use Rattle.icu_normalizer_core.specs.Decoding.{utf8_chars}
 use Rattle.collate_lines.specs.Record.{Record}
 use Rattle.collate_rules.specs.Meaning.{step_of}
 use Rattle.collate_records.specs.Changes.{AreSettingsEqual, IsUnchanged}
-use Rattle.collate_records.proofs.mappings.DecomposingLemmas.{reaches_wider}
+use Rattle.collate_records.proofs.mappings.MappingDecomposingLemmas.{reaches_wider}
 use Rattle.collate_laws.specs.Unchanged.{ReachesUnchanged}
 use Rattle.collate_index.specs.Reloads.{AreTouched, IsTouched}
 

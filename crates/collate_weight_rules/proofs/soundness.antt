@@ -1,7 +1,7 @@
 -- what lines give of weights, and the rules V1 to V6 on them
-pub mod ApartLemmas
-pub mod LeadLemmas
-pub mod RangeLemmas
-pub mod SaidLemmas
+pub mod WeightRuleApartLemmas
+pub mod WeightRuleLeadLemmas
+pub mod WeightRuleRangeLemmas
+pub mod WeightRuleSaidLemmas
 pub mod StayLemmas
 mod WeightExamples

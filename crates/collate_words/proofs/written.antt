@@ -1,8 +1,8 @@
 -- Words with what stands beside a character, and contexts.
-pub mod KeyLemmas
+pub mod WrittenKeyLemmas
 pub mod TrieKeyLemmas
 pub mod SortedKeyLemmas
-pub mod ContextLemmas
+pub mod WrittenContextLemmas
 pub mod WordFormLemmas
 pub mod SayingLemmas
 pub mod SameContextLemmas

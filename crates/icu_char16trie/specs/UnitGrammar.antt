@@ -16,13 +16,13 @@ use Rattle.icu_char16trie.specs.declared.node.State.{State}
 use Rattle.icu_char16trie.specs.declared.node.State.TheVariants as state
 
 -- what a rule of the grammar is about: a spot, or a branch whose units go from a low bound to below a high one
-pub data Part : Type 0 where
-  spot : Spot → Part
-  within : Branch → ℕ → ℕ → Part
+pub data GrammarPart : Type 0 where
+  spot : Spot → GrammarPart
+  within : Branch → ℕ → ℕ → GrammarPart
 
 -- the units keep the grammar there: all that can be reached is read to its end and within the units, and
 -- the units of a branch rise, those of its first half below the unit at which it is halved
-pub data IsSound (units : List ℕ) : Part → Type 0 where
+pub data IsSound (units : List ℕ) : GrammarPart → Type 0 where
   sound_end : (place value : ℕ) → IsNode units place (Some value) None → IsSound units (spot (at_node place))
   sound_node : (place : ℕ) (value : Option ℕ) (next : State) → IsNode units place value (Some next) → IsSound units (spot (at_state next))
       → IsSound units (spot (at_node place))

@@ -7,13 +7,13 @@ use Rattle.icu_char16trie.specs.UnitNumberForms.{number_form, intermediate_form,
 
 -- what units spell: pairs, at a node or after its type, or groups of a branch whose units go from a
 -- low bound to below a high one
-pub data Part : Type 0 where
-  node : List (List ℕ × ℤ) → Part
-  follows : ℕ → List (List ℕ × ℤ) → Part
-  within : ℕ → ℕ → List (ℕ × List (List ℕ × ℤ)) → Part
+pub data LaidPart : Type 0 where
+  node : List (List ℕ × ℤ) → LaidPart
+  follows : ℕ → List (List ℕ × ℤ) → LaidPart
+  within : ℕ → ℕ → List (ℕ × List (List ℕ × ℤ)) → LaidPart
 
 -- the units begin with what spells the part
-pub data Lays : List ℕ → Part → Type 0 where
+pub data Lays : List ℕ → LaidPart → Type 0 where
   final : (number : ℕ) (units : List ℕ) → Lays (number_form 0x8000 number ++ units) (node (([], cast_signed w32 number) ∷ []))
   valued : (kind number : ℕ) (units : List ℕ) (pairs : List (List ℕ × ℤ)) → kind < 0x40 → Lays units (follows kind pairs)
       → Lays (intermediate_form kind number ++ units) (node (([], cast_signed w32 number) ∷ pairs))

@@ -1,7 +1,7 @@
 pub mod BlockLemmas
 pub mod DataCellLemmas
 pub mod IndexBlockLemmas
-pub mod LayoutLemmas
+pub mod BuiltLayoutLemmas
 pub mod BuiltTrieLemmas
 pub mod BlockCountLemmas
 pub mod MapBlockLemmas

@@ -8,7 +8,7 @@ use Rattle.icu_normalizer_core.specs.Canonical.{IsCanonical, composed, decompose
 use Rattle.icu_normalizer_core.specs.Decoding.{utf16_chars, utf8_chars}
 use Rattle.icu_normalizer_core.proofs.DecodedLemmas.{utf16_scalars, utf8_scalars}
 use Rattle.icu_normalizer_core.proofs.DecomposedLemmas.{decomposed_all_scalars}
-use Rattle.icu_normalizer_core.proofs.TextLemmas.{utf16_text, utf8_text}
+use Rattle.icu_normalizer_core.proofs.CanonicalTextLemmas.{utf16_text, utf8_text}
 use Rattle.icu_normalizer.specs.TextForms.{composed_text, decomposed_text}
 use Rattle.icu_normalizer.proofs.equivalence.NormalFormLemmas.{composed_scalars}
 use Rattle.icu_collator_types.specs.declared.options.ResolvedCollatorOptions.{ResolvedCollatorOptions}

@@ -2,6 +2,6 @@ pub mod BackwardLemmas
 pub mod BoundLemmas
 pub mod CompareLemmas
 pub mod CountedLemmas
-pub mod GivenLemmas
-pub mod ListLemmas
-pub mod SpelledLemmas
+pub mod ListGivenLemmas
+pub mod CollatorListLemmas
+pub mod ListSpelledLemmas

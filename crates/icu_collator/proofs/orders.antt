@@ -1,4 +1,4 @@
-pub mod SamenessLemmas
+pub mod OrderSamenessLemmas
 pub mod StrengthsLemmas
 pub mod TotalOrderLemmas
-pub mod FlatOrderLemmas
+pub mod OrderByFlatLemmas

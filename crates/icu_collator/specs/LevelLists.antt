@@ -6,8 +6,8 @@ use Rattle.icu_collator_types.specs.declared.options.ResolvedCollatorOptions.{Re
 use Rattle.icu_collator_types.specs.Options.{has_case_bits, group_index, is_shifted, is_upper_first}
 use Rattle.icu_collator_core.specs.Collation.{Collation}
 use Rattle.icu_collator_core.specs.Pools.{element_of}
-use Rattle.icu_collator.specs.declared.levels.counted.CountedElement.{CountedElement}
-use Rattle.icu_collator.specs.declared.levels.counted.CountedElement.TheVariants.{Whole, Variable}
+use Rattle.icu_collator.specs.declared.levels.counted_elements.CountedElement.{CountedElement}
+use Rattle.icu_collator.specs.declared.levels.counted_elements.CountedElement.TheVariants.{Whole, Variable}
 use Rattle.icu_collator.specs.Shifted.{Counted, whole, variable}
 use Rattle.icu_collator.specs.Levels.{case_at, primary_at, quaternary_at, secondaries_of, tertiary_at}
 use Rattle.icu_collator.specs.Order.{quaternary_rank, secondary_rank}

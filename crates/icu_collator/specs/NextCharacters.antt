@@ -8,8 +8,8 @@ use Rattle.icu_collator_core.specs.Collation.{Collation}
 use Rattle.icu_collator.specs.Boundaries.{IsPlain}
 use Rattle.icu_collator.specs.Fronts.{PartAt}
 use Rattle.icu_collator.specs.Order.{collation_order}
-use Rattle.icu_collator.specs.declared.front.deciding.NextCharacter.{NextCharacter}
-use Rattle.icu_collator.specs.declared.front.deciding.NextCharacter.TheVariants.{End, Plain, Other}
+use Rattle.icu_collator.specs.declared.common_front.deciding.NextCharacter.{NextCharacter}
+use Rattle.icu_collator.specs.declared.common_front.deciding.NextCharacter.TheVariants.{End, Plain, Other}
 
 -- what stands next in a text: nothing, a plain character with this element, or a character of which nothing is said
 abbrev pub IsNext : Collation → Option ℕ → NextCharacter → Type 0

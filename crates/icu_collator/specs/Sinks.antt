@@ -10,8 +10,8 @@ abbrev pub greatest_count : ℕ
 greatest_count = 2 ^ 64 - 1
 
 -- a count of bytes, which stays at the greatest
-abbrev pub counted : List ℕ → ℕ
-counted bytes = min (length bytes) greatest_count
+abbrev pub byte_count : List ℕ → ℕ
+byte_count bytes = min (length bytes) greatest_count
 
 -- a slice after bytes were written from its beginning: as many of them as fit, and behind them what it held
 abbrev pub overlaid : List ℕ → List ℕ → List ℕ
@@ -38,7 +38,7 @@ pub record PassesSlice (first : MutBor (List ℕ)) (bytes : List ℕ) (now : Mut
   pub same_reference : now.ghost_name ≡ first.ghost_name
   pub passes : length first.now < length bytes
   pub contents : now.now ≡ take (length first.now) bytes
-  pub counted_all : error.length ≡ counted bytes
+  pub counted_all : error.length ≡ byte_count bytes
 
 -- a key that wasn't written: the sink took no more, or memory was refused, and then the sink is as it was
 abbrev pub IsRefusedKey : {S E : Type 0} → (S → List ℕ → S → E → Type 0) → S → List ℕ → S → KeyError E → Type 0

@@ -1,9 +1,9 @@
 //! The comparison of two texts.
 
-mod characters;
+mod iterators;
 mod flat;
 mod levels;
 mod orders;
-mod texts;
+mod encoded;
 
-pub(crate) use texts::{common_place, compare_texts};
+pub(crate) use encoded::{common_place, compare_texts};

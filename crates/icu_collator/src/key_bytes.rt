@@ -2,14 +2,14 @@
 
 mod buffer;
 mod cases;
-mod characters;
+mod identical_level;
 mod levels;
 mod primaries;
 mod quaternaries;
 mod run_level;
 mod runs;
-mod texts;
+mod text_keys;
 mod weights;
 pub(crate) mod whole;
 
-pub(crate) use texts::write_text_key;
+pub(crate) use text_keys::write_text_key;

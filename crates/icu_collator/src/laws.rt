@@ -87,3 +87,10 @@ pub fn normalising_first_keeps_order()
 {}
 
 pub mod numbers;
+pub mod boundaries;
+pub mod collators;
+pub mod keys;
+pub mod levels;
+pub mod same;
+pub mod sinks;
+pub mod tables;

@@ -6,23 +6,16 @@
 mod compare;
 mod comparison;
 pub mod elements;
-mod front;
+mod common_front;
 mod key_bytes;
 pub mod laws;
-pub mod laws_boundaries;
-pub mod laws_collators;
-pub mod laws_keys;
-pub mod laws_levels;
-pub mod laws_same;
-pub mod laws_sinks;
-pub mod laws_tables;
 mod levels;
 pub mod options;
 pub mod preferences;
 pub mod provider;
-mod reading;
+mod read_texts;
 mod sinks;
-mod texts;
+mod encodings;
 
 pub use comparison::{Collator, CollatorBorrowed, CollatorError};
 pub use icu_collator_types::options::CollatorPreferences;

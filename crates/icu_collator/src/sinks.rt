@@ -2,7 +2,7 @@
 
 ghost use Rattle.std.specs.Prelude.{◌≡◌, ℕ, List, [], ◌∷◌, ◌++◌, OnOk, IfOk, IfErr};
 
-mod lists;
+mod list_sinks;
 mod slices;
 pub(crate) mod whole;
 

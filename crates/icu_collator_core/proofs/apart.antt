@@ -1,8 +1,8 @@
 -- Weights that keep apart: lists that grow, weights in order, and what the lists of all that is spelled say.
 pub mod GrowthLemmas
-pub mod OrderLemmas
+pub mod ApartOrderLemmas
 pub mod BeginningLemmas
 pub mod LevelLemmas
 pub mod GatheringLemmas
-pub mod SpellingLemmas
+pub mod ApartSpellingLemmas
 pub mod DecisionLemmas

@@ -2,11 +2,11 @@
 pub mod ContextLemmas
 pub mod KeyLemmas
 pub mod FlagLemmas
-pub mod FoldLemmas
-pub mod ListLemmas
+pub mod CheckedFoldLemmas
+pub mod CheckedListLemmas
 pub mod LookupLemmas
 pub mod RecordLemmas
-pub mod TestLemmas
+pub mod CheckedTestLemmas
 pub mod UnrecordedLemmas
-pub mod ValueLemmas
+pub mod CheckedValueLemmas
 pub mod WalkLemmas

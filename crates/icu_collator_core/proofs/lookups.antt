@@ -13,4 +13,4 @@ pub mod PlainLemmas
 pub mod PrefixLemmas
 pub mod ReadMarkLemmas
 pub mod SaidLemmas
-pub mod TextLemmas
+pub mod LookedUpTextLemmas

@@ -9,12 +9,12 @@ pub mod FlatNoteLemmas
 pub mod FlatOrderLemmas
 pub mod FlatReadLemmas
 pub mod FlatStepLemmas
-pub mod LowCharacterLemmas
+pub mod CollationNoteLemmas
 pub mod MovedMarkLemmas
 pub mod ReachedLemmas
 pub mod ReaderLemmas
 pub mod ReadingLeftLemmas
 pub mod SamenessLemmas
 pub mod SoundElementsLemmas
-pub mod StepLemmas
+pub mod ReadStepLemmas
 pub mod UpcomingLemmas

@@ -1,9 +1,9 @@
--- The characters that tables tie to what stands before them.
+-- The characters that tables make unsafe.
 pub mod KeyUnitLemmas
 pub mod EntryLemmas
 pub mod MetLemmas
-pub mod TiedTextLemmas
-pub mod TiedWordLemmas
-pub mod TiedTableLemmas
+pub mod UnsafeTextLemmas
+pub mod UnsafeWordLemmas
+pub mod UnsafeTableLemmas
 pub mod RisingLemmas
 pub mod UnsafeLemmas

@@ -26,13 +26,13 @@ abbrev pub has_suffixes : TableWord → Bool
 has_suffixes entry = has_tag Contraction (unprefixed_word entry.pools entry.word)
 
 -- a word says the elements of a recorded text; a character alone has no such word
-abbrev pub IsWordOf : Weights → Pools → ℕ → List ℕ → Option ℕ → Type 0
-IsWordOf weights pools c text word =
+abbrev pub IsWordOfText : Weights → Pools → ℕ → List ℕ → Option ℕ → Type 0
+IsWordOfText weights pools c text word =
     MatchOption word (text ≡ c ∷ []) (λ w. weights.recorded [] text ≡ elements_of_word pools w)
 
 -- a match that was found: its word says the text's elements, and what is left in the list is read as what the match leaves
 pub record IsFoundAs (canonical : Canonical) (weights : Weights) (pools : Pools) (c : ℕ) (found : Joining) (result : TextMatch) (list : List ℕ) : Type 0 where
-  pub elements : IsWordOf weights pools c found.text result.word
+  pub elements : IsWordOfText weights pools c found.text result.word
   pub left : KnowNoMarksBefore canonical.class weights → AreAlike weights found.left (drop result.next (placed list))
 
 -- the text match at a place, for all weights that the word of the character there says
@@ -61,7 +61,7 @@ pub record HasJoined (canonical : Canonical) (weights : Weights) (entry : TableW
   pub between : List Placed
   pub stands : IsAtText (suffix_units entry) joined text.cursor
   pub spelled : scalars joined ≡ true
-  pub said : IsWordOf weights entry.pools c (c ∷ joined) text.word
+  pub said : IsWordOfText weights entry.pools c (c ∷ joined) text.word
   pub left : characters_of between ≡ drop text.next (take place new)
   pub same : joining canonical weights (c ∷ joined) between (drop place (placed old)) ≡ joining canonical weights (c ∷ suffix) [] (drop start (placed old))
 

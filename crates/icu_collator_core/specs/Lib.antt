@@ -46,8 +46,8 @@ pub mod DigitRuns
 pub mod Upcoming
 pub mod ElementTexts
 pub mod UnsafeCharacters
-pub mod TiedWords
-pub mod LowCharacters
+pub mod UnsafeWords
+pub mod CollationNotes
 pub mod FlatLists
 pub mod FlatNotes
 pub mod FlatSteps

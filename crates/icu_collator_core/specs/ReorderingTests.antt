@@ -45,13 +45,13 @@ abbrev pub compressible_bit : CollationSpecialPrimaries → ℕ → ℕ
 compressible_bit special_primaries lead = cond (is_compressible_in special_primaries.last_primaries lead) 1 0
 
 -- upper halves that get one lead have leads that are alike compressible
-abbrev pub AreAlike : CollationSpecialPrimaries → CollationReordering → Type 0
-AreAlike special_primaries reordering =
+abbrev pub AreAlikeCompressible : CollationSpecialPrimaries → CollationReordering → Type 0
+AreAlikeCompressible special_primaries reordering =
     IsFunctional (λ half. new_lead reordering half 0) (λ half. compressible_bit special_primaries (half / 2 ^ 8)) (2 ^ 16)
 
 -- ## Values that are noted
 
 -- the values of the keys below a number are noted, and no others
-pub record AreNoted (key value : ℕ → ℕ) (count : ℕ) (noted : List (Option ℕ)) : Type 0 where
+pub record AreValuesNoted (key value : ℕ → ℕ) (count : ℕ) (noted : List (Option ℕ)) : Type 0 where
   pub each : (i : ℕ) → i < count → slice_index_or noted (key i) None ≡ Some (value i)
   pub only : (k v : ℕ) → slice_index_or noted k None ≡ Some v → (i : ℕ) × (i < count) × (key i ≡ k) × (value i ≡ v)

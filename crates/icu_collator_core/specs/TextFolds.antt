@@ -11,7 +11,7 @@ use Rattle.icu_collator_core.specs.declared.check.flags.Question.TheVariants.{Be
 use Rattle.icu_collator_core.specs.declared.check.records.Recorded.{Recorded}
 use Rattle.icu_collator_core.specs.declared.check.suffixes.Order.{Order}
 use Rattle.icu_collator_core.specs.declared.check.suffixes.Order.TheVariants.{Starters, Marks, Mixed}
-use Rattle.icu_collator_core.specs.declared.tied.texts.Met.{Met}
+use Rattle.icu_collator_core.specs.declared.unsafe_characters.context_texts.Met.{Met}
 use Rattle.icu_collator_core.specs.ContextRules.{is_prefix_character, longest_suffix}
 use Rattle.icu_collator_core.specs.Elements.{longest_prefix}
 use Rattle.icu_collator_core.specs.Pools.{Pools, elements_of_word}
@@ -77,7 +77,7 @@ answered_first HoldsNoStarter = record { is_empty = true; is_yes = true }
 abbrev pub is_yes : Answered → Bool
 is_yes answered = answered.is_yes
 
--- ## Tied characters
+-- ## Unsafe characters
 
 -- what was met with one character more: how many, up to eight, and the last of so many
 abbrev pub met_with : ℕ → Met → ℕ → Met

@@ -23,12 +23,12 @@ pub record HasPrefix (weights : Weights) (c : ℕ) : Type 0 where
   pub recorded : weights.recorded (nearest ∷ further) (c ∷ later) ≡ Some elements
 
 -- what weights say of a character may hang on what stands before it
-abbrev pub IsTied : Weights → ℕ → Type 0
-IsTied weights c = StandsLater weights c ⊎ HasPrefix weights c
+abbrev pub IsUnsafeByRecords : Weights → ℕ → Type 0
+IsUnsafeByRecords weights c = StandsLater weights c ⊎ HasPrefix weights c
 
--- a mark, or a character that is tied to what stands before it
+-- a mark, or a character that is unsafe by what is recorded
 abbrev pub IsUnsafeItself : Canonical → Weights → ℕ → Type 0
-IsUnsafeItself canonical weights c = (canonical.class c ≢ 0) ⊎ IsTied weights c
+IsUnsafeItself canonical weights c = (canonical.class c ≢ 0) ⊎ IsUnsafeByRecords weights c
 
 -- a character that is one of these, or whose full list begins with one; the full list of a character with no mapping is
 -- that character

@@ -26,8 +26,8 @@ Lists {X} IsOne items = (x : X) → Contains items x ↔ IsOne x
 -- ## What words say
 
 -- a word of data
-abbrev pub IsWordOf : CollationData → ℕ → Type 0
-IsWordOf source word = (c : ℕ) × IsWordIn source c word
+abbrev pub IsWordOfData : CollationData → ℕ → Type 0
+IsWordOfData source word = (c : ℕ) × IsWordIn source c word
 
 -- a word of a mark by the table of diacritics
 abbrev pub IsDiacriticWord : CollationTables → ℕ → Type 0
@@ -55,7 +55,7 @@ abbrev pub HaveLead : CollationData → List ℕ → ℕ → Type 0
 HaveLead source words lead = (word : ℕ) × Contains words word × HasLead source word lead
 
 abbrev pub IsLeadOf : CollationData → ℕ → Type 0
-IsLeadOf source lead = (word : ℕ) × IsWordOf source word × HasLead source word lead
+IsLeadOf source lead = (word : ℕ) × IsWordOfData source word × HasLead source word lead
 
 abbrev pub IsLeadOfTailoring : CollationTables → ℕ → Type 0
 IsLeadOfTailoring tables lead = MatchOption tables.tailoring ⊥ (λ source. IsLeadOf source lead)

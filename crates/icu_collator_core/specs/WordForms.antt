@@ -82,20 +82,20 @@ IsContraction pools word =
     IsTrue (has_form Contraction word && is_own_word pools (default_of pools word)) × ValuesPass pools (is_own_word pools) word
 
 -- where no prefix counts
-abbrev pub IsUnprefixed : Pools → ℕ → Type 0
-IsUnprefixed pools word = IsTrue (is_own_word pools word) ⊎ IsContraction pools word
+abbrev pub IsUnprefixedWord : Pools → ℕ → Type 0
+IsUnprefixedWord pools word = IsTrue (is_own_word pools word) ⊎ IsContraction pools word
 
 -- what a word says depends on the characters before
 abbrev pub IsPrefixed : Pools → ℕ → Type 0
 IsPrefixed pools word =
-    IsTrue (has_form Prefix word) × IsUnprefixed pools (default_of pools word) × ValuesPass pools (is_own_word pools) word
+    IsTrue (has_form Prefix word) × IsUnprefixedWord pools (default_of pools word) × ValuesPass pools (is_own_word pools) word
 
 -- ## Words of characters
 
 -- a word of one of the forms
 abbrev pub IsWord : Layer → Pools → ℕ → Type 0
 IsWord layer pools word =
-    IsTrue (is_fallback layer word || is_digit_word pools word) ⊎ (IsUnprefixed pools word ⊎ IsPrefixed pools word)
+    IsTrue (is_fallback layer word || is_digit_word pools word) ⊎ (IsUnprefixedWord pools word ⊎ IsPrefixed pools word)
 
 -- a word states one element, with this primary and common weights
 abbrev pub states_primary : ℕ → ℕ → Bool

@@ -1,7 +1,7 @@
 //! The check of collation tables: a function for each kind of fault.
 
 pub(crate) mod apart;
-pub(crate) mod characters;
+pub(crate) mod refused_characters;
 pub(crate) mod context_rules;
 pub(crate) mod contexts;
 pub(crate) mod digits;

@@ -2,7 +2,7 @@
 //! (`specs/WeightFaults.antt`).
 
 mod diacritics;
-mod elements;
+mod unpacked_elements;
 mod jamo;
 mod noted;
 pub(crate) mod offsets;
@@ -11,11 +11,11 @@ mod reordering;
 mod rules;
 mod special_primaries;
 mod spelled;
-mod words;
+mod word_weights;
 
 pub(crate) use diacritics::are_sound_diacritics;
 pub(crate) use jamo::jamo_fault;
 pub(crate) use own::own_primary;
 pub(crate) use reordering::has_sound_reordering;
 pub(crate) use special_primaries::are_sound_special_primaries;
-pub(crate) use words::{entry_at, has_other_elements, is_sound_word};
+pub(crate) use word_weights::{entry_at, has_other_elements, is_sound_word};

@@ -5,21 +5,21 @@ ghost use Rattle.icu_normalizer_core.specs.BorrowedMeaning.{borrowed_meaning, bo
 ghost use Rattle.icu_normalizer_core.specs.CanonicalMeaning.{meaning};
 ghost use Rattle.icu_collator_core.specs.Acceptance.{IsAccepted, IsRefusal};
 ghost use Rattle.icu_collator_core.specs.FlatNotes.{IsFlatNote};
-ghost use Rattle.icu_collator_core.specs.LowCharacters.{IsNoted, IsOwnBeginning, IsPlainCharacter};
+ghost use Rattle.icu_collator_core.specs.CollationNotes.{IsNoted, IsOwnBeginning, IsPlainCharacter};
 ghost use Rattle.icu_collator_core.specs.PlainWords.{IsUnprefixed};
 ghost use Rattle.icu_collator_core.specs.ReadSources.{IsAloneAnywhere};
 ghost use Rattle.icu_collator_core.specs.TableMeaning.{weights_of};
-ghost use Rattle.icu_collator_core.specs.TiedWords.{AreTied};
+ghost use Rattle.icu_collator_core.specs.UnsafeWords.{AreUnsafeByRecords};
 ghost use Rattle.icu_collator_core.specs.UnsafeCharacters.{IsUnsafe, IsUnsafeItself};
 
 use crate::check::TableFault;
 use crate::check::faults::judge;
 use crate::flat::notes::{FlatNote, flat_notes};
-use crate::low::{LowCharacter, low_characters};
+use crate::collation_notes::{CollationNote, collation_notes};
 use crate::reading::next::alone_at;
-use crate::reading::words::checked_word;
+use crate::reading::counting_words::checked_word;
 use crate::tables::CollationTables;
-use crate::tied::{holds, tied_characters};
+use crate::unsafe_characters::{holds, unsafe_by_records};
 use icu_collator_types::elements::CollationElement;
 use icu_normalizer_core::canonical::{CanonicalBorrowed, CanonicalData, Reading};
 use std::alloc::{AllocError, Global};
@@ -30,10 +30,10 @@ use std::marker::Model;
 pub struct CheckedTables<'a> {
     canonical: CanonicalData<'a>,
     tables: CollationTables<'a>,
-    /// The characters that are tied to what stands before them.
-    tied: Vec<u32>,
+    /// the characters that are unsafe by what is recorded.
+    unsafe_characters: Vec<u32>,
     /// What is noted of the low characters.
-    low: Vec<LowCharacter>,
+    low: Vec<CollationNote>,
     /// By what low characters are read flat.
     flat: Vec<FlatNote>,
 }
@@ -44,7 +44,7 @@ impl Drop for CheckedTables<'_> {
         let CheckedTables {
             canonical: _,
             tables: _,
-            tied: _,
+            unsafe_characters: _,
             low: _,
             flat: _,
         } = self;
@@ -55,32 +55,32 @@ impl<'a> Model for CheckedTables<'a> {
     ghost use Rattle.icu_normalizer_core.specs.CanonicalMeaning.{meaning};
     ghost use Rattle.icu_collator_core.specs.Acceptance.{CollationSource, IsAccepted};
     ghost use Rattle.icu_collator_core.specs.FlatNotes.{AreFlatNotes};
-    ghost use Rattle.icu_collator_core.specs.LowCharacters.{AreNoted};
+    ghost use Rattle.icu_collator_core.specs.CollationNotes.{AreNoted};
     ghost use Rattle.icu_collator_core.specs.TableMeaning.{weights_of};
-    ghost use Rattle.icu_collator_core.specs.TiedWords.{AreTied};
+    ghost use Rattle.icu_collator_core.specs.UnsafeWords.{AreUnsafeByRecords};
 
     ghost Value = { CollationSource };
 
     ghost view = { λ inside. record { canonical = inside.canonical; tables = inside.tables } };
 
     ghost invariant = { λ inside. IsAccepted (meaning inside.canonical) inside.tables
-        × AreTied (weights_of (meaning inside.canonical) inside.tables) inside.tied.items
+        × AreUnsafeByRecords (weights_of (meaning inside.canonical) inside.tables) inside.unsafe_characters.items
         × AreNoted (record { canonical = inside.canonical; tables = inside.tables }) inside.low.items
         × AreFlatNotes (record { canonical = inside.canonical; tables = inside.tables }) inside.flat.items };
 }
 
-/// The characters that tables tie, where they pass every check; else what they are refused for.
-fn judge_tied(
+/// The characters that tables make unsafe, where they pass every check; else what they are refused for.
+fn judge_unsafe(
     alloc: Global,
     canonical: CanonicalBorrowed<'_>,
     tables: &CollationTables<'_>,
 ) -> Result<Vec<u32>, TableFault>
     ensures { MatchResult result
-        (λ tied. IsAccepted (borrowed_meaning canonical.entry) tables.now × AreTied (weights_of (borrowed_meaning canonical.entry) tables.now) tied.items)
+        (λ unsafe_characters. IsAccepted (borrowed_meaning canonical.entry) tables.now × AreUnsafeByRecords (weights_of (borrowed_meaning canonical.entry) tables.now) unsafe_characters.items)
         (IsRefusal (borrowed_meaning canonical.entry) tables.now) }
 {
     judge(alloc, canonical, tables)?;
-    let characters = tied_characters(alloc, canonical, tables)?;
+    let characters = unsafe_by_records(alloc, canonical, tables)?;
     Ok(characters)
 }
 
@@ -114,12 +114,12 @@ impl<'a> CheckedTables<'a> {
             (λ checked. (checked ≡ record { canonical = canonical.entry; tables = tables.entry }) × IsAccepted (meaning canonical.entry) tables.entry)
             (IsRefusal (meaning canonical.entry) tables.entry) }
     {
-        match judge_tied(alloc, canonical.as_borrowed(), &tables) {
-            Ok(tied) => {
+        match judge_unsafe(alloc, canonical.as_borrowed(), &tables) {
+            Ok(unsafe_characters) => {
                 let checked = CheckedTables {
                     canonical,
                     tables,
-                    tied,
+                    unsafe_characters,
                     low: Vec::new(alloc),
                     flat: Vec::new(alloc),
                 };
@@ -133,7 +133,7 @@ impl<'a> CheckedTables<'a> {
     fn with_low(mut self, alloc: Global) -> Result<CheckedTables<'a>, AllocError>
         ensures { IfOk result (λ checked. checked ≡ self.entry) }
     {
-        let low = low_characters(alloc, &self)?;
+        let low = collation_notes(alloc, &self)?;
         let flat = flat_notes(alloc, &self)?;
         self.low = low;
         self.flat = flat;
@@ -179,7 +179,7 @@ impl<'a> CheckedTables<'a> {
     pub fn plain_element(&self, c: char) -> Option<CollationElement>
         ensures { IfSome result (λ bits. IsPlainCharacter self.now c bits) }
     {
-        let element = self.low_character(c)?.plain()?;
+        let element = self.collation_note(c)?.plain()?;
         Some(element)
     }
 
@@ -189,7 +189,7 @@ impl<'a> CheckedTables<'a> {
     pub fn is_own_beginning(&self, c: char) -> bool
         ensures { IsTrue result → IsOwnBeginning (meaning self.now.canonical) (weights_of (meaning self.now.canonical) self.now.tables) c }
     {
-        match self.low_character(c) {
+        match self.collation_note(c) {
             Some(note) => note.is_beginning(),
             None => self.find_own_beginning(c),
         }
@@ -205,7 +205,7 @@ impl<'a> CheckedTables<'a> {
 
     /// What is noted of a character; `None` for one behind the low characters.
     #[inline]
-    pub(crate) fn low_character(&self, c: char) -> Option<LowCharacter>
+    pub(crate) fn collation_note(&self, c: char) -> Option<CollationNote>
         ensures { IfSome result (λ note. IsNoted self.now c note) }
     {
         match self.low.get(c as usize) {
@@ -249,13 +249,13 @@ impl<'a> CheckedTables<'a> {
         }
     }
 
-    /// Whether a character is a mark, or tied to what stands before it.
+    /// Whether a character is a mark, or unsafe by what is recorded.
     fn is_unsafe_itself(&self, c: char) -> bool
         ensures { IsTrue result ↔ IsUnsafeItself (meaning self.now.canonical) (weights_of (meaning self.now.canonical) self.now.tables) c }
     {
         if !self.canonical().is_starter(c) {
             return true;
         }
-        holds(self.tied.as_slice(), c)
+        holds(self.unsafe_characters.as_slice(), c)
     }
 }

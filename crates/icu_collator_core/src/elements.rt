@@ -6,7 +6,7 @@ ghost use Rattle.icu_normalizer_core.specs.BuiltIn.{is_jamo};
 ghost use Rattle.icu_collator_core.specs.Defaults.{implicit_primary, jamo_primary, primary_element, special_primary};
 
 mod collation_elements;
-pub mod texts;
+pub mod whole_texts;
 mod upcoming;
 
 pub use collation_elements::CollationElements;

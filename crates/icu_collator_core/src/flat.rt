@@ -7,12 +7,12 @@ ghost use Rattle.icu_collator_core.specs.ElementLists.{unpacked};
 ghost use Rattle.icu_collator_core.specs.ElementTexts.{text_elements};
 ghost use Rattle.icu_collator_core.specs.FlatNotes.{IsPushed};
 
-mod list;
+mod flat_elements;
 pub(crate) mod notes;
 mod steps;
 
 use crate::checked::CheckedTables;
-pub use list::FlatElements;
+pub use flat_elements::FlatElements;
 use notes::note_of;
 pub use steps::FlatStep;
 

@@ -8,6 +8,9 @@ ghost use Rattle.icu_collator_types.specs.declared.elements.Element.{Element};
 ghost use Rattle.icu_collator_core.specs.Numbers.{number_elements, value_of};
 ghost use Rattle.icu_collator_core.specs.WholeNumbers.{IsWholeNumber, primaries_of};
 
+pub mod same;
+pub mod tables;
+pub mod texts;
 /// The primaries of two numbers of at most 254 digits, leading zeros aside, compare as the values
 /// do, whatever primaries follow them; those that follow decide only between equal values.
 #[tactic(auto, using(crate::proofs::numbers::NumberOrderLemmas::numbers_order))]

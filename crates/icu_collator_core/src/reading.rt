@@ -3,7 +3,7 @@
 pub(crate) mod alone;
 pub(crate) mod decomposing;
 pub(crate) mod digits;
-pub(crate) mod elements;
+pub(crate) mod word_elements;
 pub(crate) mod joining;
 pub(crate) mod marks;
 pub(crate) mod next;
@@ -14,4 +14,4 @@ pub(crate) mod reader;
 pub(crate) mod runs;
 pub(crate) mod steps;
 pub(crate) mod suffixes;
-pub(crate) mod words;
+pub(crate) mod counting_words;

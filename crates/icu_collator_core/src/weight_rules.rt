@@ -2,12 +2,12 @@
 //! them of what tables spell; a reader asks them of what the lines of a file say.
 
 mod apart;
-mod elements;
+mod element_rules;
 mod lead_bytes;
 mod ranges;
 
 pub use apart::are_apart;
-pub use elements::{
+pub use element_rules::{
     is_letter_lead, is_sound_element, is_sound_kind, is_sound_primary, is_sound_secondary,
     is_sound_tertiary,
 };

@@ -2,7 +2,7 @@
 //! and 32 bits a word of the tables; and characters as the reading of a text carries them.
 
 pub mod character_words;
-pub mod characters;
+pub mod classed_characters;
 pub mod element_bits;
 pub mod element_words;
 pub mod non_primaries;
@@ -11,7 +11,7 @@ mod trie_values;
 pub mod word_tags;
 
 pub use character_words::CharacterAndClassAndTrieValue;
-pub use characters::CharacterAndClass;
+pub use classed_characters::CharacterAndClass;
 pub use element_bits::CollationElement;
 pub use element_words::CollationElement32;
 pub use non_primaries::NonPrimary;

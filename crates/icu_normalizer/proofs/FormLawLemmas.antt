@@ -11,7 +11,7 @@ use Rattle.icu_normalizer_core.specs.Canonical.{Canonical, IsCanonical, put_in_o
 use Rattle.icu_normalizer_core.specs.Decoding.{utf8_chars, utf16_chars}
 use Rattle.icu_normalizer_core.specs.Forming.{IsForming, IsSaidOver}
 use Rattle.icu_normalizer_core.proofs.DecomposedLemmas.{AreScalar, all_append, put_swapped}
-use Rattle.icu_normalizer_core.proofs.TextLemmas.{utf8_text, utf16_text}
+use Rattle.icu_normalizer_core.proofs.CanonicalTextLemmas.{utf8_text, utf16_text}
 use Rattle.icu_normalizer_core.proofs.CompatibleLemmas.{forming_compatibility}
 use Rattle.icu_normalizer_core.proofs.FormingLemmas.{forming_canonical}
 use Rattle.icu_normalizer.specs.TextForms.{decomposed_text, composed_text}

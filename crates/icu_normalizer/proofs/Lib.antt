@@ -4,7 +4,7 @@ pub mod ComposedCutLemmas
 pub mod ComposedWalkLemmas
 pub mod ComposerLemmas
 pub mod ComposingLemmas
-pub mod CompositionLemmas
+pub mod FormCompositionLemmas
 pub mod CutLemmas
 pub mod equivalence
 pub mod FormCutLemmas
@@ -12,7 +12,7 @@ pub mod FormLawLemmas
 pub mod InsertLemmas
 pub mod ListLemmas
 pub mod LoneMarkLemmas
-pub mod LowCharacterLemmas
+pub mod FormNoteLemmas
 pub mod MappedLemmas
 pub mod OrderLemmas
 pub mod OwnLemmas
@@ -22,7 +22,7 @@ pub mod SinkLemmas
 pub mod SkipLemmas
 pub mod SplitLemmas
 pub mod TextCutLemmas
-pub mod TextLemmas
+pub mod FormTextLemmas
 pub mod TextWalkLemmas
 pub mod WeightLemmas
 pub mod WriterLemmas

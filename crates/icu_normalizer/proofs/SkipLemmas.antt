@@ -6,7 +6,7 @@ use Rattle.icu_normalizer_core.specs.Canonical.{Canonical, composing, recomposed
 use Rattle.icu_normalizer_core.specs.Boundaries.{HasBoundaryBefore, IsSteady}
 use Rattle.icu_normalizer_core.specs.Forming.{IsForming}
 use Rattle.icu_normalizer_core.proofs.DecomposedLemmas.{order_before, put_starter}
-use Rattle.icu_normalizer_core.proofs.StepLemmas.{decomposed_itself}
+use Rattle.icu_normalizer_core.proofs.CanonicalStepLemmas.{decomposed_itself}
 use Rattle.icu_normalizer.specs.TextCuts.{IsPassed}
 use Rattle.icu_normalizer.specs.Texts.{Text, AreCharacters, BeginsWith, IsAtEnd, IsEncoding}
 use Rattle.icu_normalizer.proofs.ComposingLemmas.{composed_nothing, composing_end, composing_joined, composing_begun, composing_kept, composing_cases, composed_never, never_second, recomposed_nothing, recomposed_begun, recomposed_passed}

@@ -9,7 +9,7 @@ use Rattle.icu_normalizer_core.specs.Canonical.{Canonical, put_in_order, marks_i
 use Rattle.icu_normalizer_core.specs.Forming.{IsForming, AreLowBelow}
 use Rattle.icu_normalizer_core.specs.Marks.{is_mark}
 use Rattle.icu_normalizer_core.proofs.DecomposedLemmas.{AreScalar, order_before}
-use Rattle.icu_normalizer_core.proofs.StepLemmas.{decomposed_itself}
+use Rattle.icu_normalizer_core.proofs.CanonicalStepLemmas.{decomposed_itself}
 use Rattle.icu_normalizer.specs.FormCuts.{ReachesBelow}
 use Rattle.icu_normalizer.specs.Splits.{IsDecomposed, IsInPlace}
 use Rattle.icu_normalizer.proofs.OwnLemmas.{AreOwn, decomposed_own}

@@ -7,7 +7,7 @@ pub mod Encodings
 pub mod Equivalence
 pub mod FormCuts
 pub mod LoneMarks
-pub mod LowCharacters
+pub mod FormNotes
 pub mod Marks
 pub mod Normalizers
 pub mod NormalizerTables

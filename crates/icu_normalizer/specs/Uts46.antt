@@ -3,7 +3,7 @@ use Rattle.std.specs.Prelude.{◌≡◌, ℕ, ◌+◌, ◌/◌, ◌%◌, ◌^◌
 use Rattle.std.specs.Char.{IsScalar}
 use Rattle.std.specs.Option.{unwrap_or}
 use Rattle.icu_codepointtrie.specs.Places.{value_at, has_cell}
-use Rattle.icu_normalizer_core.specs.declared.provider.lists.Uts46Tables.{Uts46Tables}
+use Rattle.icu_normalizer_core.specs.declared.provider.provider_lists.Uts46Tables.{Uts46Tables}
 
 -- what is done with a character
 pub data Mapping : Type 0 where

@@ -2,7 +2,7 @@
 use Rattle.std.specs.Prelude.{◌≡◌, ℕ, ◌+◌, ◌*◌, ◌≤◌, List, [], ◌++◌, length, option_to_list, Option, MatchOption}
 use Rattle.std.specs.Iterator.{Count}
 use Rattle.icu_normalizer_core.specs.Iter.{SourceSpells, SourceIsReady, source_size, source_calls, IsFirstOf}
-use Rattle.icu_normalizer.specs.declared.uts46.characters.MappedChars.{MappedChars}
+use Rattle.icu_normalizer.specs.declared.uts46.mapped_characters.MappedChars.{MappedChars}
 use Rattle.icu_normalizer.specs.Uts46.{mapper_of, mapped_with}
 
 -- what characters of the source become

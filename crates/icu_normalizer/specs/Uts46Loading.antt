@@ -4,7 +4,7 @@ use Rattle.icu_normalizer_core.specs.declared.canonical.tables.CanonicalTables.{
 use Rattle.icu_normalizer_core.specs.declared.provider.error.TableName.TheVariants.{Uts46}
 use Rattle.icu_normalizer_core.specs.declared.provider.error.DataError.{DataError}
 use Rattle.icu_normalizer_core.specs.declared.provider.error.DataError.TheVariants.{Missing, Invalid, Canonical, Memory}
-use Rattle.icu_normalizer_core.specs.declared.provider.lists.Uts46Tables.{Uts46Tables}
+use Rattle.icu_normalizer_core.specs.declared.provider.provider_lists.Uts46Tables.{Uts46Tables}
 use Rattle.icu_normalizer_core.specs.CanonicalFaults.{IsAccepted, IsFirstFault}
 use Rattle.icu_normalizer_core.specs.CanonicalMeaning.{lists_of}
 use Rattle.icu_normalizer.specs.Uts46.{IsMapperTable}

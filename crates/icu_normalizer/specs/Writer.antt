@@ -3,8 +3,8 @@ use Rattle.std.specs.Prelude.{◌≡◌, ℕ, ◌≤◌, List, ◌++◌, true, t
 use Rattle.icu_normalizer_core.specs.Canonical.{Canonical, marks_in_order}
 use Rattle.icu_normalizer_core.specs.FormData.{form_meaning}
 use Rattle.icu_normalizer.specs.declared.decomposing.writer.Writer.{Writer}
-use Rattle.icu_normalizer.specs.declared.low.LowCharacter.{LowCharacter}
-use Rattle.icu_normalizer.specs.LowCharacters.{noted_list}
+use Rattle.icu_normalizer.specs.declared.form_notes.FormNote.{FormNote}
+use Rattle.icu_normalizer.specs.FormNotes.{noted_list}
 use Rattle.icu_normalizer.specs.Marks.{stands_to}
 use Rattle.icu_normalizer.specs.Sinks.{AddsPrefix}
 
@@ -39,7 +39,7 @@ pub record KeepsDue (old : Writer) (read : List ℕ) (new : Writer) : Type 0 whe
   pub at : (rest : List ℕ) → marks_in_order (writer_data new).class (held new ++ rest) ≡ marks_in_order (writer_data old).class (held old ++ (read ++ rest))
 
 -- what is noted of a character fits behind what is held
-pub record Fits (writer : Writer) (c : ℕ) (note : LowCharacter) : Type 0 where
+pub record Fits (writer : Writer) (c : ℕ) (note : FormNote) : Type 0 where
   pub room : writer.count ≤ 61
   pub within : note.len ≤ 3
   pub full_is : (writer_data writer).full c ≡ noted_list note

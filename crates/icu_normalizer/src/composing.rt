@@ -14,7 +14,7 @@ mod clusters;
 mod composer;
 mod cuts;
 mod lone_mark;
-mod low;
+mod mostly_unchanged;
 mod normalizer;
 mod owned;
 

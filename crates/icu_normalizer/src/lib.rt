@@ -5,9 +5,9 @@
 pub mod composing;
 pub mod decomposing;
 pub mod laws;
-mod low;
+mod form_notes;
 mod owned_data;
 pub mod sinks;
-mod texts;
+mod text_sources;
 pub mod uts46;
 mod written;

@@ -6,10 +6,10 @@ ghost use Rattle.icu_normalizer_core.specs.CompatibilityLoading.{loaded_both, lo
 ghost use Rattle.icu_normalizer_core.specs.Loading.{loaded};
 ghost use Rattle.icu_normalizer_core.specs.FormData.{form_meaning, form_canonical, low_bound};
 ghost use Rattle.icu_normalizer_core.specs.declared.provider.error.DataError.TheVariants.{Memory};
-ghost use Rattle.icu_normalizer.specs.LowCharacters.{AreLow};
+ghost use Rattle.icu_normalizer.specs.FormNotes.{AreLow};
 ghost use Rattle.icu_normalizer.specs.NormalizerTables.{tables_of, tables_meaning, tables_bound, loaded_tables, IsMadeOfCanonical, IsMadeOfBoth};
 
-use crate::low::{LowCharacter, low_characters};
+use crate::form_notes::{FormNote, form_notes};
 use icu_normalizer_core::canonical::CanonicalData;
 use icu_normalizer_core::compatibility::CompatibilityData;
 use icu_normalizer_core::decomposition::FormData;
@@ -83,7 +83,7 @@ impl<'a> OwnedData<'a> {
 #[derive(Debug)]
 pub(crate) struct NotedData<'a> {
     pub(crate) owned: OwnedData<'a>,
-    low: Vec<LowCharacter>,
+    low: Vec<FormNote>,
     ghost notes: { AreLow (tables_meaning (tables_of owned)) low.items },
 }
 
@@ -99,12 +99,12 @@ impl<'a> NotedData<'a> {
     pub(crate) fn new(alloc: Global, owned: OwnedData<'a>) -> Result<NotedData<'a>, DataError>
         ensures { MatchResult result (λ noted. noted.owned ≡ owned.entry) (λ refusal. refusal ≡ Memory) }
     {
-        let low = low_characters(alloc, owned.as_form_data())?;
+        let low = form_notes(alloc, owned.as_form_data())?;
         Ok(NotedData { owned, low })
     }
 
     /// The notes of low characters.
-    pub(crate) fn low(&self) -> &[LowCharacter]
+    pub(crate) fn low(&self) -> &[FormNote]
         ensures { AreLow (tables_meaning (tables_of self.now.owned)) result.now }
     {
         &self.low

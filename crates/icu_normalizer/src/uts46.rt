@@ -1,9 +1,9 @@
 //! What is done with the characters of domain names (UTS 46). Begin with `Uts46Mapper::try_new`.
 
 mod borrowed;
-mod characters;
+mod mapped_characters;
 mod iter;
-mod list;
+mod mapped_list;
 mod mapper;
 mod table;
 

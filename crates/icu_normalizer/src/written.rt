@@ -9,7 +9,7 @@ ghost use Rattle.icu_normalizer.specs.Texts.{IsUndamaged};
 mod held;
 
 use crate::sinks::{NormError, TextSink};
-use crate::texts::{Text, WriteTo, valid_text};
+use crate::text_sources::{Text, WriteTo, valid_text};
 pub(crate) use held::{normal_bytes, normal_text, normal_units};
 use std::alloc::{AllocError, Global};
 

@@ -6,7 +6,7 @@ use Rattle.std.proofs.lemmas.Bool.{and_from, both_ways, cases_lt, eq-eqb}
 use Rattle.std.proofs.lemmas.Option.{none-some}
 use Rattle.icu_codepointtrie.specs.SharedBlocks.{IsTail, IsCellTail}
 use Rattle.icu_normalizer_core.specs.declared.canonical.tables.CanonicalTables.{CanonicalTables}
-use Rattle.icu_normalizer_core.specs.declared.canonical.words.Words.{Words}
+use Rattle.icu_normalizer_core.specs.declared.canonical.canonical_words.Words.{Words}
 use Rattle.icu_normalizer_core.specs.declared.compatibility.check.walk.Faults.{Faults}
 use Rattle.icu_normalizer_core.specs.CanonicalFaults.{NoneOffends, IsLeastOffender}
 use Rattle.icu_normalizer_core.specs.CanonicalLists.{CanonicalLists, canonical_of}

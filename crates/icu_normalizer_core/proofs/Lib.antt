@@ -35,10 +35,10 @@ pub mod SettlingLemmas
 pub mod SortLemmas
 pub mod SteadyCompatibilityLemmas
 pub mod SteadyLemmas
-pub mod StepLemmas
+pub mod CanonicalStepLemmas
 pub mod TableComputing
 pub mod TableMeanings
-pub mod TextLemmas
+pub mod CanonicalTextLemmas
 pub mod ToldLemmas
 pub mod TripleLemmas
 pub mod Utf16Lemmas

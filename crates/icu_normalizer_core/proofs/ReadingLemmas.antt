@@ -2,8 +2,8 @@
 use Rattle.std.proofs.Common.{◌≡◌, ℕ, ◌∙◌}
 use Rattle.icu_normalizer_core.specs.Canonical.{Canonical}
 use Rattle.icu_normalizer_core.specs.Readings.{IsTold, IsToldBy}
-use Rattle.icu_normalizer_core.specs.declared.canonical.reading.Reading.{Reading}
-use Rattle.icu_normalizer_core.specs.declared.canonical.reading.Reading.TheVariants.{Itself, Two, Three, Other}
+use Rattle.icu_normalizer_core.specs.declared.canonical.character_data.Reading.{Reading}
+use Rattle.icu_normalizer_core.specs.declared.canonical.character_data.Reading.TheVariants.{Itself, Two, Three, Other}
 use Rattle.icu_normalizer_core.specs.Words.{WordLists, full_in, class_in}
 
 pub told : (canonical : Canonical) (words : WordLists) (c : ℕ) → canonical.full c ≡ full_in words c → canonical.class c ≡ class_in words c

@@ -5,7 +5,7 @@ use Rattle.icu_normalizer_core.specs.declared.canonical.tables.CanonicalTables.{
 use Rattle.icu_normalizer_core.specs.declared.compatibility.tables.NfkdTables.{NfkdTables}
 use Rattle.icu_normalizer_core.specs.declared.provider.error.DataError.{DataError}
 use Rattle.icu_normalizer_core.specs.declared.provider.error.DataError.TheVariants.{Missing, Invalid, Canonical, Memory}
-use Rattle.icu_normalizer_core.specs.declared.provider.lists.NfkdLists.{NfkdLists}
+use Rattle.icu_normalizer_core.specs.declared.provider.provider_lists.NfkdLists.{NfkdLists}
 use Rattle.icu_normalizer_core.specs.CanonicalMeaning.{lists_of}
 use Rattle.icu_normalizer_core.specs.CanonicalFaults.{IsAccepted, IsFirstFault}
 use Rattle.icu_normalizer_core.specs.CompatibilityFaults.{AreAcceptedWords, IsFirstWordFault}

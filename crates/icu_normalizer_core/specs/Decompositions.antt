@@ -7,14 +7,14 @@ use Rattle.icu_normalizer_core.specs.Iter.{SourceSpells, SourceIsReady, source_s
 use Rattle.icu_normalizer_core.specs.Run.{reordered, held, data_of}
 
 -- what the data of an iterator say of characters
-abbrev pub canonical_of : {I : Type 0} → Decomposition I → Canonical
-canonical_of s = data_of s.run
+abbrev pub canonical_by_run : {I : Type 0} → Decomposition I → Canonical
+canonical_by_run s = data_of s.run
 
 -- these characters are still to come, unless memory runs out
 pub record DecomposesTo {I : Type 0} (steps : I → Option ℕ → I → Type 0) (s : Decomposition I) (out : List ℕ) : Type 0 where
   pub unread : List ℕ
   pub source : SourceSpells steps s.done s.chars unread
-  pub text : out ≡ reordered s.run (flat_map (canonical_of s).full unread)
+  pub text : out ≡ reordered s.run (flat_map (canonical_by_run s).full unread)
 
 -- nothing is to come, and the source is not called again
 pub record IsFinished {I : Type 0} (s : Decomposition I) : Type 0 where

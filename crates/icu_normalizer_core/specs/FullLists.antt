@@ -2,7 +2,7 @@
 use Rattle.std.specs.Prelude.{ℕ, ◌-◌, ◌≤◌, List, length}
 use Rattle.std.specs.List.{All}
 use Rattle.std.specs.Char.{IsScalar}
-use Rattle.icu_normalizer_core.specs.declared.canonical.words.Words.{Words}
+use Rattle.icu_normalizer_core.specs.declared.canonical.canonical_words.Words.{Words}
 use Rattle.icu_normalizer_core.specs.declared.canonical.full_list.Source.{Source}
 use Rattle.icu_normalizer_core.specs.declared.canonical.full_list.Source.TheVariants.{Few, In16, In24}
 use Rattle.icu_normalizer_core.specs.CanonicalWords.{items_at}

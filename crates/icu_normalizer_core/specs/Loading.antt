@@ -6,7 +6,7 @@ use Rattle.icu_normalizer_core.specs.declared.canonical.data.CanonicalDataError.
 use Rattle.icu_normalizer_core.specs.declared.canonical.tables.CanonicalTables.{CanonicalTables}
 use Rattle.icu_normalizer_core.specs.declared.provider.error.DataError.{DataError}
 use Rattle.icu_normalizer_core.specs.declared.provider.error.DataError.TheVariants.{Missing, Invalid, Canonical, Memory}
-use Rattle.icu_normalizer_core.specs.declared.provider.lists.NfdLists.{NfdLists}
+use Rattle.icu_normalizer_core.specs.declared.provider.provider_lists.NfdLists.{NfdLists}
 use Rattle.icu_normalizer_core.specs.CanonicalMeaning.{lists_of}
 use Rattle.icu_normalizer_core.specs.CanonicalFaults.{IsAccepted, IsFirstFault}
 

@@ -2,8 +2,8 @@
 use Rattle.std.specs.Prelude.{◌≡◌, ℕ, [], ◌∷◌}
 use Rattle.icu_normalizer_core.specs.Canonical.{Canonical}
 use Rattle.icu_normalizer_core.specs.Words.{WordLists, full_in, class_in}
-use Rattle.icu_normalizer_core.specs.declared.canonical.reading.Reading.{Reading}
-use Rattle.icu_normalizer_core.specs.declared.canonical.reading.Reading.TheVariants.{Itself, Two, Three, Other}
+use Rattle.icu_normalizer_core.specs.declared.canonical.character_data.Reading.{Reading}
+use Rattle.icu_normalizer_core.specs.declared.canonical.character_data.Reading.TheVariants.{Itself, Two, Three, Other}
 
 -- what it tells of the character is so
 abbrev pub IsTold : Canonical → ℕ → Reading → Type 0

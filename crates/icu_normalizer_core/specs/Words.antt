@@ -2,7 +2,7 @@
 use Rattle.std.specs.Prelude.{ℕ, Bool, List}
 use Rattle.std.specs.Option.{unwrap_or}
 use Rattle.icu_codepointtrie.specs.Places.{value_at, has_cell}
-use Rattle.icu_normalizer_core.specs.declared.canonical.words.Words.{Words}
+use Rattle.icu_normalizer_core.specs.declared.canonical.canonical_words.Words.{Words}
 use Rattle.icu_normalizer_core.specs.CanonicalLists.{CanonicalLists}
 use Rattle.icu_normalizer_core.specs.CanonicalWords.{plain_word, is_inside, class_of_word, full_of_word}
 

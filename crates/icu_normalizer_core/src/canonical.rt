@@ -7,12 +7,12 @@ mod data;
 pub(crate) mod full_list;
 mod packing;
 mod pairs;
-mod reading;
+mod character_data;
 mod search;
 pub(crate) mod steady;
 mod steps;
 pub(crate) mod tables;
-pub(crate) mod words;
+pub(crate) mod canonical_words;
 
 pub use borrowed::CanonicalBorrowed;
 pub use builder::{
@@ -20,5 +20,5 @@ pub use builder::{
 };
 pub use data::{CanonicalData, CanonicalDataError};
 pub use full_list::FullList;
-pub use reading::Reading;
+pub use character_data::Reading;
 pub use tables::{CanonicalFault, CanonicalTables};

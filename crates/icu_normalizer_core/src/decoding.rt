@@ -243,7 +243,7 @@ impl<'a> Clone for Latin1Chars<'a> {
 
 /// The law that text reads as it was written: characters that UTF-8 or UTF-16 encodes are the characters that its
 /// bytes or units decode to. It does nothing when it runs.
-#[tactic(auto, using(crate::proofs::TextLemmas::utf8_text, crate::proofs::TextLemmas::utf16_text))]
+#[tactic(auto, using(crate::proofs::CanonicalTextLemmas::utf8_text, crate::proofs::CanonicalTextLemmas::utf16_text))]
 pub fn text_reads_as_written()
     ensures utf8 { (chars : List ℕ) → All IsScalar chars → utf8_chars (encode_utf8_all chars) ≡ chars }
     ensures utf16 { (chars : List ℕ) → All IsScalar chars → utf16_chars (flat_map encode_utf16 chars) ≡ chars }

@@ -31,7 +31,7 @@ pub struct Decomposition<'d, I> {
 }
 
 impl<'d, I: Iterator<Item = char> + Drop> Decomposition<'d, I> {
-    ghost use Rattle.icu_normalizer_core.specs.Decompositions.{DecomposesTo, CanDecompose, IsFinished, canonical_of, decomposition_size, pulls_left};
+    ghost use Rattle.icu_normalizer_core.specs.Decompositions.{DecomposesTo, CanDecompose, IsFinished, canonical_by_run, decomposition_size, pulls_left};
 
     /// The decomposed list of the characters that `chars` gives, by canonical data.
     #[inline]
@@ -70,7 +70,7 @@ impl<'d, I: Iterator<Item = char> + Drop> Decomposition<'d, I> {
         ensures size { IfOk result (λ out. decomposition_size I.remaining self.new + length (option_to_list out) ≤ decomposition_size I.remaining self.old) }
         ensures nearer { OnOk result (pulls_left I.remaining self.new < pulls_left I.remaining self.old) }
         ensures some { OnErr result (0 < decomposition_size I.remaining self.old) }
-        ensures same { canonical_of self.new ≡ canonical_of self.old }
+        ensures same { canonical_by_run self.new ≡ canonical_by_run self.old }
     {
         let Some(c) = self.chars.next() else {
             self.run.finish()?;
@@ -90,7 +90,7 @@ impl<'d, I: Iterator<Item = char> + Drop> Decomposition<'d, I> {
         ensures finished { IsFinished self.new }
         ensures ready { CanDecompose I.can_next I.remaining self.new }
         ensures size { decomposition_size I.remaining self.new ≡ 0 }
-        ensures same { canonical_of self.new ≡ canonical_of self.old }
+        ensures same { canonical_by_run self.new ≡ canonical_by_run self.old }
     {
         self.run.clear();
         self.done = true;

@@ -3,19 +3,19 @@
 ghost use Rattle.std.specs.Prelude.{ℕ, List, Result};
 ghost use Rattle.icu_codepointtrie.specs.Places.{TrieTables};
 ghost use Rattle.icu_normalizer_core.specs.declared.provider.error.DataError.{DataError};
-ghost use Rattle.icu_normalizer_core.specs.declared.provider.lists.NfdLists.{NfdLists};
-ghost use Rattle.icu_normalizer_core.specs.declared.provider.lists.NfkdLists.{NfkdLists};
-ghost use Rattle.icu_normalizer_core.specs.declared.provider.lists.Uts46Tables.{Uts46Tables};
+ghost use Rattle.icu_normalizer_core.specs.declared.provider.provider_lists.NfdLists.{NfdLists};
+ghost use Rattle.icu_normalizer_core.specs.declared.provider.provider_lists.NfkdLists.{NfkdLists};
+ghost use Rattle.icu_normalizer_core.specs.declared.provider.provider_lists.Uts46Tables.{Uts46Tables};
 ghost use Rattle.icu_normalizer_core.specs.Loading.{MemoryAside};
 
 mod error;
-mod lists;
+mod provider_lists;
 mod load;
 
 pub use error::{DataError, TableName};
 use icu_codepointtrie::CodePointTrie;
 use icu_packed_vector::PackedVec;
-pub use lists::{NfdLists, NfkdLists, Uts46Tables};
+pub use provider_lists::{NfdLists, NfkdLists, Uts46Tables};
 pub use load::{load_canonical, load_canonical_data, load_compatibility_data};
 use std::alloc::Global;
 

@@ -18,7 +18,7 @@ use Rattle.collate_rules.specs.Rules.{IsLong}
 use Rattle.collate_rules.proofs.given.GrammarLemmas.{line_keeps_widths}
 use Rattle.collate_rules.proofs.offenders.LineRuleLemmas.{each_line}
 use Rattle.collate_words.specs.Fits.{AreFit, fits_bits}
-use Rattle.collate_compile.proofs.laws.CharacterLemmas.{AreCharacters, HasCharacters, line_has_characters}
+use Rattle.collate_compile.proofs.laws.CompiledCharacterLemmas.{AreCharacters, HasCharacters, line_has_characters}
 
 -- ---- A line
 

@@ -17,8 +17,8 @@ use Rattle.collate_rules.proofs.lookups.FoundLemmas.{found_at}
 use Rattle.collate_rules.proofs.records.RecordedLemmas.{first_found-is_some}
 use Rattle.collate_words.specs.Fits.{AreFit}
 use Rattle.collate_compile.proofs.gathering.AcceptedLineLemmas.{accepted_can_write}
-use Rattle.collate_compile.proofs.gathering.EntryLemmas.{recorded_fit}
-use Rattle.collate_compile.proofs.laws.LineLemmas.{elements_line}
+use Rattle.collate_compile.proofs.gathering.GatheringEntryLemmas.{recorded_fit}
+use Rattle.collate_compile.proofs.laws.CompiledLineLemmas.{elements_line}
 
 module _ (records : List Record) (c : ℕ) (jamo : is_jamo c ≡ true) where
   -- a line that records a jamo alone, and that isn't replaced

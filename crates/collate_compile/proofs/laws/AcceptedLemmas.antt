@@ -29,12 +29,12 @@ use Rattle.collate_compile.specs.Compiled.{AreCompiledFrom}
 use Rattle.collate_compile.specs.Layers.{IsTailoringOf}
 use Rattle.collate_compile.specs.LineSayings.{is_tailored, ranged_saying}
 use Rattle.collate_compile.proofs.laws.ApartLemmas.{weights_apart}
-use Rattle.collate_compile.proofs.laws.CaseLemmas.{IsCase, root_case, tailoring_case}
-use Rattle.collate_compile.proofs.laws.ContextLemmas.{keeps_rules, ranged_keeps_rules}
+use Rattle.collate_compile.proofs.laws.CompiledCaseLemmas.{IsCase, root_case, tailoring_case}
+use Rattle.collate_compile.proofs.laws.CompiledContextLemmas.{keeps_rules, ranged_keeps_rules}
 use Rattle.collate_compile.proofs.laws.MeaningLemmas.{saying_means}
-use Rattle.collate_compile.proofs.laws.SamenessLemmas.{digit_same}
-use Rattle.collate_compile.proofs.laws.SettingLemmas.{all_jamo_pass, diacritics_pass, primaries_pass, reordering_passes}
-use Rattle.collate_compile.proofs.laws.WordLemmas.{range_of_lines, saying_of_lines, words_sound}
+use Rattle.collate_compile.proofs.laws.CompiledSamenessLemmas.{digit_same}
+use Rattle.collate_compile.proofs.laws.CompiledSettingLemmas.{all_jamo_pass, diacritics_pass, primaries_pass, reordering_passes}
+use Rattle.collate_compile.proofs.laws.CompiledWordLemmas.{range_of_lines, saying_of_lines, words_sound}
 
 -- a word of the root is one of a tailoring
 word_of_layer : (layer : Layer) (pools : Pools) (word : ℕ) → IsWord Root pools word → IsWord layer pools word

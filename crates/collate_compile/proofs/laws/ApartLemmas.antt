@@ -30,11 +30,11 @@ use Rattle.collate_rules.specs.Meaning.{recorded_in, weights_of}
 use Rattle.collate_compile.specs.Compiled.{AreCompiledFrom, AreJamoOf}
 use Rattle.collate_compile.specs.Layers.{IsTailoringOf}
 use Rattle.collate_compile.specs.LineSayings.{is_tailored, offset_of}
-use Rattle.collate_compile.proofs.laws.CaseLemmas.{IsCase, root_case, tailoring_case}
+use Rattle.collate_compile.proofs.laws.CompiledCaseLemmas.{IsCase, root_case, tailoring_case}
 use Rattle.collate_compile.proofs.laws.JamoLemmas.{StatesJamo, jamo_stated}
 use Rattle.collate_compile.proofs.laws.MeaningLemmas.{ranged_alike}
 use Rattle.collate_compile.proofs.laws.OwnPrimaryLemmas.{jamo_bounds, jamo_lead, sound_lead}
-use Rattle.collate_compile.proofs.laws.WordLemmas.{among_of_lines, range_of_lines, ranged_among, saying_of_lines}
+use Rattle.collate_compile.proofs.laws.CompiledWordLemmas.{among_of_lines, range_of_lines, ranged_among, saying_of_lines}
 
 -- ---- Beginnings
 

@@ -17,7 +17,7 @@ use Rattle.collate_lines.specs.Record.{Record, nothing, class, mapping, compatib
 use Rattle.collate_rules.specs.Accepted.{AreAccepted}
 use Rattle.collate_rules.specs.GivenWeights.{BreakRanges, are_sound_ranges, given_elements, given_ranges, leads_to, numeric_to, ranges_of}
 use Rattle.collate_rules.specs.Meaning.{first_found, is_compressible_in, numeric_in, range_in, set_to, span_of, weights_of}
-use Rattle.collate_rules.proofs.given.ListLemmas.{list_all_tells}
+use Rattle.collate_rules.proofs.given.GivenListLemmas.{list_all_tells}
 use Rattle.collate_rules.proofs.offenders.BreachLemmas.{none_together}
 use Rattle.collate_compile.proofs.laws.OwnPrimaryLemmas.{jamo_bounds}
 

@@ -18,8 +18,8 @@ use Rattle.collate_rules.specs.RecordRules.{breaks_digits, breaks_marks_last, br
 use Rattle.collate_rules.specs.Rules.{IsLong}
 use Rattle.collate_rules.proofs.lookups.FoundLemmas.{found_at}
 use Rattle.collate_rules.proofs.offenders.BreachLemmas.{none_together}
-use Rattle.collate_compile.proofs.laws.CharacterLemmas.{AreCharacters, HasCharacters, line_has_characters}
-use Rattle.collate_compile.proofs.laws.LineLemmas.{none_at, recorded_line}
+use Rattle.collate_compile.proofs.laws.CompiledCharacterLemmas.{AreCharacters, HasCharacters, line_has_characters}
+use Rattle.collate_compile.proofs.laws.CompiledLineLemmas.{none_at, recorded_line}
 
 not_both : (b : Bool) → not (not b) ≡ b
 not_both true = refl

@@ -28,7 +28,7 @@ use Rattle.collate_compile.specs.Compiled.{AreCompiledFrom, IsJamoWord}
 use Rattle.collate_compile.specs.Layers.{IsRootOf, IsTailoringOf, IsUnwritten, IsWrittenOf}
 use Rattle.collate_compile.specs.LineSayings.{IsSaidAfter, IsSaidBehind, IsSayingOf, begins_line, is_rooted, is_tailored, offset_bits, offset_of, ranged_saying}
 use Rattle.collate_compile.proofs.laws.JamoLemmas.{jamo_means, jamo_stated}
-use Rattle.collate_compile.proofs.laws.LineLemmas.{unbegun}
+use Rattle.collate_compile.proofs.laws.CompiledLineLemmas.{unbegun}
 use Rattle.collate_compile.proofs.laws.MeaningLemmas.{Means, implicit_means, saying_means}
 use Rattle.collate_compile.proofs.laws.OwnPrimaryLemmas.{jamo_bounds}
 use Rattle.collate_compile.proofs.laws.RuleLemmas.{digit_may_be}

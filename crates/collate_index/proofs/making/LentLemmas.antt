@@ -13,7 +13,7 @@ use Rattle.collate_rules.specs.Accepted.{AreAccepted}
 use Rattle.collate_rules.specs.Meaning.{collation_of}
 use Rattle.collate_laws.specs.Alike.{key_of, order_of}
 use Rattle.collate_laws.specs.OverRecords.{IsCollatorOf}
-use Rattle.collate_laws.proofs.AnswerLemmas.{keys, orders}
+use Rattle.collate_laws.proofs.LawAnswerLemmas.{keys, orders}
 use Rattle.collate_index.specs.Catalogue.{Catalogue, options_in, preferences_of}
 
 module _ (c : Catalogue) (collator : CollatorParts) (accepted : AreAccepted c.records)

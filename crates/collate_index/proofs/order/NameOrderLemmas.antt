@@ -21,8 +21,8 @@ use Rattle.icu_collator.proofs.orders.TotalOrderLemmas.{collation_order_total}
 use Rattle.icu_collator.proofs.keys.TextKeyLemmas.{text_keys_order}
 use Rattle.collate_rules.specs.Accepted.{AreAccepted}
 use Rattle.collate_rules.specs.Meaning.{collation_of}
-use Rattle.collate_records.proofs.reading.AcceptedLemmas.{accepted_decompose}
-use Rattle.collate_laws.proofs.SoundLemmas.{accepted_sound}
+use Rattle.collate_records.proofs.reading.ReadingAcceptedLemmas.{accepted_decompose}
+use Rattle.collate_laws.proofs.LawSoundLemmas.{accepted_sound}
 use Rattle.collate_index.specs.Meaning.{Meaning, name_order, order_by}
 
 either_total : (b : Bool) (R S : List ℕ → List ℕ → Ordering) → IsTotalOrder R → IsTotalOrder S → IsTotalOrder (λ x y. cond b (R x y) (S x y))

@@ -10,7 +10,7 @@ use Rattle.icu_normalizer_core.proofs.DecodedLemmas.{utf8_scalars}
 use Rattle.icu_collator_types.specs.Options.{resolved_options}
 use Rattle.icu_collator_types.specs.declared.options.ResolvedCollatorOptions.{ResolvedCollatorOptions}
 use Rattle.icu_collator.specs.KeyBytes.{key_of_text}
-use Rattle.icu_collator.proofs.orders.SamenessLemmas.{reached_keys}
+use Rattle.icu_collator.proofs.orders.OrderSamenessLemmas.{reached_keys}
 use Rattle.collate_lines.specs.Record.{Record}
 use Rattle.collate_lines.specs.declared.rule.RecordsError.{RecordsError}
 use Rattle.collate_lines.specs.declared.rule.RecordsError.TheVariants.{Fault, Memory as NoMemory}
@@ -19,7 +19,7 @@ use Rattle.collate_rules.specs.Meaning.{collation_of}
 use Rattle.collate_records.specs.Changes.{AreSettingsEqual}
 use Rattle.collate_records.specs.Files.{Refuses}
 use Rattle.collate_records.proofs.comparing.LocalityLemmas.{leads_alike, read_alike, settings_alike}
-use Rattle.collate_records.proofs.reading.AcceptedLemmas.{accepted_decompose}
+use Rattle.collate_records.proofs.reading.ReadingAcceptedLemmas.{accepted_decompose}
 use Rattle.collate_laws.specs.Unchanged.{ReachesUnchanged}
 use Rattle.collate_name_list.specs.StoredNames.{StoredName, names_of}
 use Rattle.collate_index.specs.Catalogue.{AreDistinct, Catalogue, meaning_in, options_in, preferences_of, reloaded}

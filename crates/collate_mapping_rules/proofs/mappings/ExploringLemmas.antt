@@ -10,7 +10,7 @@ use Rattle.std.proofs.lemmas.Bool.Decides.{Decides-eqb}
 use Rattle.icu_normalizer_core.specs.Canonical.{Reaches, stands}
 use Rattle.collate_rules.specs.Reached.{with_all, AreSmall, IsExploring}
 use Rattle.collate_rules.proofs.mappings.LoopLemmas.{reaches_on, reached_in_closed}
-use Rattle.collate_mapping_rules.proofs.mappings.ReachedLemmas.{with_all-keeps, with_all-has, with_all-only, with_all-extends, with_all-distinct}
+use Rattle.collate_mapping_rules.proofs.mappings.MappingReachedLemmas.{with_all-keeps, with_all-has, with_all-only, with_all-extends, with_all-distinct}
 
 distinct_none : IsDistinct nat_eq []
 unfolding IsDistinct

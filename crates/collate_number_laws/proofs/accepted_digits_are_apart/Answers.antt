@@ -1,4 +1,4 @@
-use Rattle.collate_number_laws.proofs.ApartLemmas.{digits_apart, numbers_together}
+use Rattle.collate_number_laws.proofs.NumberLawApartLemmas.{digits_apart, numbers_together}
 use Rattle.collate_number_laws.proofs.accepted_digits_are_apart.Goals as goal
 
 pub returns : goal.returns

@@ -1,4 +1,4 @@
-use Rattle.collate_number_laws.proofs.NumberLemmas.{equal_key, lower_key}
+use Rattle.collate_number_laws.proofs.FileNumberLemmas.{equal_key, lower_key}
 use Rattle.collate_number_laws.proofs.number_keys_of_files_order_by_value.Goals as goal
 
 pub returns : goal.returns

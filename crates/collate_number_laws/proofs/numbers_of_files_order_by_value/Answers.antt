@@ -1,4 +1,4 @@
-use Rattle.collate_number_laws.proofs.NumberLemmas.{equal, higher, lower}
+use Rattle.collate_number_laws.proofs.FileNumberLemmas.{equal, higher, lower}
 use Rattle.collate_number_laws.proofs.numbers_of_files_order_by_value.Goals as goal
 
 pub returns : goal.returns

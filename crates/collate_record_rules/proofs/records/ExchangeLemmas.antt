@@ -9,7 +9,7 @@ use Rattle.icu_collator_core.specs.WeightRules.{is_letter_lead}
 use Rattle.icu_collator_core.proofs.apart.GrowthLemmas.{first_in, later_in}
 use Rattle.collate_rules.specs.KeptSettings.{ExchangesLeads}
 use Rattle.collate_rules.specs.Meaning.{first_found, place_among}
-use Rattle.collate_rules.proofs.given.ListLemmas.{list_all_tells}
+use Rattle.collate_rules.proofs.given.GivenListLemmas.{list_all_tells}
 
 -- ---- The lead that pairs give
 

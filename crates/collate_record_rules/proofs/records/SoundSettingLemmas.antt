@@ -15,7 +15,7 @@ use Rattle.collate_rules.specs.Offenders.{NoneOffends}
 use Rattle.collate_rules.specs.SettingLines.{are_bad_groups, are_bad_settings, breaks_settings, compress_of, groups_of, is_compressible_by, numeric_of, reorder_of}
 use Rattle.collate_record_rules.proofs.records.ExchangeLemmas.{exchanges}
 use Rattle.collate_rules.proofs.offenders.BreachLemmas.{none_together}
-use Rattle.collate_record_rules.proofs.records.SettingLemmas.{none_set}
+use Rattle.collate_record_rules.proofs.records.RecordSettingLemmas.{none_set}
 
 -- ---- What the rule leaves
 

@@ -23,7 +23,7 @@ use Rattle.collate_rules.specs.GivenWeights.{are_all_disjoint, are_sound_ranges,
 use Rattle.collate_rules.specs.Meaning.{alternate_in, backward_in, canonical_of, case_first_in, class_in, collation_of, composed_in, compress_in, digit_in, dot_above_in, elements_in, expanded, first_found, groups_in, is_built_in, mapping_in, max_variable_in, numeric_in, pair_of, place_among, range_in, recorded_in, reorder_in, set_to, settings_of, step_of, weights_of}
 use Rattle.collate_rules.specs.Offenders.{NoneOffends}
 use Rattle.collate_rules.specs.Rules.{is_same_pair, pair_in}
-use Rattle.collate_rules.proofs.lists.FullListLemmas.{by_first, expanded-suc, expanded_none}
+use Rattle.collate_rules.proofs.lists.RuleFullListLemmas.{by_first, expanded-suc, expanded_none}
 use Rattle.collate_rules.proofs.offenders.BreachLemmas.{none_together}
 use Rattle.collate_records.specs.Changes.{AreSettingsEqual}
 use Rattle.collate_records.proofs.comparing.LocalityLemmas.{leads_alike, ranged_alike, settings_alike}

@@ -10,13 +10,13 @@ use Rattle.collate_provider.specs.Provided.{Provided}
 use Rattle.collate_rules.specs.Accepted.{AreAccepted}
 use Rattle.collate_compile.specs.Compiled.{AreCompiledFrom}
 use Rattle.collate_compile.proofs.laws.AcceptedLemmas.{compiled_accepted}
-use Rattle.collate_records.proofs.reading.SoundSettingLemmas.{accepted_soundly_set}
-use Rattle.collate_compile.proofs.laws.SettingLemmas.{whole_leads}
-use Rattle.collate_compile.proofs.laws.SamenessLemmas.{same_settings, same_weights}
+use Rattle.collate_records.proofs.reading.ReadingSoundSettingLemmas.{accepted_soundly_set}
+use Rattle.collate_compile.proofs.laws.CompiledSettingLemmas.{whole_leads}
+use Rattle.collate_compile.proofs.laws.CompiledSamenessLemmas.{same_settings, same_weights}
 use Rattle.collate_records.specs.CompiledOf.{IsCompiledOf}
 use Rattle.collate_records.specs.Maps.{AreWordsOf, maps_of}
-use Rattle.collate_records.proofs.maps.AcceptedMapLemmas.{accepted_same}
-use Rattle.collate_records.proofs.reading.SoundWeightLemmas.{accepted_weights}
+use Rattle.collate_records.proofs.maps.AcceptedAllMapsLemmas.{accepted_same}
+use Rattle.collate_records.proofs.reading.ReadingSoundWeightLemmas.{accepted_weights}
 
 pub compiled_of : (records : List Record) (provided : Provided) → AreAccepted records
     → IsAcceptedCanonical (lists_of provided.canonical) → AreMeaning (maps_of records) (meaning provided.canonical)

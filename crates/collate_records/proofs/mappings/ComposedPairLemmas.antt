@@ -20,11 +20,11 @@ use Rattle.collate_rules.specs.Rules.{pair_in, HasBadSecond, HasBadLow}
 use Rattle.collate_rules.specs.Offenders.{NoneOffends}
 use Rattle.collate_rules.proofs.lists.LowLemmas.{HasBadLow-none}
 use Rattle.collate_rules.proofs.lookups.FoundLemmas.{found_at}
-use Rattle.collate_records.proofs.lookups.KeyLemmas.{mapping-absent}
-use Rattle.collate_records.proofs.mappings.StepLemmas.{step_of-built_in, some_or_none}
-use Rattle.collate_rules.proofs.lookups.LookupLemmas.{first_found-append}
+use Rattle.collate_records.proofs.lookups.LookedUpKeyLemmas.{mapping-absent}
+use Rattle.collate_records.proofs.mappings.MappingStepLemmas.{step_of-built_in, some_or_none}
+use Rattle.collate_rules.proofs.lookups.RuleLookupLemmas.{first_found-append}
 use Rattle.collate_rules.proofs.offenders.BreachLemmas.{none_together}
-use Rattle.collate_rules.proofs.offenders.PairLemmas.{good_second}
+use Rattle.collate_rules.proofs.offenders.OffenderPairLemmas.{good_second}
 
 -- a list that isn't some is none
 none_left : (ds : List ℕ) → ((ds ≢ []) → ⊥) → ds ≡ []

@@ -24,8 +24,8 @@ use Rattle.collate_rules.specs.Rules.{MapsHangul, compatibility_full_of, is_mapp
 use Rattle.collate_rules.proofs.offenders.LineRuleLemmas.{each_line}
 use Rattle.collate_rules.specs.Accepted.{AreAccepted}
 use Rattle.collate_records.specs.Maps.{AreAllMapsOf, AreWordsOf, compatibilities_in, compatibility_pair, mappings_in, maps_of}
-use Rattle.collate_records.proofs.mappings.StepLemmas.{step_of-compatibility}
-use Rattle.collate_records.proofs.maps.AcceptedMapLemmas.{accepted_consistent, accepted_few, accepted_maps}
+use Rattle.collate_records.proofs.mappings.MappingStepLemmas.{step_of-compatibility}
+use Rattle.collate_records.proofs.maps.AcceptedAllMapsLemmas.{accepted_consistent, accepted_few, accepted_maps}
 use Rattle.collate_records.proofs.maps.AnyStepLemmas.{any_begins, any_built_in, any_by_lines, any_ends, any_short, low_compatibility, low_unmapped, mapped_by_line, no_marks}
 use Rattle.collate_records.proofs.maps.CompatibilityLineLemmas.{all_pairs, each_found, each_mapped, first_for, first_for-lines, given_for}
 use Rattle.collate_records.proofs.maps.MapLineLemmas.{given_step-maps}

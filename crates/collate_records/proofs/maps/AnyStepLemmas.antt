@@ -18,16 +18,16 @@ use Rattle.collate_rules.specs.Rules.{HasBadList, HasBadLow, HasLoop, MapsMark, 
 use Rattle.collate_rules.proofs.lookups.FoundLemmas.{mapping_line}
 use Rattle.collate_rules.proofs.lists.BadListLemmas.{HasBadList-none}
 use Rattle.collate_rules.proofs.lists.LowLemmas.{HasBadLow-none}
-use Rattle.collate_rules.proofs.mappings.EndingLemmas.{ends}
+use Rattle.collate_rules.proofs.mappings.MappingEndingLemmas.{ends}
 use Rattle.collate_rules.proofs.mappings.LoopPartLemmas.{HasLoop-none}
 use Rattle.collate_rules.proofs.offenders.BreachLemmas.{none_together}
 use Rattle.collate_rules.proofs.offenders.MappedMarkLemmas.{MapsMark-none}
 use Rattle.collate_rules.specs.Accepted.{AreAccepted, IsSaid}
 use Rattle.collate_records.specs.Maps.{MapsToSome}
-use Rattle.collate_records.proofs.mappings.StepLemmas.{some_or_none, step_scalars}
+use Rattle.collate_records.proofs.mappings.MappingStepLemmas.{some_or_none, step_scalars}
 use Rattle.collate_records.proofs.maps.CompatibilityLineLemmas.{compatibility_line}
-use Rattle.collate_records.proofs.reading.AcceptedLemmas.{said_scalars}
-use Rattle.collate_records.proofs.reading.ScalarLemmas.{compatibility_scalar, compatibility_some, mapped_scalar}
+use Rattle.collate_records.proofs.reading.ReadingAcceptedLemmas.{said_scalars}
+use Rattle.collate_records.proofs.reading.ReadingScalarLemmas.{compatibility_scalar, compatibility_some, mapped_scalar}
 
 -- where no compatibility mapping is built in, the canonical mapping counts before the other
 pub any_by_lines : (records : List Record) (c : ℕ) → built_in_compatibility_step c ≡ None → any_step records c ≡ else_mapped (step_of records c) (compatibility_of records c)

@@ -18,7 +18,7 @@ use Rattle.collate_rules.specs.Meaning.{compatibility_in, first_found}
 use Rattle.collate_rules.specs.Offenders.{NoneOffends}
 use Rattle.collate_rules.proofs.lookups.FoundLemmas.{found_at}
 use Rattle.collate_records.specs.Maps.{compatibilities_in, compatibility_pair}
-use Rattle.collate_records.proofs.lookups.KeyLemmas.{IsKind, distinct_to}
+use Rattle.collate_records.proofs.lookups.LookedUpKeyLemmas.{IsKind, distinct_to}
 use Rattle.collate_records.proofs.maps.MapLineLemmas.{All-flat_map}
 
 -- ---- What is found

@@ -21,7 +21,7 @@ use Rattle.collate_lines.specs.Repeats.{record_at}
 use Rattle.collate_rules.specs.Rules.{Contradicts}
 use Rattle.collate_records.proofs.maps.MapLineLemmas.{MapsToFew, given_class-maps, given_step-maps}
 use Rattle.collate_rules.proofs.lookups.FoundLemmas.{mapping_line}
-use Rattle.collate_records.proofs.mappings.StepLemmas.{free_not_said}
+use Rattle.collate_records.proofs.mappings.MappingStepLemmas.{free_not_said}
 
 -- a line contradicts nothing that is built in
 abbrev pub IsConsistent : Record → Type 0

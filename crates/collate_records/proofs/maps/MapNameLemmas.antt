@@ -15,7 +15,7 @@ use Rattle.collate_records.specs.Maps.{classes_in, compatibilities_in, mappings_
 use Rattle.collate_rules.specs.Rules.{named, names_in, different}
 use Rattle.collate_rules.specs.Offenders.{NoneOffends}
 use Rattle.collate_lines.specs.Keys.{class_key, mapping_key}
-use Rattle.collate_records.proofs.lookups.KeyLemmas.{class_kind, mapping_kind, distinct_to, key_named, different-unique, is_member-unique}
+use Rattle.collate_records.proofs.lookups.LookedUpKeyLemmas.{class_kind, mapping_kind, distinct_to, key_named, different-unique, is_member-unique}
 use Rattle.collate_records.proofs.maps.MapLineLemmas.{MapsToFew, class_keys, mapping_keys}
 use Rattle.collate_rules.proofs.offenders.BreachLemmas.{none_together}
 

@@ -18,7 +18,7 @@ use Rattle.collate_rules.specs.Rules.{IsBadlyComposed, HasBadSecond, RepeatsPair
 use Rattle.collate_lines.specs.Keys.{mapping_key}
 use Rattle.collate_records.proofs.maps.MapMeaningLemmas.{IsConsistent, composes_same}
 use Rattle.collate_records.proofs.maps.MapRuleLemmas.{all_mappings}
-use Rattle.collate_rules.proofs.offenders.PairLemmas.{good_second}
+use Rattle.collate_rules.proofs.offenders.OffenderPairLemmas.{good_second}
 use Rattle.collate_rules.proofs.offenders.LineRuleLemmas.{each_line}
 
 -- the line of a composed mapping is for the pair

@@ -24,12 +24,12 @@ use Rattle.collate_rules.proofs.lists.LowLemmas.{HasBadLow-none, HasBadLow-same}
 use Rattle.collate_rules.proofs.offenders.BreachLemmas.{none_together}
 use Rattle.collate_rules.specs.Accepted.{AreAccepted, IsSaid}
 use Rattle.collate_records.specs.Files.{IsAccepted, OffendsIn}
-use Rattle.collate_records.proofs.reading.AcceptedLemmas.{accepted_compose, accepted_decompose, accepted_lines, said_scalars}
-use Rattle.collate_records.proofs.reading.FaultLemmas.{as_many}
+use Rattle.collate_records.proofs.reading.ReadingAcceptedLemmas.{accepted_compose, accepted_decompose, accepted_lines, said_scalars}
+use Rattle.collate_records.proofs.reading.ReadingFaultLemmas.{as_many}
 use Rattle.collate_records.proofs.reordering.CanonicalMovedLemmas.{lists_moved, loopless, loops_moved, same, starters_moved, unmarked}
 use Rattle.collate_records.proofs.reordering.FewerLineLemmas.{loops_last}
 use Rattle.collate_records.proofs.reordering.LimitMovedLemmas.{limit_moved}
-use Rattle.collate_records.proofs.reordering.LineRuleLemmas.{each_moved, jamo_moved, pairs_moved, repeats_moved, shorter_moved}
+use Rattle.collate_records.proofs.reordering.ReorderedRuleLemmas.{each_moved, jamo_moved, pairs_moved, repeats_moved, shorter_moved}
 use Rattle.collate_records.proofs.reordering.LowRuleLemmas.{low_kept}
 use Rattle.collate_records.proofs.reordering.MovedListLemmas.{filter_moved}
 use Rattle.collate_records.proofs.reordering.SameSayingLemmas.{canonical_same}

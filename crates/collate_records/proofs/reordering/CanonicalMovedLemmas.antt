@@ -17,16 +17,16 @@ use Rattle.collate_rules.specs.Meaning.{any_step, class_of, compatibility_of, el
 use Rattle.collate_rules.specs.Offenders.{NoneOffends}
 use Rattle.collate_rules.specs.Rules.{HasBadList, HasLoop, MapsMark, compatibility_full_of}
 use Rattle.collate_rules.proofs.lists.BadListLemmas.{HasBadList-none, HasBadList-same}
-use Rattle.collate_rules.proofs.lists.FullListLemmas.{expanded_unmapped}
+use Rattle.collate_rules.proofs.lists.RuleFullListLemmas.{expanded_unmapped}
 use Rattle.collate_rules.proofs.mappings.CanonicalPartLemmas.{SaysSame-sym}
 use Rattle.collate_rules.proofs.mappings.LoopPartLemmas.{HasLoop-none, HasLoop-same}
 use Rattle.collate_rules.proofs.offenders.BreachLemmas.{none_together}
 use Rattle.collate_rules.proofs.offenders.MappedMarkLemmas.{MapsMark-none, MapsMark-same}
 use Rattle.collate_rules.specs.Accepted.{IsSaid}
-use Rattle.collate_records.proofs.mappings.DecomposingLemmas.{ends_without_loop}
-use Rattle.collate_records.proofs.mappings.StepLemmas.{step_scalars}
+use Rattle.collate_records.proofs.mappings.MappingDecomposingLemmas.{ends_without_loop}
+use Rattle.collate_records.proofs.mappings.MappingStepLemmas.{step_scalars}
 use Rattle.collate_records.proofs.maps.AnyStepLemmas.{any_by_lines, any_ends_unless, any_scalars, compatibility_free, mapped_by_line, mapped_scalar_value}
-use Rattle.collate_records.proofs.reading.AcceptedLemmas.{said_scalars}
+use Rattle.collate_records.proofs.reading.ReadingAcceptedLemmas.{said_scalars}
 use Rattle.collate_records.proofs.reordering.FewerLineLemmas.{IsFull, any_stays, bad_list_lasts, class_some, loops_last, mapped_stays, marks_last, step_stays}
 use Rattle.collate_records.proofs.reordering.SameSayingLemmas.{says_same}
 

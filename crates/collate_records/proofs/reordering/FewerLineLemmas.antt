@@ -11,8 +11,8 @@ use Rattle.collate_lines.specs.Record.{Record}
 use Rattle.collate_rules.specs.Meaning.{any_step, class_of, compatibility_in, compatibility_of, else_mapped, first_found, is_built_in, mapping_in, step_of}
 use Rattle.collate_rules.specs.RecordRules.{is_mark}
 use Rattle.collate_rules.specs.Rules.{HasLoop, IsBadList, MapsMark, begins_with_mark, is_mapped}
-use Rattle.collate_record_rules.proofs.records.GrowthLemmas.{first_found-append, mark_stays}
-use Rattle.collate_records.proofs.mappings.DecomposingLemmas.{reaches_from, reaches_wider}
+use Rattle.collate_record_rules.proofs.records.RecordGrowthLemmas.{first_found-append, mark_stays}
+use Rattle.collate_records.proofs.mappings.MappingDecomposingLemmas.{reaches_from, reaches_wider}
 use Rattle.collate_records.proofs.maps.AnyStepLemmas.{any_built_in, any_by_lines}
 
 some_found : {B : Type 0} (o p : Option B) → ((y : B) → o ≡ Some y → p ≡ Some y) → is_some o ≡ true → is_some p ≡ true

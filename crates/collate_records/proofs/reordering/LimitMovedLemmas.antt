@@ -18,9 +18,9 @@ use Rattle.collate_lines.specs.Repeats.{says_something}
 use Rattle.collate_rules.specs.Offenders.{NoneOffends}
 use Rattle.collate_rules.specs.Rules.{IsLong, different, is_range, named, names_in}
 use Rattle.collate_rules.proofs.offenders.BreachLemmas.{none_together}
-use Rattle.collate_records.proofs.lookups.KeyLemmas.{different-unique, is_member-unique}
+use Rattle.collate_records.proofs.lookups.LookedUpKeyLemmas.{different-unique, is_member-unique}
 use Rattle.collate_records.proofs.maps.MapNameLemmas.{unique_distinct}
-use Rattle.collate_records.proofs.reordering.LineRuleLemmas.{each_moved}
+use Rattle.collate_records.proofs.reordering.ReorderedRuleLemmas.{each_moved}
 use Rattle.collate_records.proofs.reordering.MovedListLemmas.{flat_map_moved}
 
 -- numbers that all stand in another list are no more different ones than its

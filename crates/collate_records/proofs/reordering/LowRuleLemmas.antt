@@ -18,11 +18,11 @@ use Rattle.collate_rules.specs.Meaning.{canonical_of, class_in, class_of, compat
 use Rattle.collate_rules.specs.Offenders.{NoneOffends}
 use Rattle.collate_rules.specs.Rules.{HasBadLow, HasLoop, MapsMark}
 use Rattle.collate_rules.proofs.lookups.FoundLemmas.{mapping_line}
-use Rattle.collate_record_rules.proofs.records.GrowthLemmas.{first_found-append}
+use Rattle.collate_record_rules.proofs.records.RecordGrowthLemmas.{first_found-append}
 use Rattle.collate_rules.specs.Accepted.{AreScalars}
 use Rattle.collate_records.proofs.comparing.OneLineLemmas.{mapping_second, none_found, says_once}
 use Rattle.collate_records.proofs.mappings.ComposedPairLemmas.{IsOfLine, not_built_in, pair_cases}
-use Rattle.collate_records.proofs.mappings.DecomposingLemmas.{ends_without_loop}
+use Rattle.collate_records.proofs.mappings.MappingDecomposingLemmas.{ends_without_loop}
 use Rattle.collate_records.proofs.reordering.FewerLineLemmas.{compatibility_stays, step_stays}
 use Rattle.collate_records.proofs.reordering.LowMovedLemmas.{IsFewer, own_before}
 

@@ -14,8 +14,8 @@ use Rattle.collate_rules.specs.Meaning.{compress_in, first_found, groups_in, num
 use Rattle.collate_rules.specs.Offenders.{NoneOffends}
 use Rattle.collate_rules.specs.SettingLines.{are_bad_groups, are_bad_settings, breaks_settings, compress_of, groups_of, is_compressible_by, numeric_of, reorder_of}
 use Rattle.collate_rules.proofs.offenders.BreachLemmas.{none_together}
-use Rattle.collate_record_rules.proofs.records.GrowthLemmas.{first_found-append}
-use Rattle.collate_record_rules.proofs.records.SettingLemmas.{none_set}
+use Rattle.collate_record_rules.proofs.records.RecordGrowthLemmas.{first_found-append}
+use Rattle.collate_record_rules.proofs.records.RecordSettingLemmas.{none_set}
 use Rattle.collate_records.proofs.comparing.LineOrderLemmas.{compress_alike, equal_settings, reorder_alike}
 
 -- what fewer lines set is the default, or what all set

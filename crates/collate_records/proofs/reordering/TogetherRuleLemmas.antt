@@ -22,10 +22,10 @@ use Rattle.collate_rules.specs.Meaning.{canonical_of, class_of, dot_above_in, is
 use Rattle.collate_rules.specs.Offenders.{NoneOffends}
 use Rattle.collate_rules.specs.Places.{Stays}
 use Rattle.collate_rules.specs.RecordRules.{begins_with, breaks_decomposed, breaks_digits, breaks_dot_above, breaks_marks_last, breaks_prefixes, digit_of, dotted_marks, has_late_starter, has_mapping, has_starter_behind, is_alone, is_bad_digit, is_bad_dotted, is_badly_prefixed, is_common_secondary, is_disordered, is_further, is_mark, is_other_mark, is_undecomposed, may_follow_prefix}
-use Rattle.collate_rules.proofs.given.ListLemmas.{apart_from, apart_tells, list_all_from, list_all_tells}
+use Rattle.collate_rules.proofs.given.GivenListLemmas.{apart_from, apart_tells, list_all_from, list_all_tells}
 use Rattle.collate_weight_rules.proofs.soundness.StayLemmas.{apart_stays, primaries_stay, ranges_stay_broken}
 use Rattle.collate_rules.proofs.offenders.BreachLemmas.{none_together}
-use Rattle.collate_record_rules.proofs.records.GrowthLemmas.{decomposed_stays, digits_stay, dot_above_stays, marks_last_stay, prefixes_stay}
+use Rattle.collate_record_rules.proofs.records.RecordGrowthLemmas.{decomposed_stays, digits_stay, dot_above_stays, marks_last_stay, prefixes_stay}
 use Rattle.collate_records.proofs.comparing.LineOrderLemmas.{equal_settings, numeric_alike}
 use Rattle.collate_records.proofs.reordering.MovedListLemmas.{flat_map_moved}
 use Rattle.collate_records.proofs.reordering.SameSayingLemmas.{canonical_same, classes_same, digits_same, mapped_same, recorded_same, replaced_same}

@@ -11,7 +11,7 @@ use Rattle.collate_lines.specs.Record.{Record, nothing, class, mapping, compatib
 use Rattle.collate_lines.specs.Grammar.{checked, class_by, class_number, code_point, compatibility_by, decimal_digit, digit_by, digit_to, element, element_by, ending_by, hex_digit, hex_number, hex_of, in_brackets, is_within, key_by, listed, mapping_by, number_after, parted, primary, range_by, record_by, record_of, set_by, setting_by, some_listed, step_number, weights_by}
 use Rattle.collate_rules.specs.GivenWeights.{KeepsWidths}
 use Rattle.collate_rules.specs.LineCounts.{KeepsCounts}
-use Rattle.collate_rules.proofs.given.CountLemmas.{setting_counted}
+use Rattle.collate_rules.proofs.given.GivenCountLemmas.{setting_counted}
 use Rattle.collate_rules.proofs.given.GivesLemmas.{Gives, gives_none, gives_some, gives_either, gives_bound, gives_checked}
 
 -- ---- Digits and numbers

@@ -15,7 +15,7 @@ use Rattle.collate_rules.specs.Meaning.{first_found, class_in, mapping_in, compa
 use Rattle.collate_rules.specs.Rules.{HasBadLow, IsBadlyLow}
 use Rattle.collate_rules.specs.CanonicalParts.{in_full, SaysSame, subject_of}
 use Rattle.collate_rules.proofs.mappings.CanonicalPartLemmas.{class_of-same, step_of-same, compatibility_of-same, pair_of-same, none_of_all, unsaid_class, unsaid_compatibility, unsaid_mapping}
-use Rattle.collate_rules.proofs.lists.FullListLemmas.{expanded_unmapped}
+use Rattle.collate_rules.proofs.lists.RuleFullListLemmas.{expanded_unmapped}
 
 -- canonical data by classes, mappings and pairs
 abbrev data_by : (ℕ → ℕ) → (ℕ → List ℕ) → (ℕ → ℕ → Option ℕ) → Canonical

@@ -13,7 +13,7 @@ use Rattle.icu_normalizer_core.specs.BuiltIn.{built_in_class, built_in_step, bui
 use Rattle.collate_lines.specs.Record.{Record}
 use Rattle.collate_rules.specs.Meaning.{class_in, mapping_in, compatibility_in, composed_in, first_found, class_of, step_of, compatibility_of, pair_of, else_mapped, is_built_in, any_step}
 use Rattle.collate_rules.specs.CanonicalParts.{in_full, SaysSame, subject_of}
-use Rattle.collate_rules.proofs.lookups.LookupLemmas.{first_found-append, first_found-skip}
+use Rattle.collate_rules.proofs.lookups.RuleLookupLemmas.{first_found-append, first_found-skip}
 
 -- parts after parts say the same as the lines after the lines
 pub SaysSame-append : (parts lines more others : List Record) → SaysSame parts lines → SaysSame more others → SaysSame (parts ++ more) (lines ++ others)

@@ -2,7 +2,7 @@
 use Rattle.std.proofs.Common.{◌≡◌, ℕ, suc, ◌*◌, ◌≤◌, List, [], ◌∷◌, ◌++◌, length, flat_map, All, refl, sym, ap, ◌∙◌, arith, subst, length-append}
 use Rattle.std.proofs.lemmas.List.Elements.{All-cons, All-nil, All-head, All-tail}
 use Rattle.collate_rules.specs.Meaning.{expanded}
-use Rattle.collate_rules.proofs.lists.FullListLemmas.{by_first, expanded-suc, expanded_unmapped}
+use Rattle.collate_rules.proofs.lists.RuleFullListLemmas.{by_first, expanded-suc, expanded_unmapped}
 
 module _ (step : ℕ → List ℕ) where
   -- no step leads on from what one step gives

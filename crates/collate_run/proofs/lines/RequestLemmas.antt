@@ -14,8 +14,8 @@ use Rattle.collate_run.specs.declared.run.Line.{Line}
 use Rattle.collate_run.specs.declared.run.Request.{Request}
 use Rattle.collate_run.specs.declared.run.RunFault.{RunFault}
 use Rattle.collate_run.specs.declared.run.RunFault.TheVariants.{Memory, Read, Write, LineTooLong, InputTooLong, CutReload}
-use Rattle.collate_run.proofs.lines.LineLemmas.{lines_of-ended, lines_of-none, lines_of-unended, lines_of-within, whole_lines-unended}
-use Rattle.collate_run.proofs.lines.WholeLemmas.{input_limit-then, line_limit-then, lines_of-then, lines_read-then, whole-one, whole-then}
+use Rattle.collate_run.proofs.lines.CommandLineLemmas.{lines_of-ended, lines_of-none, lines_of-unended, lines_of-within, whole_lines-unended}
+use Rattle.collate_run.proofs.lines.CommandLineWholeLemmas.{input_limit-then, line_limit-then, lines_of-then, lines_read-then, whole-one, whole-then}
 
 lines_of-cases : (is_ended : Bool) (line : List ℕ) (left : Option (List ℕ)) (bytes : List ℕ) → IsUnended line → MatchBool is_ended (bytes ≡ line ++ 10 ∷ []) ((bytes ≡ line) × (0 < length bytes) × IsAtEnd left) → lines_of bytes ≡ line ∷ []
 lines_of-cases true line left bytes unended h = ap lines_of h ∙ lines_of-ended line [] unended ∙ ap (λ (ls : List (List ℕ)). line ∷ ls) lines_of-none

@@ -16,7 +16,7 @@ use Rattle.collate_words.specs.Contexts.{AreKeys}
 use Rattle.collate_words.specs.Growth.{Grows, IsFrontOf}
 use Rattle.collate_words.proofs.growth.FrontLemmas.{length-front, slice_index-front}
 use Rattle.collate_words.proofs.growth.OwnGrowthLemmas.{has_items-larger}
-use Rattle.collate_words.proofs.written.ContextLemmas.{maps_value, value_maps}
+use Rattle.collate_words.proofs.written.WrittenContextLemmas.{maps_value, value_maps}
 use Rattle.collate_words.proofs.written.WordFormLemmas.{not_both}
 
 -- ---- Contexts

@@ -11,7 +11,7 @@ use Rattle.icu_collator_types.specs.ElementWords.{has_tag}
 use Rattle.icu_collator_core.specs.declared.check.layers.Layer.TheVariants.{Root}
 use Rattle.icu_collator_core.specs.Pools.{Pools, elements_of_word, index_of, lone_word, prefix_word, suffix_word, trie_of, unprefixed_word, word_in_context}
 use Rattle.icu_collator_core.specs.PrefixFaults.{HasValue, IsAmong}
-use Rattle.icu_collator_core.specs.WordForms.{AreReadable, IsUnprefixed, IsWord, default_of, has_form, is_own_word}
+use Rattle.icu_collator_core.specs.WordForms.{AreReadable, IsUnprefixedWord, IsWord, default_of, has_form, is_own_word}
 use Rattle.icu_collator_core.specs.WordPlaces.{IsInside, IsUnprefixedInside, has_context, has_digit_word, has_items}
 use Rattle.icu_collator_core.proofs.meaning.WordTagLemmas.{other_tag, unprefixed_same}
 use Rattle.collate_words.specs.Contexts.{HasContext}
@@ -21,7 +21,7 @@ use Rattle.collate_words.specs.Sayings.{Saying, texts_backward, texts_beside}
 use Rattle.collate_words.specs.Written.{HasFlags, IsBesideWord, SaysOf}
 use Rattle.collate_words.proofs.growth.FrontLemmas.{slice_index-front}
 use Rattle.collate_words.proofs.growth.OwnGrowthLemmas.{IsOwnWord-larger, has_items-larger}
-use Rattle.collate_words.proofs.written.ContextLemmas.{value_in}
+use Rattle.collate_words.proofs.written.WrittenContextLemmas.{value_in}
 use Rattle.collate_words.proofs.written.SameContextLemmas.{AreKeptLonger, IsSameContext, context_longer, digit_inside, digit_longer, keys_same, same_context}
 use Rattle.collate_words.proofs.written.WordFormLemmas.{lone_default, lone_digit, lone_plain, not_both, prefix_none, prefix_some, suffix_none, suffix_some, tag_of_form, unprefixed_default, untagged}
 
@@ -174,7 +174,7 @@ module _
   own_behind t = subst (λ w. IsOwnWord larger w saying.own saying.offset)
       (lone_default larger word behind is_behind_longer t) lone_says
 
-  form_behind : IsUnprefixed pools behind → IsUnprefixed larger behind
+  form_behind : IsUnprefixedWord pools behind → IsUnprefixedWord larger behind
   form_behind (inl own) =
       let contraction = untagged pools behind Contraction (omega arith) (omega arith) own in
       let digit = untagged pools behind Digit (omega arith) (omega arith) own in
@@ -210,7 +210,7 @@ module _
       at : (b : Bool) → has_tag Prefix word ≡ b → IsWord Root larger word
       at true t = absurd (unprefixed_tag h)
         where
-          unprefixed_tag : IsUnprefixed pools word → ⊥
+          unprefixed_tag : IsUnprefixedWord pools word → ⊥
           unprefixed_tag (inl own) = not_both (has_tag Prefix word) t
               (untagged pools word Prefix (omega arith) (omega arith) own)
           unprefixed_tag (inr (form, values)) =
@@ -219,13 +219,13 @@ module _
               (and_parts (has_form Contraction word) _ form).0) (λ same. omega (arith, same)))
       at false f =
           let same : behind ≡ word = sym is_behind ∙ unprefixed_same pools word f in
-          inr (inl (subst (IsUnprefixed larger) same (form_behind (subst (IsUnprefixed pools) (sym same) h))))
+          inr (inl (subst (IsUnprefixedWord larger) same (form_behind (subst (IsUnprefixedWord pools) (sym same) h))))
   word_longer (inr (inr (form, unprefixed, values))) =
       let t = tag_of_form Prefix word form in
       inr (inr (
         form,
-        subst (IsUnprefixed larger) (sym (default_is_behind_longer t))
-            (form_behind (subst (IsUnprefixed pools) (default_is_behind t) unprefixed)),
+        subst (IsUnprefixedWord larger) (sym (default_is_behind_longer t))
+            (form_behind (subst (IsUnprefixedWord pools) (default_is_behind t) unprefixed)),
         λ readable key number maps. form_longer (cast_unsigned w32 number) (value_before t key number maps),
       ))
 

@@ -11,7 +11,7 @@ use Rattle.icu_collator_types.specs.ElementWords.{has_tag}
 use Rattle.icu_collator_core.specs.declared.check.layers.Layer.TheVariants.{Root}
 use Rattle.icu_collator_core.specs.Pools.{Pools, digit_value, elements_of_word, index_of, lone_word, suffix_word, unprefixed_word}
 use Rattle.icu_collator_core.specs.PrefixFaults.{HasValue, IsAmong}
-use Rattle.icu_collator_core.specs.WordForms.{IsUnprefixed, IsWord, default_of, has_form, is_own_word}
+use Rattle.icu_collator_core.specs.WordForms.{IsUnprefixedWord, IsWord, default_of, has_form, is_own_word}
 use Rattle.icu_collator_core.specs.WordPlaces.{IsInside, IsUnprefixedInside, has_context, has_digit_word, has_items}
 use Rattle.icu_collator_core.proofs.apart.GrowthLemmas.{none_in}
 use Rattle.icu_collator_core.proofs.meaning.WordTagLemmas.{other_tag, unprefixed_same}
@@ -24,7 +24,7 @@ use Rattle.collate_words.specs.OwnWords.{IsOwnWord}
 use Rattle.collate_words.specs.PartSayings.{saying_before, saying_behind}
 use Rattle.collate_words.specs.Sayings.{SaidBeside, Saying, elements_beside, texts_backward, texts_beside}
 use Rattle.collate_words.specs.Written.{HasFlags, IsBesideWord, SaysOf}
-use Rattle.collate_words.proofs.written.ContextLemmas.{elements_by, keys_are, value_said, values_inside, values_own}
+use Rattle.collate_words.proofs.written.WrittenContextLemmas.{elements_by, keys_are, value_said, values_inside, values_own}
 use Rattle.collate_words.proofs.written.WordFormLemmas.{form_of_low, lone_default, lone_digit, lone_plain, no_digit_word, no_items, not_both, prefix_none, prefix_some, suffix_none, suffix_some, tag_of_form, unprefixed_default, untagged}
 
 -- ---- Words that name no context
@@ -296,10 +296,10 @@ prefix_says pools word one saying saids keys small low says before digit beside 
     unprefixed_too : unprefixed_word pools word ≡ unprefixed_word pools one
     unprefixed_too = unprefixed_is ∙ sym one_same
 
-    default_form : IsUnprefixed pools (default_of pools word)
-    default_form = subst (IsUnprefixed pools) (sym context.default_is) (by_form says.form)
+    default_form : IsUnprefixedWord pools (default_of pools word)
+    default_form = subst (IsUnprefixedWord pools) (sym context.default_is) (by_form says.form)
       where
-        by_form : IsWord Root pools one → IsUnprefixed pools one
+        by_form : IsWord Root pools one → IsUnprefixedWord pools one
         by_form (inl h) = not_both (has_tag Digit one) (tag_of_form Digit one
             (and_parts (has_form Digit one) _ h).0) one_digit
         by_form (inr (inl unprefixed)) = unprefixed

@@ -29,7 +29,7 @@ use Rattle.collate_words.specs.ContextKeys.{AreKeysOf, AreKeysOnce, FitsContext,
 use Rattle.collate_words.specs.Fits.{AreBeside, IsBeside, are_different}
 use Rattle.collate_words.specs.Sayings.{SaidBeside, texts_beside}
 use Rattle.icu_collator_core.specs.Pools.{Pools}
-use Rattle.collate_words.proofs.written.KeyLemmas.{same_text}
+use Rattle.collate_words.proofs.written.WrittenKeyLemmas.{same_text}
 use Rattle.collate_words.proofs.written.TrieKeyLemmas.{signed_pair, total_short}
 
 -- ---- The order of keys

@@ -22,7 +22,7 @@ use Rattle.collate_words.specs.PartSayings.{saying_before, saying_behind}
 use Rattle.collate_words.specs.Sayings.{SaidBeside, Saying}
 use Rattle.collate_words.specs.Written.{SaysOf}
 use Rattle.collate_words.proofs.growth.OwnGrowthLemmas.{IsOwnWord-larger}
-use Rattle.collate_words.proofs.written.KeyLemmas.{key_short, key_some, zip_weaker}
+use Rattle.collate_words.proofs.written.WrittenKeyLemmas.{key_short, key_some, zip_weaker}
 use Rattle.collate_words.proofs.written.SameContextLemmas.{AreKeptLonger}
 use Rattle.collate_words.proofs.written.SayingGrowthLemmas.{says_longer}
 use Rattle.collate_words.proofs.written.SayingLemmas.{contraction_says, own_says, prefix_says}

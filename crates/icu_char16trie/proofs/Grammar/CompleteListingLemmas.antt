@@ -10,7 +10,7 @@ use Rattle.std.specs.Ordering.{nat_cmp, ordering_then}
 use Rattle.icu_char16trie.specs.UnitNumbers.{final_number, intermediate_number}
 use Rattle.icu_char16trie.specs.UnitSteps.{entry_target, opened}
 use Rattle.icu_char16trie.specs.UnitMaps.{at_node, at_state, MapsKey, ends, goes_on, run_on, run_out, branch_value, branch_node, Leads, listed, Lists, IsNode, final, valued, bare}
-use Rattle.icu_char16trie.specs.UnitGrammar.{Part, spot, within, IsSound, sound_end, sound_node, sound_run, sound_run_end, sound_branch, sound_last, sound_value, sound_jump, sound_halves}
+use Rattle.icu_char16trie.specs.UnitGrammar.{GrammarPart, spot, within, IsSound, sound_end, sound_node, sound_run, sound_run_end, sound_branch, sound_last, sound_value, sound_jump, sound_halves}
 use Rattle.icu_char16trie.specs.declared.cells.Number.{Number}
 use Rattle.icu_char16trie.specs.declared.node.Branch.{Branch}
 use Rattle.icu_char16trie.specs.declared.node.Match.{Match}
@@ -90,7 +90,7 @@ covers-spelled units pairs (branch_value branch unit value leads) f = f unit (Va
 covers-spelled units pairs (branch_node branch unit place key number leads rest) f = f unit (Node place) leads key number rest
 
 -- all that is spelled in a part is listed
-abbrev ListsAll : List ℕ → Part → List Pair → Type 0
+abbrev ListsAll : List ℕ → GrammarPart → List Pair → Type 0
 ListsAll units (spot s) pairs = (key : List ℕ) (number : ℤ) → MapsKey units s key number → Has pairs key number
 ListsAll units (within branch low high) pairs = (unit : ℕ) (target : Target) → Leads units branch unit target → Covers units pairs unit target
 
@@ -104,7 +104,7 @@ valued-listed units (Some value) next pairs key number f h =
     (λ here. inl (here.0, ap (λ v. cast_signed w32 v) (some-same value here.1 here.2) ∙ here.3))
     (λ on. inr (f key number (subst (λ next. MapsKey units (at_state next) key number) (sym (some-same next on.0 on.1)) on.2))) h
 
-pub lists_all : (units : List ℕ) {part : Part} (s : IsSound units part) → ListsAll units part (listing units s)
+pub lists_all : (units : List ℕ) {part : GrammarPart} (s : IsSound units part) → ListsAll units part (listing units s)
 unfolding listing
 lists_all units (sound_end place value node) = λ key number h.
     ⊎_elim
@@ -178,12 +178,12 @@ firsts-weaker P Q (x ∷ xs) f h = ((h.0.0, h.0.1, h.0.2, f h.0.0 h.0.3), firsts
 abbrev Between : ℕ → ℕ → ℕ → Type 0
 Between low high unit = (low ≤ unit) × (unit < high)
 
-abbrev Begins : Part → List Pair → Type 0
+abbrev Begins : GrammarPart → List Pair → Type 0
 Begins (spot (at_node place)) pairs = Unit {0}
 Begins (spot (at_state next)) pairs = Firsts (λ unit. Unit {0}) pairs
 Begins (within branch low high) pairs = Firsts (Between low high) pairs
 
-begins : (units : List ℕ) {part : Part} (s : IsSound units part) → Begins part (listing units s)
+begins : (units : List ℕ) {part : GrammarPart} (s : IsSound units part) → Begins part (listing units s)
 unfolding listing
 begins units (sound_end place value node) = tt
 begins units (sound_node place value next node rest) = tt
@@ -252,7 +252,7 @@ rising-valued : (value : Option ℕ) (pairs : List Pair) → Firsts (λ unit. Un
 rising-valued None pairs h k = k
 rising-valued (Some value) pairs h k = (above-nil pairs h, k)
 
-pub rising : (units : List ℕ) {part : Part} (s : IsSound units part) → Rising (listing units s)
+pub rising : (units : List ℕ) {part : GrammarPart} (s : IsSound units part) → Rising (listing units s)
 unfolding listing
 rising units (sound_end place value node) = (tt, tt)
 rising units (sound_node place value next node rest) = rising-valued value (listing units rest) (begins units rest) (rising units rest)

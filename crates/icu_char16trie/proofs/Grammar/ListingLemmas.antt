@@ -4,7 +4,7 @@ use Rattle.std.specs.Int.{cast_signed, w32}
 use Rattle.icu_char16trie.specs.UnitSteps.{entry_at, entry_target}
 use Rattle.icu_char16trie.specs.UnitMaps.{at_node, at_state, MapsKey, ends, goes_on, run_on, run_out, branch_value, branch_node, Leads, listed, lower, upper, Lists, later, IsNode}
 use Rattle.icu_char16trie.specs.UnitPairs.{Has}
-use Rattle.icu_char16trie.specs.UnitGrammar.{Part, spot, within, IsSound, sound_end, sound_node, sound_run, sound_run_end, sound_branch, sound_last, sound_value, sound_jump, sound_halves}
+use Rattle.icu_char16trie.specs.UnitGrammar.{GrammarPart, spot, within, IsSound, sound_end, sound_node, sound_run, sound_run_end, sound_branch, sound_last, sound_value, sound_jump, sound_halves}
 use Rattle.icu_char16trie.specs.declared.node.Branch.{Branch}
 use Rattle.icu_char16trie.specs.declared.node.Entry.{Entry}
 use Rattle.icu_char16trie.specs.declared.node.Target.{Target}
@@ -28,7 +28,7 @@ with_value None pairs = pairs
 with_value (Some value) pairs = ([], cast_signed w32 value) ∷ pairs
 
 -- the keys and values in order
-unfoldable pub listing : (units : List ℕ) {part : Part} → IsSound units part → List Pair
+unfoldable pub listing : (units : List ℕ) {part : GrammarPart} → IsSound units part → List Pair
 listing units (sound_end place value node) = ([], cast_signed w32 value) ∷ []
 listing units (sound_node place value next node rest) = with_value value (listing units rest)
 listing units (sound_run run unit e more rest) = behind_unit unit (listing units rest)
@@ -62,11 +62,11 @@ behind-has unit (x ∷ xs) key number h =
     (λ more. let found = behind-has unit xs key number more in (found.0, found.1, inr found.2)) h
 
 -- the bounds of what the units of a branch lead to
-abbrev Bounds : List ℕ → Part → Type 0
+abbrev Bounds : List ℕ → GrammarPart → Type 0
 Bounds units (spot s) = Unit {0}
 Bounds units (within branch low high) = (unit : ℕ) (target : Target) → Leads units branch unit target → (low ≤ unit) × (unit < high)
 
-bounds : (units : List ℕ) {part : Part} → IsSound units part → Bounds units part
+bounds : (units : List ℕ) {part : GrammarPart} → IsSound units part → Bounds units part
 bounds units (sound_end place value node) = tt
 bounds units (sound_node place value next node rest) = tt
 bounds units (sound_run run unit e more rest) = tt
@@ -113,7 +113,7 @@ later-leads units branch entry more few e inside unit target leads =
     (later (branch.count - 1 - 1) branch.place unit entry target e (λ same. omega (arith, above, same)) (leads_listed units leads (omega (arith, few)))))
 
 -- what is spelled in a part
-abbrev pub SpelledIn : List ℕ → Part → List ℕ → ℤ → Type 0
+abbrev pub SpelledIn : List ℕ → GrammarPart → List ℕ → ℤ → Type 0
 SpelledIn units (spot s) key number = MapsKey units s key number
 SpelledIn units (within branch low high) key number = MapsKey units (at_state (state.Branch branch)) key number
 
@@ -128,7 +128,7 @@ node-spelled units place None next pairs key number node f h = goes_on place Non
 node-spelled units place (Some value) next pairs key number node f h =
     ⊎_elim (λ here. value-spelled units place value (Some next) key number node here) (λ rest. goes_on place (Some value) next key number node (f rest)) h
 
-pub listed_spelled : (units : List ℕ) {part : Part} (s : IsSound units part) (key : List ℕ) (number : ℤ) → Has (listing units s) key number → SpelledIn units part key number
+pub listed_spelled : (units : List ℕ) {part : GrammarPart} (s : IsSound units part) (key : List ℕ) (number : ℤ) → Has (listing units s) key number → SpelledIn units part key number
 unfolding listing
 listed_spelled units (sound_end place value node) key number h =
     ⊎_elim (λ here. value-spelled units place value None key number node here) (λ rest. absurd rest) h

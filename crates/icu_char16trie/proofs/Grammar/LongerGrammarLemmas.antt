@@ -4,7 +4,7 @@ use Rattle.std.specs.Int.{cast_signed, w32}
 use Rattle.icu_char16trie.specs.Cursors.{value_of_key}
 use Rattle.icu_char16trie.specs.UnitMaps.{at_node, MapsKey}
 use Rattle.icu_char16trie.specs.UnitPairs.{Has}
-use Rattle.icu_char16trie.specs.UnitGrammar.{Part, spot, IsSound, sound_end, sound_node, sound_run, sound_run_end, sound_branch, sound_last, sound_value, sound_jump, sound_halves, IsUnitTrie, no_units, rooted}
+use Rattle.icu_char16trie.specs.UnitGrammar.{GrammarPart, spot, IsSound, sound_end, sound_node, sound_run, sound_run_end, sound_branch, sound_last, sound_value, sound_jump, sound_halves, IsUnitTrie, no_units, rooted}
 use Rattle.icu_char16trie.specs.declared.node.Target.TheVariants.{Value, Node}
 use Rattle.icu_char16trie.proofs.Grammar.ListingLemmas.{Pair, behind_unit, with_value, listing, listed_spelled}
 use Rattle.icu_char16trie.proofs.Grammar.CompleteListingLemmas.{lists_all}
@@ -13,12 +13,12 @@ use Rattle.icu_char16trie.proofs.Grammar.LongerStepLemmas.{get_stays, entry_stay
 use Rattle.icu_char16trie.proofs.Cursors.ValueLemmas.{value_spelled}
 
 -- a part that keeps the grammar, in more units, with the same keys and values
-pub record IsKept (units : List ℕ) (rule : Part) (pairs : List Pair) : Type 0 where
+pub record IsKept (units : List ℕ) (rule : GrammarPart) (pairs : List Pair) : Type 0 where
   pub sound : IsSound units rule
   pub same : listing units sound ≡ pairs
 
 module _ (units more : List ℕ) where
-  pub kept : {rule : Part} (s : IsSound units rule) → IsKept (units ++ more) rule (listing units s)
+  pub kept : {rule : GrammarPart} (s : IsSound units rule) → IsKept (units ++ more) rule (listing units s)
   unfolding listing
   kept (sound_end place value node) = record { sound = sound_end place value (node_stays units more node); same = refl }
   kept (sound_node place value next node rest) =
@@ -57,7 +57,7 @@ module _ (units more : List ℕ) where
         same = ap (λ pairs. pairs ++ listing (units ++ more) k.sound) f.same ∙ ap (λ pairs. listing units first ++ pairs) k.same;
       }
 
-  pub kept_back : {rule : Part} (s : IsSound units rule) → IsSound (units ++ more) rule
+  pub kept_back : {rule : GrammarPart} (s : IsSound units rule) → IsSound (units ++ more) rule
   kept_back s = (kept s).sound
 
   -- the first node

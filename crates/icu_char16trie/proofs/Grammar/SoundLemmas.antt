@@ -3,7 +3,7 @@ use Rattle.std.proofs.Common.{◌≡◌, ℕ, ◌+◌, ◌-◌, ◌/◌, ◌<◌
 use Rattle.icu_char16trie.specs.UnitNumbers.{delta, landing}
 use Rattle.icu_char16trie.specs.UnitSteps.{entry_at, entry_target}
 use Rattle.icu_char16trie.specs.UnitMaps.{Lists, last, here, later, Leads, listed, lower, upper, at_node, IsWhole, whole_end, whole_node, whole_run, whole_run_end, whole_branch}
-use Rattle.icu_char16trie.specs.UnitGrammar.{Part, spot, within, IsSound, sound_end, sound_node, sound_run, sound_run_end, sound_branch, sound_last, sound_value, sound_jump, sound_halves}
+use Rattle.icu_char16trie.specs.UnitGrammar.{GrammarPart, spot, within, IsSound, sound_end, sound_node, sound_run, sound_run_end, sound_branch, sound_last, sound_value, sound_jump, sound_halves}
 use Rattle.icu_char16trie.specs.declared.cells.Number.{Number}
 use Rattle.icu_char16trie.specs.declared.node.Branch.{Branch}
 use Rattle.icu_char16trie.specs.declared.node.Entry.{Entry}
@@ -89,7 +89,7 @@ module _ (units : List ℕ) (middle place : ℕ) (jump : Number) where
       inr (subst (λ found. found ≤ unit) same more, subst (λ gap. Leads units (record { count = branch.count - branch.count / 2; place = gap.end }) unit target) jumps rest)
 
 -- each key that can be begun there leads on
-abbrev pub LeadsOn : List ℕ → Part → Type 0
+abbrev pub LeadsOn : List ℕ → GrammarPart → Type 0
 LeadsOn units (spot s) = IsWhole units s
 LeadsOn units (within branch low high) = (other place : ℕ) → Leads units branch other (Node place) → IsWhole units (at_node place)
 
@@ -99,7 +99,7 @@ node-same a b e = cc
 value-node : (a b : ℕ) → Value a ≡ Node b → ⊥
 value-node a b e = cc
 
-pub leads_on : (units : List ℕ) {part : Part} → IsSound units part → LeadsOn units part
+pub leads_on : (units : List ℕ) {part : GrammarPart} → IsSound units part → LeadsOn units part
 leads_on units (sound_end place value node) = whole_end place value node
 leads_on units (sound_node place value next node rest) = whole_node place value next node (leads_on units rest)
 leads_on units (sound_run run unit e more rest) = whole_run run unit e more (leads_on units rest)

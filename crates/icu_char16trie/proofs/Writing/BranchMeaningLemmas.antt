@@ -8,7 +8,7 @@ use Rattle.icu_char16trie.specs.UnitMaps.{Lists, last, here, later, Leads, liste
 use Rattle.icu_char16trie.specs.UnitGrammar.{IsSound, spot, sound_last, sound_value, sound_jump, sound_halves}
 use Rattle.icu_char16trie.specs.UnitGrammar as grammar
 use Rattle.icu_char16trie.specs.UnitNumberForms.{number_form, delta_form}
-use Rattle.icu_char16trie.specs.UnitLayouts.{Part, node, follows, within, Lays}
+use Rattle.icu_char16trie.specs.UnitLayouts.{LaidPart, node, follows, within, Lays}
 use Rattle.icu_char16trie.specs.UnitLayouts as layout
 use Rattle.icu_char16trie.specs.declared.cells.Number.{Number}
 use Rattle.icu_char16trie.specs.declared.node.Branch.{Branch}
@@ -229,7 +229,7 @@ entry_is units place unit lead number at next reads =
     ∙ ap (λ found. after found (λ number. entry_some unit lead number)) reads
 
 -- what was laid in units is what they mean
-abbrev pub Meaning : List ℕ → ℕ → Part → Type 0
+abbrev pub Meaning : List ℕ → ℕ → LaidPart → Type 0
 Meaning units place (node pairs) = SpotMeans units (at_node place) pairs
 Meaning units place (follows kind pairs) = FollowsMeans units place kind pairs
 Meaning units place (within low high groups) = WithinMeans units (record { count = length groups; place = place }) low high groups
@@ -272,7 +272,7 @@ module _ (units : List ℕ) (place low high unit : ℕ) (rest : List ℕ) (group
       (ap (λ found. after found (λ place. Some (Node place))) (lands_at units r.end distance rest r.left short))
       (means (r.end + distance) (lands_on units r.end distance rest r.left short)) from below some few (inner r.end r.left)
 
-pub means : {laid : List ℕ} {part : Part} → Lays laid part → (units : List ℕ) (place : ℕ) → drop place units ≡ laid → Meaning units place part
+pub means : {laid : List ℕ} {part : LaidPart} → Lays laid part → (units : List ℕ) (place : ℕ) → drop place units ≡ laid → Meaning units place part
 means (layout.final number rest) units place e = final_means units place number rest e
 means (layout.valued kind number rest pairs low inner) units place e =
     let r = reads_intermediate units place kind number rest low e in

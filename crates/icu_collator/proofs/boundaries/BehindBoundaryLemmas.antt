@@ -14,7 +14,7 @@ use Rattle.icu_collator_core.specs.Weights.{Weights}
 use Rattle.icu_collator_core.proofs.lookups.MatchLemmas.{scalars_front}
 use Rattle.icu_collator_core.proofs.lookups.PrefixLemmas.{scalars_back}
 use Rattle.icu_collator_core.proofs.readings.SamenessLemmas.{at_greatest_same}
-use Rattle.icu_collator_core.proofs.readings.StepLemmas.{alike_self}
+use Rattle.icu_collator_core.proofs.readings.ReadStepLemmas.{alike_self}
 use Rattle.icu_collator.specs.Boundaries.{IsBoundary}
 use Rattle.icu_collator.proofs.numbers.NumbersInTextsLemmas.{after}
 

@@ -8,8 +8,8 @@ use Rattle.icu_collator_core.specs.Collation.{Collation}
 use Rattle.icu_collator.specs.Boundaries.{CountsWhole, Decide, EndsVariable}
 use Rattle.icu_collator.specs.Fronts.{PartAt}
 use Rattle.icu_collator.specs.NextCharacters.{IsOrderOfNext}
-use Rattle.icu_collator.specs.declared.front.deciding.NextCharacter.{NextCharacter}
-use Rattle.icu_collator.specs.declared.front.deciding.NextCharacter.TheVariants.{End, Plain}
+use Rattle.icu_collator.specs.declared.common_front.deciding.NextCharacter.{NextCharacter}
+use Rattle.icu_collator.specs.declared.common_front.deciding.NextCharacter.TheVariants.{End, Plain}
 use Rattle.icu_collator.proofs.boundaries.DifferenceOrderLemmas.{both_end, first_characters_decide, left_ends, right_ends}
 
 module _ (collation : Collation) (options : ResolvedCollatorOptions) where

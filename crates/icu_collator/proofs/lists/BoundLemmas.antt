@@ -9,8 +9,8 @@ use Rattle.icu_collator_types.specs.declared.options.ResolvedCollatorOptions.{Re
 use Rattle.icu_collator_types.specs.Options.{has_case_bits, is_upper_first}
 use Rattle.icu_collator_core.specs.Collation.{Collation}
 use Rattle.icu_collator_core.specs.Pools.{element_of}
-use Rattle.icu_collator.specs.declared.levels.counted.CountedElement.{CountedElement}
-use Rattle.icu_collator.specs.declared.levels.counted.CountedElement.TheVariants.{Whole, Variable}
+use Rattle.icu_collator.specs.declared.levels.counted_elements.CountedElement.{CountedElement}
+use Rattle.icu_collator.specs.declared.levels.counted_elements.CountedElement.TheVariants.{Whole, Variable}
 use Rattle.icu_collator.specs.LevelLists.{cases_by, counted_by, counted_list, counted_of, has_sound_case, secondary_ranks, tertiary_bound}
 use Rattle.icu_collator.specs.Levels.{SecondaryPlace, segment_end, secondary, backward_from, case_at, is_segment_end, secondary_at, tertiary_at}
 use Rattle.icu_collator.specs.Order.{secondary_rank}

@@ -10,7 +10,7 @@ use Rattle.icu_collator_types.specs.declared.options.Strength.TheVariants.{Ident
 use Rattle.icu_collator_types.specs.Options.{is_at_least, is_numeric}
 use Rattle.icu_collator_core.specs.Collation.{Collation}
 use Rattle.icu_collator_core.specs.Elements.{elements_of_list}
-use Rattle.icu_collator.specs.declared.reading.ReadText.{ReadText}
+use Rattle.icu_collator.specs.declared.read_texts.ReadText.{ReadText}
 use Rattle.icu_collator.specs.LevelLists.{primaries_by}
 use Rattle.icu_collator.specs.Levels.{quaternary_at, secondaries_of, levels_of}
 use Rattle.icu_collator.specs.Order.{character_rank, collation_order, levels_order, list_order, quaternary_rank, secondary_rank, where_in_force}

@@ -9,15 +9,15 @@ ghost use Rattle.icu_collator_core.specs.declared.flat.steps.FlatStep.TheVariant
 ghost use Rattle.icu_collator.specs.Collators.{source_collation};
 ghost use Rattle.icu_collator_types.specs.Options.{is_at_least, is_shifted};
 ghost use Rattle.icu_collator_types.specs.declared.options.Strength.TheVariants.{Identical};
-ghost use Rattle.icu_collator.specs.FlatOrders.{AreAlike, AreStarters, HaveSamePrimaries, IsByPrimaries, IsMeeting, IsMet};
+ghost use Rattle.icu_collator.specs.FlatOrders.{AreReadAlike, AreStarters, HaveSamePrimaries, IsByPrimaries, IsMeeting, IsMet};
 ghost use Rattle.icu_collator.specs.Order.{collation_order};
 ghost use Rattle.icu_collator.specs.declared.compare.flat.Meeting.TheVariants.{Alike};
 
 use super::orders::compare_from_secondaries;
-use crate::front::behind;
+use crate::common_front::behind;
 use crate::levels::weights::reordered;
-use crate::reading::{ReadText, is_unshifted, numeric_lead};
-use crate::texts::Characters;
+use crate::read_texts::{ReadText, is_unshifted, numeric_lead};
+use crate::encodings::Characters;
 use icu_collator_core::checked::CheckedTables;
 use icu_collator_core::flat::{FlatElements, FlatStep};
 use icu_collator_types::options::{ResolvedCollatorOptions, Strength};
@@ -136,7 +136,7 @@ fn meet_others<I: Iterator<Item = char> + Drop, J: Iterator<Item = char> + Drop>
     requires right { IfSome second (λ _. J.can_next right) }
     requires right_ends { IfSome second (λ _. IsFinite (J.remaining right)) }
     ensures next { (a b : List ℕ) → All IsScalar a → All IsScalar b → (before : I) (also : J)
-        → AreAlike checked.now numeric I.next_gives J.next_gives a b before also left_class right_class
+        → AreReadAlike checked.now numeric I.next_gives J.next_gives a b before also left_class right_class
         → I.next_gives before first left → J.next_gives also second right
         → IsMet checked.now numeric I.next_gives J.next_gives a b result.0 result.1 result.2 result.3 result.4 }
     ensures left_nearer { result.0 ≡ Alike → IsLeftBehind I.can_next I.remaining left result.1 }
@@ -170,7 +170,7 @@ fn meet_next<I: Iterator<Item = char> + Drop, J: Iterator<Item = char> + Drop>(
     requires right { J.can_next right }
     requires right_ends { IsFinite (J.remaining right) }
     ensures next { (a b : List ℕ) → All IsScalar a → All IsScalar b
-        → AreAlike checked.now numeric I.next_gives J.next_gives a b left right left_class right_class
+        → AreReadAlike checked.now numeric I.next_gives J.next_gives a b left right left_class right_class
         → IsMet checked.now numeric I.next_gives J.next_gives a b result.0 result.1 result.2 result.3 result.4 }
     ensures left_nearer { result.0 ≡ Alike → IsNearerEnd I.can_next I.remaining left result.1 }
     ensures right_nearer { result.0 ≡ Alike → IsNearerEnd J.can_next J.remaining right result.2 }

@@ -8,10 +8,10 @@ ghost use Rattle.icu_collator.specs.Levels.{secondary_at};
 ghost use Rattle.icu_collator.specs.Order.{character_rank, secondary_rank};
 ghost use Rattle.icu_collator.specs.TextsRead.{counted_in, lists_order, read_cases_order, read_characters_order, read_primaries_order, read_quaternaries_order, read_secondaries_order, read_tertiaries_order};
 
-use crate::levels::lists::{cases, quaternaries, secondaries};
+use crate::levels::level_lists::{cases, quaternaries, secondaries};
 use crate::levels::turns::order_given;
 use crate::levels::weights::{primary_at, secondary_rank_at, tertiary_at};
-use crate::reading::ReadText;
+use crate::read_texts::ReadText;
 use icu_collator_core::checked::CheckedTables;
 use icu_collator_types::options::{CaseLevel, ResolvedCollatorOptions, Strength};
 use smallvec::SmallVec;

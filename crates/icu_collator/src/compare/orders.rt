@@ -8,7 +8,7 @@ use super::levels::{
     compare_cases, compare_listed_characters, compare_primaries, compare_quaternaries,
     compare_secondaries, compare_tertiaries,
 };
-use crate::reading::ReadText;
+use crate::read_texts::ReadText;
 use icu_collator_core::checked::CheckedTables;
 use icu_collator_types::options::ResolvedCollatorOptions;
 use std::alloc::{AllocError, Global};

@@ -38,7 +38,7 @@ impl<'d> CollatorBorrowed<'d> {
     }
 
     /// The canonical data that texts are decomposed by. A normaliser over them changes no answer and no key
-    /// (`laws_collators`). It takes no memory.
+    /// (`laws::collators`). It takes no memory.
     pub fn canonical(&self) -> CanonicalBorrowed<'d>
         ensures tables { borrowed_tables result ≡ (borrowed_source self.now).canonical }
         ensures meaning { borrowed_meaning result ≡ canonical_by self.now }

@@ -11,7 +11,7 @@ ghost use Rattle.icu_collator.specs.Order.{quaternary_rank, secondary_rank};
 
 use super::buffer::KeyBytes;
 use super::cases::write_cases;
-use super::characters::write_characters;
+use super::identical_level::write_characters;
 use super::quaternaries::write_quaternaries;
 use super::run_level::RunLevel;
 use super::runs::{write_given_runs, write_runs};

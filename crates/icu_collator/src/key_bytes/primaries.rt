@@ -10,7 +10,7 @@ ghost use Rattle.icu_collator.specs.LevelLists.{counted_list, primaries_by};
 
 use super::buffer::KeyBytes;
 use super::weights::{write_primary_bytes, write_primary_rest};
-use crate::levels::counted::counted_element;
+use crate::levels::counted_elements::counted_element;
 use crate::levels::weights::{own_primary_at, reordered};
 use icu_collator_core::checked::CheckedTables;
 use icu_collator_types::elements::CollationElement;

@@ -6,11 +6,11 @@ ghost use Rattle.icu_collator.specs.KeyBytes.{run_bytes, with_runs};
 ghost use Rattle.icu_collator.specs.KeyCodes.{AddsGiven, AddsWeight, code_of, rank_limit};
 ghost use Rattle.icu_collator.specs.LevelLists.{counted_list, counted_of, has_sound_case};
 ghost use Rattle.icu_collator.specs.Shifted.{Counted};
-ghost use Rattle.icu_collator.specs.declared.levels.counted.CountedElement.{CountedElement};
+ghost use Rattle.icu_collator.specs.declared.levels.counted_elements.CountedElement.{CountedElement};
 
 use super::buffer::KeyBytes;
 use super::run_level::{RunBytes, RunLevel};
-use crate::levels::counted::{CountedElement, counted_element};
+use crate::levels::counted_elements::{CountedElement, counted_element};
 use icu_collator_types::elements::CollationElement;
 use std::alloc::AllocError;
 

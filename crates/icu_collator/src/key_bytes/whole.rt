@@ -17,7 +17,7 @@ use super::levels::{
     write_secondary_level, write_tertiary_level,
 };
 use super::primaries::write_primaries;
-use crate::levels::lists::{cases, quaternaries, secondaries};
+use crate::levels::level_lists::{cases, quaternaries, secondaries};
 use icu_collator_core::checked::CheckedTables;
 use icu_collator_types::elements::CollationElement;
 use icu_collator_types::options::{CaseLevel, ResolvedCollatorOptions, Strength};

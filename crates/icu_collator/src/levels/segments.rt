@@ -5,7 +5,7 @@ ghost use Rattle.icu_collator.specs.LevelLists.{counted_list};
 ghost use Rattle.icu_collator.specs.Levels.{backward_from};
 ghost use Rattle.icu_collator.specs.Order.{secondary_rank};
 
-use super::counted::counted_element;
+use super::counted_elements::counted_element;
 use super::weights::{is_segment_end, secondary_rank_at};
 use icu_collator_types::elements::CollationElement;
 use smallvec::SmallVec;

@@ -5,9 +5,9 @@ ghost use Rattle.std.specs.Ordering.{nat_cmp};
 ghost use Rattle.std.specs.Prelude.{◌≡◌, ◌<◌, ◌≤◌, ◌∷◌, ℕ, [], IfSome, MatchOption, Option, drop, filter_map, length};
 ghost use Rattle.icu_collator.specs.LevelLists.{counted_list, counted_of};
 ghost use Rattle.icu_collator.specs.Shifted.{Counted};
-ghost use Rattle.icu_collator.specs.declared.levels.counted.CountedElement.{CountedElement};
+ghost use Rattle.icu_collator.specs.declared.levels.counted_elements.CountedElement.{CountedElement};
 
-use super::counted::{CountedElement, counted_element};
+use super::counted_elements::{CountedElement, counted_element};
 use icu_collator_types::elements::CollationElement;
 use std::cmp::Ordering;
 

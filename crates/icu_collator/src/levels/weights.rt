@@ -11,7 +11,7 @@ ghost use Rattle.icu_collator.specs.LevelLists.{counted_of, tertiary_with_case};
 ghost use Rattle.icu_collator.specs.Levels.{case_at, is_segment_end, own_primary_at, primary_at, quaternary_at, secondary_at, tertiary_at};
 ghost use Rattle.icu_collator.specs.Order.{quaternary_rank, secondary_rank};
 
-use super::counted::{CountedElement, SEGMENT_END_PRIMARY};
+use super::counted_elements::{CountedElement, SEGMENT_END_PRIMARY};
 use icu_collator_core::checked::CheckedTables;
 use icu_collator_core::tables::CollationTables;
 use icu_collator_types::elements::CollationElement;

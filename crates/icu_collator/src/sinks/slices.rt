@@ -1,7 +1,7 @@
 //! A slice as a sink of keys: a key stands at its beginning.
 
 ghost use Rattle.std.specs.Prelude.{◌≡◌, ◌+◌, ◌≤◌, ◌++◌, min, length, refl, take};
-ghost use Rattle.icu_collator.specs.Sinks.{FitsSlice, HasOverlaid, PassesSlice, counted, greatest_count, overlaid, written_at};
+ghost use Rattle.icu_collator.specs.Sinks.{FitsSlice, HasOverlaid, PassesSlice, byte_count, greatest_count, overlaid, written_at};
 ghost use Rattle.std.proofs.Common.{◌∙◌, ap, sym};
 ghost use Rattle.std.proofs.Math.Seq.{take-append_seam, take-nil};
 
@@ -16,7 +16,7 @@ impl CollationKeySink for &mut [u8] {
 
     ghost is_start = { λ count. count ≡ 0 };
 
-    ghost has_taken = { λ first bytes now count. HasOverlaid first bytes now × (count ≡ counted bytes) };
+    ghost has_taken = { λ first bytes now count. HasOverlaid first bytes now × (count ≡ byte_count bytes) };
 
     ghost has_written = { λ first key now count. FitsSlice first key now count };
 
@@ -48,7 +48,7 @@ impl CollationKeySink for &mut [u8] {
 /// Writes as many of the bytes as fit behind a place, and answers the place behind all of them.
 fn write_at(slice: &mut [u8], place: usize, bytes: &[u8]) -> usize
     ensures written { slice.new ≡ written_at slice.old place bytes.now }
-    ensures counted { result ≡ min (place + length bytes.now) greatest_count }
+    ensures byte_count { result ≡ min (place + length bytes.now) greatest_count }
     ensures bounded { length slice.old ≤ greatest_count }
 {
     if place < slice.len() {

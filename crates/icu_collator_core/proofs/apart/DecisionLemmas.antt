@@ -9,7 +9,7 @@ use Rattle.icu_collator_core.specs.Pools.{index_of, offset_primary}
 use Rattle.icu_collator_core.specs.PrefixFaults.{AreWeightsApart, IsRanged, IsRangedIn, IsSpelled}
 use Rattle.icu_collator_core.specs.WeightLists.{IsLeadOf, IsRangedLead, Lists, is_beside_lead}
 use Rattle.icu_collator_core.specs.WeightRules.{are_apart_elements, is_beside_ranged}
-use Rattle.icu_collator_core.proofs.apart.SpellingLemmas.{all_pass, lead_of_range}
+use Rattle.icu_collator_core.proofs.apart.ApartSpellingLemmas.{all_pass, lead_of_range}
 
 -- ---- Leads of ranges
 

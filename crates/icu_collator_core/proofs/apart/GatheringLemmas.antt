@@ -11,7 +11,7 @@ use Rattle.icu_normalizer_core.proofs.ScalarLemmas.{scalar_below}
 use Rattle.icu_collator_core.specs.Pools.{Pools, index_of, trie_of}
 use Rattle.icu_collator_core.specs.PrefixFaults.{HasValue}
 use Rattle.icu_collator_core.specs.WordForms.{keeps_nothing}
-use Rattle.icu_collator_core.proofs.checks.ValueLemmas.{folded_readable}
+use Rattle.icu_collator_core.proofs.checks.CheckedValueLemmas.{folded_readable}
 use Rattle.icu_collator_core.proofs.apart.GrowthLemmas.{UpTo, item_at}
 
 -- ---- Values

@@ -12,7 +12,7 @@ use Rattle.icu_collator_core.specs.WeightLists.{are_steps_apart, weight_on}
 use Rattle.icu_collator_core.specs.WeightRules.{are_apart, are_apart_elements, primary_bytes, weight_bytes}
 use Rattle.icu_collator_core.proofs.apart.BeginningLemmas.{apart_from, none_begun, weights_as_primaries}
 use Rattle.icu_collator_core.proofs.apart.GrowthLemmas.{item_at}
-use Rattle.icu_collator_core.proofs.apart.OrderLemmas.{steps_tell}
+use Rattle.icu_collator_core.proofs.apart.ApartOrderLemmas.{steps_tell}
 
 module _ {X Y : Type 0} (f : X → Y) where
   pub mapped_in : (xs : List X) (x : X) → Contains xs x → Contains (map f xs) (f x)

@@ -11,7 +11,7 @@ use Rattle.icu_collator_core.specs.ContextFaults.{KeepsPrefixRules, KeepsSuffixR
 use Rattle.icu_collator_core.specs.ContextRules.{KeepsContextRules, KeysPass, has_marks_last, is_recorded_by, is_recorded_shorter, is_suffix, may_be_digit}
 use Rattle.icu_collator_core.specs.Pools.{elements_of_word, lone_word, suffix_word, unprefixed_word}
 use Rattle.icu_collator_core.specs.TableMeaning.{TableWord, is_primary_alone, own_primary, recorded_by, unless_own}
-use Rattle.icu_collator_core.proofs.checks.TestLemmas.{no_is}
+use Rattle.icu_collator_core.proofs.checks.CheckedTestLemmas.{no_is}
 use Rattle.icu_collator_core.proofs.checks.WalkLemmas.{parts_pass}
 
 -- ---- Words that record something

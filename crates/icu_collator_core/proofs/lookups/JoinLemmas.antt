@@ -16,7 +16,7 @@ use Rattle.icu_collator_core.specs.Pools.{Pools, elements_of_word, unprefixed_wo
 use Rattle.icu_collator_core.specs.TableMeaning.{TableWord, recorded_by}
 use Rattle.icu_collator_core.specs.ReadTexts.{IsAtText, if_recorded, suffix_units, word_by}
 use Rattle.icu_collator_core.proofs.lookups.MatchLemmas.{recorded_behind}
-use Rattle.icu_collator_core.proofs.lookups.TextLemmas.{answer_after, follow_after, units_some}
+use Rattle.icu_collator_core.proofs.lookups.LookedUpTextLemmas.{answer_after, follow_after, units_some}
 
 joined_units : (suffix : List ℕ) (c : ℕ) → flat_map units_of (suffix ++ c ∷ []) ≡ flat_map units_of suffix ++ units_of c
 joined_units suffix c =

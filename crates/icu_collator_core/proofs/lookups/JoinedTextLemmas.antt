@@ -9,7 +9,7 @@ use Rattle.icu_normalizer_core.specs.Canonical.{Canonical}
 use Rattle.icu_collator_core.specs.declared.reading.joining.OpenText.{OpenText}
 use Rattle.icu_collator_core.specs.AlikeLists.{AreAlike}
 use Rattle.icu_collator_core.specs.Elements.{Joining, Placed, characters_of, joining, placed, placed_behind}
-use Rattle.icu_collator_core.specs.JoinedTexts.{HasJoined, HaveMoved, IsFoundAs, IsWordOf}
+use Rattle.icu_collator_core.specs.JoinedTexts.{HasJoined, HaveMoved, IsFoundAs, IsWordOfText}
 use Rattle.icu_collator_core.specs.MovedMarks.{KnowNoMarksBefore}
 use Rattle.icu_collator_core.specs.ReadTexts.{characters_before}
 use Rattle.icu_collator_core.specs.TableMeaning.{TableWord}
@@ -83,7 +83,7 @@ module _ (canonical : Canonical) (weights : Weights) (entry : TableWord) (c : �
   found_is e =
       let is : ended ≡ found = sym e ∙ h.same in
       record {
-        elements = subst (λ (j : Joining). IsWordOf weights entry.pools c j.text text.word) is h.said;
+        elements = subst (λ (j : Joining). IsWordOfText weights entry.pools c j.text text.word) is h.said;
         left = λ known. subst (λ (j : Joining). AreAlike weights j.left (drop text.next (placed new))) is (left_alike known);
       }
 

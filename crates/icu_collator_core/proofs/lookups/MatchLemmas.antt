@@ -15,7 +15,7 @@ use Rattle.icu_collator_core.specs.TableMeaning.{TableWord, recorded_by}
 use Rattle.icu_collator_core.specs.Weights.{Weights}
 use Rattle.icu_collator_core.specs.ReadTexts.{found_or, length_with, longer_by, longest_text, text_by, text_of_length, word_by}
 use Rattle.icu_collator_core.specs.ReadWords.{AreSaidBy}
-use Rattle.icu_collator_core.proofs.lookups.TextLemmas.{greatest_more}
+use Rattle.icu_collator_core.proofs.lookups.LookedUpTextLemmas.{greatest_more}
 
 pub scalars_front : (n : ℕ) (cs : List ℕ) → scalars cs ≡ true → scalars (take n cs) ≡ true
 scalars_front zero cs e = refl

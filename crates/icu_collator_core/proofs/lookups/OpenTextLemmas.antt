@@ -12,7 +12,7 @@ use Rattle.icu_char16trie.specs.declared.Char16TrieIterator.{Char16TrieIterator}
 use Rattle.icu_normalizer_core.specs.Canonical.{Canonical}
 use Rattle.icu_collator_core.specs.declared.reading.joining.OpenText.{OpenText}
 use Rattle.icu_collator_core.specs.Elements.{Joining, Placed, characters_of, joining, longest_prefix, placed, placed_behind}
-use Rattle.icu_collator_core.specs.JoinedTexts.{HasJoined, HaveMoved, IsWordOf, brought_forward, has_suffixes}
+use Rattle.icu_collator_core.specs.JoinedTexts.{HasJoined, HaveMoved, IsWordOfText, brought_forward, has_suffixes}
 use Rattle.icu_collator_core.specs.Pools.{Pools, elements_of_word}
 use Rattle.icu_collator_core.specs.ReadTexts.{IsAtText, characters_before, if_recorded, suffix_units, word_by}
 use Rattle.icu_collator_core.specs.TableMeaning.{TableWord, recorded_by}
@@ -205,7 +205,7 @@ nothing_moved class old text inside none =
     }
 
 pub nothing_joined : (canonical : Canonical) (weights : Weights) (entry : TableWord) (c : ℕ) (suffix old : List ℕ) (text : OpenText)
-    → IsAtText (suffix_units entry) suffix text.cursor → scalars suffix ≡ true → IsWordOf weights entry.pools c (c ∷ suffix) text.word
+    → IsAtText (suffix_units entry) suffix text.cursor → scalars suffix ≡ true → IsWordOfText weights entry.pools c (c ∷ suffix) text.word
     → HasJoined canonical weights entry c suffix text.next old text.next old text
 nothing_joined canonical weights entry c suffix old text stands spelled said =
     record {

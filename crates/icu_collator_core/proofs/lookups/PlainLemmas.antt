@@ -20,7 +20,7 @@ use Rattle.icu_collator_core.specs.Weights.{Weights}
 use Rattle.icu_collator_core.proofs.lookups.AloneLemmas.{alone_said, alone_spelled, offset_spells_none}
 use Rattle.icu_collator_core.proofs.lookups.MatchLemmas.{recorded_behind, scalars_front}
 use Rattle.icu_collator_core.proofs.lookups.PrefixLemmas.{recorded_before, scalars_back}
-use Rattle.icu_collator_core.proofs.lookups.TextLemmas.{greatest_past}
+use Rattle.icu_collator_core.proofs.lookups.LookedUpTextLemmas.{greatest_past}
 use Rattle.icu_collator_core.proofs.meaning.WordTagLemmas.{lone_same, other_tag, stated_elements, stated_tag, unprefixed_same}
 
 -- the element of a word that states one is all that the word spells

@@ -21,7 +21,7 @@ use Rattle.icu_collator_core.specs.Weights.{Weights}
 use Rattle.icu_collator_core.specs.ReadTexts.{characters_before, found_or, longest_text, prefixed_by, text_by, text_of_length, word_by}
 use Rattle.icu_collator_core.specs.ReadWords.{AreSaidBy}
 use Rattle.icu_collator_core.proofs.lookups.MatchLemmas.{scalars_front}
-use Rattle.icu_collator_core.proofs.lookups.TextLemmas.{HasRead, greatest_past, read_more}
+use Rattle.icu_collator_core.proofs.lookups.LookedUpTextLemmas.{HasRead, greatest_past, read_more}
 
 -- ---- Characters before a place
 

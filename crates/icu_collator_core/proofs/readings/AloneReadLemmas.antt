@@ -13,7 +13,7 @@ use Rattle.icu_collator_core.specs.Pools.{element_of}
 use Rattle.icu_collator_core.specs.Weights.{Weights}
 use Rattle.icu_collator_core.proofs.lookups.MatchLemmas.{scalars_front}
 use Rattle.icu_collator_core.proofs.lookups.OpenTextLemmas.{joining_ends, joining_stays}
-use Rattle.icu_collator_core.proofs.lookups.TextLemmas.{greatest_past}
+use Rattle.icu_collator_core.proofs.lookups.LookedUpTextLemmas.{greatest_past}
 use Rattle.icu_collator_core.proofs.readings.CaseLemmas.{reading_otherwise}
 
 pub not_some : {A : Type 0} (o : Option A) → is_some o ≡ false → o ≡ None

@@ -16,7 +16,7 @@ use Rattle.icu_collator_core.specs.ReadSteps.{IsReadAs}
 use Rattle.icu_collator_core.specs.Weights.{Weights}
 use Rattle.icu_collator_core.proofs.lookups.FoundTextLemmas.{characters_left}
 use Rattle.icu_collator_core.proofs.readings.AlikeLemmas.{count_of, taken_of}
-use Rattle.icu_collator_core.proofs.readings.StepLemmas.{alike_self}
+use Rattle.icu_collator_core.proofs.readings.ReadStepLemmas.{alike_self}
 
 -- a digit that stands before others; where there is none, nothing
 abbrev digit_before : Option ℕ → List ℕ → List ℕ

@@ -22,7 +22,7 @@ use Rattle.icu_collator_core.proofs.lookups.OpenTextLemmas.{scalars_behind}
 use Rattle.icu_collator_core.proofs.lookups.PackedLemmas.{unpacked_more}
 use Rattle.icu_collator_core.proofs.lookups.PrefixLemmas.{scalars_back}
 use Rattle.icu_collator_core.proofs.readings.AloneReadLemmas.{alone_read}
-use Rattle.icu_collator_core.proofs.readings.StepLemmas.{alike_self, left_from, nothing_from, read_from}
+use Rattle.icu_collator_core.proofs.readings.ReadStepLemmas.{alike_self, left_from, nothing_from, read_from}
 
 pub below : (n m : ℕ) → n ≤ m → (n ≡ m → ⊥) → n < m
 below n m le differ = elim (cases_lt n m) [ inl lt ↦ lt | inr past ↦ absurd (differ (omega (arith, le, past))) ]

@@ -13,16 +13,16 @@ use Rattle.icu_char16trie.specs.KeyFolds.{AreFolded}
 use Rattle.icu_char16trie.specs.UnitGrammar.{IsUnitTrie}
 use Rattle.icu_collator_core.specs.declared.check.walks.Reading.{Reading}
 use Rattle.icu_collator_core.specs.declared.check.walks.Reading.TheVariants.{Whole, Half, Broken}
-use Rattle.icu_collator_core.specs.declared.tied.texts.Met.{Met}
-use Rattle.icu_collator_core.specs.declared.tied.texts.Side.TheVariants.{Before, Behind}
+use Rattle.icu_collator_core.specs.declared.unsafe_characters.context_texts.Met.{Met}
+use Rattle.icu_collator_core.specs.declared.unsafe_characters.context_texts.Side.TheVariants.{Before, Behind}
 use Rattle.icu_collator_core.specs.ContextRules.{characters_of_units}
 use Rattle.icu_collator_core.specs.KeyTexts.{read_small, read_unit}
 use Rattle.icu_collator_core.specs.Pools.{Pools, index_of, trie_of}
 use Rattle.icu_collator_core.specs.TextFolds.{count_with, has_met, met_with}
-use Rattle.icu_collator_core.specs.TiedWords.{ContextGives, ContextTies, IsKeyOf, IsLastOf, ReadingGives}
+use Rattle.icu_collator_core.specs.UnsafeWords.{ContextGives, ContextMakesUnsafe, IsKeyOf, IsLastOf, ReadingGives}
 use Rattle.icu_collator_core.proofs.apart.GrowthLemmas.{UpTo}
-use Rattle.icu_collator_core.proofs.checks.FoldLemmas.{short_from}
-use Rattle.icu_collator_core.proofs.checks.ValueLemmas.{folded_readable}
+use Rattle.icu_collator_core.proofs.checks.CheckedFoldLemmas.{short_from}
+use Rattle.icu_collator_core.proofs.checks.CheckedValueLemmas.{folded_readable}
 use Rattle.icu_collator_core.proofs.checks.WalkLemmas.{spelled_whole, whole}
 use Rattle.icu_collator_core.proofs.meaning.ContextTextLemmas.{units_spell}
 use Rattle.icu_collator_core.proofs.unsafety.KeyUnitLemmas.{is_small, key_back, text_small}
@@ -233,8 +233,8 @@ pub broken_gives_none : (pools : Pools) (many first word : ℕ) → (IsUnitTrie 
     → (d : ℕ) → ContextGives pools many first word d → ⊥
 broken_gives_none pools many first word broken d h = broken h.2.0
 
--- the texts behind a character tie what stands at their places, seven at most
-pub all_places : (pools : Pools) (word d : ℕ) → UpTo (λ k e. ContextGives pools (suc k) 0 word e) 7 d ↔ ContextTies pools Behind word d
+-- the texts behind a character make unsafe what stands at their places, seven at most
+pub all_places : (pools : Pools) (word d : ℕ) → UpTo (λ k e. ContextGives pools (suc k) 0 word e) 7 d ↔ ContextMakesUnsafe pools Behind word d
 all_places pools word d = (
   λ w. let g = w.2 in (
     g.0,
@@ -262,6 +262,6 @@ all_places pools word d = (
       ),
 )
 
--- a text before a character ties that one
-pub any_text : (pools : Pools) (word c d : ℕ) → ContextGives pools zero c word d ↔ ContextTies pools (Before c) word d
+-- a text before a character makes that one unsafe
+pub any_text : (pools : Pools) (word c d : ℕ) → ContextGives pools zero c word d ↔ ContextMakesUnsafe pools (Before c) word d
 any_text pools word c d = (λ g. (g.0, g.1, g.2, g.3, (g.4, g.5)), λ t. (t.0, t.1, t.2, t.3, t.4.0, t.4.1))

@@ -5,20 +5,20 @@ use Rattle.std.specs.Char.{IsScalar}
 use Rattle.std.specs.List.{Contains}
 use Rattle.std.proofs.lemmas.Bool.{cases_lt, eqb-true, false≢true}
 use Rattle.icu_normalizer_core.specs.Canonical.{Canonical, IsDecomposing, Leaves}
-use Rattle.icu_collator_core.specs.TiedWords.{AreTied}
-use Rattle.icu_collator_core.specs.UnsafeCharacters.{IsSafe, IsTied, IsUnsafe, IsUnsafeItself}
+use Rattle.icu_collator_core.specs.UnsafeWords.{AreUnsafeByRecords}
+use Rattle.icu_collator_core.specs.UnsafeCharacters.{IsSafe, IsUnsafeByRecords, IsUnsafe, IsUnsafeItself}
 use Rattle.icu_collator_core.specs.Weights.{Weights}
 
 module _ (canonical : Canonical) (weights : Weights) (c : ℕ) where
-  -- a starter is unsafe by itself just where the list of tied characters holds it
-  pub starter_is_unsafe : (tied items : List ℕ) (starter held : Bool) → AreTied weights tied → items ≡ tied → starter ≡ (canonical.class c == 0)
+  -- a starter is unsafe by itself just where the list of unsafe characters holds it
+  pub starter_is_unsafe : (unsafe_characters items : List ℕ) (starter held : Bool) → AreUnsafeByRecords weights unsafe_characters → items ≡ unsafe_characters → starter ≡ (canonical.class c == 0)
       → starter ≡ true → (IsTrue held ↔ Contains items c) → IsTrue held ↔ IsUnsafeItself canonical weights c
-  starter_is_unsafe tied items starter held are same told first by =
+  starter_is_unsafe unsafe_characters items starter held are same told first by =
       let zero = eqb-true (canonical.class c) 0 (sym told ∙ first) in (
         λ t. inr ((are.all c).0 (subst (λ xs. Contains xs c) same (by.0 t))),
         λ s. ⊎_elim
             (λ (mark : canonical.class c ≢ 0). absurd (mark zero))
-            (λ (is : IsTied weights c). by.1 (subst (λ xs. Contains xs c) (sym same) ((are.all c).1 is)))
+            (λ (is : IsUnsafeByRecords weights c). by.1 (subst (λ xs. Contains xs c) (sym same) ((are.all c).1 is)))
             s,
       )
 

@@ -5,7 +5,7 @@ use Rattle.std.specs.Prelude.{◌==◌, MatchOption}
 use Rattle.std.proofs.lemmas.Option.{none-some, same_Some, slice_get_past, unwrap_or-slice_get}
 use Rattle.std.proofs.lemmas.List.{get_or-replicate, length-replicate}
 use Rattle.std.specs.Option.{unwrap_or}
-use Rattle.icu_collator_core.specs.ReorderingTests.{AreNoted, IsFunctional}
+use Rattle.icu_collator_core.specs.ReorderingTests.{AreValuesNoted, IsFunctional}
 
 none_at : (count k : ℕ) → (k < count) ⊎ (count ≤ k) → ◌≡◌ {A = Option ℕ} (get_or (replicate count None) k None) None
 none_at count k (inl lt) = get_or-replicate count k None None lt
@@ -15,16 +15,16 @@ none_at count k (inr ge) =
     in sym (unwrap_or-slice_get (replicate count None) k None) ∙ ap (λ o. unwrap_or o None) (slice_get_past (replicate count None) k past)
 
 -- none are noted at first
-pub none_noted : (key value : ℕ → ℕ) (count : ℕ) → AreNoted key value 0 (replicate count None)
+pub none_noted : (key value : ℕ → ℕ) (count : ℕ) → AreValuesNoted key value 0 (replicate count None)
 none_noted key value count = record {
   each = λ i lt. absurd (omega (arith, lt));
   only = λ k v is. absurd (none-some v (sym (none_at count k (cases_lt k count)) ∙ is));
 }
 
 -- the next one is noted, where its key had no value, or the same
-pub next_noted : (key value : ℕ → ℕ) (n : ℕ) (noted : List (Option ℕ)) → AreNoted key value n noted → key n < length noted
+pub next_noted : (key value : ℕ → ℕ) (n : ℕ) (noted : List (Option ℕ)) → AreValuesNoted key value n noted → key n < length noted
     → ((v : ℕ) → get_or noted (key n) None ≡ Some v → v ≡ value n)
-    → AreNoted key value (n + 1) (set noted (key n) (Some (value n)))
+    → AreValuesNoted key value (n + 1) (set noted (key n) (Some (value n)))
 next_noted key value n noted were inside same = record { each = λ i lt. each i lt (cases_eq i n); only = λ k v is. only k v is (cases_eq k (key n)) }
   where
     written : get_or (set noted (key n) (Some (value n))) (key n) None ≡ Some (value n)
@@ -51,19 +51,19 @@ next_noted key value n noted were inside same = record { each = λ i lt. each i 
     only k v is (inr e) = let before = were.only k v (sym (kept k e) ∙ is) in (before.0, omega (arith, before.1), before.2, before.3)
 
 -- two values of one key are noted
-pub noted_apart : (key value : ℕ → ℕ) (n count v : ℕ) (noted : List (Option ℕ)) → AreNoted key value n noted → n < count
+pub noted_apart : (key value : ℕ → ℕ) (n count v : ℕ) (noted : List (Option ℕ)) → AreValuesNoted key value n noted → n < count
     → get_or noted (key n) None ≡ Some v → v ≢ value n → IsFunctional key value count → ⊥
 noted_apart key value n count v noted were lt is differs functional =
     let before = were.only (key n) v is
     in differs (sym before.3 ∙ functional before.0 n (omega (arith, before.1, lt)) lt before.2)
 
 -- where all are noted, one key has one value
-pub all_noted : (key value : ℕ → ℕ) (count : ℕ) (noted : List (Option ℕ)) → AreNoted key value count noted → IsFunctional key value count
+pub all_noted : (key value : ℕ → ℕ) (count : ℕ) (noted : List (Option ℕ)) → AreValuesNoted key value count noted → IsFunctional key value count
 all_noted key value count noted were i j lti ltj same =
     same_Some (value i) (value j) (sym (were.each i lti) ∙ ap (λ k. get_or noted k None) same ∙ were.each j ltj)
 
 -- a value that isn't the one noted shows the same
-pub noted_refused : (key value : ℕ → ℕ) (n count k v : ℕ) (noted : List (Option ℕ)) → AreNoted key value n noted → n < count
+pub noted_refused : (key value : ℕ → ℕ) (n count k v : ℕ) (noted : List (Option ℕ)) → AreValuesNoted key value n noted → n < count
     → k ≡ key n → v ≡ value n → MatchOption (get_or noted k None) (false ≡ true) (λ other. false ≡ (other == v))
     → IsFunctional key value count → ⊥
 noted_refused key value n count k v noted were lt hk hv told functional = at (get_or noted k None) refl told

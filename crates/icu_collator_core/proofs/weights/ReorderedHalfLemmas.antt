@@ -7,7 +7,7 @@ use Rattle.icu_collator_core.specs.declared.tables.special_primaries.CollationSp
 use Rattle.icu_collator_core.specs.TableSettings.{goes_past, is_compressible_in, led_by, moved_in_parts, reordered_by, without_byte}
 use Rattle.icu_collator_core.specs.WeightRules.{is_letter_lead}
 use Rattle.icu_collator_core.specs.WeightFaults.{KeepsApart, KeepsOthers, KeepsCompressible}
-use Rattle.icu_collator_core.specs.ReorderingTests.{AreAllApart, AreAlike, AreSteadyHalves, has_one_lead, keeps_other, new_lead}
+use Rattle.icu_collator_core.specs.ReorderingTests.{AreAllApart, AreAlikeCompressible, AreSteadyHalves, has_one_lead, keeps_other, new_lead}
 
 -- ---- The rest of a primary stays
 
@@ -220,7 +220,7 @@ tests_keep_others reordering steady p lt other =
     whole x upper lower = omega (arith, upper, lower)
 
 pub tests_keep_compressible : (special : CollationSpecialPrimaries) (reordering : CollationReordering)
-    → AreSteadyHalves reordering → AreAlike special reordering → KeepsCompressible special reordering
+    → AreSteadyHalves reordering → AreAlikeCompressible special reordering → KeepsCompressible special reordering
 tests_keep_compressible special reordering steady alike p q ltp ltq same =
     let lead_p : p / 2 ^ 16 / 2 ^ 8 ≡ p / 2 ^ 24 = omega arith
     in let lead_q : q / 2 ^ 16 / 2 ^ 8 ≡ q / 2 ^ 24 = omega arith
@@ -256,7 +256,7 @@ halves_apart reordering apart second under i j lti ltj same =
     seconds : second < 2 ^ 8 → ((i * 2 ^ 8 + second) * 2 ^ 16 + 0) / 2 ^ 16 % 2 ^ 8 ≡ ((j * 2 ^ 8 + second) * 2 ^ 16 + 0) / 2 ^ 16 % 2 ^ 8
     seconds lt = omega (arith, lt)
 
-pub halves_alike : (special : CollationSpecialPrimaries) (reordering : CollationReordering) → KeepsCompressible special reordering → AreAlike special reordering
+pub halves_alike : (special : CollationSpecialPrimaries) (reordering : CollationReordering) → KeepsCompressible special reordering → AreAlikeCompressible special reordering
 halves_alike special reordering keeps i j lti ltj same =
     let lead_i : (i * 2 ^ 16 + 0) / 2 ^ 24 ≡ i / 2 ^ 8 = omega arith
     in let lead_j : (j * 2 ^ 16 + 0) / 2 ^ 24 ≡ j / 2 ^ 8 = omega arith

@@ -2,9 +2,9 @@
 //! weights of each level are put in order, so that one that begins another begins the next.
 
 mod decision;
-mod elements;
+mod spelled_elements;
 mod leads;
 mod levels;
-mod words;
+mod character_words;
 
 pub(crate) use decision::are_weights_apart;

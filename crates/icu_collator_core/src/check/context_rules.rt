@@ -8,7 +8,7 @@ ghost use Rattle.icu_collator_core.specs.Pools.{unprefixed_word};
 ghost use Rattle.icu_collator_core.specs.TableFaults.{AllPassIn, IsFirstRefused};
 ghost use Rattle.icu_collator_core.specs.TableMeaning.{pools_of, weights_of};
 
-use super::characters::{CharacterTest, first_refused};
+use super::refused_characters::{CharacterTest, first_refused};
 use super::digits::is_digit;
 use super::fields::{has_tag, index_of};
 use super::flags::are_flags_true;

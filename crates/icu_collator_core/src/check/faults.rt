@@ -6,7 +6,7 @@ ghost use Rattle.icu_collator_core.specs.Acceptance.{HaveSoundWords, IsAccepted,
 
 use super::TableFault;
 use super::apart::are_weights_apart;
-use super::characters::first_trie_fault;
+use super::refused_characters::first_trie_fault;
 use super::context_rules::first_context_fault;
 use super::forms::first_word_fault;
 use super::places::first_index_fault;

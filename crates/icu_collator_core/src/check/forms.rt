@@ -5,9 +5,9 @@ ghost use Rattle.std.specs.List.{list_all};
 ghost use Rattle.icu_normalizer_core.specs.CanonicalWords.{items_at};
 ghost use Rattle.icu_collator_core.specs.TableFaults.{AllPassIn, HasWord, IsFirstRefused};
 ghost use Rattle.icu_collator_core.specs.TableMeaning.{pools_of};
-ghost use Rattle.icu_collator_core.specs.WordForms.{states_element, is_list_of_words, is_other_own, is_own_word, is_digit_word, is_fallback, ValuesPass, IsContraction, IsUnprefixed, IsPrefixed, IsWord, states_primary, keeps_special};
+ghost use Rattle.icu_collator_core.specs.WordForms.{states_element, is_list_of_words, is_other_own, is_own_word, is_digit_word, is_fallback, ValuesPass, IsContraction, IsUnprefixedWord, IsPrefixed, IsWord, states_primary, keeps_special};
 
-use super::characters::{CharacterTest, first_refused};
+use super::refused_characters::{CharacterTest, first_refused};
 use super::contexts::default_of;
 use super::fields::{digit_value, has_form, index_of, is_special, length_of, word_at};
 use super::layers::Layer;
@@ -136,7 +136,7 @@ fn is_contraction(alloc: Global, source: &CollationData<'_>, word: u32) -> Resul
 
 /// Whether a word may stand where no prefix counts.
 fn is_unprefixed(alloc: Global, source: &CollationData<'_>, word: u32) -> Result<bool, AllocError>
-    ensures { IfOk result (λ yes. IsTrue yes ↔ IsUnprefixed (pools_of source.now) word) }
+    ensures { IfOk result (λ yes. IsTrue yes ↔ IsUnprefixedWord (pools_of source.now) word) }
 {
     if is_own_word(source, word) {
         return Ok(true);

@@ -6,7 +6,7 @@ ghost use Rattle.icu_collator_core.specs.TableMeaning.{pools_of};
 ghost use Rattle.icu_collator_core.specs.WordForms.{ValuesPass};
 ghost use Rattle.icu_collator_core.specs.WordPlaces.{has_list, has_items, has_digit_word, has_context, IsContractionInside, IsUnprefixedInside, IsPrefixInside, IsInside};
 
-use super::characters::{CharacterTest, first_refused};
+use super::refused_characters::{CharacterTest, first_refused};
 use super::contexts::default_of;
 use super::fields::{has_tag, index_of, length_of, word_at};
 use super::layers::Layer;

@@ -13,7 +13,7 @@ ghost use Rattle.icu_collator_core.specs.TextFolds.{says_elements};
 use super::walks::{TextTest, keys_pass, units_of};
 use super::weights::lone_word;
 use crate::check_weights::has_other_elements;
-use crate::reading::elements::has_elements;
+use crate::reading::word_elements::has_elements;
 use crate::reading::suffixes::word_of;
 use crate::tables::{CollationData, CollationSpecialPrimaries};
 use icu_char16trie::{Char16Trie, CursorPlace, TrieResult};

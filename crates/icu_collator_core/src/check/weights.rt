@@ -9,7 +9,7 @@ ghost use Rattle.icu_collator_core.specs.WeightFaults.{is_sound_in_context};
 ghost use Rattle.icu_collator_core.specs.WordForms.{ValuesPass};
 ghost use Rattle.icu_collator_core.specs.WordWeights.{HasSoundWords, HasWeights};
 
-use super::characters::{CharacterTest, first_refused};
+use super::refused_characters::{CharacterTest, first_refused};
 use super::contexts::default_of;
 use super::fields::{has_tag, index_of, word_at};
 use super::layers::Layer;

@@ -1,7 +1,7 @@
 //! Whether what primaries stand in the place of others keeps them apart.
 
 ghost use Rattle.std.specs.Prelude.{◌≡◌, ◌↔◌, ◌+◌, ◌*◌, ◌/◌, ◌^◌, ◌<◌, IsTrue};
-ghost use Rattle.icu_collator_core.specs.ReorderingTests.{AreAllApart, AreAlike, AreApartUnder, AreSteadyHalves, compressible_bit, is_steady_half, new_lead};
+ghost use Rattle.icu_collator_core.specs.ReorderingTests.{AreAllApart, AreAlikeCompressible, AreApartUnder, AreSteadyHalves, compressible_bit, is_steady_half, new_lead};
 ghost use Rattle.icu_collator_core.specs.WeightFaults.{HasSoundReordering, IsSoundReordering};
 
 use super::noted::note;
@@ -83,7 +83,7 @@ fn compressible_bit(special: &CollationSpecialPrimaries<'_>, lead: u8) -> u8
 
 /// Whether upper halves that get one lead have leads that are alike compressible.
 fn are_alike(special: &CollationSpecialPrimaries<'_>, reordering: &CollationReordering<'_>) -> bool
-    ensures { IsTrue result ↔ AreAlike special.now reordering.now }
+    ensures { IsTrue result ↔ AreAlikeCompressible special.now reordering.now }
 {
     let mut noted = [None; BYTE_COUNT];
     for half in 0..HALF_COUNT {

@@ -4,7 +4,7 @@ ghost use Rattle.std.specs.Prelude.{◌≡◌, ◌∷◌, []};
 ghost use Rattle.icu_collator_core.specs.SpelledTests.{if_any, nothing_read, passes, with_bits, with_element, with_word};
 ghost use Rattle.icu_collator_core.specs.WeightFaults.{are_sound_spelled};
 
-use super::elements::{element_of, stated_element};
+use super::unpacked_elements::{element_of, stated_element};
 use super::own::is_own_element;
 use super::rules::is_sound_spelled;
 use crate::tables::CollationSpecialPrimaries;

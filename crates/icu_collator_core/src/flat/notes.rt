@@ -7,10 +7,10 @@ ghost use Rattle.icu_collator_core.specs.FlatNotes.{AreFlatNotes, IsFlatNote, Is
 ghost use Rattle.icu_collator_core.specs.ReadSources.{canonical_by};
 ghost use Rattle.icu_collator_core.specs.TableSettings.{has_bit};
 
-use super::list::FlatElements;
+use super::flat_elements::FlatElements;
 use crate::checked::CheckedTables;
 use crate::elements::special_primary;
-use crate::reading::words::checked_word;
+use crate::reading::counting_words::checked_word;
 use icu_collator_types::elements::CollationElement;
 use std::alloc::{AllocError, Global};
 

@@ -9,8 +9,8 @@ ghost use Rattle.icu_collator_core.specs.Weights.{Weights};
 ghost use Rattle.icu_collator_core.specs.ReadWords.{AreSaidBy, default_by, elements_alone_by, elements_spelled_by, table_word};
 ghost use Rattle.icu_collator_core.specs.TableMeaning.{digit_by, pools_of, ranged_by};
 
-use super::elements::push_elements;
-use super::words::CountingWord;
+use super::word_elements::push_elements;
+use super::counting_words::CountingWord;
 use crate::check::fields::{digit_value, has_tag, index_of};
 use crate::check::weights::lone_word;
 use crate::check_weights::entry_at;

@@ -7,7 +7,7 @@ ghost use Rattle.smallvec.specs.SmallVec.{small_vec_len};
 ghost use Rattle.icu_char16trie.specs.Cursors.{trie_units};
 ghost use Rattle.icu_normalizer_core.specs.BorrowedMeaning.{borrowed_meaning};
 ghost use Rattle.icu_collator_core.specs.Elements.{joining, match_length, placed};
-ghost use Rattle.icu_collator_core.specs.JoinedTexts.{HasReadMark, IsFoundAs, IsTextMatch, IsWordOf, brought_forward, has_suffixes};
+ghost use Rattle.icu_collator_core.specs.JoinedTexts.{HasReadMark, IsFoundAs, IsTextMatch, IsWordOfText, brought_forward, has_suffixes};
 ghost use Rattle.icu_collator_core.specs.MovedMarks.{moves_marks};
 ghost use Rattle.icu_collator_core.specs.ReadTexts.{IsAtText, suffix_units};
 ghost use Rattle.icu_collator_core.specs.ReadWords.{AreSaidBy, table_word};
@@ -15,7 +15,7 @@ ghost use Rattle.icu_collator_core.specs.TableMeaning.{pools_of};
 ghost use Rattle.icu_collator_core.specs.Weights.{Weights};
 
 use super::marks::cursor_behind;
-use super::words::CountingWord;
+use super::counting_words::CountingWord;
 use icu_char16trie::{Char16Trie, Char16TrieIterator};
 use icu_normalizer_core::canonical::CanonicalBorrowed;
 use smallvec::SmallVec;
@@ -114,7 +114,7 @@ fn longest_open<'t>(
     ensures count { (weights : Weights) (c : ℕ) → AreSaidBy weights (table_word entry.entry) c → scalars (drop start list.now) ≡ true
         → match_length weights (c ∷ drop start list.now) ≡ result.next - start + 1 }
     ensures word { (weights : Weights) (c : ℕ) → AreSaidBy weights (table_word entry.entry) c → scalars (drop start list.now) ≡ true
-        → IsWordOf weights (pools_of entry.entry.source.now) c (c ∷ take (result.next - start) (drop start list.now)) result.word }
+        → IsWordOfText weights (pools_of entry.entry.source.now) c (c ∷ take (result.next - start) (drop start list.now)) result.word }
 {
     match entry.longer_text(list, start) {
         Some(text) => OpenText {
@@ -147,7 +147,7 @@ fn join_marks(
     ensures within { result.next ≤ length list.old }
     ensures found { (weights : Weights) (c : ℕ) (suffix : List ℕ) → AreSaidBy weights (table_word entry.entry) c → has_suffixes (table_word entry.entry) ≡ true
         → IsAtText (suffix_units (table_word entry.entry)) suffix first.entry.cursor
-        → IsWordOf weights (pools_of entry.entry.source.now) c (c ∷ suffix) first.entry.word
+        → IsWordOfText weights (pools_of entry.entry.source.now) c (c ∷ suffix) first.entry.word
         → scalars suffix ≡ true → scalars (drop first.entry.next list.old) ≡ true
         → IsFoundAs (borrowed_meaning canonical.entry) weights (pools_of entry.entry.source.now) c
         (joining (borrowed_meaning canonical.entry) weights (c ∷ suffix) [] (drop first.entry.next (placed list.old))) result list.new }

@@ -9,9 +9,9 @@ ghost use Rattle.icu_collator_core.specs.ReadTexts.{IsAtText, if_recorded, suffi
 ghost use Rattle.icu_collator_core.specs.ReadWords.{table_word};
 ghost use Rattle.icu_collator_core.specs.TableMeaning.{pools_of, recorded_by};
 
-use super::elements::has_elements;
+use super::word_elements::has_elements;
 use super::suffixes::{context_of, word_of};
-use super::words::CountingWord;
+use super::counting_words::CountingWord;
 use crate::check::fields::has_tag;
 use crate::check::weights::unprefixed_word;
 use crate::tables::CollationData;

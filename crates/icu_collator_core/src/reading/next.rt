@@ -13,7 +13,7 @@ ghost use Rattle.icu_collator_core.specs.TableMeaning.{digit_by};
 ghost use Rattle.icu_collator_core.specs.TableSettings.{has_bit};
 
 use super::digits::read_number;
-use super::words::{CountingWord, checked_word};
+use super::counting_words::{CountingWord, checked_word};
 use crate::checked::CheckedTables;
 use crate::elements::special_primary;
 use crate::tables::CollationTables;
@@ -78,7 +78,7 @@ pub(crate) fn find_alone(checked: &CheckedTables<'_>, c: char) -> Option<Collati
 pub(crate) fn alone_at(checked: &CheckedTables<'_>, c: char) -> Option<CollationElement>
     ensures { IfSome result (λ bits. IsAloneAnywhere checked.now c bits) }
 {
-    match checked.low_character(c) {
+    match checked.collation_note(c) {
         Some(note) => {
             let element = note.alone()?;
             Some(element)

@@ -7,8 +7,8 @@ ghost use Rattle.icu_collator_core.specs.PlainWords.{IsReadAlone, IsReadUncounte
 ghost use Rattle.icu_collator_core.specs.ReadWords.{AreSaidBy, table_word};
 ghost use Rattle.icu_collator_core.specs.Weights.{Weights};
 
-use super::elements::stated_by;
-use super::words::CountingWord;
+use super::word_elements::stated_by;
+use super::counting_words::CountingWord;
 use crate::check::fields::has_tag;
 use crate::check::weights::lone_word;
 use icu_collator_types::elements::{CollationElement, Tag};

@@ -12,7 +12,7 @@ ghost use Rattle.icu_collator_core.specs.TableMeaning.{pools_of};
 ghost use Rattle.icu_collator_core.specs.Weights.{Weights};
 
 use super::suffixes::{LongerText, context_of, is_last, longer_of};
-use super::words::CountingWord;
+use super::counting_words::CountingWord;
 use crate::check::fields::has_tag;
 use crate::tables::CollationData;
 use icu_char16trie::Char16Trie;

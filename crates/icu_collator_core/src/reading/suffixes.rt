@@ -13,8 +13,8 @@ ghost use Rattle.icu_collator_core.specs.ReadWords.{AreSaidBy, table_word};
 ghost use Rattle.icu_collator_core.specs.TableMeaning.{pools_of};
 ghost use Rattle.icu_collator_core.specs.Weights.{Weights};
 
-use super::elements::has_elements;
-use super::words::CountingWord;
+use super::word_elements::has_elements;
+use super::counting_words::CountingWord;
 use crate::check::fields::{has_tag, index_of};
 use crate::check::walks::units_of;
 use crate::check::weights::unprefixed_word;

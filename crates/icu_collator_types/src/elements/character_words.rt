@@ -4,7 +4,7 @@
 ghost use Rattle.std.specs.Prelude.{◌≡◌, ◌+◌, cond, false};
 ghost use Rattle.icu_collator_types.specs.TrieValues.{ccc_from_trie_value, has_ccc, is_special_decomposition};
 
-use super::characters::CharacterAndClass;
+use super::classed_characters::CharacterAndClass;
 use super::trie_values::{has_ccc, is_special_decomposition};
 
 /// A character, its class, and its word in canonical tables.

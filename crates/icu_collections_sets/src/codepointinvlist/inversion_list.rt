@@ -11,7 +11,7 @@ ghost use Rattle.icu_collections_sets.specs.Characters.{characters_of};
 ghost use Rattle.icu_collections_sets.specs.Gaps.{AreGapsOf};
 ghost use Rattle.icu_collections_sets.specs.SetErrors.{IsRefusedSlice};
 
-use super::characters::Chars;
+use super::set_characters::Chars;
 use super::gaps::ComplementedRanges;
 use super::ranges::CodePointRanges;
 use crate::packed_vector::PackedVec;

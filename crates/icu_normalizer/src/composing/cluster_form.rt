@@ -8,7 +8,7 @@ ghost use Rattle.icu_normalizer.specs.Texts.{IsAtEnd};
 
 use super::clusters::next_of_cluster;
 use super::composer::Composer;
-use crate::texts::Text;
+use crate::text_sources::Text;
 use icu_normalizer_core::decomposition::{FormData, Run};
 use std::alloc::{AllocError, Global};
 

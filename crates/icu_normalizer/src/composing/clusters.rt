@@ -4,7 +4,7 @@ ghost use Rattle.std.specs.Prelude.{◌≡◌, ◌∷◌, ◌<◌, IfSome, IfNon
 ghost use Rattle.icu_normalizer_core.specs.FormData.{form_meaning};
 ghost use Rattle.icu_normalizer.specs.Composing.{IsComposedApart};
 
-use crate::texts::Text;
+use crate::text_sources::Text;
 use icu_normalizer_core::decomposition::FormData;
 
 /// The next character of a cluster, and what stands behind it; `None` where the cluster ends, before a steady character

@@ -4,15 +4,15 @@ ghost use Rattle.std.specs.Prelude.{◌≡◌, ◌<◌, ◌≤◌, ◌++◌, len
 ghost use Rattle.icu_normalizer_core.specs.Canonical.{composed};
 ghost use Rattle.icu_normalizer_core.specs.FormData.{form_meaning};
 ghost use Rattle.icu_normalizer.specs.Clusters.{IsFound};
-ghost use Rattle.icu_normalizer.specs.LowCharacters.{AreLow};
+ghost use Rattle.icu_normalizer.specs.FormNotes.{AreLow};
 ghost use Rattle.icu_normalizer.specs.TextCuts.{IsTextCut, IsTextSplit};
 ghost use Rattle.icu_normalizer.specs.Texts.{IsAtEnd, IsUndamaged};
 
 use super::cluster_form::ClusterForm;
 use super::lone_mark::{LoneMark, lone_mark};
-use super::low::pass_low;
-use crate::low::LowCharacter;
-use crate::texts::Text;
+use super::mostly_unchanged::pass_low;
+use crate::form_notes::FormNote;
+use crate::text_sources::Text;
 use icu_normalizer_core::decomposition::FormData;
 use std::alloc::{AllocError, Global};
 
@@ -29,7 +29,7 @@ pub(super) enum Found<T> {
 pub(super) fn rest_to_change<T: Text>(
     alloc: Global,
     basis: FormData<'_>,
-    low: &[LowCharacter],
+    low: &[FormNote],
     text: T,
 ) -> Result<T, AllocError>
     requires { AreLow (form_meaning basis) low.now }
@@ -50,7 +50,7 @@ pub(super) fn rest_to_change<T: Text>(
 pub(super) fn split<T: Text>(
     alloc: Global,
     basis: FormData<'_>,
-    low: &[LowCharacter],
+    low: &[FormNote],
     text: T,
 ) -> Result<(T, T), AllocError>
     requires { AreLow (form_meaning basis) low.now }
@@ -76,7 +76,7 @@ pub(super) fn split_low<T: Text>(basis: FormData<'_>, text: T) -> (T, T)
 fn first_found<T: Text>(
     alloc: Global,
     basis: FormData<'_>,
-    low: &[LowCharacter],
+    low: &[FormNote],
     text: T,
 ) -> Result<Found<T>, AllocError>
     requires some { IsAtEnd (T.spelled text) → ⊥ }

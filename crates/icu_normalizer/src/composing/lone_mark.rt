@@ -4,15 +4,15 @@ ghost use Rattle.std.specs.Prelude.{◌≡◌, ◌<◌, ◌≤◌, [], ◌∷◌
 ghost use Rattle.std.specs.List.{AllByRecursion};
 ghost use Rattle.icu_normalizer_core.specs.Canonical.{composed, composing};
 ghost use Rattle.icu_normalizer_core.specs.FormData.{form_meaning};
-ghost use Rattle.icu_normalizer.specs.LowCharacters.{AreLow};
+ghost use Rattle.icu_normalizer.specs.FormNotes.{AreLow};
 ghost use Rattle.icu_normalizer.specs.LoneMarks.{IsLoneMark, IsMade, IsMark, IsSteadyUpTo, lone_form};
 ghost use Rattle.icu_normalizer.specs.Sinks.{AddsPrefix, EndsByFailure};
 ghost use Rattle.icu_normalizer.specs.Texts.{BeginsWith};
 
 use super::clusters::next_of_cluster;
-use crate::low::{LowCharacter, low_character};
+use crate::form_notes::{FormNote, form_note};
 use crate::sinks::NormError;
-use crate::texts::{Text, WriteTo};
+use crate::text_sources::{Text, WriteTo};
 use icu_normalizer_core::canonical::Reading;
 use icu_normalizer_core::decomposition::FormData;
 
@@ -32,7 +32,7 @@ pub(super) enum LoneMark {
 #[inline]
 pub(super) fn lone_mark<T: Text>(
     basis: FormData<'_>,
-    low: &[LowCharacter],
+    low: &[FormNote],
     text: T,
 ) -> Option<(LoneMark, T)>
     requires { AreLow (form_meaning basis) low.now }
@@ -74,11 +74,11 @@ fn undamaged_char<T: Text>(text: T) -> Option<(char, T)>
 
 /// The class of a mark that is known to be its own full list; `None` of other characters.
 #[inline]
-fn class_of_mark(basis: FormData<'_>, low: &[LowCharacter], c: char) -> Option<u8>
+fn class_of_mark(basis: FormData<'_>, low: &[FormNote], c: char) -> Option<u8>
     requires { AreLow (form_meaning basis) low.now }
     ensures { IfSome result (λ class. IsMark (form_meaning basis.entry) c class) }
 {
-    let Some(note) = low_character(low, c) else {
+    let Some(note) = form_note(low, c) else {
         return class_asked(basis, c);
     };
     if note.len != 1 || note.class == 0 {
@@ -102,11 +102,11 @@ fn class_asked(basis: FormData<'_>, c: char) -> Option<u8>
 
 /// Whether a character is known to be steady, and of no class above this one in its full list.
 #[inline]
-fn is_steady_up_to(basis: FormData<'_>, low: &[LowCharacter], c: char, class: u8) -> bool
+fn is_steady_up_to(basis: FormData<'_>, low: &[FormNote], c: char, class: u8) -> bool
     requires { AreLow (form_meaning basis) low.now }
     ensures { IsTrue result → IsSteadyUpTo (form_meaning basis.entry) c class }
 {
-    if let Some(note) = low_character(low, c) {
+    if let Some(note) = form_note(low, c) {
         if note.steady {
             return note.class <= class;
         }
@@ -149,7 +149,7 @@ fn has_classes_up_to(basis: FormData<'_>, c: char, class: u8) -> bool
 #[inline]
 fn composed_lone(
     basis: FormData<'_>,
-    low: &[LowCharacter],
+    low: &[FormNote],
     letter: char,
     mark: char,
     class: u8,

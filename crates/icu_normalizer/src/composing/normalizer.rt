@@ -8,7 +8,7 @@ ghost use Rattle.icu_normalizer_core.specs.Forming.{IsSaidOver};
 ghost use Rattle.icu_normalizer_core.specs.Iter.{Spells};
 ghost use Rattle.icu_normalizer_core.specs.Readable.{IsReadable};
 ghost use Rattle.icu_normalizer.specs.Composing.{IsComposable};
-ghost use Rattle.icu_normalizer.specs.LowCharacters.{AreLow};
+ghost use Rattle.icu_normalizer.specs.FormNotes.{AreLow};
 ghost use Rattle.icu_normalizer.specs.Sinks.{AddsPrefix, EndsByFailure};
 ghost use Rattle.icu_normalizer.specs.Texts.{IsAtEnd, IsUndamaged};
 ghost use Rattle.icu_normalizer.specs.Writer.{AddsFront};
@@ -21,9 +21,9 @@ use super::Composition;
 use super::cluster_form::ClusterForm;
 use super::cuts::{split, split_low};
 use super::lone_mark::{lone_mark, write_lone};
-use crate::low::LowCharacter;
+use crate::form_notes::FormNote;
 use crate::sinks::{NormError, TextSink};
-use crate::texts::{Text, WriteTo};
+use crate::text_sources::{Text, WriteTo};
 use crate::written::{WriteForm, write_form};
 use icu_normalizer_core::decomposition::FormData;
 use std::alloc::{AllocError, Global};
@@ -32,7 +32,7 @@ use std::alloc::{AllocError, Global};
 #[derive(Clone, Copy, Debug)]
 pub struct ComposingNormalizerBorrowed<'d> {
     basis: FormData<'d>,
-    low: &'d [LowCharacter],
+    low: &'d [FormNote],
     ghost notes: { AreLow (form_meaning basis) low.now },
     ghost readable: { IsReadable (form_meaning basis) },
     ghost composable: { IsComposable (form_meaning basis) },
@@ -45,7 +45,7 @@ impl<'d> ComposingNormalizerBorrowed<'d> {
     /// A normaliser over these data, with notes of low characters. It takes no memory.
     pub(super) fn over(
         basis: FormData<'d>,
-        low: &'d [LowCharacter],
+        low: &'d [FormNote],
     ) -> ComposingNormalizerBorrowed<'d>
         requires { AreLow (form_meaning basis) low.now }
         ensures { result.basis ≡ basis.entry }

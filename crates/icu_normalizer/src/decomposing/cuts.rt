@@ -5,7 +5,7 @@ ghost use Rattle.icu_normalizer_core.specs.FormData.{form_meaning, low_bound};
 ghost use Rattle.icu_normalizer.specs.TextCuts.{IsTextCut, IsTextSplit};
 
 use super::places::class_in_place;
-use crate::texts::Text;
+use crate::text_sources::Text;
 use icu_normalizer_core::decomposition::FormData;
 
 /// What has to be changed for a text to be in NFD, from the last starter before the first change on: nothing where the

@@ -8,7 +8,7 @@ ghost use Rattle.icu_normalizer_core.specs.FormData.{form_meaning};
 ghost use Rattle.icu_normalizer_core.specs.Forming.{IsSaidOver};
 ghost use Rattle.icu_normalizer_core.specs.Iter.{Spells};
 ghost use Rattle.icu_normalizer_core.specs.Readable.{IsReadable};
-ghost use Rattle.icu_normalizer.specs.LowCharacters.{AreLow};
+ghost use Rattle.icu_normalizer.specs.FormNotes.{AreLow};
 ghost use Rattle.icu_normalizer.specs.Sinks.{AddsPrefix, EndsByFailure};
 ghost use Rattle.icu_normalizer.specs.Texts.{IsAtEnd};
 
@@ -19,9 +19,9 @@ mod written;
 use super::Decomposition;
 use super::cuts::split;
 use super::writer::Writer;
-use crate::low::LowCharacter;
+use crate::form_notes::FormNote;
 use crate::sinks::{NormError, TextSink};
-use crate::texts::{Text, WriteTo};
+use crate::text_sources::{Text, WriteTo};
 use crate::written::{WriteForm, write_form};
 use icu_normalizer_core::canonical::CanonicalBorrowed;
 use icu_normalizer_core::decomposition::FormData;
@@ -32,7 +32,7 @@ use std::alloc::{AllocError, Global};
 pub struct DecomposingNormalizerBorrowed<'d> {
     basis: FormData<'d>,
     /// What is noted of low characters, where that was found once for all; else nothing.
-    low: &'d [LowCharacter],
+    low: &'d [FormNote],
     ghost notes: { AreLow (form_meaning basis) low.now },
     ghost readable: { IsReadable (form_meaning basis) },
 }
@@ -53,7 +53,7 @@ impl<'d> DecomposingNormalizerBorrowed<'d> {
     /// The same, over data of either kind, with notes of low characters.
     pub(super) fn over(
         basis: FormData<'d>,
-        low: &'d [LowCharacter],
+        low: &'d [FormNote],
     ) -> DecomposingNormalizerBorrowed<'d>
         requires { AreLow (form_meaning basis) low.now }
         ensures { result.basis ≡ basis.entry }

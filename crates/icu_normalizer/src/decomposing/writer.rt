@@ -5,15 +5,15 @@ ghost use Rattle.std.specs.List.{list_all};
 ghost use Rattle.icu_normalizer_core.specs.FormData.{form_meaning};
 ghost use Rattle.icu_normalizer_core.specs.Canonical.{marks_in_order};
 ghost use Rattle.icu_normalizer_core.specs.Marks.{is_mark};
-ghost use Rattle.icu_normalizer.specs.LowCharacters.{AreLow, noted_list};
+ghost use Rattle.icu_normalizer.specs.FormNotes.{AreLow, noted_list};
 ghost use Rattle.icu_normalizer.specs.Marks.{stands_to};
 ghost use Rattle.icu_normalizer.specs.Sinks.{AddsPrefix, EndsByFailure};
 
 mod order;
 
-use crate::low::{LowCharacter, low_character};
+use crate::form_notes::{FormNote, form_note};
 use crate::sinks::NormError;
-use crate::texts::WriteTo;
+use crate::text_sources::WriteTo;
 use icu_normalizer_core::canonical::Reading;
 use icu_normalizer_core::decomposition::{FormData, sort_marks};
 use order::{insert_at, last_class, place_of};
@@ -31,7 +31,7 @@ const ROOM: usize = 61;
 #[derive(Debug, Drop)]
 pub(super) struct Writer<'d> {
     basis: FormData<'d>,
-    low: &'d [LowCharacter],
+    low: &'d [FormNote],
     few: [char; 64],
     count: usize,
     more: Vec<char>,
@@ -51,7 +51,7 @@ impl<'d> Writer<'d> {
 
     /// Nothing is held.
     #[inline(always)]
-    pub(super) fn new(alloc: Global, basis: FormData<'d>, low: &'d [LowCharacter]) -> Writer<'d>
+    pub(super) fn new(alloc: Global, basis: FormData<'d>, low: &'d [FormNote]) -> Writer<'d>
         requires readable { IsReadable (form_meaning basis) }
         requires notes { AreLow (form_meaning basis) low.now }
         ensures empty { held result ≡ [] }
@@ -88,10 +88,10 @@ impl<'d> Writer<'d> {
 
     /// What is noted of a character whose full list fits: it is in order behind what is held, and there is room.
     #[inline(always)]
-    fn fitting(&self, c: char) -> Option<LowCharacter>
+    fn fitting(&self, c: char) -> Option<FormNote>
         ensures { IfSome result (λ note. Fits self.now c note) }
     {
-        let note = low_character(self.low, c)?;
+        let note = form_note(self.low, c)?;
         if note.len == 0 || self.last > note.order || self.count > ROOM {
             return None;
         }
@@ -100,7 +100,7 @@ impl<'d> Writer<'d> {
 
     /// Holds a full list that fits.
     #[inline(always)]
-    fn append(&mut self, note: LowCharacter)
+    fn append(&mut self, note: FormNote)
         requires room { self.old.count ≤ 61 }
         requires within { note.len ≤ 3 }
         requires stands { stands_to (writer_data self.old).class self.old.last note.class (noted_list note) ≡ true }

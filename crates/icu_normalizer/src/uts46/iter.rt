@@ -2,7 +2,7 @@
 
 ghost use Rattle.std.specs.Iterator.{at_most};
 
-use super::characters::MappedChars;
+use super::mapped_characters::MappedChars;
 use crate::composing::Composition;
 use std::alloc::AllocError;
 use std::iter::FusedIterator;

@@ -3,7 +3,7 @@
 ghost use Rattle.std.specs.Prelude.{◌≡◌, ◌≤◌, true, false, [], length, MatchOption, option_to_list};
 ghost use Rattle.icu_normalizer.specs.Uts46.{becomes, mapper_of, has_good_word, IsMapperTable};
 
-use super::list::MappedList;
+use super::mapped_list::MappedList;
 use icu_normalizer_core::provider::Uts46Tables;
 use std::marker::Model;
 
@@ -40,7 +40,7 @@ pub(super) struct MapperTable<'a> {
 }
 
 impl<'a> Model for MapperTable<'a> {
-    ghost use Rattle.icu_normalizer_core.specs.declared.provider.lists.Uts46Tables.{Uts46Tables};
+    ghost use Rattle.icu_normalizer_core.specs.declared.provider.provider_lists.Uts46Tables.{Uts46Tables};
     ghost use Rattle.icu_normalizer.specs.Uts46.{IsMapperTable};
 
     ghost Value = { Uts46Tables };

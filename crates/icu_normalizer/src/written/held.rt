@@ -8,7 +8,7 @@ ghost use Rattle.icu_normalizer.specs.TextCuts.{IsOwnText};
 ghost use Rattle.icu_normalizer.specs.Texts.{utf8_text, utf16_text, encode_utf16_all};
 
 use super::{WriteForm, write_parts};
-use crate::texts::{HoldIn, known_text, valid_text};
+use crate::text_sources::{HoldIn, known_text, valid_text};
 use std::alloc::{AllocError, Global};
 use std::borrow::{CowSlice, CowStr};
 

@@ -15,7 +15,7 @@ ghost use Rattle.icu_normalizer_core.specs.declared.properties.Decomposed.TheVar
 use super::data::CanonicalData;
 use super::full_list::{FullList, full_list};
 use super::pairs::listed_pair;
-use super::reading::{Reading, read_character};
+use super::character_data::{Reading, read_character};
 use super::steps::listed_step;
 use crate::built_in::{built_in_step, syllable_of};
 use crate::decomposition::Classed;

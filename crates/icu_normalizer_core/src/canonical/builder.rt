@@ -18,7 +18,7 @@ mod compatibility_words;
 mod full_lists;
 mod in_order;
 mod list_words;
-mod lists;
+mod full_list_words;
 mod mappings;
 mod names;
 mod numbers;
@@ -28,7 +28,7 @@ mod settle;
 mod steps;
 mod tables;
 mod trie;
-mod words;
+mod built_words;
 
 use super::check::first_fault;
 use super::check::told::told;

@@ -6,7 +6,7 @@ ghost use Rattle.icu_normalizer_core.specs.CanonicalMeaning.{lists_of};
 ghost use Rattle.icu_normalizer_core.specs.Plain.{Tells};
 
 pub(crate) mod built_in;
-mod characters;
+mod least_refused;
 mod forms;
 pub(crate) mod full_lists;
 pub(crate) mod full_start;

@@ -5,7 +5,7 @@ ghost use Rattle.icu_normalizer_core.specs.CanonicalMeaning.{lists_of};
 ghost use Rattle.icu_normalizer_core.specs.CanonicalMeaning.{meaning};
 ghost use Rattle.icu_normalizer_core.specs.Words.{words_of, word_lists};
 
-use super::words::{PLAIN_WORD, Words, class_of_word};
+use super::canonical_words::{PLAIN_WORD, Words, class_of_word};
 use icu_codepointtrie::CodePointTrie;
 use icu_packed_vector::PackedVec;
 use std::error::Error;

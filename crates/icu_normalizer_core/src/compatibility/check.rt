@@ -7,12 +7,12 @@ ghost use Rattle.icu_normalizer_core.specs.CompatibilityFaults.{AreAcceptedWords
 ghost use Rattle.icu_normalizer_core.specs.Words.{word_lists};
 
 mod fixed;
-mod lists;
+mod full_list_tests;
 pub(super) mod steady;
 mod values;
 mod walk;
 
-use crate::canonical::words::Words;
+use crate::canonical::canonical_words::Words;
 use crate::canonical::{CanonicalFault, CanonicalTables};
 use walk::{Faults, silent_from, with_code};
 

@@ -4,7 +4,7 @@ ghost use Rattle.std.specs.Prelude.{◌≡◌};
 ghost use Rattle.icu_normalizer_core.specs.CompatibilityMeaning.{nfkd_lists};
 ghost use Rattle.icu_normalizer_core.specs.Words.{word_lists};
 
-use crate::canonical::words::Words;
+use crate::canonical::canonical_words::Words;
 use icu_codepointtrie::CodePointTrie;
 use icu_packed_vector::PackedVec;
 

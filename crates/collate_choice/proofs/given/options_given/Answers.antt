@@ -1,7 +1,7 @@
 use Rattle.std.proofs.Common.{◌≡◌, ℕ, ◌<◌, List, [], length, get_or, map, sym, ap, ◌∙◌, arith}
 use Rattle.std.specs.String.{string_bytes}
 use Rattle.std.proofs.lemmas.List.{get_or-map, length-map}
-use Rattle.collate_choice.proofs.WordLemmas.{words-more, words-other, words-twice}
+use Rattle.collate_choice.proofs.ChoiceWordLemmas.{words-more, words-other, words-twice}
 use Rattle.collate_choice.proofs.given.options_given.Goals as goal
 
 pub returns-in_default : goal.returns-in_default

@@ -1,7 +1,7 @@
 use Rattle.std.proofs.Common.{List, ℕ, map, subst, sym}
 use Rattle.collate_lines.specs.Record.{layer_of, said}
 use Rattle.collate_compile.specs.Beginnings.{AreBeginnings, AreFew, is_begun}
-use Rattle.collate_compile.proofs.gathering.BeginningLemmas.{beginnings_begin, beginnings_few, begun_all}
+use Rattle.collate_compile.proofs.gathering.GatheringBeginningLemmas.{beginnings_begin, beginnings_few, begun_all}
 use Rattle.collate_compile.proofs.beginnings.beginnings.Goals as goal
 
 pub returns : goal.returns

@@ -3,7 +3,7 @@ use Rattle.icu_normalizer_core.specs.BorrowedMeaning.{borrowed_meaning}
 use Rattle.collate_lines.specs.Record.{said}
 use Rattle.collate_words.specs.declared.entry.Entry.{Entry}
 use Rattle.collate_words.specs.Entries.{saying_of}
-use Rattle.collate_compile.proofs.gathering.EntryLemmas.{entry_few, entry_fits, entry_parts, entry_says}
+use Rattle.collate_compile.proofs.gathering.GatheringEntryLemmas.{entry_few, entry_fits, entry_parts, entry_says}
 use Rattle.collate_compile.proofs.entries.entry_of.Goals as goal
 
 pub returns : goal.returns

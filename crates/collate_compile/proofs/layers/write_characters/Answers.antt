@@ -3,7 +3,7 @@ use Rattle.std.specs.Prelude.{sum_by}
 use Rattle.collate_lines.specs.Record.{said}
 use Rattle.collate_compile.specs.Beginnings.{lines_of}
 use Rattle.collate_compile.specs.LayerBuilds.{AreWritten, GrowsBy}
-use Rattle.collate_compile.proofs.building.GrowthLemmas.{grown_more, grown_none, next_summed, next_taken, next_within, room_left}
+use Rattle.collate_compile.proofs.building.BuildingGrowthLemmas.{grown_more, grown_none, next_summed, next_taken, next_within, room_left}
 use Rattle.collate_compile.proofs.building.LayerLemmas.{characters_more}
 use Rattle.collate_compile.proofs.layers.write_characters.Goals as goal
 

@@ -3,7 +3,7 @@ use Rattle.std.specs.Prelude.{count_by}
 use Rattle.collate_lines.specs.Record.{Record, said}
 use Rattle.collate_rules.specs.Rules.{is_range}
 use Rattle.collate_compile.specs.LayerBuilds.{AreRangesWritten, GrowsBy}
-use Rattle.collate_compile.proofs.building.GrowthLemmas.{grown_more, grown_none, room_left}
+use Rattle.collate_compile.proofs.building.BuildingGrowthLemmas.{grown_more, grown_none, room_left}
 use Rattle.collate_compile.proofs.building.LineLemmas.{from_line, lines_all, lines_none, ranges_few, ranges_from}
 use Rattle.collate_compile.proofs.layers.write_ranges.Goals as goal
 

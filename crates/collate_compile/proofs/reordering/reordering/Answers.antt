@@ -1,7 +1,7 @@
 use Rattle.std.proofs.Common.{ap, map, refl, ◌∙◌}
 use Rattle.collate_lines.specs.Record.{said}
 use Rattle.collate_rules.specs.Meaning.{place_among}
-use Rattle.collate_compile.proofs.setting.ReorderingLemmas.{reordering_is}
+use Rattle.collate_compile.proofs.setting.SettingReorderingLemmas.{reordering_is}
 use Rattle.collate_compile.proofs.reordering.reordering.Goals as goal
 
 pub returns : goal.returns

@@ -1,4 +1,4 @@
-use Rattle.collate_file_laws.proofs.FormLemmas.{composed_bytes_where_equal, composed_text_where_equal, composed_units_where_equal, composed_where_equal, decomposed_bytes_where_equal, decomposed_text_where_equal, decomposed_units_where_equal, decomposed_where_equal}
+use Rattle.collate_file_laws.proofs.FileLawFormLemmas.{composed_bytes_where_equal, composed_text_where_equal, composed_units_where_equal, composed_where_equal, decomposed_bytes_where_equal, decomposed_text_where_equal, decomposed_units_where_equal, decomposed_where_equal}
 use Rattle.collate_file_laws.proofs.forms.equal_forms_by_a_file_are_equal_at_identical.Goals as goal
 
 pub returns : goal.returns

@@ -1,4 +1,4 @@
-use Rattle.collate_file_laws.proofs.FormLemmas.{bytes_stay, characters_stay, texts_stay, units_stay}
+use Rattle.collate_file_laws.proofs.FileLawFormLemmas.{bytes_stay, characters_stay, texts_stay, units_stay}
 use Rattle.collate_file_laws.proofs.forms.forms_by_a_file_stay.Goals as goal
 
 pub returns : goal.returns

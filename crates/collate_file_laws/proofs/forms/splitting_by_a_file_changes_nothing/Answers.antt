@@ -3,8 +3,8 @@ use Rattle.icu_normalizer_core.specs.Decoding.{utf16_chars, utf8_chars}
 use Rattle.icu_normalizer.specs.NormalizerTables.{tables_meaning}
 use Rattle.icu_normalizer.specs.TextForms.{composed_text, decomposed_text}
 use Rattle.icu_collator.specs.NormalForms.{composed_bytes, composed_units, decomposed_bytes, decomposed_units}
-use Rattle.collate_laws.proofs.KeyLemmas.{composed_bytes_nothing, composed_text_nothing, composed_units_nothing, decomposed_bytes_nothing, decomposed_text_nothing, decomposed_units_nothing}
-use Rattle.collate_file_laws.proofs.SplitLemmas.{same_changes_nothing}
+use Rattle.collate_laws.proofs.LawKeyLemmas.{composed_bytes_nothing, composed_text_nothing, composed_units_nothing, decomposed_bytes_nothing, decomposed_text_nothing, decomposed_units_nothing}
+use Rattle.collate_file_laws.proofs.FileLawSplitLemmas.{same_changes_nothing}
 use Rattle.collate_file_laws.proofs.forms.splitting_by_a_file_changes_nothing.Goals as goal
 
 pub returns : goal.returns

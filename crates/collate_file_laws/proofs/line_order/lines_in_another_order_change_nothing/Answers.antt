@@ -1,4 +1,4 @@
-use Rattle.collate_file_laws.proofs.LineOrderLemmas.{moved_settings, moved_unchanged}
+use Rattle.collate_file_laws.proofs.FileLawLineOrderLemmas.{moved_settings, moved_unchanged}
 use Rattle.collate_file_laws.proofs.line_order.lines_in_another_order_change_nothing.Goals as goal
 
 pub returns : goal.returns

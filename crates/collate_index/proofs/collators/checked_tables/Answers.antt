@@ -1,5 +1,5 @@
 use Rattle.icu_normalizer_core.specs.CanonicalMeaning.{meaning}
-use Rattle.collate_index.proofs.making.MadeLemmas.{refused_for_memory}
+use Rattle.collate_index.proofs.making.IndexMadeLemmas.{refused_for_memory}
 use Rattle.collate_index.proofs.collators.checked_tables.Goals as goal
 
 pub memory_of-requires : goal.memory_of-requires

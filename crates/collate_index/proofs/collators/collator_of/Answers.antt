@@ -4,7 +4,7 @@ use Rattle.icu_collator_types.specs.Options.{resolved_options}
 use Rattle.icu_collator_core.specs.Acceptance.{CollationSource}
 use Rattle.icu_collator_core.specs.TableSettings.{settings_of}
 use Rattle.icu_collator_core.specs.declared.tables.CollationTables.{CollationTables}
-use Rattle.collate_index.proofs.making.MadeLemmas.{collator_of_compiled}
+use Rattle.collate_index.proofs.making.IndexMadeLemmas.{collator_of_compiled}
 use Rattle.collate_index.proofs.collators.collator_of.Goals as goal
 
 pub returns : goal.returns

@@ -1,4 +1,4 @@
-use Rattle.collate_laws.proofs.AlikeLemmas.{same_records_alike}
+use Rattle.collate_laws.proofs.LawAlikeLemmas.{same_records_alike}
 use Rattle.collate_laws.proofs.alike.compilations_of_one_file_answer_alike.Goals as goal
 
 pub returns : goal.returns

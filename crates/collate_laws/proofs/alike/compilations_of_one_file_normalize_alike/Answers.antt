@@ -1,4 +1,4 @@
-use Rattle.collate_laws.proofs.FormLemmas.{same_canonical_alike, same_compatibility_alike}
+use Rattle.collate_laws.proofs.LawFormLemmas.{same_canonical_alike, same_compatibility_alike}
 use Rattle.collate_laws.proofs.alike.compilations_of_one_file_normalize_alike.Goals as goal
 
 pub returns : goal.returns

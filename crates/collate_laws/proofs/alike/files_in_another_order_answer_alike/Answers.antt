@@ -1,5 +1,5 @@
-use Rattle.collate_laws.proofs.AlikeLemmas.{moved_alike}
-use Rattle.collate_laws.proofs.FormLemmas.{moved_canonical_alike, moved_compatibility_alike}
+use Rattle.collate_laws.proofs.LawAlikeLemmas.{moved_alike}
+use Rattle.collate_laws.proofs.LawFormLemmas.{moved_canonical_alike, moved_compatibility_alike}
 use Rattle.collate_laws.proofs.alike.files_in_another_order_answer_alike.Goals as goal
 
 pub returns : goal.returns

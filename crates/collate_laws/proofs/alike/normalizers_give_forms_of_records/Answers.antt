@@ -1,4 +1,4 @@
-use Rattle.collate_laws.proofs.FormLemmas.{composed_said, composed_text_said, decomposed_said, decomposed_text_said}
+use Rattle.collate_laws.proofs.LawFormLemmas.{composed_said, composed_text_said, decomposed_said, decomposed_text_said}
 use Rattle.collate_laws.proofs.alike.normalizers_give_forms_of_records.Goals as goal
 
 pub returns : goal.returns

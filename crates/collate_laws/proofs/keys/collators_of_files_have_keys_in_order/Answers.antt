@@ -1,4 +1,4 @@
-use Rattle.collate_laws.proofs.KeyLemmas.{keys_in_order}
+use Rattle.collate_laws.proofs.LawKeyLemmas.{keys_in_order}
 use Rattle.collate_laws.proofs.keys.collators_of_files_have_keys_in_order.Goals as goal
 
 pub returns : goal.returns

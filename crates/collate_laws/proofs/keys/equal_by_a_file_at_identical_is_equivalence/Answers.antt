@@ -1,4 +1,4 @@
-use Rattle.collate_laws.proofs.KeyLemmas.{equivalent_alike, equivalent_keys, identical_alike, identical_keys}
+use Rattle.collate_laws.proofs.LawKeyLemmas.{equivalent_alike, equivalent_keys, identical_alike, identical_keys}
 use Rattle.collate_laws.proofs.keys.equal_by_a_file_at_identical_is_equivalence.Goals as goal
 
 pub returns : goal.returns

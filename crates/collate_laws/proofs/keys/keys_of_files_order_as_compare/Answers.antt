@@ -1,4 +1,4 @@
-use Rattle.collate_laws.proofs.KeyLemmas.{keys_equal, keys_order}
+use Rattle.collate_laws.proofs.LawKeyLemmas.{keys_equal, keys_order}
 use Rattle.collate_laws.proofs.keys.keys_of_files_order_as_compare.Goals as goal
 
 pub returns : goal.returns

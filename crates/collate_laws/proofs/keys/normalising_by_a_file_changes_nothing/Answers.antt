@@ -1,4 +1,4 @@
-use Rattle.collate_laws.proofs.KeyLemmas.{composed_bytes_nothing, composed_nothing, composed_text_nothing, composed_units_nothing, decomposed_bytes_nothing, decomposed_nothing, decomposed_text_nothing, decomposed_units_nothing}
+use Rattle.collate_laws.proofs.LawKeyLemmas.{composed_bytes_nothing, composed_nothing, composed_text_nothing, composed_units_nothing, decomposed_bytes_nothing, decomposed_nothing, decomposed_text_nothing, decomposed_units_nothing}
 use Rattle.collate_laws.proofs.keys.normalising_by_a_file_changes_nothing.Goals as goal
 
 pub returns : goal.returns

@@ -1,4 +1,4 @@
-use Rattle.collate_lines.proofs.reading.SplitLemmas.{many_taken}
+use Rattle.collate_lines.proofs.reading.ReadingSplitLemmas.{many_taken}
 use Rattle.collate_lines.proofs.lines.line_past_size.Goals as goal
 
 pub slice_bounds-iter-end : goal.slice_bounds-iter-end

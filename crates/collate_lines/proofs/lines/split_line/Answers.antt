@@ -1,6 +1,6 @@
 use Rattle.std.proofs.Common.{◌∙◌, ◌+◌, ◌-◌, ◌∷◌, ℕ, List, length, take, drop, ap, sym, arith, take_all, length-drop}
 use Rattle.collate_lines.specs.Lines.{lines_of}
-use Rattle.collate_lines.proofs.reading.SplitLemmas.{split_at, split_none}
+use Rattle.collate_lines.proofs.reading.ReadingSplitLemmas.{split_at, split_none}
 use Rattle.collate_lines.proofs.lines.split_line.Goals as goal
 
 pub returns-in-Some : goal.returns-in-Some

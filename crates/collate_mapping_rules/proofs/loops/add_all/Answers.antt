@@ -1,7 +1,7 @@
 use Rattle.std.proofs.Common.{◌+◌, ℕ, List, drop, sym, ap, ◌∙◌}
 use Rattle.std.proofs.Math.ListN.{drop_of_length-le}
 use Rattle.collate_rules.specs.Reached.{with_all}
-use Rattle.collate_rules.proofs.lists.FullListLemmas.{drop_item}
+use Rattle.collate_rules.proofs.lists.RuleFullListLemmas.{drop_item}
 use Rattle.collate_mapping_rules.proofs.loops.add_all.Goals as goal
 
 pub loop-c-preserved : goal.loop-c-preserved

@@ -1,7 +1,7 @@
 use Rattle.std.proofs.Common.{refl, sym, ◌∙◌, arith}
 use Rattle.std.proofs.lemmas.List.{length-map}
 use Rattle.collate_lines.specs.Record.{said}
-use Rattle.collate_rules.proofs.offenders.PairLemmas.{repeats_at, none_more}
+use Rattle.collate_rules.proofs.offenders.OffenderPairLemmas.{repeats_at, none_more}
 use Rattle.collate_mapping_rules.proofs.pairs.first_repeated_pair.Goals as goal
 
 pub returns-then-repeats_pair : goal.returns-then-repeats_pair

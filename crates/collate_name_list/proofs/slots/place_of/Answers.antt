@@ -1,7 +1,7 @@
 use Rattle.std.proofs.Common.{◌≡◌, ℕ, ◌+◌, ◌-◌, ◌/◌, Some, slice_get, get_or, arith, sym, ap, ◌∙◌, subst}
 use Rattle.std.proofs.lemmas.Option.{get_or_from_slice_get}
 use Rattle.collate_names.specs.Search.{stands_before}
-use Rattle.collate_names.proofs.SearchLemmas.{IsNarrowed, narrowed_none, narrowed_all, narrowed_few, narrowed_low, narrowed_high}
+use Rattle.collate_names.proofs.NameSearchLemmas.{IsNarrowed, narrowed_none, narrowed_all, narrowed_few, narrowed_low, narrowed_high}
 use Rattle.collate_places.specs.Fronts.{IsFrontOf}
 use Rattle.collate_name_list.specs.Slots.{IsFull, compared, entry_at, places_of}
 use Rattle.collate_name_list.proofs.FrontedLemmas.{all_places, all_read, length_places, place_read, shown_at}

@@ -1,5 +1,5 @@
 use Rattle.std.proofs.Common.{◌-◌, ◌≤◌}
-use Rattle.collate_names.proofs.SearchLemmas.{IsNarrowed}
+use Rattle.collate_names.proofs.NameSearchLemmas.{IsNarrowed}
 use Rattle.collate_places.specs.Windows.{shows}
 use Rattle.collate_name_list.specs.Slots.{compared, places_of}
 use Rattle.collate_name_list.proofs.slots.place_of.Given as goal

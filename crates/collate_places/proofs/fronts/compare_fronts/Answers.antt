@@ -1,4 +1,4 @@
-use Rattle.collate_places.proofs.FrontLemmas.{fronts_tell}
+use Rattle.collate_places.proofs.PlaceFrontLemmas.{fronts_tell}
 use Rattle.collate_places.proofs.fronts.compare_fronts.Goals as goal
 
 pub returns-in_default-clause-told : goal.returns-in_default-clause-told

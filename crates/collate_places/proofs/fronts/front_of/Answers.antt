@@ -1,7 +1,7 @@
 use Rattle.std.proofs.Common.{◌≡◌, ◌∙◌, ◌<◌, subst, sym, arith, get_or}
 use Rattle.std.specs.Int.{w64, from_be_bytes}
 use Rattle.std.proofs.lemmas.List.{get_or_default}
-use Rattle.collate_places.proofs.FrontLemmas.{read_front}
+use Rattle.collate_places.proofs.PlaceFrontLemmas.{read_front}
 use Rattle.collate_places.proofs.fronts.front_of.Goals as goal
 
 pub returns : goal.returns

@@ -1,4 +1,4 @@
-use Rattle.collate_record_rules.proofs.records.GrowthLemmas.{decomposed_stays}
+use Rattle.collate_record_rules.proofs.records.RecordGrowthLemmas.{decomposed_stays}
 use Rattle.collate_record_rules.proofs.decomposed.first_undecomposed.Goals as goal
 
 pub returns : goal.returns

@@ -1,5 +1,5 @@
 use Rattle.std.proofs.Common.{◌+◌, take, refl, sym, ◌∙◌}
-use Rattle.collate_record_rules.proofs.records.SettingLemmas.{first_broken, kept_past, kept_tested}
+use Rattle.collate_record_rules.proofs.records.RecordSettingLemmas.{first_broken, kept_past, kept_tested}
 use Rattle.collate_record_rules.proofs.settings.first_bad_setting.Goals as goal
 use Rattle.collate_record_rules.proofs.settings.first_bad_setting.Goals.{then-is_setting+in_ok-is_broken+else-is_broken, else-is_setting}
 

@@ -1,4 +1,4 @@
-use Rattle.collate_record_rules.proofs.records.SettingLemmas.{IsKept}
+use Rattle.collate_record_rules.proofs.records.RecordSettingLemmas.{IsKept}
 use Rattle.collate_record_rules.proofs.settings.first_bad_setting.Given as goal
 
 abbrev pub invariant-loop-i : goal.invariant-loop-i

@@ -1,5 +1,5 @@
 use Rattle.std.proofs.lemmas.Slice.Eq.{slice_eq-Decides}
-use Rattle.collate_records.proofs.comparing.ElementLemmas.{weights_decide}
+use Rattle.collate_records.proofs.comparing.ComparingElementLemmas.{weights_decide}
 use Rattle.collate_records.proofs.changes.are_same_lists.Goals as goal
 
 pub returns : goal.returns

@@ -12,7 +12,7 @@ use Rattle.collate_rules.specs.Accepted.{AreAccepted}
 use Rattle.collate_compile.specs.Compiled.{AreCompiledFrom}
 use Rattle.collate_records.specs.Maps.{AreWordsOf, maps_of}
 use Rattle.collate_records.proofs.compiled.CompiledOfLemmas.{compiled_of}
-use Rattle.collate_records.proofs.reading.SoundSettingLemmas.{accepted_soundly_set}
+use Rattle.collate_records.proofs.reading.ReadingSoundSettingLemmas.{accepted_soundly_set}
 use Rattle.collate_records.proofs.compile.compile.Goals as goal
 
 pub compile_tables-requires-clause-settings : goal.compile_tables-requires-clause-settings

@@ -10,7 +10,7 @@ use Rattle.collate_records.specs.Maps.{AreAllMapsOf, MapsToSome, classes_in, com
 use Rattle.collate_lines.specs.declared.rule.Rule.TheVariants.{C3}
 use Rattle.collate_lines.specs.Record.{Record, said}
 use Rattle.collate_rules.proofs.offenders.LimitLemmas.{given_to}
-use Rattle.collate_rules.proofs.lookups.LookupLemmas.{All-map_at}
+use Rattle.collate_rules.proofs.lookups.RuleLookupLemmas.{All-map_at}
 use Rattle.collate_records.proofs.maps.AnyStepLemmas.{accepted_some}
 use Rattle.collate_records.proofs.maps.MapLineLemmas.{all_given}
 use Rattle.collate_records.proofs.offenders.ClassLemmas.{All-HasSmallClass}

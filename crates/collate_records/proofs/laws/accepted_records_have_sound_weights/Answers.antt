@@ -1,4 +1,4 @@
-use Rattle.collate_records.proofs.reading.SoundWeightLemmas.{accepted_weights}
+use Rattle.collate_records.proofs.reading.ReadingSoundWeightLemmas.{accepted_weights}
 use Rattle.collate_records.proofs.laws.accepted_records_have_sound_weights.Goals as goal
 
 pub returns : goal.returns

@@ -3,7 +3,7 @@ use Rattle.collate_lines.specs.declared.rule.Rule.TheVariants.{Grammar}
 use Rattle.std.proofs.lemmas.Bool.{false≢true}
 use Rattle.collate_lines.specs.Lines.{PassesSize, lines_left, lines_of}
 use Rattle.collate_records.specs.Files.{Refuses}
-use Rattle.collate_records.proofs.reading.FaultLemmas.{all_sound, none_read, number_small, passes_here, passes_not, read_whole, refuses_now}
+use Rattle.collate_records.proofs.reading.ReadingFaultLemmas.{all_sound, none_read, number_small, passes_here, passes_not, read_whole, refuses_now}
 use Rattle.collate_records.proofs.reading.ReadLineLemmas.{next_line, none_left}
 use Rattle.collate_records.proofs.reader.read_lines.Goals as goal
 

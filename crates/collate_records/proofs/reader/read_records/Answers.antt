@@ -2,7 +2,7 @@ use Rattle.std.proofs.Common.{ap, arith, rules, length}
 use Rattle.std.proofs.lemmas.List.{length-map}
 use Rattle.collate_lines.specs.Record.{said}
 use Rattle.collate_records.specs.Files.{Refuses}
-use Rattle.collate_records.proofs.reading.FaultLemmas.{accepted, many_read, of_read}
+use Rattle.collate_records.proofs.reading.ReadingFaultLemmas.{accepted, many_read, of_read}
 use Rattle.collate_records.proofs.reader.read_records.Goals as goal
 
 pub keep_rules-requires : goal.keep_rules-requires

@@ -1,4 +1,4 @@
-use Rattle.collate_records.proofs.reading.FaultLemmas.{none_of, refuses_of}
+use Rattle.collate_records.proofs.reading.ReadingFaultLemmas.{none_of, refuses_of}
 use Rattle.collate_records.proofs.reader.refuse.Goals as goal
 
 pub returns-in-Some-clause-asks : goal.returns-in-Some-clause-asks

@@ -1,5 +1,5 @@
 use Rattle.collate_lines.specs.Record.{said}
-use Rattle.collate_rules.proofs.records.NotedLemmas.{class_noted, class_past}
+use Rattle.collate_rules.proofs.records.RecordNotedLemmas.{class_noted, class_past}
 use Rattle.collate_rules.proofs.noted.note_class.Goals as goal
 
 pub returns-in_ok-put_class-in-Some : goal.returns-in_ok-put_class-in-Some

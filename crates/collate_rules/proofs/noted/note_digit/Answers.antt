@@ -1,5 +1,5 @@
 use Rattle.collate_lines.specs.Record.{said}
-use Rattle.collate_rules.proofs.records.NotedLemmas.{digit_noted, digit_past}
+use Rattle.collate_rules.proofs.records.RecordNotedLemmas.{digit_noted, digit_past}
 use Rattle.collate_rules.proofs.noted.note_digit.Goals as goal
 
 pub returns-in_ok-put_digit-in-Some : goal.returns-in_ok-put_digit-in-Some

@@ -1,5 +1,5 @@
 use Rattle.collate_lines.specs.Record.{said}
-use Rattle.collate_rules.proofs.records.NotedLemmas.{mapping_noted, mapping_past}
+use Rattle.collate_rules.proofs.records.RecordNotedLemmas.{mapping_noted, mapping_past}
 use Rattle.collate_rules.proofs.noted.note_mapped.Goals as goal
 
 pub returns-in_ok-put-in-Some : goal.returns-in_ok-put-in-Some

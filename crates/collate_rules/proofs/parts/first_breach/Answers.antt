@@ -9,7 +9,7 @@ use Rattle.collate_lines.specs.declared.rule.Rule.{Rule}
 use Rattle.collate_lines.specs.Record.{said}
 use Rattle.collate_rules.specs.Breaches.{Breach, TellsBreach}
 use Rattle.collate_rules.specs.CanonicalParts.{in_full, IsShort, SaysSame}
-use Rattle.collate_rules.proofs.lookups.LookupLemmas.{All-map_at}
+use Rattle.collate_rules.proofs.lookups.RuleLookupLemmas.{All-map_at}
 use Rattle.collate_rules.proofs.parts.first_breach.Goals as goal
 use Rattle.collate_rules.proofs.parts.first_breach.Goals.{in-Some+in_ok-push+in_ok-is_broken+else-is_broken, in_default}
 

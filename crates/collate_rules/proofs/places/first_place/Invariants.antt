@@ -1,5 +1,5 @@
 use Rattle.std.proofs.Common.{◌-◌, ◌≤◌, ◌<◌}
-use Rattle.collate_rules.proofs.given.PlaceLemmas.{NotBelow}
+use Rattle.collate_rules.proofs.given.GivenPlaceLemmas.{NotBelow}
 use Rattle.collate_rules.proofs.places.first_place.Given as goal
 
 abbrev pub invariant-loop-low : goal.invariant-loop-low

@@ -1,6 +1,6 @@
 use Rattle.std.proofs.Common.{Ok, Err, subst}
 use Rattle.collate_index.specs.Reloads.{IsRefused}
-use Rattle.collate_run.proofs.commands.AnswerLemmas.{answers-reload}
+use Rattle.collate_run.proofs.commands.CommandAnswerLemmas.{answers-reload}
 use Rattle.collate_run.proofs.replies.answer.Goals as goal
 
 pub returns-in-Ok-reload : goal.returns-in-Ok-reload

@@ -1,6 +1,6 @@
 use Rattle.std.proofs.Common.{sym, codes, decimal, ◌≡◌, ◌∙◌, ◌++◌, arith, ◌-◌, ◌∷◌, []}
 use Rattle.collate_index.specs.Catalogue.{sorted_names}
-use Rattle.collate_run.proofs.commands.ListingLemmas.{listing-more, listing-done, slice_get-some}
+use Rattle.collate_run.proofs.commands.CommandListingLemmas.{listing-more, listing-done, slice_get-some}
 use Rattle.collate_run.proofs.replies.listing_of.Goals as goal
 use Rattle.collate_run.proofs.replies.listing_of.Goals.{in-Some+in_ok-extend_from_slice+in_ok-push, in_default}
 

@@ -1,8 +1,8 @@
 use Rattle.std.proofs.Common.{Err}
 use Rattle.collate_run.specs.ReplyText.{reply_text}
 use Rattle.collate_run.specs.Watched.{watched_inner, watched_failed}
-use Rattle.collate_run.proofs.lines.RunLemmas.{progress-none, progress-more, ran-end, ran-cut, ran-write, ran-last}
-use Rattle.collate_run.proofs.lines.ReadLineLemmas.{answered, no-request, sent-all, unfailed}
+use Rattle.collate_run.proofs.lines.CommandLineRunLemmas.{progress-none, progress-more, ran-end, ran-cut, ran-write, ran-last}
+use Rattle.collate_run.proofs.lines.CommandLineReadLemmas.{answered, no-request, sent-all, unfailed}
 use Rattle.collate_run.proofs.run.answer_requests.Goals as goal
 
 pub requests-init : goal.requests-init

@@ -1,7 +1,7 @@
 use Rattle.std.proofs.Common.{◌≡◌, ◌-◌, false}
 use Rattle.collate_run.specs.Runs.{input_limit}
 use Rattle.collate_run.specs.Watched.{watched_inner, watched_failed}
-use Rattle.collate_run.proofs.lines.RunLemmas.{Progress}
+use Rattle.collate_run.proofs.lines.CommandLineRunLemmas.{Progress}
 use Rattle.collate_run.proofs.run.answer_requests.Given as goal
 
 abbrev pub invariant-requests : goal.invariant-requests

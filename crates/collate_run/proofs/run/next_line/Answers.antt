@@ -2,7 +2,7 @@ use Rattle.std.proofs.Common.{arith, ◌++◌, ◌∷◌, [], refl, length, leng
 use Rattle.std.proofs.lemmas.List.Elements.{All-push}
 use Rattle.collate_run.specs.Watched.{watched_inner}
 use Rattle.collate_run.proofs.bytes.KnownBytesLemmas.{Consumes-then}
-use Rattle.collate_run.proofs.lines.ReadLineLemmas.{byte-consumed}
+use Rattle.collate_run.proofs.lines.CommandLineReadLemmas.{byte-consumed}
 use Rattle.collate_run.proofs.run.next_line.Goals as goal
 
 pub returns-then-count-ge-INPUT_LIMIT-clause-bytes : goal.returns-then-count-ge-INPUT_LIMIT-clause-bytes

@@ -3,7 +3,7 @@ use Rattle.collate_run.specs.Reading.{SpellsRequest, spelled}
 use Rattle.collate_run.specs.Replies.{behind}
 use Rattle.collate_run.specs.Watched.{watched_inner, watched_failed}
 use Rattle.collate_run.proofs.bytes.KnownBytesLemmas.{Consumes-then}
-use Rattle.collate_run.proofs.lines.ReadLineLemmas.{no-line, some-line, unmarked}
+use Rattle.collate_run.proofs.lines.CommandLineReadLemmas.{no-line, some-line, unmarked}
 use Rattle.collate_run.proofs.lines.RequestLemmas.{at-end, is-ended, kept-more, not-ended, request-cut, request-end, request-fault, request-first, request-more, request-none}
 use Rattle.collate_run.proofs.run.next_request.Goals as goal
 

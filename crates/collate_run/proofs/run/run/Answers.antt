@@ -1,4 +1,4 @@
-use Rattle.collate_run.proofs.lines.RunLemmas.{ran-nothing}
+use Rattle.collate_run.proofs.lines.CommandLineRunLemmas.{ran-nothing}
 use Rattle.collate_run.proofs.run.run.Goals as goal
 
 pub returns-in-Err-clause-ran : goal.returns-in-Err-clause-ran

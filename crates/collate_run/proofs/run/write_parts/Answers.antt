@@ -2,7 +2,7 @@ use Rattle.std.proofs.Common.{[], ◌∙◌, refl}
 use Rattle.collate_run.specs.Watched.{watched_inner, watched_failed}
 use Rattle.collate_run.proofs.bytes.KnownBytesLemmas.{Appends-none}
 use Rattle.collate_run.proofs.bytes.TellingLemmas.{sent-front, told-more}
-use Rattle.collate_run.proofs.lines.ReadLineLemmas.{sent-all, unmarked}
+use Rattle.collate_run.proofs.lines.CommandLineReadLemmas.{sent-all, unmarked}
 use Rattle.collate_run.proofs.run.write_parts.Goals as goal
 
 pub loop-part-init : goal.loop-part-init

@@ -1,6 +1,6 @@
 use Rattle.std.proofs.Common.{[]}
 use Rattle.collate_run.proofs.bytes.KnownBytesLemmas.{Appends-none}
-use Rattle.collate_run.proofs.lines.ReadLineLemmas.{sent-all}
+use Rattle.collate_run.proofs.lines.CommandLineReadLemmas.{sent-all}
 use Rattle.collate_run.proofs.bytes.TellingLemmas.{told-more, told-front}
 use Rattle.collate_run.proofs.serve.tell.Goals as goal
 

@@ -3,8 +3,8 @@ use Rattle.std.specs.List.{Contains}
 use Rattle.icu_collator_types.specs.declared.elements.Element.{Element}
 use Rattle.icu_collator_core.specs.WeightRules.{are_apart_elements}
 use Rattle.icu_collator_core.proofs.apart.LevelLemmas.{all_levels}
-use Rattle.collate_rules.proofs.given.ListLemmas.{apart_told}
-use Rattle.collate_weight_rules.proofs.soundness.ApartLemmas.{told_by}
+use Rattle.collate_rules.proofs.given.GivenListLemmas.{apart_told}
+use Rattle.collate_weight_rules.proofs.soundness.WeightRuleApartLemmas.{told_by}
 use Rattle.collate_weight_rules.proofs.apart.are_all_apart.Goals as goal
 
 pub returns : goal.returns

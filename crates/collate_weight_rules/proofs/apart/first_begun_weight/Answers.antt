@@ -1,7 +1,7 @@
 use Rattle.std.proofs.Common.{◌+◌, map, take}
 use Rattle.collate_lines.specs.Record.{said}
 use Rattle.collate_rules.specs.GivenWeights.{BreakApart}
-use Rattle.collate_rules.proofs.given.PlaceLemmas.{first_line}
+use Rattle.collate_rules.proofs.given.GivenPlaceLemmas.{first_line}
 use Rattle.collate_weight_rules.proofs.soundness.StayLemmas.{apart_stays}
 use Rattle.collate_weight_rules.proofs.apart.first_begun_weight.Goals as goal
 

@@ -1,6 +1,6 @@
 use Rattle.std.proofs.Common.{◌++◌, sym, ap₂, ◌∙◌}
 use Rattle.collate_rules.specs.GivenWeights.{elements_of}
-use Rattle.collate_weight_rules.proofs.soundness.SaidLemmas.{given_more}
+use Rattle.collate_weight_rules.proofs.soundness.WeightRuleSaidLemmas.{given_more}
 use Rattle.collate_weight_rules.proofs.given.given_elements.Goals as goal
 
 pub loop-line-preserved : goal.loop-line-preserved

@@ -1,7 +1,7 @@
 use Rattle.std.proofs.Common.{◌++◌, ap, sym, ◌∙◌}
 use Rattle.collate_lines.specs.Record.{said}
 use Rattle.collate_rules.specs.GivenWeights.{ranges_of}
-use Rattle.collate_weight_rules.proofs.soundness.SaidLemmas.{given_more}
+use Rattle.collate_weight_rules.proofs.soundness.WeightRuleSaidLemmas.{given_more}
 use Rattle.collate_weight_rules.proofs.given.given_ranges.Goals as goal
 
 pub loop-line-preserved : goal.loop-line-preserved

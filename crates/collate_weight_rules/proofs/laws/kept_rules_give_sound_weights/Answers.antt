@@ -1,4 +1,4 @@
-use Rattle.collate_rules.proofs.given.SoundLemmas.{sound_weights}
+use Rattle.collate_rules.proofs.given.GivenSoundLemmas.{sound_weights}
 use Rattle.collate_weight_rules.proofs.laws.kept_rules_give_sound_weights.Goals as goal
 
 pub returns : goal.returns

@@ -5,7 +5,7 @@ ghost use Rattle.icu_normalizer_core.specs.Decoding.{latin1_chars, utf16_chars, 
 
 use super::CollatorBorrowed;
 use crate::compare::{common_place, compare_texts};
-use crate::texts::{Latin1Text, Utf8Text, Utf16Text};
+use crate::encodings::{Latin1Text, Utf8Text, Utf16Text};
 use std::alloc::{AllocError, Global};
 use std::cmp::Ordering;
 

@@ -10,7 +10,7 @@ impl<'d> CollatorBorrowed<'d> {
     ghost use Rattle.icu_collator.specs.CollatorAnswers.{canonical_by};
     ghost use Rattle.icu_collator.specs.Collators.{borrowed_source};
 
-    /// A collator's tables pass every check, and its canonical data keep their promise. `laws_collators` rests on it.
+    /// A collator's tables pass every check, and its canonical data keep their promise. `laws::collators` rests on it.
     ///
     /// It computes nothing: its contract is what every holder of a collator knows.
     pub fn keep_promise(&self)

@@ -6,7 +6,7 @@ ghost use Rattle.icu_collator_core.specs.ElementLists.{unpacked};
 ghost use Rattle.icu_collator_core.specs.Pools.{element_of};
 ghost use Rattle.icu_collator_core.specs.WeightLists.{Grows, HasLead, HaveLead, is_beside_lead};
 
-use super::words::gather_word;
+use super::character_words::gather_word;
 use crate::check::fields::{has_tag, index_of};
 use crate::check_weights::entry_at;
 use crate::tables::CollationData;

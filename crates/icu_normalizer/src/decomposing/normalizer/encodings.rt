@@ -8,7 +8,7 @@ ghost use Rattle.icu_normalizer.specs.Texts.{utf8_text, utf16_text, encode_utf16
 
 use super::super::cuts::split;
 use super::DecomposingNormalizerBorrowed;
-use crate::texts::{known_text, valid_text};
+use crate::text_sources::{known_text, valid_text};
 
 impl DecomposingNormalizerBorrowed<'_> {
     ghost use Rattle.icu_normalizer.specs.Normalizers.{normalizer_data, normalizer_bound};

@@ -9,12 +9,12 @@ ghost use Rattle.icu_normalizer_core.specs.Settled.{left_items};
 ghost use Rattle.icu_normalizer_core.specs.SettledMappings.{AreMappingStarts, AreRightSoFar, HasBadLeft, IsAllSettled, IsSound, KeepsFullWord, StartsLeft, steps_in};
 
 use super::CanonicalDataBuildError;
-use super::lists::list_word;
+use super::full_list_words::list_word;
 use super::mappings::Mappings;
 use super::trie::{set_word, unnamed_words};
 use crate::canonical::check::full_start::full_start;
 use crate::canonical::check::left::Left;
-use crate::canonical::words::states_list;
+use crate::canonical::canonical_words::states_list;
 use icu_codepointtrie::CodePointTrieBuilder;
 use std::alloc::{AllocError, Global};
 

@@ -5,7 +5,7 @@ ghost use Rattle.icu_normalizer_core.specs.declared.canonical.builder.CanonicalD
 ghost use Rattle.icu_normalizer_core.specs.ListWords.{StateSettled, AreLists, HasUnsettled};
 
 use super::CanonicalDataBuildError;
-use super::lists::list_word;
+use super::full_list_words::list_word;
 use crate::canonical::check::left::Left;
 use std::alloc::Global;
 

@@ -17,7 +17,7 @@ use super::one_mapping::have_one_mapping;
 use super::pairs::pairs;
 use super::steps::steps;
 use super::trie::{trie_of, words_of};
-use super::words::{are_classes, are_starters};
+use super::built_words::{are_classes, are_starters};
 use super::{CanonicalDataBuildError, GivenClass, GivenMapping};
 use crate::canonical::tables::CanonicalTables;
 use icu_codepointtrie::CodePointTrie;

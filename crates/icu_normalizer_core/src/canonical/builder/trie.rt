@@ -10,7 +10,7 @@ ghost use Rattle.icu_normalizer_core.specs.CharacterWords.{AreListWords, AreStar
 
 use super::GivenClass;
 use super::list_words::ListWords;
-use super::words::word_of;
+use super::built_words::word_of;
 use icu_codepointtrie::{CodePointTrie, CodePointTrieBuildError, CodePointTrieBuilder, TrieType};
 use icu_packed_vector::PackedVec;
 use std::alloc::{AllocError, Global};

@@ -10,7 +10,7 @@ ghost use Rattle.icu_normalizer_core.specs.Words.{full_in, word_lists};
 use super::left::Left;
 use crate::canonical::full_list::{FullList, Source, stated};
 use crate::canonical::tables::CanonicalTables;
-use crate::canonical::words::{Words, is_list_word};
+use crate::canonical::canonical_words::{Words, is_list_word};
 
 impl Left {
     /// No character.

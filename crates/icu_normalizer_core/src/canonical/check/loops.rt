@@ -6,7 +6,7 @@ ghost use Rattle.icu_normalizer_core.specs.CanonicalLists.{AreTriples};
 ghost use Rattle.icu_normalizer_core.specs.CanonicalMeaning.{lists_of};
 ghost use Rattle.icu_normalizer_core.specs.Settled.{AreStarts, IsDone};
 
-use super::characters::first_refused;
+use super::least_refused::first_refused;
 use super::left::Left;
 use super::settle::left_of;
 use crate::canonical::tables::CanonicalTables;

@@ -6,7 +6,7 @@ ghost use Rattle.icu_normalizer_core.specs.CanonicalMeaning.{meaning};
 ghost use Rattle.icu_normalizer_core.specs.Marks.{is_mark_below};
 
 use crate::canonical::tables::CanonicalTables;
-use crate::canonical::words::{PLAIN_WORD, class_of_word};
+use crate::canonical::canonical_words::{PLAIN_WORD, class_of_word};
 
 /// The class of the character of a number.
 #[tactic(auto, unfolding(crate::specs::CanonicalLists::canonical_of))]

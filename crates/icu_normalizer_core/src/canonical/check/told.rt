@@ -9,7 +9,7 @@ ghost use Rattle.icu_normalizer_core.specs.Plain.{IsPlain, IsIn, Rises, Tells, A
 
 use crate::built_in::{built_in_class, built_in_step};
 use crate::canonical::tables::CanonicalTables;
-use crate::canonical::words::PLAIN_WORD;
+use crate::canonical::canonical_words::PLAIN_WORD;
 use icu_packed_vector::PackedVec;
 use std::alloc::{AllocError, Global};
 

@@ -6,7 +6,7 @@ ghost use Rattle.icu_normalizer_core.specs.CompatibilityFaults.{is_good_word};
 ghost use Rattle.icu_normalizer_core.specs.Words.{word_lists};
 
 use crate::canonical::CanonicalTables;
-use crate::canonical::words::{Words, class_of_word, is_word};
+use crate::canonical::canonical_words::{Words, class_of_word, is_word};
 
 /// Whether the character has a word, of one of the forms and of the canonical class.
 #[tactic(auto, unfolding(crate::specs::CanonicalLists::canonical_of))]

@@ -9,10 +9,10 @@ ghost use Rattle.icu_normalizer_core.specs.CompatibilityWalks.{SaysNothing, AreF
 ghost use Rattle.icu_normalizer_core.specs.Words.{word_lists};
 
 use super::fixed::{fixed_list, is_fixed};
-use super::lists::has_good_list;
+use super::full_list_tests::has_good_list;
 use super::values::has_good_word;
 use crate::canonical::CanonicalTables;
-use crate::canonical::words::Words;
+use crate::canonical::canonical_words::Words;
 
 /// The least character with a bad full list, and the least with another full list than the one that is fixed, as far
 /// as was looked.

@@ -4,7 +4,7 @@ use Rattle.collate_laws.specs.OverRecords.{IsCollatorOf}
 use Rattle.collate_index.specs.Catalogue.{asked_of, meaning_in, preferences_of}
 use Rattle.collate_index.specs.Index.{IsKeyed}
 use Rattle.collate_index.specs.declared.asked.Asked.{Asked}
-use Rattle.collate_index.proofs.making.MadeLemmas.{as_asked}
+use Rattle.collate_index.proofs.making.IndexMadeLemmas.{as_asked}
 use Rattle.collate_index.proofs.index.Index.new.Goals as goal
 
 pub invariant_of-result : goal.invariant_of-result

@@ -7,7 +7,7 @@ use Rattle.collate_name_list.specs.StoredNames.{names_of}
 use Rattle.collate_index.specs.Catalogue.{Catalogue, meaning_in, preferences_of, reloaded}
 use Rattle.collate_index.specs.Index.{IsKeyed}
 use Rattle.collate_index.specs.Reloads.{AreKeysMade}
-use Rattle.collate_index.proofs.making.MadeLemmas.{as_asked}
+use Rattle.collate_index.proofs.making.IndexMadeLemmas.{as_asked}
 use Rattle.collate_index.proofs.index.Index.reload.Goals as goal
 
 pub names_by-requires-clause-collator : goal.names_by-requires-clause-collator

@@ -1,7 +1,7 @@
 use Rattle.std.proofs.Common.{arith, ℕ, ◌+◌, List, drop, subst}
 use Rattle.std.specs.Iterator.{YieldsFirstRef}
 use Rattle.collate_index.specs.Catalogue.{sorted_names}
-use Rattle.collate_index.proofs.search.ListingLemmas.{first_left}
+use Rattle.collate_index.proofs.search.SearchListingLemmas.{first_left}
 use Rattle.collate_index.proofs.names.NamesIterator.next.Goals as goal
 
 pub returns-clause-steps : goal.returns-clause-steps

@@ -8,7 +8,7 @@ use Rattle.collate_name_list.specs.StoredNames.{StoredName, names_of}
 use Rattle.collate_name_list.specs.Slots.{entry_at, entry_of, entries, hashes_in, names_inside, places_of}
 use Rattle.collate_name_list.specs.declared.slots.Stored.{Stored}
 use Rattle.collate_name_list.proofs.FrontedLemmas.{length_places}
-use Rattle.collate_name_list.proofs.EntryLemmas.{entries_push}
+use Rattle.collate_name_list.proofs.NameListEntryLemmas.{entries_push}
 use Rattle.collate_name_list.proofs.KeptLemmas.{kept_push, kept_same, remove_insert, told_kept, length_kept}
 use Rattle.collate_name_list.proofs.name_list.NameList.append.Goals as goal
 

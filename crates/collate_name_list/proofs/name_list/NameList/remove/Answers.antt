@@ -8,7 +8,7 @@ use Rattle.collate_name_list.specs.Slots.{IsFull, places_of, entry_at, entries, 
 use Rattle.collate_name_list.specs.declared.slots.Stored.{Stored}
 use Rattle.collate_name_list.proofs.FrontedLemmas.{length_places}
 use Rattle.collate_name_list.proofs.SlotLemmas.{full_below}
-use Rattle.collate_name_list.proofs.EntryLemmas.{entries_without, name_there}
+use Rattle.collate_name_list.proofs.NameListEntryLemmas.{entries_without, name_there}
 use Rattle.collate_name_list.proofs.KeptLemmas.{kept_remove, without_absent}
 use Rattle.collate_name_list.proofs.name_list.NameList.remove.Goals as goal
 

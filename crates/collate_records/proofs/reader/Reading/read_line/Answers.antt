@@ -4,7 +4,7 @@ use Rattle.collate_lines.specs.declared.rule.Rule.TheVariants.{Grammar, V14}
 use Rattle.collate_lines.specs.Record.{said}
 use Rattle.collate_lines.specs.Repeats.{says_something}
 use Rattle.collate_lines.specs.Seen.{is_seen}
-use Rattle.collate_records.proofs.reading.FaultLemmas.{refuses_now}
+use Rattle.collate_records.proofs.reading.ReadingFaultLemmas.{refuses_now}
 use Rattle.collate_records.proofs.reading.ReadLineLemmas.{breaks_again, line_outside, line_said, not_again, not_outside, read_more, read_past, sound_more}
 use Rattle.collate_records.proofs.reader.Reading.read_line.Goals as goal
 

@@ -6,7 +6,7 @@ use Rattle.icu_normalizer_core.specs.CanonicalMeaning.{meaning}
 use Rattle.collate_rules.specs.Accepted.{AreAccepted}
 use Rattle.collate_records.specs.Maps.{maps_of}
 use Rattle.collate_lines.specs.Record.{Record}
-use Rattle.collate_records.proofs.maps.AcceptedMapLemmas.{accepted_same, accepted_steps, accepted_pairs}
+use Rattle.collate_records.proofs.maps.AcceptedAllMapsLemmas.{accepted_same, accepted_steps, accepted_pairs}
 use Rattle.collate_records.proofs.records.Records.canonical.Goals as goal
 
 accepted : (c : goal.After-as_borrowed) → AreAccepted c.args.self.now

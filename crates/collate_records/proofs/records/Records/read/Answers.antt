@@ -5,7 +5,7 @@ use Rattle.collate_lines.specs.Record.{said}
 use Rattle.collate_rules.specs.Accepted.{AreAccepted}
 use Rattle.icu_normalizer_core.specs.CanonicalMaps.{AreMeaning}
 use Rattle.icu_normalizer_core.specs.CanonicalMeaning.{meaning}
-use Rattle.collate_records.proofs.reading.AcceptedLemmas.{accepted_lines}
+use Rattle.collate_records.proofs.reading.ReadingAcceptedLemmas.{accepted_lines}
 use Rattle.collate_records.proofs.records.Records.read.Goals as goal
 
 pub canonical_tables-requires : goal.canonical_tables-requires

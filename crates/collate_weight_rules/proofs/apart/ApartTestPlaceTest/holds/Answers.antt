@@ -1,7 +1,7 @@
 use Rattle.std.proofs.Common.{◌+◌, ◌↔◌, List, subst, IsTrue}
 use Rattle.collate_lines.specs.Record.{Record}
 use Rattle.collate_rules.specs.GivenWeights.{BreakApart}
-use Rattle.collate_weight_rules.proofs.soundness.SaidLemmas.{said_to}
+use Rattle.collate_weight_rules.proofs.soundness.WeightRuleSaidLemmas.{said_to}
 use Rattle.collate_weight_rules.proofs.apart.ApartTestPlaceTest.holds.Goals as goal
 
 pub returns : goal.returns

@@ -1,7 +1,7 @@
 use Rattle.std.proofs.Common.{◌+◌, ◌↔◌, List, map, subst, IsTrue}
 use Rattle.collate_lines.specs.Record.{Record, said}
 use Rattle.collate_rules.specs.GivenWeights.{BreakRanges}
-use Rattle.collate_weight_rules.proofs.soundness.SaidLemmas.{said_to}
+use Rattle.collate_weight_rules.proofs.soundness.WeightRuleSaidLemmas.{said_to}
 use Rattle.collate_weight_rules.proofs.ranges.RangeTestPlaceTest.holds.Goals as goal
 
 pub returns : goal.returns

@@ -1,7 +1,7 @@
 use Rattle.std.proofs.Common.{◌≡◌, subst}
 use Rattle.icu_collator.specs.FlatOrders.{IsMet}
 use Rattle.icu_collator.specs.declared.compare.flat.Meeting.{Meeting}
-use Rattle.icu_collator.proofs.orders.FlatOrderLemmas.{begin_alike}
+use Rattle.icu_collator.proofs.orders.OrderByFlatLemmas.{begin_alike}
 use Rattle.icu_collator.proofs.compare.flat.by_primaries.Goals as goal
 
 pub primaries-init : goal.primaries-init

@@ -1,6 +1,6 @@
 use Rattle.std.proofs.Common.{◌≡◌, drop, true, refl, ap, rules, ◌∙◌}
 use Rattle.icu_collator_core.specs.ElementLists.{unpacked}
-use Rattle.icu_collator.proofs.orders.FlatOrderLemmas.{same_primaries}
+use Rattle.icu_collator.proofs.orders.OrderByFlatLemmas.{same_primaries}
 use Rattle.icu_collator.proofs.compare.flat.compare_kept.Goals as goal
 
 pub returns : goal.returns

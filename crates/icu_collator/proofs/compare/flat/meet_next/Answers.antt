@@ -1,7 +1,7 @@
 use Rattle.std.proofs.Common.{rules}
 use Rattle.icu_normalizer_core.specs.Canonical.{IsDecomposing}
 use Rattle.icu_collator_core.specs.ReadSources.{canonical_by}
-use Rattle.icu_collator.proofs.orders.FlatOrderLemmas.{starters_met}
+use Rattle.icu_collator.proofs.orders.OrderByFlatLemmas.{starters_met}
 use Rattle.icu_collator.proofs.compare.flat.meet_next.Goals as goal
 
 pub returns-in-Some-clause-next : goal.returns-in-Some-clause-next

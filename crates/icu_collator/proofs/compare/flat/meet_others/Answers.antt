@@ -1,4 +1,4 @@
-use Rattle.icu_collator.proofs.orders.FlatOrderLemmas.{met}
+use Rattle.icu_collator.proofs.orders.OrderByFlatLemmas.{met}
 use Rattle.icu_collator.proofs.compare.flat.meet_others.Goals as goal
 
 pub returns-clause-next : goal.returns-clause-next

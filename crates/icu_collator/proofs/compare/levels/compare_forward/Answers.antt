@@ -3,7 +3,7 @@ use Rattle.std.specs.Prelude.{option_map}
 use Rattle.icu_collator.specs.Levels.{secondary_at}
 use Rattle.icu_collator.specs.Order.{secondary_rank}
 use Rattle.icu_collator.specs.TextsRead.{counted_in}
-use Rattle.icu_collator.proofs.lists.ListLemmas.{ranks_by}
+use Rattle.icu_collator.proofs.lists.CollatorListLemmas.{ranks_by}
 use Rattle.icu_collator.proofs.compare.levels.compare_forward.Goals as goal
 
 pub returns : goal.returns

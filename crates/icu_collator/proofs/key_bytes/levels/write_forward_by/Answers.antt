@@ -8,7 +8,7 @@ use Rattle.icu_collator.specs.Order.{secondary_rank}
 use Rattle.icu_collator.specs.declared.key_bytes.run_level.RunLevel.TheVariants.{Secondaries}
 use Rattle.icu_collator.proofs.key_writing.CodesWrittenLemmas.{level_written}
 use Rattle.icu_collator.proofs.key_writing.PlaceRankLemmas.{secondaries_ranked}
-use Rattle.icu_collator.proofs.lists.ListLemmas.{ranks_by}
+use Rattle.icu_collator.proofs.lists.CollatorListLemmas.{ranks_by}
 use Rattle.icu_collator.proofs.key_bytes.levels.write_forward_by.Goals as goal
 
 pub write_given_runs-requires-clause-small : goal.write_given_runs-requires-clause-small

@@ -3,7 +3,7 @@ use Rattle.icu_collator.specs.KeyBytes.{behind_run, with_runs}
 use Rattle.icu_collator.specs.KeyCodes.{code_of}
 use Rattle.icu_collator.specs.LevelLists.{counted_list, counted_of}
 use Rattle.icu_collator.specs.Shifted.{Counted}
-use Rattle.icu_collator.specs.declared.levels.counted.CountedElement.{CountedElement}
+use Rattle.icu_collator.specs.declared.levels.counted_elements.CountedElement.{CountedElement}
 use Rattle.icu_collator.proofs.key_bytes.runs.write_given_runs.Given as goal
 
 abbrev pub invariant-loop-element : goal.invariant-loop-element

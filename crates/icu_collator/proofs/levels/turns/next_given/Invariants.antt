@@ -1,7 +1,7 @@
 use Rattle.std.proofs.Common.{◌≡◌, ℕ, Option, drop, filter_map}
 use Rattle.icu_collator.specs.LevelLists.{counted_list, counted_of}
 use Rattle.icu_collator.specs.Shifted.{Counted}
-use Rattle.icu_collator.specs.declared.levels.counted.CountedElement.{CountedElement}
+use Rattle.icu_collator.specs.declared.levels.counted_elements.CountedElement.{CountedElement}
 use Rattle.icu_collator.proofs.levels.turns.next_given.Given as goal
 
 abbrev pub invariant-loop-place : goal.invariant-loop-place

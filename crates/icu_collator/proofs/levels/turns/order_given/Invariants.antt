@@ -3,7 +3,7 @@ use Rattle.std.specs.Cmp.Lexicographic.{slice_cmp}
 use Rattle.std.specs.Ordering.{nat_cmp}
 use Rattle.icu_collator.specs.LevelLists.{counted_list, counted_of}
 use Rattle.icu_collator.specs.Shifted.{Counted}
-use Rattle.icu_collator.specs.declared.levels.counted.CountedElement.{CountedElement}
+use Rattle.icu_collator.specs.declared.levels.counted_elements.CountedElement.{CountedElement}
 use Rattle.icu_collator.proofs.levels.turns.order_given.Given as goal
 
 abbrev pub invariant-weights : goal.invariant-weights

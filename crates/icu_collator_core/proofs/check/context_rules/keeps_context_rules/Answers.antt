@@ -4,7 +4,7 @@ use Rattle.icu_normalizer_core.specs.BorrowedMeaning.{borrowed_meaning}
 use Rattle.icu_collator_core.specs.ContextFaults.{KeepsSuffixRules, entry_in}
 use Rattle.icu_collator_core.specs.TableMeaning.{weights_of}
 use Rattle.icu_collator_core.proofs.checks.ContextLemmas.{digits_refused, prefixes_refused, suffixes_told}
-use Rattle.icu_collator_core.proofs.checks.TestLemmas.{no_is, refuted}
+use Rattle.icu_collator_core.proofs.checks.CheckedTestLemmas.{no_is, refuted}
 use Rattle.icu_collator_core.proofs.check.context_rules.keeps_context_rules.Goals as goal
 
 pub returns-then-not-keeps_digit_rule : goal.returns-then-not-keeps_digit_rule

@@ -7,7 +7,7 @@ use Rattle.icu_collator_core.specs.ContextFaults.{entry_in}
 use Rattle.icu_collator_core.specs.ContextRules.{KeysPass, is_prefix, is_recorded_by, may_have_prefix}
 use Rattle.icu_collator_core.specs.Pools.{trie_of}
 use Rattle.icu_collator_core.specs.TableMeaning.{weights_of}
-use Rattle.icu_collator_core.proofs.checks.TestLemmas.{after_test, where_asked}
+use Rattle.icu_collator_core.proofs.checks.CheckedTestLemmas.{after_test, where_asked}
 use Rattle.icu_collator_core.proofs.check.context_rules.keeps_prefix_rules.Goals as goal
 
 pub returns : goal.returns

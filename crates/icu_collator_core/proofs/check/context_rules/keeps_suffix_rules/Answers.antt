@@ -6,7 +6,7 @@ use Rattle.icu_normalizer_core.specs.BorrowedMeaning.{borrowed_meaning}
 use Rattle.icu_collator_core.specs.ContextFaults.{entry_in}
 use Rattle.icu_collator_core.specs.ContextRules.{AreFlagsTrue, KeysPass, is_recorded_by, is_suffix}
 use Rattle.icu_collator_core.specs.Pools.{index_of, trie_of}
-use Rattle.icu_collator_core.proofs.checks.TestLemmas.{after_yes, no_is, refuted, where_asked}
+use Rattle.icu_collator_core.proofs.checks.CheckedTestLemmas.{after_yes, no_is, refuted, where_asked}
 use Rattle.icu_collator_core.proofs.check.context_rules.keeps_suffix_rules.Goals as goal
 
 pub returns-then-not-suffixes : goal.returns-then-not-suffixes

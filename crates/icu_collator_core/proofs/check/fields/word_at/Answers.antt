@@ -1,5 +1,5 @@
 use Rattle.std.proofs.Common.{sym}
-use Rattle.icu_collator_core.proofs.checks.ListLemmas.{none_index}
+use Rattle.icu_collator_core.proofs.checks.CheckedListLemmas.{none_index}
 use Rattle.icu_collator_core.proofs.check.fields.word_at.Goals as goal
 
 pub returns-in-None : goal.returns-in-None

@@ -6,7 +6,7 @@ use Rattle.icu_collator_core.specs.ContextRules.{KeysPass}
 use Rattle.icu_collator_core.specs.KeyTexts.{by_fold}
 use Rattle.icu_collator_core.specs.Pools.{trie_of}
 use Rattle.icu_collator_core.specs.TextFolds.{answered_first, answered_with, is_yes}
-use Rattle.icu_collator_core.proofs.checks.FoldLemmas.{answer_told}
+use Rattle.icu_collator_core.proofs.checks.CheckedFoldLemmas.{answer_told}
 use Rattle.icu_collator_core.proofs.checks.WalkLemmas.{told_same}
 use Rattle.icu_collator_core.proofs.check.flags.is_answered.Goals as goal
 

@@ -2,7 +2,7 @@ use Rattle.std.proofs.Common.{◌+◌, ◌-◌, ◌&&◌, sym, ap, ◌∙◌, ar
 use Rattle.std.specs.List.{list_all}
 use Rattle.icu_normalizer_core.specs.CanonicalWords.{items_at}
 use Rattle.icu_collator_core.specs.WordForms.{states_element}
-use Rattle.icu_collator_core.proofs.checks.ListLemmas.{all_more, all_none, all_past}
+use Rattle.icu_collator_core.proofs.checks.CheckedListLemmas.{all_more, all_none, all_past}
 use Rattle.icu_collator_core.proofs.check.forms.all_state_elements.Goals as goal
 
 pub loop-i-init : goal.loop-i-init

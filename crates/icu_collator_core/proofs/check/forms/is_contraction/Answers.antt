@@ -2,7 +2,7 @@ use Rattle.std.proofs.Common.{sym, ◌∙◌, ap}
 use Rattle.icu_collator_types.specs.declared.elements.word_tags.Tag.TheVariants.{Contraction}
 use Rattle.icu_collator_core.specs.TableMeaning.{pools_of}
 use Rattle.icu_collator_core.specs.WordForms.{default_of, has_form, is_own_word}
-use Rattle.icu_collator_core.proofs.checks.TestLemmas.{after_tests}
+use Rattle.icu_collator_core.proofs.checks.CheckedTestLemmas.{after_tests}
 use Rattle.icu_collator_core.proofs.check.forms.is_contraction.Goals as goal
 
 pub returns : goal.returns

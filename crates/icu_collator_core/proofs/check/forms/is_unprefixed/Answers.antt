@@ -1,7 +1,7 @@
 use Rattle.std.proofs.Common.{sym, ◌∙◌}
 use Rattle.icu_collator_core.specs.TableMeaning.{pools_of}
 use Rattle.icu_collator_core.specs.WordForms.{is_own_word}
-use Rattle.icu_collator_core.proofs.checks.TestLemmas.{after_no, of_test}
+use Rattle.icu_collator_core.proofs.checks.CheckedTestLemmas.{after_no, of_test}
 use Rattle.icu_collator_core.proofs.check.forms.is_unprefixed.Goals as goal
 
 pub returns : goal.returns

@@ -1,7 +1,7 @@
 use Rattle.std.proofs.Common.{◌||◌, sym, ◌∙◌}
 use Rattle.icu_collator_core.specs.TableMeaning.{pools_of}
 use Rattle.icu_collator_core.specs.WordForms.{is_digit_word, is_fallback}
-use Rattle.icu_collator_core.proofs.checks.TestLemmas.{after_no, neither, of_test}
+use Rattle.icu_collator_core.proofs.checks.CheckedTestLemmas.{after_no, neither, of_test}
 use Rattle.icu_collator_core.proofs.check.forms.is_word.Goals as goal
 
 pub returns : goal.returns

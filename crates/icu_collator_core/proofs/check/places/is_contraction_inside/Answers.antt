@@ -4,7 +4,7 @@ use Rattle.icu_collator_types.specs.ElementWords.{has_tag}
 use Rattle.icu_collator_core.specs.TableMeaning.{pools_of}
 use Rattle.icu_collator_core.specs.WordForms.{default_of}
 use Rattle.icu_collator_core.specs.WordPlaces.{has_context, has_items}
-use Rattle.icu_collator_core.proofs.checks.TestLemmas.{after_tests, where_asked}
+use Rattle.icu_collator_core.proofs.checks.CheckedTestLemmas.{after_tests, where_asked}
 use Rattle.icu_collator_core.proofs.check.places.is_contraction_inside.Goals as goal
 
 pub returns : goal.returns

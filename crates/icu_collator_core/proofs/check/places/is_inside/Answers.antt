@@ -1,4 +1,4 @@
-use Rattle.icu_collator_core.proofs.checks.TestLemmas.{after_yes}
+use Rattle.icu_collator_core.proofs.checks.CheckedTestLemmas.{after_yes}
 use Rattle.icu_collator_core.proofs.check.places.is_inside.Goals as goal
 
 pub returns : goal.returns

@@ -4,7 +4,7 @@ use Rattle.icu_collator_types.specs.declared.elements.word_tags.Tag.TheVariants.
 use Rattle.icu_collator_types.specs.ElementWords.{has_tag}
 use Rattle.icu_collator_core.specs.TableMeaning.{pools_of}
 use Rattle.icu_collator_core.specs.WordPlaces.{IsUnprefixedInside, has_context}
-use Rattle.icu_collator_core.proofs.checks.TestLemmas.{after_test_and_yes, no_is, refuted, where_asked}
+use Rattle.icu_collator_core.proofs.checks.CheckedTestLemmas.{after_test_and_yes, no_is, refuted, where_asked}
 use Rattle.icu_collator_core.proofs.check.places.is_prefix_inside.Goals as goal
 
 pub returns-then-not-unprefixed : goal.returns-then-not-unprefixed

@@ -1,7 +1,7 @@
 use Rattle.std.proofs.Common.{sym, ◌∙◌}
 use Rattle.icu_collator_core.specs.TableMeaning.{pools_of}
 use Rattle.icu_collator_core.specs.WordPlaces.{has_digit_word, has_items}
-use Rattle.icu_collator_core.proofs.checks.TestLemmas.{after_tests}
+use Rattle.icu_collator_core.proofs.checks.CheckedTestLemmas.{after_tests}
 use Rattle.icu_collator_core.proofs.check.places.is_unprefixed_inside.Goals as goal
 
 pub returns : goal.returns

@@ -4,7 +4,7 @@ use Rattle.icu_collator_core.specs.KeyTexts.{by_fold}
 use Rattle.icu_collator_core.specs.Pools.{trie_of}
 use Rattle.icu_collator_core.specs.TableMeaning.{weights_of}
 use Rattle.icu_collator_core.specs.TextFolds.{is_prefix_count, prefix_with}
-use Rattle.icu_collator_core.proofs.checks.FoldLemmas.{prefix_told}
+use Rattle.icu_collator_core.proofs.checks.CheckedFoldLemmas.{prefix_told}
 use Rattle.icu_collator_core.proofs.checks.WalkLemmas.{told_also}
 use Rattle.icu_collator_core.proofs.check.prefixes.are_prefixes.Goals as goal
 

@@ -3,7 +3,7 @@ use Rattle.icu_collator_core.specs.ContextFaults.{entry_in}
 use Rattle.icu_collator_core.specs.ContextRules.{is_recorded_by}
 use Rattle.icu_collator_core.specs.Pools.{trie_of}
 use Rattle.icu_collator_core.proofs.checks.ContextLemmas.{long_refused, mixed_refused, suffixes_by_parts}
-use Rattle.icu_collator_core.proofs.checks.TestLemmas.{refuted}
+use Rattle.icu_collator_core.proofs.checks.CheckedTestLemmas.{refuted}
 use Rattle.icu_collator_core.proofs.check.suffixes.are_suffixes.Goals as goal
 
 pub returns-then-not-short : goal.returns-then-not-short

@@ -6,7 +6,7 @@ use Rattle.icu_collator_core.specs.ContextRules.{KeysPass, has_marks_last}
 use Rattle.icu_collator_core.specs.KeyTexts.{by_fold}
 use Rattle.icu_collator_core.specs.Pools.{trie_of}
 use Rattle.icu_collator_core.specs.TextFolds.{is_ordered, order_with}
-use Rattle.icu_collator_core.proofs.checks.FoldLemmas.{order_told}
+use Rattle.icu_collator_core.proofs.checks.CheckedFoldLemmas.{order_told}
 use Rattle.icu_collator_core.proofs.checks.WalkLemmas.{told_same}
 use Rattle.icu_collator_core.proofs.check.suffixes.have_marks_last.Goals as goal
 

@@ -6,8 +6,8 @@ use Rattle.std.specs.List.{Contains}
 use Rattle.std.proofs.lemmas.Bool.{false≢true}
 use Rattle.std.proofs.lemmas.Int.{to_z-of_z}
 use Rattle.std.proofs.lemmas.List.Elements.{Contains-get_or}
-use Rattle.icu_collator_core.proofs.checks.TestLemmas.{refuted, shown}
-use Rattle.icu_collator_core.proofs.checks.ValueLemmas.{all_hold, holds_next}
+use Rattle.icu_collator_core.proofs.checks.CheckedTestLemmas.{refuted, shown}
+use Rattle.icu_collator_core.proofs.checks.CheckedValueLemmas.{all_hold, holds_next}
 use Rattle.icu_collator_core.proofs.check.values.all_pass.Goals as goal
 
 pub loop-place-preserved : goal.loop-place-preserved

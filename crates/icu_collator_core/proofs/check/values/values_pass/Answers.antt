@@ -2,8 +2,8 @@ use Rattle.icu_char16trie.specs.KeyFolds.{AreFolded}
 use Rattle.icu_char16trie.specs.UnitGrammar.{IsUnitTrie}
 use Rattle.icu_collator_core.specs.Pools.{trie_of}
 use Rattle.icu_collator_core.specs.WordForms.{keeps_nothing}
-use Rattle.icu_collator_core.proofs.checks.TestLemmas.{shown}
-use Rattle.icu_collator_core.proofs.checks.ValueLemmas.{found_nothing, found_one, no_values_told, values_told}
+use Rattle.icu_collator_core.proofs.checks.CheckedTestLemmas.{shown}
+use Rattle.icu_collator_core.proofs.checks.CheckedValueLemmas.{found_nothing, found_one, no_values_told, values_told}
 use Rattle.icu_collator_core.proofs.check.values.values_pass.Goals as goal
 
 pub returns-in-Some : goal.returns-in-Some

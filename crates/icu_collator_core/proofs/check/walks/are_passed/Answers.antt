@@ -5,8 +5,8 @@ use Rattle.std.proofs.lemmas.Bool.{false≢true}
 use Rattle.std.proofs.lemmas.List.Elements.{Contains-get_or}
 use Rattle.icu_collator_core.specs.declared.check.walks.Reading.{Reading}
 use Rattle.icu_collator_core.specs.KeyTexts.{tells}
-use Rattle.icu_collator_core.proofs.checks.TestLemmas.{refuted, shown}
-use Rattle.icu_collator_core.proofs.checks.ValueLemmas.{all_hold, holds_next}
+use Rattle.icu_collator_core.proofs.checks.CheckedTestLemmas.{refuted, shown}
+use Rattle.icu_collator_core.proofs.checks.CheckedValueLemmas.{all_hold, holds_next}
 use Rattle.icu_collator_core.proofs.check.walks.are_passed.Goals as goal
 
 pub loop-place-preserved : goal.loop-place-preserved

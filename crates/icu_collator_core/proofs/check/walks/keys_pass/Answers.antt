@@ -3,8 +3,8 @@ use Rattle.icu_char16trie.specs.UnitGrammar.{IsUnitTrie}
 use Rattle.icu_collator_core.specs.declared.check.walks.Reading.TheVariants.{Whole}
 use Rattle.icu_collator_core.specs.KeyTexts.{read_unit}
 use Rattle.icu_collator_core.specs.Pools.{trie_of}
-use Rattle.icu_collator_core.proofs.checks.TestLemmas.{refuted}
-use Rattle.icu_collator_core.proofs.checks.ValueLemmas.{found_nothing, found_one}
+use Rattle.icu_collator_core.proofs.checks.CheckedTestLemmas.{refuted}
+use Rattle.icu_collator_core.proofs.checks.CheckedValueLemmas.{found_nothing, found_one}
 use Rattle.icu_collator_core.proofs.checks.WalkLemmas.{keys_told}
 use Rattle.icu_collator_core.proofs.check.walks.keys_pass.Goals as goal
 

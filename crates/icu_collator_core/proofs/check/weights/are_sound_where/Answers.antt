@@ -1,6 +1,6 @@
 use Rattle.std.proofs.Common.{sym, ◌∙◌}
 use Rattle.icu_collator_types.specs.ElementWords.{has_tag}
-use Rattle.icu_collator_core.proofs.checks.TestLemmas.{where_asked}
+use Rattle.icu_collator_core.proofs.checks.CheckedTestLemmas.{where_asked}
 use Rattle.icu_collator_core.proofs.check.weights.are_sound_where.Goals as goal
 
 pub returns : goal.returns

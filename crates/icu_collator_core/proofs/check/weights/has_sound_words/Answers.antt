@@ -6,7 +6,7 @@ use Rattle.icu_collator_core.specs.Pools.{lone_word}
 use Rattle.icu_collator_core.specs.TableMeaning.{pools_of}
 use Rattle.icu_collator_core.specs.WeightFaults.{is_sound_in_context, is_sound_lone_word, is_sound_word}
 use Rattle.icu_collator_core.specs.WordForms.{ValuesPass}
-use Rattle.icu_collator_core.proofs.checks.TestLemmas.{after_test_and_yes, no_is, refuted}
+use Rattle.icu_collator_core.proofs.checks.CheckedTestLemmas.{after_test_and_yes, no_is, refuted}
 use Rattle.icu_collator_core.proofs.check.weights.has_sound_words.Goals as goal
 
 pub returns-then-not-suffixes : goal.returns-then-not-suffixes

@@ -1,7 +1,7 @@
 use Rattle.std.proofs.Common.{sym, subst}
 use Rattle.icu_collator_core.specs.Acceptance.{CollationSource}
 use Rattle.icu_collator_core.specs.FlatNotes.{AreFlatNotes}
-use Rattle.icu_collator_core.specs.LowCharacters.{AreNoted}
+use Rattle.icu_collator_core.specs.CollationNotes.{AreNoted}
 use Rattle.icu_collator_core.proofs.checked.CheckedTables.with_low.Goals as goal
 
 pub invariant_of-self : goal.invariant_of-self

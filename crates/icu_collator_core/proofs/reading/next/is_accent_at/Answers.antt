@@ -1,6 +1,6 @@
 use Rattle.std.proofs.Common.{◌∙◌, arith}
 use Rattle.std.proofs.lemmas.List.{get_or_read}
-use Rattle.icu_collator_core.proofs.readings.StepLemmas.{accent_at, no_accent_at}
+use Rattle.icu_collator_core.proofs.readings.ReadStepLemmas.{accent_at, no_accent_at}
 use Rattle.icu_collator_core.proofs.reading.next.is_accent_at.Goals as goal
 
 pub returns-then-place-list : goal.returns-then-place-list

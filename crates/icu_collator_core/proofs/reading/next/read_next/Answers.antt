@@ -13,7 +13,7 @@ use Rattle.icu_collator_core.specs.TableMeaning.{weights_of}
 use Rattle.icu_collator_core.proofs.lookups.PackedLemmas.{element_of_primary, unpacked_more}
 use Rattle.icu_collator_core.proofs.meaning.AcceptedPrefixLemmas.{accepted_tables_know_no_marks_before}
 use Rattle.icu_collator_core.proofs.readings.CaseLemmas.{reading_special}
-use Rattle.icu_collator_core.proofs.readings.StepLemmas.{alike_self, left_from, no_marks_for, read_from}
+use Rattle.icu_collator_core.proofs.readings.ReadStepLemmas.{alike_self, left_from, no_marks_for, read_from}
 use Rattle.icu_collator_core.proofs.reading.next.read_next.Goals as goal
 
 pub returns-in_ok-push-in-Some-clause-read : goal.returns-in_ok-push-in-Some-clause-read

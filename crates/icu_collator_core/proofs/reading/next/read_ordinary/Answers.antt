@@ -9,7 +9,7 @@ use Rattle.icu_collator_core.specs.TableMeaning.{weights_of}
 use Rattle.icu_collator_core.proofs.lookups.OpenTextLemmas.{placed_next}
 use Rattle.icu_collator_core.proofs.meaning.AcceptedPrefixLemmas.{accepted_tables_know_no_marks_before}
 use Rattle.icu_collator_core.proofs.readings.CaseLemmas.{reading_number}
-use Rattle.icu_collator_core.proofs.readings.StepLemmas.{first_left_is, no_marks_for, read_from}
+use Rattle.icu_collator_core.proofs.readings.ReadStepLemmas.{first_left_is, no_marks_for, read_from}
 use Rattle.icu_collator_core.proofs.reading.next.read_ordinary.Goals as goal
 
 pub read_number-requires-clause-digit : goal.read_number-requires-clause-digit

@@ -10,7 +10,7 @@ use Rattle.icu_collator_core.specs.TableMeaning.{weights_of}
 use Rattle.icu_collator_core.specs.TableSettings.{has_bit}
 use Rattle.icu_collator_core.proofs.meaning.AcceptedPrefixLemmas.{accepted_tables_know_no_marks_before}
 use Rattle.icu_collator_core.proofs.readings.CaseLemmas.{reading_dropped, reading_otherwise}
-use Rattle.icu_collator_core.proofs.readings.StepLemmas.{alike_self, no_marks_for, read_from}
+use Rattle.icu_collator_core.proofs.readings.ReadStepLemmas.{alike_self, no_marks_for, read_from}
 use Rattle.icu_collator_core.proofs.reading.next.read_uncounted.Goals as goal
 
 pub returns-then-is_dropped-clause-read : goal.returns-then-is_dropped-clause-read

@@ -5,7 +5,7 @@ use Rattle.icu_collator_core.specs.Elements.{longest_prefix}
 use Rattle.icu_collator_core.specs.ReadTexts.{characters_before}
 use Rattle.icu_collator_core.specs.TableMeaning.{pools_of}
 use Rattle.icu_collator_core.proofs.lookups.PrefixLemmas.{before_count, read_back}
-use Rattle.icu_collator_core.proofs.lookups.TextLemmas.{read_none, read_stopped}
+use Rattle.icu_collator_core.proofs.lookups.LookedUpTextLemmas.{read_none, read_stopped}
 use Rattle.icu_collator_core.proofs.reading.prefixes.nearest_text.Goals as goal
 
 pub loop-n-init : goal.loop-n-init

@@ -6,7 +6,7 @@ use Rattle.icu_collator_core.specs.ReadSources.{canonical_by, weights_by}
 use Rattle.icu_collator_core.specs.TableMeaning.{weights_of}
 use Rattle.icu_collator_core.proofs.meaning.AcceptedPrefixLemmas.{accepted_tables_know_no_marks_before}
 use Rattle.icu_collator_core.proofs.readings.ReaderLemmas.{alone_is_read}
-use Rattle.icu_collator_core.proofs.readings.StepLemmas.{no_marks_for}
+use Rattle.icu_collator_core.proofs.readings.ReadStepLemmas.{no_marks_for}
 use Rattle.icu_collator_core.proofs.reading.runs.push_alone.Goals as goal
 
 pub loop-i-init : goal.loop-i-init

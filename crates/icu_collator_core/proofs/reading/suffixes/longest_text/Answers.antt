@@ -2,7 +2,7 @@ use Rattle.std.proofs.Common.{◌≡◌, ◌+◌, ◌-◌, ◌<◌, drop, length
 use Rattle.std.proofs.Common.{None}
 use Rattle.icu_char16trie.specs.Cursors.{trie_units}
 use Rattle.icu_collator_core.specs.TableMeaning.{pools_of}
-use Rattle.icu_collator_core.proofs.lookups.TextLemmas.{HasRead, read_next, read_none, read_stopped, within_rest}
+use Rattle.icu_collator_core.proofs.lookups.LookedUpTextLemmas.{HasRead, read_next, read_none, read_stopped, within_rest}
 use Rattle.icu_collator_core.proofs.reading.suffixes.longest_text.Goals as goal
 
 pub loop-place-init : goal.loop-place-init

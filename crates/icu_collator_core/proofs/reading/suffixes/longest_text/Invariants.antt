@@ -1,7 +1,7 @@
 use Rattle.std.proofs.Common.{◌-◌, drop}
 use Rattle.icu_char16trie.specs.Cursors.{trie_units}
 use Rattle.icu_collator_core.specs.TableMeaning.{pools_of}
-use Rattle.icu_collator_core.proofs.lookups.TextLemmas.{HasRead}
+use Rattle.icu_collator_core.proofs.lookups.LookedUpTextLemmas.{HasRead}
 use Rattle.icu_collator_core.proofs.reading.suffixes.longest_text.Given as goal
 
 abbrev pub invariant-loop-place : goal.invariant-loop-place

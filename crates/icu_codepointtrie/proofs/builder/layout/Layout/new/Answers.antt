@@ -1,7 +1,7 @@
 use Rattle.std.proofs.Common.{ℕ, ◌+◌, ◌*◌, ◌/◌, ◌≤◌, List, map, length, ◌∙◌, arith}
 use Rattle.std.specs.Prelude.{slice_index}
 use Rattle.std.proofs.lemmas.List.{length-map}
-use Rattle.icu_codepointtrie.proofs.built.LayoutLemmas.{places_inside, IsLayout-made, AreBounded-made}
+use Rattle.icu_codepointtrie.proofs.built.BuiltLayoutLemmas.{places_inside, IsLayout-made, AreBounded-made}
 use Rattle.icu_codepointtrie.proofs.builder.layout.Layout.new.Goals as goal
 
 pub third_blocks-requires-clause-small : goal.third_blocks-requires-clause-small

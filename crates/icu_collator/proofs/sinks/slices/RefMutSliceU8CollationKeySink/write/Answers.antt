@@ -1,6 +1,6 @@
 use Rattle.std.proofs.Common.{◌+◌, ◌≤◌, min, length, ◌∙◌, ap, arith}
 use Rattle.icu_collator.specs.Sinks.{greatest_count, overlaid, written_at}
-use Rattle.icu_collator.proofs.SinkLemmas.{counted_more, length_overlaid, overlaid_more}
+use Rattle.icu_collator.proofs.CollatorSinkLemmas.{counted_more, length_overlaid, overlaid_more}
 use Rattle.icu_collator.proofs.sinks.slices.RefMutSliceU8CollationKeySink.write.Goals as goal
 
 pub returns-clause-ok : goal.returns-clause-ok

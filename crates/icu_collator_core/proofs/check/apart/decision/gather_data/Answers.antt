@@ -2,9 +2,9 @@ use Rattle.std.proofs.Common.{subst}
 use Rattle.icu_collator_core.specs.ElementLists.{unpacked}
 use Rattle.icu_collator_core.specs.PrefixFaults.{IsSpelledIn, IsWordIn, Spells}
 use Rattle.icu_collator_core.specs.TableMeaning.{pools_of}
-use Rattle.icu_collator_core.specs.WeightLists.{AreSpelling, Grows, HasLead, HaveLead, IsLeadOf, IsWordOf}
+use Rattle.icu_collator_core.specs.WeightLists.{AreSpelling, Grows, HasLead, HaveLead, IsLeadOf, IsWordOfData}
 use Rattle.icu_collator_core.proofs.apart.GrowthLemmas.{grown_same}
-use Rattle.icu_collator_core.proofs.apart.SpellingLemmas.{given_by, given_in}
+use Rattle.icu_collator_core.proofs.apart.ApartSpellingLemmas.{given_by, given_in}
 use Rattle.icu_collator_core.proofs.check.apart.decision.gather_data.Goals as goal
 
 pub returns-clause-elements : goal.returns-clause-elements
@@ -24,5 +24,5 @@ returns-clause-leads c =
     let before = c.args.gathered.now.leads.items in
     let after = c.gather_leads.new.leads.items in
     grown_same (HaveLead source words) (IsLeadOf source) before after
-    (given_by (IsWordOf source) (HasLead source) words c.in_ok-words.ensures)
+    (given_by (IsWordOfData source) (HasLead source) words c.in_ok-words.ensures)
     (subst (λ list. Grows (HaveLead source list) before after) c.as_slice.ensures.value c.in_ok-gather_leads.ensures)

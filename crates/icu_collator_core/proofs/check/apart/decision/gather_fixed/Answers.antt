@@ -5,7 +5,7 @@ use Rattle.icu_collator_core.specs.PrefixFaults.{Spells}
 use Rattle.icu_collator_core.specs.TableMeaning.{pools_of, secondary_word}
 use Rattle.icu_collator_core.specs.WeightLists.{AreSpelling, Grows, IsDiacriticWord, IsSpelledByTables}
 use Rattle.icu_collator_core.proofs.apart.GrowthLemmas.{grown_same, listed, listed_more}
-use Rattle.icu_collator_core.proofs.apart.SpellingLemmas.{given_by_both}
+use Rattle.icu_collator_core.proofs.apart.ApartSpellingLemmas.{given_by_both}
 use Rattle.icu_collator_core.proofs.check.apart.decision.gather_fixed.Goals as goal
 
 pub returns : goal.returns

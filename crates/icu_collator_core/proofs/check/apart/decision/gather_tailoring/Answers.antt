@@ -3,7 +3,7 @@ use Rattle.icu_collator_core.specs.ElementLists.{unpacked}
 use Rattle.icu_collator_core.specs.PrefixFaults.{IsSpelledIn}
 use Rattle.icu_collator_core.specs.WeightLists.{IsLeadOf, IsLeadOfTailoring, IsSpelledByTailoring}
 use Rattle.icu_collator_core.proofs.apart.GrowthLemmas.{grown_same}
-use Rattle.icu_collator_core.proofs.apart.SpellingLemmas.{there_is}
+use Rattle.icu_collator_core.proofs.apart.ApartSpellingLemmas.{there_is}
 use Rattle.icu_collator_core.proofs.check.apart.decision.gather_tailoring.Goals as goal
 
 pub returns-clause-elements : goal.returns-clause-elements

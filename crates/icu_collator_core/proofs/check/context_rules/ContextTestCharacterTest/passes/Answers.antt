@@ -5,7 +5,7 @@ use Rattle.icu_normalizer_core.specs.BorrowedMeaning.{borrowed_meaning}
 use Rattle.icu_collator_core.specs.ContextFaults.{entry_in}
 use Rattle.icu_collator_core.specs.ContextRules.{KeepsContextRules}
 use Rattle.icu_collator_core.specs.TableMeaning.{weights_of}
-use Rattle.icu_collator_core.proofs.checks.ListLemmas.{word_same}
+use Rattle.icu_collator_core.proofs.checks.CheckedListLemmas.{word_same}
 use Rattle.icu_collator_core.proofs.check.context_rules.ContextTestCharacterTest.passes.Goals as goal
 
 pub returns : goal.returns

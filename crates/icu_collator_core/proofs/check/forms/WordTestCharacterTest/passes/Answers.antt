@@ -3,8 +3,8 @@ use Rattle.std.specs.Bool.{IsTrue}
 use Rattle.icu_codepointtrie.specs.Places.{value_at}
 use Rattle.icu_collator_core.specs.TableMeaning.{pools_of}
 use Rattle.icu_collator_core.specs.WordForms.{IsWord, keeps_special}
-use Rattle.icu_collator_core.proofs.checks.ListLemmas.{word_same}
-use Rattle.icu_collator_core.proofs.checks.TestLemmas.{after_test}
+use Rattle.icu_collator_core.proofs.checks.CheckedListLemmas.{word_same}
+use Rattle.icu_collator_core.proofs.checks.CheckedTestLemmas.{after_test}
 use Rattle.icu_collator_core.proofs.check.forms.WordTestCharacterTest.passes.Goals as goal
 
 pub returns : goal.returns

@@ -3,7 +3,7 @@ use Rattle.std.specs.Bool.{IsTrue}
 use Rattle.icu_codepointtrie.specs.Places.{value_at}
 use Rattle.icu_collator_core.specs.TableMeaning.{pools_of}
 use Rattle.icu_collator_core.specs.WordWeights.{HasSoundWords}
-use Rattle.icu_collator_core.proofs.checks.ListLemmas.{word_same}
+use Rattle.icu_collator_core.proofs.checks.CheckedListLemmas.{word_same}
 use Rattle.icu_collator_core.proofs.check.weights.WeightTestCharacterTest.passes.Goals as goal
 
 pub returns : goal.returns

@@ -1,5 +1,5 @@
 use Rattle.std.proofs.Common.{◌≡◌, ◌++◌, true, take, rules, sym, ap, subst, ◌∙◌, arith, append-nil}
-use Rattle.icu_normalizer.specs.LowCharacters.{noted_list}
+use Rattle.icu_normalizer.specs.FormNotes.{noted_list}
 use Rattle.icu_normalizer.specs.Marks.{stands_to}
 use Rattle.icu_normalizer.specs.Writer.{writer_data}
 use Rattle.icu_normalizer.proofs.OrderLemmas.{stands_join}

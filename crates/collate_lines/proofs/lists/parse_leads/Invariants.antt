@@ -1,9 +1,0 @@
-use Rattle.std.proofs.Common.{◌≡◌, ◌++◌, drop, option_map}
-use Rattle.collate_lines.specs.Grammar.{hex_of, listed}
-use Rattle.collate_lines.proofs.reading.FormLemmas.{bytes_of}
-use Rattle.collate_lines.proofs.lists.parse_leads.Given as goal
-
--- What the fields that are left list joins the list so far.
-abbrev pub invariant-loop-field : goal.invariant-loop-field
-invariant-loop-field l =
-    listed (hex_of 2) (bytes_of l.fields) ≡ option_map (λ rest. l.list.items ++ rest) (listed (hex_of 2) (bytes_of (drop l.field-index l.fields)))

@@ -1,8 +1,0 @@
-use Rattle.std.proofs.Common.{map, take}
-use Rattle.std.specs.List.{All}
-use Rattle.collate_rules.specs.CanonicalParts.{in_full, subject_of}
-use Rattle.collate_rules.specs.Rules.{IsBadlyLow}
-use Rattle.collate_mapping_rules.proofs.low.has_bad_low.Given as goal
-
-abbrev pub invariant-loop-part : goal.invariant-loop-part
-invariant-loop-part l = All (λ part. IsBadlyLow (map in_full l.parts) (subject_of part) → ⊥) (take l.part-index l.parts)

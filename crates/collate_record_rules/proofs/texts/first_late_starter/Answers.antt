@@ -1,7 +1,0 @@
-use Rattle.std.proofs.Common.{map}
-use Rattle.collate_lines.specs.Record.{said}
-use Rattle.collate_record_rules.proofs.records.GrowthLemmas.{marks_last_stay}
-use Rattle.collate_record_rules.proofs.texts.first_late_starter.Goals as goal
-
-pub returns : goal.returns
-returns c = c.in_ok-found.ensures (marks_last_stay (map said c.args.records.now))

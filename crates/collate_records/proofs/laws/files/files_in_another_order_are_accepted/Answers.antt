@@ -1,0 +1,5 @@
+use Rattle.collate_records.proofs.reordering.AcceptedMovedLemmas.{file_accepted}
+use Rattle.collate_records.proofs.laws.files.files_in_another_order_are_accepted.Goals as goal
+
+pub returns : goal.returns
+returns c = λ a b accepted lines short. file_accepted a b accepted lines short

@@ -1,0 +1,133 @@
+-- What is noted of lines says what they say.
+use Rattle.std.proofs.Common.{◌≡◌, ℕ, Bool, true, false, cond, ◌==◌, ◌||◌, List, [], ◌∷◌, ◌++◌, Option, Some, None, refl, sym, ◌∙◌, ap}
+use Rattle.std.specs.Prelude.{is_some}
+use Rattle.std.specs.Ordering.{nat_cmp}
+use Rattle.std.specs.BTreeMap.{BTreeMap, get}
+use Rattle.std.specs.BTreeSet.{BTreeSet, contains}
+use Rattle.std.specs.List.{list_any}
+use Rattle.std.specs.Option.{option_or}
+use Rattle.std.proofs.lemmas.List.Folds.{list_any-append}
+use Rattle.std.proofs.Math.Bool.{or-false}
+use Rattle.collate_lines.specs.Record.{Record, class, mapping, weights, digit}
+use Rattle.collate_rules.specs.Meaning.{class_in, digit_in, first_found, mapping_in}
+use Rattle.collate_rules.specs.NotedLines.{HasAlone, HasClasses, HasDigits, HasMapped, class_line, digit_line, lone_character, mapped_character, records_alone}
+use Rattle.collate_rules.proofs.lookups.RuleLookupLemmas.{first_found-push, first_found-skip}
+
+-- ---- Classes and digits
+
+-- what a character and its value say of a character
+abbrev value_of : ℕ → Option (ℕ × ℕ) → Option ℕ
+value_of c o = elim o [ Some p ↦ cond (c == p.0) (Some p.1) None | None ↦ None ]
+
+-- what lines say of characters, told by the one character of which each line says it
+module _ (said_in : ℕ → Record → Option ℕ) (said_by : Record → Option (ℕ × ℕ))
+    (by_line : (c : ℕ) (line : Record) → said_in c line ≡ value_of c (said_by line)) where
+  abbrev HasValues : BTreeMap ℕ ℕ → List Record → Type 0
+  HasValues values lines = (c : ℕ) → get nat_cmp values c ≡ first_found (said_in c) lines
+
+  value_noted : (old new : BTreeMap ℕ ℕ) (lines : List Record) (line : Record) (d k : ℕ) → Some (d, k) ≡ said_by line → HasValues old lines
+      → ((c : ℕ) → get nat_cmp new c ≡ option_or (get nat_cmp old c) (cond (c == d) (Some k) None)) → HasValues new (lines ++ line ∷ [])
+  value_noted old new lines line d k is has put c =
+      let says : said_in c line ≡ cond (c == d) (Some k) None = by_line c line ∙ ap (value_of c) (sym is) in
+      put c ∙ ap (λ (o : Option ℕ). option_or o (cond (c == d) (Some k) None)) (has c)
+      ∙ ap (option_or (first_found (said_in c) lines)) (sym says) ∙ sym (first_found-push (said_in c) lines line)
+
+  value_past : (values : BTreeMap ℕ ℕ) (lines : List Record) (line : Record) → None ≡ said_by line → HasValues values lines
+      → HasValues values (lines ++ line ∷ [])
+  value_past values lines line is has c =
+      let none : said_in c line ≡ None = by_line c line ∙ ap (value_of c) (sym is) in
+      has c ∙ sym (first_found-skip (said_in c) lines line none)
+
+class_by_line : (c : ℕ) (line : Record) → class_in c line ≡ value_of c (class_line line)
+class_by_line c (class d k) = refl
+class_by_line c line = refl
+
+pub class_noted : (old new : BTreeMap ℕ ℕ) (lines : List Record) (line : Record) (d k : ℕ) → Some (d, k) ≡ class_line line → HasClasses old lines
+    → ((c : ℕ) → get nat_cmp new c ≡ option_or (get nat_cmp old c) (cond (c == d) (Some k) None)) → HasClasses new (lines ++ line ∷ [])
+class_noted = value_noted class_in class_line class_by_line
+
+pub class_past : (classes : BTreeMap ℕ ℕ) (lines : List Record) (line : Record) → None ≡ class_line line → HasClasses classes lines → HasClasses classes (lines ++ line ∷ [])
+class_past = value_past class_in class_line class_by_line
+
+digit_by_line : (c : ℕ) (line : Record) → digit_in c line ≡ value_of c (digit_line line)
+digit_by_line c (digit d v) = refl
+digit_by_line c line = refl
+
+pub digit_noted : (old new : BTreeMap ℕ ℕ) (lines : List Record) (line : Record) (d k : ℕ) → Some (d, k) ≡ digit_line line → HasDigits old lines
+    → ((c : ℕ) → get nat_cmp new c ≡ option_or (get nat_cmp old c) (cond (c == d) (Some k) None)) → HasDigits new (lines ++ line ∷ [])
+digit_noted = value_noted digit_in digit_line digit_by_line
+
+pub digit_past : (digits : BTreeMap ℕ ℕ) (lines : List Record) (line : Record) → None ≡ digit_line line → HasDigits digits lines → HasDigits digits (lines ++ line ∷ [])
+digit_past = value_past digit_in digit_line digit_by_line
+
+-- ---- Mappings and records
+
+some_cond : {B : Type 0} (b : Bool) (x : B) → is_some (cond b (Some x) None) ≡ b
+some_cond true x = refl
+some_cond false x = refl
+
+-- whether a character is one that may be there
+abbrev is_it : ℕ → Option ℕ → Bool
+is_it c o = elim o [ Some d ↦ c == d | None ↦ false ]
+
+-- what lines say, told by the one character of which each line says it
+module _ (is_said : ℕ → List Record → Bool) (said_by : Record → Option ℕ)
+    (push : (c : ℕ) (lines : List Record) (line : Record) → (is_said c lines || is_it c (said_by line)) ≡ is_said c (lines ++ line ∷ [])) where
+  abbrev HasSaid : BTreeSet ℕ → List Record → Type 0
+  HasSaid noted lines = (c : ℕ) → contains nat_cmp noted c ≡ is_said c lines
+
+  one_noted : (old new : BTreeSet ℕ) (lines : List Record) (line : Record) (d : ℕ) → Some d ≡ said_by line → HasSaid old lines
+      → ((c : ℕ) → contains nat_cmp new c ≡ (contains nat_cmp old c || (c == d))) → HasSaid new (lines ++ line ∷ [])
+  one_noted old new lines line d is has put c =
+      put c ∙ ap (λ (b : Bool). b || (c == d)) (has c) ∙ ap (λ (o : Option ℕ). is_said c lines || is_it c o) is ∙ push c lines line
+
+  none_noted : (noted : BTreeSet ℕ) (lines : List Record) (line : Record) → None ≡ said_by line → HasSaid noted lines → HasSaid noted (lines ++ line ∷ [])
+  none_noted noted lines line is has c =
+      has c ∙ sym (or-false (is_said c lines)) ∙ ap (λ (o : Option ℕ). is_said c lines || is_it c o) is ∙ push c lines line
+
+mapped_by_line : (c : ℕ) (line : Record) → is_some (mapping_in c line) ≡ is_it c (mapped_character line)
+mapped_by_line c (mapping d ds x) = some_cond (c == d) ds
+mapped_by_line c line = refl
+
+some_or : {B : Type 0} (o p : Option B) → is_some (option_or o p) ≡ (is_some o || is_some p)
+some_or (Some y) p = refl
+some_or None p = refl
+
+abbrev is_mapped : ℕ → List Record → Bool
+is_mapped c lines = is_some (first_found (mapping_in c) lines)
+
+mapped_push : (c : ℕ) (lines : List Record) (line : Record) → (is_mapped c lines || is_it c (mapped_character line)) ≡ is_mapped c (lines ++ line ∷ [])
+mapped_push c lines line =
+    ap (λ (b : Bool). is_mapped c lines || b) (sym (mapped_by_line c line))
+    ∙ sym (some_or (first_found (mapping_in c) lines) (mapping_in c line))
+    ∙ ap (λ (p : Option (List ℕ)). is_some p) (sym (first_found-push (mapping_in c) lines line))
+
+pub mapping_noted : (old new : BTreeSet ℕ) (lines : List Record) (line : Record) (d : ℕ) → Some d ≡ mapped_character line → HasMapped old lines
+    → ((c : ℕ) → contains nat_cmp new c ≡ (contains nat_cmp old c || (c == d))) → HasMapped new (lines ++ line ∷ [])
+mapping_noted = one_noted is_mapped mapped_character mapped_push
+
+pub mapping_past : (mapped : BTreeSet ℕ) (lines : List Record) (line : Record) → None ≡ mapped_character line → HasMapped mapped lines
+    → HasMapped mapped (lines ++ line ∷ [])
+mapping_past = none_noted is_mapped mapped_character mapped_push
+
+alone_by_line : (c : ℕ) (line : Record) → records_alone c line ≡ is_it c (lone_character line)
+alone_by_line c (weights l [] [] es) = refl
+alone_by_line c (weights l [] (d ∷ []) es) = refl
+alone_by_line c (weights l [] (d ∷ e ∷ ds) es) = refl
+alone_by_line c (weights l (b ∷ bs) t es) = refl
+alone_by_line c line = refl
+
+abbrev is_alone : ℕ → List Record → Bool
+is_alone c lines = list_any (records_alone c) lines
+
+alone_push : (c : ℕ) (lines : List Record) (line : Record) → (is_alone c lines || is_it c (lone_character line)) ≡ is_alone c (lines ++ line ∷ [])
+alone_push c lines line =
+    ap (λ (b : Bool). is_alone c lines || b) (sym (alone_by_line c line) ∙ sym (or-false (records_alone c line)))
+    ∙ sym (list_any-append (records_alone c) lines (line ∷ []))
+
+pub alone_noted : (old new : BTreeSet ℕ) (lines : List Record) (line : Record) (d : ℕ) → Some d ≡ lone_character line → HasAlone old lines
+    → ((c : ℕ) → contains nat_cmp new c ≡ (contains nat_cmp old c || (c == d))) → HasAlone new (lines ++ line ∷ [])
+alone_noted = one_noted is_alone lone_character alone_push
+
+pub alone_past : (alone : BTreeSet ℕ) (lines : List Record) (line : Record) → None ≡ lone_character line → HasAlone alone lines → HasAlone alone (lines ++ line ∷ [])
+alone_past = none_noted is_alone lone_character alone_push

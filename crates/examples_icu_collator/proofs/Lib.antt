@@ -1,0 +1,10 @@
+pub mod Computing
+pub mod ExampleFoundLemmas
+pub mod LettersLemmas
+pub mod LetterPairsLemmas
+pub mod TextExamples
+pub mod LetterDigitsLemmas
+pub mod KeyExamples
+pub mod SameTablesLemmas
+pub mod ChangedTableLemmas
+pub mod LevelExamples

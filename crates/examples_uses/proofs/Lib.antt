@@ -1,0 +1,3 @@
+pub mod UseAnswerLemmas
+pub mod UseFileLemmas
+pub mod UseRunLemmas

@@ -1,5 +1,0 @@
-use Rattle.icu_collator.proofs.keys.DecidingLevelLemmas.{cases_decide}
-use Rattle.icu_collator.proofs.laws_levels.cases_decide.Goals as goal
-
-pub returns : goal.returns
-returns c = cases_decide

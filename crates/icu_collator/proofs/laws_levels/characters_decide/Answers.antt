@@ -1,5 +1,0 @@
-use Rattle.icu_collator.proofs.keys.DecidingLevelLemmas.{characters_decide}
-use Rattle.icu_collator.proofs.laws_levels.characters_decide.Goals as goal
-
-pub returns : goal.returns
-returns c = characters_decide

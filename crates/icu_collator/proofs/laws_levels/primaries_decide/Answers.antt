@@ -1,5 +1,0 @@
-use Rattle.icu_collator.proofs.keys.DecidingLevelLemmas.{primaries_decide}
-use Rattle.icu_collator.proofs.laws_levels.primaries_decide.Goals as goal
-
-pub returns : goal.returns
-returns c = primaries_decide

@@ -1,5 +1,0 @@
-use Rattle.icu_collator.proofs.keys.DecidingLevelLemmas.{quaternaries_decide}
-use Rattle.icu_collator.proofs.laws_levels.quaternaries_decide.Goals as goal
-
-pub returns : goal.returns
-returns c = quaternaries_decide

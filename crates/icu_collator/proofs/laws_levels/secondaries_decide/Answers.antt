@@ -1,5 +1,0 @@
-use Rattle.icu_collator.proofs.keys.DecidingLevelLemmas.{secondaries_decide}
-use Rattle.icu_collator.proofs.laws_levels.secondaries_decide.Goals as goal
-
-pub returns : goal.returns
-returns c = secondaries_decide

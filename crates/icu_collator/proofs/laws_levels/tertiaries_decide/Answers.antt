@@ -1,5 +1,0 @@
-use Rattle.icu_collator.proofs.keys.DecidingLevelLemmas.{tertiaries_decide}
-use Rattle.icu_collator.proofs.laws_levels.tertiaries_decide.Goals as goal
-
-pub returns : goal.returns
-returns c = tertiaries_decide

@@ -1,5 +1,0 @@
-use Rattle.icu_collator.proofs.orders.SamenessLemmas.{levels_same}
-use Rattle.icu_collator.proofs.laws_same.same_data_have_same_levels.Goals as goal
-
-pub returns : goal.returns
-returns g a b options text characters weights settings = levels_same a b options settings characters weights text

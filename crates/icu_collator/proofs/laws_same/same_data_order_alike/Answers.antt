@@ -1,5 +1,0 @@
-use Rattle.icu_collator.proofs.orders.SamenessLemmas.{order_same}
-use Rattle.icu_collator.proofs.laws_same.same_data_order_alike.Goals as goal
-
-pub returns : goal.returns
-returns g a b options x y characters weights settings = order_same a b options settings characters weights x y

@@ -1,5 +1,0 @@
-use Rattle.icu_collator.proofs.lists.SpelledLemmas.{spells_same}
-use Rattle.icu_collator.proofs.texts.Latin1TextCharacters.chars.Goals as goal
-
-pub returns-clause-spelled : goal.returns-clause-spelled
-returns-clause-spelled c = spells_same c.decode_latin1.result _ c.decode_latin1.ensures.chars

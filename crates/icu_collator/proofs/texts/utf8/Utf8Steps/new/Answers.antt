@@ -1,5 +1,0 @@
-use Rattle.icu_normalizer_core.proofs.DecodedLemmas.{utf8_scalars}
-use Rattle.icu_collator.proofs.texts.utf8.Utf8Steps.new.Goals as goal
-
-pub returns-clause-scalars : goal.returns-clause-scalars
-returns-clause-scalars c = utf8_scalars c.args.bytes.now

@@ -1,0 +1,156 @@
+//! The comparison of two texts, each in its encoding.
+
+ghost use Rattle.std.specs.Prelude.{◌≡◌, ◌≤◌, All, IfOk, IfSome, drop, length};
+ghost use Rattle.std.specs.Char.{IsScalar};
+ghost use Rattle.icu_collator.specs.Collators.{source_collation};
+ghost use Rattle.icu_collator.specs.Fronts.{PartAt};
+ghost use Rattle.icu_collator.specs.Order.{collation_order};
+ghost use Rattle.icu_collator.specs.ReadingPlaces.{IsCommonPlace};
+
+use super::iterators::compare_characters;
+use super::flat::compare_flat;
+use crate::common_front::{FirstDifference, behind, first_difference, order_by_difference, reading_place};
+use crate::encodings::Characters;
+use icu_collator_core::checked::CheckedTables;
+use icu_collator_types::options::ResolvedCollatorOptions;
+use std::alloc::{AllocError, Global};
+use std::cmp::Ordering;
+
+/// The order of what stands in two texts behind so many characters, by all levels of both. Fails only when out of memory.
+fn compare_whole_behind<T: Characters, U: Characters>(
+    alloc: Global,
+    checked: &CheckedTables<'_>,
+    options: &ResolvedCollatorOptions,
+    left: T,
+    right: U,
+    place: usize,
+) -> Result<Ordering, AllocError>
+    requires left_reaches { place ≤ length (T.characters left) }
+    requires right_reaches { place ≤ length (U.characters right) }
+    ensures { IfOk result (λ order. order ≡ collation_order (source_collation checked.now) options.now (drop place (T.characters left)) (drop place (U.characters right))) }
+{
+    let lefts = behind(left.chars(), place);
+    let rights = behind(right.chars(), place);
+    let order = compare_characters(alloc, checked, options, lefts, rights)?;
+    Ok(order)
+}
+
+/// The same, where what stands there is read flat; `None` where it isn't, and at the beginning, where that was tried. Fails only
+/// when out of memory.
+fn compare_flat_behind<T: Characters, U: Characters>(
+    alloc: Global,
+    checked: &CheckedTables<'_>,
+    options: &ResolvedCollatorOptions,
+    left: T,
+    right: U,
+    place: usize,
+) -> Result<Option<Ordering>, AllocError>
+    requires left_reaches { place ≤ length (T.characters left) }
+    requires right_reaches { place ≤ length (U.characters right) }
+    ensures { IfOk result (λ answer. IfSome answer (λ order.
+        order ≡ collation_order (source_collation checked.now) options.now (drop place (T.characters left)) (drop place (U.characters right)))) }
+{
+    if place == 0 {
+        return Ok(None);
+    }
+    let answer = compare_flat(alloc, checked, options, left, right, place)?;
+    Ok(answer)
+}
+
+/// The order of what stands in two texts behind so many characters. Fails only when out of memory.
+fn compare_behind<T: Characters, U: Characters>(
+    alloc: Global,
+    checked: &CheckedTables<'_>,
+    options: &ResolvedCollatorOptions,
+    left: T,
+    right: U,
+    place: usize,
+) -> Result<Ordering, AllocError>
+    requires left_reaches { place ≤ length (T.characters left) }
+    requires right_reaches { place ≤ length (U.characters right) }
+    ensures { IfOk result (λ order. order ≡ collation_order (source_collation checked.now) options.now (drop place (T.characters left)) (drop place (U.characters right))) }
+{
+    match compare_flat_behind(alloc, checked, options, left, right, place)? {
+        Some(order) => Ok(order),
+        None => {
+            let order = compare_whole_behind(alloc, checked, options, left, right, place)?;
+            Ok(order)
+        }
+    }
+}
+
+/// The order of two texts that first differ there, where that doesn't decide it: what they have in common is left out
+/// as far as it may be. Fails only when out of memory.
+fn compare_past<T: Characters, U: Characters>(
+    alloc: Global,
+    checked: &CheckedTables<'_>,
+    options: &ResolvedCollatorOptions,
+    left: T,
+    right: U,
+    difference: FirstDifference,
+) -> Result<Ordering, AllocError>
+    requires left_scalars { All IsScalar (T.characters left) }
+    requires right_scalars { All IsScalar (U.characters right) }
+    requires parts { PartAt (T.characters left) (U.characters right) difference.common difference.left difference.right }
+    ensures { IfOk result (λ order. order ≡ collation_order (source_collation checked.now) options.now (T.characters left) (U.characters right)) }
+{
+    let place = reading_place(checked, options, left, difference.common);
+    let order = compare_behind(alloc, checked, options, left, right, place)?;
+    Ok(order)
+}
+
+/// The order of two texts: where they first differ decides it, or both are read from a place before that. Fails only
+/// when out of memory.
+#[inline(never)]
+fn compare_by_difference<T: Characters, U: Characters>(
+    alloc: Global,
+    checked: &CheckedTables<'_>,
+    options: &ResolvedCollatorOptions,
+    left: T,
+    right: U,
+) -> Result<Ordering, AllocError>
+    ensures { IfOk result (λ order. order ≡ collation_order (source_collation checked.now) options.now (T.characters left) (U.characters right)) }
+{
+    let difference = first_difference(left.chars(), right.chars());
+    match order_by_difference(checked, options, difference) {
+        Some(order) => Ok(order),
+        None => {
+            let order = compare_past(alloc, checked, options, left, right, difference)?;
+            Ok(order)
+        }
+    }
+}
+
+/// The order of two texts: both are read flat as far as their primaries are the same, or else by their first difference. Fails
+/// only when out of memory.
+pub(crate) fn compare_texts<T: Characters, U: Characters>(
+    alloc: Global,
+    checked: &CheckedTables<'_>,
+    options: &ResolvedCollatorOptions,
+    left: T,
+    right: U,
+) -> Result<Ordering, AllocError>
+    ensures { IfOk result (λ order. order ≡ collation_order (source_collation checked.now) options.now (T.characters left) (U.characters right)) }
+{
+    match compare_flat(alloc, checked, options, left, right, 0)? {
+        Some(order) => Ok(order),
+        None => {
+            let order = compare_by_difference(alloc, checked, options, left, right)?;
+            Ok(order)
+        }
+    }
+}
+
+/// The place from which two texts are read where their first difference doesn't decide, in characters of each. No memory
+/// is taken.
+pub(crate) fn common_place<T: Characters, U: Characters>(
+    checked: &CheckedTables<'_>,
+    options: &ResolvedCollatorOptions,
+    left: T,
+    right: U,
+) -> usize
+    ensures { IsCommonPlace (source_collation checked.now) options.now (T.characters left) (U.characters right) result }
+{
+    let difference = first_difference(left.chars(), right.chars());
+    reading_place(checked, options, left, difference.common)
+}

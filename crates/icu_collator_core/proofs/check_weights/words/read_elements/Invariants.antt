@@ -1,7 +1,0 @@
-use Rattle.std.proofs.Common.{◌≡◌, take, drop}
-use Rattle.std.specs.Prelude.{fold}
-use Rattle.icu_collator_core.specs.SpelledTests.{nothing_read, with_bits}
-use Rattle.icu_collator_core.proofs.check_weights.words.read_elements.Given as goal
-
-abbrev pub invariant-loop-i : goal.invariant-loop-i
-invariant-loop-i l = l.seen ≡ fold (with_bits l.special l.own) nothing_read (take l.i (drop l.place l.ces))

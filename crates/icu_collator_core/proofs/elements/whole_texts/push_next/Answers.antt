@@ -1,0 +1,27 @@
+use Rattle.std.proofs.Common.{◌∙◌, ℕ, List, subst}
+use Rattle.std.specs.Option.{is_some}
+use Rattle.icu_collator_core.specs.ElementLists.{unpacked}
+use Rattle.icu_collator_core.specs.ReadSources.{canonical_by, weights_by}
+use Rattle.icu_collator_core.specs.ReadSteps.{IsRead}
+use Rattle.icu_collator_core.proofs.elements.whole_texts.push_next.Goals as goal
+
+pub returns-then-next-end-clause-read : goal.returns-then-next-end-clause-read
+returns-then-next-end-clause-read c =
+    let source = c.args.checked.now in
+    let numeric = c.args.numeric in
+    let place = c.args.place in
+    let next = c.in_ok-next.next in
+    let before = unpacked c.args.elements.now.items in
+    let behind = unpacked c.push_alone.new.elements.items in
+    subst (λ (l : List ℕ). IsRead (canonical_by source) (weights_by numeric source) (is_some numeric) l place before l next behind) c.deref.ensures (c.in_ok-next.ensures.read numeric)
+
+pub returns-clause-read : goal.returns-clause-read
+returns-clause-read c =
+    let source = c.args.checked.now in
+    let numeric = c.args.numeric in
+    let place = c.args.place in
+    let next = c.in_ok-next.next in
+    let before = unpacked c.args.elements.now.items in
+    let behind = unpacked c.push_alone.new.elements.items in
+    c.in_ok-after.ensures.read
+    ∙ subst (λ (l : List ℕ). IsRead (canonical_by source) (weights_by numeric source) (is_some numeric) l place before l next behind) c.deref.ensures (c.in_ok-next.ensures.read numeric)

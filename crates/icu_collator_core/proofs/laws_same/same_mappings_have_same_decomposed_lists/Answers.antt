@@ -1,5 +1,0 @@
-use Rattle.icu_collator_core.proofs.readings.ReachedLemmas.{reached_decomposed}
-use Rattle.icu_collator_core.proofs.laws_same.same_mappings_have_same_decomposed_lists.Goals as goal
-
-pub returns : goal.returns
-returns g a b text decomposing other mappings scalars = reached_decomposed a b text decomposing other mappings scalars

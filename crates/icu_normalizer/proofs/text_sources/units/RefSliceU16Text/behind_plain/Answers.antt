@@ -1,0 +1,5 @@
+use Rattle.icu_normalizer.proofs.FormTextLemmas.{utf16_behind_plain}
+use Rattle.icu_normalizer.proofs.text_sources.units.RefSliceU16Text.behind_plain.Goals as goal
+
+pub returns-clause-characters : goal.returns-clause-characters
+returns-clause-characters c = utf16_behind_plain c.args.self.now c.args.count c.requires.plain

@@ -1,5 +1,0 @@
-use Rattle.icu_normalizer.proofs.TextLemmas.{utf8_characters}
-use Rattle.icu_normalizer.proofs.texts.bytes.RefSliceU8Text.keep_promise.Goals as goal
-
-pub returns : goal.returns
-returns c = utf8_characters c.args.self.now

@@ -1,5 +1,0 @@
-use Rattle.icu_normalizer.proofs.TextLemmas.{undamaged_utf8}
-use Rattle.icu_normalizer.proofs.texts.bytes.known.Goals as goal
-
-pub from_utf8_unchecked-requires : goal.from_utf8_unchecked-requires
-from_utf8_unchecked-requires c = undamaged_utf8 c.args.bytes.now c.requires

@@ -1,5 +1,0 @@
-use Rattle.icu_normalizer.proofs.TextLemmas.{str_characters}
-use Rattle.icu_normalizer.proofs.texts.known.RefStrText.keep_promise.Goals as goal
-
-pub returns : goal.returns
-returns c = str_characters c.args.self.now c.utf8.self

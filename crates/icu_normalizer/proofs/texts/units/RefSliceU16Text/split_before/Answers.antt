@@ -1,9 +1,0 @@
-use Rattle.std.proofs.Common.{ap, ap₂, take, ◌-◌, ◌∙◌}
-use Rattle.icu_normalizer_core.specs.Decoding.{utf16_chars}
-use Rattle.icu_normalizer.proofs.TextLemmas.{part_before, utf16_reads}
-use Rattle.icu_normalizer.proofs.texts.units.RefSliceU16Text.split_before.Goals as goal
-
-pub returns-clause-front : goal.returns-clause-front
-returns-clause-front c prefix behind =
-    let front = part_before c.args.self.now _ c.args.rest.now behind.units _ (c.split_at.ensures.front ∙ ap₂ (λ x y. take (x - y) c.args.self.now) c.len.ensures c.len-2.ensures) in
-    (front, ap utf16_chars front ∙ utf16_reads prefix behind.scalars)

@@ -1,4 +1,0 @@
-pub mod Computing
-pub mod Rows
-pub mod Numbers
-pub mod SoundEmpty

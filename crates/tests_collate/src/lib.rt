@@ -1,0 +1,18 @@
+//! Tests of the program `collate` below its `main`, by public calls. They stand here so that the index and the run are
+//! proved once.
+#![tactic(auto)]
+
+#[cfg(test)]
+mod commands;
+#[cfg(test)]
+mod failing;
+#[cfg(test)]
+mod names;
+#[cfg(test)]
+mod reloads;
+#[cfg(test)]
+mod runs;
+#[cfg(test)]
+mod option_words;
+#[cfg(test)]
+mod worked;

@@ -1,0 +1,81 @@
+//! The paragraphs of a script.
+
+use crate::asked::ask_collators;
+use crate::element_rows::ask_tables;
+use crate::files::ask_reader;
+use crate::forms::ask_normalisers;
+use crate::provider::try_changes;
+use std::alloc::Global;
+
+/// The records that count.
+#[derive(Clone, Copy)]
+struct Records<'s> {
+    /// The lines of a file.
+    file: &'s str,
+    /// The lines behind those.
+    more: &'s str,
+}
+
+impl<'s> Records<'s> {
+    /// All lines; `None` where memory is refused.
+    fn lines(self, alloc: Global) -> Option<String> {
+        let Records { file, more } = self;
+        format!(in alloc; "{file}\n{more}").ok()
+    }
+
+    /// The records that count behind a paragraph.
+    fn behind(self, kind: &str, lines: &'s str) -> Records<'s> {
+        match kind {
+            "records" => Records {
+                file: lines,
+                more: "",
+            },
+            "more" => Records {
+                file: self.file,
+                more: lines,
+            },
+            _ => self,
+        }
+    }
+}
+
+/// The two parts of a text before and behind the first separator; all of it, and nothing, where there is none.
+pub fn halves(text: &str, separator: char) -> (&str, &str) {
+    match text.split_once(separator) {
+        Some(halves) => halves,
+        None => (text, ""),
+    }
+}
+
+/// Answers the questions of a paragraph over records.
+fn answer_over(rt: &HostRuntime, records: &str, kind: &str, lines: &str) -> Option<()> {
+    match kind {
+        "file" => ask_reader(rt, records, lines),
+        "normalisers" => ask_normalisers(rt, records, lines),
+        "collators" => ask_collators(rt, records, lines),
+        "tables" => ask_tables(rt, records, lines),
+        "provider" => try_changes(rt, records, lines),
+        _ => None,
+    }
+}
+
+/// Answers the questions of a paragraph, if it has some.
+fn answer_paragraph(rt: &HostRuntime, records: Records<'_>, kind: &str, lines: &str) -> Option<()> {
+    if kind.starts_with('#') || kind == "records" || kind == "more" {
+        return Some(());
+    }
+    println!(rt; "{kind}").ok()?;
+    let records = records.lines(rt.alloc())?;
+    answer_over(rt, records.as_str(), kind, lines)
+}
+
+/// Answers the questions of a script; `None` where a line isn't one of a script's, or memory is refused.
+pub fn answer_script(rt: &HostRuntime, script: &str) -> Option<()> {
+    let mut records = Records { file: "", more: "" };
+    for paragraph in script.split("\n\n") {
+        let (kind, lines) = halves(paragraph, '\n');
+        records = records.behind(kind, lines);
+        answer_paragraph(rt, records, kind, lines)?;
+    }
+    Some(())
+}

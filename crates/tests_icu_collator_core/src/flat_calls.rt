@@ -1,0 +1,128 @@
+//! Texts that are read flat.
+
+use samples_compiled::compiled::checked_tables;
+use icu_codepointtrie::TrieType;
+use icu_collator_core::checked::CheckedTables;
+use icu_collator_core::flat::FlatElements;
+use icu_collator_types::elements::CollationElement;
+use std::alloc::Global;
+
+/// Records of letters, marks of two classes, a letter with a mark, a digit, a text of two letters, and a letter that is found
+/// by the tables alone.
+const RECORDS: &str = "class 0300 230
+class 0316 220
+map 00E0 0061 0300
+w 0061 ; [2A100000.0500.0.0500.0]
+w 0062 ; [2A200000.0500.0.0500.0]
+w 0062 0063 ; [2A400000.0500.0.0500.0]
+w 0063 ; [2A300000.0500.0.0500.0]
+w 0300 ; [0.8600.0.0500.0]
+w 0316 ; [0.8800.0.0500.0]
+w 0031 ; [0F100000.0500.0.0500.0]
+digit 0031 1
+w 0905 ; [2A700000.0500.0.0500.0]
+";
+
+/// The elements of a text that is read flat into room for three.
+fn flat(checked: &CheckedTables<'_>, numeric: Option<u8>, text: &str) -> Option<FlatElements<3>> {
+    let mut elements = FlatElements::new();
+    if checked.read_flat(numeric, text.chars(), &mut elements) {
+        Some(elements)
+    } else {
+        None
+    }
+}
+
+/// Whether a text is read flat and has these elements.
+fn has_elements(alloc: Global, numeric: Option<u8>, text: &str, expected: &[u64]) -> bool {
+    let Some(checked) = checked_tables(alloc, RECORDS, TrieType::Small) else {
+        return false;
+    };
+    let Some(elements) = flat(&checked, numeric, text) else {
+        return false;
+    };
+    elements.as_slice().len() == expected.len()
+        && elements
+            .as_slice()
+            .iter()
+            .zip(expected)
+            .all(|(element, bits)| *element == CollationElement::new(*bits))
+}
+
+/// Whether a text isn't read flat.
+fn is_not_flat(alloc: Global, numeric: Option<u8>, text: &str) -> bool {
+    match checked_tables(alloc, RECORDS, TrieType::Small) {
+        Some(checked) => flat(&checked, numeric, text).is_none(),
+        None => false,
+    }
+}
+
+#[test]
+fn ok_read_flat(rt: HostRuntime) {
+    let alloc = rt.alloc();
+    assert!(rt; has_elements(alloc, Some(0x10), "", &[]));
+    assert!(rt;
+        has_elements(
+            alloc,
+            Some(0x10),
+            "aca",
+            &[
+                0x2a10_0000_0500_0500,
+                0x2a30_0000_0500_0500,
+                0x2a10_0000_0500_0500
+            ]
+        )
+    );
+    assert!(rt;
+        has_elements(
+            alloc,
+            None,
+            "\u{e0}\u{300}",
+            &[0x2a10_0000_0500_0500, 0x8600_0500, 0x8600_0500]
+        )
+    );
+    assert!(rt;
+        has_elements(
+            alloc,
+            None,
+            "\u{905}\u{300}",
+            &[0x2a70_0000_0500_0500, 0x8600_0500]
+        )
+    );
+}
+
+#[test]
+fn marks_are_read_flat_in_order(rt: HostRuntime) {
+    let alloc = rt.alloc();
+    assert!(rt;
+        has_elements(
+            alloc,
+            None,
+            "a\u{316}\u{300}",
+            &[0x2a10_0000_0500_0500, 0x8800_0500, 0x8600_0500]
+        )
+    );
+    assert!(rt; is_not_flat(alloc, None, "a\u{300}\u{316}"));
+    assert!(rt; is_not_flat(alloc, None, "\u{e0}\u{316}"));
+}
+
+#[test]
+fn digits_are_read_flat_without_numbers(rt: HostRuntime) {
+    assert!(rt;
+        has_elements(
+            rt.alloc(),
+            None,
+            "a1",
+            &[0x2a10_0000_0500_0500, 0x0f10_0000_0500_0500]
+        )
+    );
+    assert!(rt; is_not_flat(rt.alloc(), Some(0x10), "a1"));
+}
+
+#[test]
+fn other_texts_are_not_read_flat(rt: HostRuntime) {
+    let alloc = rt.alloc();
+    assert!(rt; is_not_flat(alloc, None, "ab"));
+    assert!(rt; is_not_flat(alloc, None, "acac"));
+    assert!(rt; is_not_flat(alloc, None, "ac\u{e0}"));
+}

@@ -1,0 +1,9 @@
+//! Tests of options and of the words of collation elements, by public calls. They stand here so that the crate below is proved once.
+#![tactic(auto)]
+
+#[cfg(test)]
+mod bit_field;
+#[cfg(test)]
+mod word_calls;
+#[cfg(test)]
+mod resolved;

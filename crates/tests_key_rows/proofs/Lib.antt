@@ -1,0 +1,4 @@
+pub mod KeyRowComputing
+pub mod KeyWeightRows
+pub mod KeyRowNumbers
+pub mod SoundEmpty

@@ -1,0 +1,15 @@
+pub mod WorkedComputing
+pub mod Contractions
+pub mod LineForms
+pub mod Tailoring
+pub mod Prefixes
+pub mod Numbers
+pub mod Backward
+pub mod ShiftedTexts
+pub mod NormalForms
+pub mod IdenticalTexts
+pub mod Cases
+pub mod Settings
+pub mod Defaults
+pub mod Damaged
+pub mod Lists
