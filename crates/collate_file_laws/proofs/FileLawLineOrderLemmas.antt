@@ -4,14 +4,14 @@ use Rattle.std.specs.List.{list_all}
 use Rattle.std.specs.List.Sorted.{IsPermutation}
 use Rattle.std.specs.Option.{unwrap_or}
 use Rattle.std.proofs.lemmas.Bool.{and_parts, false≢true, true_from_ne_false}
-use Rattle.icu_normalizer_core.specs.BuiltIn.{built_in_class, built_in_step}
+use Rattle.icu_normalizer_core.specs.BuiltIn.{built_in_class, built_in_step, is_built_in}
 use Rattle.icu_collator_core.specs.Collation.{with_lead}
 use Rattle.icu_collator_core.specs.WeightRules.{is_of_other_lead, is_sound_range}
 use Rattle.collate_lines.specs.declared.rule.Rule.TheVariants.{V6, V14}
 use Rattle.collate_lines.specs.Record.{Record}
 use Rattle.collate_rules.specs.Accepted.{AreAccepted}
 use Rattle.collate_rules.specs.GivenWeights.{are_all_disjoint, are_sound_ranges, given_elements, given_ranges, leads_to}
-use Rattle.collate_rules.specs.Meaning.{class_in, digit_in, is_built_in, mapping_in, range_in, step_of}
+use Rattle.collate_rules.specs.Meaning.{class_in, digit_in, mapping_in, range_in, step_of}
 use Rattle.collate_rules.proofs.offenders.BreachLemmas.{none_together}
 use Rattle.collate_records.specs.Changes.{AreSettingsEqual, IsUnchanged, place_of}
 use Rattle.collate_records.proofs.comparing.LineOrderLemmas.{recorded_alike, said_alike, same_settings, same_weights}

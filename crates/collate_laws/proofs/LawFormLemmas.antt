@@ -5,7 +5,7 @@ use Rattle.std.specs.Option.{unwrap_or}
 use Rattle.std.specs.Char.{IsScalar}
 use Rattle.std.specs.List.Sorted.{IsPermutation}
 use Rattle.std.specs.Str.{IsUtf8}
-use Rattle.icu_normalizer_core.specs.BuiltIn.{built_in_compatibility_step, built_in_step}
+use Rattle.icu_normalizer_core.specs.BuiltIn.{built_in_compatibility_step, built_in_step, is_built_in}
 use Rattle.icu_normalizer_core.specs.declared.canonical.tables.CanonicalTables.{CanonicalTables}
 use Rattle.icu_normalizer_core.specs.declared.compatibility.tables.NfkdTables.{NfkdTables}
 use Rattle.icu_normalizer_core.specs.Canonical.{Canonical, IsCanonical, Leaves, nothing, unmapped, mapped, composed, decomposed}
@@ -24,7 +24,7 @@ use Rattle.collate_records.proofs.comparing.OneLineLemmas.{compatibility_second,
 use Rattle.collate_records.proofs.reading.ReadingAcceptedLemmas.{accepted_compose, accepted_decompose, accepted_lines, kept}
 use Rattle.collate_records.proofs.reordering.AcceptedMovedLemmas.{records_moved}
 use Rattle.collate_rules.specs.Accepted.{AreAccepted}
-use Rattle.collate_rules.specs.Meaning.{any_step, canonical_of, compatibility_in, compatibility_of, else_mapped, is_built_in, mapping_in, step_of}
+use Rattle.collate_rules.specs.Meaning.{any_step, canonical_of, compatibility_in, compatibility_of, else_mapped, mapping_in, step_of}
 use Rattle.collate_laws.specs.Alike.{NormalizeAlike, composed_by, decomposed_by}
 use Rattle.collate_laws.specs.OverRecords.{IsCanonicalNormalizerOf, IsCompatibilityNormalizerOf}
 

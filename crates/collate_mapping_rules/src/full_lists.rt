@@ -11,10 +11,10 @@ ghost use Rattle.collate_rules.specs.Offenders.{NoneOffends, IsFirstOffender};
 
 use collate_lines::record::Record;
 use collate_lines::rule::Rule;
-use collate_rules::built_in::is_built_in;
 use collate_rules::canonical_part::{CanonicalPart, class_of, is_mapped};
 use collate_rules::full_list::{Front, Mappings};
 use collate_rules::parts::first_breach;
+use icu_normalizer_core::built_in::is_built_in;
 use std::alloc::{AllocError, Global};
 
 /// The first line with which a full list of a mapped character that isn't built in has over eight

@@ -11,9 +11,8 @@ ghost use Rattle.collate_rules.specs.Offenders.{NoneOffends, IsFirstOffender};
 
 use collate_lines::record::Record;
 use collate_lines::rule::Rule;
-use collate_rules::built_in::is_built_in;
 use icu_normalizer_core::built_in::{
-    built_in_class, built_in_compatibility_step, built_in_step, is_jamo, is_syllable,
+    built_in_class, built_in_compatibility_step, built_in_step, is_built_in, is_jamo, is_syllable,
 };
 use icu_normalizer_core::properties::Decomposed;
 

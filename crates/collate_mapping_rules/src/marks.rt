@@ -9,9 +9,9 @@ ghost use Rattle.collate_rules.specs.Offenders.{NoneOffends, IsFirstOffender};
 
 use collate_lines::record::Record;
 use collate_lines::rule::Rule;
-use collate_rules::built_in::is_built_in;
 use collate_rules::canonical_part::{CanonicalPart, class_of, is_mapped, is_mapped_twice};
 use collate_rules::parts::first_breach;
+use icu_normalizer_core::built_in::is_built_in;
 use std::alloc::{AllocError, Global};
 
 /// The first line with which a character that isn't built in has a mapping, and another one or a class other than

@@ -10,7 +10,7 @@ ghost use Rattle.collate_rules.specs.Offenders.{NoneOffends, IsFirstOffender};
 
 use collate_lines::record::Record;
 use collate_lines::rule::Rule;
-use collate_rules::built_in::is_built_in;
+use icu_normalizer_core::built_in::is_built_in;
 
 /// The first line that composes two characters which an earlier line composes (rule C5, docs/RECORDS.md). Lines count
 /// from 0; `None` where no line offends.

@@ -1,8 +1,8 @@
 -- What the lines of a records file mean together.
 use Rattle.std.specs.Prelude.{ℕ, Bool, false, cond, not, ◌==◌, ◌&&◌, ◌||◌, List, [], ◌∷◌, flat_map, replicate, zero, suc, Option, Some, None, bytes_eq}
-use Rattle.std.specs.Option.{unwrap_or, is_some}
+use Rattle.std.specs.Option.{unwrap_or}
 use Rattle.std.specs.List.{list_any}
-use Rattle.icu_normalizer_core.specs.BuiltIn.{built_in_class, built_in_step, built_in_compatibility_step, syllable_of, is_within}
+use Rattle.icu_normalizer_core.specs.BuiltIn.{built_in_class, built_in_step, built_in_compatibility_step, is_built_in, syllable_of, is_within}
 use Rattle.icu_normalizer_core.specs.Canonical.{Canonical}
 use Rattle.icu_collator_types.specs.declared.elements.Element.{Element}
 use Rattle.icu_collator_types.specs.declared.options.AlternateHandling.{AlternateHandling}
@@ -15,10 +15,6 @@ use Rattle.icu_collator_core.specs.Defaults.{range_primary}
 use Rattle.icu_collator_core.specs.Collation.{Collation, with_lead}
 use Rattle.collate_lines.specs.declared.record.Range.{Range as LineRange}
 use Rattle.collate_lines.specs.Record.{Record, class, mapping, compatibility, weights, range, digit, setting, Layer, root, tailoring, is_same_layer, alternate, backward, case_first, max_variable, dot_above, numeric, groups, compress, reorder}
-
--- whether a mapping of this character, or that it has none, is built in
-abbrev pub is_built_in : ℕ → Bool
-is_built_in c = is_some (built_in_step c) || is_some (built_in_compatibility_step c)
 
 -- the first of what is found in a list
 abbrev pub first_found : {A B : Type 0} → (A → Option B) → List A → Option B

@@ -2,12 +2,12 @@
 -- them: what several lines break together offends from the latest of them on, and what lacks is looked for in all.
 use Rattle.std.specs.Prelude.{ℕ, ◌%◌, ◌^◌, Bool, true, false, cond, not, ◌==◌, ltb, ◌&&◌, ◌||◌, List, [], ◌∷◌, Option, Some, is_some}
 use Rattle.std.specs.List.{list_all, list_any}
-use Rattle.icu_normalizer_core.specs.BuiltIn.{built_in_step, is_jamo, is_within}
+use Rattle.icu_normalizer_core.specs.BuiltIn.{built_in_step, is_jamo, is_within, is_built_in}
 use Rattle.icu_collator_types.specs.declared.elements.Element.{Element}
 use Rattle.icu_collator_core.specs.ContextRules.{is_prefix_character, is_recorded_in, is_recorded_shorter, may_be_digit, may_have_prefix}
 use Rattle.icu_collator_core.specs.Defaults.{common}
 use Rattle.collate_lines.specs.Record.{Record, weights, range, digit, Layer, root, tailoring}
-use Rattle.collate_rules.specs.Meaning.{canonical_of, class_of, digit_in, dot_above_in, elements_in, first_found, is_built_in, mapping_in, set_to, weights_of}
+use Rattle.collate_rules.specs.Meaning.{canonical_of, class_of, digit_in, dot_above_in, elements_in, first_found, mapping_in, set_to, weights_of}
 
 -- whether a record stands without prefix for one character
 abbrev pub is_alone : List ℕ → List ℕ → Bool

@@ -2,12 +2,12 @@
 use Rattle.std.specs.Prelude.{◌≡◌, ◌≢◌, ℕ, ◌+◌, ◌<◌, ◌⊎◌, Bool, true, false, cond, not, ◌==◌, ◌&&◌, ◌||◌, List, [], ◌∷◌, ◌++◌, Option, count_by, flat_map, filter, length, take, Some, None, IsTrue, bytes_eq}
 use Rattle.std.specs.Option.{is_some}
 use Rattle.std.specs.List.{list_any}
-use Rattle.icu_normalizer_core.specs.BuiltIn.{built_in_class, built_in_step, built_in_compatibility_step, is_jamo, is_syllable, is_within}
+use Rattle.icu_normalizer_core.specs.BuiltIn.{built_in_class, built_in_step, built_in_compatibility_step, is_jamo, is_syllable, is_within, is_built_in}
 use Rattle.icu_normalizer_core.specs.Canonical.{Reaches, composed}
 use Rattle.collate_lines.specs.declared.rule.Rule.{Rule}
 use Rattle.collate_lines.specs.declared.rule.Rule.TheVariants.{Grammar, Limit, Set, C1, C2, C3, C4, C5, C6, C7, C8, C9, V1, V2, V3, V4, V5, V6, V7, V8, V9, V10, V11, V12, V13, V14, V15}
 use Rattle.collate_lines.specs.Record.{Record, class, mapping, compatibility, weights, range, digit}
-use Rattle.collate_rules.specs.Meaning.{is_built_in, first_found, mapping_in, compatibility_in, class_of, step_of, compatibility_of, canonical_of, any_step, expanded, full_of}
+use Rattle.collate_rules.specs.Meaning.{first_found, mapping_in, compatibility_in, class_of, step_of, compatibility_of, canonical_of, any_step, expanded, full_of}
 use Rattle.collate_rules.specs.RecordRules.{breaks_decomposed, breaks_digits, breaks_dot_above, breaks_marks_last, breaks_prefixes, is_bad_jamo_record, lacks_shorter, names_special}
 use Rattle.collate_rules.specs.SettingLines.{breaks_settings, numeric_of}
 use Rattle.collate_lines.specs.Repeats.{record_at, says_something, Repeats}

@@ -8,11 +8,10 @@ ghost use Rattle.collate_rules.specs.Meaning.{class_in, mapping_in, compatibilit
 ghost use Rattle.collate_rules.specs.Rules.{is_mapped, is_mapped_twice};
 ghost use Rattle.collate_rules.specs.CanonicalParts.{in_full, IsShort, SaysSame, step_items};
 
-use crate::built_in::is_built_in;
 use crate::step::Step;
 use collate_lines::record::Record;
 use icu_normalizer_core::built_in::{
-    built_in_class, built_in_compatibility_step, built_in_step, syllable_of,
+    built_in_class, built_in_compatibility_step, built_in_step, is_built_in, syllable_of,
 };
 use icu_normalizer_core::properties::Decomposed;
 

@@ -3,7 +3,6 @@
 #![tactic(auto)]
 
 pub mod breaks;
-pub mod built_in;
 pub mod canonical_part;
 pub mod full_list;
 pub mod laws;

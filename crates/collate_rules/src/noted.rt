@@ -13,9 +13,8 @@ ghost use Rattle.collate_rules.specs.Meaning.{class_of, weights_of};
 ghost use Rattle.collate_rules.specs.NotedLines.{HasAlone, HasClasses, HasDigits, HasMapped, class_line, digit_line, lone_character, mapped_character};
 ghost use Rattle.collate_rules.specs.RecordRules.{digit_of, has_mapping, is_mark, is_to_some};
 
-use crate::built_in::is_built_in;
 use collate_lines::record::Record;
-use icu_normalizer_core::built_in::{built_in_class, built_in_step};
+use icu_normalizer_core::built_in::{built_in_class, built_in_step, is_built_in};
 use icu_normalizer_core::properties::Decomposed;
 use std::alloc::{AllocError, Global};
 use std::collections::{BTreeMap, BTreeSet};

@@ -1,8 +1,8 @@
 -- Tables written out as a records file says them, line by line, and the collation that they mean.
 use Rattle.std.specs.Prelude.{ℕ, zero, suc, Bool, true, false, cond, not, ◌==◌, ◌&&◌, ◌||◌, List, [], ◌∷◌, flat_map, replicate, Option, Some, None}
 use Rattle.std.specs.List.{list_any}
-use Rattle.std.specs.Option.{unwrap_or, is_some}
-use Rattle.icu_normalizer_core.specs.BuiltIn.{is_within, built_in_class, built_in_step, built_in_compatibility_step, syllable_of}
+use Rattle.std.specs.Option.{unwrap_or}
+use Rattle.icu_normalizer_core.specs.BuiltIn.{is_within, built_in_class, built_in_step, is_built_in, syllable_of}
 use Rattle.icu_normalizer_core.specs.Canonical.{Canonical}
 use Rattle.icu_collator_types.specs.declared.elements.Element.{Element}
 use Rattle.icu_collator_types.specs.declared.options.FileSettings.{FileSettings}
@@ -83,10 +83,6 @@ is_same_text [] [] = true
 is_same_text [] (d ∷ ds) = false
 is_same_text (c ∷ cs) [] = false
 is_same_text (c ∷ cs) (d ∷ ds) = (c == d) && is_same_text cs ds
-
--- whether a mapping of this character, or that it has none, is built in
-abbrev pub is_built_in : ℕ → Bool
-is_built_in c = is_some (built_in_step c) || is_some (built_in_compatibility_step c)
 
 -- the class of a character: what is built in, else what a line says, else 0
 unfoldable pub class_of : List Class → ℕ → ℕ

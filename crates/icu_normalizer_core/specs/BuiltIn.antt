@@ -1,6 +1,7 @@
 -- What is built in: Hangul, jamo, U+FFFD, seven decompositions that compose to nothing, two compatibility mappings,
 -- and the classes of the marks that these name (UAX 15; the list is that of docs/RECORDS.md).
 use Rattle.std.specs.Prelude.{ℕ, ◌+◌, ◌-◌, ◌*◌, ◌/◌, ◌%◌, Bool, cond, ◌==◌, ◌&&◌, ◌||◌, leb, List, [], ◌∷◌, Option, Some, None}
+use Rattle.std.specs.Option.{is_some}
 
 -- first ≤ c ≤ last
 abbrev pub is_within : ℕ → ℕ → ℕ → Bool
@@ -57,6 +58,10 @@ built_in_step c =
 unfoldable pub built_in_compatibility_step : ℕ → Option (List ℕ)
 built_in_compatibility_step c =
     cond (c == 0xff9e) (Some (0x3099 ∷ [])) (cond (c == 0xff9f) (Some (0x309a ∷ [])) None)
+
+-- whether a mapping of this character, of either kind, or that it has none, is built in
+abbrev pub is_built_in : ℕ → Bool
+is_built_in c = is_some (built_in_step c) || is_some (built_in_compatibility_step c)
 
 -- the class of a character that has a built-in one
 unfoldable pub built_in_class : ℕ → Option ℕ

@@ -7,7 +7,7 @@ use Rattle.std.specs.Char.{IsScalar}
 use Rattle.std.specs.Str.{bytes_eq}
 use Rattle.icu_normalizer_core.specs.declared.canonical.builder.GivenClass.{GivenClass}
 use Rattle.icu_normalizer_core.specs.declared.canonical.builder.GivenMapping.{GivenMapping}
-use Rattle.icu_normalizer_core.specs.BuiltIn.{built_in_class, built_in_step, built_in_compatibility_step, is_jamo, is_syllable, is_within, syllable_of}
+use Rattle.icu_normalizer_core.specs.BuiltIn.{built_in_class, built_in_step, is_built_in, is_jamo, is_syllable, is_within, syllable_of}
 use Rattle.icu_normalizer_core.specs.Canonical.{Canonical, IsFree, Leaves, composed}
 
 -- what a character is mapped to: one character or two
@@ -70,10 +70,6 @@ named maps = map (λ g. g.character) maps.classes ++ flat_map (λ g. g.character
 -- a mapping of the character is given, and none is built in
 abbrev pub IsMapped : CanonicalMaps → ℕ → Type 0
 IsMapped maps c = IsFree c × (given_step maps.mappings c ≢ [])
-
--- whether it is built in that the character is mapped, of either kind, or unmapped
-abbrev pub is_built_in : ℕ → Bool
-is_built_in c = is_some (built_in_step c) || is_some (built_in_compatibility_step c)
 
 -- whether a mapping says exactly what is built in; a syllable alone is composed
 abbrev pub is_built_in_mapping : GivenMapping → Bool

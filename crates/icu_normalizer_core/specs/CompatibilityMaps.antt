@@ -6,11 +6,11 @@ use Rattle.std.specs.Option.{is_some, unwrap_or}
 use Rattle.std.specs.Char.{IsScalar}
 use Rattle.std.specs.Str.{bytes_eq}
 use Rattle.icu_normalizer_core.specs.declared.canonical.builder.GivenCompatibility.{GivenCompatibility}
-use Rattle.icu_normalizer_core.specs.BuiltIn.{built_in_step, built_in_compatibility_step, is_jamo, is_syllable}
+use Rattle.icu_normalizer_core.specs.BuiltIn.{built_in_step, built_in_compatibility_step, is_jamo, is_syllable, is_built_in}
 use Rattle.icu_normalizer_core.specs.Canonical.{Leaves}
 use Rattle.icu_normalizer_core.specs.CanonicalFaults.{IsAccepted}
 use Rattle.icu_normalizer_core.specs.CanonicalLists.{CanonicalLists, canonical_of}
-use Rattle.icu_normalizer_core.specs.CanonicalMaps.{CanonicalMaps, AreMeaning, BeginsWithStarter, KeepRules, class_of, first_mapping, is_built_in, named, step_of}
+use Rattle.icu_normalizer_core.specs.CanonicalMaps.{CanonicalMaps, AreMeaning, BeginsWithStarter, KeepRules, class_of, first_mapping, named, step_of}
 use Rattle.icu_normalizer_core.specs.CompatibilityFaults.{AreAcceptedWords}
 use Rattle.icu_normalizer_core.specs.Words.{WordLists, class_in, full_in}
 

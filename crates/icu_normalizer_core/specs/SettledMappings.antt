@@ -8,10 +8,9 @@ use Rattle.icu_normalizer_core.specs.declared.canonical.builder.GivenClass.{Give
 use Rattle.icu_normalizer_core.specs.declared.canonical.builder.GivenMapping.{GivenMapping}
 use Rattle.icu_normalizer_core.specs.declared.canonical.builder.mappings.Mappings.{Mappings}
 use Rattle.icu_normalizer_core.specs.declared.canonical.check.left.Left.{Left}
-use Rattle.icu_normalizer_core.specs.BuiltIn.{built_in_compatibility_step}
+use Rattle.icu_normalizer_core.specs.BuiltIn.{built_in_compatibility_step, is_built_in}
 use Rattle.icu_normalizer_core.specs.Canonical.{Leaves, IsFree}
 use Rattle.icu_normalizer_core.specs.CanonicalFaults.{IsAccepted}
-use Rattle.icu_normalizer_core.specs.CanonicalMaps.{is_built_in}
 use Rattle.icu_normalizer_core.specs.CanonicalMeaning.{lists_of, meaning}
 use Rattle.icu_normalizer_core.specs.CanonicalWords.{is_word, is_inside, class_of_word, full_of_word}
 use Rattle.icu_normalizer_core.specs.CharacterWords.{HasRightWords, built_in_named, unnamed_word}

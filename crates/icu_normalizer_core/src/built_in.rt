@@ -1,10 +1,10 @@
 // What is built in: Hangul, jamo, U+FFFD, seven decompositions, two compatibility mappings, and classes.
 
 ghost use Rattle.std.specs.Prelude.{◌≡◌, ◌↔◌, ◌<◌, ◌≤◌, ℕ, Option, Some, option_map, is_some, true, IsTrue};
-ghost use Rattle.icu_normalizer_core.specs.BuiltIn.{is_syllable, is_open_syllable, is_jamo, singled_out, syllable_step, syllable_of, built_in_step, built_in_compatibility_step, built_in_class};
+ghost use Rattle.icu_normalizer_core.specs.BuiltIn.{is_syllable, is_open_syllable, is_jamo, singled_out, syllable_step, syllable_of, built_in_step, built_in_compatibility_step, is_built_in, built_in_class};
 ghost use Rattle.icu_normalizer_core.specs.Properties.{mapped_to};
 
-use crate::properties::Decomposed;
+use crate::decomposed::Decomposed;
 
 /// Whether a code point is a Hangul syllable (UAX 15).
 pub fn is_syllable(c: u32) -> bool
@@ -122,6 +122,14 @@ pub fn built_in_compatibility_step(c: u32) -> Option<Decomposed>
         0xff9f => Some(Decomposed::Singleton('\u{309a}')),
         _ => None,
     }
+}
+
+/// Whether a mapping of this character, of either kind, or that it has none, is built in (docs/RECORDS.md, "What is built
+/// in").
+pub fn is_built_in(c: u32) -> bool
+    ensures { result ≡ is_built_in c }
+{
+    built_in_step(c).is_some() || built_in_compatibility_step(c).is_some()
 }
 
 /// The canonical combining class of a character that has a built-in one (docs/RECORDS.md, "What is built in").

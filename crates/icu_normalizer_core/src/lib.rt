@@ -6,6 +6,7 @@ pub mod built_in;
 pub mod canonical;
 pub mod compatibility;
 pub mod decoding;
+mod decomposed;
 pub mod decomposition;
 pub mod laws;
 pub mod properties;

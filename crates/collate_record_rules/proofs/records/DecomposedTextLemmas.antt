@@ -3,10 +3,10 @@ use Rattle.std.proofs.Common.{◌≡◌, ℕ, Bool, true, false, cond, ◌&&◌,
 use Rattle.std.specs.Prelude.{flat_map, is_some, ltb, unwrap_or}
 use Rattle.std.specs.List.{list_any}
 use Rattle.std.proofs.lemmas.Bool.{false≢true, or_parts}
-use Rattle.icu_normalizer_core.specs.BuiltIn.{built_in_step}
+use Rattle.icu_normalizer_core.specs.BuiltIn.{built_in_step, is_built_in}
 use Rattle.icu_normalizer_core.specs.Canonical.{decomposed, marks_in_order, put_in_order}
 use Rattle.collate_lines.specs.Record.{Record}
-use Rattle.collate_rules.specs.Meaning.{canonical_of, class_of, expanded, first_found, full_of, is_built_in, mapping_in, step_of}
+use Rattle.collate_rules.specs.Meaning.{canonical_of, class_of, expanded, first_found, full_of, mapping_in, step_of}
 use Rattle.collate_rules.specs.RecordRules.{has_mapping, is_disordered, is_to_some, is_unlike_decomposed}
 
 no_step : (o : Option (List ℕ)) → is_to_some o ≡ false → unwrap_or o [] ≡ []

@@ -4,12 +4,12 @@ use Rattle.std.specs.Prelude.{is_some, ltb, unwrap_or}
 use Rattle.std.specs.List.{list_all, list_any}
 use Rattle.std.proofs.lemmas.Bool.{and_from, and_parts, false≢true, ltb-true, not_from_true, or_left, or_right}
 use Rattle.std.proofs.lemmas.Option.{none-some}
-use Rattle.icu_normalizer_core.specs.BuiltIn.{built_in_class, built_in_step}
+use Rattle.icu_normalizer_core.specs.BuiltIn.{built_in_class, built_in_step, is_built_in}
 use Rattle.icu_normalizer_core.specs.Canonical.{is_starter}
 use Rattle.icu_collator_core.specs.ContextRules.{is_prefix_character, is_recorded_in, may_be_digit}
 use Rattle.collate_lines.specs.Record.{Record, nothing, class, mapping, compatibility, weights, range, digit, setting}
 use Rattle.collate_rules.specs.Breaks.{IsLasting}
-use Rattle.collate_rules.specs.Meaning.{canonical_of, class_in, class_of, digit_in, dot_above_in, first_found, is_built_in, mapping_in, weights_of}
+use Rattle.collate_rules.specs.Meaning.{canonical_of, class_in, class_of, digit_in, dot_above_in, first_found, mapping_in, weights_of}
 use Rattle.collate_rules.specs.RecordRules.{breaks_decomposed, breaks_digits, breaks_dot_above, breaks_marks_last, breaks_prefixes, digit_of, dotted_marks, has_late_starter, has_mapping, has_starter_behind, is_bad_digit, is_bad_dotted, is_badly_prefixed, is_disordered, is_further, is_mark, is_other_mark, is_to_some, is_undecomposed, is_unlike_decomposed, may_follow_prefix}
 
 -- ---- Tests that follow from others

@@ -11,7 +11,7 @@ use Rattle.icu_collator_types.specs.declared.options.AlternateHandling.{Alternat
 use Rattle.icu_collator_types.specs.declared.options.CollationCaseFirst.{CollationCaseFirst}
 use Rattle.icu_collator_types.specs.declared.options.MaxVariable.{MaxVariable}
 use Rattle.icu_collator_types.specs.Options.{default_settings}
-use Rattle.icu_normalizer_core.specs.BuiltIn.{built_in_class, built_in_step, syllable_of}
+use Rattle.icu_normalizer_core.specs.BuiltIn.{built_in_class, built_in_step, syllable_of, is_built_in}
 use Rattle.icu_normalizer_core.specs.Sameness.{AreSameCanonical, AreSameComposing}
 use Rattle.icu_collator_core.specs.Sameness.{AreSameWeights}
 use Rattle.icu_collator_core.specs.SameSettings.{AreSameWithOptions}
@@ -20,7 +20,7 @@ use Rattle.collate_lines.specs.declared.rule.Rule.TheVariants.{C5, V6, V14}
 use Rattle.collate_lines.specs.Record.{Record, setting, Layer, root, tailoring, alternate, backward, case_first, max_variable, dot_above, numeric, groups, compress, reorder}
 use Rattle.collate_lines.specs.Repeats.{is_second}
 use Rattle.collate_rules.specs.GivenWeights.{are_all_disjoint, are_sound_ranges, given_elements, given_ranges, leads_to}
-use Rattle.collate_rules.specs.Meaning.{alternate_in, backward_in, canonical_of, case_first_in, class_in, collation_of, composed_in, compress_in, digit_in, dot_above_in, elements_in, expanded, first_found, groups_in, is_built_in, mapping_in, max_variable_in, numeric_in, pair_of, place_among, range_in, recorded_in, reorder_in, set_to, settings_of, step_of, weights_of}
+use Rattle.collate_rules.specs.Meaning.{alternate_in, backward_in, canonical_of, case_first_in, class_in, collation_of, composed_in, compress_in, digit_in, dot_above_in, elements_in, expanded, first_found, groups_in, mapping_in, max_variable_in, numeric_in, pair_of, place_among, range_in, recorded_in, reorder_in, set_to, settings_of, step_of, weights_of}
 use Rattle.collate_rules.specs.Offenders.{NoneOffends}
 use Rattle.collate_rules.specs.Rules.{is_same_pair, pair_in}
 use Rattle.collate_rules.proofs.lists.RuleFullListLemmas.{by_first, expanded-suc, expanded_none}

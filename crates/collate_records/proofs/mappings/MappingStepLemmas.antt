@@ -8,11 +8,11 @@ use Rattle.std.proofs.lemmas.Bool.{or_left, or_right, or_parts, or_from, cases_B
 use Rattle.std.proofs.lemmas.Bool.Decides.{eqb_tells}
 use Rattle.std.proofs.lemmas.Option.{none-some, unwrap_or-slice_get}
 use Rattle.std.proofs.lemmas.List.Elements.{All-get_or, All-nil}
-use Rattle.icu_normalizer_core.specs.BuiltIn.{is_syllable, is_jamo, singled_out, built_in_step, built_in_compatibility_step, built_in_class}
+use Rattle.icu_normalizer_core.specs.BuiltIn.{is_syllable, is_jamo, singled_out, built_in_step, built_in_compatibility_step, built_in_class, is_built_in}
 use Rattle.icu_normalizer_core.specs.Canonical.{IsFree}
 use Rattle.icu_normalizer_core.proofs.BuiltInFacts.{built_in_short, small_class as small_built_in_class}
 use Rattle.collate_lines.specs.Record.{Record, nothing, class, mapping}
-use Rattle.collate_rules.specs.Meaning.{is_built_in, first_found, mapping_in, class_in, step_of, class_of}
+use Rattle.collate_rules.specs.Meaning.{first_found, mapping_in, class_in, step_of, class_of}
 use Rattle.collate_lines.specs.Repeats.{record_at}
 use Rattle.collate_rules.specs.Rules.{MapsMark, MapsHangul, IsBadClass, is_built_in_record}
 use Rattle.collate_rules.specs.Accepted.{AreScalars, MapsToScalars}

@@ -10,16 +10,16 @@ use Rattle.std.proofs.lemmas.Bool.{cases_eq, cond-false, cond-true, false_from_n
 use Rattle.std.proofs.lemmas.List.Elements.{All-weaker}
 use Rattle.std.proofs.lemmas.List.Folds.{flat_map-map}
 use Rattle.icu_normalizer_core.specs.declared.canonical.builder.GivenMapping.{GivenMapping}
-use Rattle.icu_normalizer_core.specs.BuiltIn.{built_in_compatibility_step, built_in_step, is_jamo, is_syllable}
+use Rattle.icu_normalizer_core.specs.BuiltIn.{built_in_compatibility_step, built_in_step, is_jamo, is_syllable, is_built_in}
 use Rattle.icu_normalizer_core.specs.Canonical.{Leaves}
-use Rattle.icu_normalizer_core.specs.CanonicalMaps.{BeginsWithStarter, CanonicalMaps, KeepRules, class_of as class_of_maps, first_mapping, is_built_in as is_built_in_map, mapping_given, named as named_by, step_of as step_of_maps}
+use Rattle.icu_normalizer_core.specs.CanonicalMaps.{BeginsWithStarter, CanonicalMaps, KeepRules, class_of as class_of_maps, first_mapping, mapping_given, named as named_by, step_of as step_of_maps}
 use Rattle.icu_normalizer_core.specs.CompatibilityMaps.{AllMaps, AreApart, AreMeaningOf, HaveOneCompatibility, IsMappedAtAll, KeepAllRules, KeepCompatibilityRules, all_named, all_steps_of, compatibility_step, else_mapped, given_compatibility, is_built_in_compatibility}
 use Rattle.icu_normalizer_core.specs.Words.{WordLists}
 use Rattle.icu_normalizer_core.proofs.LeftLemmas.{left_one, left_same}
 use Rattle.icu_normalizer_core.proofs.builder.AllStepLemmas.{all_second, cases_step, step_apart, step_fixed, step_given, unbound}
 use Rattle.collate_lines.specs.declared.rule.Rule.TheVariants.{C9, Limit, V14}
 use Rattle.collate_lines.specs.Record.{Record, compatibility}
-use Rattle.collate_rules.specs.Meaning.{any_step, class_of, compatibility_in, compatibility_of, first_found, is_built_in, mapping_in, step_of}
+use Rattle.collate_rules.specs.Meaning.{any_step, class_of, compatibility_in, compatibility_of, first_found, mapping_in, step_of}
 use Rattle.collate_rules.specs.Rules.{MapsHangul, compatibility_full_of, is_mapped}
 use Rattle.collate_rules.proofs.offenders.LineRuleLemmas.{each_line}
 use Rattle.collate_rules.specs.Accepted.{AreAccepted}
@@ -134,7 +134,7 @@ module _ (records : List Record) (maps : AllMaps) (accepted : AreAccepted record
   apart : AreApart maps
   apart =
       All-weaker (λ g. first_found (compatibility_in g.character) records ≡ Some g.mapping.items)
-      (λ g. is_built_in_map g.character ≡ false → first_mapping maps.canonical.mappings g.character ≡ None)
+      (λ g. is_built_in g.character ≡ false → first_mapping maps.canonical.mappings g.character ≡ None)
       (λ g found free.
       let none : first_found (mapping_in g.character) records ≡ None = no_canonical g.character g.mapping.items found free (first_found (mapping_in g.character) records) refl in
       ap (λ (m : CanonicalMaps). first_mapping m.mappings g.character) are.canonical
@@ -142,10 +142,10 @@ module _ (records : List Record) (maps : AllMaps) (accepted : AreAccepted record
       (given_step-maps g.character records (accepted_few records accepted)) none)
       maps.compatibilities found_each
 
-  on_starters : All (λ g. is_built_in_map g.character ≡ false → class_of_maps maps.canonical g.character ≡ 0) maps.compatibilities
+  on_starters : All (λ g. is_built_in g.character ≡ false → class_of_maps maps.canonical g.character ≡ 0) maps.compatibilities
   on_starters =
       All-weaker (λ g. first_found (compatibility_in g.character) records ≡ Some g.mapping.items)
-      (λ g. is_built_in_map g.character ≡ false → class_of_maps maps.canonical g.character ≡ 0)
+      (λ g. is_built_in g.character ≡ false → class_of_maps maps.canonical g.character ≡ 0)
       (λ g found free.
       class_same g.character
       ∙ ⊎_elim (λ zero. zero)
@@ -166,7 +166,7 @@ module _ (records : List Record) (maps : AllMaps) (accepted : AreAccepted record
       )
 
   -- a compatibility mapping of a character that is built in says what is built in
-  built_ins : All (λ g. is_built_in_map g.character ≡ true → is_built_in_compatibility g ≡ true) maps.compatibilities
+  built_ins : All (λ g. is_built_in g.character ≡ true → is_built_in_compatibility g ≡ true) maps.compatibilities
   built_ins =
       each_said (λ c ds. is_built_in c ≡ true → said_as_built_in c ds ≡ true) IsConsistent
       (λ c ds consistent built. true_from_ne_false _ (λ off. consistent (built, off)))

@@ -7,13 +7,13 @@ use Rattle.std.proofs.lemmas.Bool.{cases_Bool, cases_eq, cases_lt, cond-false, c
 use Rattle.std.proofs.lemmas.Bool.Decides.{nat_tests}
 use Rattle.std.proofs.lemmas.Option.{unwrap_or-slice_get}
 use Rattle.std.proofs.lemmas.List.Elements.{All-cons, All-contains, All-get_or, All-nil, All-weaker}
-use Rattle.icu_normalizer_core.specs.BuiltIn.{built_in_compatibility_step, built_in_step}
+use Rattle.icu_normalizer_core.specs.BuiltIn.{built_in_compatibility_step, built_in_step, is_built_in}
 use Rattle.icu_normalizer_core.specs.Canonical.{Leaves}
 use Rattle.icu_normalizer_core.proofs.BuiltInFacts.{class_scalar}
 use Rattle.icu_normalizer_core.proofs.builder.AllStepLemmas.{cases_list, cases_step, compatible}
 use Rattle.collate_lines.specs.declared.rule.Rule.TheVariants.{C1, C2, C4, C7}
 use Rattle.collate_lines.specs.Record.{Record, nothing, class, mapping, compatibility, weights, range, digit, setting}
-use Rattle.collate_rules.specs.Meaning.{any_step, class_of, compatibility_in, compatibility_of, else_mapped, first_found, is_built_in, mapping_in, step_of}
+use Rattle.collate_rules.specs.Meaning.{any_step, class_of, compatibility_in, compatibility_of, else_mapped, first_found, mapping_in, step_of}
 use Rattle.collate_rules.specs.Rules.{HasBadList, HasBadLow, HasLoop, MapsMark, begins_with_mark, compatibility_full_of, is_mapped}
 use Rattle.collate_rules.proofs.lookups.FoundLemmas.{mapping_line}
 use Rattle.collate_rules.proofs.lists.BadListLemmas.{HasBadList-none}

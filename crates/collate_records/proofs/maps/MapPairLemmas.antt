@@ -8,10 +8,9 @@ use Rattle.std.proofs.lemmas.List.{get_or-take, length-take}
 use Rattle.std.proofs.lemmas.List.Folds.{list_any_at}
 use Rattle.std.proofs.lemmas.List.Elements.{All-contains}
 use Rattle.icu_normalizer_core.specs.declared.canonical.builder.GivenMapping.{GivenMapping}
-use Rattle.icu_normalizer_core.specs.BuiltIn.{is_within}
+use Rattle.icu_normalizer_core.specs.BuiltIn.{is_within, is_built_in}
 use Rattle.icu_normalizer_core.specs.CanonicalMaps.{composes, ComposeAlike}
 use Rattle.collate_lines.specs.Record.{Record, nothing, mapping}
-use Rattle.collate_rules.specs.Meaning.{is_built_in}
 use Rattle.collate_records.specs.Maps.{mappings_in}
 use Rattle.collate_lines.specs.Repeats.{record_at}
 use Rattle.collate_rules.specs.Rules.{IsBadlyComposed, HasBadSecond, RepeatsPair, is_same_pair, pair_in}

@@ -12,8 +12,8 @@ use Rattle.std.proofs.lemmas.List.Elements.{All-nil, All-cons, All-weaker}
 use Rattle.std.proofs.Math.Bool.{and-true}
 use Rattle.icu_normalizer_core.specs.declared.canonical.builder.GivenClass.{GivenClass}
 use Rattle.icu_normalizer_core.specs.declared.canonical.builder.GivenMapping.{GivenMapping}
-use Rattle.icu_normalizer_core.specs.BuiltIn.{built_in_class, built_in_step, is_syllable, is_jamo}
-use Rattle.icu_normalizer_core.specs.CanonicalMaps.{mapping_given, is_built_in_mapping, is_built_in as is_built_in_map}
+use Rattle.icu_normalizer_core.specs.BuiltIn.{built_in_class, built_in_step, is_syllable, is_jamo, is_built_in}
+use Rattle.icu_normalizer_core.specs.CanonicalMaps.{mapping_given, is_built_in_mapping}
 use Rattle.icu_normalizer_core.proofs.BuiltInFacts.{syllable_cases, syllable_mapped}
 use Rattle.collate_lines.specs.Record.{Record, nothing, class, mapping, compatibility, weights, range, digit, setting}
 use Rattle.collate_records.specs.Maps.{classes_in, mappings_in}
@@ -160,9 +160,9 @@ pub all_mappings : (P : GivenMapping → Type 0) (Q : Record → Type 0) → ((c
 all_mappings P Q one two records all = All-flat_map P mappings_in records (All-weaker Q (λ r. All P (mappings_in r)) (line_mappings P Q one two) records all)
 
 pub maps_built_in_mappings : (records : List Record) → All IsConsistent records
-    → All (λ g. is_built_in_map g.character ≡ true → is_built_in_mapping g ≡ true) (flat_map mappings_in records)
+    → All (λ g. is_built_in g.character ≡ true → is_built_in_mapping g ≡ true) (flat_map mappings_in records)
 maps_built_in_mappings =
-    all_mappings (λ g. is_built_in_map g.character ≡ true → is_built_in_mapping g ≡ true) IsConsistent
+    all_mappings (λ g. is_built_in g.character ≡ true → is_built_in_mapping g ≡ true) IsConsistent
     (λ c d x consistent built. one_said c d x ∙ true_from_ne_false _ (λ off. consistent (built, off)))
     (λ c d e x consistent built. two_said c d e x ∙ true_from_ne_false _ (λ off. consistent (built, off)))
 

@@ -8,12 +8,12 @@ use Rattle.std.proofs.lemmas.Bool.{cases_Bool, cond-true}
 use Rattle.std.proofs.lemmas.List.{take-append-drop}
 use Rattle.std.proofs.lemmas.List.Elements.{All-cons, All-nil, All-take, All-weaker}
 use Rattle.std.proofs.lemmas.List.Sorted.{All-permutation}
-use Rattle.icu_normalizer_core.specs.BuiltIn.{built_in_compatibility_step, built_in_step}
+use Rattle.icu_normalizer_core.specs.BuiltIn.{built_in_compatibility_step, built_in_step, is_built_in}
 use Rattle.icu_normalizer_core.proofs.builder.AllStepLemmas.{cases_list, scalars_left}
 use Rattle.collate_lines.specs.declared.rule.Rule.TheVariants.{C1, C2, C4, C5, V14}
 use Rattle.collate_lines.specs.Record.{Record}
 use Rattle.collate_rules.specs.CanonicalParts.{SaysSame}
-use Rattle.collate_rules.specs.Meaning.{any_step, class_of, compatibility_of, else_mapped, full_of, is_built_in, step_of}
+use Rattle.collate_rules.specs.Meaning.{any_step, class_of, compatibility_of, else_mapped, full_of, step_of}
 use Rattle.collate_rules.specs.Offenders.{NoneOffends}
 use Rattle.collate_rules.specs.Rules.{HasBadList, HasLoop, MapsMark, compatibility_full_of}
 use Rattle.collate_rules.proofs.lists.BadListLemmas.{HasBadList-none, HasBadList-same}

@@ -3,12 +3,12 @@ use Rattle.std.proofs.Common.{◌≡◌, ◌≢◌, ℕ, ◌≤◌, inl, inr, �
 use Rattle.std.specs.Option.{is_some, unwrap_or}
 use Rattle.std.proofs.lemmas.Bool.{and_from, and_parts, cases_Bool, cond-false, cond-true, false≢true, ne_eqb, or_cases, or_left, or_right}
 use Rattle.std.proofs.lemmas.List.Elements.{All-head, All-tail}
-use Rattle.icu_normalizer_core.specs.BuiltIn.{built_in_compatibility_step, built_in_step}
+use Rattle.icu_normalizer_core.specs.BuiltIn.{built_in_compatibility_step, built_in_step, is_built_in}
 use Rattle.icu_normalizer_core.specs.Canonical.{Leaves, mapped, nothing, unmapped}
 use Rattle.icu_normalizer_core.proofs.LeftLemmas.{all_unmapped, left_append, left_one, unmapped_left}
 use Rattle.icu_normalizer_core.proofs.builder.AllStepLemmas.{cases_step, left_through}
 use Rattle.collate_lines.specs.Record.{Record}
-use Rattle.collate_rules.specs.Meaning.{any_step, class_of, compatibility_in, compatibility_of, else_mapped, first_found, is_built_in, mapping_in, step_of}
+use Rattle.collate_rules.specs.Meaning.{any_step, class_of, compatibility_in, compatibility_of, else_mapped, first_found, mapping_in, step_of}
 use Rattle.collate_rules.specs.RecordRules.{is_mark}
 use Rattle.collate_rules.specs.Rules.{HasLoop, IsBadList, MapsMark, begins_with_mark, is_mapped}
 use Rattle.collate_record_rules.proofs.records.RecordGrowthLemmas.{first_found-append, mark_stays}

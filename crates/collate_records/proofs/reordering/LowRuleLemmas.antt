@@ -7,14 +7,14 @@ use Rattle.std.proofs.lemmas.Bool.Decides.{Decides-eqb, nat_tests}
 use Rattle.std.proofs.lemmas.List.{get_or_append_left}
 use Rattle.std.proofs.lemmas.List.Elements.{All-get_or}
 use Rattle.std.proofs.lemmas.Option.{none-some, unwrap_or-slice_get}
-use Rattle.icu_normalizer_core.specs.BuiltIn.{built_in_class, is_syllable}
+use Rattle.icu_normalizer_core.specs.BuiltIn.{built_in_class, is_syllable, is_built_in}
 use Rattle.icu_normalizer_core.specs.Canonical.{IsComposing, IsDecomposing}
 use Rattle.icu_normalizer_core.proofs.BuiltInFacts.{syllable_pair}
 use Rattle.icu_normalizer_core.proofs.builder.AllStepLemmas.{cases_list}
 use Rattle.collate_lines.specs.declared.rule.Rule.TheVariants.{V14}
 use Rattle.collate_lines.specs.Record.{Record, nothing, mapping}
 use Rattle.collate_lines.specs.Repeats.{is_second, record_at}
-use Rattle.collate_rules.specs.Meaning.{canonical_of, class_in, class_of, compatibility_of, composed_in, first_found, is_built_in, mapping_in, pair_of, step_of}
+use Rattle.collate_rules.specs.Meaning.{canonical_of, class_in, class_of, compatibility_of, composed_in, first_found, mapping_in, pair_of, step_of}
 use Rattle.collate_rules.specs.Offenders.{NoneOffends}
 use Rattle.collate_rules.specs.Rules.{HasBadLow, HasLoop, MapsMark}
 use Rattle.collate_rules.proofs.lookups.FoundLemmas.{mapping_line}

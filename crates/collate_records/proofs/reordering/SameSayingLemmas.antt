@@ -4,14 +4,14 @@ use Rattle.std.specs.List.Sorted.{IsPermutation}
 use Rattle.std.specs.Option.{is_some, unwrap_or}
 use Rattle.std.proofs.Math.Path.{fun_ext}
 use Rattle.std.proofs.lemmas.List.Sorted.{list_any-IsPermutation}
-use Rattle.icu_normalizer_core.specs.BuiltIn.{built_in_class, built_in_step}
+use Rattle.icu_normalizer_core.specs.BuiltIn.{built_in_class, built_in_step, is_built_in}
 use Rattle.icu_normalizer_core.specs.Canonical.{Canonical}
 use Rattle.icu_collator_types.specs.declared.elements.Element.{Element}
 use Rattle.icu_collator_core.specs.ContextRules.{is_recorded_in}
 use Rattle.collate_lines.specs.declared.rule.Rule.TheVariants.{C5, V14}
 use Rattle.collate_lines.specs.Record.{Record, Layer, root, tailoring}
 use Rattle.collate_rules.specs.CanonicalParts.{SaysSame}
-use Rattle.collate_rules.specs.Meaning.{canonical_of, class_in, class_of, compatibility_in, composed_in, digit_in, elements_in, expanded, first_found, is_built_in, mapping_in, pair_of, step_of, weights_of}
+use Rattle.collate_rules.specs.Meaning.{canonical_of, class_in, class_of, compatibility_in, composed_in, digit_in, elements_in, expanded, first_found, mapping_in, pair_of, step_of, weights_of}
 use Rattle.collate_rules.specs.Offenders.{NoneOffends}
 use Rattle.collate_rules.specs.RecordRules.{digit_of, has_mapping, is_replaced, is_to_some}
 use Rattle.collate_rules.specs.Rules.{is_same_pair, pair_in}

@@ -4,8 +4,8 @@ use Rattle.std.specs.List.{Contains, All}
 use Rattle.std.specs.Option.{unwrap_or}
 use Rattle.std.proofs.lemmas.Bool.Decides.{eqb_tells, nat_tests}
 use Rattle.std.proofs.lemmas.List.Elements.{All-nil, All-cons, All-contains}
-use Rattle.icu_normalizer_core.specs.BuiltIn.{is_syllable, is_jamo, syllable_step, singled_out, built_in_step, built_in_compatibility_step}
-use Rattle.collate_rules.specs.Meaning.{is_built_in, any_step, else_mapped}
+use Rattle.icu_normalizer_core.specs.BuiltIn.{is_syllable, is_jamo, syllable_step, singled_out, built_in_step, built_in_compatibility_step, is_built_in}
+use Rattle.collate_rules.specs.Meaning.{any_step, else_mapped}
 
 -- each of these is lower
 abbrev Falls : ℕ → List ℕ → Type 0

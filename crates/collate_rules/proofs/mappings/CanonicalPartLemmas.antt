@@ -9,9 +9,9 @@ use Rattle.std.proofs.lemmas.Bool.{false≢true}
 use Rattle.std.proofs.lemmas.List.Elements.{All-head, All-more, All-tail, All-weaker}
 use Rattle.collate_rules.specs.declared.canonical_part.CanonicalPart.{CanonicalPart}
 use Rattle.collate_rules.specs.declared.canonical_part.CanonicalPart.TheVariants.{Class, Kmap, Map}
-use Rattle.icu_normalizer_core.specs.BuiltIn.{built_in_class, built_in_step, built_in_compatibility_step, syllable_of}
+use Rattle.icu_normalizer_core.specs.BuiltIn.{built_in_class, built_in_step, built_in_compatibility_step, syllable_of, is_built_in}
 use Rattle.collate_lines.specs.Record.{Record}
-use Rattle.collate_rules.specs.Meaning.{class_in, mapping_in, compatibility_in, composed_in, first_found, class_of, step_of, compatibility_of, pair_of, else_mapped, is_built_in, any_step}
+use Rattle.collate_rules.specs.Meaning.{class_in, mapping_in, compatibility_in, composed_in, first_found, class_of, step_of, compatibility_of, pair_of, else_mapped, any_step}
 use Rattle.collate_rules.specs.CanonicalParts.{in_full, SaysSame, subject_of}
 use Rattle.collate_rules.proofs.lookups.RuleLookupLemmas.{first_found-append, first_found-skip}
 

@@ -3,11 +3,11 @@ use Rattle.std.proofs.Common.{◌≡◌, ◌≢◌, ℕ, List, [], ◌∷◌, �
 use Rattle.std.specs.Bool.{IsTrue}
 use Rattle.std.specs.Option.{unwrap_or}
 use Rattle.std.proofs.Math.Path.{fun_ext}
-use Rattle.icu_normalizer_core.specs.BuiltIn.{built_in_step, built_in_compatibility_step}
+use Rattle.icu_normalizer_core.specs.BuiltIn.{built_in_step, built_in_compatibility_step, is_built_in}
 use Rattle.icu_normalizer_core.specs.Canonical.{Reaches}
 use Rattle.collate_rules.specs.declared.canonical_part.CanonicalPart.{CanonicalPart}
 use Rattle.collate_lines.specs.Record.{Record}
-use Rattle.collate_rules.specs.Meaning.{else_mapped, is_built_in, any_step}
+use Rattle.collate_rules.specs.Meaning.{else_mapped, any_step}
 use Rattle.collate_rules.specs.Rules.{HasLoop}
 use Rattle.collate_rules.specs.CanonicalParts.{in_full, SaysSame, subject_of}
 use Rattle.collate_rules.proofs.mappings.CanonicalPartLemmas.{any_step-same, first_found-other_mapping, first_found-other_compatibility, stated_push}

@@ -4,10 +4,9 @@ use Rattle.std.proofs.lemmas.Bool.{false≢true}
 use Rattle.std.specs.Bool.{IsTrue}
 use Rattle.std.specs.Option.{unwrap_or, is_some}
 use Rattle.std.proofs.lemmas.Bool.Decides.{eqb_tells}
-use Rattle.icu_normalizer_core.specs.BuiltIn.{built_in_class}
+use Rattle.icu_normalizer_core.specs.BuiltIn.{built_in_class, is_built_in}
 use Rattle.collate_rules.specs.declared.canonical_part.CanonicalPart.{CanonicalPart}
 use Rattle.collate_lines.specs.Record.{Record}
-use Rattle.collate_rules.specs.Meaning.{is_built_in}
 use Rattle.collate_rules.specs.Rules.{MapsMark, IsMappedMark}
 use Rattle.collate_rules.specs.CanonicalParts.{in_full, SaysSame, subject_of}
 use Rattle.collate_rules.proofs.mappings.CanonicalPartLemmas.{class_of-same, first_found-other_class, first_found-other_mapping, first_found-other_compatibility, stated_push}

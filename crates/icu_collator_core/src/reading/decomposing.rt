@@ -2,15 +2,14 @@
 
 ghost use Rattle.std.specs.Prelude.{◌≡◌, ◌++◌, ◌∷◌, ℕ, List, [], true, take, drop, IfOk, OnErr, OnOk};
 ghost use Rattle.std.specs.Iterator.{IsFinite};
-ghost use Rattle.std.specs.List.{list_all};
 ghost use lib.Utf8.{scalar, scalars};
 ghost use Rattle.icu_normalizer_core.specs.BorrowedMeaning.{borrowed_meaning};
 ghost use Rattle.icu_normalizer_core.specs.Canonical.{decomposed, marks_in_order};
 ghost use Rattle.icu_normalizer_core.specs.Iter.{Spells};
-ghost use Rattle.icu_normalizer_core.specs.Marks.{is_mark};
 ghost use Rattle.icu_collator_core.specs.Decomposing.{Appends, HasMarksFrom};
 
 use icu_normalizer_core::canonical::{CanonicalBorrowed, Reading};
+use icu_normalizer_core::decomposition::{FormData, sort_marks};
 use smallvec::SmallVec;
 use std::alloc::{AllocError, Global};
 
@@ -24,20 +23,6 @@ fn push_character(list: &mut SmallVec<char, 64>, c: char) -> Result<(), AllocErr
     Ok(())
 }
 
-/// Sorts marks by class, stably. Fails only when out of memory.
-#[cold]
-#[inline(never)]
-fn sort_marks(
-    alloc: Global,
-    canonical: CanonicalBorrowed<'_>,
-    marks: &mut [char],
-) -> Result<(), AllocError>
-    requires { list_all (is_mark (borrowed_meaning canonical).class) marks.old ≡ true }
-    ensures { OnOk result (marks.new ≡ marks_in_order (borrowed_meaning canonical.entry).class marks.old) }
-{
-    marks.sort_by_key(alloc, |c| canonical.class(*c))
-}
-
 /// Puts the marks from a place on in their order. Fails only when out of memory.
 #[inline(always)]
 fn close(
@@ -48,11 +33,7 @@ fn close(
     requires { HasMarksFrom (borrowed_meaning canonical).class list.old.items ready }
     ensures { OnOk result (list.new.items ≡ take ready list.old.items ++ marks_in_order (borrowed_meaning canonical.entry).class (drop ready list.old.items)) }
 {
-    if list.len() - ready <= 1 {
-        return Ok(());
-    }
-    let alloc = *list.allocator();
-    sort_marks(alloc, canonical, &mut list[ready..])
+    sort_marks(FormData::Canonical(canonical), list, ready)
 }
 
 /// Appends a character of this class, and answers up to where the list is in order then. Fails only when out of memory.

@@ -9,11 +9,11 @@ use Rattle.std.proofs.lemmas.List.Elements.{All-contains, All-cons, All-head, Al
 use Rattle.std.proofs.lemmas.Option.{same_Some}
 use Rattle.icu_normalizer_core.specs.declared.canonical.builder.GivenMapping.{GivenMapping}
 use Rattle.icu_normalizer_core.specs.declared.canonical.builder.mappings.Mappings.{Mappings}
-use Rattle.icu_normalizer_core.specs.BuiltIn.{built_in_compatibility_step, built_in_step}
+use Rattle.icu_normalizer_core.specs.BuiltIn.{built_in_compatibility_step, built_in_step, is_built_in}
 use Rattle.icu_normalizer_core.specs.Canonical.{Canonical, Leaves, nothing}
 use Rattle.icu_normalizer_core.specs.CanonicalFaults.{NoneOffends, begins_with_mark}
 use Rattle.icu_normalizer_core.specs.CanonicalLists.{CanonicalLists}
-use Rattle.icu_normalizer_core.specs.CanonicalMaps.{CanonicalMaps, AreMeaning, given_step, is_built_in, is_built_in_mapping, mapping_given}
+use Rattle.icu_normalizer_core.specs.CanonicalMaps.{CanonicalMaps, AreMeaning, given_step, is_built_in_mapping, mapping_given}
 use Rattle.icu_normalizer_core.specs.CanonicalMeaning.{lists_of, meaning}
 use Rattle.icu_normalizer_core.specs.CanonicalWords.{full_of_word, is_inside, is_word}
 use Rattle.icu_normalizer_core.specs.CompatibilityFaults.{AreAcceptedWords, OffendsFixed, OffendsWord, OffendsWordList}

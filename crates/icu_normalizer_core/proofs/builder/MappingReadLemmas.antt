@@ -8,7 +8,7 @@ use Rattle.std.proofs.lemmas.List.{append-nil, take_more}
 use Rattle.std.proofs.lemmas.List.Elements.{All-cons, All-nil}
 use Rattle.icu_normalizer_core.specs.declared.canonical.builder.mappings.Mappings.{Mappings}
 use Rattle.icu_normalizer_core.specs.declared.canonical.check.left.Left.{Left}
-use Rattle.icu_normalizer_core.specs.declared.properties.Decomposed.{Decomposed}
+use Rattle.icu_normalizer_core.specs.declared.decomposed.Decomposed.{Decomposed}
 use Rattle.icu_normalizer_core.specs.BuiltIn.{built_in_compatibility_step, built_in_step}
 use Rattle.icu_normalizer_core.specs.Canonical.{Canonical, IsDecomposing, IsFree, Leaves}
 use Rattle.icu_normalizer_core.specs.CanonicalMeaning.{lists_of, meaning}

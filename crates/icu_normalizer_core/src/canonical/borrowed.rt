@@ -10,7 +10,7 @@ ghost use Rattle.icu_normalizer_core.specs.Iter.{Spells};
 ghost use Rattle.icu_normalizer_core.specs.BorrowedMeaning.{borrowed_meaning};
 ghost use Rattle.icu_normalizer_core.specs.Properties.{mapped_to};
 ghost use Rattle.icu_normalizer_core.specs.Readings.{IsTold};
-ghost use Rattle.icu_normalizer_core.specs.declared.properties.Decomposed.TheVariants.{Default};
+ghost use Rattle.icu_normalizer_core.specs.declared.decomposed.Decomposed.TheVariants.{Default};
 
 use super::data::CanonicalData;
 use super::full_list::{FullList, full_list};
@@ -18,8 +18,8 @@ use super::pairs::listed_pair;
 use super::character_data::{Reading, read_character};
 use super::steps::listed_step;
 use crate::built_in::{built_in_step, syllable_of};
+use crate::decomposed::Decomposed;
 use crate::decomposition::Classed;
-use crate::properties::Decomposed;
 use std::alloc::Global;
 
 /// Canonical data, borrowed.

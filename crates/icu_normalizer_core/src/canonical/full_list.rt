@@ -12,7 +12,7 @@ ghost use Rattle.icu_normalizer_core.specs.Words.{full_in, word_lists};
 use super::tables::CanonicalTables;
 use super::canonical_words::{Words, is_list_word, is_one_word, is_pair_word, is_singled_word};
 use crate::built_in::{letter, singled_out};
-use crate::properties::Decomposed;
+use crate::decomposed::Decomposed;
 use std::iter::FusedIterator;
 use std::marker::Model;
 

@@ -6,7 +6,7 @@ ghost use Rattle.icu_normalizer_core.specs.Triples.{IsUnlisted, IsTripleOf};
 ghost use Rattle.icu_normalizer_core.specs.Properties.{mapped_to};
 
 use super::search::first_past;
-use crate::properties::Decomposed;
+use crate::decomposed::Decomposed;
 use icu_packed_vector::PackedVec;
 
 /// In the place of the second character of a mapping that has but one.

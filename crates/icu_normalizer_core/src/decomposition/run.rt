@@ -202,11 +202,11 @@ impl<'d> Run<'d> {
     }
 }
 
-/// Sorts the marks from a place on by class, stably.
+/// Sorts the marks from a place on by class, stably. Fails only when out of memory, and then they stand as they stood.
 #[inline]
-pub fn sort_marks(
+pub fn sort_marks<const N: usize>(
     basis: FormData<'_>,
-    chars: &mut SmallVec<char, 16>,
+    chars: &mut SmallVec<char, N>,
     from: usize,
 ) -> Result<(), AllocError>
     requires within { from ≤ small_vec_len chars.old }

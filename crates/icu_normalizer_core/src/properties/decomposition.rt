@@ -6,7 +6,7 @@ ghost use Rattle.icu_normalizer_core.specs.Loading.{CheckedMemoryAside, loaded};
 ghost use Rattle.icu_normalizer_core.specs.Properties.{mapped_to};
 
 use crate::canonical::{CanonicalBorrowed, CanonicalData};
-use crate::properties::Decomposed;
+use crate::decomposed::Decomposed;
 use crate::provider::{DataError, NormalizerProvider, load_canonical_data};
 use std::alloc::Global;
 use std::marker::Model;

@@ -1,13 +1,13 @@
 //! Compatibility mappings that are given, over canonical tables.
 
 ghost use Rattle.std.specs.Prelude.{◌≡◌, ◌↔◌, ◌<◌, length, IsTrue, slice_get, None, MatchOption};
-ghost use Rattle.icu_normalizer_core.specs.CanonicalMaps.{is_built_in};
+ghost use Rattle.icu_normalizer_core.specs.BuiltIn.{is_built_in};
 ghost use Rattle.icu_normalizer_core.specs.CanonicalMeaning.{meaning};
 ghost use Rattle.icu_normalizer_core.specs.CompatibilityMaps.{first_given};
 ghost use Rattle.icu_normalizer_core.specs.SettledMappings.{AreOnStarters};
 
 use super::GivenCompatibility;
-use crate::built_in::{built_in_compatibility_step, built_in_step};
+use crate::built_in::is_built_in;
 use crate::canonical::tables::CanonicalTables;
 
 /// Compatibility mappings, and the canonical tables over which they stand.
@@ -17,19 +17,12 @@ pub(super) struct Mappings<'t> {
     pub(super) given: &'t [GivenCompatibility],
 }
 
-/// Whether it is built in that the character is mapped, of either kind, or unmapped.
-pub(super) fn is_built_in(c: char) -> bool
-    ensures { result ≡ is_built_in c }
-{
-    built_in_step(c as u32).is_some() || built_in_compatibility_step(c as u32).is_some()
-}
-
 /// Whether each mapping stands on a starter, what is built in aside.
 pub(super) fn are_on_starters(tables: &CanonicalTables<'_>, given: &[GivenCompatibility]) -> bool
     ensures { IsTrue result ↔ AreOnStarters (meaning tables.now).class given.now }
 {
     for one in given {
-        if !is_built_in(one.character) && tables.class(one.character) != 0 {
+        if !is_built_in(one.character as u32) && tables.class(one.character) != 0 {
             return false;
         }
     }

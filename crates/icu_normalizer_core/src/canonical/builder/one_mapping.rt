@@ -1,11 +1,12 @@
 //! Whether characters have one mapping each.
 
 ghost use Rattle.std.specs.Prelude.{◌≡◌, ◌↔◌, false, IsTrue, None, All};
-ghost use Rattle.icu_normalizer_core.specs.CanonicalMaps.{HaveOneMapping, first_mapping, is_built_in};
+ghost use Rattle.icu_normalizer_core.specs.BuiltIn.{is_built_in};
+ghost use Rattle.icu_normalizer_core.specs.CanonicalMaps.{HaveOneMapping, first_mapping};
 ghost use Rattle.icu_normalizer_core.specs.CompatibilityMaps.{HaveOneCompatibility, given_compatibility};
 
-use super::mappings::is_built_in;
 use super::{GivenCompatibility, GivenMapping};
+use crate::built_in::is_built_in;
 
 /// The first mapping that is given for a character.
 fn first_mapping(mappings: &[GivenMapping], c: char) -> Option<GivenMapping>
@@ -67,7 +68,7 @@ pub(super) fn are_apart(mappings: &[GivenMapping], given: &[GivenCompatibility])
     ensures { IsTrue result ↔ All (λ g. is_built_in g.character ≡ false → first_mapping mappings.now g.character ≡ None) given.now }
 {
     for one in given {
-        if !is_built_in(one.character) && first_mapping(mappings, one.character).is_some() {
+        if !is_built_in(one.character as u32) && first_mapping(mappings, one.character).is_some() {
             return false;
         }
     }

@@ -19,7 +19,7 @@ use super::told::first_refused_of;
 use crate::built_in::{built_in_class, built_in_step, is_jamo, is_syllable, singled_out};
 use crate::canonical::steps::listed_step;
 use crate::canonical::tables::CanonicalTables;
-use crate::properties::Decomposed;
+use crate::decomposed::Decomposed;
 
 /// Whether a class is the built-in one, where one is built in.
 fn is_class(built_in: Option<u8>, class: u8) -> bool

@@ -15,7 +15,7 @@ use crate::built_in::built_in_step;
 use crate::canonical::packing::CODE_LIMIT;
 use crate::canonical::steps::listed_step;
 use crate::canonical::tables::CanonicalTables;
-use crate::properties::Decomposed;
+use crate::decomposed::Decomposed;
 
 /// The lower of two characters, of as many as there are.
 fn least_of(a: Option<char>, b: Option<char>) -> Option<char>

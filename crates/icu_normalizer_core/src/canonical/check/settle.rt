@@ -12,7 +12,7 @@ ghost use Rattle.icu_normalizer_core.specs.Settled.{left_items, IsStartOf, AreSt
 use super::left::Left;
 use crate::built_in::{built_in_step, is_syllable};
 use crate::canonical::steps::{NO_SECOND, triple_of};
-use crate::properties::Decomposed;
+use crate::decomposed::Decomposed;
 use icu_packed_vector::PackedVec;
 use std::alloc::{AllocError, Global};
 

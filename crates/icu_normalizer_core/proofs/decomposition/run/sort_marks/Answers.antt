@@ -3,5 +3,5 @@ use Rattle.icu_normalizer_core.proofs.RunLemmas.{short_is_sorted}
 use Rattle.icu_normalizer_core.proofs.decomposition.run.sort_marks.Goals as goal
 
 pub returns-then-len-from-le1-clause-ok : goal.returns-then-len-from-le1-clause-ok
-returns-then-len-from-le1-clause-ok c =
+returns-then-len-from-le1-clause-ok g c =
     short_is_sorted _ _ c.args.from (omega arith)

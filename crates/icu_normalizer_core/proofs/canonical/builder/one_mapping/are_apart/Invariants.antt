@@ -1,6 +1,7 @@
 use Rattle.std.proofs.Common.{◌≡◌, ℕ, ◌<◌, false, None, slice_index_or}
 use Rattle.icu_normalizer_core.specs.declared.canonical.builder.GivenCompatibility.{GivenCompatibility}
-use Rattle.icu_normalizer_core.specs.CanonicalMaps.{first_mapping, is_built_in}
+use Rattle.icu_normalizer_core.specs.BuiltIn.{is_built_in}
+use Rattle.icu_normalizer_core.specs.CanonicalMaps.{first_mapping}
 use Rattle.icu_normalizer_core.proofs.canonical.builder.one_mapping.are_apart.Given as goal
 
 abbrev pub invariant-loop-one : goal.invariant-loop-one

@@ -1,5 +1,5 @@
 use Rattle.std.proofs.Common.{◌≡◌, ℕ, Some, [], ◌∷◌, sym, ap, ◌∙◌, arith}
-use Rattle.icu_normalizer_core.specs.declared.properties.Decomposed.{Decomposed}
+use Rattle.icu_normalizer_core.specs.declared.decomposed.Decomposed.{Decomposed}
 use Rattle.icu_normalizer_core.specs.BuiltIn.{built_in_step}
 use Rattle.icu_normalizer_core.specs.Properties.{mapped_to}
 use Rattle.icu_normalizer_core.proofs.BuiltInFacts.{letters_short}
