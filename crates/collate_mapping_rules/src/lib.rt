@@ -2,9 +2,9 @@
 //! Lines count from 0 here.
 #![tactic(auto)]
 
-pub mod lines;
-pub mod full_lists;
-pub mod loops;
 pub mod below_marks;
+pub mod full_lists;
+pub mod lines;
+pub mod loops;
 pub mod marks;
 pub mod pairs;

@@ -7,5 +7,5 @@ pub mod digits;
 pub mod laws;
 pub mod named;
 pub mod prefixes;
-pub mod settings;
 pub mod recorded_texts;
+pub mod settings;

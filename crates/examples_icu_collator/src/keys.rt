@@ -18,11 +18,11 @@ ghost use Rattle.examples_icu_collator.specs.Letters.{letters, digits_collation,
 ghost use Rattle.icu_collator.specs.Levels.{levels_of, levels_of_text};
 ghost use Rattle.icu_collator.specs.SoundCollation.{AreSoundLevels, IsSoundCollation};
 
-use icu_collator::laws::{equal_lists_are_equivalent, equivalent_texts_are_equal};
 use icu_collator::laws::keys::{
     equal_keys_are_of_equal_texts, equal_keys_at_identical_are_of_equivalent_texts,
     keys_order_as_levels, keys_order_as_texts, texts_have_sound_levels,
 };
+use icu_collator::laws::{equal_lists_are_equivalent, equivalent_texts_are_equal};
 use icu_collator_core::laws::texts::{ranges_have_sound_primaries, texts_have_sound_elements};
 
 // The records meet what the laws ask for, so the laws speak of them.

@@ -1,9 +1,9 @@
 //! The comparison of two texts.
 
-mod iterators;
+mod encoded;
 mod flat;
+mod iterators;
 mod levels;
 mod orders;
-mod encoded;
 
 pub(crate) use encoded::{common_place, compare_texts};

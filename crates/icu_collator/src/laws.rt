@@ -86,11 +86,11 @@ pub fn normalising_first_keeps_order()
         → collation_order collation options a (composed collation.canonical b) ≡ collation_order collation options a b }
 {}
 
-pub mod numbers;
 pub mod boundaries;
 pub mod collators;
 pub mod keys;
 pub mod levels;
+pub mod numbers;
 pub mod same;
 pub mod sinks;
 pub mod tables;

@@ -3,10 +3,11 @@
 //! `CollationKeySink`. The laws are functions whose contracts state them; begin with `laws::order_is_total`.
 #![tactic(auto)]
 
+mod common_front;
 mod compare;
 mod comparison;
 pub mod elements;
-mod common_front;
+mod encodings;
 mod key_bytes;
 pub mod laws;
 mod levels;
@@ -15,7 +16,6 @@ pub mod preferences;
 pub mod provider;
 mod read_texts;
 mod sinks;
-mod encodings;
 
 pub use comparison::{Collator, CollatorBorrowed, CollatorError};
 pub use icu_collator_types::options::CollatorPreferences;

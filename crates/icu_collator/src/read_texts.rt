@@ -4,9 +4,9 @@ ghost use Rattle.std.specs.Prelude.{◌≡◌};
 
 mod decomposed;
 
+pub(crate) use decomposed::{is_unshifted, numeric_lead, read_text};
 use icu_collator_types::elements::CollationElement;
 use smallvec::SmallVec;
-pub(crate) use decomposed::{is_unshifted, numeric_lead, read_text};
 
 /// What is read of a text, as a comparison looks at it.
 #[derive(Clone, Copy)]

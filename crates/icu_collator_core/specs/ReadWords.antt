@@ -4,7 +4,7 @@ use Rattle.std.specs.Option.{unwrap_or}
 use lib.Utf8.{scalars}
 use Rattle.icu_normalizer_core.specs.BuiltIn.{is_jamo}
 use Rattle.icu_collator_types.specs.declared.elements.Element.{Element}
-use Rattle.icu_collator_core.specs.declared.reading.counting_words.CountingWord.{CountingWord}
+use Rattle.icu_collator_core.specs.declared.table_words.counting_words.CountingWord.{CountingWord}
 use Rattle.icu_collator_core.specs.Weights.{Weights}
 use Rattle.icu_collator_core.specs.Defaults.{implicit_primary, jamo_primary, primary_element, special_primary}
 use Rattle.icu_collator_core.specs.Pools.{elements_of_word}

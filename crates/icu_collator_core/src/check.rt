@@ -1,12 +1,9 @@
 //! The check of collation tables: a function for each kind of fault.
 
 pub(crate) mod apart;
-pub(crate) mod refused_characters;
 pub(crate) mod context_rules;
-pub(crate) mod contexts;
 pub(crate) mod digits;
 pub(crate) mod faults;
-pub(crate) mod fields;
 pub(crate) mod flags;
 pub(crate) mod forms;
 pub(crate) mod keys;
@@ -14,6 +11,7 @@ pub(crate) mod layers;
 pub(crate) mod places;
 pub(crate) mod prefixes;
 pub(crate) mod records;
+pub(crate) mod refused_characters;
 pub(crate) mod runs;
 pub(crate) mod suffixes;
 pub(crate) mod values;

@@ -14,10 +14,10 @@ ghost use Rattle.icu_collator_core.specs.UnsafeCharacters.{IsUnsafe, IsUnsafeIts
 
 use crate::check::TableFault;
 use crate::check::faults::judge;
-use crate::flat::notes::{FlatNote, flat_notes};
 use crate::collation_notes::{CollationNote, collation_notes};
+use crate::flat::notes::{FlatNote, flat_notes};
+use crate::reading::checked_words::checked_word;
 use crate::reading::next::alone_at;
-use crate::reading::counting_words::checked_word;
 use crate::tables::CollationTables;
 use crate::unsafe_characters::{holds, unsafe_by_records};
 use icu_collator_types::elements::CollationElement;

@@ -5,12 +5,13 @@
 pub mod check;
 mod check_weights;
 pub mod checked;
+mod collation_notes;
 pub mod elements;
 pub mod flat;
 pub mod laws;
-mod collation_notes;
 pub mod provider;
 mod reading;
+mod table_words;
 pub mod tables;
 mod unsafe_characters;
 pub mod weight_rules;

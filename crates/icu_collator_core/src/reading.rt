@@ -1,9 +1,9 @@
 //! The reading of a text's elements: the word of a character, and what stands with it in the tables.
 
 pub(crate) mod alone;
+pub(crate) mod checked_words;
 pub(crate) mod decomposing;
 pub(crate) mod digits;
-pub(crate) mod word_elements;
 pub(crate) mod joining;
 pub(crate) mod marks;
 pub(crate) mod next;
@@ -14,4 +14,3 @@ pub(crate) mod reader;
 pub(crate) mod runs;
 pub(crate) mod steps;
 pub(crate) mod suffixes;
-pub(crate) mod counting_words;

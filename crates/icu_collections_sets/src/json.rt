@@ -1,7 +1,7 @@
 //! Sets of code points, and of code points and strings, as JSON values.
+mod code_point_list;
 mod error;
 pub mod laws;
-mod code_point_list;
 mod spelling;
 mod string_list;
 

@@ -142,10 +142,7 @@ fn note_at(basis: FormData<'_>, code: u32) -> FormNote
 }
 
 /// The notes of the low characters, in their order.
-pub(crate) fn form_notes(
-    alloc: Global,
-    basis: FormData<'_>,
-) -> Result<Vec<FormNote>, AllocError>
+pub(crate) fn form_notes(alloc: Global, basis: FormData<'_>) -> Result<Vec<FormNote>, AllocError>
     ensures { IfOk result (λ low. AreLow (form_meaning basis.entry) low.items) }
 {
     let mut low = Vec::with_capacity(alloc, LOW_END as usize)?;

@@ -4,8 +4,8 @@
 
 pub mod composing;
 pub mod decomposing;
-pub mod laws;
 mod form_notes;
+pub mod laws;
 mod owned_data;
 pub mod sinks;
 mod text_sources;

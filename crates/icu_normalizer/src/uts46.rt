@@ -1,8 +1,8 @@
 //! What is done with the characters of domain names (UTS 46). Begin with `Uts46Mapper::try_new`.
 
 mod borrowed;
-mod mapped_characters;
 mod iter;
+mod mapped_characters;
 mod mapped_list;
 mod mapper;
 mod table;

@@ -2,23 +2,23 @@
 
 mod borrowed;
 mod builder;
+pub(crate) mod canonical_words;
+mod character_data;
 pub(crate) mod check;
 mod data;
 pub(crate) mod full_list;
 mod packing;
 mod pairs;
-mod character_data;
 mod search;
 pub(crate) mod steady;
 mod steps;
 pub(crate) mod tables;
-pub(crate) mod canonical_words;
 
 pub use borrowed::CanonicalBorrowed;
 pub use builder::{
     CanonicalDataBuildError, CanonicalDataBuilder, GivenClass, GivenCompatibility, GivenMapping,
 };
+pub use character_data::Reading;
 pub use data::{CanonicalData, CanonicalDataError};
 pub use full_list::FullList;
-pub use character_data::Reading;
 pub use tables::{CanonicalFault, CanonicalTables};

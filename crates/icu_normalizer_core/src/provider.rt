@@ -9,14 +9,14 @@ ghost use Rattle.icu_normalizer_core.specs.declared.provider.provider_lists.Uts4
 ghost use Rattle.icu_normalizer_core.specs.Loading.{MemoryAside};
 
 mod error;
-mod provider_lists;
 mod load;
+mod provider_lists;
 
 pub use error::{DataError, TableName};
 use icu_codepointtrie::CodePointTrie;
 use icu_packed_vector::PackedVec;
-pub use provider_lists::{NfdLists, NfkdLists, Uts46Tables};
 pub use load::{load_canonical, load_canonical_data, load_compatibility_data};
+pub use provider_lists::{NfdLists, NfkdLists, Uts46Tables};
 use std::alloc::Global;
 
 /// A source of tables. Each call gives one of them, not yet checked, or says why it can't be had: it is missing

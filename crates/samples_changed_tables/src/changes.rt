@@ -1,10 +1,10 @@
 //! Changes of tables, one at a time: a list that is cut by its last item, and a bit that is inverted.
 
-use samples_compiled::held::HeldCollation;
 use icu_codepointtrie::{CodePointTrie, CodePointTrieTomlError};
 use icu_collator_core::tables::{CollationData, CollationTables};
 use icu_normalizer_core::canonical::CanonicalTables;
 use icu_packed_vector::{PackedItem, PackedVec, PackedVecError};
+use samples_compiled::held::HeldCollation;
 use std::alloc::{AllocError, Global};
 
 /// One of the lists of a trie, or beside it.

@@ -1,12 +1,12 @@
 //! The tables that are changed: those that the worked rows are over, and more, in which no list is empty.
 
 use crate::changed_words::with_word;
-use samples_compiled::compiled::held_tables;
-use samples_compiled::held::HeldCollation;
 use icu_codepointtrie::TrieType;
 use icu_collator_core::tables::CollationTables;
 use icu_normalizer_core::canonical::CanonicalTables;
 use icu_packed_vector::PackedVec;
+use samples_compiled::compiled::held_tables;
+use samples_compiled::held::HeldCollation;
 use std::alloc::Global;
 
 /// The records of the worked rows.

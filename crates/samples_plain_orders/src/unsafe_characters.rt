@@ -117,7 +117,13 @@ fn push_of_data(
 /// The characters that stand behind the first of a recorded text, or have a recorded prefix.
 pub fn unsafe_by_records(alloc: Global, both: Both<'_>) -> Option<Vec<char>> {
     let mut unsafe_characters = Vec::new(alloc);
-    push_of_data(alloc, both, &both.collation.root, true, &mut unsafe_characters)?;
+    push_of_data(
+        alloc,
+        both,
+        &both.collation.root,
+        true,
+        &mut unsafe_characters,
+    )?;
     if let Some(tailoring) = &both.collation.tailoring {
         push_of_data(alloc, both, tailoring, false, &mut unsafe_characters)?;
     }
@@ -130,8 +136,16 @@ fn is_unsafe_by_records(both: Both<'_>, unsafe_characters: &[char], c: char) -> 
 }
 
 /// Whether no reading begins at a character.
-pub fn is_plainly_unsafe(alloc: Global, both: Both<'_>, unsafe_characters: &[char], c: char) -> Option<bool> {
+pub fn is_plainly_unsafe(
+    alloc: Global,
+    both: Both<'_>,
+    unsafe_characters: &[char],
+    c: char,
+) -> Option<bool> {
     let list = decomposed(alloc, both.canonical, &[c])?;
     let first = *list.first()?;
-    Some(is_unsafe_by_records(both, unsafe_characters, c) || is_unsafe_by_records(both, unsafe_characters, first))
+    Some(
+        is_unsafe_by_records(both, unsafe_characters, c)
+            || is_unsafe_by_records(both, unsafe_characters, first),
+    )
 }

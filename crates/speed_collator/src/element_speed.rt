@@ -1,11 +1,11 @@
 //! How fast elements are read, and tables checked.
 
 use crate::clock::{a_second, nanoseconds, time_between};
-use samples_compiled::compiled::{checked_tables, tables_of};
 use icu_codepointtrie::TrieType;
 use icu_collator_core::checked::CheckedTables;
 use icu_collator_core::elements::CollationElements;
 use icu_collator_types::elements::CollationElement;
+use samples_compiled::compiled::{checked_tables, tables_of};
 use std::alloc::Global;
 
 /// The nanoseconds that a check of the tables of a records file takes.

@@ -3,10 +3,10 @@
 use crate::clock::{a_second, nanoseconds};
 use crate::names::{Name, in_order, unit_lines, units};
 use collate_choice::Choice;
-use samples_compiled::compiled::held_tables;
-use samples_compiled::held::HeldCollation;
 use icu_codepointtrie::TrieType;
 use icu_collator::{Collator, CollatorBorrowed};
+use samples_compiled::compiled::held_tables;
+use samples_compiled::held::HeldCollation;
 use std::alloc::Global;
 use std::cmp::Ordering;
 

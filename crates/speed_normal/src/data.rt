@@ -5,8 +5,8 @@
 use icu_codepointtrie::{CodePointTrieBuilder, TrieType};
 use icu_normalizer_core::canonical::CanonicalDataBuilder;
 use icu_normalizer_core::provider::Uts46Tables;
-use samples_icu_normalizer::held::{Held, provider_of};
 use icu_packed_vector::PackedVec;
+use samples_icu_normalizer::held::{Held, provider_of};
 use std::alloc::Global;
 
 /// The greatest number of characters that one is mapped to.

@@ -1,7 +1,7 @@
 //! What normalisers answer of many texts.
 
-use crate::task::{Question, Task};
 use crate::line_texts::{Text, byte_lines, known_lines, unit_lines, units};
+use crate::task::{Question, Task};
 use icu_normalizer::composing::{ComposingNormalizer, ComposingNormalizerBorrowed};
 use icu_normalizer::decomposing::{DecomposingNormalizer, DecomposingNormalizerBorrowed};
 use icu_normalizer::uts46::Uts46Mapper;

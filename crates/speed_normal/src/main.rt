@@ -11,9 +11,9 @@
 
 mod data;
 mod forms;
+mod line_texts;
 mod mapper;
 mod task;
-mod line_texts;
 
 use data::provider;
 use forms::{load, run_form};

@@ -9,10 +9,10 @@ mod failing;
 #[cfg(test)]
 mod names;
 #[cfg(test)]
+mod option_words;
+#[cfg(test)]
 mod reloads;
 #[cfg(test)]
 mod runs;
-#[cfg(test)]
-mod option_words;
 #[cfg(test)]
 mod worked;

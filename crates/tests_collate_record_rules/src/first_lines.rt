@@ -4,8 +4,8 @@ use collate_lines::record::{Layer, Record, Setting};
 use collate_record_rules::decomposed::first_undecomposed;
 use collate_record_rules::digits::{first_bad_digit, first_bad_dotted};
 use collate_record_rules::prefixes::first_bad_prefix;
-use collate_record_rules::settings::first_bad_setting;
 use collate_record_rules::recorded_texts::{first_lacking_shorter, first_late_starter};
+use collate_record_rules::settings::first_bad_setting;
 use std::alloc::{AllocError, Global};
 use std::test::Fail;
 

@@ -9,16 +9,16 @@
 //! - `place TEXT TEXT`: from which place two texts are read: `0`, `1 to 9`, or `at least 10`.
 //! - `options?`: the options that the collator goes by.
 
+use crate::asked_texts::{bytes, shown};
 use crate::both::{Both, held_both, print_answers};
 use crate::keys::key_of;
 use crate::options::{options_of, preferences_of};
 use crate::orders::order_of;
 use crate::script::halves;
 use crate::sinks::sink_of;
-use crate::asked_texts::{bytes, shown};
-use samples_compiled::held::HeldCollation;
 use icu_collator::{Collator, CollatorBorrowed};
 use icu_collator_types::options::{CollatorOptions, CollatorPreferences};
+use samples_compiled::held::HeldCollation;
 use std::alloc::Global;
 
 /// The answer how two texts order.

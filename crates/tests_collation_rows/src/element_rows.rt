@@ -5,15 +5,15 @@
 //! - `unsafe CHARACTER..`: whether each is one at which no reading begins.
 //! - `compose CHARACTER CHARACTER`: the character that two compose to, or a stroke.
 
+use crate::asked_texts::characters;
 use crate::both::print_answers;
 use crate::script::halves;
-use crate::asked_texts::characters;
+use icu_codepointtrie::TrieType;
+use icu_collator_core::checked::CheckedTables;
 use samples_compiled::compiled::checked_tables;
 use samples_compiled::plain::plain_elements;
 use samples_compiled::plain::recorded::Tables;
 use samples_compiled::read::read_elements;
-use icu_codepointtrie::TrieType;
-use icu_collator_core::checked::CheckedTables;
 use std::alloc::Global;
 
 /// Elements, or a stroke for none.

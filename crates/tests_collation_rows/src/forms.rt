@@ -1,11 +1,11 @@
 //! What normalisers are asked, a line each: `nfc ENCODING TEXT`, the composed form of a text, and `nfd ENCODING TEXT`, the
 //! decomposed one. In `text` it is what `normalize` answers, in `utf8` and `utf16` what a sink is given.
 
-use crate::both::{Both, held_both, print_answers};
 use crate::asked_texts::{bytes, shown, units};
-use samples_compiled::held::HeldCollation;
+use crate::both::{Both, held_both, print_answers};
 use icu_normalizer::composing::{ComposingNormalizer, ComposingNormalizerBorrowed};
 use icu_normalizer::decomposing::{DecomposingNormalizer, DecomposingNormalizerBorrowed};
+use samples_compiled::held::HeldCollation;
 use std::alloc::Global;
 
 /// Units in hexadecimal.

@@ -21,6 +21,7 @@
 #![tactic(auto)]
 
 mod asked;
+mod asked_texts;
 mod both;
 mod element_rows;
 mod files;
@@ -31,7 +32,6 @@ mod orders;
 mod provider;
 mod script;
 mod sinks;
-mod asked_texts;
 
 use script::answer_script;
 use std::io;

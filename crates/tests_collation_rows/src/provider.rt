@@ -11,13 +11,13 @@
 
 use crate::asked::ask_over;
 use crate::both::{Both, held_both, print_answers};
-use samples_compiled::held::{HeldCollation, Lacking};
 use icu_codepointtrie::{CodePointTrie, CodePointTrieBuilder, TrieType};
 use icu_collator::Collator;
 use icu_collator_core::tables::{CollationJamo, CollationReordering, CollationTables};
 use icu_collator_types::options::{CollatorOptions, CollatorPreferences};
 use icu_normalizer_core::canonical::CanonicalTables;
 use icu_packed_vector::PackedVec;
+use samples_compiled::held::{HeldCollation, Lacking};
 use std::alloc::Global;
 
 /// The number that a word is.

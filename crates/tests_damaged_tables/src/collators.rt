@@ -1,15 +1,15 @@
 //! What a collator over a provider answers, beside what its tables mean.
 
 use crate::answers::{Answer, answered};
-use samples_compiled::held::HeldCollation;
-use samples_compiled::plain::plain_elements;
-use samples_compiled::plain::recorded::Tables;
-use samples_compiled::read::read_elements;
 use icu_collator::{Collator, CollatorBorrowed, CollatorError};
 use icu_collator_core::checked::CheckedTables;
 use icu_collator_core::tables::CollationTables;
 use icu_collator_types::options::{CollatorOptions, CollatorPreferences, Strength};
 use icu_normalizer_core::canonical::{CanonicalData, CanonicalTables};
+use samples_compiled::held::HeldCollation;
+use samples_compiled::plain::plain_elements;
+use samples_compiled::plain::recorded::Tables;
+use samples_compiled::read::read_elements;
 use samples_plain_forms::canonical::decomposed;
 use samples_plain_forms::encoded_texts::{
     Encoded, LATIN1_TEXTS, TEXTS, characters, in_each_encoding, latin1_characters,
@@ -194,7 +194,8 @@ impl Asked<'_> {
             collation: self.tables.tables(),
         };
         text.chars().all(|c| {
-            is_plainly_unsafe(self.alloc, both, unsafe_characters, c) == Some(self.tables.is_unsafe(c))
+            is_plainly_unsafe(self.alloc, both, unsafe_characters, c)
+                == Some(self.tables.is_unsafe(c))
         })
     }
 

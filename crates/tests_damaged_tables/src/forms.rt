@@ -1,11 +1,11 @@
 //! What normalisers answer over a provider, beside what its canonical tables mean.
 
 use crate::answers::{Answer, answered};
-use samples_compiled::held::HeldCollation;
 use icu_normalizer::composing::{ComposingNormalizer, ComposingNormalizerBorrowed};
 use icu_normalizer::decomposing::{DecomposingNormalizer, DecomposingNormalizerBorrowed};
 use icu_normalizer_core::canonical::CanonicalTables;
 use icu_normalizer_core::provider::DataError;
+use samples_compiled::held::HeldCollation;
 use samples_plain_forms::canonical::{composed, decomposed};
 use samples_plain_forms::encoded_texts::{Encoded, TEXTS, characters, in_each_encoding};
 use std::alloc::Global;

@@ -16,13 +16,13 @@ mod collators;
 mod forms;
 
 use answers::{Answer, Counts};
-use samples_changed_tables::changes::{CanonicalField, Change, FIELDS, Field, NotChanged, apply};
-use samples_changed_tables::samples::{full_tables, letters};
-use samples_changed_tables::changed_words::{CHARACTERS, with_bit};
 use collators::collator_answer;
-use samples_compiled::held::HeldCollation;
 use forms::normalisers_answer;
 use icu_codepointtrie::TrieType;
+use samples_changed_tables::changed_words::{CHARACTERS, with_bit};
+use samples_changed_tables::changes::{CanonicalField, Change, FIELDS, Field, NotChanged, apply};
+use samples_changed_tables::samples::{full_tables, letters};
+use samples_compiled::held::HeldCollation;
 use std::alloc::Global;
 use std::fmt::Display;
 use std::{env, io};

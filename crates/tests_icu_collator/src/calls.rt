@@ -1,10 +1,10 @@
 //! With memory at hand each call answers.
 
-use samples_compiled::compiled::held_tables;
-use samples_compiled::held::HeldCollation;
 use icu_codepointtrie::TrieType;
 use icu_collator::{Collator, CollatorBorrowed};
 use icu_collator_types::options::{CollatorOptions, CollatorPreferences};
+use samples_compiled::compiled::held_tables;
+use samples_compiled::held::HeldCollation;
 use std::alloc::Global;
 use std::cmp::Ordering;
 

@@ -7,10 +7,10 @@ ghost use Rattle.std.proofs.lemmas.List.{append-nil};
 ghost use Rattle.icu_normalizer.specs.Sinks.{AddsPrefix};
 
 use crate::calls::{KEY, LETTERS};
-use samples_compiled::compiled::checked_tables;
 use icu_codepointtrie::TrieType;
 use icu_collator::options::CollatorOptions;
 use icu_collator::{CollationKeySink, Collator, CollatorBorrowed, CollatorPreferences, KeyError};
+use samples_compiled::compiled::checked_tables;
 use std::alloc::Global;
 
 /// Why a sink takes no more.

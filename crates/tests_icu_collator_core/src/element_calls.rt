@@ -1,11 +1,11 @@
 //! The calls of the reader of elements, in their order.
 
-use samples_compiled::compiled::checked_tables;
 use icu_codepointtrie::TrieType;
 use icu_collator_core::checked::CheckedTables;
 use icu_collator_core::elements::CollationElements;
 use icu_collator_core::elements::whole_texts::{decomposed_list, list_elements};
 use icu_collator_types::elements::CollationElement;
+use samples_compiled::compiled::checked_tables;
 use std::alloc::Global;
 use std::str::Chars;
 

@@ -1,8 +1,8 @@
 //! What checked tables tell of a character at once, for the fast ways of a comparison.
 
-use samples_compiled::compiled::checked_tables;
 use icu_codepointtrie::TrieType;
 use icu_collator_core::checked::CheckedTables;
+use samples_compiled::compiled::checked_tables;
 use std::alloc::Global;
 
 /// Records of four letters; the third stands behind the first as its suffix too, and the fourth behind the second as what

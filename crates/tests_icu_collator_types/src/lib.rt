@@ -4,6 +4,6 @@
 #[cfg(test)]
 mod bit_field;
 #[cfg(test)]
-mod word_calls;
-#[cfg(test)]
 mod resolved;
+#[cfg(test)]
+mod word_calls;

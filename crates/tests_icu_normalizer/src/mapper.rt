@@ -7,9 +7,9 @@ use icu_codepointtrie::{
 use icu_normalizer::uts46::{Uts46Mapper, Uts46MapperBorrowed};
 use icu_normalizer_core::canonical::CanonicalFault;
 use icu_normalizer_core::provider::{DataError, TableName, Uts46Tables};
+use icu_packed_vector::PackedVec;
 use samples_icu_normalizer::held::{Held, letters, provider_of};
 use samples_icu_normalizer::tables::{PAIRS, STEPS, tables};
-use icu_packed_vector::PackedVec;
 use std::alloc::{AllocError, Global};
 
 /// The words of a space, A, a soft hyphen, A with a diaeresis, alpha and a ligature: disallowed, mapped, ignored, and

@@ -3,8 +3,8 @@
 use icu_normalizer_core::canonical::{
     CanonicalData, CanonicalDataError, CanonicalFault, CanonicalTables,
 };
-use samples_icu_normalizer::tables::{PAIRS, STEPS, pair, tables};
 use icu_packed_vector::PackedVec;
+use samples_icu_normalizer::tables::{PAIRS, STEPS, pair, tables};
 use std::alloc::Global;
 
 /// Whether tables are refused for this, or accepted where it is `None`.

@@ -3,8 +3,8 @@
 use icu_codepointtrie::{CodePointTrie, CodePointTrieHeader, TrieType};
 use icu_normalizer_core::canonical::{CanonicalData, CanonicalDataError, CanonicalFault, FullList};
 use icu_normalizer_core::compatibility::{CompatibilityBorrowed, CompatibilityData, NfkdTables};
-use samples_icu_normalizer::tables::{PAIRS, STEPS, WORDS, tables, trie};
 use icu_packed_vector::PackedVec;
+use samples_icu_normalizer::tables::{PAIRS, STEPS, WORDS, tables, trie};
 use std::alloc::{AllocError, Global};
 
 /// The words that are added to the canonical ones: a character in place of another, two, three, and eight in

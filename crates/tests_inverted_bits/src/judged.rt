@@ -1,14 +1,14 @@
 //! What becomes of tables: they are refused, or their texts are read.
 
-use crate::decomposed::slowly_decomposed;
 use crate::byte_lists::Lists;
-use samples_compiled::plain::plain_elements;
-use samples_compiled::plain::recorded::Tables;
-use samples_compiled::read::read_elements;
+use crate::decomposed::slowly_decomposed;
 use icu_collator_core::check::TableFault;
 use icu_collator_core::checked::CheckedTables;
 use icu_collator_core::tables::CollationTables;
 use icu_normalizer_core::canonical::{CanonicalBorrowed, CanonicalData, CanonicalDataError};
+use samples_compiled::plain::plain_elements;
+use samples_compiled::plain::recorded::Tables;
+use samples_compiled::read::read_elements;
 use std::alloc::Global;
 
 /// Texts that read all that the good tables say.

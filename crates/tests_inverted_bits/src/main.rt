@@ -8,15 +8,15 @@
 //! in `tests_inverted_bits all`, all have all their bits changed, which takes some minutes.
 #![tactic(auto)]
 
+mod byte_lists;
 mod decomposed;
 mod good;
 mod judged;
-mod byte_lists;
 mod tables;
 
+use byte_lists::{Change, Lists, PARTS, Part};
 use good::good_lists;
 use judged::{Answer, answer_of};
-use byte_lists::{Change, Lists, PARTS, Part};
 use std::alloc::Global;
 use std::{env, io};
 

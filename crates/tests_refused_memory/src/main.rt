@@ -5,13 +5,13 @@
 //! memory once prints one line more than a run with ample memory (`tools/refuse_memory.py`).
 #![tactic(auto)]
 
+mod asked_texts;
 mod forms;
 mod keys;
 mod mapper;
 mod names;
 mod orders;
 mod tables;
-mod asked_texts;
 mod told;
 
 use mapper::tell_mapper;

@@ -5,8 +5,8 @@ use crate::told::{gives_all, made};
 use icu_codepointtrie::{CodePointTrieBuilder, TrieType};
 use icu_normalizer::uts46::{Uts46Mapper, Uts46MapperBorrowed};
 use icu_normalizer_core::provider::Uts46Tables;
-use samples_icu_normalizer::held::{Held, letters};
 use icu_packed_vector::PackedVec;
+use samples_icu_normalizer::held::{Held, letters};
 use std::alloc::{AllocError, Global};
 
 /// A table by which 1 is ignored and `c` is mapped to two letters.

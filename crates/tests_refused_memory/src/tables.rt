@@ -1,9 +1,9 @@
 //! What is made of records: their tables, and collators and normalisers over these.
 
+use crate::asked_texts::RECORDS;
 use crate::forms::tell_forms;
 use crate::keys::tell_keys;
 use crate::orders::tell_orders;
-use crate::asked_texts::RECORDS;
 use crate::told::made;
 use collate_provider::Provider;
 use collate_records::compile::compile;

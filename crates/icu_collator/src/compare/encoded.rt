@@ -7,9 +7,11 @@ ghost use Rattle.icu_collator.specs.Fronts.{PartAt};
 ghost use Rattle.icu_collator.specs.Order.{collation_order};
 ghost use Rattle.icu_collator.specs.ReadingPlaces.{IsCommonPlace};
 
-use super::iterators::compare_characters;
 use super::flat::compare_flat;
-use crate::common_front::{FirstDifference, behind, first_difference, order_by_difference, reading_place};
+use super::iterators::compare_characters;
+use crate::common_front::{
+    FirstDifference, behind, first_difference, order_by_difference, reading_place,
+};
 use crate::encodings::Characters;
 use icu_collator_core::checked::CheckedTables;
 use icu_collator_types::options::ResolvedCollatorOptions;

@@ -15,9 +15,9 @@ ghost use Rattle.icu_collator.specs.declared.compare.flat.Meeting.TheVariants.{A
 
 use super::orders::compare_from_secondaries;
 use crate::common_front::behind;
+use crate::encodings::Characters;
 use crate::levels::weights::reordered;
 use crate::read_texts::{ReadText, is_unshifted, numeric_lead};
-use crate::encodings::Characters;
 use icu_collator_core::checked::CheckedTables;
 use icu_collator_core::flat::{FlatElements, FlatStep};
 use icu_collator_types::options::{ResolvedCollatorOptions, Strength};

@@ -13,10 +13,10 @@ ghost use Rattle.icu_collator.specs.Sinks.{IsRefusedKey};
 
 use super::buffer::KeyBytes;
 use super::whole::{write_unshifted_key, write_whole_key};
+use crate::encodings::Characters;
 use crate::read_texts::{is_unshifted, numeric_lead, read_text};
 use crate::sinks::whole::write_key;
 use crate::sinks::{CollationKeySink, KeyError};
-use crate::encodings::Characters;
 use icu_collator_core::checked::CheckedTables;
 use icu_collator_core::elements::whole_texts::decomposed_list;
 use icu_collator_core::flat::FlatElements;

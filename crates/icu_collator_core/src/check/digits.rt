@@ -4,7 +4,7 @@ ghost use Rattle.std.specs.Prelude.{◌≡◌, is_some};
 ghost use Rattle.icu_normalizer_core.specs.BorrowedMeaning.{borrowed_meaning};
 ghost use Rattle.icu_collator_core.specs.TableMeaning.{weights_of};
 
-use crate::reading::counting_words::counting_word;
+use crate::table_words::counting_words::counting_word;
 use crate::tables::CollationTables;
 use icu_normalizer_core::canonical::CanonicalBorrowed;
 

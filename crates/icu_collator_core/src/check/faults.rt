@@ -6,10 +6,10 @@ ghost use Rattle.icu_collator_core.specs.Acceptance.{HaveSoundWords, IsAccepted,
 
 use super::TableFault;
 use super::apart::are_weights_apart;
-use super::refused_characters::first_trie_fault;
 use super::context_rules::first_context_fault;
 use super::forms::first_word_fault;
 use super::places::first_index_fault;
+use super::refused_characters::first_trie_fault;
 use super::weights::first_weight_fault;
 use crate::check_weights::{
     are_sound_diacritics, are_sound_special_primaries, has_sound_reordering, jamo_fault,

@@ -7,13 +7,15 @@ ghost use Rattle.icu_collator_core.specs.TableFaults.{AllPassIn, HasWord, IsFirs
 ghost use Rattle.icu_collator_core.specs.TableMeaning.{pools_of};
 ghost use Rattle.icu_collator_core.specs.WordForms.{states_element, is_list_of_words, is_other_own, is_own_word, is_digit_word, is_fallback, ValuesPass, IsContraction, IsUnprefixedWord, IsPrefixed, IsWord, states_primary, keeps_special};
 
-use super::refused_characters::{CharacterTest, first_refused};
-use super::contexts::default_of;
-use super::fields::{digit_value, has_form, index_of, is_special, length_of, word_at};
 use super::layers::Layer;
+use super::refused_characters::{CharacterTest, first_refused};
 use super::runs::behind_unrecorded;
 use super::values::{ValueTest, values_pass};
-use crate::elements::special_primary;
+use crate::table_words::contexts::default_of;
+use crate::table_words::defaults::special_primary;
+use crate::table_words::fields::{
+    digit_value, has_form, index_of, length_of, states_element, word_at,
+};
 use crate::tables::{CollationData, CollationTables};
 use icu_collator_types::elements::{CollationElement, CollationElement32, Tag};
 use icu_packed_vector::PackedVec;
@@ -21,13 +23,6 @@ use std::alloc::{AllocError, Global};
 
 /// The word by which a tailoring leaves a character to the root.
 const FALLBACK_CE32: u32 = 0xc0;
-
-/// Whether a word states an element, or none.
-pub(crate) fn states_element(word: u32) -> bool
-    ensures { result ≡ states_element word }
-{
-    !is_special(word) || has_form(word, Tag::LongPrimary) || has_form(word, Tag::LongSecondary)
-}
 
 /// Whether all words of a list from a place on state elements, so many of them, or as many as there are.
 fn all_state_elements(ce32s: &PackedVec<'_, u32>, place: usize, count: usize) -> bool

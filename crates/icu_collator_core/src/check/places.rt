@@ -6,12 +6,12 @@ ghost use Rattle.icu_collator_core.specs.TableMeaning.{pools_of};
 ghost use Rattle.icu_collator_core.specs.WordForms.{ValuesPass};
 ghost use Rattle.icu_collator_core.specs.WordPlaces.{has_list, has_items, has_digit_word, has_context, IsContractionInside, IsUnprefixedInside, IsPrefixInside, IsInside};
 
-use super::refused_characters::{CharacterTest, first_refused};
-use super::contexts::default_of;
-use super::fields::{has_tag, index_of, length_of, word_at};
 use super::layers::Layer;
+use super::refused_characters::{CharacterTest, first_refused};
 use super::runs::behind_unrecorded;
 use super::values::{ValueTest, values_pass};
+use crate::table_words::contexts::default_of;
+use crate::table_words::fields::{has_tag, index_of, length_of, word_at};
 use crate::tables::{CollationData, CollationTables};
 use icu_collator_types::elements::Tag;
 use std::alloc::{AllocError, Global};

@@ -10,11 +10,11 @@ ghost use Rattle.icu_collator_core.specs.Pools.{index_of, trie_of, unprefixed_wo
 ghost use Rattle.icu_collator_core.specs.TableMeaning.{pools_of, recorded_by};
 ghost use Rattle.icu_collator_core.specs.TextFolds.{says_elements};
 
-use super::walks::{TextTest, keys_pass, units_of};
-use super::weights::lone_word;
+use super::walks::{TextTest, keys_pass};
 use crate::check_weights::has_other_elements;
-use crate::reading::word_elements::has_elements;
-use crate::reading::suffixes::word_of;
+use crate::table_words::contexts::{units_of, word_of};
+use crate::table_words::lone_words::lone_word;
+use crate::table_words::word_elements::has_elements;
 use crate::tables::{CollationData, CollationSpecialPrimaries};
 use icu_char16trie::{Char16Trie, CursorPlace, TrieResult};
 use icu_normalizer_core::canonical::CanonicalBorrowed;

@@ -8,7 +8,7 @@ ghost use Rattle.icu_char16trie.specs.UnitGrammar.{IsUnitTrie};
 ghost use Rattle.icu_collator_core.specs.Pools.{trie_of};
 ghost use Rattle.icu_collator_core.specs.WordForms.{EntriesPass, by_word, keeps_nothing};
 
-use super::walks::units_of;
+use crate::table_words::contexts::units_of;
 use icu_char16trie::{KeyFold, fold_keys};
 use icu_packed_vector::PackedVec;
 use std::alloc::{AllocError, Global};

@@ -11,8 +11,8 @@ ghost use Rattle.icu_collator_core.specs.Pools.{trie_of};
 ghost use Rattle.icu_collator_core.specs.declared.check.walks.Reading.{Reading};
 ghost use Rattle.icu_collator_core.specs.declared.check.walks.Reading.TheVariants.{Half, Whole};
 
-use super::contexts::trie_of;
 use super::keys::{is_upper_half, joined_halves, single_character};
+use crate::table_words::contexts::{trie_of, units_of};
 use icu_char16trie::{KeyFold, fold_keys};
 use icu_packed_vector::PackedVec;
 use std::alloc::{AllocError, Global};
@@ -115,18 +115,6 @@ impl<'t, T: TextTest> KeyFold for UnitFold<'t, T> {
             (Reading::Broken, Reading::Broken) => true,
             _ => false,
         }
-    }
-}
-
-/// The units of the trie of the context at a place, and all behind it.
-pub(crate) fn units_of<'c>(contexts: &'c PackedVec<'_, u16>, place: usize) -> PackedVec<'c, u16>
-    requires { place < 2 ^ 32 }
-    ensures units { result ≡ trie_of contexts.now place }
-    ensures bound { length contexts.now < 2 ^ 64 }
-{
-    match trie_of(contexts, place) {
-        Some(units) => units,
-        None => contexts.subslice(0..0).unwrap(),
     }
 }
 

@@ -9,43 +9,16 @@ ghost use Rattle.icu_collator_core.specs.WeightFaults.{is_sound_in_context};
 ghost use Rattle.icu_collator_core.specs.WordForms.{ValuesPass};
 ghost use Rattle.icu_collator_core.specs.WordWeights.{HasSoundWords, HasWeights};
 
-use super::refused_characters::{CharacterTest, first_refused};
-use super::contexts::default_of;
-use super::fields::{has_tag, index_of, word_at};
 use super::layers::Layer;
+use super::refused_characters::{CharacterTest, first_refused};
 use super::runs::behind_unrecorded;
 use super::values::{ValueTest, values_pass};
 use crate::check_weights::{is_sound_word, own_primary};
+use crate::table_words::fields::{has_tag, index_of};
+use crate::table_words::lone_words::{lone_word, unprefixed_word};
 use crate::tables::{CollationData, CollationSpecialPrimaries, CollationTables};
 use icu_collator_types::elements::Tag;
 use std::alloc::{AllocError, Global};
-
-/// The word where no prefix counts.
-#[tactic(auto, unfolding(crate::specs::Pools::unprefixed_word))]
-pub(crate) fn unprefixed_word(source: &CollationData<'_>, word: u32) -> u32
-    ensures { result ≡ unprefixed_word (pools_of source.now) word }
-{
-    if has_tag(word, Tag::Prefix) {
-        default_of(source, word)
-    } else {
-        word
-    }
-}
-
-/// The word where nothing stands before or behind, and not read as a digit.
-#[tactic(auto, unfolding(crate::specs::Pools::lone_word))]
-pub(crate) fn lone_word(source: &CollationData<'_>, word: u32) -> u32
-    ensures { result ≡ lone_word (pools_of source.now) word }
-{
-    let unprefixed = unprefixed_word(source, word);
-    if has_tag(unprefixed, Tag::Contraction) {
-        default_of(source, unprefixed)
-    } else if has_tag(unprefixed, Tag::Digit) {
-        word_at(&source.ce32s, index_of(unprefixed))
-    } else {
-        unprefixed
-    }
-}
 
 /// The test for words of contexts that spell what keeps the rules.
 #[derive(Drop)]

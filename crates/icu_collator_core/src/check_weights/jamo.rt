@@ -3,10 +3,10 @@
 ghost use Rattle.std.specs.Prelude.{◌≡◌, ◌<◌, MatchOption, length};
 ghost use Rattle.icu_collator_core.specs.WeightFaults.{AreSoundJamo, IsJamoFault, is_sound_jamo, jamo_count};
 
-use super::unpacked_elements::stated_element;
 use super::own::own_primary;
 use super::spelled::is_sound_lone;
-use crate::check::forms::states_element;
+use super::unpacked_elements::stated_element;
+use crate::table_words::fields::states_element;
 use crate::tables::CollationTables;
 
 /// How many jamo there are.

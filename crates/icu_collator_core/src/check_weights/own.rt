@@ -4,7 +4,7 @@ ghost use Rattle.std.specs.Prelude.{◌≡◌};
 ghost use Rattle.icu_collator_core.specs.TableMeaning.{own_primary};
 ghost use Rattle.icu_collator_core.specs.WeightFaults.{is_own_element, is_primary_element};
 
-use crate::elements::{special_primary, unranged_primary};
+use crate::table_words::defaults::{special_primary, unranged_primary};
 use icu_collator_types::elements::{COMMON_WEIGHT, Element};
 
 /// The primary of a character by itself, in no range: special, a jamo's, or implicit.

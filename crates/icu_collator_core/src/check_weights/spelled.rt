@@ -4,9 +4,9 @@ ghost use Rattle.std.specs.Prelude.{◌≡◌, ◌∷◌, []};
 ghost use Rattle.icu_collator_core.specs.SpelledTests.{if_any, nothing_read, passes, with_bits, with_element, with_word};
 ghost use Rattle.icu_collator_core.specs.WeightFaults.{are_sound_spelled};
 
-use super::unpacked_elements::{element_of, stated_element};
 use super::own::is_own_element;
 use super::rules::is_sound_spelled;
+use super::unpacked_elements::{element_of, stated_element};
 use crate::tables::CollationSpecialPrimaries;
 use icu_collator_types::elements::Element;
 

@@ -1,6 +1,6 @@
 //! Whether what a word says of a character keeps the rules.
 
-ghost use Rattle.std.specs.Prelude.{◌≡◌, ◌+◌, ◌<◌, ◌^◌, ◌∷◌, [], Some, None, true, filter_map, fold, map, option_map, slice_index};
+ghost use Rattle.std.specs.Prelude.{◌≡◌, ◌+◌, ◌<◌, ◌^◌, ◌∷◌, [], Some, None, true, filter_map, fold, map, option_map};
 ghost use Rattle.icu_normalizer_core.specs.CanonicalWords.{items_at};
 ghost use Rattle.icu_collator_core.specs.ContextFaults.{are_others};
 ghost use Rattle.icu_collator_core.specs.Pools.{element_of, elements_of_word, stated_element};
@@ -8,11 +8,11 @@ ghost use Rattle.icu_collator_core.specs.SpelledTests.{nothing_read, with_bits, 
 ghost use Rattle.icu_collator_core.specs.TableMeaning.{is_primary_alone, own_primary, pools_of};
 ghost use Rattle.icu_collator_core.specs.WeightFaults.{are_sound_spelled, is_sound_word};
 
-use super::unpacked_elements::stated_element;
-use super::offsets::is_sound_offset;
 use super::own::{is_own_element, own_primary};
 use super::spelled::{Spelled, is_sound_lone};
-use crate::check::fields::{has_tag, index_of, length_of};
+use super::unpacked_elements::stated_element;
+use crate::table_words::fields::{entry_at, has_tag, index_of, length_of};
+use crate::table_words::offsets::is_sound_offset;
 use crate::tables::{CollationData, CollationSpecialPrimaries};
 use icu_collator_types::elements::Tag;
 use icu_packed_vector::PackedVec;
@@ -90,16 +90,6 @@ fn is_sound_stated(special: &CollationSpecialPrimaries<'_>, own: Option<u32>, wo
     match stated_element(word) {
         Some(element) => is_sound_lone(special, own, element),
         None => true,
-    }
-}
-
-/// The entry at a place, 0 past the end.
-pub(crate) fn entry_at(ces: &PackedVec<'_, u64>, place: usize) -> u64
-    ensures { result ≡ slice_index ces.now place }
-{
-    match ces.get(place) {
-        Some(entry) => entry,
-        None => 0,
     }
 }
 

@@ -9,8 +9,8 @@ ghost use Rattle.icu_collator_core.specs.TableSettings.{has_bit};
 
 use super::flat_elements::FlatElements;
 use crate::checked::CheckedTables;
-use crate::elements::special_primary;
-use crate::reading::counting_words::checked_word;
+use crate::reading::checked_words::checked_word;
+use crate::table_words::defaults::special_primary;
 use icu_collator_types::elements::CollationElement;
 use std::alloc::{AllocError, Global};
 

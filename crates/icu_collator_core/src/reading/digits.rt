@@ -7,8 +7,8 @@ ghost use Rattle.icu_collator_core.specs.ReadSources.{canonical_by, weights_by};
 ghost use Rattle.icu_collator_core.specs.ReadSteps.{IsReadAs};
 
 use super::numbers::push_number;
-use super::counting_words::checked_word;
 use crate::checked::CheckedTables;
+use crate::reading::checked_words::checked_word;
 use icu_collator_types::elements::CollationElement;
 use smallvec::SmallVec;
 use std::alloc::AllocError;

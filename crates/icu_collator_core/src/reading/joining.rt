@@ -15,7 +15,7 @@ ghost use Rattle.icu_collator_core.specs.TableMeaning.{pools_of};
 ghost use Rattle.icu_collator_core.specs.Weights.{Weights};
 
 use super::marks::cursor_behind;
-use super::counting_words::CountingWord;
+use crate::table_words::counting_words::CountingWord;
 use icu_char16trie::{Char16Trie, Char16TrieIterator};
 use icu_normalizer_core::canonical::CanonicalBorrowed;
 use smallvec::SmallVec;

@@ -9,11 +9,12 @@ ghost use Rattle.icu_collator_core.specs.ReadTexts.{IsAtText, if_recorded, suffi
 ghost use Rattle.icu_collator_core.specs.ReadWords.{table_word};
 ghost use Rattle.icu_collator_core.specs.TableMeaning.{pools_of, recorded_by};
 
-use super::word_elements::has_elements;
-use super::suffixes::{context_of, word_of};
-use super::counting_words::CountingWord;
-use crate::check::fields::has_tag;
-use crate::check::weights::unprefixed_word;
+use super::suffixes::context_of;
+use crate::table_words::contexts::word_of;
+use crate::table_words::counting_words::CountingWord;
+use crate::table_words::fields::has_tag;
+use crate::table_words::lone_words::unprefixed_word;
+use crate::table_words::word_elements::has_elements;
 use crate::tables::CollationData;
 use icu_char16trie::{Char16Trie, Char16TrieIterator};
 use icu_collator_types::elements::Tag;

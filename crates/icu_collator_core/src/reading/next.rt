@@ -12,10 +12,11 @@ ghost use Rattle.icu_collator_core.specs.ReadWords.{AreSaidBy, table_word};
 ghost use Rattle.icu_collator_core.specs.TableMeaning.{digit_by};
 ghost use Rattle.icu_collator_core.specs.TableSettings.{has_bit};
 
+use super::checked_words::checked_word;
 use super::digits::read_number;
-use super::counting_words::{CountingWord, checked_word};
 use crate::checked::CheckedTables;
-use crate::elements::special_primary;
+use crate::table_words::counting_words::CountingWord;
+use crate::table_words::defaults::special_primary;
 use crate::tables::CollationTables;
 use icu_collator_types::elements::CollationElement;
 use smallvec::SmallVec;

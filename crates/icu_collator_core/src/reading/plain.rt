@@ -7,10 +7,10 @@ ghost use Rattle.icu_collator_core.specs.PlainWords.{IsReadAlone, IsReadUncounte
 ghost use Rattle.icu_collator_core.specs.ReadWords.{AreSaidBy, table_word};
 ghost use Rattle.icu_collator_core.specs.Weights.{Weights};
 
-use super::word_elements::stated_by;
-use super::counting_words::CountingWord;
-use crate::check::fields::has_tag;
-use crate::check::weights::lone_word;
+use crate::table_words::counting_words::CountingWord;
+use crate::table_words::fields::has_tag;
+use crate::table_words::lone_words::lone_word;
+use crate::table_words::word_elements::stated_by;
 use icu_collator_types::elements::{CollationElement, Tag};
 
 impl CountingWord<'_> {

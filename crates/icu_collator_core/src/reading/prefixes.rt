@@ -12,8 +12,8 @@ ghost use Rattle.icu_collator_core.specs.TableMeaning.{pools_of};
 ghost use Rattle.icu_collator_core.specs.Weights.{Weights};
 
 use super::suffixes::{LongerText, context_of, is_last, longer_of};
-use super::counting_words::CountingWord;
-use crate::check::fields::has_tag;
+use crate::table_words::counting_words::CountingWord;
+use crate::table_words::fields::has_tag;
 use crate::tables::CollationData;
 use icu_char16trie::Char16Trie;
 use icu_collator_types::elements::Tag;

@@ -12,9 +12,9 @@ ghost use Rattle.icu_collator_core.specs.ReadSteps.{IsReadAs, placed_at, reading
 ghost use Rattle.icu_collator_core.specs.ReadWords.{AreSaidBy, table_word};
 ghost use Rattle.icu_collator_core.specs.Weights.{Weights};
 
-use super::word_elements::push_elements;
 use super::joining::text_match;
-use super::counting_words::CountingWord;
+use crate::table_words::counting_words::CountingWord;
+use crate::table_words::word_elements::push_elements;
 use icu_collator_types::elements::CollationElement;
 use icu_normalizer_core::canonical::CanonicalBorrowed;
 use smallvec::SmallVec;

@@ -13,11 +13,11 @@ ghost use Rattle.icu_collator_core.specs.ReadWords.{AreSaidBy, table_word};
 ghost use Rattle.icu_collator_core.specs.TableMeaning.{pools_of};
 ghost use Rattle.icu_collator_core.specs.Weights.{Weights};
 
-use super::word_elements::has_elements;
-use super::counting_words::CountingWord;
-use crate::check::fields::{has_tag, index_of};
-use crate::check::walks::units_of;
-use crate::check::weights::unprefixed_word;
+use crate::table_words::contexts::{units_of, word_of};
+use crate::table_words::counting_words::CountingWord;
+use crate::table_words::fields::{has_tag, index_of};
+use crate::table_words::lone_words::unprefixed_word;
+use crate::table_words::word_elements::has_elements;
 use crate::tables::CollationData;
 use icu_char16trie::{Char16Trie, TrieResult};
 use icu_collator_types::elements::Tag;
@@ -29,17 +29,6 @@ pub(crate) struct LongerText {
     pub(crate) behind: usize,
     /// Its word.
     pub(crate) word: u32,
-}
-
-/// The word that a cursor answers, if it answers one.
-pub(crate) fn word_of(answer: TrieResult) -> Option<u32>
-    ensures { result ≡ option_map (cast_unsigned w32) (answered answer) }
-{
-    match answer {
-        TrieResult::Intermediate(value) => Some(value.cast_unsigned()),
-        TrieResult::FinalValue(value) => Some(value.cast_unsigned()),
-        TrieResult::NoValue | TrieResult::NoMatch => None,
-    }
 }
 
 /// Whether no longer text begins with what a cursor was given.

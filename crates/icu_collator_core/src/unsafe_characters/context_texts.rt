@@ -12,9 +12,10 @@ ghost use Rattle.icu_collator_core.specs.TableMeaning.{pools_of};
 ghost use Rattle.icu_collator_core.specs.UnsafeWords.{ContextGives, ContextMakesUnsafe, ReadingGives};
 ghost use Rattle.icu_collator_core.specs.WeightLists.{Grows};
 
-use crate::check::fields::index_of;
-use crate::check::walks::{Reading, TextTest, UnitFold, units_of};
-use crate::reading::word_elements::has_elements;
+use crate::check::walks::{Reading, TextTest, UnitFold};
+use crate::table_words::contexts::units_of;
+use crate::table_words::fields::index_of;
+use crate::table_words::word_elements::has_elements;
 use crate::tables::CollationData;
 use icu_char16trie::{KeyFold, fold_keys};
 use std::alloc::{AllocError, Global};

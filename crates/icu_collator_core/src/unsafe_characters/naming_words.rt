@@ -8,9 +8,9 @@ ghost use Rattle.icu_collator_core.specs.UnsafeWords.{ContextMakesUnsafe, WordMa
 ghost use Rattle.icu_collator_core.specs.WeightLists.{Grows};
 
 use super::context_texts::{Side, gather_context};
-use crate::check::fields::has_tag;
-use crate::check::weights::unprefixed_word;
-use crate::reading::counting_words::CountingWord;
+use crate::table_words::counting_words::CountingWord;
+use crate::table_words::fields::has_tag;
+use crate::table_words::lone_words::unprefixed_word;
 use crate::tables::CollationData;
 use icu_collator_types::elements::Tag;
 use std::alloc::{AllocError, Global};

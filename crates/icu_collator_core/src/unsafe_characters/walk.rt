@@ -8,7 +8,7 @@ ghost use Rattle.icu_collator_core.specs.WeightLists.{Grows};
 
 use super::naming_words::{gather_by_word, names_context};
 use crate::check::runs::behind_run;
-use crate::reading::counting_words::counting_word;
+use crate::table_words::counting_words::counting_word;
 use crate::tables::{CollationData, CollationTables};
 use icu_normalizer_core::canonical::CanonicalBorrowed;
 use std::alloc::{AllocError, Global};

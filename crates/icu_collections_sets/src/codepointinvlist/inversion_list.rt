@@ -11,9 +11,9 @@ ghost use Rattle.icu_collections_sets.specs.Characters.{characters_of};
 ghost use Rattle.icu_collections_sets.specs.Gaps.{AreGapsOf};
 ghost use Rattle.icu_collections_sets.specs.SetErrors.{IsRefusedSlice};
 
-use super::set_characters::Chars;
 use super::gaps::ComplementedRanges;
 use super::ranges::CodePointRanges;
+use super::set_characters::Chars;
 use crate::packed_vector::PackedVec;
 use std::alloc::{AllocError, Global};
 use std::hash::{Hash, Hasher};

@@ -43,10 +43,7 @@ impl<'d> ComposingNormalizerBorrowed<'d> {
     ghost use Rattle.icu_normalizer.specs.Normalizers.{composing_data, composing_canonical};
 
     /// A normaliser over these data, with notes of low characters. It takes no memory.
-    pub(super) fn over(
-        basis: FormData<'d>,
-        low: &'d [FormNote],
-    ) -> ComposingNormalizerBorrowed<'d>
+    pub(super) fn over(basis: FormData<'d>, low: &'d [FormNote]) -> ComposingNormalizerBorrowed<'d>
         requires { AreLow (form_meaning basis) low.now }
         ensures { result.basis ≡ basis.entry }
     {

@@ -7,8 +7,8 @@ ghost use Rattle.icu_normalizer_core.specs.Iter.{Spells};
 ghost use Rattle.icu_normalizer.specs.Uts46.{mapped, validated, mapped_with};
 ghost use Rattle.icu_normalizer.specs.Uts46Texts.{mapper_data, mapper_table, Gives, CanGive, uts46_size};
 
-use super::mapped_characters::MappedChars;
 use super::iter::Uts46Iter;
+use super::mapped_characters::MappedChars;
 use super::mapper::Uts46Mapper;
 use crate::composing::Composition;
 use std::alloc::Global;

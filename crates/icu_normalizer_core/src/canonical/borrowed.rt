@@ -12,10 +12,10 @@ ghost use Rattle.icu_normalizer_core.specs.Properties.{mapped_to};
 ghost use Rattle.icu_normalizer_core.specs.Readings.{IsTold};
 ghost use Rattle.icu_normalizer_core.specs.declared.decomposed.Decomposed.TheVariants.{Default};
 
+use super::character_data::{Reading, read_character};
 use super::data::CanonicalData;
 use super::full_list::{FullList, full_list};
 use super::pairs::listed_pair;
-use super::character_data::{Reading, read_character};
 use super::steps::listed_step;
 use crate::built_in::{built_in_step, syllable_of};
 use crate::decomposed::Decomposed;

@@ -13,12 +13,13 @@ ghost use Rattle.icu_normalizer_core.specs.CompatibilityMaps.{AllMaps, AreAccept
 ghost use Rattle.icu_normalizer_core.specs.CompatibilityMeaning.{nfkd_lists};
 ghost use Rattle.icu_normalizer_core.specs.Plain.{Tells};
 
+mod built_words;
 mod compatibility_tables;
 mod compatibility_words;
+mod full_list_words;
 mod full_lists;
 mod in_order;
 mod list_words;
-mod full_list_words;
 mod mappings;
 mod names;
 mod numbers;
@@ -28,7 +29,6 @@ mod settle;
 mod steps;
 mod tables;
 mod trie;
-mod built_words;
 
 use super::check::first_fault;
 use super::check::told::told;

@@ -6,9 +6,9 @@ ghost use Rattle.icu_normalizer_core.specs.CanonicalWords.{is_list_word, list_at
 ghost use Rattle.icu_normalizer_core.specs.Readings.{IsTold, IsToldBy};
 ghost use Rattle.icu_normalizer_core.specs.Words.{word_lists};
 
+use super::canonical_words::{Words, is_list_word, is_mark_word, is_pair_word};
 use super::full_list::character;
 use super::tables::CanonicalTables;
-use super::canonical_words::{Words, is_list_word, is_mark_word, is_pair_word};
 
 /// What one read of canonical data tells of a character.
 #[derive(Clone, Copy, Debug)]

@@ -6,10 +6,10 @@ ghost use Rattle.icu_normalizer_core.specs.CanonicalMeaning.{lists_of};
 ghost use Rattle.icu_normalizer_core.specs.Plain.{Tells};
 
 pub(crate) mod built_in;
-mod least_refused;
 mod forms;
 pub(crate) mod full_lists;
 pub(crate) mod full_start;
+mod least_refused;
 pub(crate) mod left;
 mod loops;
 mod marks;

@@ -9,8 +9,8 @@ ghost use Rattle.icu_normalizer_core.specs.BuiltIn.{singled_out};
 ghost use Rattle.icu_normalizer_core.specs.FullLists.{source_items, IsPart};
 ghost use Rattle.icu_normalizer_core.specs.Words.{full_in, word_lists};
 
-use super::tables::CanonicalTables;
 use super::canonical_words::{Words, is_list_word, is_one_word, is_pair_word, is_singled_word};
+use super::tables::CanonicalTables;
 use crate::built_in::{letter, singled_out};
 use crate::decomposed::Decomposed;
 use std::iter::FusedIterator;

@@ -4,9 +4,9 @@ ghost use Rattle.std.specs.Prelude.{IfErr, IfOk};
 ghost use Rattle.icu_normalizer_core.specs.Decoding.{utf16_chars, utf8_chars};
 
 use super::CollatorBorrowed;
+use crate::encodings::{Utf8Text, Utf16Text};
 use crate::key_bytes::write_text_key;
 use crate::sinks::{CollationKeySink, KeyError};
-use crate::encodings::{Utf8Text, Utf16Text};
 use std::alloc::Global;
 
 impl<'d> CollatorBorrowed<'d> {

@@ -9,11 +9,11 @@ ghost use Rattle.icu_collator_core.specs.PrefixFaults.{HasValue, IsAmong, IsWord
 ghost use Rattle.icu_collator_core.specs.TableMeaning.{pools_of, word_at};
 ghost use Rattle.icu_collator_core.specs.WeightLists.{Grows, IsDiacriticWord, IsWordOfData, Lists};
 
-use crate::check::fields::{has_tag, index_of};
 use crate::check::runs::behind_run;
 use crate::check::values::values_of;
-use crate::check::weights::{lone_word, unprefixed_word};
-use crate::reading::counting_words::secondary_word;
+use crate::table_words::counting_words::secondary_word;
+use crate::table_words::fields::{has_tag, index_of};
+use crate::table_words::lone_words::{lone_word, unprefixed_word};
 use crate::tables::{CollationData, CollationTables};
 use icu_collator_types::elements::Tag;
 use std::alloc::{AllocError, Global};

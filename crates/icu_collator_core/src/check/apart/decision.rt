@@ -5,10 +5,10 @@ ghost use Rattle.icu_collator_core.specs.ElementLists.{unpacked};
 ghost use Rattle.icu_collator_core.specs.PrefixFaults.{AreWeightsApart, IsSpelled, IsSpelledIn};
 ghost use Rattle.icu_collator_core.specs.WeightLists.{Grows, IsLeadOf, IsLeadOfTailoring, IsRangedLead, IsSpelledByTables, IsSpelledByTailoring, Lists};
 
-use super::spelled_elements::gather_spelled;
+use super::character_words::{gather_diacritics, gather_jamo, words_of};
 use super::leads::{are_beside, gather_leads};
 use super::levels::are_apart;
-use super::character_words::{gather_diacritics, gather_jamo, words_of};
+use super::spelled_elements::gather_spelled;
 use crate::tables::{CollationData, CollationTables};
 use icu_collator_types::elements::CollationElement;
 use smallvec::SmallVec;

@@ -7,8 +7,7 @@ ghost use Rattle.icu_collator_core.specs.Pools.{element_of};
 ghost use Rattle.icu_collator_core.specs.WeightLists.{Grows, HasLead, HaveLead, is_beside_lead};
 
 use super::character_words::gather_word;
-use crate::check::fields::{has_tag, index_of};
-use crate::check_weights::entry_at;
+use crate::table_words::fields::{entry_at, has_tag, index_of};
 use crate::tables::CollationData;
 use icu_collator_types::elements::{CollationElement, Tag};
 use std::alloc::AllocError;

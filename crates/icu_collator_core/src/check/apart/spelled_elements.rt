@@ -5,7 +5,7 @@ ghost use Rattle.icu_collator_core.specs.ElementLists.{unpacked};
 ghost use Rattle.icu_collator_core.specs.TableMeaning.{pools_of};
 ghost use Rattle.icu_collator_core.specs.WeightLists.{AreSpelling, Grows};
 
-use crate::reading::word_elements::push_elements;
+use crate::table_words::word_elements::push_elements;
 use crate::tables::CollationData;
 use icu_collator_types::elements::CollationElement;
 use smallvec::SmallVec;

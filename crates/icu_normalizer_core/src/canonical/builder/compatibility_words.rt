@@ -12,9 +12,9 @@ use super::CanonicalDataBuildError;
 use super::full_list_words::list_word;
 use super::mappings::Mappings;
 use super::trie::{set_word, unnamed_words};
+use crate::canonical::canonical_words::states_list;
 use crate::canonical::check::full_start::full_start;
 use crate::canonical::check::left::Left;
-use crate::canonical::canonical_words::states_list;
 use icu_codepointtrie::CodePointTrieBuilder;
 use std::alloc::{AllocError, Global};
 

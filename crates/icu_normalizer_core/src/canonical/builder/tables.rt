@@ -10,6 +10,7 @@ ghost use Rattle.icu_normalizer_core.specs.CanonicalMeaning.{lists_of};
 ghost use Rattle.icu_normalizer_core.specs.CharacterWords.{AreListWords, AreStarters, HasNamed, class_with};
 ghost use Rattle.icu_normalizer_core.specs.GivenMaps.{IsOfScalars};
 
+use super::built_words::{are_classes, are_starters};
 use super::full_lists::full_lists;
 use super::list_words::ListWords;
 use super::names::characters_of;
@@ -17,7 +18,6 @@ use super::one_mapping::have_one_mapping;
 use super::pairs::pairs;
 use super::steps::steps;
 use super::trie::{trie_of, words_of};
-use super::built_words::{are_classes, are_starters};
 use super::{CanonicalDataBuildError, GivenClass, GivenMapping};
 use crate::canonical::tables::CanonicalTables;
 use icu_codepointtrie::CodePointTrie;

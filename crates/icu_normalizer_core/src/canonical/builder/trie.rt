@@ -9,8 +9,8 @@ ghost use Rattle.icu_normalizer_core.specs.CanonicalLists.{AreTriples};
 ghost use Rattle.icu_normalizer_core.specs.CharacterWords.{AreListWords, AreStarters, AreUnnamed, HasWords, class_with};
 
 use super::GivenClass;
-use super::list_words::ListWords;
 use super::built_words::word_of;
+use super::list_words::ListWords;
 use icu_codepointtrie::{CodePointTrie, CodePointTrieBuildError, CodePointTrieBuilder, TrieType};
 use icu_packed_vector::PackedVec;
 use std::alloc::{AllocError, Global};

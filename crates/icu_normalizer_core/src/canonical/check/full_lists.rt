@@ -16,8 +16,8 @@ use super::marks::class_of;
 use super::settle::listed_left;
 use super::told::first_refused_of;
 use crate::built_in::built_in_step;
-use crate::canonical::tables::CanonicalTables;
 use crate::canonical::canonical_words::{Words, is_list_word, states_list};
+use crate::canonical::tables::CanonicalTables;
 use icu_packed_vector::PackedVec;
 
 /// Whether the word names no place outside the lists.

@@ -8,9 +8,9 @@ ghost use Rattle.icu_normalizer_core.specs.Settled.{left_items};
 ghost use Rattle.icu_normalizer_core.specs.Words.{full_in, word_lists};
 
 use super::left::Left;
+use crate::canonical::canonical_words::{Words, is_list_word};
 use crate::canonical::full_list::{FullList, Source, stated};
 use crate::canonical::tables::CanonicalTables;
-use crate::canonical::canonical_words::{Words, is_list_word};
 
 impl Left {
     /// No character.

@@ -5,8 +5,8 @@ ghost use Rattle.icu_normalizer_core.specs.Canonical.{marks_in_order, put_in_ord
 ghost use Rattle.icu_normalizer_core.specs.CanonicalMeaning.{meaning};
 ghost use Rattle.icu_normalizer_core.specs.Marks.{is_mark_below};
 
-use crate::canonical::tables::CanonicalTables;
 use crate::canonical::canonical_words::{PLAIN_WORD, class_of_word};
+use crate::canonical::tables::CanonicalTables;
 
 /// The class of the character of a number.
 #[tactic(auto, unfolding(crate::specs::CanonicalLists::canonical_of))]

@@ -8,8 +8,8 @@ ghost use Rattle.icu_normalizer_core.specs.CanonicalMeaning.{lists_of};
 ghost use Rattle.icu_normalizer_core.specs.Plain.{IsPlain, IsIn, Rises, Tells, ArePlainFrom, TellsBelow};
 
 use crate::built_in::{built_in_class, built_in_step};
-use crate::canonical::tables::CanonicalTables;
 use crate::canonical::canonical_words::PLAIN_WORD;
+use crate::canonical::tables::CanonicalTables;
 use icu_packed_vector::PackedVec;
 use std::alloc::{AllocError, Global};
 

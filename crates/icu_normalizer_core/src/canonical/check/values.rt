@@ -7,8 +7,8 @@ ghost use Rattle.icu_normalizer_core.specs.CanonicalWords.{is_word};
 ghost use Rattle.icu_normalizer_core.specs.Plain.{Tells};
 
 use super::told::first_refused_of;
-use crate::canonical::tables::CanonicalTables;
 use crate::canonical::canonical_words::is_word;
+use crate::canonical::tables::CanonicalTables;
 
 /// Whether the character has a word, of one of the forms.
 fn has_good_word(tables: &CanonicalTables<'_>, c: char) -> bool

@@ -7,9 +7,9 @@ ghost use Rattle.icu_normalizer_core.specs.Settled.{left_items};
 ghost use Rattle.icu_normalizer_core.specs.Words.{word_lists};
 
 use crate::built_in::built_in_compatibility_step;
+use crate::canonical::canonical_words::Words;
 use crate::canonical::check::built_in::{built_in_full, step_characters};
 use crate::canonical::check::left::Left;
-use crate::canonical::canonical_words::Words;
 
 /// The full list that is fixed for a character: by a built-in mapping, or itself below U+00A0.
 #[tactic(auto, unfolding(crate::specs::Compatibility::fixed_list))]

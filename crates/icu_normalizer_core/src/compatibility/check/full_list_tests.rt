@@ -12,10 +12,10 @@ ghost use Rattle.icu_normalizer_core.specs.Settled.{left_items};
 ghost use Rattle.icu_normalizer_core.specs.Words.{word_lists, full_in};
 
 use crate::built_in::{built_in_compatibility_step, built_in_step};
+use crate::canonical::canonical_words::{Words, states_list};
 use crate::canonical::check::full_lists::begins_with_mark;
 use crate::canonical::check::left::Left;
 use crate::canonical::full_list::full_list;
-use crate::canonical::canonical_words::{Words, states_list};
 use crate::canonical::{CanonicalTables, FullList};
 
 /// Whether a number is a character that is its own full list.

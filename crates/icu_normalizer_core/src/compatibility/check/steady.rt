@@ -8,8 +8,8 @@ ghost use Rattle.icu_normalizer_core.specs.Compatibility.{compatibility_of};
 ghost use Rattle.icu_normalizer_core.specs.SteadyAnswers.{AreSteady};
 ghost use Rattle.icu_normalizer_core.specs.Words.{word_lists, full_in};
 
-use crate::canonical::steady::SteadyCharacters;
 use crate::canonical::canonical_words::Words;
+use crate::canonical::steady::SteadyCharacters;
 use crate::canonical::{CanonicalData, CanonicalTables};
 use std::alloc::{AllocError, Global};
 
