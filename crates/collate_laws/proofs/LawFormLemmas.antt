@@ -11,10 +11,10 @@ use Rattle.icu_normalizer_core.specs.declared.compatibility.tables.NfkdTables.{N
 use Rattle.icu_normalizer_core.specs.Canonical.{Canonical, IsCanonical, Leaves, nothing, unmapped, mapped, composed, decomposed}
 use Rattle.icu_normalizer_core.specs.CanonicalMeaning.{meaning}
 use Rattle.icu_normalizer_core.specs.Sameness.{AreSameComposing}
-use Rattle.icu_normalizer_core.proofs.DecomposedLemmas.{decomposed_same, left_one}
+use Rattle.icu_normalizer_core.proofs.decomposed.DecomposedLemmas.{decomposed_same, left_one}
 use Rattle.icu_normalizer.specs.NormalizerTables.{NormalizerTables, tables_meaning}
 use Rattle.icu_normalizer.specs.TextForms.{composed_text, decomposed_text}
-use Rattle.icu_normalizer.proofs.SameFormLemmas.{same_composed, same_decomposed, same_text_composed, same_text_decomposed}
+use Rattle.icu_normalizer.proofs.forms.SameFormLemmas.{same_composed, same_decomposed, same_text_composed, same_text_decomposed}
 use Rattle.collate_lines.specs.declared.rule.Rule.TheVariants.{C5, V14}
 use Rattle.collate_lines.specs.Lines.{lines_of, records_of}
 use Rattle.collate_lines.specs.Record.{Record}

@@ -9,13 +9,13 @@ use Rattle.std.specs.declared.cmp.Ordering.{Ordering}
 use Rattle.std.specs.declared.cmp.Ordering.TheVariants.{Equal}
 use Rattle.icu_normalizer_core.specs.Canonical.{decomposed}
 use Rattle.icu_normalizer_core.specs.Decoding.{utf16_chars, utf8_chars}
-use Rattle.icu_normalizer_core.proofs.DecodedLemmas.{utf16_scalars, utf8_scalars}
-use Rattle.icu_normalizer_core.proofs.DecomposedLemmas.{decomposed_all_scalars}
-use Rattle.icu_normalizer_core.proofs.CanonicalTextLemmas.{utf16_text, utf8_text}
+use Rattle.icu_normalizer_core.proofs.decoded.DecodedLemmas.{utf16_scalars, utf8_scalars}
+use Rattle.icu_normalizer_core.proofs.decomposed.DecomposedLemmas.{decomposed_all_scalars}
+use Rattle.icu_normalizer_core.proofs.decoded.CanonicalTextLemmas.{utf16_text, utf8_text}
 use Rattle.icu_normalizer.specs.Equivalence.{IsEquivalent}
 use Rattle.icu_normalizer.specs.NormalizerTables.{NormalizerTables, tables_meaning}
 use Rattle.icu_normalizer.specs.TextForms.{composed_text, decomposed_text}
-use Rattle.icu_normalizer.proofs.FormLawLemmas.{bytes_composed, bytes_decomposed}
+use Rattle.icu_normalizer.proofs.forms.FormLawLemmas.{bytes_composed, bytes_decomposed}
 use Rattle.icu_normalizer.proofs.equivalence.EquivalenceLemmas.{one_decomposed}
 use Rattle.icu_normalizer.proofs.equivalence.NormalFormLemmas.{composed_decomposed, composed_scalars, decomposed_twice}
 use Rattle.icu_collator_types.specs.Options.{is_numeric}

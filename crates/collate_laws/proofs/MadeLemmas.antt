@@ -12,8 +12,8 @@ use Rattle.icu_normalizer_core.specs.declared.canonical.tables.CanonicalTables.{
 use Rattle.icu_normalizer_core.specs.declared.compatibility.tables.NfkdTables.{NfkdTables}
 use Rattle.icu_normalizer_core.specs.declared.provider.error.DataError.{DataError}
 use Rattle.icu_normalizer_core.specs.declared.provider.error.DataError.TheVariants.{Canonical as Fault, Invalid, Missing, Memory as NoMemory}
-use Rattle.icu_normalizer_core.proofs.AcceptedPairs.{canonical as accepted_canonical}
-use Rattle.icu_normalizer_core.proofs.AcceptedWords.{compatible}
+use Rattle.icu_normalizer_core.proofs.accepted.AcceptedPairs.{canonical as accepted_canonical}
+use Rattle.icu_normalizer_core.proofs.accepted.AcceptedWords.{compatible}
 use Rattle.icu_normalizer_core.proofs.builder.BuiltTableLemmas.{fault_refutes}
 use Rattle.icu_normalizer.specs.NormalizerTables.{IsMadeOfBoth, IsMadeOfCanonical, NormalizerTables, both_tables}
 use Rattle.icu_collator_types.specs.declared.options.CollatorOptions.{CollatorOptions}

@@ -10,8 +10,8 @@ use Rattle.std.proofs.lemmas.Str.{encodes-chars}
 use Rattle.icu_normalizer_core.specs.Canonical.{IsCanonical, composed, decomposed}
 use Rattle.icu_normalizer_core.specs.CanonicalMeaning.{meaning}
 use Rattle.icu_normalizer_core.specs.Decoding.{latin1_chars, utf16_chars, utf8_chars}
-use Rattle.icu_normalizer_core.proofs.DecodedLemmas.{latin1_scalars, utf16_scalars, utf8_scalars}
-use Rattle.icu_normalizer_core.proofs.CanonicalTextLemmas.{utf8_text}
+use Rattle.icu_normalizer_core.proofs.decoded.DecodedLemmas.{latin1_scalars, utf16_scalars, utf8_scalars}
+use Rattle.icu_normalizer_core.proofs.decoded.CanonicalTextLemmas.{utf8_text}
 use Rattle.icu_normalizer.specs.Equivalence.{IsEquivalent}
 use Rattle.icu_normalizer.specs.TextForms.{composed_text, decomposed_text}
 use Rattle.icu_normalizer.proofs.equivalence.EquivalenceLemmas.{one_decomposed}

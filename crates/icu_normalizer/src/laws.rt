@@ -85,7 +85,7 @@ pub fn forms_of_texts_are_normalized()
 
 /// The same of the normal forms by compatibility data, NFKD and NFKC, too. What a normaliser's data say, and what the
 /// canonical data beneath do, its `keep_promise` tells.
-#[tactic(auto, using(crate::proofs::FormLawLemmas::over_decomposed_twice, crate::proofs::FormLawLemmas::over_decomposed_composed, crate::proofs::FormLawLemmas::over_composed_decomposed, crate::proofs::FormLawLemmas::over_composed_twice))]
+#[tactic(auto, using(crate::proofs::forms::FormLawLemmas::over_decomposed_twice, crate::proofs::forms::FormLawLemmas::over_decomposed_composed, crate::proofs::forms::FormLawLemmas::over_composed_decomposed, crate::proofs::forms::FormLawLemmas::over_composed_twice))]
 pub fn forms_of_data_stay()
     ensures decomposed_twice { (canonical said : Canonical) (xs : List ℕ) → IsCanonical canonical → IsSaidOver canonical said → All IsScalar xs
         → decomposed said (decomposed said xs) ≡ decomposed said xs }
@@ -98,7 +98,7 @@ pub fn forms_of_data_stay()
 {}
 
 /// The same of the normal forms of texts.
-#[tactic(auto, using(crate::proofs::FormLawLemmas::over_text_decomposed_twice, crate::proofs::FormLawLemmas::over_text_decomposed_composed, crate::proofs::FormLawLemmas::over_text_composed_decomposed, crate::proofs::FormLawLemmas::over_text_composed_twice))]
+#[tactic(auto, using(crate::proofs::forms::FormLawLemmas::over_text_decomposed_twice, crate::proofs::forms::FormLawLemmas::over_text_decomposed_composed, crate::proofs::forms::FormLawLemmas::over_text_composed_decomposed, crate::proofs::forms::FormLawLemmas::over_text_composed_twice))]
 pub fn forms_of_texts_by_data_stay()
     ensures decomposed_twice { (canonical said : Canonical) (text : List ℕ) → IsCanonical canonical → IsSaidOver canonical said → IsUtf8 text
         → decomposed_text said (decomposed_text said text) ≡ decomposed_text said text }
@@ -113,7 +113,7 @@ pub fn forms_of_texts_by_data_stay()
 /// A text has one form in all encodings: the NFD and the NFC of bytes that are text are those of the text, and of units
 /// that read as the text's characters they read as those of the text do. So it is by canonical and by compatibility
 /// data.
-#[tactic(auto, using(crate::proofs::FormLawLemmas::bytes_decomposed, crate::proofs::FormLawLemmas::bytes_composed, crate::proofs::FormLawLemmas::units_decomposed, crate::proofs::FormLawLemmas::units_composed))]
+#[tactic(auto, using(crate::proofs::forms::FormLawLemmas::bytes_decomposed, crate::proofs::forms::FormLawLemmas::bytes_composed, crate::proofs::forms::FormLawLemmas::units_decomposed, crate::proofs::forms::FormLawLemmas::units_composed))]
 pub fn encodings_have_one_form()
     ensures bytes_decomposed { (said : Canonical) (text : List ℕ) → IsUtf8 text
         → encode_utf8_all (decomposed said (utf8_chars text)) ≡ decomposed_text said text }
@@ -130,7 +130,7 @@ pub fn encodings_have_one_form()
 /// Data that say the same of each scalar value give a text one decomposed list, and, where they say the same of what two
 /// compose to, one composed list: by canonical data the lists of NFD and NFC, by compatibility data those of NFKD and
 /// NFKC. It is enough that one of the two is a normaliser's.
-#[tactic(auto, using(crate::proofs::SameFormLemmas::same_decomposed, crate::proofs::SameFormLemmas::same_composed))]
+#[tactic(auto, using(crate::proofs::forms::SameFormLemmas::same_decomposed, crate::proofs::forms::SameFormLemmas::same_composed))]
 pub fn same_data_have_same_forms()
     ensures decomposed { (canonical said other : Canonical) (xs : List ℕ) → IsCanonical canonical → IsSaidOver canonical said
         → AreSameCanonical other said → All IsScalar xs → decomposed other xs ≡ decomposed said xs }
@@ -139,7 +139,7 @@ pub fn same_data_have_same_forms()
 {}
 
 /// So the calls of normalisers over such data give each text the same normal form: a text in UTF-8, bytes, and units.
-#[tactic(auto, using(crate::proofs::SameFormLemmas::same_text_decomposed, crate::proofs::SameFormLemmas::same_text_composed, crate::proofs::SameFormLemmas::same_bytes_decomposed, crate::proofs::SameFormLemmas::same_bytes_composed, crate::proofs::SameFormLemmas::same_units_decomposed, crate::proofs::SameFormLemmas::same_units_composed))]
+#[tactic(auto, using(crate::proofs::forms::SameFormLemmas::same_text_decomposed, crate::proofs::forms::SameFormLemmas::same_text_composed, crate::proofs::forms::SameFormLemmas::same_bytes_decomposed, crate::proofs::forms::SameFormLemmas::same_bytes_composed, crate::proofs::forms::SameFormLemmas::same_units_decomposed, crate::proofs::forms::SameFormLemmas::same_units_composed))]
 pub fn same_data_have_same_forms_of_texts()
     ensures decomposed { (canonical said other : Canonical) (text : List ℕ) → IsCanonical canonical → IsSaidOver canonical said
         → AreSameCanonical other said → IsUtf8 text → decomposed_text other text ≡ decomposed_text said text }

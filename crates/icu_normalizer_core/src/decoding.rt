@@ -29,7 +29,7 @@ impl<'a> Model for Utf8Chars<'a> {
 }
 
 /// The characters of UTF-8 bytes. Bytes that are no character are no error: they read as U+FFFD.
-#[tactic(auto, using(crate::proofs::DecodedLemmas::utf8_length, crate::proofs::DecodedLemmas::utf8_scalars))]
+#[tactic(auto, using(crate::proofs::decoded::DecodedLemmas::utf8_length, crate::proofs::decoded::DecodedLemmas::utf8_scalars))]
 pub fn decode_utf8(bytes: &[u8]) -> Utf8Chars<'_>
     ensures chars { result ≡ utf8_chars bytes.now }
     ensures bound { length result ≤ length bytes.now }
@@ -89,7 +89,7 @@ impl<'a> Model for Utf16Chars<'a> {
 }
 
 /// The characters of UTF-16 units. A surrogate that has no partner is no error: it reads as U+FFFD.
-#[tactic(auto, using(crate::proofs::DecodedLemmas::utf16_length, crate::proofs::DecodedLemmas::unit_scalars))]
+#[tactic(auto, using(crate::proofs::decoded::DecodedLemmas::utf16_length, crate::proofs::decoded::DecodedLemmas::unit_scalars))]
 pub fn decode_utf16(units: &[u16]) -> Utf16Chars<'_>
     ensures chars { result ≡ utf16_chars units.now }
     ensures bound { length result ≤ length units.now }
@@ -122,7 +122,7 @@ fn lone_char(unit: u16) -> char
 }
 
 // The first character, and the units behind it.
-#[tactic(auto, using(crate::proofs::Utf16Lemmas::none_left, crate::proofs::Utf16Lemmas::first_pair))]
+#[tactic(auto, using(crate::proofs::decoded::Utf16Lemmas::none_left, crate::proofs::decoded::Utf16Lemmas::first_pair))]
 fn first_char(units: &[u16]) -> Option<(char, &[u16])>
     ensures { MatchOption result (utf16_chars units.now ≡ []) (λ r. utf16_chars units.now ≡ r.0 ∷ utf16_chars r.1.now) }
 {
@@ -135,7 +135,7 @@ fn first_char(units: &[u16]) -> Option<(char, &[u16])>
 
 // The units before the last character, and that character. A low surrogate is of a pair where a high one stands
 // right before it.
-#[tactic(auto, using(crate::proofs::Utf16Lemmas::none_left, crate::proofs::Utf16Lemmas::last_pair, crate::proofs::Utf16Lemmas::last_lone))]
+#[tactic(auto, using(crate::proofs::decoded::Utf16Lemmas::none_left, crate::proofs::decoded::Utf16Lemmas::last_pair, crate::proofs::decoded::Utf16Lemmas::last_lone))]
 fn last_char(units: &[u16]) -> Option<(&[u16], char)>
     ensures { MatchOption result (utf16_chars units.now ≡ []) (λ r. utf16_chars units.now ≡ utf16_chars r.0.now ++ r.1 ∷ []) }
 {
@@ -196,7 +196,7 @@ impl<'a> Model for Latin1Chars<'a> {
 }
 
 /// The characters of Latin-1 bytes, as many as there are bytes.
-#[tactic(auto, using(crate::proofs::DecodedLemmas::latin1_scalars))]
+#[tactic(auto, using(crate::proofs::decoded::DecodedLemmas::latin1_scalars))]
 pub fn decode_latin1(bytes: &[u8]) -> Latin1Chars<'_>
     ensures chars { result ≡ latin1_chars bytes.now }
     ensures bound { length result ≤ length bytes.now }
@@ -243,7 +243,7 @@ impl<'a> Clone for Latin1Chars<'a> {
 
 /// The law that text reads as it was written: characters that UTF-8 or UTF-16 encodes are the characters that its
 /// bytes or units decode to. It does nothing when it runs.
-#[tactic(auto, using(crate::proofs::CanonicalTextLemmas::utf8_text, crate::proofs::CanonicalTextLemmas::utf16_text))]
+#[tactic(auto, using(crate::proofs::decoded::CanonicalTextLemmas::utf8_text, crate::proofs::decoded::CanonicalTextLemmas::utf16_text))]
 pub fn text_reads_as_written()
     ensures utf8 { (chars : List ℕ) → All IsScalar chars → utf8_chars (encode_utf8_all chars) ≡ chars }
     ensures utf16 { (chars : List ℕ) → All IsScalar chars → utf16_chars (flat_map encode_utf16 chars) ≡ chars }

@@ -7,7 +7,7 @@ use Rattle.std.proofs.lemmas.List.Elements.{Contains-append_left, Contains-appen
 use Rattle.std.proofs.lemmas.Option.{none-some}
 use lib.Utf8.{scalar}
 use Rattle.icu_normalizer_core.specs.BuiltIn.{is_jamo, is_within}
-use Rattle.icu_normalizer_core.proofs.ScalarLemmas.{scalar_below}
+use Rattle.icu_normalizer_core.proofs.decoded.ScalarLemmas.{scalar_below}
 use Rattle.icu_collator_core.specs.PlainLeads.{leads_alone}
 use Rattle.icu_collator_core.specs.Weights.{Range}
 use Rattle.icu_collator_core.specs.WeightRules.{is_sound_range, stays_in_lead}

@@ -6,7 +6,7 @@ use Rattle.std.specs.List.{All, Contains}
 use Rattle.std.proofs.lemmas.List.{length-map, length_push, map_push}
 use Rattle.std.proofs.lemmas.List.Elements.{All-head, All-nil, All-push, All-same, All-tail}
 use Rattle.icu_normalizer_core.specs.Decoding.{utf8_chars}
-use Rattle.icu_normalizer_core.proofs.DecodedLemmas.{utf8_scalars}
+use Rattle.icu_normalizer_core.proofs.decoded.DecodedLemmas.{utf8_scalars}
 use Rattle.icu_collator_types.specs.Options.{resolved_options}
 use Rattle.icu_collator_types.specs.declared.options.ResolvedCollatorOptions.{ResolvedCollatorOptions}
 use Rattle.icu_collator.specs.KeyBytes.{key_of_text}

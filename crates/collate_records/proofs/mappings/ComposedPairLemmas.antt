@@ -11,7 +11,7 @@ use Rattle.std.proofs.lemmas.Option.{none-some, same_Some, unwrap_or-slice_get}
 use Rattle.std.proofs.lemmas.Slice.Eq.{bytes_eq-Decides}
 use Rattle.icu_normalizer_core.specs.BuiltIn.{syllable_of, singled_out, built_in_step, is_within, is_built_in}
 use Rattle.icu_normalizer_core.specs.Canonical.{IsComposing, composed}
-use Rattle.icu_normalizer_core.proofs.BuiltInFacts.{syllable_pair, syllable_scalar, syllable_unsingled, singled_mapped}
+use Rattle.icu_normalizer_core.proofs.built.BuiltInFacts.{syllable_pair, syllable_scalar, syllable_unsingled, singled_mapped}
 use Rattle.collate_lines.specs.declared.rule.Rule.TheVariants.{C6, C7, V14}
 use Rattle.collate_lines.specs.Record.{Record, nothing, class, mapping, compatibility, weights, range, digit, setting}
 use Rattle.collate_rules.specs.Meaning.{first_found, mapping_in, composed_in, step_of, class_of, pair_of, canonical_of}

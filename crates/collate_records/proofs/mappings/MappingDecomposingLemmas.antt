@@ -8,7 +8,7 @@ use lib.Utf8.{scalar_cases}
 use Rattle.std.proofs.lemmas.Bool.{cases_eq, cases_lt, ne_eqb, or_left}
 use Rattle.std.proofs.lemmas.List.Elements.{All-contains, All-cons, All-nil}
 use Rattle.icu_normalizer_core.specs.BuiltIn.{is_syllable, is_jamo, syllable_step, singled_out, built_in_step, built_in_compatibility_step, built_in_class}
-use Rattle.icu_normalizer_core.proofs.BuiltInFacts.{built_in_cases, all_singled_out, syllable_cases, open_syllable_cases, jamo_unmapped, syllable_mapped}
+use Rattle.icu_normalizer_core.proofs.built.BuiltInFacts.{built_in_cases, all_singled_out, syllable_cases, open_syllable_cases, jamo_unmapped, syllable_mapped}
 use Rattle.icu_normalizer_core.specs.Canonical.{Reaches, stands, steps, Leaves, IsFree, IsDecomposing}
 use Rattle.collate_lines.specs.Record.{Record}
 use Rattle.collate_rules.specs.Meaning.{first_found, class_in, mapping_in, compatibility_in, compatibility_of, else_mapped, step_of, class_of, full_of, canonical_of, any_step}

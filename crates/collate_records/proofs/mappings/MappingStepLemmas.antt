@@ -10,7 +10,7 @@ use Rattle.std.proofs.lemmas.Option.{none-some, unwrap_or-slice_get}
 use Rattle.std.proofs.lemmas.List.Elements.{All-get_or, All-nil}
 use Rattle.icu_normalizer_core.specs.BuiltIn.{is_syllable, is_jamo, singled_out, built_in_step, built_in_compatibility_step, built_in_class, is_built_in}
 use Rattle.icu_normalizer_core.specs.Canonical.{IsFree}
-use Rattle.icu_normalizer_core.proofs.BuiltInFacts.{built_in_short, small_class as small_built_in_class}
+use Rattle.icu_normalizer_core.proofs.built.BuiltInFacts.{built_in_short, small_class as small_built_in_class}
 use Rattle.collate_lines.specs.Record.{Record, nothing, class, mapping}
 use Rattle.collate_rules.specs.Meaning.{first_found, mapping_in, class_in, step_of, class_of}
 use Rattle.collate_lines.specs.Repeats.{record_at}

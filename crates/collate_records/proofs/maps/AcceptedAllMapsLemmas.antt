@@ -8,7 +8,7 @@ use Rattle.icu_normalizer_core.specs.BuiltIn.{built_in_class}
 use Rattle.icu_normalizer_core.specs.Canonical.{Canonical, Leaves, composed}
 use Rattle.icu_normalizer_core.specs.CanonicalMaps.{AreMeaning, KeepRules, IsMapped, BeginsWithStarter, given_step, step_of as step_of_maps}
 use Rattle.icu_normalizer_core.specs.Sameness.{AreSameCanonical}
-use Rattle.icu_normalizer_core.proofs.LeftLemmas.{left_one}
+use Rattle.icu_normalizer_core.proofs.settling.LeftLemmas.{left_one}
 use Rattle.icu_normalizer_core.proofs.builder.AcceptedMapsSameLemmas.{AreAlike, composed_same, one_meaning}
 use Rattle.icu_normalizer_core.proofs.builder.GivenLemmas.{counted, one_each}
 use Rattle.collate_lines.specs.declared.rule.Rule.{Rule}

@@ -15,7 +15,7 @@ use Rattle.icu_normalizer_core.specs.Canonical.{Leaves}
 use Rattle.icu_normalizer_core.specs.CanonicalMaps.{BeginsWithStarter, CanonicalMaps, KeepRules, class_of as class_of_maps, first_mapping, mapping_given, named as named_by, step_of as step_of_maps}
 use Rattle.icu_normalizer_core.specs.CompatibilityMaps.{AllMaps, AreApart, AreMeaningOf, HaveOneCompatibility, IsMappedAtAll, KeepAllRules, KeepCompatibilityRules, all_named, all_steps_of, compatibility_step, else_mapped, given_compatibility, is_built_in_compatibility}
 use Rattle.icu_normalizer_core.specs.Words.{WordLists}
-use Rattle.icu_normalizer_core.proofs.LeftLemmas.{left_one, left_same}
+use Rattle.icu_normalizer_core.proofs.settling.LeftLemmas.{left_one, left_same}
 use Rattle.icu_normalizer_core.proofs.builder.AllStepLemmas.{all_second, cases_step, step_apart, step_fixed, step_given, unbound}
 use Rattle.collate_lines.specs.declared.rule.Rule.TheVariants.{C9, Limit, V14}
 use Rattle.collate_lines.specs.Record.{Record, compatibility}

@@ -9,7 +9,7 @@ use Rattle.std.proofs.lemmas.Option.{unwrap_or-slice_get}
 use Rattle.std.proofs.lemmas.List.Elements.{All-cons, All-contains, All-get_or, All-nil, All-weaker}
 use Rattle.icu_normalizer_core.specs.BuiltIn.{built_in_compatibility_step, built_in_step, is_built_in}
 use Rattle.icu_normalizer_core.specs.Canonical.{Leaves}
-use Rattle.icu_normalizer_core.proofs.BuiltInFacts.{class_scalar}
+use Rattle.icu_normalizer_core.proofs.built.BuiltInFacts.{class_scalar}
 use Rattle.icu_normalizer_core.proofs.builder.AllStepLemmas.{cases_list, cases_step, compatible}
 use Rattle.collate_lines.specs.declared.rule.Rule.TheVariants.{C1, C2, C4, C7}
 use Rattle.collate_lines.specs.Record.{Record, nothing, class, mapping, compatibility, weights, range, digit, setting}

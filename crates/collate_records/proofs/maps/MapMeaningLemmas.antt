@@ -13,7 +13,7 @@ use Rattle.icu_normalizer_core.specs.declared.canonical.builder.GivenMapping.{Gi
 use Rattle.icu_normalizer_core.specs.BuiltIn.{built_in_class, built_in_step, built_in_compatibility_step, syllable_of, is_built_in}
 use Rattle.icu_normalizer_core.specs.Canonical.{IsDecomposing}
 use Rattle.icu_normalizer_core.specs.CanonicalMaps.{AreMeaning, given_step, given_pair, composes, class_of as class_of_maps, step_of as step_of_maps, pair_of as pair_of_maps}
-use Rattle.icu_normalizer_core.proofs.LeftLemmas.{left_same}
+use Rattle.icu_normalizer_core.proofs.settling.LeftLemmas.{left_same}
 use Rattle.collate_lines.specs.Record.{Record, nothing, class, mapping, compatibility, weights, range, digit, setting}
 use Rattle.collate_rules.specs.Meaning.{first_found, mapping_in, composed_in, class_of, step_of, pair_of, canonical_of}
 use Rattle.collate_records.specs.Maps.{mappings_in, maps_of}

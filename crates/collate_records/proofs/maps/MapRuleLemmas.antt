@@ -14,7 +14,7 @@ use Rattle.icu_normalizer_core.specs.declared.canonical.builder.GivenClass.{Give
 use Rattle.icu_normalizer_core.specs.declared.canonical.builder.GivenMapping.{GivenMapping}
 use Rattle.icu_normalizer_core.specs.BuiltIn.{built_in_class, built_in_step, is_syllable, is_jamo, is_built_in}
 use Rattle.icu_normalizer_core.specs.CanonicalMaps.{mapping_given, is_built_in_mapping}
-use Rattle.icu_normalizer_core.proofs.BuiltInFacts.{syllable_cases, syllable_mapped}
+use Rattle.icu_normalizer_core.proofs.built.BuiltInFacts.{syllable_cases, syllable_mapped}
 use Rattle.collate_lines.specs.Record.{Record, nothing, class, mapping, compatibility, weights, range, digit, setting}
 use Rattle.collate_records.specs.Maps.{classes_in, mappings_in}
 use Rattle.collate_rules.specs.Rules.{is_built_in_record, IsBadClass, MapsHangul}

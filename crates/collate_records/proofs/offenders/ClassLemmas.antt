@@ -1,7 +1,7 @@
 -- what the rules on classes give
 use Rattle.std.proofs.Common.{List, All, arith, inl, inr}
 use Rattle.std.proofs.lemmas.Bool.{cases_lt}
-use Rattle.icu_normalizer_core.proofs.BuiltInFacts.{small_class}
+use Rattle.icu_normalizer_core.proofs.built.BuiltInFacts.{small_class}
 use Rattle.collate_lines.specs.declared.rule.Rule.TheVariants.{C3}
 use Rattle.collate_lines.specs.Record.{Record, nothing, class, mapping, compatibility, weights, range, digit, setting}
 use Rattle.collate_rules.specs.Rules.{IsBadClass}

@@ -7,8 +7,8 @@ use Rattle.std.proofs.lemmas.Bool.Decides.{nat_tests}
 use Rattle.std.proofs.Math.Path.{fun_ext}
 use Rattle.icu_normalizer_core.specs.BuiltIn.{built_in_class, built_in_compatibility_step}
 use Rattle.icu_normalizer_core.specs.Canonical.{Canonical, composed, marks_in_order, put_in_order, recomposed}
-use Rattle.icu_normalizer_core.proofs.BuiltInFacts.{low_free}
-use Rattle.icu_normalizer_core.proofs.CompositionLemmas.{composed_one, composing_end, mark_alone, recomposed_starter}
+use Rattle.icu_normalizer_core.proofs.built.BuiltInFacts.{low_free}
+use Rattle.icu_normalizer_core.proofs.composed.CompositionLemmas.{composed_one, composing_end, mark_alone, recomposed_starter}
 use Rattle.collate_rules.specs.declared.canonical_part.CanonicalPart.{CanonicalPart}
 use Rattle.collate_lines.specs.Record.{Record}
 use Rattle.collate_rules.specs.Meaning.{first_found, class_in, mapping_in, compatibility_in, class_of, step_of, compatibility_of, canonical_of, pair_of, expanded}

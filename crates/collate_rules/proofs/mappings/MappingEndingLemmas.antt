@@ -8,7 +8,7 @@ use Rattle.std.proofs.lemmas.Map.Views.{Contains-from_any}
 use Rattle.std.proofs.lemmas.Map.Keys.{IsDistinct-push}
 use Rattle.std.proofs.lemmas.Map.Steps.{length-le_from_distinct_below}
 use Rattle.icu_normalizer_core.specs.Canonical.{Reaches, stands, Leaves, nothing, unmapped, mapped}
-use Rattle.icu_normalizer_core.proofs.LeftLemmas.{left_append}
+use Rattle.icu_normalizer_core.proofs.settling.LeftLemmas.{left_append}
 use Rattle.collate_rules.specs.Meaning.{expanded}
 use Rattle.collate_rules.proofs.lists.RuleFullListLemmas.{by_first, expanded-suc}
 use Rattle.collate_rules.proofs.mappings.LoopLemmas.{reaches_on}

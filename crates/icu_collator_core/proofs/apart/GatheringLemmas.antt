@@ -7,7 +7,7 @@ use Rattle.std.specs.List.{Contains}
 use Rattle.std.proofs.lemmas.List.{get_or_default}
 use Rattle.icu_char16trie.specs.KeyFolds.{AreFolded}
 use Rattle.icu_char16trie.specs.UnitGrammar.{IsUnitTrie}
-use Rattle.icu_normalizer_core.proofs.ScalarLemmas.{scalar_below}
+use Rattle.icu_normalizer_core.proofs.decoded.ScalarLemmas.{scalar_below}
 use Rattle.icu_collator_core.specs.Pools.{Pools, index_of, trie_of}
 use Rattle.icu_collator_core.specs.PrefixFaults.{HasValue}
 use Rattle.icu_collator_core.specs.WordForms.{keeps_nothing}

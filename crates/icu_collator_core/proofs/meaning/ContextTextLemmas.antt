@@ -10,7 +10,7 @@ use Rattle.icu_char16trie.specs.Cursors.{units_of, value_of_key}
 use Rattle.icu_char16trie.proofs.Cursors.ValueLemmas.{value_spelled}
 use Rattle.icu_char16trie.proofs.Reading.OutcomeLemmas.{start-spells}
 use Rattle.icu_normalizer_core.specs.BuiltIn.{is_within}
-use Rattle.icu_normalizer_core.proofs.ScalarLemmas.{scalar_below}
+use Rattle.icu_normalizer_core.proofs.decoded.ScalarLemmas.{scalar_below}
 use Rattle.icu_collator_core.specs.ContextRules.{KeysPass, characters_of_units, is_lower_half, is_upper_half, joined_halves}
 use Rattle.icu_collator_core.specs.Pools.{Pools, index_of, trie_of, word_in_context}
 use Rattle.icu_collator_core.proofs.checks.KeyLemmas.{two_units, whole_unit}

@@ -9,7 +9,7 @@ use Rattle.std.proofs.lemmas.Option.{none-some, same_Some}
 use lib.Utf8.{low_scalar, scalar, scalars}
 use Rattle.icu_char16trie.specs.Cursors.{units_of}
 use Rattle.icu_normalizer_core.specs.BuiltIn.{is_within}
-use Rattle.icu_normalizer_core.proofs.ScalarLemmas.{scalar_below}
+use Rattle.icu_normalizer_core.proofs.decoded.ScalarLemmas.{scalar_below}
 use Rattle.icu_collator_core.specs.ContextRules.{characters_of_units, is_lower_half, is_upper_half, joined_halves}
 use Rattle.icu_collator_core.proofs.meaning.ContextTextLemmas.{lower, one_unit, two_halves, upper}
 

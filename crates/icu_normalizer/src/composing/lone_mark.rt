@@ -115,7 +115,7 @@ fn is_steady_up_to(basis: FormData<'_>, low: &[FormNote], c: char, class: u8) ->
 }
 
 /// The same, by what the data say.
-#[tactic(auto, using(crate::proofs::LoneMarkLemmas::steady_up_to_itself, crate::proofs::LoneMarkLemmas::steady_up_to_two))]
+#[tactic(auto, using(crate::proofs::composed::LoneMarkLemmas::steady_up_to_itself, crate::proofs::composed::LoneMarkLemmas::steady_up_to_two))]
 fn is_asked_up_to(basis: FormData<'_>, c: char, class: u8) -> bool
     ensures { IsTrue result → IsSteadyUpTo (form_meaning basis.entry) c class }
 {

@@ -36,7 +36,7 @@ impl<'t> Text for &'t [u16] {
     }
 
     #[inline]
-    #[tactic(auto, using(crate::proofs::FormTextLemmas::utf16_characters))]
+    #[tactic(auto, using(crate::proofs::passed::FormTextLemmas::utf16_characters))]
     fn keep_promise(self) {}
 
     #[inline(always)]

@@ -16,8 +16,8 @@ use Rattle.icu_normalizer_core.specs.Canonical.{IsFree}
 use Rattle.icu_normalizer_core.specs.CanonicalFaults.{NoneOffends, IsAccepted, OffendsBuiltIn, OffendsPair, IsBadPair}
 use Rattle.icu_normalizer_core.specs.CanonicalLists.{CanonicalLists, canonical_of, pair_first, pair_second, pair_composed}
 use Rattle.icu_normalizer_core.specs.CanonicalMaps.{CanonicalMaps, AreMeaning, KeepRules, given_class, given_step, given_pair, composes, first_mapping, mapping_given, is_built_in_mapping}
-use Rattle.icu_normalizer_core.proofs.PairLemmas.{listed_pair_of}
-use Rattle.icu_normalizer_core.proofs.TableMeanings.{full_is}
+use Rattle.icu_normalizer_core.proofs.composed.PairLemmas.{listed_pair_of}
+use Rattle.icu_normalizer_core.proofs.accepted.TableMeanings.{full_is}
 use Rattle.icu_normalizer_core.proofs.builder.AcceptedMapLemmas.{good_values, good_lists, all_end}
 use Rattle.icu_normalizer_core.proofs.builder.BuiltMapLemmas.{built_meaning, word_full, word_inside, built_in_is}
 use Rattle.icu_normalizer_core.proofs.builder.MapNumberLemmas.{found_all}

@@ -12,9 +12,9 @@ use Rattle.icu_normalizer_core.specs.Canonical.{Canonical, IsDecomposing, IsFree
 use Rattle.icu_normalizer_core.specs.CompatibilityMaps.{all_steps, compatibility_step, else_mapped, first_given, given_compatibility}
 use Rattle.icu_normalizer_core.specs.GivenCompatibilities.{IsOfCharacters}
 use Rattle.icu_normalizer_core.specs.SettledMappings.{AreOnStarters}
-use Rattle.icu_normalizer_core.proofs.BuiltInFacts.{class_scalar}
-use Rattle.icu_normalizer_core.proofs.LeftLemmas.{left_append}
-use Rattle.icu_normalizer_core.proofs.DecomposedLemmas.{left_split}
+use Rattle.icu_normalizer_core.proofs.built.BuiltInFacts.{class_scalar}
+use Rattle.icu_normalizer_core.proofs.settling.LeftLemmas.{left_append}
+use Rattle.icu_normalizer_core.proofs.decomposed.DecomposedLemmas.{left_split}
 use Rattle.icu_normalizer_core.proofs.builder.AcceptedMappingLemmas.{find_true}
 use Rattle.icu_normalizer_core.proofs.builder.MapNumberLemmas.{found_all}
 

@@ -9,11 +9,11 @@ use Rattle.icu_normalizer_core.specs.CanonicalLists.{CanonicalLists, canonical_o
 use Rattle.icu_normalizer_core.specs.CanonicalMaps.{CanonicalMaps, AreMeaning, class_of, step_of, given_class, given_step, given_pair}
 use Rattle.icu_normalizer_core.specs.CanonicalWords.{is_inside, built_in_full, full_of_word}
 use Rattle.icu_normalizer_core.specs.Settled.{key_at}
-use Rattle.icu_normalizer_core.proofs.BuiltInFacts.{built_in_left}
-use Rattle.icu_normalizer_core.proofs.EndingLemmas.{listed_or_not}
-use Rattle.icu_normalizer_core.proofs.TableMeanings.{class_is, full_is, step_is, pair_syllable, pair_listed, step_in_built_in, step_in_free}
-use Rattle.icu_normalizer_core.proofs.TripleLemmas.{listed_none}
-use Rattle.icu_normalizer_core.proofs.ScalarLemmas.{scalar_below}
+use Rattle.icu_normalizer_core.proofs.built.BuiltInFacts.{built_in_left}
+use Rattle.icu_normalizer_core.proofs.settling.EndingLemmas.{listed_or_not}
+use Rattle.icu_normalizer_core.proofs.accepted.TableMeanings.{class_is, full_is, step_is, pair_syllable, pair_listed, step_in_built_in, step_in_free}
+use Rattle.icu_normalizer_core.proofs.settling.TripleLemmas.{listed_none}
+use Rattle.icu_normalizer_core.proofs.decoded.ScalarLemmas.{scalar_below}
 
 -- what steps leave goes by the steps alone
 pub leaves_along : (f g : ℕ → List ℕ) (xs ns : List ℕ) → ((c : ℕ) → f c ≡ g c) → Leaves f xs ns → Leaves g xs ns

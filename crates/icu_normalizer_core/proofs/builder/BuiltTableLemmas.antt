@@ -20,7 +20,7 @@ use Rattle.icu_normalizer_core.specs.CharacterWords.{class_with, IsWordOf, HasNa
 use Rattle.icu_normalizer_core.specs.CanonicalMaps.{CanonicalMaps, KeepRules}
 use Rattle.icu_normalizer_core.proofs.builder.AcceptedMappingLemmas.{built_accepted}
 use Rattle.icu_normalizer_core.proofs.builder.CoveredLemmas.{covered}
-use Rattle.icu_normalizer_core.proofs.ScalarLemmas.{scalar_below}
+use Rattle.icu_normalizer_core.proofs.decoded.ScalarLemmas.{scalar_below}
 
 pub scalar_bound : (c : ℕ) → IsScalar c → c ≤ 0x10_FFFF
 scalar_bound c h = let below = scalar_below c h in omega (arith, below)

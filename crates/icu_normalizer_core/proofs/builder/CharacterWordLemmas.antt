@@ -13,10 +13,10 @@ use Rattle.icu_normalizer_core.specs.CanonicalWords.{is_word, class_of_word, ful
 use Rattle.icu_normalizer_core.specs.CanonicalMaps.{given_class}
 use Rattle.icu_normalizer_core.specs.CharacterWords.{IsWordOf, IsListWord, class_with}
 use Rattle.icu_normalizer_core.specs.Triples.{IsUnlisted}
-use Rattle.icu_normalizer_core.proofs.BuiltInFacts.{all_singled_out, free_full, syllable_mapped, singled_mapped, small_class}
-use Rattle.icu_normalizer_core.proofs.LeftLemmas.{left_alone}
-use Rattle.icu_normalizer_core.proofs.TableMeanings.{step_in_free, zero_form}
-use Rattle.icu_normalizer_core.proofs.TripleLemmas.{listed_none}
+use Rattle.icu_normalizer_core.proofs.built.BuiltInFacts.{all_singled_out, free_full, syllable_mapped, singled_mapped, small_class}
+use Rattle.icu_normalizer_core.proofs.settling.LeftLemmas.{left_alone}
+use Rattle.icu_normalizer_core.proofs.accepted.TableMeanings.{step_in_free, zero_form}
+use Rattle.icu_normalizer_core.proofs.settling.TripleLemmas.{listed_none}
 use Rattle.icu_normalizer_core.proofs.builder.ListWordLemmas.{inside_apart}
 use Rattle.icu_normalizer_core.proofs.builder.MapNumberLemmas.{found_all}
 

@@ -20,10 +20,10 @@ use Rattle.icu_normalizer_core.specs.CompatibilityFaults.{AreAcceptedWords, Offe
 use Rattle.icu_normalizer_core.specs.CompatibilityMaps.{AllMaps, AreMeaningOf, KeepAllRules, all_steps_of, compatibility_step, else_mapped}
 use Rattle.icu_normalizer_core.specs.SettledMappings.{AreFullWords, HasBadLeft, IsSound, steps_in}
 use Rattle.icu_normalizer_core.specs.Words.{WordLists, class_in, full_in}
-use Rattle.icu_normalizer_core.proofs.BuiltInFacts.{built_in_left, free_full}
-use Rattle.icu_normalizer_core.proofs.DecomposedLemmas.{left_one}
-use Rattle.icu_normalizer_core.proofs.FixedListLemmas.{fixed_built, fixed_low, fixed_step}
-use Rattle.icu_normalizer_core.proofs.LeftLemmas.{all_unmapped, left_alone, left_append, left_single, unmapped_left}
+use Rattle.icu_normalizer_core.proofs.built.BuiltInFacts.{built_in_left, free_full}
+use Rattle.icu_normalizer_core.proofs.decomposed.DecomposedLemmas.{left_one}
+use Rattle.icu_normalizer_core.proofs.compatible.FixedListLemmas.{fixed_built, fixed_low, fixed_step}
+use Rattle.icu_normalizer_core.proofs.settling.LeftLemmas.{all_unmapped, left_alone, left_append, left_single, unmapped_left}
 use Rattle.icu_normalizer_core.proofs.builder.AcceptedMappingLemmas.{find_true, unbuilt}
 use Rattle.icu_normalizer_core.proofs.builder.AllStepLemmas.{all_first, all_scalars, all_second, cases_step, compatible, left_of_scalars, left_through, scalars_left, unbound}
 use Rattle.icu_normalizer_core.proofs.builder.AllStepLemmas.{step_fixed as fixed_compatibility}

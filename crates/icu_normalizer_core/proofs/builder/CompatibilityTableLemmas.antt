@@ -14,7 +14,7 @@ use Rattle.icu_normalizer_core.specs.CompatibilityFaults.{AreAcceptedWords, IsFi
 use Rattle.icu_normalizer_core.specs.CompatibilityMaps.{AreAcceptedOver}
 use Rattle.icu_normalizer_core.specs.Sameness.{AreSameCanonical}
 use Rattle.icu_normalizer_core.specs.Words.{WordLists, class_in, full_in}
-use Rattle.icu_normalizer_core.proofs.AcceptedWords.{word_scalars}
+use Rattle.icu_normalizer_core.proofs.accepted.AcceptedWords.{word_scalars}
 use Rattle.icu_normalizer_core.proofs.builder.AcceptedMapsSameLemmas.{one_meaning}
 
 begins_alike : (a b : Canonical) → AreSameCanonical a b → (list : List ℕ) → All IsScalar list → begins_with_mark a list ≡ begins_with_mark b list

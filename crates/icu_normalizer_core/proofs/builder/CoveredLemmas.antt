@@ -12,7 +12,7 @@ use Rattle.icu_normalizer_core.specs.CanonicalLists.{listed_step}
 use Rattle.icu_normalizer_core.specs.CanonicalMaps.{given_class, given_step, mapping_given}
 use Rattle.icu_normalizer_core.specs.CharacterWords.{class_with, IsWordOf, HasNamed, HasWords, built_in_named, unnamed_word}
 use Rattle.icu_normalizer_core.specs.Settled.{IsAmong}
-use Rattle.icu_normalizer_core.proofs.TableMeanings.{step_in_free}
+use Rattle.icu_normalizer_core.proofs.accepted.TableMeanings.{step_in_free}
 use Rattle.icu_normalizer_core.proofs.builder.CharacterWordLemmas.{syllable_word, zero_word}
 
 pub among_or_not : (xs : List ℕ) (c : ℕ) → IsAmong xs c ⊎ (IsAmong xs c → ⊥)

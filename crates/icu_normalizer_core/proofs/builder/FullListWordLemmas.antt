@@ -12,13 +12,13 @@ use Rattle.icu_normalizer_core.specs.CanonicalLists.{AreTriples, step_in}
 use Rattle.icu_normalizer_core.specs.CharacterWords.{AreListWords, HasBadEnd}
 use Rattle.icu_normalizer_core.specs.ListWords.{StatesList, StateSettled, AreLists, HasUnsettled}
 use Rattle.icu_normalizer_core.specs.Settled.{left_items, key_at, AreStarts, IsStartOf, IsDone}
-use Rattle.icu_normalizer_core.proofs.AcceptedTables.{listed_scalars}
-use Rattle.icu_normalizer_core.proofs.BuiltInFacts.{built_in_short}
-use Rattle.icu_normalizer_core.proofs.DecomposedLemmas.{left_one}
-use Rattle.icu_normalizer_core.proofs.EndingLemmas.{got_cases}
-use Rattle.icu_normalizer_core.proofs.LeftLemmas.{left_scalars}
-use Rattle.icu_normalizer_core.proofs.SettlingLemmas.{open_endless}
-use Rattle.icu_normalizer_core.proofs.TableMeanings.{step_in_built_in, step_in_free}
+use Rattle.icu_normalizer_core.proofs.accepted.AcceptedTables.{listed_scalars}
+use Rattle.icu_normalizer_core.proofs.built.BuiltInFacts.{built_in_short}
+use Rattle.icu_normalizer_core.proofs.decomposed.DecomposedLemmas.{left_one}
+use Rattle.icu_normalizer_core.proofs.settling.EndingLemmas.{got_cases}
+use Rattle.icu_normalizer_core.proofs.settling.LeftLemmas.{left_scalars}
+use Rattle.icu_normalizer_core.proofs.settling.SettlingLemmas.{open_endless}
+use Rattle.icu_normalizer_core.proofs.accepted.TableMeanings.{step_in_built_in, step_in_free}
 
 -- ---- Lists cut to nine
 

@@ -16,10 +16,10 @@ use Rattle.icu_normalizer_core.specs.CanonicalWords.{built_in_full, full_of_word
 use Rattle.icu_normalizer_core.specs.ListWords.{KeepsStating}
 use Rattle.icu_normalizer_core.specs.Settled.{left_items}
 use Rattle.icu_normalizer_core.specs.SettledMappings.{IsSound, KeepsFullWord, StartsLeft, steps_in}
-use Rattle.icu_normalizer_core.proofs.BuiltInFacts.{built_in_left, syllable_left}
-use Rattle.icu_normalizer_core.proofs.DecomposedLemmas.{left_one}
-use Rattle.icu_normalizer_core.proofs.LeftLemmas.{left_alone}
-use Rattle.icu_normalizer_core.proofs.TableMeanings.{class_is, full_is}
+use Rattle.icu_normalizer_core.proofs.built.BuiltInFacts.{built_in_left, syllable_left}
+use Rattle.icu_normalizer_core.proofs.decomposed.DecomposedLemmas.{left_one}
+use Rattle.icu_normalizer_core.proofs.settling.LeftLemmas.{left_alone}
+use Rattle.icu_normalizer_core.proofs.accepted.TableMeanings.{class_is, full_is}
 use Rattle.icu_normalizer_core.proofs.builder.AllStepLemmas.{all_none, all_scalars, built_on, cases_step, mark_alone, marks_unmapped, scalars_left}
 use Rattle.icu_normalizer_core.proofs.builder.CharacterWordLemmas.{form_states, full_zero, states_class}
 use Rattle.icu_normalizer_core.proofs.builder.FullListWordLemmas.{left_some, take_all_of, take_some, take_whole}

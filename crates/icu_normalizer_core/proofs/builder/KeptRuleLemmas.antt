@@ -10,8 +10,8 @@ use Rattle.icu_normalizer_core.specs.CanonicalLists.{AreTriples, listed_step, st
 use Rattle.icu_normalizer_core.specs.CanonicalMaps.{CanonicalMaps, KeepRules, IsMapped, first_class, given_class, step_of, given_step}
 use Rattle.icu_normalizer_core.specs.CharacterWords.{AreStarters, HasBadEnd, class_with}
 use Rattle.icu_normalizer_core.specs.Settled.{key_at}
-use Rattle.icu_normalizer_core.proofs.BuiltInFacts.{small_class}
-use Rattle.icu_normalizer_core.proofs.TripleLemmas.{listed_of}
+use Rattle.icu_normalizer_core.proofs.built.BuiltInFacts.{small_class}
+use Rattle.icu_normalizer_core.proofs.settling.TripleLemmas.{listed_of}
 use Rattle.icu_normalizer_core.proofs.builder.BuiltMapLemmas.{leaves_along, steps_same}
 use Rattle.icu_normalizer_core.proofs.builder.MapNumberLemmas.{mapping_some, keys_free}
 

@@ -8,7 +8,7 @@ use Rattle.std.proofs.lemmas.Bool.Decides.{nat_tests}
 use Rattle.icu_normalizer_core.specs.CanonicalWords.{is_list_word, is_pair_word, is_one_word, states_list, is_inside, items_at, list_offset, length_in_24, full_of_word}
 use Rattle.std.proofs.lemmas.List.Elements.{All-head}
 use Rattle.icu_normalizer_core.specs.ListWords.{StatesList, KeepsStating}
-use Rattle.icu_normalizer_core.proofs.FullListLemmas.{listed_in_24, full_listed}
+use Rattle.icu_normalizer_core.proofs.full_lists.FullListLemmas.{listed_in_24, full_listed}
 
 -- ---- Words that state the list by themselves
 

@@ -13,8 +13,8 @@ use Rattle.icu_normalizer_core.specs.CanonicalMaps.{mapping_given, given_step, g
 use Rattle.icu_normalizer_core.specs.GivenMaps.{IsOfScalars}
 use Rattle.icu_normalizer_core.specs.InOrder.{first_of, Rise, AreFirstsInOrder}
 use Rattle.icu_normalizer_core.specs.Settled.{key_at}
-use Rattle.icu_normalizer_core.proofs.ScalarLemmas.{scalar_below}
-use Rattle.icu_normalizer_core.proofs.TripleLemmas.{listed_of}
+use Rattle.icu_normalizer_core.proofs.decoded.ScalarLemmas.{scalar_below}
+use Rattle.icu_normalizer_core.proofs.settling.TripleLemmas.{listed_of}
 use Rattle.icu_normalizer_core.specs.MapNumbers.{second_code, mapping_number, mapping_numbers, pair_number, pair_numbers, triple, IsMappingNumber, IsPairNumber}
 
 -- ---- What is found holds what all hold

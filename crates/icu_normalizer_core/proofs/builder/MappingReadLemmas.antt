@@ -16,9 +16,9 @@ use Rattle.icu_normalizer_core.specs.CompatibilityMaps.{first_given}
 use Rattle.icu_normalizer_core.specs.Properties.{mapped_to}
 use Rattle.icu_normalizer_core.specs.Settled.{left_items, IsAmong}
 use Rattle.icu_normalizer_core.specs.SettledMappings.{AreMappingStarts, HasOpen, IsAllSettled, IsOpenMapping, IsSound, StartsLeft, steps_in}
-use Rattle.icu_normalizer_core.proofs.AcceptedPairs.{canonical}
-use Rattle.icu_normalizer_core.proofs.LeftLemmas.{AreUnmapped, unmapped_at, unmapped_left}
-use Rattle.icu_normalizer_core.proofs.SettlingLemmas.{among_behind, among_front}
+use Rattle.icu_normalizer_core.proofs.accepted.AcceptedPairs.{canonical}
+use Rattle.icu_normalizer_core.proofs.settling.LeftLemmas.{AreUnmapped, unmapped_at, unmapped_left}
+use Rattle.icu_normalizer_core.proofs.settling.SettlingLemmas.{among_behind, among_front}
 use Rattle.icu_normalizer_core.proofs.builder.AllStepLemmas.{all_first, all_second, compatible, given_is, left_through, marks_unmapped, scalars_left, step_apart, step_fixed, step_given}
 use Rattle.icu_normalizer_core.proofs.builder.SettledMappingLemmas.{mapping_found, never_left, starts_alone, starts_joined, starts_mapped, starts_none}
 

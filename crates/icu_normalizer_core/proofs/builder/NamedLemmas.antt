@@ -27,7 +27,7 @@ use Rattle.icu_normalizer_core.specs.MapNumbers.{mapping_number, mapping_numbers
 use Rattle.icu_normalizer_core.specs.Named.{AreDistinctOf, with_new}
 use Rattle.icu_normalizer_core.specs.Settled.{IsAmong}
 use Rattle.icu_normalizer_core.specs.SettledMappings.{HasAllNamed}
-use Rattle.icu_normalizer_core.proofs.BuiltInFacts.{high_scalar}
+use Rattle.icu_normalizer_core.proofs.built.BuiltInFacts.{high_scalar}
 use Rattle.icu_normalizer_core.proofs.builder.AcceptedMapsLimitLemmas.{behind_named, distinct_among, front_named, keys_named, members_kept}
 use Rattle.icu_normalizer_core.proofs.builder.CharacterWordLemmas.{index_got}
 use Rattle.icu_normalizer_core.proofs.builder.MapNumberLemmas.{mapping_parts}

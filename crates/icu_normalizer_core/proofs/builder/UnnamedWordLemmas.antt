@@ -23,9 +23,9 @@ use Rattle.icu_normalizer_core.specs.GivenCompatibilities.{IsOfCharacters}
 use Rattle.icu_normalizer_core.specs.GivenMaps.{IsOfScalars}
 use Rattle.icu_normalizer_core.specs.Settled.{IsAmong}
 use Rattle.icu_normalizer_core.specs.SettledMappings.{AreOnStarters, AreOthersUnnamed, IsFullWord, IsSound, named_with, steps_in}
-use Rattle.icu_normalizer_core.proofs.BuiltInFacts.{built_in_cases, high_scalar, syllable_left}
-use Rattle.icu_normalizer_core.proofs.LeftLemmas.{left_alone}
-use Rattle.icu_normalizer_core.proofs.TableMeanings.{zero_form}
+use Rattle.icu_normalizer_core.proofs.built.BuiltInFacts.{built_in_cases, high_scalar, syllable_left}
+use Rattle.icu_normalizer_core.proofs.settling.LeftLemmas.{left_alone}
+use Rattle.icu_normalizer_core.proofs.accepted.TableMeanings.{zero_form}
 use Rattle.icu_normalizer_core.proofs.builder.AllStepLemmas.{all_second, cases_step, given_is, step_given}
 use Rattle.icu_normalizer_core.proofs.builder.CharacterWordLemmas.{class_zero, full_of_one, full_zero, syllable_word}
 use Rattle.icu_normalizer_core.proofs.builder.CoveredLemmas.{no_class, not_behind, not_front, not_singled_out, unclassed, unmapped}

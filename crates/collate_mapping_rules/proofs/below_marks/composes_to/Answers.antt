@@ -1,6 +1,6 @@
 use Rattle.std.proofs.Common.{◌≡◌, ℕ, ◌∷◌, [], map, sym, ap, ◌∙◌}
 use Rattle.std.proofs.lemmas.Bool.{false≢true, eq-eqb, eqb-true}
-use Rattle.icu_normalizer_core.proofs.CompositionLemmas.{joined_at, apart_at, end_at}
+use Rattle.icu_normalizer_core.proofs.composed.CompositionLemmas.{joined_at, apart_at, end_at}
 use Rattle.collate_rules.specs.CanonicalParts.{in_full}
 use Rattle.collate_rules.specs.Meaning.{canonical_of}
 use Rattle.collate_mapping_rules.proofs.below_marks.composes_to.Goals as goal

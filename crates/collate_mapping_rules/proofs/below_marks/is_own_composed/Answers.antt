@@ -1,6 +1,6 @@
 use Rattle.std.proofs.Common.{◌≡◌, ◌∷◌, [], ℕ, List, map, sym, ap, ◌∙◌, subst, append-nil, ◌↔◌, IsTrue}
 use Rattle.icu_normalizer_core.specs.Canonical.{marks_in_order, recomposed}
-use Rattle.icu_normalizer_core.proofs.CompositionLemmas.{composed_one}
+use Rattle.icu_normalizer_core.proofs.composed.CompositionLemmas.{composed_one}
 use Rattle.collate_rules.specs.CanonicalParts.{in_full}
 use Rattle.collate_rules.specs.Meaning.{canonical_of, full_of}
 use Rattle.collate_mapping_rules.proofs.mappings.MappingOrderLemmas.{in_order_none}

@@ -3,7 +3,7 @@ use Rattle.std.proofs.lemmas.Bool.{false≢true}
 use Rattle.std.proofs.lemmas.Bool.Decides.{Decides-eqb}
 use Rattle.std.proofs.lemmas.List.{nil_from_length}
 use Rattle.icu_normalizer_core.specs.Canonical.{recomposed}
-use Rattle.icu_normalizer_core.proofs.CompositionLemmas.{mark_alone, mark_first, none_of_nothing, recomposed_starter}
+use Rattle.icu_normalizer_core.proofs.composed.CompositionLemmas.{mark_alone, mark_first, none_of_nothing, recomposed_starter}
 use Rattle.collate_rules.specs.CanonicalParts.{in_full}
 use Rattle.collate_rules.specs.Meaning.{canonical_of}
 use Rattle.collate_mapping_rules.proofs.below_marks.recomposes_to.Goals as goal

@@ -1,6 +1,6 @@
 use Rattle.std.proofs.Common.{ℕ, List, ◌++◌, ap, ◌∙◌}
 use Rattle.icu_normalizer_core.specs.Decoding.{utf8_chars}
-use Rattle.icu_normalizer_core.proofs.DecodedLemmas.{utf8_scalars}
+use Rattle.icu_normalizer_core.proofs.decoded.DecodedLemmas.{utf8_scalars}
 use Rattle.icu_collator.specs.CollatorAnswers.{key_by}
 use Rattle.collate_run.proofs.replies.sort_key.Goals as goal
 

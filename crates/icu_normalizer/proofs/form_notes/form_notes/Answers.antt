@@ -3,7 +3,7 @@ use Rattle.std.proofs.lemmas.List.{length_push}
 use Rattle.icu_normalizer_core.specs.FormData.{form_meaning}
 use Rattle.icu_normalizer.specs.FormNotes.{AreLow}
 use Rattle.icu_normalizer.specs.declared.form_notes.FormNote.{FormNote}
-use Rattle.icu_normalizer.proofs.FormNoteLemmas.{low_more}
+use Rattle.icu_normalizer.proofs.noted.FormNoteLemmas.{low_more}
 use Rattle.icu_normalizer.proofs.form_notes.form_notes.Goals as goal
 
 pub loop-code-preserved : goal.loop-code-preserved

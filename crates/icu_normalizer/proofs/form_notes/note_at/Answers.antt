@@ -1,5 +1,5 @@
 use Rattle.icu_normalizer_core.specs.FormData.{form_meaning}
-use Rattle.icu_normalizer.proofs.FormNoteLemmas.{nothing_low}
+use Rattle.icu_normalizer.proofs.noted.FormNoteLemmas.{nothing_low}
 use Rattle.icu_normalizer.proofs.form_notes.note_at.Goals as goal
 
 pub returns-in-None : goal.returns-in-None

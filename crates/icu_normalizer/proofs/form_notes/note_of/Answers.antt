@@ -1,6 +1,6 @@
 use Rattle.std.proofs.Common.{◌<◌, arith}
 use Rattle.icu_normalizer_core.specs.FormData.{form_meaning}
-use Rattle.icu_normalizer.proofs.FormNoteLemmas.{steady_note}
+use Rattle.icu_normalizer.proofs.noted.FormNoteLemmas.{steady_note}
 use Rattle.icu_normalizer.proofs.form_notes.note_of.Goals as goal
 
 pub returns : goal.returns

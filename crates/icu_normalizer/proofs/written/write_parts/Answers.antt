@@ -1,7 +1,7 @@
 use Rattle.std.proofs.Common.{refl}
 use Rattle.std.proofs.lemmas.Result.{on_err_weaker}
 use Rattle.icu_normalizer.specs.Sinks.{nothing, more}
-use Rattle.icu_normalizer.proofs.SinkLemmas.{joined_front, joined_back, ends_after}
+use Rattle.icu_normalizer.proofs.writing.SinkLemmas.{joined_front, joined_back, ends_after}
 use Rattle.icu_normalizer.proofs.written.write_parts.Goals as goal
 
 pub returns-in-Err-clause-err : goal.returns-in-Err-clause-err

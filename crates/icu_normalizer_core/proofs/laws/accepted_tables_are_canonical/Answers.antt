@@ -1,4 +1,4 @@
-use Rattle.icu_normalizer_core.proofs.AcceptedPairs.{canonical}
+use Rattle.icu_normalizer_core.proofs.accepted.AcceptedPairs.{canonical}
 use Rattle.icu_normalizer_core.proofs.laws.accepted_tables_are_canonical.Goals as goal
 
 pub returns : goal.returns

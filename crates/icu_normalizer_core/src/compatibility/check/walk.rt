@@ -35,7 +35,7 @@ fn least(found: Option<char>, c: char, is_good: bool) -> Option<char>
 }
 
 /// Whether no full list is fixed for a character.
-#[tactic(auto, using(crate::proofs::FixedListLemmas::fixed_past))]
+#[tactic(auto, using(crate::proofs::compatible::FixedListLemmas::fixed_past))]
 fn is_nothing_fixed(c: u32) -> bool
     ensures { result ≡ true → fixed_list c ≡ None }
 {

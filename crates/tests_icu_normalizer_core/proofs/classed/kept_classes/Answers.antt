@@ -3,7 +3,7 @@ use Rattle.std.proofs.Common.{[], ◌∷◌, ◌++◌, sym, ap, ◌∙◌, appen
 use Rattle.icu_normalizer_core.specs.BorrowedMeaning.{borrowed_meaning}
 use Rattle.icu_normalizer_core.specs.Canonical.{decomposed}
 use Rattle.icu_normalizer_core.specs.Classes.{with_classes}
-use Rattle.icu_normalizer_core.proofs.DecodedLemmas.{list_gives}
+use Rattle.icu_normalizer_core.proofs.decoded.DecodedLemmas.{list_gives}
 use Rattle.tests_icu_normalizer_core.proofs.classed.kept_classes.Goals as goal
 
 pub loop-item-init : goal.loop-item-init

@@ -1,7 +1,7 @@
 use Rattle.std.proofs.Common.{◌≡◌, ℕ, List, subst}
 use Rattle.std.specs.Prelude.{IfOk}
 use Rattle.icu_normalizer_core.specs.Decoding.{utf8_chars}
-use Rattle.icu_normalizer_core.proofs.DecodedLemmas.{utf8_scalars}
+use Rattle.icu_normalizer_core.proofs.decoded.DecodedLemmas.{utf8_scalars}
 use Rattle.collate_index.proofs.index.Index.key_of.Goals as goal
 
 pub returns : goal.returns

@@ -6,7 +6,7 @@ use Rattle.std.specs.List.{All}
 use Rattle.std.proofs.lemmas.List.{length-map}
 use Rattle.std.proofs.lemmas.List.Elements.{All-same}
 use Rattle.icu_normalizer_core.specs.Decoding.{utf8_chars}
-use Rattle.icu_normalizer_core.proofs.DecodedLemmas.{utf8_scalars}
+use Rattle.icu_normalizer_core.proofs.decoded.DecodedLemmas.{utf8_scalars}
 use Rattle.icu_collator.specs.CollatorAnswers.{key_by}
 use Rattle.collate_rules.specs.Accepted.{AreAccepted}
 use Rattle.collate_laws.specs.Unchanged.{ReachesUnchanged}

@@ -1,6 +1,6 @@
 use Rattle.std.proofs.Common.{rules, arith}
 use Rattle.std.proofs.lemmas.Bool.Decides.{nat_tests}
-use Rattle.icu_normalizer.proofs.FormTextLemmas.{utf8_one, utf8_two}
+use Rattle.icu_normalizer.proofs.passed.FormTextLemmas.{utf8_one, utf8_two}
 use Rattle.icu_collator.proofs.encodings.utf8.short_char.Goals as goal
 
 pub returns-then-lead-lt128 : goal.returns-then-lead-lt128

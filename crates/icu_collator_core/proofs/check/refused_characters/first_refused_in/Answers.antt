@@ -1,6 +1,6 @@
 use Rattle.std.proofs.Common.{◌≡◌, ◌<◌, ℕ, arith}
 use Rattle.std.specs.Char.{IsScalar}
-use Rattle.icu_normalizer_core.proofs.ScalarLemmas.{scalar_below}
+use Rattle.icu_normalizer_core.proofs.decoded.ScalarLemmas.{scalar_below}
 use Rattle.icu_collator_core.proofs.checks.CheckedTestLemmas.{below_later, found_none, found_some}
 use Rattle.icu_collator_core.proofs.check.refused_characters.first_refused_in.Goals as goal
 

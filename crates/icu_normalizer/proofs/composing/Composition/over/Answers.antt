@@ -1,4 +1,4 @@
-use Rattle.icu_normalizer.proofs.FormCompositionLemmas.{composes_new}
+use Rattle.icu_normalizer.proofs.composed.FormCompositionLemmas.{composes_new}
 use Rattle.icu_normalizer.proofs.composing.Composition.over.Goals as goal
 
 pub returns-clause-text : goal.returns-clause-text

@@ -1,6 +1,6 @@
 use Rattle.icu_normalizer_core.specs.FormData.{form_meaning}
-use Rattle.icu_normalizer.proofs.ClusterLemmas.{apart_nothing, apart_first}
-use Rattle.icu_normalizer.proofs.TextCutLemmas.{first_read}
+use Rattle.icu_normalizer.proofs.composed.ClusterLemmas.{apart_nothing, apart_first}
+use Rattle.icu_normalizer.proofs.cuts.TextCutLemmas.{first_read}
 use Rattle.icu_normalizer.proofs.composing.clusters.next_of_cluster.Goals as goal
 
 pub returns-in_default-clause-none : goal.returns-in_default-clause-none

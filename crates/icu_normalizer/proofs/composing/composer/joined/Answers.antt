@@ -1,6 +1,6 @@
 use Rattle.std.proofs.Common.{sym, ◌∙◌, arith, inl, inr}
 use Rattle.icu_normalizer_core.specs.FormData.{form_meaning}
-use Rattle.icu_normalizer.proofs.ComposingLemmas.{composed_over, composed_not, composed_low}
+use Rattle.icu_normalizer.proofs.composed.ComposingLemmas.{composed_over, composed_not, composed_low}
 use Rattle.icu_normalizer.proofs.composing.composer.joined.Goals as goal
 
 pub returns-then-c-lt768 : goal.returns-then-c-lt768

@@ -1,7 +1,7 @@
 use Rattle.std.proofs.Common.{[], ◌∷◌, refl}
 use Rattle.icu_normalizer_core.specs.FormData.{form_meaning}
 use Rattle.icu_normalizer.specs.declared.composing.lone_mark.LoneMark.TheVariants.{Changed, Joined}
-use Rattle.icu_normalizer.proofs.LoneMarkLemmas.{lone_changed, lone_passed}
+use Rattle.icu_normalizer.proofs.composed.LoneMarkLemmas.{lone_changed, lone_passed}
 use Rattle.icu_normalizer.proofs.composing.cuts.first_found.Goals as goal
 
 pub returns-in-Apart : goal.returns-in-Apart

@@ -1,8 +1,8 @@
 use Rattle.std.proofs.Common.{◌∷◌, ap, ◌∙◌, arith}
 use Rattle.icu_normalizer_core.specs.FormData.{form_meaning}
 use Rattle.icu_normalizer.specs.ClusterForm.{form_left}
-use Rattle.icu_normalizer.proofs.ComposedWalkLemmas.{beside_begun, beside_looked, beside_more, beside_own, beside_ended, beside_damaged, beside_other}
-use Rattle.icu_normalizer.proofs.TextCutLemmas.{first_char, first_damaged}
+use Rattle.icu_normalizer.proofs.composed.ComposedWalkLemmas.{beside_begun, beside_looked, beside_more, beside_own, beside_ended, beside_damaged, beside_other}
+use Rattle.icu_normalizer.proofs.cuts.TextCutLemmas.{first_char, first_damaged}
 use Rattle.icu_normalizer.proofs.composing.cuts.read_cluster.Goals as goal
 
 pub chars-init : goal.chars-init

@@ -1,7 +1,7 @@
 use Rattle.std.proofs.Common.{length}
 use Rattle.icu_normalizer_core.specs.FormData.{form_meaning}
 use Rattle.icu_normalizer.specs.ClusterForm.{IsBegun, form_left}
-use Rattle.icu_normalizer.proofs.ComposedWalkLemmas.{IsBeside}
+use Rattle.icu_normalizer.proofs.composed.ComposedWalkLemmas.{IsBeside}
 use Rattle.icu_normalizer.proofs.composing.cuts.read_cluster.Given as goal
 
 abbrev pub invariant-chars : goal.invariant-chars

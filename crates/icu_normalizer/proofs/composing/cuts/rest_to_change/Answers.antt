@@ -1,8 +1,8 @@
 use Rattle.std.proofs.Common.{rules, length, length-append, ap, arith}
 use Rattle.icu_normalizer_core.specs.Canonical.{composed}
 use Rattle.icu_normalizer_core.specs.FormData.{form_meaning}
-use Rattle.icu_normalizer.proofs.ComposingLemmas.{composed_nothing}
-use Rattle.icu_normalizer.proofs.PassedLemmas.{passed_twice, passed_cut, passed_all}
+use Rattle.icu_normalizer.proofs.composed.ComposingLemmas.{composed_nothing}
+use Rattle.icu_normalizer.proofs.passed.PassedLemmas.{passed_twice, passed_cut, passed_all}
 use Rattle.icu_normalizer.proofs.composing.cuts.rest_to_change.Goals as goal
 
 pub clusters-init : goal.clusters-init

@@ -1,6 +1,6 @@
 use Rattle.std.proofs.Common.{sym, arith}
 use Rattle.icu_normalizer_core.specs.FormData.{form_meaning}
-use Rattle.icu_normalizer.proofs.LoneMarkLemmas.{below_changed, below_joined, below_kept, below_longer, below_other}
+use Rattle.icu_normalizer.proofs.composed.LoneMarkLemmas.{below_changed, below_joined, below_kept, below_longer, below_other}
 use Rattle.icu_normalizer.proofs.composing.lone_mark.composed_below.Goals as goal
 
 pub returns-in_default-compose-clause-form : goal.returns-in_default-compose-clause-form

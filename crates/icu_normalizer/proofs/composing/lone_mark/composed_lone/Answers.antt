@@ -1,6 +1,6 @@
 use Rattle.std.proofs.Common.{sym, ◌∙◌}
 use Rattle.icu_normalizer_core.specs.FormData.{form_meaning}
-use Rattle.icu_normalizer.proofs.LoneMarkLemmas.{composed_lone}
+use Rattle.icu_normalizer.proofs.composed.LoneMarkLemmas.{composed_lone}
 use Rattle.icu_normalizer.proofs.composing.lone_mark.composed_lone.Goals as goal
 
 pub returns-then-is_steady_up_to-clause-form : goal.returns-then-is_steady_up_to-clause-form

@@ -1,6 +1,6 @@
 use Rattle.std.proofs.Common.{sym}
 use Rattle.icu_normalizer_core.specs.FormData.{form_meaning}
-use Rattle.icu_normalizer.proofs.LoneMarkLemmas.{pair_joined, pair_kept, never_first}
+use Rattle.icu_normalizer.proofs.composed.LoneMarkLemmas.{pair_joined, pair_kept, never_first}
 use Rattle.icu_normalizer.proofs.composing.lone_mark.composed_pair.Goals as goal
 
 pub returns-in-Some-clause-form : goal.returns-in-Some-clause-form

@@ -1,5 +1,5 @@
 use Rattle.icu_normalizer_core.specs.FormData.{form_meaning}
-use Rattle.icu_normalizer.proofs.LoneMarkLemmas.{steady_up_to_low}
+use Rattle.icu_normalizer.proofs.composed.LoneMarkLemmas.{steady_up_to_low}
 use Rattle.icu_normalizer.proofs.composing.lone_mark.is_asked_up_to.Goals as goal
 
 pub returns-then-c-lt160 : goal.returns-then-c-lt160

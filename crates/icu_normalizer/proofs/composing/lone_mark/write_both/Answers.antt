@@ -1,6 +1,6 @@
 use Rattle.std.proofs.Common.{[], ◌∷◌, refl, sym}
 use Rattle.std.proofs.lemmas.Result.{on_ok_weaker, on_err_weaker}
-use Rattle.icu_normalizer.proofs.SinkLemmas.{ends_after, joined_front, sink_more, sink_part}
+use Rattle.icu_normalizer.proofs.writing.SinkLemmas.{ends_after, joined_front, sink_more, sink_part}
 use Rattle.icu_normalizer.proofs.composing.lone_mark.write_both.Goals as goal
 
 pub returns-in-Ok-clause-ok : goal.returns-in-Ok-clause-ok

@@ -1,7 +1,7 @@
 use Rattle.std.proofs.Common.{◌++◌, take, drop, ap, ◌∙◌}
 use Rattle.icu_normalizer_core.specs.FormData.{form_meaning}
-use Rattle.icu_normalizer.proofs.SkipLemmas.{skip_begun, skip_more, skip_rest, skip_ended}
-use Rattle.icu_normalizer.proofs.TextCutLemmas.{first_char, past_plain}
+use Rattle.icu_normalizer.proofs.passed.SkipLemmas.{skip_begun, skip_more, skip_rest, skip_ended}
+use Rattle.icu_normalizer.proofs.cuts.TextCutLemmas.{first_char, past_plain}
 use Rattle.icu_normalizer.proofs.composing.mostly_unchanged.pass_low.Goals as goal
 
 pub chars-init : goal.chars-init

@@ -1,6 +1,6 @@
 use Rattle.std.proofs.Common.{length}
 use Rattle.icu_normalizer_core.specs.FormData.{form_meaning}
-use Rattle.icu_normalizer.proofs.SkipLemmas.{IsSkipping}
+use Rattle.icu_normalizer.proofs.passed.SkipLemmas.{IsSkipping}
 use Rattle.icu_normalizer.proofs.composing.mostly_unchanged.pass_low.Given as goal
 
 abbrev pub invariant-chars : goal.invariant-chars

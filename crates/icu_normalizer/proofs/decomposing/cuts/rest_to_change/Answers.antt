@@ -1,8 +1,8 @@
 use Rattle.std.proofs.Common.{◌++◌, take, drop, ap, ◌∙◌, arith}
 use Rattle.icu_normalizer_core.specs.FormData.{form_meaning, low_bound}
-use Rattle.icu_normalizer.proofs.CutLemmas.{readable}
-use Rattle.icu_normalizer.proofs.TextCutLemmas.{first_char, first_damaged, past_plain}
-use Rattle.icu_normalizer.proofs.TextWalkLemmas.{walk_begun, walk_starter, walk_mark, walk_ended, walk_out, walk_damaged}
+use Rattle.icu_normalizer.proofs.cuts.CutLemmas.{readable}
+use Rattle.icu_normalizer.proofs.cuts.TextCutLemmas.{first_char, first_damaged, past_plain}
+use Rattle.icu_normalizer.proofs.passed.TextWalkLemmas.{walk_begun, walk_starter, walk_mark, walk_ended, walk_out, walk_damaged}
 use Rattle.icu_normalizer.proofs.decomposing.cuts.rest_to_change.Goals as goal
 
 pub chars-init : goal.chars-init

@@ -1,6 +1,6 @@
 use Rattle.std.proofs.Common.{length}
 use Rattle.icu_normalizer_core.specs.FormData.{form_meaning}
-use Rattle.icu_normalizer.proofs.TextWalkLemmas.{IsWalkedTo}
+use Rattle.icu_normalizer.proofs.passed.TextWalkLemmas.{IsWalkedTo}
 use Rattle.icu_normalizer.proofs.decomposing.cuts.rest_to_change.Given as goal
 
 abbrev pub invariant-chars : goal.invariant-chars

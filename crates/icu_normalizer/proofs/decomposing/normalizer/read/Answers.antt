@@ -1,4 +1,4 @@
-use Rattle.icu_normalizer.proofs.TextCutLemmas.{first_read}
+use Rattle.icu_normalizer.proofs.cuts.TextCutLemmas.{first_read}
 use Rattle.icu_normalizer.proofs.decomposing.normalizer.read.Goals as goal
 
 pub returns-clause-some : goal.returns-clause-some

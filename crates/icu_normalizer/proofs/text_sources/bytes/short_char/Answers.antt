@@ -1,6 +1,6 @@
 use Rattle.std.proofs.Common.{rules, arith}
 use Rattle.std.proofs.lemmas.Bool.Decides.{nat_tests}
-use Rattle.icu_normalizer.proofs.FormTextLemmas.{utf8_one, utf8_two, utf8_three}
+use Rattle.icu_normalizer.proofs.passed.FormTextLemmas.{utf8_one, utf8_two, utf8_three}
 use Rattle.icu_normalizer.proofs.text_sources.bytes.short_char.Goals as goal
 
 pub returns-then-lead-lt128-clause-first : goal.returns-then-lead-lt128-clause-first

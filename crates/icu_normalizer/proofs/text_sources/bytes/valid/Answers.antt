@@ -1,5 +1,5 @@
 use Rattle.std.proofs.Common.{ap, ◌∙◌, chars}
-use Rattle.icu_normalizer.proofs.FormTextLemmas.{undamaged_utf8, utf8_same, utf8_undamaged}
+use Rattle.icu_normalizer.proofs.passed.FormTextLemmas.{undamaged_utf8, utf8_same, utf8_undamaged}
 use Rattle.icu_normalizer.proofs.text_sources.bytes.valid.Goals as goal
 
 pub returns-in-Ok-clause-read : goal.returns-in-Ok-clause-read

@@ -1,5 +1,5 @@
 use Rattle.std.proofs.Common.{length, sym, ap, ◌∙◌, arith}
-use Rattle.icu_normalizer.proofs.FormTextLemmas.{no_pair, first_small, first_large}
+use Rattle.icu_normalizer.proofs.passed.FormTextLemmas.{no_pair, first_small, first_large}
 use Rattle.icu_normalizer.proofs.text_sources.units.first_pair.Goals as goal
 
 pub returns-in_err-first : goal.returns-in_err-first

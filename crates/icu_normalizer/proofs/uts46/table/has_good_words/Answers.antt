@@ -1,7 +1,7 @@
 use Rattle.std.proofs.Common.{◌≡◌, ◌<◌, ℕ, true, ⊎_elim, sym, subst, ◌∙◌, arith}
 use Rattle.std.specs.Char.{IsScalar}
 use Rattle.std.proofs.lemmas.Bool.{cases_lt, false≢true}
-use Rattle.icu_normalizer_core.proofs.ScalarLemmas.{scalar_below}
+use Rattle.icu_normalizer_core.proofs.decoded.ScalarLemmas.{scalar_below}
 use Rattle.icu_normalizer.specs.Uts46.{has_good_word}
 use Rattle.icu_normalizer.proofs.uts46.table.has_good_words.Goals as goal
 use Rattle.icu_normalizer.proofs.uts46.table.has_good_words.Goals.{in-Some+else-not-has_good_word, in_default}

@@ -1,5 +1,5 @@
 use Rattle.std.proofs.lemmas.Result.{IfOk-weaker}
-use Rattle.icu_normalizer.proofs.FormTextLemmas.{valid_own}
+use Rattle.icu_normalizer.proofs.passed.FormTextLemmas.{valid_own}
 use Rattle.icu_normalizer.proofs.written.held.normal_bytes.Goals as goal
 
 pub returns-in-Some-clause-borrowed : goal.returns-in-Some-clause-borrowed

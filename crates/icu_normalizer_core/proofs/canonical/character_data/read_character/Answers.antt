@@ -2,8 +2,8 @@ use Rattle.std.proofs.Common.{subst}
 use Rattle.icu_normalizer_core.specs.CanonicalMeaning.{lists_of, meaning}
 use Rattle.icu_normalizer_core.specs.Readings.{IsToldBy}
 use Rattle.icu_normalizer_core.specs.Words.{WordLists, words_of}
-use Rattle.icu_normalizer_core.proofs.ReadingLemmas.{told}
-use Rattle.icu_normalizer_core.proofs.TableMeanings.{class_is, full_is}
+use Rattle.icu_normalizer_core.proofs.composed.ReadingLemmas.{told}
+use Rattle.icu_normalizer_core.proofs.accepted.TableMeanings.{class_is, full_is}
 use Rattle.icu_normalizer_core.proofs.canonical.character_data.read_character.Goals as goal
 
 pub returns : goal.returns

@@ -1,6 +1,6 @@
 use Rattle.std.proofs.Common.{◌≡◌, ◌+◌, ◌-◌, ◌%◌, ◌≤◌, [], ◌∷◌, length, sym, ◌∙◌, arith}
 use Rattle.icu_normalizer_core.specs.CanonicalWords.{items_at, list_offset}
-use Rattle.icu_normalizer_core.proofs.FullListLemmas.{listed_in_24, three_items}
+use Rattle.icu_normalizer_core.proofs.full_lists.FullListLemmas.{listed_in_24, three_items}
 use Rattle.icu_normalizer_core.proofs.canonical.character_data.three_listed.Goals as goal
 
 pub returns : goal.returns

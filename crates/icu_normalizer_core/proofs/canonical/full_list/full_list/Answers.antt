@@ -2,7 +2,7 @@ use Rattle.std.proofs.Common.{All, sym, subst, ap, ◌∙◌}
 use Rattle.std.specs.Char.{IsScalar}
 use Rattle.icu_normalizer_core.specs.CanonicalMeaning.{lists_of}
 use Rattle.icu_normalizer_core.specs.Words.{WordLists, full_in}
-use Rattle.icu_normalizer_core.proofs.TableMeanings.{full_is}
+use Rattle.icu_normalizer_core.proofs.accepted.TableMeanings.{full_is}
 use Rattle.icu_normalizer_core.proofs.canonical.full_list.full_list.Goals as goal
 
 pub full_list-requires : goal.full_list-requires

@@ -1,7 +1,7 @@
 use Rattle.std.proofs.Common.{◌+◌, ◌-◌, ◌%◌, ◌<◌, ◌≤◌, ℕ, length, All, sym, subst, arith}
 use Rattle.std.specs.Char.{IsScalar}
 use Rattle.icu_normalizer_core.specs.CanonicalWords.{items_at, list_offset}
-use Rattle.icu_normalizer_core.proofs.FullListLemmas.{listed_in_16, listed_in_24}
+use Rattle.icu_normalizer_core.proofs.full_lists.FullListLemmas.{listed_in_16, listed_in_24}
 use Rattle.icu_normalizer_core.proofs.canonical.full_list.listed.Goals as goal
 
 pub part-requires-clause-scalars : goal.part-requires-clause-scalars

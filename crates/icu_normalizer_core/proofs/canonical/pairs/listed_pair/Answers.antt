@@ -1,6 +1,6 @@
 use Rattle.std.proofs.Common.{rules, ◌≡◌, ℕ, ◌+◌, ◌*◌, ◌-◌, ◌/◌, ◌%◌, ◌^◌, ◌<◌, length, slice_index, Some, sym, ap, ◌∙◌, arith}
 use Rattle.icu_normalizer_core.specs.CanonicalLists.{pair_composed}
-use Rattle.icu_normalizer_core.proofs.PairLemmas.{listed_pair_of, unlisted_pair_between}
+use Rattle.icu_normalizer_core.proofs.composed.PairLemmas.{listed_pair_of, unlisted_pair_between}
 use Rattle.icu_normalizer_core.proofs.canonical.pairs.listed_pair.Goals as goal
 
 pub returns-then-place-count : goal.returns-then-place-count

@@ -1,5 +1,5 @@
 use Rattle.std.proofs.Common.{sym, ◌∙◌}
-use Rattle.icu_normalizer_core.proofs.TripleLemmas.{listed_of, listed_none}
+use Rattle.icu_normalizer_core.proofs.settling.TripleLemmas.{listed_of, listed_none}
 use Rattle.icu_normalizer_core.proofs.canonical.steps.listed_step.Goals as goal
 
 pub returns-in-Some : goal.returns-in-Some

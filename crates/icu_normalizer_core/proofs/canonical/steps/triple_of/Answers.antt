@@ -1,5 +1,5 @@
 use Rattle.std.proofs.Common.{rules, ◌*◌, ◌-◌, ◌<◌, slice_index, arith}
-use Rattle.icu_normalizer_core.proofs.TripleLemmas.{unlisted_between}
+use Rattle.icu_normalizer_core.proofs.settling.TripleLemmas.{unlisted_between}
 use Rattle.icu_normalizer_core.proofs.canonical.steps.triple_of.Goals as goal
 use Rattle.icu_normalizer_core.proofs.canonical.steps.triple_of.Goals.{else-place-count-via-then-place-count+else-at-c, else-place-count-via-else-place-count}
 

@@ -3,7 +3,7 @@ use Rattle.icu_normalizer_core.specs.CanonicalMeaning.{lists_of}
 use Rattle.icu_normalizer_core.specs.CompatibilityFaults.{OffendsWordList, OffendsFixed}
 use Rattle.icu_normalizer_core.specs.CompatibilityWalks.{SaysNothing}
 use Rattle.icu_normalizer_core.specs.Words.{word_lists}
-use Rattle.icu_normalizer_core.proofs.CompatibilityWalkLemmas.{all_values, all_full_lists, all_built_ins, least_of_some}
+use Rattle.icu_normalizer_core.proofs.compatible.CompatibilityWalkLemmas.{all_values, all_full_lists, all_built_ins, least_of_some}
 use Rattle.icu_normalizer_core.proofs.compatibility.check.first_fault.Goals as goal
 
 pub returns-in-Some : goal.returns-in-Some

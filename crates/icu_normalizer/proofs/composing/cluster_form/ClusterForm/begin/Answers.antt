@@ -1,8 +1,8 @@
 use Rattle.std.proofs.Common.{[], ◌∷◌, ◌++◌, length, length-append, refl, sym, ap, ◌∙◌, arith, append_assoc, append-nil}
 use Rattle.icu_normalizer_core.specs.Canonical.{Canonical, composed, decomposed}
 use Rattle.icu_normalizer.specs.ClusterForm.{form_data}
-use Rattle.icu_normalizer.proofs.ClusterFormLemmas.{read_none, read_more, read_all}
-use Rattle.icu_normalizer.proofs.TextCutLemmas.{first_read}
+use Rattle.icu_normalizer.proofs.composed.ClusterFormLemmas.{read_none, read_more, read_all}
+use Rattle.icu_normalizer.proofs.cuts.TextCutLemmas.{first_read}
 use Rattle.icu_normalizer.proofs.composing.cluster_form.ClusterForm.begin.Goals as goal
 
 pub returns-in_default-clause-cluster : goal.returns-in_default-clause-cluster

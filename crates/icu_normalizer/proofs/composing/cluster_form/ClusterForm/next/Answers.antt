@@ -1,6 +1,6 @@
 use Rattle.std.proofs.Common.{◌≡◌, [], ◌∙◌, arith}
 use Rattle.icu_normalizer_core.specs.Run.{held, reordered}
-use Rattle.icu_normalizer.proofs.ClusterFormLemmas.{left_pushed, left_ended, left_done}
+use Rattle.icu_normalizer.proofs.composed.ClusterFormLemmas.{left_pushed, left_ended, left_done}
 use Rattle.icu_normalizer.proofs.composing.cluster_form.ClusterForm.next.Goals as goal
 
 pub loop-c-init : goal.loop-c-init

@@ -1,5 +1,5 @@
 use Rattle.std.proofs.Common.{refl}
-use Rattle.icu_normalizer.proofs.ComposerLemmas.{coming_finish, coming_done}
+use Rattle.icu_normalizer.proofs.composed.ComposerLemmas.{coming_finish, coming_done}
 use Rattle.icu_normalizer.proofs.composing.composer.Composer.finish.Goals as goal
 
 pub returns-clause-output : goal.returns-clause-output

@@ -1,7 +1,7 @@
 use Rattle.std.proofs.Common.{◌+◌, ◌<◌, [], ◌∷◌, ◌++◌, length, drop, get_or, refl, sym, ap, ◌∙◌, arith}
 use Rattle.std.proofs.lemmas.List.{drop_more, drop_all}
 use Rattle.icu_normalizer.specs.Composer.{composing_from, data_of}
-use Rattle.icu_normalizer.proofs.ComposerLemmas.{coming_behind, coming_now}
+use Rattle.icu_normalizer.proofs.composed.ComposerLemmas.{coming_behind, coming_now}
 use Rattle.icu_normalizer.proofs.composing.composer.Composer.pop.Goals as goal
 
 pub returns-then-self-len-clause-output : goal.returns-then-self-len-clause-output

@@ -1,8 +1,8 @@
 use Rattle.std.proofs.Common.{[], ◌∷◌, ◌++◌, drop, refl, sym, ap, ◌∙◌, arith}
 use Rattle.icu_normalizer_core.specs.Canonical.{composing}
 use Rattle.icu_normalizer.specs.Composer.{data_of}
-use Rattle.icu_normalizer.proofs.ComposingLemmas.{composing_joined, composing_begun, composing_kept, recomposed_begun, recomposed_passed}
-use Rattle.icu_normalizer.proofs.ComposerLemmas.{coming_behind, coming_alone, coming_after}
+use Rattle.icu_normalizer.proofs.composed.ComposingLemmas.{composing_joined, composing_begun, composing_kept, recomposed_begun, recomposed_passed}
+use Rattle.icu_normalizer.proofs.composed.ComposerLemmas.{coming_behind, coming_alone, coming_after}
 use Rattle.icu_normalizer.proofs.composing.composer.Composer.push.Goals as goal
 
 pub returns-then-class-ne0-clause-output : goal.returns-then-class-ne0-clause-output

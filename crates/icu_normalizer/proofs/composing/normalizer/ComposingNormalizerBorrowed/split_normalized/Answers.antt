@@ -1,6 +1,6 @@
 use Rattle.icu_normalizer_core.specs.Canonical.{composed}
 use Rattle.icu_normalizer.specs.Normalizers.{composing_data}
-use Rattle.icu_normalizer.proofs.FormTextLemmas.{str_empty, str_far}
+use Rattle.icu_normalizer.proofs.passed.FormTextLemmas.{str_empty, str_far}
 use Rattle.icu_normalizer.proofs.composing.normalizer.ComposingNormalizerBorrowed.split_normalized.Goals as goal
 
 pub returns-clause-empty : goal.returns-clause-empty

@@ -3,7 +3,7 @@ use Rattle.icu_normalizer_core.specs.Canonical.{composed}
 use Rattle.icu_normalizer.specs.ClusterForm.{form_left}
 use Rattle.icu_normalizer.specs.Normalizers.{composing_data}
 use Rattle.icu_normalizer.specs.Sinks.{nothing, more}
-use Rattle.icu_normalizer.proofs.SinkLemmas.{seen_more, sink_more, sink_cut, sink_part}
+use Rattle.icu_normalizer.proofs.writing.SinkLemmas.{seen_more, sink_more, sink_cut, sink_part}
 use Rattle.icu_normalizer.proofs.composing.normalizer.ComposingNormalizerBorrowed.write_cluster.Goals as goal
 
 pub returns-in_default-clause-failure : goal.returns-in_default-clause-failure

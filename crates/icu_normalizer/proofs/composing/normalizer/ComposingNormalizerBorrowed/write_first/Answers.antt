@@ -1,5 +1,5 @@
 use Rattle.icu_normalizer.specs.Normalizers.{composing_data}
-use Rattle.icu_normalizer.proofs.LoneMarkLemmas.{lone_cut, lone_fewer, lone_written}
+use Rattle.icu_normalizer.proofs.composed.LoneMarkLemmas.{lone_cut, lone_fewer, lone_written}
 use Rattle.icu_normalizer.proofs.composing.normalizer.ComposingNormalizerBorrowed.write_first.Goals as goal
 
 pub returns-in-Ok-clause-ok : goal.returns-in-Ok-clause-ok

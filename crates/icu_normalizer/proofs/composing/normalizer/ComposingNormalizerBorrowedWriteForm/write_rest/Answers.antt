@@ -3,9 +3,9 @@ use Rattle.std.specs.Prelude.{Err, ⊤}
 use Rattle.icu_normalizer_core.specs.Canonical.{composed}
 use Rattle.icu_normalizer.specs.Normalizers.{composing_data}
 use Rattle.icu_normalizer.specs.Sinks.{nothing, more}
-use Rattle.icu_normalizer.proofs.ComposingLemmas.{composed_nothing}
-use Rattle.icu_normalizer.proofs.SinkLemmas.{joined_front, taken_both, ends_after}
-use Rattle.icu_normalizer.proofs.WriterLemmas.{front_more, front_cut, front_all}
+use Rattle.icu_normalizer.proofs.composed.ComposingLemmas.{composed_nothing}
+use Rattle.icu_normalizer.proofs.writing.SinkLemmas.{joined_front, taken_both, ends_after}
+use Rattle.icu_normalizer.proofs.writing.WriterLemmas.{front_more, front_cut, front_all}
 use Rattle.icu_normalizer.proofs.composing.normalizer.ComposingNormalizerBorrowedWriteForm.write_rest.Goals as goal
 
 pub clusters-init : goal.clusters-init

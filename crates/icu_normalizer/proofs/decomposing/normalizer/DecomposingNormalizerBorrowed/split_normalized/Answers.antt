@@ -1,6 +1,6 @@
 use Rattle.icu_normalizer_core.specs.Canonical.{decomposed}
 use Rattle.icu_normalizer.specs.Normalizers.{normalizer_data, normalizer_bound}
-use Rattle.icu_normalizer.proofs.FormTextLemmas.{str_empty, str_far}
+use Rattle.icu_normalizer.proofs.passed.FormTextLemmas.{str_empty, str_far}
 use Rattle.icu_normalizer.proofs.decomposing.normalizer.DecomposingNormalizerBorrowed.split_normalized.Goals as goal
 
 pub returns-clause-empty : goal.returns-clause-empty

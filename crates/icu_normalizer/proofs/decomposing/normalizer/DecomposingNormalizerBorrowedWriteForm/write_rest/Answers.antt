@@ -5,8 +5,8 @@ use Rattle.std.specs.Prelude.{Err, ⊤}
 use Rattle.icu_normalizer.specs.Normalizers.{normalizer_data}
 use Rattle.icu_normalizer.specs.Sinks.{nothing}
 use Rattle.icu_normalizer.specs.Writer.{due}
-use Rattle.icu_normalizer.proofs.SinkLemmas.{taken_both, ends_after}
-use Rattle.icu_normalizer.proofs.WriterLemmas.{on_any, front_cut, front_all, front_same, text_due, text_more, text_cut}
+use Rattle.icu_normalizer.proofs.writing.SinkLemmas.{taken_both, ends_after}
+use Rattle.icu_normalizer.proofs.writing.WriterLemmas.{on_any, front_cut, front_all, front_same, text_due, text_more, text_cut}
 use Rattle.icu_normalizer.proofs.decomposing.normalizer.DecomposingNormalizerBorrowedWriteForm.write_rest.Goals as goal
 
 pub chars-init : goal.chars-init

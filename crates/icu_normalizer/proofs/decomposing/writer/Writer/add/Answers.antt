@@ -1,6 +1,6 @@
 use Rattle.std.proofs.Common.{arith}
 use Rattle.icu_normalizer.specs.Sinks.{nothing, more}
-use Rattle.icu_normalizer.proofs.WriterLemmas.{on_any, due_kept, starter_written, starter_cut, held_cut}
+use Rattle.icu_normalizer.proofs.writing.WriterLemmas.{on_any, due_kept, starter_written, starter_cut, held_cut}
 use Rattle.icu_normalizer.proofs.decomposing.writer.Writer.add.Goals as goal
 
 pub returns-in-Ok-clause-ok : goal.returns-in-Ok-clause-ok

@@ -2,8 +2,8 @@ use Rattle.std.proofs.Common.{◌≡◌, ◌++◌, true, take, rules, sym, ap, s
 use Rattle.icu_normalizer.specs.FormNotes.{noted_list}
 use Rattle.icu_normalizer.specs.Marks.{stands_to}
 use Rattle.icu_normalizer.specs.Writer.{writer_data}
-use Rattle.icu_normalizer.proofs.OrderLemmas.{stands_join}
-use Rattle.icu_normalizer.proofs.WriterLemmas.{some_set}
+use Rattle.icu_normalizer.proofs.writing.OrderLemmas.{stands_join}
+use Rattle.icu_normalizer.proofs.writing.WriterLemmas.{some_set}
 use Rattle.icu_normalizer.proofs.decomposing.writer.Writer.append.Goals as goal
 
 pub invariant_of-self-clause-order : goal.invariant_of-self-clause-order

@@ -1,6 +1,6 @@
 use Rattle.std.proofs.Common.{sym, ap, ◌++◌, ◌∙◌, append-nil, arith, take}
 use Rattle.icu_normalizer.specs.Sinks.{nothing}
-use Rattle.icu_normalizer.proofs.WriterLemmas.{nothing_due}
+use Rattle.icu_normalizer.proofs.writing.WriterLemmas.{nothing_due}
 use Rattle.icu_normalizer.proofs.decomposing.writer.Writer.flush.Goals as goal
 
 pub returns-then-self-eq0-clause-ok : goal.returns-then-self-eq0-clause-ok

@@ -3,7 +3,7 @@ use Rattle.std.proofs.lemmas.List.{length-take-le, take-take}
 use Rattle.icu_normalizer_core.specs.Canonical.{marks_in_order}
 use Rattle.icu_normalizer.specs.Marks.{stands_to}
 use Rattle.icu_normalizer.specs.Writer.{writer_data}
-use Rattle.icu_normalizer.proofs.InsertLemmas.{inserted_order, inserted_stands}
+use Rattle.icu_normalizer.proofs.writing.InsertLemmas.{inserted_order, inserted_stands}
 use Rattle.icu_normalizer.proofs.decomposing.writer.Writer.insert.Goals as goal
 
 pub invariant_of-self-clause-order : goal.invariant_of-self-clause-order

@@ -1,6 +1,6 @@
 use Rattle.std.proofs.Common.{◌≡◌, ◌++◌, take, ap, ◌∙◌}
 use Rattle.icu_normalizer.specs.Writer.{writer_data}
-use Rattle.icu_normalizer.proofs.InsertLemmas.{order_from}
+use Rattle.icu_normalizer.proofs.writing.InsertLemmas.{order_from}
 use Rattle.icu_normalizer.proofs.decomposing.writer.Writer.sorted.Goals as goal
 
 pub returns : goal.returns

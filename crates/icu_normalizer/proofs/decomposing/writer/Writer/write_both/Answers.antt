@@ -1,7 +1,7 @@
 use Rattle.std.proofs.Common.{[], ◌∷◌}
 use Rattle.std.proofs.lemmas.Result.{on_ok_weaker, on_err_weaker}
-use Rattle.icu_normalizer.proofs.SinkLemmas.{ends_after}
-use Rattle.icu_normalizer.proofs.WriterLemmas.{on_any, writes_both, part_first, part_second}
+use Rattle.icu_normalizer.proofs.writing.SinkLemmas.{ends_after}
+use Rattle.icu_normalizer.proofs.writing.WriterLemmas.{on_any, writes_both, part_first, part_second}
 use Rattle.icu_normalizer.proofs.decomposing.writer.Writer.write_both.Goals as goal
 
 pub returns-in_err-write-clause-err : goal.returns-in_err-write-clause-err

@@ -1,7 +1,7 @@
 use Rattle.std.proofs.Common.{◌++◌, sym, ap, ◌∙◌}
 use Rattle.icu_normalizer.specs.Sinks.{nothing}
 use Rattle.icu_normalizer.specs.Writer.{held}
-use Rattle.icu_normalizer.proofs.WriterLemmas.{due_kept, list_kept}
+use Rattle.icu_normalizer.proofs.writing.WriterLemmas.{due_kept, list_kept}
 use Rattle.icu_normalizer.proofs.decomposing.writer.Writer.write_decomposed.Goals as goal
 
 pub returns-in-Some-clause-ok : goal.returns-in-Some-clause-ok

@@ -3,8 +3,8 @@ use Rattle.std.proofs.lemmas.Result.{err_from_is_err_and}
 use Rattle.std.specs.Prelude.{Err, ⊤}
 use Rattle.icu_normalizer.specs.Sinks.{nothing}
 use Rattle.icu_normalizer.specs.Writer.{WritesPart}
-use Rattle.icu_normalizer.proofs.SinkLemmas.{taken_both, ends_after}
-use Rattle.icu_normalizer.proofs.WriterLemmas.{on_any, writes_nothing, writes_both, part_first, part_second}
+use Rattle.icu_normalizer.proofs.writing.SinkLemmas.{taken_both, ends_after}
+use Rattle.icu_normalizer.proofs.writing.WriterLemmas.{on_any, writes_nothing, writes_both, part_first, part_second}
 use Rattle.icu_normalizer.proofs.decomposing.writer.Writer.write_list.Goals as goal
 
 pub loop-d-init : goal.loop-d-init

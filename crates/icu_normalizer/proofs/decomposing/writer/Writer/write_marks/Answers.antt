@@ -1,7 +1,7 @@
 use Rattle.std.proofs.Common.{◌++◌, refl, ap, ◌∙◌, subst, sym}
 use Rattle.std.proofs.lemmas.Result.{on_ok_weaker, on_err_weaker}
 use Rattle.icu_normalizer.specs.Sinks.{AddsPrefix, nothing}
-use Rattle.icu_normalizer.proofs.WriterLemmas.{marks_due, few_due, none_of}
+use Rattle.icu_normalizer.proofs.writing.WriterLemmas.{marks_due, few_due, none_of}
 use Rattle.icu_normalizer.proofs.decomposing.writer.Writer.write_marks.Goals as goal
 
 pub returns-in_default-clause-failure : goal.returns-in_default-clause-failure

@@ -1,5 +1,5 @@
 use Rattle.std.proofs.Common.{rules}
-use Rattle.icu_normalizer.proofs.InsertLemmas.{inserted}
+use Rattle.icu_normalizer.proofs.writing.InsertLemmas.{inserted}
 use Rattle.icu_normalizer.proofs.decomposing.writer.order.insert_at.Goals as goal
 
 pub returns : goal.returns

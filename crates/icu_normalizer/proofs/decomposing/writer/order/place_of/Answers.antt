@@ -2,7 +2,7 @@ use Rattle.std.proofs.Common.{◌≡◌, ◌+◌, ◌-◌, true, [], ◌∷◌, 
 use Rattle.std.proofs.lemmas.List.{take_more}
 use Rattle.icu_normalizer_core.specs.FormData.{form_meaning}
 use Rattle.icu_normalizer.specs.Marks.{stands_to}
-use Rattle.icu_normalizer.proofs.OrderLemmas.{stands_last}
+use Rattle.icu_normalizer.proofs.writing.OrderLemmas.{stands_last}
 use Rattle.icu_normalizer.proofs.decomposing.writer.order.place_of.Goals as goal
 
 pub returns-then-class-clause-behind : goal.returns-then-class-clause-behind

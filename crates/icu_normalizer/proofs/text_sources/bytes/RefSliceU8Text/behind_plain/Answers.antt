@@ -1,4 +1,4 @@
-use Rattle.icu_normalizer.proofs.FormTextLemmas.{utf8_behind_plain}
+use Rattle.icu_normalizer.proofs.passed.FormTextLemmas.{utf8_behind_plain}
 use Rattle.icu_normalizer.proofs.text_sources.bytes.RefSliceU8Text.behind_plain.Goals as goal
 
 pub returns-clause-characters : goal.returns-clause-characters

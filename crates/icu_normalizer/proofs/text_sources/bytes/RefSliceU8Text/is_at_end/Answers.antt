@@ -1,7 +1,7 @@
 use Rattle.std.proofs.Common.{arith}
 use Rattle.std.proofs.lemmas.Bool.Decides.{nat_tests}
 use Rattle.std.proofs.lemmas.List.{nil_from_length}
-use Rattle.icu_normalizer.proofs.FormTextLemmas.{utf8_at_end}
+use Rattle.icu_normalizer.proofs.passed.FormTextLemmas.{utf8_at_end}
 use Rattle.icu_normalizer.proofs.text_sources.bytes.RefSliceU8Text.is_at_end.Goals as goal
 
 pub returns : goal.returns

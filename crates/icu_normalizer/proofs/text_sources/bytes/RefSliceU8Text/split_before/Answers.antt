@@ -1,6 +1,6 @@
 use Rattle.std.proofs.Common.{ap, ap₂, take, ◌-◌, ◌∙◌}
 use Rattle.icu_normalizer_core.specs.Decoding.{utf8_chars}
-use Rattle.icu_normalizer.proofs.FormTextLemmas.{part_before, utf8_reads}
+use Rattle.icu_normalizer.proofs.passed.FormTextLemmas.{part_before, utf8_reads}
 use Rattle.icu_normalizer.proofs.text_sources.bytes.RefSliceU8Text.split_before.Goals as goal
 
 pub returns-clause-front : goal.returns-clause-front

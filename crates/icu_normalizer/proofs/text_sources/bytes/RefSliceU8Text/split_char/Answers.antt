@@ -1,7 +1,7 @@
 use Rattle.std.proofs.Common.{◌≡◌, ◌<◌, length, sym, ap, ◌∙◌, arith}
 use Rattle.bstr.specs.Utf8.{decoded, lossy_chars}
 use Rattle.bstr.proofs.lemmas.PieceLemmas.{size-zero, size-some, size-within, lossy_chars-nil}
-use Rattle.icu_normalizer.proofs.FormTextLemmas.{utf8_first}
+use Rattle.icu_normalizer.proofs.passed.FormTextLemmas.{utf8_first}
 use Rattle.icu_normalizer.proofs.text_sources.bytes.RefSliceU8Text.split_char.Goals as goal
 
 pub returns-then-size-eq0-clause-none : goal.returns-then-size-eq0-clause-none

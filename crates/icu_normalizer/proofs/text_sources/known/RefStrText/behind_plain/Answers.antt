@@ -1,5 +1,5 @@
-use Rattle.icu_normalizer.proofs.CutLemmas.{plain_boundary}
-use Rattle.icu_normalizer.proofs.FormTextLemmas.{str_behind_plain}
+use Rattle.icu_normalizer.proofs.cuts.CutLemmas.{plain_boundary}
+use Rattle.icu_normalizer.proofs.passed.FormTextLemmas.{str_behind_plain}
 use Rattle.icu_normalizer.proofs.text_sources.known.RefStrText.behind_plain.Goals as goal
 
 pub range_from-requires : goal.range_from-requires

@@ -1,4 +1,4 @@
-use Rattle.icu_normalizer.proofs.FormTextLemmas.{str_characters}
+use Rattle.icu_normalizer.proofs.passed.FormTextLemmas.{str_characters}
 use Rattle.icu_normalizer.proofs.text_sources.known.RefStrText.keep_promise.Goals as goal
 
 pub returns : goal.returns

@@ -1,6 +1,6 @@
 use Rattle.std.proofs.Common.{ap, ap₂, chars, encode_utf8_all, subst, sym, take, ◌-◌, ◌∙◌}
 use Rattle.std.specs.Str.{IsCharBoundary}
-use Rattle.icu_normalizer.proofs.FormTextLemmas.{part_before, str_cut, str_reads}
+use Rattle.icu_normalizer.proofs.passed.FormTextLemmas.{part_before, str_cut, str_reads}
 use Rattle.icu_normalizer.proofs.text_sources.known.RefStrText.split_before.Goals as goal
 
 pub split_at-requires : goal.split_at-requires

@@ -1,5 +1,5 @@
 use Rattle.std.proofs.Common.{◌++◌, ap, sym, ◌∙◌, encode_utf8}
-use Rattle.icu_normalizer.proofs.FormTextLemmas.{str_first}
+use Rattle.icu_normalizer.proofs.passed.FormTextLemmas.{str_first}
 use Rattle.icu_normalizer.proofs.text_sources.known.RefStrText.split_char.Goals as goal
 
 pub returns-clause-some : goal.returns-clause-some

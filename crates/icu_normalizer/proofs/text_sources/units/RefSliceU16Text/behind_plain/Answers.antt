@@ -1,4 +1,4 @@
-use Rattle.icu_normalizer.proofs.FormTextLemmas.{utf16_behind_plain}
+use Rattle.icu_normalizer.proofs.passed.FormTextLemmas.{utf16_behind_plain}
 use Rattle.icu_normalizer.proofs.text_sources.units.RefSliceU16Text.behind_plain.Goals as goal
 
 pub returns-clause-characters : goal.returns-clause-characters

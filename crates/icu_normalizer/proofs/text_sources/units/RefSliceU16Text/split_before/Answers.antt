@@ -1,6 +1,6 @@
 use Rattle.std.proofs.Common.{ap, ap₂, take, ◌-◌, ◌∙◌}
 use Rattle.icu_normalizer_core.specs.Decoding.{utf16_chars}
-use Rattle.icu_normalizer.proofs.FormTextLemmas.{part_before, utf16_reads}
+use Rattle.icu_normalizer.proofs.passed.FormTextLemmas.{part_before, utf16_reads}
 use Rattle.icu_normalizer.proofs.text_sources.units.RefSliceU16Text.split_before.Goals as goal
 
 pub returns-clause-front : goal.returns-clause-front

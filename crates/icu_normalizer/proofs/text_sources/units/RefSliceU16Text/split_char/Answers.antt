@@ -1,8 +1,8 @@
 use Rattle.std.proofs.Common.{◌∷◌, refl, ap, ◌∙◌, arith}
 use Rattle.std.proofs.lemmas.List.{nil_from_length}
 use Rattle.icu_normalizer_core.specs.Decoding.{utf16_chars}
-use Rattle.icu_normalizer_core.proofs.Utf16Lemmas.{utf16_chars-nil}
-use Rattle.icu_normalizer.proofs.FormTextLemmas.{utf16_one, utf16_two, utf16_none}
+use Rattle.icu_normalizer_core.proofs.decoded.Utf16Lemmas.{utf16_chars-nil}
+use Rattle.icu_normalizer.proofs.passed.FormTextLemmas.{utf16_one, utf16_two, utf16_none}
 use Rattle.icu_normalizer.proofs.text_sources.units.RefSliceU16Text.split_char.Goals as goal
 
 pub returns-in_default-clause-none : goal.returns-in_default-clause-none

@@ -4,7 +4,7 @@ use Rattle.std.specs.Char.Escape.{encode_utf16}
 use Rattle.icu_normalizer.specs.Texts.{encode_utf16_all}
 use Rattle.icu_normalizer.specs.Encodings.{utf16_encoding}
 use Rattle.icu_normalizer.specs.Sinks.{AddsPrefix, nothing, more}
-use Rattle.icu_normalizer.proofs.SinkLemmas.{sink_more, sink_part}
+use Rattle.icu_normalizer.proofs.writing.SinkLemmas.{sink_more, sink_part}
 use Rattle.icu_normalizer.proofs.text_sources.writing.several.write_each.Goals as goal
 
 pub loop-c-init : goal.loop-c-init

@@ -3,7 +3,7 @@ use Rattle.std.proofs.lemmas.List.{take_more, drop_more}
 use Rattle.std.specs.Prelude.{encode_utf8_all}
 use Rattle.icu_normalizer.specs.Encodings.{utf8_encoding}
 use Rattle.icu_normalizer.specs.Sinks.{nothing, more}
-use Rattle.icu_normalizer.proofs.SinkLemmas.{sink_more, sink_part}
+use Rattle.icu_normalizer.proofs.writing.SinkLemmas.{sink_more, sink_part}
 use Rattle.icu_normalizer.proofs.text_sources.writing.several.write_text_chars.Goals as goal
 
 pub loop-c-init : goal.loop-c-init

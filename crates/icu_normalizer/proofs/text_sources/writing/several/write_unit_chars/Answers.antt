@@ -4,7 +4,7 @@ use Rattle.std.proofs.lemmas.Result.{on_ok_weaker, on_err_weaker}
 use Rattle.icu_normalizer.specs.Encodings.{utf16_encoding}
 use Rattle.icu_normalizer.specs.Sinks.{AddsPrefix, nothing, more}
 use Rattle.icu_normalizer.specs.Texts.{encode_utf16_all}
-use Rattle.icu_normalizer.proofs.SinkLemmas.{joined_front, joined_back, ends_after}
+use Rattle.icu_normalizer.proofs.writing.SinkLemmas.{joined_front, joined_back, ends_after}
 use Rattle.icu_normalizer.proofs.text_sources.writing.several.write_unit_chars.Goals as goal
 
 pub returns-in-Err-clause-err : goal.returns-in-Err-clause-err

@@ -6,7 +6,7 @@ use Rattle.icu_normalizer.specs.Uts46.{mapper_of, mapped_with}
 use Rattle.icu_normalizer.specs.Uts46Loading.{MapperTables}
 use Rattle.icu_normalizer.specs.Compositions.{ComposesTo}
 use Rattle.icu_normalizer.specs.Uts46Iter.{MappingSteps}
-use Rattle.icu_normalizer.proofs.MappedLemmas.{maps_spells}
+use Rattle.icu_normalizer.proofs.noted.MappedLemmas.{maps_spells}
 use Rattle.icu_normalizer.proofs.uts46.borrowed.Uts46MapperBorrowed.composed.Goals as goal
 
 pub returns-clause-text : goal.returns-clause-text

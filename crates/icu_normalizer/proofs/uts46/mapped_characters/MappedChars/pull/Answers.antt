@@ -1,5 +1,5 @@
 use Rattle.std.proofs.Common.{refl}
-use Rattle.icu_normalizer.proofs.MappedLemmas.{mapped_read, mapped_ended}
+use Rattle.icu_normalizer.proofs.noted.MappedLemmas.{mapped_read, mapped_ended}
 use Rattle.icu_normalizer.proofs.uts46.mapped_characters.MappedChars.pull.Goals as goal
 
 pub returns-in-Some-clause-text : goal.returns-in-Some-clause-text

@@ -1,7 +1,7 @@
 use Rattle.std.proofs.Common.{length, refl, subst, ap, ◌∙◌, arith}
-use Rattle.icu_normalizer_core.proofs.IterLemmas.{keeps_then}
+use Rattle.icu_normalizer_core.proofs.decomposed.IterLemmas.{keeps_then}
 use Rattle.icu_normalizer.specs.Uts46Iter.{MapsTo}
-use Rattle.icu_normalizer.proofs.MappedLemmas.{mapped_popped, mapped_done}
+use Rattle.icu_normalizer.proofs.noted.MappedLemmas.{mapped_popped, mapped_done}
 use Rattle.icu_normalizer.proofs.uts46.mapped_characters.MappedCharsIterator.next.Goals as goal
 
 pub returns-in-Some-clause-steps : goal.returns-in-Some-clause-steps

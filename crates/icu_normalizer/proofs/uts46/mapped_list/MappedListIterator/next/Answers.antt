@@ -1,5 +1,5 @@
 use Rattle.std.proofs.Common.{ℕ, ◌+◌, ◌-◌, ◌<◌, List, ◌∷◌, ◌++◌, take, drop, Option, option_to_list, sym, ap, ◌∙◌, arith}
-use Rattle.icu_normalizer_core.proofs.FullListLemmas.{items_first}
+use Rattle.icu_normalizer_core.proofs.full_lists.FullListLemmas.{items_first}
 use Rattle.icu_normalizer.proofs.uts46.mapped_list.MappedListIterator.next.Goals as goal
 
 pub returns-clause-steps : goal.returns-clause-steps

@@ -1,7 +1,7 @@
 use Rattle.std.proofs.Common.{sym, ◌∙◌}
 use Rattle.icu_normalizer_core.specs.CanonicalMeaning.{lists_of}
-use Rattle.icu_normalizer_core.proofs.AcceptedForms.{accepted_pairs}
-use Rattle.icu_normalizer_core.proofs.TableMeanings.{pair_syllable, pair_listed}
+use Rattle.icu_normalizer_core.proofs.accepted.AcceptedForms.{accepted_pairs}
+use Rattle.icu_normalizer_core.proofs.accepted.TableMeanings.{pair_syllable, pair_listed}
 use Rattle.icu_normalizer_core.proofs.canonical.borrowed.CanonicalBorrowed.compose.Goals as goal
 
 pub listed_pair-requires-clause-pairs : goal.listed_pair-requires-clause-pairs

@@ -3,8 +3,8 @@ use Rattle.std.specs.Option.{option_map}
 use Rattle.icu_normalizer_core.specs.CanonicalMeaning.{lists_of}
 use Rattle.icu_normalizer_core.specs.BuiltIn.{built_in_step}
 use Rattle.icu_normalizer_core.specs.Properties.{mapped_to}
-use Rattle.icu_normalizer_core.proofs.AcceptedForms.{accepted_triples}
-use Rattle.icu_normalizer_core.proofs.TableMeanings.{step_built_in, step_free}
+use Rattle.icu_normalizer_core.proofs.accepted.AcceptedForms.{accepted_triples}
+use Rattle.icu_normalizer_core.proofs.accepted.TableMeanings.{step_built_in, step_free}
 use Rattle.icu_normalizer_core.proofs.canonical.borrowed.CanonicalBorrowed.mapping.Goals as goal
 
 pub listed_step-requires : goal.listed_step-requires

@@ -1,6 +1,6 @@
 use Rattle.std.proofs.Common.{sym, ap, ◌∙◌}
 use Rattle.icu_normalizer_core.specs.declared.canonical.builder.GivenCompatibility.{GivenCompatibility}
-use Rattle.icu_normalizer_core.proofs.SettlingLemmas.{got_at}
+use Rattle.icu_normalizer_core.proofs.settling.SettlingLemmas.{got_at}
 use Rattle.icu_normalizer_core.proofs.builder.SettledMappingLemmas.{first_dropped}
 use Rattle.icu_normalizer_core.proofs.canonical.builder.mappings.place_of.Goals as goal
 

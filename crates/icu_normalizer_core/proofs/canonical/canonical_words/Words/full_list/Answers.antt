@@ -1,7 +1,7 @@
 use Rattle.std.proofs.Common.{◌≡◌, ℕ, All, true, sym, subst, ap, ◌∙◌}
 use Rattle.std.specs.Char.{IsScalar}
 use Rattle.icu_normalizer_core.specs.CanonicalWords.{is_list_word, full_of_word}
-use Rattle.icu_normalizer_core.proofs.FullListLemmas.{full_listed}
+use Rattle.icu_normalizer_core.proofs.full_lists.FullListLemmas.{full_listed}
 use Rattle.icu_normalizer_core.proofs.canonical.canonical_words.Words.full_list.Goals as goal
 
 pub listed-requires-clause-scalars : goal.listed-requires-clause-scalars

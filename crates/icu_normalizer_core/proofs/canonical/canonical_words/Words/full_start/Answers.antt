@@ -1,6 +1,6 @@
 use Rattle.std.proofs.Common.{◌≡◌, ℕ, take, true, sym, ap, ◌∙◌}
 use Rattle.icu_normalizer_core.specs.CanonicalWords.{is_list_word, full_of_word}
-use Rattle.icu_normalizer_core.proofs.FullListLemmas.{full_listed}
+use Rattle.icu_normalizer_core.proofs.full_lists.FullListLemmas.{full_listed}
 use Rattle.icu_normalizer_core.proofs.canonical.canonical_words.Words.full_start.Goals as goal
 
 pub returns-then-is_list_word : goal.returns-then-is_list_word

@@ -3,9 +3,9 @@ use Rattle.std.proofs.lemmas.Bool.{both_ways}
 use Rattle.icu_normalizer_core.specs.BuiltInTests.{agrees}
 use Rattle.icu_normalizer_core.specs.CanonicalFaults.{OffendsBuiltIn}
 use Rattle.icu_normalizer_core.specs.CanonicalMeaning.{lists_of}
-use Rattle.icu_normalizer_core.proofs.BuiltInTestLemmas.{offends_fails, fails_offends}
-use Rattle.icu_normalizer_core.proofs.FaultLemmas.{option_through}
-use Rattle.icu_normalizer_core.proofs.ToldLemmas.{least_told, kept_built_ins}
+use Rattle.icu_normalizer_core.proofs.faults.BuiltInTestLemmas.{offends_fails, fails_offends}
+use Rattle.icu_normalizer_core.proofs.faults.FaultLemmas.{option_through}
+use Rattle.icu_normalizer_core.proofs.faults.ToldLemmas.{least_told, kept_built_ins}
 use Rattle.icu_normalizer_core.proofs.canonical.check.built_in.first_built_in_fault.Goals as goal
 
 pub returns : goal.returns

@@ -1,5 +1,5 @@
 use Rattle.std.proofs.Common.{rules, ◌≡◌, ◌+◌, ◌*◌, ◌%◌, ◌<◌, length, arith}
-use Rattle.icu_normalizer_core.proofs.TripleLemmas.{triple_at, triples_from}
+use Rattle.icu_normalizer_core.proofs.settling.TripleLemmas.{triple_at, triples_from}
 use Rattle.icu_normalizer_core.proofs.canonical.check.forms.are_triples.Goals as goal
 
 pub returns-then-not-is_triple : goal.returns-then-not-is_triple

@@ -5,8 +5,8 @@ use Rattle.icu_normalizer_core.specs.CanonicalLists.{canonical_of}
 use Rattle.icu_normalizer_core.specs.CanonicalMeaning.{lists_of}
 use Rattle.icu_normalizer_core.specs.CanonicalWords.{is_inside, states_list}
 use Rattle.icu_normalizer_core.specs.Settled.{left_items}
-use Rattle.icu_normalizer_core.proofs.FaultLemmas.{bool_through, long_bad, mark_bad, none_begins, none_bad, other_bad}
-use Rattle.icu_normalizer_core.proofs.SettledLemmas.{left_count}
+use Rattle.icu_normalizer_core.proofs.faults.FaultLemmas.{bool_through, long_bad, mark_bad, none_begins, none_bad, other_bad}
+use Rattle.icu_normalizer_core.proofs.settling.SettledLemmas.{left_count}
 use Rattle.icu_normalizer_core.proofs.canonical.check.full_lists.has_good_list.Goals as goal
 use Rattle.icu_normalizer_core.proofs.canonical.check.full_lists.has_good_list.Goals.{else-states_list-via-then-states_list+else-begins_with_mark, else-states_list-via-else-states_list}
 

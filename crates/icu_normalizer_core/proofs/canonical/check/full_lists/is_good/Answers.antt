@@ -1,7 +1,7 @@
 use Rattle.std.proofs.Common.{rules, inr, ⊎_elim, sym, ◌∙◌}
 use Rattle.icu_normalizer_core.specs.Canonical.{IsFree}
 use Rattle.icu_normalizer_core.specs.CanonicalMeaning.{lists_of}
-use Rattle.icu_normalizer_core.proofs.FaultLemmas.{bool_tells, own_good}
+use Rattle.icu_normalizer_core.proofs.faults.FaultLemmas.{bool_tells, own_good}
 use Rattle.icu_normalizer_core.proofs.canonical.check.full_lists.is_good.Goals as goal
 
 pub returns-then-not-may_have_triple-clause-good : goal.returns-then-not-may_have_triple-clause-good

@@ -1,8 +1,8 @@
 use Rattle.std.proofs.Common.{List, ℕ, [], ◌∷◌, inl, take, sym, ap, ◌∙◌}
 use Rattle.icu_normalizer_core.specs.CanonicalLists.{step_in}
-use Rattle.icu_normalizer_core.proofs.FaultLemmas.{bool_from}
-use Rattle.icu_normalizer_core.proofs.LeftLemmas.{left_one}
-use Rattle.icu_normalizer_core.proofs.SettlingLemmas.{stuck_endless}
+use Rattle.icu_normalizer_core.proofs.faults.FaultLemmas.{bool_from}
+use Rattle.icu_normalizer_core.proofs.settling.LeftLemmas.{left_one}
+use Rattle.icu_normalizer_core.proofs.settling.SettlingLemmas.{stuck_endless}
 use Rattle.icu_normalizer_core.proofs.canonical.check.full_lists.is_left.Goals as goal
 
 pub returns-in-Some : goal.returns-in-Some

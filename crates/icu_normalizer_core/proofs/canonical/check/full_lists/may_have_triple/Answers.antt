@@ -1,5 +1,5 @@
 use Rattle.std.proofs.Common.{◌/◌, arith}
-use Rattle.icu_normalizer_core.proofs.TripleLemmas.{unlisted_between}
+use Rattle.icu_normalizer_core.proofs.settling.TripleLemmas.{unlisted_between}
 use Rattle.icu_normalizer_core.proofs.canonical.check.full_lists.may_have_triple.Goals as goal
 use Rattle.icu_normalizer_core.proofs.canonical.check.full_lists.may_have_triple.Goals.{then-count-eq0-via-then-count-eq0, then-count-eq0-via-else-count-eq0+then-c-at, then-count-eq0-via-else-count-eq0+else-c-at+then-at-c}
 

@@ -1,7 +1,7 @@
 use Rattle.std.proofs.Common.{sym, ap, ◌∙◌}
 use Rattle.icu_normalizer_core.specs.FullLists.{source_items}
 use Rattle.icu_normalizer_core.specs.Settled.{left_items}
-use Rattle.icu_normalizer_core.proofs.FullStartLemmas.{start_more, start_past}
+use Rattle.icu_normalizer_core.proofs.full_lists.FullStartLemmas.{start_more, start_past}
 use Rattle.icu_normalizer_core.proofs.canonical.check.full_start.part_start.Goals as goal
 use Rattle.icu_normalizer_core.proofs.canonical.check.full_start.part_start.Goals.{in-Some, in_default}
 

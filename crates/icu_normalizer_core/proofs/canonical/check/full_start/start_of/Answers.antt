@@ -1,4 +1,4 @@
-use Rattle.icu_normalizer_core.proofs.FullStartLemmas.{gathered_more, gathered_all}
+use Rattle.icu_normalizer_core.proofs.full_lists.FullStartLemmas.{gathered_more, gathered_all}
 use Rattle.icu_normalizer_core.proofs.canonical.check.full_start.start_of.Goals as goal
 
 pub loop-c-preserved : goal.loop-c-preserved

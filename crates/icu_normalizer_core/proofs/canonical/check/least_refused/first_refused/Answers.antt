@@ -1,7 +1,7 @@
 use Rattle.std.proofs.Common.{◌≡◌, ◌<◌, ℕ, Bool, true, ⊎_elim, sym, subst, ◌∙◌, arith}
 use Rattle.std.specs.Char.{IsScalar}
 use Rattle.std.proofs.lemmas.Bool.{cases_lt}
-use Rattle.icu_normalizer_core.proofs.ScalarLemmas.{scalar_below}
+use Rattle.icu_normalizer_core.proofs.decoded.ScalarLemmas.{scalar_below}
 use Rattle.icu_normalizer_core.proofs.canonical.check.least_refused.first_refused.Goals as goal
 use Rattle.icu_normalizer_core.proofs.canonical.check.least_refused.first_refused.Goals.{in-Some+else-not-accepts, in_default}
 

@@ -1,8 +1,8 @@
 use Rattle.std.proofs.Common.{refl}
 use Rattle.std.proofs.lemmas.Bool.{false≢true}
 use Rattle.icu_normalizer_core.specs.CanonicalMeaning.{lists_of}
-use Rattle.icu_normalizer_core.proofs.FaultLemmas.{left_from, left_to}
-use Rattle.icu_normalizer_core.proofs.SettlingLemmas.{stuck_endless}
+use Rattle.icu_normalizer_core.proofs.faults.FaultLemmas.{left_from, left_to}
+use Rattle.icu_normalizer_core.proofs.settling.SettlingLemmas.{stuck_endless}
 use Rattle.icu_normalizer_core.proofs.canonical.check.loops.ends.Goals as goal
 
 pub returns-in-Some : goal.returns-in-Some

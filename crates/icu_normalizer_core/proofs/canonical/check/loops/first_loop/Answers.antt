@@ -1,6 +1,6 @@
 use Rattle.icu_normalizer_core.specs.CanonicalMeaning.{lists_of}
-use Rattle.icu_normalizer_core.proofs.EndingLemmas.{NoneOpen, each_ends}
-use Rattle.icu_normalizer_core.proofs.FaultLemmas.{left_from}
+use Rattle.icu_normalizer_core.proofs.settling.EndingLemmas.{NoneOpen, each_ends}
+use Rattle.icu_normalizer_core.proofs.faults.FaultLemmas.{left_from}
 use Rattle.icu_normalizer_core.proofs.canonical.check.loops.first_loop.Goals as goal
 
 pub returns-then-are_settled : goal.returns-then-are_settled

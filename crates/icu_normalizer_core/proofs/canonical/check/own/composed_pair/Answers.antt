@@ -1,8 +1,8 @@
 use Rattle.std.proofs.Common.{◌≡◌, ◌^◌, ◌≤◌, ◌⊎◌, inl, inr, None, sym, ◌∙◌}
 use Rattle.icu_normalizer_core.specs.BuiltIn.{syllable_of}
 use Rattle.icu_normalizer_core.specs.CanonicalMeaning.{lists_of}
-use Rattle.icu_normalizer_core.proofs.PairTestLemmas.{pair_outside}
-use Rattle.icu_normalizer_core.proofs.TableMeanings.{pair_syllable, pair_listed}
+use Rattle.icu_normalizer_core.proofs.faults.PairTestLemmas.{pair_outside}
+use Rattle.icu_normalizer_core.proofs.accepted.TableMeanings.{pair_syllable, pair_listed}
 use Rattle.icu_normalizer_core.proofs.canonical.check.own.composed_pair.Goals as goal
 use Rattle.icu_normalizer_core.proofs.canonical.check.own.composed_pair.Goals.{then-first-ge-CODE_LIMIT-via-then-first-ge-CODE_LIMIT, then-first-ge-CODE_LIMIT-via-else-first-ge-CODE_LIMIT+then-second-ge-CODE_LIMIT}
 

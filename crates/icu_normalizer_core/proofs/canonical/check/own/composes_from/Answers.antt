@@ -1,7 +1,7 @@
 use Rattle.std.proofs.Common.{◌≡◌, ℕ, ap, ◌∷◌, [], sym, ◌∙◌}
 use Rattle.std.proofs.lemmas.Bool.{false≢true, eq-eqb, eqb-true}
 use Rattle.icu_normalizer_core.specs.CanonicalMeaning.{meaning}
-use Rattle.icu_normalizer_core.proofs.CompositionLemmas.{joined_at, apart_at, end_at}
+use Rattle.icu_normalizer_core.proofs.composed.CompositionLemmas.{joined_at, apart_at, end_at}
 use Rattle.icu_normalizer_core.proofs.canonical.check.own.composes_from.Goals as goal
 
 pub returns-in-None : goal.returns-in-None

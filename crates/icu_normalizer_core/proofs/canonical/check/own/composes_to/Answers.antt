@@ -2,7 +2,7 @@ use Rattle.std.proofs.Common.{◌≢◌, ◌-◌, ◌<◌, [], length, take, dro
 use Rattle.std.proofs.lemmas.Bool.{false≢true, eq-eqb, eqb-true, eqb-false}
 use Rattle.icu_normalizer_core.specs.Canonical.{composing}
 use Rattle.icu_normalizer_core.specs.CanonicalMeaning.{meaning}
-use Rattle.icu_normalizer_core.proofs.CompositionLemmas.{rest_whole, none_of_nothing, one_of_mark, mark_of_one, starter_front}
+use Rattle.icu_normalizer_core.proofs.composed.CompositionLemmas.{rest_whole, none_of_nothing, one_of_mark, mark_of_one, starter_front}
 use Rattle.icu_normalizer_core.proofs.canonical.check.own.composes_to.Goals as goal
 
 pub returns-then-is_empty : goal.returns-then-is_empty

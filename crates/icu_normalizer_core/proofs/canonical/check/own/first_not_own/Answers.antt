@@ -1,6 +1,6 @@
 use Rattle.std.proofs.Common.{◌<◌, arith}
 use Rattle.icu_normalizer_core.specs.CanonicalMeaning.{lists_of}
-use Rattle.icu_normalizer_core.proofs.PairTestLemmas.{low_short}
+use Rattle.icu_normalizer_core.proofs.faults.PairTestLemmas.{low_short}
 use Rattle.icu_normalizer_core.proofs.canonical.check.own.first_not_own.Goals as goal
 
 pub is_own-requires-clause-short : goal.is_own-requires-clause-short

@@ -2,7 +2,7 @@ use Rattle.std.proofs.Common.{sym, ap, ◌∙◌, arith}
 use Rattle.std.proofs.lemmas.List.{take_all}
 use Rattle.icu_normalizer_core.specs.Canonical.{recomposed, marks_in_order}
 use Rattle.icu_normalizer_core.specs.CanonicalMeaning.{meaning}
-use Rattle.icu_normalizer_core.proofs.CompositionLemmas.{composed_one}
+use Rattle.icu_normalizer_core.proofs.composed.CompositionLemmas.{composed_one}
 use Rattle.icu_normalizer_core.proofs.canonical.check.own.is_own.Goals as goal
 
 pub returns : goal.returns

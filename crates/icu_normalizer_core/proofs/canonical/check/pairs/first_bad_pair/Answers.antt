@@ -2,8 +2,8 @@ use Rattle.std.proofs.Common.{rules, sym, subst, Option, ℕ}
 use Rattle.icu_normalizer_core.specs.CanonicalFaults.{OffendsPair}
 use Rattle.icu_normalizer_core.specs.CanonicalLists.{ArePairs}
 use Rattle.icu_normalizer_core.specs.CanonicalMeaning.{lists_of}
-use Rattle.icu_normalizer_core.proofs.OffenderLemmas.{IsLeastIn}
-use Rattle.icu_normalizer_core.proofs.PairTestLemmas.{pair_offends}
+use Rattle.icu_normalizer_core.proofs.faults.OffenderLemmas.{IsLeastIn}
+use Rattle.icu_normalizer_core.proofs.faults.PairTestLemmas.{pair_offends}
 use Rattle.icu_normalizer_core.proofs.canonical.check.pairs.first_bad_pair.Goals as goal
 
 pub returns : goal.returns

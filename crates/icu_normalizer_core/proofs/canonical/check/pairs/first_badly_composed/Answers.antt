@@ -3,8 +3,8 @@ use Rattle.icu_normalizer_core.specs.CanonicalFaults.{IsBadPair}
 use Rattle.icu_normalizer_core.specs.CanonicalLists.{pair_composed}
 use Rattle.icu_normalizer_core.specs.CanonicalMeaning.{lists_of}
 use Rattle.icu_normalizer_core.specs.PairTests.{IsBadlyComposed, least}
-use Rattle.icu_normalizer_core.proofs.OffenderLemmas.{IsLeastIn, least_same}
-use Rattle.icu_normalizer_core.proofs.PairTestLemmas.{IsBadBelow, bad_more, bad_none, bad_told, good_told}
+use Rattle.icu_normalizer_core.proofs.faults.OffenderLemmas.{IsLeastIn, least_same}
+use Rattle.icu_normalizer_core.proofs.faults.PairTestLemmas.{IsBadBelow, bad_more, bad_none, bad_told, good_told}
 use Rattle.icu_normalizer_core.proofs.canonical.check.pairs.first_badly_composed.Goals as goal
 use Rattle.icu_normalizer_core.proofs.canonical.check.pairs.first_badly_composed.Goals.{then-is_bad_pair, else-is_bad_pair}
 

@@ -1,6 +1,6 @@
 use Rattle.icu_normalizer_core.specs.CanonicalMeaning.{lists_of}
-use Rattle.icu_normalizer_core.proofs.OffenderLemmas.{IsLeastIn}
-use Rattle.icu_normalizer_core.proofs.PairTestLemmas.{IsBadBelow}
+use Rattle.icu_normalizer_core.proofs.faults.OffenderLemmas.{IsLeastIn}
+use Rattle.icu_normalizer_core.proofs.faults.PairTestLemmas.{IsBadBelow}
 use Rattle.icu_normalizer_core.proofs.canonical.check.pairs.first_badly_composed.Given as goal
 
 abbrev pub invariant-loop-place : goal.invariant-loop-place

@@ -1,4 +1,4 @@
-use Rattle.icu_normalizer_core.proofs.SettlingLemmas.{AreOpen}
+use Rattle.icu_normalizer_core.proofs.settling.SettlingLemmas.{AreOpen}
 use Rattle.icu_normalizer_core.proofs.canonical.check.settle.all_open.Given as goal
 
 abbrev pub invariant-loop : goal.invariant-loop

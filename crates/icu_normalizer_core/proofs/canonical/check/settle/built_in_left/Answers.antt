@@ -2,9 +2,9 @@ use Rattle.std.proofs.Common.{◌≡◌, ℕ, Some, [], ◌∷◌, sym, ap, ◌�
 use Rattle.icu_normalizer_core.specs.declared.decomposed.Decomposed.{Decomposed}
 use Rattle.icu_normalizer_core.specs.BuiltIn.{built_in_step}
 use Rattle.icu_normalizer_core.specs.Properties.{mapped_to}
-use Rattle.icu_normalizer_core.proofs.BuiltInFacts.{letters_short}
-use Rattle.icu_normalizer_core.proofs.TableMeanings.{step_in_built_in}
-use Rattle.icu_normalizer_core.proofs.SettledLemmas.{start_alone, start_letters, built_in_free, single_left, double_left, single_stuck, first_stuck, second_stuck}
+use Rattle.icu_normalizer_core.proofs.built.BuiltInFacts.{letters_short}
+use Rattle.icu_normalizer_core.proofs.accepted.TableMeanings.{step_in_built_in}
+use Rattle.icu_normalizer_core.proofs.settling.SettledLemmas.{start_alone, start_letters, built_in_free, single_left, double_left, single_stuck, first_stuck, second_stuck}
 use Rattle.icu_normalizer_core.proofs.canonical.check.settle.built_in_left.Goals as goal
 
 said : (c : ℕ) (step other : Decomposed) → built_in_step c ≡ Some (mapped_to step) → step ≡ other → built_in_step c ≡ Some (mapped_to other)

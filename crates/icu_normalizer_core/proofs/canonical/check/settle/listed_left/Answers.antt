@@ -1,7 +1,7 @@
 use Rattle.std.proofs.Common.{◌∙◌}
-use Rattle.icu_normalizer_core.proofs.SettledLemmas.{start_alone}
-use Rattle.icu_normalizer_core.proofs.TableMeanings.{step_in_free}
-use Rattle.icu_normalizer_core.proofs.TripleLemmas.{listed_none}
+use Rattle.icu_normalizer_core.proofs.settling.SettledLemmas.{start_alone}
+use Rattle.icu_normalizer_core.proofs.accepted.TableMeanings.{step_in_free}
+use Rattle.icu_normalizer_core.proofs.settling.TripleLemmas.{listed_none}
 use Rattle.icu_normalizer_core.proofs.canonical.check.settle.listed_left.Goals as goal
 
 pub returns-in-None : goal.returns-in-None

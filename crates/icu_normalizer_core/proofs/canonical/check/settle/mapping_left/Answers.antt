@@ -1,7 +1,7 @@
 use Rattle.std.proofs.Common.{ℕ, ◌+◌, ◌*◌, List, [], ◌∷◌, slice_index, sym, subst}
 use Rattle.icu_normalizer_core.specs.Settled.{IsStartOf}
-use Rattle.icu_normalizer_core.proofs.SettledLemmas.{start_joined}
-use Rattle.icu_normalizer_core.proofs.SettlingLemmas.{mapping_double}
+use Rattle.icu_normalizer_core.proofs.settling.SettledLemmas.{start_joined}
+use Rattle.icu_normalizer_core.proofs.settling.SettlingLemmas.{mapping_double}
 use Rattle.icu_normalizer_core.proofs.canonical.check.settle.mapping_left.Goals as goal
 
 pub returns : goal.returns

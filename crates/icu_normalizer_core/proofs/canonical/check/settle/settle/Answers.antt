@@ -1,7 +1,7 @@
 use Rattle.std.proofs.Common.{rules, ◌≡◌, List, Option, length, sym, subst}
 use Rattle.icu_normalizer_core.specs.declared.canonical.check.left.Left.{Left}
 use Rattle.icu_normalizer_core.specs.Settled.{IsDone}
-use Rattle.icu_normalizer_core.proofs.SettlingLemmas.{vector_written}
+use Rattle.icu_normalizer_core.proofs.settling.SettlingLemmas.{vector_written}
 use Rattle.icu_normalizer_core.proofs.canonical.check.settle.settle.Goals as goal
 
 pub returns-clause-done : goal.returns-clause-done

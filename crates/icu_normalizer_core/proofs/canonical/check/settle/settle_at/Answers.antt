@@ -1,5 +1,5 @@
 use Rattle.std.proofs.Common.{◌<◌, length, arith}
-use Rattle.icu_normalizer_core.proofs.SettlingLemmas.{starts_written, fewer_open, open_read}
+use Rattle.icu_normalizer_core.proofs.settling.SettlingLemmas.{starts_written, fewer_open, open_read}
 use Rattle.icu_normalizer_core.proofs.canonical.check.settle.settle_at.Goals as goal
 
 pub returns-clause-starts : goal.returns-clause-starts

@@ -1,5 +1,5 @@
 use Rattle.std.proofs.Common.{◌≡◌, ℕ, ◌<◌, List, [], ◌∷◌, ◌++◌, set, slice_get, Bool, true, false, Some, sym, ap, subst, ◌∙◌}
-use Rattle.icu_normalizer_core.proofs.DepthLemmas.{IsWalk, looks_left, walk_popped, walk_pushed, fewer_pushed}
+use Rattle.icu_normalizer_core.proofs.settling.DepthLemmas.{IsWalk, looks_left, walk_popped, walk_pushed, fewer_pushed}
 use Rattle.icu_normalizer_core.proofs.canonical.check.settle.settle_in_depth.Goals as goal
 
 pub loop-place-smaller-in-Continue-branch-4 : goal.loop-place-smaller-in-Continue-branch-4

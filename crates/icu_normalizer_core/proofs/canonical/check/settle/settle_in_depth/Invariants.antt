@@ -1,4 +1,4 @@
-use Rattle.icu_normalizer_core.proofs.DepthLemmas.{IsWalk, looks_left}
+use Rattle.icu_normalizer_core.proofs.settling.DepthLemmas.{IsWalk, looks_left}
 use Rattle.icu_normalizer_core.proofs.canonical.check.settle.settle_in_depth.Given as goal
 
 abbrev pub invariant-loop-place : goal.invariant-loop-place

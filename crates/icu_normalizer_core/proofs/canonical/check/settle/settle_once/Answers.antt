@@ -1,4 +1,4 @@
-use Rattle.icu_normalizer_core.proofs.SettlingLemmas.{progress_made, progress_none}
+use Rattle.icu_normalizer_core.proofs.settling.SettlingLemmas.{progress_made, progress_none}
 use Rattle.icu_normalizer_core.proofs.canonical.check.settle.settle_once.Goals as goal
 use Rattle.icu_normalizer_core.proofs.canonical.check.settle.settle_once.Goals.{then-settle_at, else-settle_at}
 

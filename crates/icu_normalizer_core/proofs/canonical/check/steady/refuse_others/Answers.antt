@@ -1,5 +1,5 @@
 use Rattle.icu_normalizer_core.specs.CanonicalMeaning.{lists_of}
-use Rattle.icu_normalizer_core.proofs.SteadyLemmas.{no_second}
+use Rattle.icu_normalizer_core.proofs.composed.SteadyLemmas.{no_second}
 use Rattle.icu_normalizer_core.proofs.canonical.check.steady.refuse_others.Goals as goal
 
 pub refuse_told-requires-clause-seconds : goal.refuse_told-requires-clause-seconds

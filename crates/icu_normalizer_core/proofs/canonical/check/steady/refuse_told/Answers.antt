@@ -4,10 +4,10 @@ use Rattle.std.proofs.lemmas.Bool.{cases_lt}
 use Rattle.icu_normalizer_core.specs.Boundaries.{IsSteady}
 use Rattle.icu_normalizer_core.specs.CanonicalMeaning.{lists_of, meaning}
 use Rattle.icu_normalizer_core.specs.SteadyAnswers.{SaysYes}
-use Rattle.icu_normalizer_core.proofs.AcceptedForms.{accepted_pairs}
-use Rattle.icu_normalizer_core.proofs.AcceptedTables.{full_bounded}
-use Rattle.icu_normalizer_core.proofs.ScalarLemmas.{scalar_below}
-use Rattle.icu_normalizer_core.proofs.SteadyLemmas.{plain_steady}
+use Rattle.icu_normalizer_core.proofs.accepted.AcceptedForms.{accepted_pairs}
+use Rattle.icu_normalizer_core.proofs.accepted.AcceptedTables.{full_bounded}
+use Rattle.icu_normalizer_core.proofs.decoded.ScalarLemmas.{scalar_below}
+use Rattle.icu_normalizer_core.proofs.composed.SteadyLemmas.{plain_steady}
 use Rattle.icu_normalizer_core.proofs.canonical.check.steady.refuse_told.Goals as goal
 use Rattle.icu_normalizer_core.proofs.canonical.check.steady.refuse_told.Goals.{in-Some, in_default}
 

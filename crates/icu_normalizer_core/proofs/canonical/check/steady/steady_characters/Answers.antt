@@ -1,7 +1,7 @@
 use Rattle.std.proofs.Common.{rules, ◌≡◌, List, Bool, length, sym, subst}
 use Rattle.icu_normalizer_core.specs.CanonicalMeaning.{meaning}
 use Rattle.icu_normalizer_core.specs.SteadyAnswers.{AreSteady}
-use Rattle.icu_normalizer_core.proofs.SettlingLemmas.{vector_written}
+use Rattle.icu_normalizer_core.proofs.settling.SettlingLemmas.{vector_written}
 use Rattle.icu_normalizer_core.proofs.canonical.check.steady.steady_characters.Goals as goal
 
 pub returns : goal.returns

@@ -1,5 +1,5 @@
 use Rattle.std.proofs.lemmas.Bool.{leb-true}
-use Rattle.icu_normalizer_core.proofs.BuiltInFacts.{no_class_past, free_past}
+use Rattle.icu_normalizer_core.proofs.built.BuiltInFacts.{no_class_past, free_past}
 use Rattle.icu_normalizer_core.proofs.canonical.check.told.is_nothing_built_in.Goals as goal
 
 pub returns-then-code-ge65536-clause-class : goal.returns-then-code-ge65536-clause-class

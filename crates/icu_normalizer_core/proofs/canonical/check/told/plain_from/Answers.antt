@@ -1,5 +1,5 @@
 use Rattle.std.proofs.Common.{◌≤◌, rules}
-use Rattle.icu_normalizer_core.proofs.ToldLemmas.{plain_tail}
+use Rattle.icu_normalizer_core.proofs.faults.ToldLemmas.{plain_tail}
 use Rattle.icu_normalizer_core.proofs.canonical.check.told.plain_from.Goals as goal
 
 pub returns-clause-plain : goal.returns-clause-plain

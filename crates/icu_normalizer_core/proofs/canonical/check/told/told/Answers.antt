@@ -1,6 +1,6 @@
 use Rattle.std.proofs.Common.{rules}
 use Rattle.icu_normalizer_core.specs.CanonicalMeaning.{lists_of}
-use Rattle.icu_normalizer_core.proofs.ToldLemmas.{tells_listed, tells_told, tells_past}
+use Rattle.icu_normalizer_core.proofs.faults.ToldLemmas.{tells_listed, tells_told, tells_past}
 use Rattle.icu_normalizer_core.proofs.canonical.check.told.told.Goals as goal
 use Rattle.icu_normalizer_core.proofs.canonical.check.told.told.Goals.{then-is_listed+in_ok-push, else-is_listed+then-not-is_plain+in_ok-push-2, else-is_listed+else-not-is_plain}
 

@@ -1,6 +1,6 @@
 use Rattle.std.proofs.Common.{◌≡◌, ◌*◌, ◌+◌, ◌<◌, ◌≤◌, length, slice_index, arith, rules}
 use Rattle.icu_normalizer_core.specs.CanonicalMeaning.{lists_of}
-use Rattle.icu_normalizer_core.proofs.ToldLemmas.{tells_triple, tells_all}
+use Rattle.icu_normalizer_core.proofs.faults.ToldLemmas.{tells_triple, tells_all}
 use Rattle.icu_normalizer_core.proofs.canonical.check.told.with_triples.Goals as goal
 
 pub loop-triple-preserved : goal.loop-triple-preserved

@@ -1,8 +1,8 @@
 use Rattle.std.proofs.Common.{rules}
 use Rattle.icu_normalizer_core.specs.CanonicalFaults.{OffendsValue}
 use Rattle.icu_normalizer_core.specs.CanonicalMeaning.{lists_of}
-use Rattle.icu_normalizer_core.proofs.FaultLemmas.{option_through}
-use Rattle.icu_normalizer_core.proofs.ToldLemmas.{least_told, kept_values}
+use Rattle.icu_normalizer_core.proofs.faults.FaultLemmas.{option_through}
+use Rattle.icu_normalizer_core.proofs.faults.ToldLemmas.{least_told, kept_values}
 use Rattle.icu_normalizer_core.proofs.canonical.check.values.first_bad_value.Goals as goal
 
 pub returns : goal.returns

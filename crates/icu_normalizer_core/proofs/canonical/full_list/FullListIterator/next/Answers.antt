@@ -1,5 +1,5 @@
 use Rattle.icu_normalizer_core.specs.FullLists.{source_items}
-use Rattle.icu_normalizer_core.proofs.FullListLemmas.{part_behind}
+use Rattle.icu_normalizer_core.proofs.full_lists.FullListLemmas.{part_behind}
 use Rattle.icu_normalizer_core.proofs.canonical.full_list.FullListIterator.next.Goals as goal
 
 pub invariant_of-self : goal.invariant_of-self

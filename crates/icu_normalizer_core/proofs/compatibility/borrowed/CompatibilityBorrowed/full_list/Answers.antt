@@ -4,7 +4,7 @@ use Rattle.icu_normalizer_core.specs.declared.compatibility.tables.NfkdTables.{N
 use Rattle.icu_normalizer_core.specs.CanonicalMeaning.{lists_of}
 use Rattle.icu_normalizer_core.specs.CompatibilityMeaning.{nfkd_lists}
 use Rattle.icu_normalizer_core.specs.Words.{WordLists, full_in}
-use Rattle.icu_normalizer_core.proofs.AcceptedWords.{word_scalars}
+use Rattle.icu_normalizer_core.proofs.accepted.AcceptedWords.{word_scalars}
 use Rattle.icu_normalizer_core.proofs.compatibility.borrowed.CompatibilityBorrowed.full_list.Goals as goal
 
 pub full_list-requires : goal.full_list-requires

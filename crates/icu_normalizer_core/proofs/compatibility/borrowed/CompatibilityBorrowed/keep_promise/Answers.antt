@@ -1,7 +1,7 @@
 use Rattle.icu_normalizer_core.specs.CanonicalMeaning.{lists_of}
 use Rattle.icu_normalizer_core.specs.CompatibilityMeaning.{nfkd_lists}
-use Rattle.icu_normalizer_core.proofs.AcceptedPairs.{canonical}
-use Rattle.icu_normalizer_core.proofs.AcceptedWords.{compatible}
+use Rattle.icu_normalizer_core.proofs.accepted.AcceptedPairs.{canonical}
+use Rattle.icu_normalizer_core.proofs.accepted.AcceptedWords.{compatible}
 use Rattle.icu_normalizer_core.proofs.compatibility.borrowed.CompatibilityBorrowed.keep_promise.Goals as goal
 
 pub returns-clause-canonical : goal.returns-clause-canonical

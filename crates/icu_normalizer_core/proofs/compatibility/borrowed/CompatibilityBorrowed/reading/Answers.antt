@@ -5,8 +5,8 @@ use Rattle.icu_normalizer_core.specs.Compatibility.{compatibility_of}
 use Rattle.icu_normalizer_core.specs.CompatibilityMeaning.{nfkd_lists}
 use Rattle.icu_normalizer_core.specs.Readings.{IsToldBy}
 use Rattle.icu_normalizer_core.specs.Words.{WordLists}
-use Rattle.icu_normalizer_core.proofs.AcceptedWords.{class_same}
-use Rattle.icu_normalizer_core.proofs.ReadingLemmas.{told}
+use Rattle.icu_normalizer_core.proofs.accepted.AcceptedWords.{class_same}
+use Rattle.icu_normalizer_core.proofs.composed.ReadingLemmas.{told}
 use Rattle.icu_normalizer_core.proofs.compatibility.borrowed.CompatibilityBorrowed.reading.Goals as goal
 
 pub returns : goal.returns

@@ -5,7 +5,7 @@ use Rattle.std.specs.Option.{option_map}
 use Rattle.icu_normalizer_core.specs.Compatibility.{fixed_list}
 use Rattle.icu_normalizer_core.specs.Settled.{left_items}
 use Rattle.icu_normalizer_core.specs.Words.{word_lists, full_in}
-use Rattle.icu_normalizer_core.proofs.FixedListLemmas.{fixed_good, fixed_bad}
+use Rattle.icu_normalizer_core.proofs.compatible.FixedListLemmas.{fixed_good, fixed_bad}
 use Rattle.icu_normalizer_core.proofs.compatibility.check.fixed.is_fixed.Goals as goal
 
 pub returns-in-Some-clause-good : goal.returns-in-Some-clause-good

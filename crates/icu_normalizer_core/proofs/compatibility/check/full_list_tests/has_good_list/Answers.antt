@@ -5,8 +5,8 @@ use Rattle.icu_normalizer_core.specs.CanonicalWords.{is_inside, states_list}
 use Rattle.icu_normalizer_core.specs.CompatibilityFaults.{HasOtherItem}
 use Rattle.icu_normalizer_core.specs.Settled.{left_items}
 use Rattle.icu_normalizer_core.specs.Words.{word_lists, full_in, is_inside_in}
-use Rattle.icu_normalizer_core.proofs.SettledLemmas.{left_count, cut_long}
-use Rattle.icu_normalizer_core.proofs.WordListLemmas.{found_good, start_whole}
+use Rattle.icu_normalizer_core.proofs.settling.SettledLemmas.{left_count, cut_long}
+use Rattle.icu_normalizer_core.proofs.full_lists.WordListLemmas.{found_good, start_whole}
 use Rattle.icu_normalizer_core.proofs.compatibility.check.full_list_tests.has_good_list.Goals as goal
 
 pub returns-then-full-gt8-clause-bad : goal.returns-then-full-gt8-clause-bad

@@ -1,5 +1,5 @@
 use Rattle.icu_normalizer_core.specs.Words.{word_lists, full_in}
-use Rattle.icu_normalizer_core.proofs.JoinedStartLemmas.{joined_more, joined_all}
+use Rattle.icu_normalizer_core.proofs.full_lists.JoinedStartLemmas.{joined_more, joined_all}
 use Rattle.icu_normalizer_core.proofs.compatibility.check.full_list_tests.joined_start.Goals as goal
 
 pub loop-c-preserved : goal.loop-c-preserved

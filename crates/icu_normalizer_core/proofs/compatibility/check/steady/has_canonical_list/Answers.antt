@@ -2,9 +2,9 @@ use Rattle.std.proofs.Common.{◌≡◌, take, sym, ap, ◌∙◌}
 use Rattle.icu_normalizer_core.specs.CanonicalMeaning.{lists_of, meaning}
 use Rattle.icu_normalizer_core.specs.Settled.{left_items}
 use Rattle.icu_normalizer_core.specs.Words.{WordLists, word_lists, full_in}
-use Rattle.icu_normalizer_core.proofs.SettledLemmas.{cut_known}
-use Rattle.icu_normalizer_core.proofs.TableMeanings.{full_is}
-use Rattle.icu_normalizer_core.proofs.WordListLemmas.{plain_same}
+use Rattle.icu_normalizer_core.proofs.settling.SettledLemmas.{cut_known}
+use Rattle.icu_normalizer_core.proofs.accepted.TableMeanings.{full_is}
+use Rattle.icu_normalizer_core.proofs.full_lists.WordListLemmas.{plain_same}
 use Rattle.icu_normalizer_core.proofs.compatibility.check.steady.has_canonical_list.Goals as goal
 
 pub returns-then-word-eq0-2 : goal.returns-then-word-eq0-2

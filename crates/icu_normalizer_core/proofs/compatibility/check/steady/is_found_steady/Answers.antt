@@ -4,7 +4,7 @@ use Rattle.icu_normalizer_core.specs.Boundaries.{IsSteady}
 use Rattle.icu_normalizer_core.specs.Canonical.{IsCanonical}
 use Rattle.icu_normalizer_core.specs.CanonicalMeaning.{lists_of, meaning}
 use Rattle.icu_normalizer_core.specs.Words.{word_lists, full_in}
-use Rattle.icu_normalizer_core.proofs.SteadyCompatibilityLemmas.{steady_alike}
+use Rattle.icu_normalizer_core.proofs.compatible.SteadyCompatibilityLemmas.{steady_alike}
 use Rattle.icu_normalizer_core.proofs.compatibility.check.steady.is_found_steady.Goals as goal
 
 pub returns-then-is_steady : goal.returns-then-is_steady

@@ -3,7 +3,7 @@ use Rattle.icu_normalizer_core.specs.CanonicalMeaning.{lists_of}
 use Rattle.icu_normalizer_core.specs.Compatibility.{compatibility_of}
 use Rattle.icu_normalizer_core.specs.SteadyAnswers.{AreSteady}
 use Rattle.icu_normalizer_core.specs.Words.{word_lists}
-use Rattle.icu_normalizer_core.proofs.SteadyCompatibilityLemmas.{steady_more}
+use Rattle.icu_normalizer_core.proofs.compatible.SteadyCompatibilityLemmas.{steady_more}
 use Rattle.icu_normalizer_core.proofs.compatibility.check.steady.steady_characters.Goals as goal
 
 pub loop-code-preserved : goal.loop-code-preserved

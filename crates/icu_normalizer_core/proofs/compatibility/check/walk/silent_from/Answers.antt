@@ -1,5 +1,5 @@
 use Rattle.std.proofs.Common.{◌≤◌, rules}
-use Rattle.icu_normalizer_core.proofs.CompatibilityWalkLemmas.{silent_tail}
+use Rattle.icu_normalizer_core.proofs.compatible.CompatibilityWalkLemmas.{silent_tail}
 use Rattle.icu_normalizer_core.proofs.compatibility.check.walk.silent_from.Goals as goal
 
 pub returns-clause-silent : goal.returns-clause-silent

@@ -5,8 +5,8 @@ use Rattle.icu_normalizer_core.specs.declared.compatibility.check.walk.Faults.{F
 use Rattle.icu_normalizer_core.specs.CanonicalMeaning.{lists_of}
 use Rattle.icu_normalizer_core.specs.CompatibilityWalks.{SaysNothing, AreFaultsBelow}
 use Rattle.icu_normalizer_core.specs.Words.{word_lists}
-use Rattle.icu_normalizer_core.proofs.AcceptedTables.{full_scalars}
-use Rattle.icu_normalizer_core.proofs.CompatibilityWalkLemmas.{faults_same, faults_next}
+use Rattle.icu_normalizer_core.proofs.accepted.AcceptedTables.{full_scalars}
+use Rattle.icu_normalizer_core.proofs.compatible.CompatibilityWalkLemmas.{faults_same, faults_next}
 use Rattle.icu_normalizer_core.proofs.compatibility.check.walk.with_code.Goals as goal
 
 pub returns-in_default : goal.returns-in_default

@@ -1,7 +1,7 @@
 use Rattle.std.proofs.Common.{sym, ap, ◌∙◌, arith}
 use Rattle.std.specs.Prelude.{option_map}
 use Rattle.icu_normalizer_core.specs.Properties.{mapped_to}
-use Rattle.icu_normalizer_core.proofs.SettlingLemmas.{got_at}
+use Rattle.icu_normalizer_core.proofs.settling.SettlingLemmas.{got_at}
 use Rattle.icu_normalizer_core.proofs.builder.MappingReadLemmas.{apart_left, fixed_left, found_left, none_mapped, some_mapped, ungiven_left}
 use Rattle.icu_normalizer_core.proofs.canonical.builder.mappings.Mappings.listed_left.Goals as goal
 

@@ -2,7 +2,7 @@ use Rattle.std.proofs.Common.{rules, ◌≡◌, List, Option, length, sym, subst
 use Rattle.icu_normalizer_core.specs.declared.canonical.check.left.Left.{Left}
 use Rattle.icu_normalizer_core.specs.CanonicalMeaning.{meaning}
 use Rattle.icu_normalizer_core.specs.SettledMappings.{IsAllSettled}
-use Rattle.icu_normalizer_core.proofs.SettlingLemmas.{vector_written}
+use Rattle.icu_normalizer_core.proofs.settling.SettlingLemmas.{vector_written}
 use Rattle.icu_normalizer_core.proofs.canonical.builder.mappings.Mappings.settle.Goals as goal
 
 pub returns-clause-done : goal.returns-clause-done

@@ -4,7 +4,7 @@ use Rattle.std.specs.Char.{IsScalar}
 use Rattle.icu_normalizer_core.specs.declared.canonical.builder.GivenCompatibility.{GivenCompatibility}
 use Rattle.icu_normalizer_core.specs.CanonicalMeaning.{meaning}
 use Rattle.icu_normalizer_core.specs.SettledMappings.{HasOpen, StartsLeft, mapping_at, steps_in}
-use Rattle.icu_normalizer_core.proofs.SettlingLemmas.{fewer_open, got_at, open_read}
+use Rattle.icu_normalizer_core.proofs.settling.SettlingLemmas.{fewer_open, got_at, open_read}
 use Rattle.icu_normalizer_core.proofs.builder.SettledMappingLemmas.{mapping_is, mapping_written}
 use Rattle.icu_normalizer_core.proofs.canonical.builder.mappings.Mappings.settle_at.Goals as goal
 

@@ -1,6 +1,6 @@
 use Rattle.std.proofs.Common.{rules, ◌<◌, length}
 use Rattle.icu_normalizer_core.specs.Settled.{left_items}
-use Rattle.icu_normalizer_core.proofs.SettledLemmas.{cut_begun, cut_more}
+use Rattle.icu_normalizer_core.proofs.settling.SettledLemmas.{cut_begun, cut_more}
 use Rattle.icu_normalizer_core.proofs.canonical.check.left.Left.joined.Goals as goal
 
 pub loop-i-init : goal.loop-i-init

@@ -1,0 +1,3 @@
+-- normal forms
+pub mod FormLawLemmas
+pub mod SameFormLemmas

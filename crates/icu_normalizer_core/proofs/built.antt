@@ -1,0 +1,2 @@
+-- what is built in
+pub mod BuiltInFacts

@@ -1,0 +1,5 @@
+-- compatibility data
+pub mod CompatibilityWalkLemmas
+pub mod CompatibleLemmas
+pub mod FixedListLemmas
+pub mod SteadyCompatibilityLemmas

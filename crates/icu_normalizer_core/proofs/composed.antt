@@ -1,0 +1,5 @@
+-- what composes
+pub mod CompositionLemmas
+pub mod PairLemmas
+pub mod SteadyLemmas
+pub mod ReadingLemmas

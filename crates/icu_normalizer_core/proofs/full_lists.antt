@@ -1,0 +1,5 @@
+-- full lists
+pub mod FullListLemmas
+pub mod FullStartLemmas
+pub mod JoinedStartLemmas
+pub mod WordListLemmas

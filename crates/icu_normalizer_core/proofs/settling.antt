@@ -1,0 +1,7 @@
+-- mapping steps until no more can be taken
+pub mod EndingLemmas
+pub mod SettledLemmas
+pub mod SettlingLemmas
+pub mod DepthLemmas
+pub mod LeftLemmas
+pub mod TripleLemmas
