@@ -82,7 +82,7 @@ fits-longer : (limit : ℕ) (key : List ℕ) (unit : ℕ) (xs : List Pair) → F
 fits-longer limit key unit xs h = subst (λ n. Fits limit n xs) (sym (length-append key (unit ∷ []))) h
 
 -- the part of a rule
-abbrev part_of : Rule → GrammarPart
+abbrev part_of : Rule → Part
 part_of (spot (at_node place)) = part.Node place
 part_of (spot (at_state (state.Match run))) = part.Run run
 part_of (spot (at_state (state.Branch branch))) = part.Branch (record { branch = branch; low = 0; high = 0x10000 })
@@ -117,7 +117,7 @@ module _ (units : List ℕ) (limit : ℕ) where
       → Reads units limit jobs (under key (behind_unit unit pairs) ++ back)
   behind-read key unit pairs back jobs h = subst (λ pairs. Reads units limit jobs (pairs ++ back)) (under-unit key unit pairs) h
 
-  run-read : (run : Match) (unit : ℕ) (next : GrammarPart) (pairs : List Pair) → slice_get units run.place ≡ Some unit → HasFirst pairs → run_on run ≡ next
+  run-read : (run : Match) (unit : ℕ) (next : Part) (pairs : List Pair) → slice_get units run.place ≡ Some unit → HasFirst pairs → run_on run ≡ next
       → (key : List ℕ) (rest : List Job) (back : List Pair) → Fits limit (length key) (behind_unit unit pairs)
       → Reads units limit ((key ++ (unit ∷ []), next) ∷ rest) (under (key ++ (unit ∷ [])) pairs ++ back)
       → Reads units limit ((key, part.Run run) ∷ rest) (under key (behind_unit unit pairs) ++ back)
@@ -134,11 +134,11 @@ module _ (units : List ℕ) (limit : ℕ) where
       (on key (part.Node place) (node_of (Some value) None) rest back (step_of units (node_stands place (Some value) None node)) tt more)
   sound-reads (sound_node place value next node rest) = node-read place value next (listing units rest) node (has-first units rest) rest (sound-reads rest)
   sound-reads (sound_run run unit e more rest) = λ key jobs back fits h.
-      let go : GrammarPart = part.Run (record { left = run.left - 1; place = run.place + 1 }) in
+      let go : Part = part.Run (record { left = run.left - 1; place = run.place + 1 }) in
       run-read run unit go (listing units rest) e (has-first units rest) (if_not_leb run.left 1 (part.Node (run.place + 1)) go more) key jobs back fits
       (sound-reads rest (key ++ (unit ∷ [])) jobs back (fits-longer limit key unit (listing units rest) (fits-unit limit (length key) unit (listing units rest) fits)) h)
   sound-reads (sound_run_end run unit e few rest) = λ key jobs back fits h.
-      let go : GrammarPart = part.Run (record { left = run.left - 1; place = run.place + 1 }) in
+      let go : Part = part.Run (record { left = run.left - 1; place = run.place + 1 }) in
       run-read run unit (part.Node (run.place + 1)) (listing units rest) e (has-first units rest) (if_leb run.left 1 (part.Node (run.place + 1)) go few) key jobs back fits
       (sound-reads rest (key ++ (unit ∷ [])) jobs back (fits-longer limit key unit (listing units rest) (fits-unit limit (length key) unit (listing units rest) fits)) h)
   sound-reads (sound_branch branch rest) = sound-reads rest
@@ -151,7 +151,7 @@ module _ (units : List ℕ) (limit : ℕ) where
       (sound-reads rest (key ++ (unit ∷ [])) jobs back (fits-longer limit key unit (listing units rest) (fits-unit limit (length key) unit (listing units rest) fits)) h))
   sound-reads (sound_value branch low high value entry more few e to above below rest) = λ key jobs back fits h.
       let b : Bounded = record { branch = branch; low = low; high = high } in
-      let others : GrammarPart = bounded (branch.count - 1) entry.number.end (entry.unit + 1) high in
+      let others : Part = bounded (branch.count - 1) entry.number.end (entry.unit + 1) high in
       let room = fits.0 in
       on key (part.Branch b) (record { unit = Some entry.unit; value = Some value; next = None; rest = Some others }) jobs
       (under key (listing units rest) ++ back) (step_of units (entry_stands b entry (Value value) more few e to above below))
@@ -159,7 +159,7 @@ module _ (units : List ℕ) (limit : ℕ) where
       (sound-reads rest key jobs back fits.1 h)
   sound-reads (sound_jump branch low high place entry more few e to above below node rest) = λ key jobs back fits h.
       let b : Bounded = record { branch = branch; low = low; high = high } in
-      let others : GrammarPart = bounded (branch.count - 1) entry.number.end (entry.unit + 1) high in
+      let others : Part = bounded (branch.count - 1) entry.number.end (entry.unit + 1) high in
       let first : List Pair = behind_unit entry.unit (listing units node) in
       let fits-first : Fits limit (length key) first = fits-left limit (length key) first (listing units rest) fits in
       let back-read : Reads units limit ((key, others) ∷ jobs) (under key (listing units rest) ++ back) =
@@ -175,8 +175,8 @@ module _ (units : List ℕ) (limit : ℕ) where
       (sym (ap (λ front. front ++ back) (under-append key first (listing units rest)) ∙ append_assoc (under key first) (under key (listing units rest)) back)) whole)
   sound-reads (sound_halves branch low high middle place jump many e d lands above below first second) = λ key jobs back fits h.
       let b : Bounded = record { branch = branch; low = low; high = high } in
-      let one : GrammarPart = bounded (branch.count / 2) place low middle in
-      let other : GrammarPart = bounded (branch.count - branch.count / 2) jump.end middle high in
+      let one : Part = bounded (branch.count / 2) place low middle in
+      let other : Part = bounded (branch.count - branch.count / 2) jump.end middle high in
       let back-read : Reads units limit ((key, other) ∷ jobs) (under key (listing units second) ++ back) =
       sound-reads second key jobs back (fits-right limit (length key) (listing units first) (listing units second) fits) h in
       let whole : Reads units limit ((key, one) ∷ (key, other) ∷ jobs) (under key (listing units first) ++ (under key (listing units second) ++ back)) =
@@ -214,7 +214,7 @@ short-extended : (limit : ℕ) (key : List ℕ) (unit : Option ℕ) → HasRoom 
 short-extended limit key None room h = h
 short-extended limit key (Some unit) room h = omega (arith, room, length-append key (unit ∷ []))
 
-short-onward : (limit : ℕ) (key : List ℕ) (part : Option GrammarPart) (jobs : List Job) → length key ≤ limit → ShortJobs limit jobs → ShortJobs limit (onward key part ++ jobs)
+short-onward : (limit : ℕ) (key : List ℕ) (part : Option Part) (jobs : List Job) → length key ≤ limit → ShortJobs limit jobs → ShortJobs limit (onward key part ++ jobs)
 short-onward limit key None jobs h k = k
 short-onward limit key (Some part) jobs h k = (h, k)
 

@@ -22,7 +22,7 @@ use Rattle.icu_char16trie.proofs.Reading.ProgressLemmas.{IsBehind, opened-behind
 use Rattle.icu_char16trie.proofs.Grammar.ListingLemmas.{Pair, behind_unit, with_value, listing}
 
 -- the rule that a part is about
-abbrev pub rule_of : GrammarPart → Rule
+abbrev pub rule_of : Part → Rule
 rule_of (part.Node place) = spot (at_node place)
 rule_of (part.Run run) = spot (at_state (state.Match run))
 rule_of (part.Branch b) = within b.branch b.low b.high
@@ -93,7 +93,7 @@ module _ (units : List ℕ) (key : List ℕ) (rest : List Job) (pairs : List Pai
       → SoundJobs units ((key ++ (unit ∷ []), run_on run) ∷ rest) pairs → SoundJobs units ((key, part.Run run) ∷ rest) pairs
   unfolding listing
   run-sound run unit e h =
-      let go : GrammarPart = part.Run (record { left = run.left - 1; place = run.place + 1 }) in
+      let go : Part = part.Run (record { left = run.left - 1; place = run.place + 1 }) in
       ⊎_elim
       (λ (more : 1 < run.left).
       let k = subst (λ q. SoundJobs units ((key ++ (unit ∷ []), q) ∷ rest) pairs) (if_not_leb run.left 1 (part.Node (run.place + 1)) go more) h in
@@ -103,7 +103,7 @@ module _ (units : List ℕ) (key : List ℕ) (rest : List Job) (pairs : List Pai
       (sound_run_end run unit e few k.0, k.1, k.2, unit-under unit (listing units k.0) k.1 k.3))
       (cases_lt 1 run.left)
 
-  step-sound : {p : GrammarPart} {step : Step} → Stands units p step → SoundJobs units (jobs_of key step ++ rest) pairs
+  step-sound : {p : Part} {step : Step} → Stands units p step → SoundJobs units (jobs_of key step ++ rest) pairs
       → SoundJobs units ((key, p) ∷ rest) (pairs_of key step ++ pairs)
   unfolding listing
   step-sound (node_stands place value next node) h = any-node-sound node h
