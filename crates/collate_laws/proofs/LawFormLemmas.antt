@@ -11,7 +11,7 @@ use Rattle.icu_normalizer_core.specs.declared.compatibility.tables.NfkdTables.{N
 use Rattle.icu_normalizer_core.specs.Canonical.{Canonical, IsCanonical, Leaves, nothing, unmapped, mapped, composed, decomposed}
 use Rattle.icu_normalizer_core.specs.CanonicalMeaning.{meaning}
 use Rattle.icu_normalizer_core.specs.Sameness.{AreSameComposing}
-use Rattle.icu_normalizer_core.proofs.decomposed.DecomposedLemmas.{decomposed_same, left_one}
+use Rattle.icu_normalizer_core.proofs.decomposed_lists.DecomposedLemmas.{decomposed_same, left_one}
 use Rattle.icu_normalizer.specs.NormalizerTables.{NormalizerTables, tables_meaning}
 use Rattle.icu_normalizer.specs.TextForms.{composed_text, decomposed_text}
 use Rattle.icu_normalizer.proofs.forms.SameFormLemmas.{same_composed, same_decomposed, same_text_composed, same_text_decomposed}

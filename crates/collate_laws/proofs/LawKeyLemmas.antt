@@ -10,7 +10,7 @@ use Rattle.std.specs.declared.cmp.Ordering.TheVariants.{Equal}
 use Rattle.icu_normalizer_core.specs.Canonical.{decomposed}
 use Rattle.icu_normalizer_core.specs.Decoding.{utf16_chars, utf8_chars}
 use Rattle.icu_normalizer_core.proofs.decoded.DecodedLemmas.{utf16_scalars, utf8_scalars}
-use Rattle.icu_normalizer_core.proofs.decomposed.DecomposedLemmas.{decomposed_all_scalars}
+use Rattle.icu_normalizer_core.proofs.decomposed_lists.DecomposedLemmas.{decomposed_all_scalars}
 use Rattle.icu_normalizer_core.proofs.decoded.CanonicalTextLemmas.{utf16_text, utf8_text}
 use Rattle.icu_normalizer.specs.Equivalence.{IsEquivalent}
 use Rattle.icu_normalizer.specs.NormalizerTables.{NormalizerTables, tables_meaning}

@@ -10,7 +10,7 @@ use Rattle.std.proofs.lemmas.Bool.Decides.{nat_tests}
 use Rattle.std.proofs.lemmas.List.Elements.{All-cons, All-nil}
 use lib.Utf8.{scalar}
 use Rattle.icu_normalizer_core.specs.Canonical.{Canonical, IsDecomposing, nothing, unmapped, is_starter}
-use Rattle.icu_normalizer_core.proofs.decomposed.DecomposedLemmas.{AreUnmapped, decomposed_unmapped, left_one}
+use Rattle.icu_normalizer_core.proofs.decomposed_lists.DecomposedLemmas.{AreUnmapped, decomposed_unmapped, left_one}
 use Rattle.icu_collator_types.specs.declared.elements.Element.{Element}
 use Rattle.icu_collator_core.specs.ContextRules.{is_prefix_character, is_recorded_in, may_be_digit}
 use Rattle.icu_collator_core.specs.Defaults.{special_primary}

@@ -11,7 +11,7 @@ use Rattle.std.proofs.lemmas.Bool.Decides.{nat_tests}
 use Rattle.std.specs.Char.{IsScalar}
 use Rattle.icu_normalizer_core.specs.BuiltIn.{built_in_step, built_in_compatibility_step, built_in_class, is_syllable, is_jamo, syllable_step, singled_out}
 use Rattle.icu_normalizer_core.specs.Canonical.{IsDecomposing, IsFree, Leaves, nothing, unmapped, mapped}
-use Rattle.icu_normalizer_core.proofs.decomposed.DecomposedLemmas.{left_append}
+use Rattle.icu_normalizer_core.proofs.decomposed_lists.DecomposedLemmas.{left_append}
 use Rattle.examples_icu_collator.specs.Tables.{Mapping, class_of, step_of, expanded, first_found}
 use Rattle.examples_icu_collator.specs.LetterTables.{letters_table}
 use Rattle.examples_icu_collator.specs.Letters.{letters}

@@ -6,7 +6,7 @@ use Rattle.std.specs.Str.{IsUtf8}
 use Rattle.icu_normalizer_core.specs.Canonical.{composed, decomposed}
 use Rattle.icu_normalizer_core.specs.Decoding.{utf8_chars}
 use Rattle.icu_normalizer_core.proofs.decoded.DecodedLemmas.{utf8_scalars}
-use Rattle.icu_normalizer_core.proofs.decomposed.DecomposedLemmas.{decomposed_all_scalars}
+use Rattle.icu_normalizer_core.proofs.decomposed_lists.DecomposedLemmas.{decomposed_all_scalars}
 use Rattle.icu_normalizer_core.proofs.decoded.CanonicalTextLemmas.{utf8_text}
 use Rattle.icu_normalizer.specs.TextForms.{composed_text, decomposed_text}
 use Rattle.icu_normalizer.proofs.forms.FormLawLemmas.{bytes_composed, bytes_decomposed}

@@ -7,7 +7,7 @@ use Rattle.std.specs.declared.cmp.Ordering.TheVariants.{Equal}
 use Rattle.icu_normalizer_core.specs.Canonical.{IsCanonical, composed, decomposed}
 use Rattle.icu_normalizer_core.specs.Decoding.{utf16_chars, utf8_chars}
 use Rattle.icu_normalizer_core.proofs.decoded.DecodedLemmas.{utf16_scalars, utf8_scalars}
-use Rattle.icu_normalizer_core.proofs.decomposed.DecomposedLemmas.{decomposed_all_scalars}
+use Rattle.icu_normalizer_core.proofs.decomposed_lists.DecomposedLemmas.{decomposed_all_scalars}
 use Rattle.icu_normalizer_core.proofs.decoded.CanonicalTextLemmas.{utf16_text, utf8_text}
 use Rattle.icu_normalizer.specs.TextForms.{composed_text, decomposed_text}
 use Rattle.icu_normalizer.proofs.equivalence.NormalFormLemmas.{composed_scalars}

@@ -4,7 +4,7 @@ pub mod built
 pub mod compatible
 pub mod composed
 pub mod decoded
-pub mod decomposed
+pub mod decomposed_lists
 pub mod faults
 pub mod full_lists
 pub mod settling

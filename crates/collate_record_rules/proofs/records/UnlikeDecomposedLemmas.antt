@@ -7,7 +7,7 @@ use Rattle.std.proofs.lemmas.Bool.{and_parts, and_right, le-ltb, ltb-true, or_fr
 use Rattle.std.proofs.lemmas.List.Elements.{All-head, All-tail}
 use Rattle.icu_normalizer_core.specs.BuiltIn.{built_in_step, is_built_in}
 use Rattle.icu_normalizer_core.specs.Canonical.{IsDecomposing, decomposed, marks_in_order, put_in_order}
-use Rattle.icu_normalizer_core.proofs.decomposed.DecomposedLemmas.{AreUnmapped, decomposed_unmapped}
+use Rattle.icu_normalizer_core.proofs.decomposed_lists.DecomposedLemmas.{AreUnmapped, decomposed_unmapped}
 use Rattle.collate_lines.specs.Record.{Record, nothing, class, mapping, compatibility, weights, range, digit, setting}
 use Rattle.collate_rules.specs.LineCounts.{KeepsCounts}
 use Rattle.collate_rules.specs.Meaning.{canonical_of, class_of, first_found, mapping_in}

@@ -4,7 +4,7 @@ use Rattle.std.specs.Char.{IsScalar}
 use Rattle.std.specs.List.{All, AllByRecursion, Contains}
 use Rattle.std.proofs.lemmas.List.Elements.{All-contains, All-from_recursion, All-head, recursion_from_All, Contains-append_left, Contains-push, Contains-push_cases}
 use Rattle.icu_normalizer_core.specs.Canonical.{Canonical, IsDecomposing, Reaches, stands, steps}
-use Rattle.icu_normalizer_core.proofs.decomposed.DecomposedLemmas.{AreUnmapped, all_append, unmapped_left}
+use Rattle.icu_normalizer_core.proofs.decomposed_lists.DecomposedLemmas.{AreUnmapped, all_append, unmapped_left}
 use Rattle.collate_lines.specs.Record.{Record}
 use Rattle.collate_rules.specs.Meaning.{canonical_of, expanded, step_of}
 use Rattle.collate_records.specs.Reaching.{brought_within, ReachesOne}

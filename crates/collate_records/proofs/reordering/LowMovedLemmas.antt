@@ -4,7 +4,7 @@ use Rattle.std.proofs.Common.{◌≡◌, ◌≢◌, ◌⊎◌, ℕ, ◌<◌, ⊎
 use Rattle.std.proofs.lemmas.Bool.{and_from, and_parts, and_right, cases_eq, cases_lt, false_from_ne_true, false≢true, le-ltb, ltb-true, or_from, or_parts}
 use Rattle.icu_normalizer_core.specs.Canonical.{Canonical, Leaves, composed, composing, marks_in_order, put_in_order, recomposed}
 use Rattle.icu_normalizer_core.proofs.composed.CompositionLemmas.{composed_one, composing_end, composing_joined, mark_first, not_one, recomposed_nothing, recomposed_starter}
-use Rattle.icu_normalizer_core.proofs.decomposed.DecomposedLemmas.{AreUnmapped, order_unmapped, unmapped_left}
+use Rattle.icu_normalizer_core.proofs.decomposed_lists.DecomposedLemmas.{AreUnmapped, order_unmapped, unmapped_left}
 use Rattle.icu_normalizer_core.proofs.settling.LeftLemmas.{left_alone, left_double, left_one}
 use Rattle.collate_rules.specs.RecordRules.{is_disordered}
 

@@ -4,7 +4,7 @@ use Rattle.std.specs.List.{AllByRecursion}
 use Rattle.std.specs.Prelude.{flat_map}
 use Rattle.std.proofs.lemmas.List.Concat.{flat_map-append}
 use Rattle.icu_normalizer_core.specs.Canonical.{Canonical, decomposed, marks_in_order}
-use Rattle.icu_normalizer_core.proofs.decomposed.DecomposedLemmas.{all_append, order_before}
+use Rattle.icu_normalizer_core.proofs.decomposed_lists.DecomposedLemmas.{all_append, order_before}
 use Rattle.icu_normalizer.proofs.noted.OwnLemmas.{order_all}
 
 module _ (canonical : Canonical) where

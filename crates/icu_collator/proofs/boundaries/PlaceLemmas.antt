@@ -4,8 +4,8 @@ use Rattle.std.specs.List.{AllByRecursion}
 use Rattle.std.specs.Option.{unwrap_or}
 use Rattle.std.specs.Prelude.{IfSome}
 use Rattle.icu_normalizer_core.specs.Iter.{Spells}
-use Rattle.icu_normalizer_core.proofs.decomposed.DecomposedLemmas.{all_append}
-use Rattle.icu_normalizer_core.proofs.decomposed.IterLemmas.{Spells-next}
+use Rattle.icu_normalizer_core.proofs.decomposed_lists.DecomposedLemmas.{all_append}
+use Rattle.icu_normalizer_core.proofs.decomposed_lists.IterLemmas.{Spells-next}
 use Rattle.icu_collator.specs.Fronts.{IsPlaceToBegin, ThreeStandAt}
 
 -- a character that passes stands at a place of a list, and what stands behind it goes on

@@ -8,7 +8,7 @@ use Rattle.std.proofs.lemmas.Bool.{and_parts}
 use Rattle.std.proofs.lemmas.List.Elements.{recursion_from_All}
 use lib.Utf8.{scalar, scalars}
 use Rattle.icu_normalizer_core.specs.Canonical.{Canonical, IsDecomposing, decomposed, marks_in_order}
-use Rattle.icu_normalizer_core.proofs.decomposed.DecomposedLemmas.{AreScalar, decomposed_all_scalars}
+use Rattle.icu_normalizer_core.proofs.decomposed_lists.DecomposedLemmas.{AreScalar, decomposed_all_scalars}
 use Rattle.icu_collator_types.specs.declared.elements.Element.{Element}
 use Rattle.icu_collator_types.specs.declared.options.ResolvedCollatorOptions.{ResolvedCollatorOptions}
 use Rattle.icu_collator_types.specs.Options.{is_numeric}

@@ -12,7 +12,7 @@ use Rattle.icu_collator_types.specs.declared.options.ResolvedCollatorOptions.{Re
 use Rattle.icu_collator_types.specs.declared.options.Strength.TheVariants.{Identical}
 use Rattle.icu_collator_types.specs.Options.{is_numeric}
 use Rattle.icu_collator_core.specs.Collation.{Collation}
-use Rattle.icu_normalizer_core.proofs.decomposed.DecomposedLemmas.{decomposed_all_scalars}
+use Rattle.icu_normalizer_core.proofs.decomposed_lists.DecomposedLemmas.{decomposed_all_scalars}
 use Rattle.icu_collator_core.proofs.readings.SoundElementsLemmas.{text_elements_sound}
 use Rattle.icu_normalizer.specs.Equivalence.{IsEquivalent}
 use Rattle.icu_collator.specs.KeyBytes.{key_of_text}

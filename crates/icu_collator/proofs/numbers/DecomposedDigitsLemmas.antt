@@ -5,7 +5,7 @@ use Rattle.std.specs.List.{list_all}
 use Rattle.std.proofs.lemmas.Bool.{and_parts}
 use Rattle.std.proofs.lemmas.List.Concat.{flat_map-append}
 use Rattle.icu_normalizer_core.specs.Canonical.{decomposed, marks_in_order}
-use Rattle.icu_normalizer_core.proofs.decomposed.DecomposedLemmas.{order_before, put_starter}
+use Rattle.icu_normalizer_core.proofs.decomposed_lists.DecomposedLemmas.{order_before, put_starter}
 use Rattle.icu_collator_core.specs.Collation.{Collation}
 use Rattle.icu_collator.specs.NumbersInTexts.{AreDigitsApart, is_digit}
 

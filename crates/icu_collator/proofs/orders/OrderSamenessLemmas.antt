@@ -12,8 +12,8 @@ use Rattle.icu_collator_core.specs.Collation.{Collation}
 use Rattle.icu_collator_core.specs.Elements.{elements_of_list}
 use Rattle.icu_normalizer_core.specs.Sameness.{AreSameCanonical}
 use Rattle.icu_collator_core.specs.Sameness.{AreSameLeads, AreSameOf, AreSameWeights}
-use Rattle.icu_normalizer_core.proofs.decomposed.DecomposedLemmas.{decomposed_scalars}
-use Rattle.icu_normalizer_core.proofs.decomposed.DecomposedLemmas.{decomposed_same}
+use Rattle.icu_normalizer_core.proofs.decomposed_lists.DecomposedLemmas.{decomposed_scalars}
+use Rattle.icu_normalizer_core.proofs.decomposed_lists.DecomposedLemmas.{decomposed_same}
 use Rattle.icu_collator_core.proofs.readings.ReachedLemmas.{reached_decomposed, reached_elements}
 use Rattle.icu_collator_core.proofs.readings.SamenessLemmas.{elements_same}
 use Rattle.icu_collator.specs.KeyBytes.{codes_from, primary_code, primary_run, primary_level, was_compressible, key_bytes, key_of_text}

@@ -5,7 +5,7 @@ use Rattle.std.proofs.lemmas.Bool.{cond_both}
 use Rattle.std.proofs.lemmas.List.Elements.{recursion_from_All, All-from_recursion}
 use Rattle.std.specs.List.{All, AllByRecursion, flat_map}
 use Rattle.icu_normalizer_core.specs.Canonical.{Canonical, put_in_order, marks_in_order, decomposed}
-use Rattle.icu_normalizer_core.proofs.decomposed.DecomposedLemmas.{all_append}
+use Rattle.icu_normalizer_core.proofs.decomposed_lists.DecomposedLemmas.{all_append}
 
 -- canonical data that give each character of a kind one class, and one full list of such characters alone
 pub record AreSameLists (P : ℕ → Type 0) (a b : Canonical) : Type 0 where

@@ -7,9 +7,9 @@ use lib.Utf8.{scalar, scalars}
 use Rattle.icu_normalizer_core.specs.Canonical.{Canonical, IsCanonical, decomposed, marks_in_order, put_in_order}
 use Rattle.icu_normalizer_core.specs.Iter.{Spells}
 use Rattle.icu_normalizer_core.specs.Marks.{is_mark}
-use Rattle.icu_normalizer_core.proofs.decomposed.FormingLemmas.{forming_canonical}
-use Rattle.icu_normalizer_core.proofs.decomposed.IterLemmas.{Spells-end, Spells-next}
-use Rattle.icu_normalizer_core.proofs.decomposed.RunLemmas.{marks_pushed, out_before_starter, out_mark, out_sorted, out_starter}
+use Rattle.icu_normalizer_core.proofs.decomposed_lists.FormingLemmas.{forming_canonical}
+use Rattle.icu_normalizer_core.proofs.decomposed_lists.IterLemmas.{Spells-end, Spells-next}
+use Rattle.icu_normalizer_core.proofs.decomposed_lists.RunLemmas.{marks_pushed, out_before_starter, out_mark, out_sorted, out_starter}
 use Rattle.icu_collator_core.specs.Decomposing.{Appends, HasMarksFrom, ordered_with}
 use Rattle.icu_collator_core.proofs.lookups.MatchLemmas.{scalars_front}
 use Rattle.icu_collator_core.proofs.lookups.OpenTextLemmas.{scalars_behind}

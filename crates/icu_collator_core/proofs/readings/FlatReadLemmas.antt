@@ -5,7 +5,7 @@ use Rattle.std.proofs.lemmas.Bool.{and_from}
 use lib.Utf8.{scalar, scalars}
 use Rattle.icu_normalizer_core.specs.Canonical.{decomposed, marks_in_order}
 use Rattle.icu_normalizer_core.specs.Iter.{Spells}
-use Rattle.icu_normalizer_core.proofs.decomposed.IterLemmas.{Spells-end, Spells-next}
+use Rattle.icu_normalizer_core.proofs.decomposed_lists.IterLemmas.{Spells-end, Spells-next}
 use Rattle.icu_collator_types.specs.declared.elements.Element.{Element}
 use Rattle.icu_collator_core.specs.Acceptance.{CollationSource}
 use Rattle.icu_collator_core.specs.ElementLists.{unpacked}

@@ -4,7 +4,7 @@ use Rattle.std.proofs.lemmas.List.Elements.{recursion_from_All, All-from_recursi
 use Rattle.std.specs.Char.{IsScalar}
 use Rattle.std.specs.List.{All, AllByRecursion}
 use Rattle.icu_normalizer_core.specs.Canonical.{Canonical, IsDecomposing, Reaches, stands, steps, Leaves, nothing, unmapped, mapped, decomposed}
-use Rattle.icu_normalizer_core.proofs.decomposed.DecomposedLemmas.{all_append, left_one}
+use Rattle.icu_normalizer_core.proofs.decomposed_lists.DecomposedLemmas.{all_append, left_one}
 use Rattle.icu_collator_core.specs.Weights.{Weights}
 use Rattle.icu_collator_core.specs.Elements.{elements_of_list}
 use Rattle.icu_collator_core.specs.Sameness.{AreSameMappings, AreSameReadings}

@@ -7,7 +7,7 @@ use Rattle.icu_normalizer_core.specs.Canonical.{Canonical}
 use Rattle.icu_collator_core.specs.Weights.{Weights}
 use Rattle.icu_collator_core.specs.Defaults.{special_primary, primary_element}
 use Rattle.icu_collator_core.specs.Elements.{Placed, prefix_match, Reading, Joining, joining, text_match, text_reading, match_length, characters_of, digit_count, number_reading, is_before_accent, reading}
-use Rattle.icu_normalizer_core.proofs.decomposed.DecomposedLemmas.{all_append}
+use Rattle.icu_normalizer_core.proofs.decomposed_lists.DecomposedLemmas.{all_append}
 
 pub all_left : {X : Type 0} (P : X → Type 0) (n : ℕ) (xs : List X) → AllByRecursion P xs → AllByRecursion P (drop n xs)
 all_left P zero xs h = h

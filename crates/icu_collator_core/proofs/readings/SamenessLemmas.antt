@@ -16,7 +16,7 @@ use Rattle.icu_collator_core.specs.Elements.{Placed, placed_behind, longest_pref
 use Rattle.icu_collator_core.specs.Numbers.{number_elements}
 use Rattle.icu_normalizer_core.specs.Sameness.{AreSameCanonical}
 use Rattle.icu_collator_core.specs.Sameness.{AreSameReadings, AreSameWeights}
-use Rattle.icu_normalizer_core.proofs.decomposed.DecomposedLemmas.{all_append}
+use Rattle.icu_normalizer_core.proofs.decomposed_lists.DecomposedLemmas.{all_append}
 use Rattle.icu_collator_core.proofs.readings.ReadingLeftLemmas.{all_left, reading_left}
 
 -- ---- lists of a kind

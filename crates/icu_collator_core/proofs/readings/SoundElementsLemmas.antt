@@ -13,7 +13,7 @@ use Rattle.icu_collator_core.specs.Defaults.{special_primary, primary_element, d
 use Rattle.icu_collator_core.specs.Elements.{Placed, placed_behind, longest_prefix, at_greatest, behind_prefix, prefix_match, Reading, text_match, text_reading, digit_count, number_reading, is_before_accent, reading, elements_within, elements_of_list}
 use Rattle.icu_collator_core.specs.WeightRules.{IsRecorded, AreSoundWeights}
 use Rattle.icu_collator_core.specs.SoundElements.{of_record, by_default, AreDigits, IsSoundSequence, nothing, single, number}
-use Rattle.icu_normalizer_core.proofs.decomposed.DecomposedLemmas.{AreScalar, decomposed_scalars}
+use Rattle.icu_normalizer_core.proofs.decomposed_lists.DecomposedLemmas.{AreScalar, decomposed_scalars}
 use Rattle.icu_collator_core.proofs.readings.ReadingLeftLemmas.{text_left, number_left}
 
 by_option : {A R : Type 0} (o : Option A) (f : A → R) (n : R) (P : R → Type 0) → ((x : A) → o ≡ Some x → P (f x)) → (o ≡ None → P n)

@@ -5,7 +5,7 @@ use Rattle.std.specs.Result.{is_err}
 use Rattle.icu_normalizer_core.specs.Canonical.{Canonical, marks_in_order, decomposed, recomposed, composed}
 use Rattle.icu_normalizer_core.specs.declared.decomposition.run.Run.{Run}
 use Rattle.icu_normalizer_core.specs.Run.{reordered, held, KeepsOutput, data_of as run_data}
-use Rattle.icu_normalizer_core.proofs.decomposed.RunLemmas.{order_nothing, reordered_empty}
+use Rattle.icu_normalizer_core.proofs.decomposed_lists.RunLemmas.{order_nothing, reordered_empty}
 use Rattle.icu_normalizer.specs.declared.composing.composer.Composer.{Composer}
 use Rattle.icu_normalizer.specs.Composer.{coming, IsIdle, KeepsComposed, data_of as composer_data}
 use Rattle.icu_normalizer.proofs.composed.ComposerLemmas.{coming_idle}

@@ -5,8 +5,8 @@ use Rattle.std.specs.List.{AllByRecursion}
 use Rattle.icu_normalizer_core.specs.Boundaries.{IsSteady}
 use Rattle.icu_normalizer_core.specs.Canonical.{Canonical, put_in_order, marks_in_order, composing, recomposed, decomposed, composed}
 use Rattle.icu_normalizer_core.specs.Forming.{IsForming}
-use Rattle.icu_normalizer_core.proofs.decomposed.DecomposedLemmas.{put_starter}
-use Rattle.icu_normalizer_core.proofs.decomposed.RunLemmas.{order_nothing}
+use Rattle.icu_normalizer_core.proofs.decomposed_lists.DecomposedLemmas.{put_starter}
+use Rattle.icu_normalizer_core.proofs.decomposed_lists.RunLemmas.{order_nothing}
 use Rattle.icu_normalizer.specs.declared.composing.lone_mark.LoneMark.{LoneMark}
 use Rattle.icu_normalizer.specs.declared.composing.lone_mark.LoneMark.TheVariants.{Apart}
 use Rattle.icu_normalizer.specs.LoneMarks.{IsLoneMark, IsSteadyUpTo, lone_form}

@@ -8,7 +8,7 @@ use lib.Utf8.{scalar, scalars}
 use Rattle.icu_normalizer_core.specs.Canonical.{Canonical, decomposed}
 use Rattle.icu_normalizer_core.specs.Forming.{IsForming}
 use Rattle.icu_normalizer_core.specs.Readable.{IsReadable}
-use Rattle.icu_normalizer_core.proofs.decomposed.DecomposedLemmas.{AreScalar}
+use Rattle.icu_normalizer_core.proofs.decomposed_lists.DecomposedLemmas.{AreScalar}
 use Rattle.icu_normalizer.proofs.cuts.SplitLemmas.{in_place_is_decomposed}
 
 -- the data of a normal form can be read fast

@@ -8,8 +8,8 @@ use Rattle.std.specs.List.{AllByRecursion, list_all}
 use Rattle.icu_normalizer_core.specs.Canonical.{Canonical, put_in_order, marks_in_order, decomposed}
 use Rattle.icu_normalizer_core.specs.Forming.{IsForming, AreLowBelow}
 use Rattle.icu_normalizer_core.specs.Marks.{is_mark}
-use Rattle.icu_normalizer_core.proofs.decomposed.DecomposedLemmas.{AreScalar, order_before}
-use Rattle.icu_normalizer_core.proofs.decomposed.CanonicalStepLemmas.{decomposed_itself}
+use Rattle.icu_normalizer_core.proofs.decomposed_lists.DecomposedLemmas.{AreScalar, order_before}
+use Rattle.icu_normalizer_core.proofs.decomposed_lists.CanonicalStepLemmas.{decomposed_itself}
 use Rattle.icu_normalizer.specs.FormCuts.{ReachesBelow}
 use Rattle.icu_normalizer.specs.Splits.{IsDecomposed, IsInPlace}
 use Rattle.icu_normalizer.proofs.noted.OwnLemmas.{AreOwn, decomposed_own}

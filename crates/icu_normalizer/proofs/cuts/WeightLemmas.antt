@@ -6,7 +6,7 @@ use Rattle.std.specs.Char.{IsScalar}
 use lib.Utf8.{low_scalar}
 use Rattle.icu_normalizer_core.specs.Canonical.{Canonical, put_in_order, marks_in_order, decomposed, recomposed, composed}
 use Rattle.icu_normalizer_core.specs.Forming.{IsForming}
-use Rattle.icu_normalizer_core.proofs.decomposed.DecomposedLemmas.{AreScalar, order_before, put_starter}
+use Rattle.icu_normalizer_core.proofs.decomposed_lists.DecomposedLemmas.{AreScalar, order_before, put_starter}
 use Rattle.icu_normalizer.proofs.cuts.ComposedCutLemmas.{total, total_recomposed, cut_recomposed}
 use Rattle.icu_normalizer.proofs.noted.OwnLemmas.{AreOwn, decomposed_own, decomposed_scalar}
 

@@ -7,7 +7,7 @@ use Rattle.std.proofs.lemmas.Bool.{cond_both, ltb-true, eqb-false, and_parts}
 use Rattle.std.proofs.lemmas.List.{append-nil}
 use Rattle.icu_normalizer_core.specs.Canonical.{Canonical, IsCanonical, IsComposing, is_starter, decomposed, composing, recomposed, composed}
 use Rattle.icu_normalizer.specs.Equivalence.{IsEquivalent, same, turned, joined, stepped, swapped}
-use Rattle.icu_normalizer_core.proofs.decomposed.DecomposedLemmas.{AreUnmapped, decomposed_unmapped}
+use Rattle.icu_normalizer_core.proofs.decomposed_lists.DecomposedLemmas.{AreUnmapped, decomposed_unmapped}
 use Rattle.icu_normalizer.proofs.equivalence.EquivalenceLemmas.{front_kept, decomposed_equivalent}
 
 -- marks that are not mapped

@@ -5,7 +5,7 @@ use Rattle.std.specs.Prelude.{◌≢◌, ◌↔◌, All, flat_map}
 use Rattle.std.specs.Char.{IsScalar}
 use Rattle.icu_normalizer_core.specs.Canonical.{Canonical, IsDecomposing, Leaves, nothing, unmapped, mapped, put_in_order, marks_in_order, decomposed}
 use Rattle.icu_normalizer.specs.Equivalence.{IsEquivalent, same, turned, joined, stepped, swapped}
-use Rattle.icu_normalizer_core.proofs.decomposed.DecomposedLemmas.{AreUnmapped, left_append, left_full, left_mapped, left_one, left_split, left_unmapped, order_swapped, order_unmapped, unmapped_left}
+use Rattle.icu_normalizer_core.proofs.decomposed_lists.DecomposedLemmas.{AreUnmapped, left_append, left_full, left_mapped, left_one, left_split, left_unmapped, order_swapped, order_unmapped, unmapped_left}
 
 -- a character in front keeps equivalence
 pub front_kept : (canonical : Canonical) (x : ℕ) (xs ys : List ℕ) → IsEquivalent canonical xs ys → IsEquivalent canonical (x ∷ xs) (x ∷ ys)

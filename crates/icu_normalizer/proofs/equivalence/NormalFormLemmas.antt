@@ -7,7 +7,7 @@ use Rattle.std.proofs.lemmas.Bool.{cond_both}
 use Rattle.std.proofs.lemmas.List.Elements.{recursion_from_All, All-from_recursion}
 use Rattle.icu_normalizer_core.specs.Canonical.{Canonical, IsCanonical, IsDecomposing, is_starter, decomposed, composing, recomposed, composed}
 use Rattle.icu_normalizer.specs.Equivalence.{IsEquivalent}
-use Rattle.icu_normalizer_core.proofs.decomposed.DecomposedLemmas.{AreScalar, all_append, decomposed_all_scalars, decomposed_scalars}
+use Rattle.icu_normalizer_core.proofs.decomposed_lists.DecomposedLemmas.{AreScalar, all_append, decomposed_all_scalars, decomposed_scalars}
 use Rattle.icu_normalizer.proofs.equivalence.EquivalenceLemmas.{decomposed_equivalent, decomposed_one, equivalent_one}
 use Rattle.icu_normalizer.proofs.equivalence.ComposedLemmas.{either_way, where_seen, composed_equivalent}
 

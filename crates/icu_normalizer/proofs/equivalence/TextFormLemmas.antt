@@ -7,7 +7,7 @@ use Rattle.std.proofs.lemmas.List.Elements.{recursion_from_All, All-from_recursi
 use Rattle.std.proofs.lemmas.Str.{chars-encodes, scalars-chars}
 use lib.Utf8.{scalar, scalars}
 use Rattle.icu_normalizer_core.specs.Canonical.{Canonical, IsCanonical, IsDecomposing, decomposed, composed}
-use Rattle.icu_normalizer_core.proofs.decomposed.DecomposedLemmas.{AreScalar, decomposed_all_scalars}
+use Rattle.icu_normalizer_core.proofs.decomposed_lists.DecomposedLemmas.{AreScalar, decomposed_all_scalars}
 use Rattle.icu_normalizer.specs.Equivalence.{IsEquivalent}
 use Rattle.icu_normalizer.specs.FormCuts.{IsComposed}
 use Rattle.icu_normalizer.specs.Splits.{IsDecomposed}

@@ -10,10 +10,10 @@ use Rattle.std.specs.List.{AllByRecursion, list_all}
 use Rattle.icu_normalizer_core.specs.Canonical.{Canonical, IsCanonical, put_in_order, marks_in_order, decomposed, composing, recomposed, composed}
 use Rattle.icu_normalizer_core.specs.Decoding.{utf8_chars, utf16_chars}
 use Rattle.icu_normalizer_core.specs.Forming.{IsForming, IsSaidOver}
-use Rattle.icu_normalizer_core.proofs.decomposed.DecomposedLemmas.{AreScalar, all_append, put_swapped}
+use Rattle.icu_normalizer_core.proofs.decomposed_lists.DecomposedLemmas.{AreScalar, all_append, put_swapped}
 use Rattle.icu_normalizer_core.proofs.decoded.CanonicalTextLemmas.{utf8_text, utf16_text}
 use Rattle.icu_normalizer_core.proofs.compatible.CompatibleLemmas.{forming_compatibility}
-use Rattle.icu_normalizer_core.proofs.decomposed.FormingLemmas.{forming_canonical}
+use Rattle.icu_normalizer_core.proofs.decomposed_lists.FormingLemmas.{forming_canonical}
 use Rattle.icu_normalizer.specs.TextForms.{decomposed_text, composed_text}
 use Rattle.icu_normalizer.specs.Texts.{encode_utf16_all}
 use Rattle.icu_normalizer.proofs.composed.ComposingLemmas.{composing_end, composing_cases, recomposed_nothing, recomposed_begun, recomposed_passed, seen_over}

@@ -9,7 +9,7 @@ use Rattle.icu_normalizer_core.specs.Forming.{IsForming, IsSaidOver}
 use Rattle.icu_normalizer_core.specs.Sameness.{AreSameCanonical, AreSameComposing}
 use Rattle.icu_normalizer_core.proofs.builder.AcceptedMapsSameLemmas.{AreAlike, recomposed_same}
 use Rattle.icu_normalizer_core.proofs.decoded.DecodedLemmas.{utf8_scalars, utf16_scalars}
-use Rattle.icu_normalizer_core.proofs.decomposed.DecomposedLemmas.{AreScalar, full_same, order_same}
+use Rattle.icu_normalizer_core.proofs.decomposed_lists.DecomposedLemmas.{AreScalar, full_same, order_same}
 use Rattle.icu_normalizer.specs.TextForms.{decomposed_text, composed_text}
 use Rattle.icu_normalizer.specs.Texts.{encode_utf16_all}
 use Rattle.icu_normalizer.proofs.forms.FormLawLemmas.{forming_over}

@@ -2,7 +2,7 @@
 use Rattle.std.proofs.Common.{◌≡◌, ℕ, true, false, List, [], ◌∷◌, ◌++◌, Option, Some, None, option_to_list, refl, sym, ap, subst, ◌∙◌}
 use Rattle.std.specs.Iterator.{Count}
 use Rattle.icu_normalizer_core.specs.Iter.{Spells, KeepsLeft}
-use Rattle.icu_normalizer_core.proofs.decomposed.IterLemmas.{spells_source, source_done, source_stopped, source_end, source_next, source_same}
+use Rattle.icu_normalizer_core.proofs.decomposed_lists.IterLemmas.{spells_source, source_done, source_stopped, source_end, source_next, source_same}
 use Rattle.icu_normalizer.specs.declared.uts46.mapped_characters.MappedChars.{MappedChars}
 use Rattle.icu_normalizer.specs.Uts46.{becomes, mapper_of}
 use Rattle.icu_normalizer.specs.Uts46Iter.{mapped_by, MapsTo, MappingSteps}

@@ -7,7 +7,7 @@ use Rattle.std.specs.Char.{IsScalar}
 use Rattle.std.specs.List.{AllByRecursion}
 use Rattle.icu_normalizer_core.specs.Canonical.{Canonical, put_in_order, marks_in_order, decomposed}
 use Rattle.icu_normalizer_core.specs.Forming.{IsForming}
-use Rattle.icu_normalizer_core.proofs.decomposed.DecomposedLemmas.{AreScalar, all_append}
+use Rattle.icu_normalizer_core.proofs.decomposed_lists.DecomposedLemmas.{AreScalar, all_append}
 
 -- each character is its own full list
 abbrev pub AreOwn : Canonical → List ℕ → Type 0

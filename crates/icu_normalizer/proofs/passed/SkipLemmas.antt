@@ -5,8 +5,8 @@ use Rattle.std.proofs.lemmas.Grind.{flat_map-append}
 use Rattle.icu_normalizer_core.specs.Canonical.{Canonical, composing, recomposed, decomposed, composed, marks_in_order}
 use Rattle.icu_normalizer_core.specs.Boundaries.{HasBoundaryBefore, IsSteady}
 use Rattle.icu_normalizer_core.specs.Forming.{IsForming}
-use Rattle.icu_normalizer_core.proofs.decomposed.DecomposedLemmas.{order_before, put_starter}
-use Rattle.icu_normalizer_core.proofs.decomposed.CanonicalStepLemmas.{decomposed_itself}
+use Rattle.icu_normalizer_core.proofs.decomposed_lists.DecomposedLemmas.{order_before, put_starter}
+use Rattle.icu_normalizer_core.proofs.decomposed_lists.CanonicalStepLemmas.{decomposed_itself}
 use Rattle.icu_normalizer.specs.TextCuts.{IsPassed}
 use Rattle.icu_normalizer.specs.Texts.{Text, AreCharacters, BeginsWith, IsAtEnd, IsEncoding}
 use Rattle.icu_normalizer.proofs.composed.ComposingLemmas.{composed_nothing, composing_end, composing_joined, composing_begun, composing_kept, composing_cases, composed_never, never_second, recomposed_nothing, recomposed_begun, recomposed_passed}

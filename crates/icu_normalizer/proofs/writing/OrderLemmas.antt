@@ -4,8 +4,8 @@ use Rattle.std.proofs.lemmas.Bool.{and_parts, and_from, cases_lt, cases_eq}
 use Rattle.std.proofs.lemmas.Bool.Decides.{nat_tests}
 use Rattle.std.specs.List.{list_all}
 use Rattle.icu_normalizer_core.specs.Canonical.{put_in_order, marks_in_order}
-use Rattle.icu_normalizer_core.proofs.decomposed.DecomposedLemmas.{put_starter, put_swapped}
-use Rattle.icu_normalizer_core.proofs.decomposed.RunLemmas.{order_one}
+use Rattle.icu_normalizer_core.proofs.decomposed_lists.DecomposedLemmas.{put_starter, put_swapped}
+use Rattle.icu_normalizer_core.proofs.decomposed_lists.RunLemmas.{order_one}
 use Rattle.icu_normalizer.specs.Marks.{stands_to}
 use Rattle.icu_normalizer.proofs.cuts.SplitLemmas.{put_stays}
 

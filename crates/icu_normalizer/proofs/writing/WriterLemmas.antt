@@ -7,8 +7,8 @@ use Rattle.std.specs.List.{list_all, flat_map}
 use Rattle.std.specs.Prelude.{Result, Ok, Err, OnErr}
 use Rattle.icu_normalizer_core.specs.Canonical.{Canonical, marks_in_order, decomposed}
 use Rattle.icu_normalizer_core.specs.Marks.{is_mark}
-use Rattle.icu_normalizer_core.proofs.decomposed.DecomposedLemmas.{order_before}
-use Rattle.icu_normalizer_core.proofs.decomposed.RunLemmas.{order_nothing, all_pushed, mark_from}
+use Rattle.icu_normalizer_core.proofs.decomposed_lists.DecomposedLemmas.{order_before}
+use Rattle.icu_normalizer_core.proofs.decomposed_lists.RunLemmas.{order_nothing, all_pushed, mark_from}
 use Rattle.icu_normalizer.specs.declared.decomposing.writer.Writer.{Writer}
 use Rattle.icu_normalizer.specs.Marks.{stands_to}
 use Rattle.icu_normalizer.specs.Sinks.{AddsPrefix}

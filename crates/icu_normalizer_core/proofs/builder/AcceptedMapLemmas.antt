@@ -11,7 +11,7 @@ use Rattle.icu_normalizer_core.specs.CanonicalFaults.{NoneOffends, OffendsValue,
 use Rattle.icu_normalizer_core.specs.CanonicalLists.{CanonicalLists, canonical_of, step_in}
 use Rattle.icu_normalizer_core.specs.CanonicalMaps.{CanonicalMaps, AreMeaning, KeepRules, step_of, given_step}
 use Rattle.icu_normalizer_core.specs.CanonicalWords.{is_word, states_list}
-use Rattle.icu_normalizer_core.proofs.decomposed.DecomposedLemmas.{left_one}
+use Rattle.icu_normalizer_core.proofs.decomposed_lists.DecomposedLemmas.{left_one}
 use Rattle.icu_normalizer_core.proofs.settling.LeftLemmas.{left_alone, left_scalars}
 use Rattle.icu_normalizer_core.proofs.accepted.TableMeanings.{class_is, step_is}
 use Rattle.icu_normalizer_core.proofs.builder.BuiltMapLemmas.{built_meaning, built_left, steps_same, word_inside}

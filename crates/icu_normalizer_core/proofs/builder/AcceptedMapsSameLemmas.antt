@@ -6,7 +6,7 @@ use Rattle.std.proofs.lemmas.Option.{none-some}
 use Rattle.icu_normalizer_core.specs.Canonical.{Canonical, IsDecomposing, composed, composing, decomposed, recomposed}
 use Rattle.icu_normalizer_core.specs.CanonicalMaps.{CanonicalMaps, AreMeaning, step_of}
 use Rattle.icu_normalizer_core.specs.Sameness.{AreSameCanonical}
-use Rattle.icu_normalizer_core.proofs.decomposed.DecomposedLemmas.{AreScalar, decomposed_same, decomposed_scalars, left_one}
+use Rattle.icu_normalizer_core.proofs.decomposed_lists.DecomposedLemmas.{AreScalar, decomposed_same, decomposed_scalars, left_one}
 use Rattle.std.proofs.lemmas.List.Elements.{recursion_from_All}
 
 -- the same of pairs too, which compose to scalar values

@@ -14,7 +14,7 @@ use Rattle.icu_normalizer_core.specs.GivenCompatibilities.{IsOfCharacters}
 use Rattle.icu_normalizer_core.specs.SettledMappings.{AreOnStarters}
 use Rattle.icu_normalizer_core.proofs.built.BuiltInFacts.{class_scalar}
 use Rattle.icu_normalizer_core.proofs.settling.LeftLemmas.{left_append}
-use Rattle.icu_normalizer_core.proofs.decomposed.DecomposedLemmas.{left_split}
+use Rattle.icu_normalizer_core.proofs.decomposed_lists.DecomposedLemmas.{left_split}
 use Rattle.icu_normalizer_core.proofs.builder.AcceptedMappingLemmas.{find_true}
 use Rattle.icu_normalizer_core.proofs.builder.MapNumberLemmas.{found_all}
 

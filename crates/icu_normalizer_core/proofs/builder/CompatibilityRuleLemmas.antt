@@ -21,7 +21,7 @@ use Rattle.icu_normalizer_core.specs.CompatibilityMaps.{AllMaps, AreMeaningOf, K
 use Rattle.icu_normalizer_core.specs.SettledMappings.{AreFullWords, HasBadLeft, IsSound, steps_in}
 use Rattle.icu_normalizer_core.specs.Words.{WordLists, class_in, full_in}
 use Rattle.icu_normalizer_core.proofs.built.BuiltInFacts.{built_in_left, free_full}
-use Rattle.icu_normalizer_core.proofs.decomposed.DecomposedLemmas.{left_one}
+use Rattle.icu_normalizer_core.proofs.decomposed_lists.DecomposedLemmas.{left_one}
 use Rattle.icu_normalizer_core.proofs.compatible.FixedListLemmas.{fixed_built, fixed_low, fixed_step}
 use Rattle.icu_normalizer_core.proofs.settling.LeftLemmas.{all_unmapped, left_alone, left_append, left_single, unmapped_left}
 use Rattle.icu_normalizer_core.proofs.builder.AcceptedMappingLemmas.{find_true, unbuilt}

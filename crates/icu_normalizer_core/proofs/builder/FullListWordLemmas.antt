@@ -14,7 +14,7 @@ use Rattle.icu_normalizer_core.specs.ListWords.{StatesList, StateSettled, AreLis
 use Rattle.icu_normalizer_core.specs.Settled.{left_items, key_at, AreStarts, IsStartOf, IsDone}
 use Rattle.icu_normalizer_core.proofs.accepted.AcceptedTables.{listed_scalars}
 use Rattle.icu_normalizer_core.proofs.built.BuiltInFacts.{built_in_short}
-use Rattle.icu_normalizer_core.proofs.decomposed.DecomposedLemmas.{left_one}
+use Rattle.icu_normalizer_core.proofs.decomposed_lists.DecomposedLemmas.{left_one}
 use Rattle.icu_normalizer_core.proofs.settling.EndingLemmas.{got_cases}
 use Rattle.icu_normalizer_core.proofs.settling.LeftLemmas.{left_scalars}
 use Rattle.icu_normalizer_core.proofs.settling.SettlingLemmas.{open_endless}

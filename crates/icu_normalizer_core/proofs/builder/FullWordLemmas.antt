@@ -17,7 +17,7 @@ use Rattle.icu_normalizer_core.specs.ListWords.{KeepsStating}
 use Rattle.icu_normalizer_core.specs.Settled.{left_items}
 use Rattle.icu_normalizer_core.specs.SettledMappings.{IsSound, KeepsFullWord, StartsLeft, steps_in}
 use Rattle.icu_normalizer_core.proofs.built.BuiltInFacts.{built_in_left, syllable_left}
-use Rattle.icu_normalizer_core.proofs.decomposed.DecomposedLemmas.{left_one}
+use Rattle.icu_normalizer_core.proofs.decomposed_lists.DecomposedLemmas.{left_one}
 use Rattle.icu_normalizer_core.proofs.settling.LeftLemmas.{left_alone}
 use Rattle.icu_normalizer_core.proofs.accepted.TableMeanings.{class_is, full_is}
 use Rattle.icu_normalizer_core.proofs.builder.AllStepLemmas.{all_none, all_scalars, built_on, cases_step, mark_alone, marks_unmapped, scalars_left}

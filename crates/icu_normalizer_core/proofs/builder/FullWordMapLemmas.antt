@@ -18,7 +18,7 @@ use Rattle.icu_normalizer_core.specs.CanonicalMeaning.{meaning}
 use Rattle.icu_normalizer_core.specs.CharacterWords.{AreUnnamed}
 use Rattle.icu_normalizer_core.specs.Settled.{left_items}
 use Rattle.icu_normalizer_core.specs.SettledMappings.{AreFullWords, AreMappingStarts, AreOthersUnnamed, AreRightSoFar, HasBadLeft, HasOpen, IsAllSettled, IsFullWord, IsSound, KeepsFullWord, StartsLeft, steps_in}
-use Rattle.icu_normalizer_core.proofs.decomposed.DecomposedLemmas.{left_one}
+use Rattle.icu_normalizer_core.proofs.decomposed_lists.DecomposedLemmas.{left_one}
 use Rattle.icu_normalizer_core.proofs.settling.SettledLemmas.{cut_long}
 use Rattle.icu_normalizer_core.proofs.builder.BuiltTableLemmas.{plain_read, scalar_bound}
 use Rattle.icu_normalizer_core.proofs.builder.CoveredLemmas.{among_or_not}

@@ -16,7 +16,7 @@ use Rattle.icu_normalizer_core.specs.CompatibilityMaps.{all_steps, first_given}
 use Rattle.icu_normalizer_core.specs.GivenCompatibilities.{IsOfCharacters}
 use Rattle.icu_normalizer_core.specs.Settled.{left_items, IsAmong, open_count}
 use Rattle.icu_normalizer_core.specs.SettledMappings.{AreMappingStarts, AreOnStarters, HasOpen, IsAllSettled, IsOpenMapping, StartsLeft, mapping_at}
-use Rattle.icu_normalizer_core.proofs.decomposed.DecomposedLemmas.{left_full, left_mapped, left_one}
+use Rattle.icu_normalizer_core.proofs.decomposed_lists.DecomposedLemmas.{left_full, left_mapped, left_one}
 use Rattle.icu_normalizer_core.proofs.settling.LeftLemmas.{left_alone, left_append}
 use Rattle.icu_normalizer_core.proofs.settling.SettledLemmas.{cut_joined}
 use Rattle.icu_normalizer_core.proofs.settling.SettlingLemmas.{among_behind, among_front, got_other, got_same, written_length, AreOpen}

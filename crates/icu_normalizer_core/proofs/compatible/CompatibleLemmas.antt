@@ -8,7 +8,7 @@ use Rattle.icu_normalizer_core.specs.Canonical.{Canonical, IsCanonical}
 use Rattle.icu_normalizer_core.specs.Compatibility.{IsCompatibility}
 use Rattle.icu_normalizer_core.specs.Forming.{IsForming, AreLowBelow}
 use Rattle.icu_normalizer_core.proofs.built.BuiltInFacts.{low_free}
-use Rattle.icu_normalizer_core.proofs.decomposed.FormingLemmas.{forming_canonical}
+use Rattle.icu_normalizer_core.proofs.decomposed_lists.FormingLemmas.{forming_canonical}
 
 -- no compatibility mapping is built in of a character below U+0300
 low_unbound : (c : ℕ) → c < 0x300 → built_in_compatibility_step c ≡ None

@@ -7,7 +7,7 @@ use Rattle.icu_normalizer_core.specs.CanonicalLists.{CanonicalLists, canonical_o
 use Rattle.icu_normalizer_core.specs.Compatibility.{compatibility_of}
 use Rattle.icu_normalizer_core.specs.SteadyAnswers.{SaysYes, AreSteady}
 use Rattle.icu_normalizer_core.specs.Words.{WordLists, full_in}
-use Rattle.icu_normalizer_core.proofs.decomposed.DecomposedLemmas.{decomposed_scalars}
+use Rattle.icu_normalizer_core.proofs.decomposed_lists.DecomposedLemmas.{decomposed_scalars}
 use Rattle.icu_normalizer_core.proofs.builder.AcceptedMapsSameLemmas.{recomposed_same}
 
 -- a steady character with its canonical full list is steady by compatibility data too

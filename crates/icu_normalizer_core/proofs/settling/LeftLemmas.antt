@@ -4,7 +4,7 @@ use Rattle.std.specs.List.{All}
 use Rattle.std.specs.Char.{IsScalar}
 use Rattle.std.proofs.lemmas.List.Elements.{All-cons, All-nil, All-head, All-tail, All-append}
 use Rattle.icu_normalizer_core.specs.Canonical.{Leaves, nothing, unmapped, mapped}
-pub use Rattle.icu_normalizer_core.proofs.decomposed.DecomposedLemmas.{left_append, left_mapped, left_one, left_unmapped}
+pub use Rattle.icu_normalizer_core.proofs.decomposed_lists.DecomposedLemmas.{left_append, left_mapped, left_one, left_unmapped}
 
 -- none of the characters that are left is mapped
 pub AreUnmapped : (ℕ → List ℕ) → List ℕ → Type 0

@@ -22,7 +22,7 @@ pub enum FormData<'d> {
 impl<'d> FormData<'d> {
     /// The data keep what making a normal form rests on. It computes nothing.
     #[inline]
-    #[tactic(auto, using(crate::proofs::decomposed::FormingLemmas::forming_canonical, crate::proofs::decomposed::FormingLemmas::low_canonical, crate::proofs::compatible::CompatibleLemmas::forming_compatibility, crate::proofs::compatible::CompatibleLemmas::low_compatibility))]
+    #[tactic(auto, using(crate::proofs::decomposed_lists::FormingLemmas::forming_canonical, crate::proofs::decomposed_lists::FormingLemmas::low_canonical, crate::proofs::compatible::CompatibleLemmas::forming_compatibility, crate::proofs::compatible::CompatibleLemmas::low_compatibility))]
     pub fn keep_promise(&self)
         ensures forming { IsForming (form_meaning self.now) }
         ensures low { AreLowBelow (low_bound self.now) (form_meaning self.now) }

@@ -1,7 +1,7 @@
 use Rattle.std.proofs.Common.{◌≡◌, ℕ, ◌+◌, ◌≤◌, ◌<◌, List, length, drop, Some, None, Option, sym, ap, subst, ◌∙◌, arith, length-drop}
 use Rattle.std.proofs.lemmas.List.{drop-drop}
 use Rattle.icu_normalizer_core.specs.Iter.{Spells}
-use Rattle.icu_normalizer_core.proofs.decomposed.IterLemmas.{Spells-end, Spells-next}
+use Rattle.icu_normalizer_core.proofs.decomposed_lists.IterLemmas.{Spells-end, Spells-next}
 use Rattle.icu_collator.proofs.common_front.behind.Goals as goal
 
 -- an iterator with characters left gives one

@@ -1,5 +1,5 @@
 use Rattle.std.proofs.Common.{[], ◌∷◌, ◌++◌, sym, ap, ◌∙◌, arith, append_assoc}
-use Rattle.icu_normalizer_core.proofs.decomposed.DecomposedLemmas.{all_append}
+use Rattle.icu_normalizer_core.proofs.decomposed_lists.DecomposedLemmas.{all_append}
 use Rattle.icu_normalizer.proofs.composing.lone_mark.has_classes_up_to.Goals as goal
 
 pub loop-d-preserved : goal.loop-d-preserved

@@ -1,5 +1,5 @@
 use Rattle.std.proofs.Common.{refl}
-use Rattle.icu_normalizer_core.proofs.decomposed.CanonicalStepLemmas.{keeps_ended, keeps_read, keeps_passed}
+use Rattle.icu_normalizer_core.proofs.decomposed_lists.CanonicalStepLemmas.{keeps_ended, keeps_read, keeps_passed}
 use Rattle.icu_normalizer_core.proofs.decomposition.Decomposition.pull.Goals as goal
 
 pub returns-in_default-clause-text : goal.returns-in_default-clause-text

@@ -1,5 +1,5 @@
 use Rattle.std.proofs.Common.{refl}
-use Rattle.icu_normalizer_core.proofs.decomposed.CanonicalStepLemmas.{decomposes_stop}
+use Rattle.icu_normalizer_core.proofs.decomposed_lists.CanonicalStepLemmas.{decomposes_stop}
 use Rattle.icu_normalizer_core.proofs.decomposition.Decomposition.stop.Goals as goal
 
 pub returns-clause-text : goal.returns-clause-text

@@ -1,7 +1,7 @@
 use Rattle.std.proofs.Common.{refl, subst, ◌∙◌, arith}
 use Rattle.icu_normalizer_core.specs.Decompositions.{DecomposesTo, IsFinished}
-use Rattle.icu_normalizer_core.proofs.decomposed.IterLemmas.{keeps_then, not_both, ends_item, ends_error, ends_last}
-use Rattle.icu_normalizer_core.proofs.decomposed.CanonicalStepLemmas.{decomposes_done, keeps_popped}
+use Rattle.icu_normalizer_core.proofs.decomposed_lists.IterLemmas.{keeps_then, not_both, ends_item, ends_error, ends_last}
+use Rattle.icu_normalizer_core.proofs.decomposed_lists.CanonicalStepLemmas.{decomposes_done, keeps_popped}
 use Rattle.icu_normalizer_core.proofs.decomposition.DecompositionIterator.next.Goals as goal
 
 pub returns-in-Some-clause-steps : goal.returns-in-Some-clause-steps

@@ -3,7 +3,7 @@ use Rattle.std.proofs.lemmas.Fn.{always_returns_same}
 use Rattle.std.proofs.lemmas.List.Sorted.{IsNonDecreasingBy-from_sort_by_key}
 use Rattle.std.proofs.lemmas.Result.{on_ok_weaker}
 use Rattle.icu_normalizer_core.specs.FormData.{form_meaning}
-use Rattle.icu_normalizer_core.proofs.decomposed.SortLemmas.{order_from_sort}
+use Rattle.icu_normalizer_core.proofs.decomposed_lists.SortLemmas.{order_from_sort}
 use Rattle.icu_normalizer_core.proofs.decomposition.run.sort_slice.Goals as goal
 
 pub returns-clause-ok : goal.returns-clause-ok

@@ -1,5 +1,5 @@
 use Rattle.std.proofs.Common.{refl}
-use Rattle.icu_normalizer_core.proofs.decomposed.IterLemmas.{source_end, source_next, source_stopped}
+use Rattle.icu_normalizer_core.proofs.decomposed_lists.IterLemmas.{source_end, source_next, source_stopped}
 use Rattle.icu_collator_core.proofs.elements.upcoming.Upcoming.pull.Goals as goal
 
 pub returns-in-Some-clause-text : goal.returns-in-Some-clause-text

@@ -1,5 +1,5 @@
 use Rattle.std.proofs.Common.{arith}
-use Rattle.icu_normalizer_core.proofs.decomposed.RunLemmas.{marks_pushed}
+use Rattle.icu_normalizer_core.proofs.decomposed_lists.RunLemmas.{marks_pushed}
 use Rattle.icu_normalizer.specs.Writer.{writer_data}
 use Rattle.icu_normalizer.proofs.decomposing.writer.Writer.hold_more.Goals as goal
 

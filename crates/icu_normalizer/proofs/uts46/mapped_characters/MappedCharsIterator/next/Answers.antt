@@ -1,5 +1,5 @@
 use Rattle.std.proofs.Common.{length, refl, subst, ap, ◌∙◌, arith}
-use Rattle.icu_normalizer_core.proofs.decomposed.IterLemmas.{keeps_then}
+use Rattle.icu_normalizer_core.proofs.decomposed_lists.IterLemmas.{keeps_then}
 use Rattle.icu_normalizer.specs.Uts46Iter.{MapsTo}
 use Rattle.icu_normalizer.proofs.noted.MappedLemmas.{mapped_popped, mapped_done}
 use Rattle.icu_normalizer.proofs.uts46.mapped_characters.MappedCharsIterator.next.Goals as goal

@@ -1,7 +1,7 @@
 -- Each turn moves one mark of a lower class to the left, and the end puts the character after them.
 use Rattle.std.proofs.Common.{arith, ◌∙◌, ◌+◌, length-set, inl, inr, slice_index_or}
 use Rattle.icu_normalizer_core.specs.CanonicalMeaning.{meaning}
-use Rattle.icu_normalizer_core.proofs.decomposed.MarkLemmas.{put_step, put_end, test_at}
+use Rattle.icu_normalizer_core.proofs.decomposed_lists.MarkLemmas.{put_step, put_end, test_at}
 use Rattle.icu_normalizer_core.proofs.canonical.check.marks.put_mark_in_order.Goals as goal
 use Rattle.icu_normalizer_core.proofs.canonical.check.marks.put_mark_in_order.Goals.{else-loop-place-test, then-loop-place-test+then-not-is_mark_below}
 

@@ -1,6 +1,6 @@
 use Rattle.std.proofs.Common.{arith, ◌∙◌, ◌-◌}
 use Rattle.icu_normalizer_core.specs.CanonicalMeaning.{meaning}
-use Rattle.icu_normalizer_core.proofs.decomposed.MarkLemmas.{marks_all, marks_previous, nothing_in_order}
+use Rattle.icu_normalizer_core.proofs.decomposed_lists.MarkLemmas.{marks_all, marks_previous, nothing_in_order}
 use Rattle.icu_normalizer_core.proofs.canonical.check.marks.put_marks_in_order.Goals as goal
 
 pub loop-place-init : goal.loop-place-init

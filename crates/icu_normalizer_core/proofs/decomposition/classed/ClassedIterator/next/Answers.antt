@@ -1,7 +1,7 @@
 use Rattle.std.proofs.Common.{◌∷◌, refl, sym, ap, ◌∙◌}
 use Rattle.icu_normalizer_core.specs.BorrowedMeaning.{borrowed_meaning}
 use Rattle.icu_normalizer_core.specs.Classes.{with_classes, IsFinished}
-use Rattle.icu_normalizer_core.proofs.decomposed.IterLemmas.{ended_not, ends_item, ends_error, ends_last}
+use Rattle.icu_normalizer_core.proofs.decomposed_lists.IterLemmas.{ended_not, ends_item, ends_error, ends_last}
 use Rattle.icu_normalizer_core.proofs.decomposition.classed.ClassedIterator.next.Goals as goal
 
 pub returns-in-Some-Ok-clause-steps : goal.returns-in-Some-Ok-clause-steps

@@ -1,7 +1,7 @@
 use Rattle.std.proofs.Common.{[], ◌∷◌, ◌++◌, sym, ap, ◌∙◌, arith}
 use Rattle.icu_normalizer_core.specs.Canonical.{Canonical, marks_in_order}
 use Rattle.icu_normalizer_core.specs.Run.{reordered, data_of}
-use Rattle.icu_normalizer_core.proofs.decomposed.RunLemmas.{out, out_mark, out_before_starter, out_starter}
+use Rattle.icu_normalizer_core.proofs.decomposed_lists.RunLemmas.{out, out_mark, out_before_starter, out_starter}
 use Rattle.icu_normalizer_core.proofs.decomposition.run.Run.add.Goals as goal
 
 pub returns-in_ok-push-clause-ok : goal.returns-in_ok-push-clause-ok

@@ -1,6 +1,6 @@
 use Rattle.std.proofs.Common.{Result, Ok, Err, OnErr, sym, ap, arith}
 use Rattle.icu_normalizer_core.specs.Run.{reordered, data_of}
-use Rattle.icu_normalizer_core.proofs.decomposed.RunLemmas.{out, out_sorted}
+use Rattle.icu_normalizer_core.proofs.decomposed_lists.RunLemmas.{out, out_sorted}
 use Rattle.icu_normalizer_core.proofs.decomposition.run.Run.finish.Goals as goal
 
 pub returns-clause-output : goal.returns-clause-output

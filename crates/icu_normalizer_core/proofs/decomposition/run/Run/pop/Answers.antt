@@ -1,6 +1,6 @@
 use Rattle.std.proofs.Common.{get_or, sym, ap, ◌∙◌, arith}
 use Rattle.icu_normalizer_core.specs.Run.{reordered, data_of}
-use Rattle.icu_normalizer_core.proofs.decomposed.RunLemmas.{out_pop, out_shift}
+use Rattle.icu_normalizer_core.proofs.decomposed_lists.RunLemmas.{out_pop, out_shift}
 use Rattle.icu_normalizer_core.proofs.decomposition.run.Run.pop.Goals as goal
 
 pub returns-then-self-clause-some : goal.returns-then-self-clause-some

@@ -8,7 +8,7 @@ use lib.Utf8.{low_scalar}
 use Rattle.icu_normalizer_core.specs.Canonical.{Canonical, IsCanonical, Leaves}
 use Rattle.icu_normalizer_core.specs.Forming.{IsForming, AreLowBelow}
 use Rattle.icu_normalizer_core.proofs.built.BuiltInFacts.{low_free}
-use Rattle.icu_normalizer_core.proofs.decomposed.DecomposedLemmas.{AreUnmapped, left_one, left_mapped, left_full, full_scalars, unmapped_left}
+use Rattle.icu_normalizer_core.proofs.decomposed_lists.DecomposedLemmas.{AreUnmapped, left_one, left_mapped, left_full, full_scalars, unmapped_left}
 
 -- what steps leave of something is something
 left_some : (step : ℕ → List ℕ) (xs ns : List ℕ) → Leaves step xs ns → 1 ≤ length xs → 1 ≤ length ns

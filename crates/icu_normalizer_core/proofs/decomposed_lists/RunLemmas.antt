@@ -8,7 +8,7 @@ use Rattle.icu_normalizer_core.specs.Canonical.{put_in_order, marks_in_order}
 use Rattle.icu_normalizer_core.specs.declared.decomposition.run.Run.{Run}
 use Rattle.icu_normalizer_core.specs.Marks.{is_mark}
 use Rattle.icu_normalizer_core.specs.Run.{data_of, reordered, held, KeepsOutput}
-use Rattle.icu_normalizer_core.proofs.decomposed.DecomposedLemmas.{order_before}
+use Rattle.icu_normalizer_core.proofs.decomposed_lists.DecomposedLemmas.{order_before}
 
 module _ (class : ℕ → ℕ) where
   -- what comes out of a list of which the first characters were taken, and others are ready

@@ -5,9 +5,9 @@ use Rattle.icu_normalizer_core.specs.declared.decomposition.Decomposition.{Decom
 use Rattle.icu_normalizer_core.specs.Decompositions.{canonical_by_run, DecomposesTo}
 use Rattle.icu_normalizer_core.specs.Iter.{Spells, SourceSpells, KeepsLeft}
 use Rattle.icu_normalizer_core.specs.Run.{reordered, held, KeepsOutput}
-use Rattle.icu_normalizer_core.proofs.decomposed.DecomposedLemmas.{order_before}
-use Rattle.icu_normalizer_core.proofs.decomposed.IterLemmas.{spells_source, source_done, source_stopped, source_end, source_next, source_same}
-use Rattle.icu_normalizer_core.proofs.decomposed.RunLemmas.{order_nothing, reordered_empty}
+use Rattle.icu_normalizer_core.proofs.decomposed_lists.DecomposedLemmas.{order_before}
+use Rattle.icu_normalizer_core.proofs.decomposed_lists.IterLemmas.{spells_source, source_done, source_stopped, source_end, source_next, source_same}
+use Rattle.icu_normalizer_core.proofs.decomposed_lists.RunLemmas.{order_nothing, reordered_empty}
 
 -- a starter that stands for itself comes first in the decomposed list
 pub decomposed_itself : (canonical : Canonical) (c : ℕ) (cs : List ℕ) → canonical.full c ≡ c ∷ [] → canonical.class c ≡ 0 → decomposed canonical (c ∷ cs) ≡ c ∷ decomposed canonical cs
