@@ -7,6 +7,7 @@ pub mod DecomposingLemmas
 pub mod DigitRunLemmas
 pub mod FlatNoteLemmas
 pub mod FlatOrderLemmas
+pub mod FlatPartLemmas
 pub mod FlatReadLemmas
 pub mod FlatStepLemmas
 pub mod CollationNoteLemmas

@@ -50,4 +50,5 @@ pub mod UnsafeWords
 pub mod CollationNotes
 pub mod FlatLists
 pub mod FlatNotes
+pub mod NotePages
 pub mod FlatSteps

@@ -16,6 +16,7 @@ use crate::check::TableFault;
 use crate::check::faults::judge;
 use crate::collation_notes::{CollationNote, collation_notes};
 use crate::flat::notes::{FlatNote, flat_notes};
+use crate::flat::pages::{NotePage, note_pages};
 use crate::reading::checked_words::checked_word;
 use crate::reading::next::alone_at;
 use crate::tables::CollationTables;
@@ -36,6 +37,8 @@ pub struct CheckedTables<'a> {
     low: Vec<CollationNote>,
     /// By what low characters are read flat.
     flat: Vec<FlatNote>,
+    /// The same of those behind them, in pages.
+    pages: Vec<NotePage>,
 }
 
 // (let go of as one, and not part by part, so that what owns one is proved sooner)
@@ -47,6 +50,7 @@ impl Drop for CheckedTables<'_> {
             unsafe_characters: _,
             low: _,
             flat: _,
+            pages: _,
         } = self;
     }
 }
@@ -56,6 +60,7 @@ impl<'a> Model for CheckedTables<'a> {
     ghost use Rattle.icu_collator_core.specs.Acceptance.{CollationSource, IsAccepted};
     ghost use Rattle.icu_collator_core.specs.FlatNotes.{AreFlatNotes};
     ghost use Rattle.icu_collator_core.specs.CollationNotes.{AreNoted};
+    ghost use Rattle.icu_collator_core.specs.NotePages.{AreNotePages};
     ghost use Rattle.icu_collator_core.specs.TableMeaning.{weights_of};
     ghost use Rattle.icu_collator_core.specs.UnsafeWords.{AreUnsafeByRecords};
 
@@ -66,7 +71,8 @@ impl<'a> Model for CheckedTables<'a> {
     ghost invariant = { λ inside. IsAccepted (meaning inside.canonical) inside.tables
         × AreUnsafeByRecords (weights_of (meaning inside.canonical) inside.tables) inside.unsafe_characters.items
         × AreNoted (record { canonical = inside.canonical; tables = inside.tables }) inside.low.items
-        × AreFlatNotes (record { canonical = inside.canonical; tables = inside.tables }) inside.flat.items };
+        × AreFlatNotes (record { canonical = inside.canonical; tables = inside.tables }) inside.flat.items
+        × AreNotePages (record { canonical = inside.canonical; tables = inside.tables }) inside.pages.items };
 }
 
 /// The characters that tables make unsafe, where they pass every check; else what they are refused for.
@@ -122,6 +128,7 @@ impl<'a> CheckedTables<'a> {
                     unsafe_characters,
                     low: Vec::new(alloc),
                     flat: Vec::new(alloc),
+                    pages: Vec::new(alloc),
                 };
                 Ok(checked.with_low(alloc)?)
             }
@@ -129,14 +136,16 @@ impl<'a> CheckedTables<'a> {
         }
     }
 
-    /// The same tables, with notes of the low characters.
+    /// The same tables, with notes of characters.
     fn with_low(mut self, alloc: Global) -> Result<CheckedTables<'a>, AllocError>
         ensures { IfOk result (λ checked. checked ≡ self.entry) }
     {
         let low = collation_notes(alloc, &self)?;
         let flat = flat_notes(alloc, &self)?;
+        let pages = note_pages(alloc, &self)?;
         self.low = low;
         self.flat = flat;
+        self.pages = pages;
         Ok(self)
     }
 
@@ -223,6 +232,17 @@ impl<'a> CheckedTables<'a> {
             Some(note) => Some(note),
             None => None,
         }
+    }
+
+    /// By what a character behind the low ones is read flat; `None` for one in no page.
+    #[inline(always)]
+    pub(crate) fn paged_note(&self, c: char) -> Option<&FlatNote>
+        ensures { IfSome result (λ note. IsFlatNote self.now c note.now) }
+    {
+        let code = c as usize;
+        let page = self.pages.get(code / 64)?;
+        let note = page.get(code % 64)?;
+        Some(note)
     }
 
     /// Whether a character is its own full list, and reading may begin at it, by the tables alone.

@@ -8,12 +8,14 @@ ghost use Rattle.icu_collator_core.specs.ElementTexts.{text_elements};
 ghost use Rattle.icu_collator_core.specs.FlatNotes.{IsPushed};
 
 mod flat_elements;
+mod listed;
 pub(crate) mod notes;
+pub(crate) mod pages;
 mod steps;
 
 use crate::checked::CheckedTables;
 pub use flat_elements::FlatElements;
-use notes::note_of;
+use notes::FlatNote;
 pub use steps::FlatStep;
 
 impl CheckedTables<'_> {
@@ -38,7 +40,7 @@ impl CheckedTables<'_> {
         }
     }
 
-    /// The same by the tables alone.
+    /// The same of a character behind the low ones: by its note, or by those of its full list.
     #[inline(never)]
     fn push_found<const N: usize>(
         &self,
@@ -49,15 +51,18 @@ impl CheckedTables<'_> {
     ) -> Option<u8>
         ensures { IfSome result (λ trail. IsPushed self.now numeric c before elements.old.items trail elements.new.items) }
     {
-        let note = note_of(self, c);
+        let note = self.find_note(c);
+        if let FlatNote::Other = note {
+            return self.push_listed(numeric, c, before, elements);
+        }
         let trail = note.push(numeric, before, elements)?;
         Some(trail)
     }
 
     /// Reads the text that an iterator gives into an empty list, if it is flat: each of its characters has a full list (UAX 15)
-    /// of one or two characters that are read alone, its marks stand in order, and the list has room for its elements. `false`
-    /// for another text; what the list has then is not said. Where a lead byte of numbers is given, a text with a digit is
-    /// none. A character below U+0800 takes one read; no memory is taken.
+    /// of characters that are read alone, below U+0800 one or two, its marks stand in order, and the list has room for its
+    /// elements. `false` for another text; what the list has then is not said. Where a lead byte of numbers is given, a text
+    /// with a digit is none. A character below U+0800 takes one read; no memory is taken.
     #[inline]
     pub fn read_flat<I: Iterator<Item = char> + Drop, const N: usize>(
         &self,

@@ -7,8 +7,8 @@ use icu_collator_types::elements::CollationElement;
 use samples_compiled::compiled::checked_tables;
 use std::alloc::Global;
 
-/// Records of letters, marks of two classes, a letter with a mark, a digit, a text of two letters, and a letter that is found
-/// by the tables alone.
+/// Records of letters, marks of two classes, a letter with a mark, a digit, a text of two letters, and a letter that has its note
+/// in a page.
 const RECORDS: &str = "class 0300 230
 class 0316 220
 map 00E0 0061 0300
@@ -104,6 +104,31 @@ fn marks_are_read_flat_in_order(rt: HostRuntime) {
     );
     assert!(rt; is_not_flat(alloc, None, "a\u{300}\u{316}"));
     assert!(rt; is_not_flat(alloc, None, "\u{e0}\u{316}"));
+}
+
+#[test]
+fn syllables_and_unnamed_characters_are_read_flat(rt: HostRuntime) {
+    let alloc = rt.alloc();
+    assert!(rt;
+        has_elements(
+            alloc,
+            None,
+            "\u{ac01}",
+            &[
+                0xfd04_0200_0500_0500,
+                0xfd04_6300_0500_0500,
+                0xfd05_2a00_0500_0500
+            ]
+        )
+    );
+    assert!(rt;
+        has_elements(
+            alloc,
+            None,
+            "\u{906}\u{4e00}",
+            &[0xfe04_8264_0500_0500, 0xfe08_5f64_0500_0500]
+        )
+    );
 }
 
 #[test]

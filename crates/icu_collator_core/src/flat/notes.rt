@@ -126,6 +126,15 @@ fn note_of_one(checked: &CheckedTables<'_>, first: char) -> FlatNote
     ensures { (c : ℕ) → (canonical_by checked.now).full c ≡ first ∷ [] → IsFlatNote checked.now c result }
 {
     let class = checked.canonical().class(first);
+    own_note(checked, first, class)
+}
+
+/// The same, where the class of that one is known.
+#[inline(always)]
+pub(super) fn own_note(checked: &CheckedTables<'_>, first: char, class: u8) -> FlatNote
+    requires { (canonical_by checked.now).class first ≡ class }
+    ensures { (c : ℕ) → (canonical_by checked.now).full c ≡ first ∷ [] → IsFlatNote checked.now c result }
+{
     let lead = highest_before(class);
     match flat_element(checked, first) {
         Some(element) => FlatNote::One(element, lead, class),
@@ -172,7 +181,7 @@ pub(crate) fn note_of(checked: &CheckedTables<'_>, c: char) -> FlatNote
 }
 
 /// What is to be noted of the character of a code, if it is one.
-fn note_at(checked: &CheckedTables<'_>, code: u32) -> FlatNote
+pub(crate) fn note_at(checked: &CheckedTables<'_>, code: u32) -> FlatNote
     ensures { IsFlatNote checked.now code result }
 {
     match char::from_u32(code) {

@@ -10,7 +10,7 @@ ghost use Rattle.icu_collator_core.specs.Pools.{element_of};
 ghost use Rattle.icu_collator_core.specs.ReadSources.{canonical_by};
 ghost use Rattle.icu_collator_core.specs.declared.flat.steps.FlatStep.TheVariants.{Primary};
 
-use super::notes::{FlatNote, note_of};
+use super::notes::FlatNote;
 use crate::checked::CheckedTables;
 use icu_collator_types::elements::CollationElement;
 
@@ -158,13 +158,13 @@ impl CheckedTables<'_> {
         }
     }
 
-    /// The same by the tables alone.
+    /// The same of a character behind the low ones.
     #[inline(never)]
     fn find_flat_primary(&self, numeric: Option<u8>, c: char, before: u32) -> Option<(u32, u32)>
         ensures { IfSome result (λ step. StepsTo self.now numeric c before step.0 step.1) }
     {
         self.canonical().keep_promise();
-        let note = note_of(self, c);
+        let note = self.find_note(c);
         let step = note.step(numeric, before)?;
         Some(step)
     }

@@ -12,7 +12,7 @@ use icu_normalizer_core::canonical::CanonicalBorrowed;
 use icu_packed_vector::PackedVec;
 
 /// The word by which a tailoring leaves a character to the root.
-const FALLBACK: u32 = 0xc0;
+pub(crate) const FALLBACK: u32 = 0xc0;
 
 /// A word, and the data in whose lists it names places.
 #[derive(Clone, Copy, Debug)]

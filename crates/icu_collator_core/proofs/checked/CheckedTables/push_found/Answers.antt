@@ -1,4 +1,4 @@
 use Rattle.icu_collator_core.proofs.checked.CheckedTables.push_found.Goals as goal
 
 pub returns : goal.returns
-returns g c = c.in_ok-trail.ensures c.args.self.now c.args.c c.note_of-note.ensures
+returns g c = c.in_ok-trail.ensures c.args.self.now c.args.c c.find_note-note.ensures

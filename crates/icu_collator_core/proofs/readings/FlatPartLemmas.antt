@@ -1,0 +1,61 @@
+-- Characters of a full list that were pushed one after another.
+use Rattle.std.proofs.Common.{◌≡◌, ℕ, List, [], ◌∷◌, ◌++◌, Contains, Option, refl, sym, ◌∙◌, ap, subst, append_assoc, append-nil}
+use Rattle.std.proofs.lemmas.List.Elements.{Contains-append_left, Contains-push}
+use Rattle.std.specs.Char.{IsScalar}
+use Rattle.icu_normalizer_core.specs.Canonical.{Canonical, IsCanonical}
+use Rattle.icu_normalizer_core.proofs.FormingLemmas.{forming_canonical}
+use Rattle.icu_collator_core.specs.Acceptance.{CollationSource}
+use Rattle.icu_collator_core.specs.FlatNotes.{AreReadFlat, IsPushed, StandInOrder, last_class}
+use Rattle.icu_collator_core.specs.ReadSources.{canonical_by}
+use Rattle.icu_collator_core.proofs.readings.FlatOrderLemmas.{last_appended, order_appended}
+use Rattle.icu_collator_core.proofs.readings.FlatReadLemmas.{read_appended}
+
+-- a character of a full list is its own
+pub own_part : (canonical : Canonical) (c d : ℕ) (before behind rest : List ℕ) → IsCanonical canonical → IsScalar c
+    → before ++ rest ≡ canonical.full c → rest ≡ d ∷ behind → canonical.full d ≡ d ∷ []
+own_part canonical c d before behind rest ok scalar all next =
+    let whole = append_assoc before (d ∷ []) behind ∙ ap (λ (l : List ℕ). before ++ l) (sym next) ∙ all in
+    (forming_canonical canonical ok).own c d scalar
+    (subst (λ (l : List ℕ). Contains l d) whole (Contains-append_left (before ++ d ∷ []) behind d (Contains-push before d)))
+
+module _ (source : CollationSource) (numeric : Option ℕ) where
+  abbrev class : ℕ → ℕ
+  class = (canonical_by source).class
+
+  abbrev full : ℕ → List ℕ
+  full = (canonical_by source).full
+
+  -- these characters of a full list were pushed behind a character of a class; the last has this one
+  pub record ArePushed (before : ℕ) (old parts : List ℕ) (last : ℕ) (new : List ℕ) : Type 0 where
+    pub items : List ℕ
+    pub read : AreReadFlat source numeric parts items
+    pub order : StandInOrder class before parts
+    pub last_is : last_class class before parts ≡ last
+    pub appended : new ≡ old ++ items
+
+  pub none_pushed : (before : ℕ) (old : List ℕ) → ArePushed before old [] before old
+  none_pushed before old = record { items = []; read = tt; order = tt; last_is = refl; appended = sym (append-nil old) }
+
+  pub part_pushed : (before : ℕ) (old parts : List ℕ) (last : ℕ) (now : List ℕ) (d is : ℕ) (new : List ℕ) → ArePushed before old parts last now → full d ≡ d ∷ []
+      → IsPushed source numeric d last now is new → ArePushed before old (parts ++ d ∷ []) is new
+  part_pushed before old parts last now d is new h own pushed =
+      record {
+        items = h.items ++ pushed.items;
+        read = read_appended source numeric parts h.items (d ∷ []) pushed.items h.read (subst (λ (l : List ℕ). AreReadFlat source numeric l pushed.items) own pushed.read);
+        order = order_appended class before parts (d ∷ []) h.order
+            (subst (λ (k : ℕ). StandInOrder class k (d ∷ [])) (sym h.last_is) (subst (λ (l : List ℕ). StandInOrder class last l) own pushed.order));
+        last_is = last_appended class before parts (d ∷ []) ∙ ap (λ k. last_class class k (d ∷ [])) h.last_is
+            ∙ sym (ap (λ (l : List ℕ). last_class class last l) own) ∙ pushed.last;
+        appended = pushed.appended ∙ ap (λ (l : List ℕ). l ++ pushed.items) h.appended ∙ append_assoc old h.items pushed.items;
+      }
+
+  pub all_pushed : (c before : ℕ) (old parts : List ℕ) (last : ℕ) (new : List ℕ) → parts ≡ full c → ArePushed before old parts last new
+      → IsPushed source numeric c before old last new
+  all_pushed c before old parts last new all h =
+      record {
+        items = h.items;
+        read = subst (λ (l : List ℕ). AreReadFlat source numeric l h.items) all h.read;
+        order = subst (λ (l : List ℕ). StandInOrder class before l) all h.order;
+        last = sym (ap (λ (l : List ℕ). last_class class before l) all) ∙ h.last_is;
+        appended = h.appended;
+      }
