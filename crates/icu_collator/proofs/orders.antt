@@ -2,3 +2,4 @@ pub mod OrderSamenessLemmas
 pub mod StrengthsLemmas
 pub mod TotalOrderLemmas
 pub mod OrderByFlatLemmas
+pub mod WeightOrderLemmas

@@ -1,19 +1,22 @@
--- How texts that are read flat compare by their primaries.
-use Rattle.std.specs.Prelude.{◌≡◌, ◌≢◌, ◌==◌, ℕ, false, List, map, Option, Some}
-use Rattle.std.specs.Ordering.{nat_cmp}
+-- How texts that are read flat compare: by their primaries, then by the weights of their elements.
+use Rattle.std.specs.Prelude.{◌≡◌, ◌≢◌, ℕ, false, true, List, filter_map, map, Option, Some, option_map}
+use Rattle.std.specs.Ordering.{nat_cmp, ordering_then}
 use Rattle.std.specs.declared.cmp.Ordering.{Ordering}
 use Rattle.std.specs.declared.cmp.Ordering.TheVariants.{Less, Equal, Greater}
 use Rattle.icu_collator_types.specs.declared.options.ResolvedCollatorOptions.{ResolvedCollatorOptions}
-use Rattle.icu_collator_types.specs.Options.{is_shifted}
+use Rattle.icu_collator_types.specs.declared.options.Strength.TheVariants.{Tertiary, Quaternary}
+use Rattle.icu_collator_types.specs.Options.{has_case_level, is_at_least, is_shifted}
 use Rattle.icu_collator_core.specs.Acceptance.{CollationSource}
 use Rattle.icu_collator_core.specs.Collation.{Collation}
-use Rattle.icu_collator_core.specs.FlatSteps.{IsReadUpTo, StepsTo, primaries_in}
+use Rattle.icu_collator_core.specs.FlatSteps.{IsReadUpTo, primaries_in}
+use Rattle.icu_collator_core.specs.Pools.{element_of}
 use Rattle.icu_collator_core.specs.declared.flat.steps.FlatStep.{FlatStep}
 use Rattle.icu_collator_core.specs.declared.flat.steps.FlatStep.TheVariants.{Primary, End, Other}
 use Rattle.icu_collator.specs.Collators.{source_collation}
-use Rattle.icu_collator.specs.Levels.{levels_of_text}
-use Rattle.icu_collator.specs.Order.{collation_order}
-use Rattle.icu_collator.specs.TextsRead.{numeric_by}
+use Rattle.icu_collator.specs.Levels.{levels_of_text, secondary_at, tertiary_at}
+use Rattle.icu_collator.specs.Order.{collation_order, secondary_rank}
+use Rattle.icu_collator.specs.Shifted.{whole}
+use Rattle.icu_collator.specs.TextsRead.{lists_order, numeric_by}
 use Rattle.icu_collator.specs.declared.compare.flat.ByPrimaries.{ByPrimaries}
 use Rattle.icu_collator.specs.declared.compare.flat.ByPrimaries.TheVariants.{Decided, Same, NotFlat}
 use Rattle.icu_collator.specs.declared.compare.flat.Meeting.{Meeting}
@@ -33,21 +36,6 @@ IsMeeting source End (Primary q) (Parted order) = order ≡ Less
 IsMeeting source End End BothEnd = Unit {0}
 IsMeeting source first second Stopped = Unit {0}
 IsMeeting source first second meeting = ⊥
-
--- The next characters of two texts, each behind a character of a class, are starters with these primaries, and this is what
--- they say.
-pub record AreStarters (source : CollationSource) (first second : Option ℕ) (first_class second_class : ℕ) (meeting : Meeting) : Type 0 where
-  pub c : ℕ
-  pub d : ℕ
-  pub first_is : first ≡ Some c
-  pub second_is : second ≡ Some d
-  pub p : ℕ
-  pub q : ℕ
-  pub some : (p == 0) ≡ false
-  pub also : (q == 0) ≡ false
-  pub first_steps : (numeric : Option ℕ) → StepsTo source numeric c first_class p 0
-  pub second_steps : (numeric : Option ℕ) → StepsTo source numeric d second_class q 0
-  pub meets : IsMeeting source (Primary p) (Primary q) meeting
 
 -- the primaries of elements of 64 bits, as they are reordered
 abbrev pub moved_primaries : CollationSource → List ℕ → List ℕ
@@ -87,3 +75,38 @@ IsMet source numeric left_steps right_steps a b Alike left right left_class righ
 IsMet source numeric left_steps right_steps a b BothEnd left right left_class right_class = IsByPrimaries source numeric a b Same
 IsMet source numeric left_steps right_steps a b (Parted order) left right left_class right_class = IsByPrimaries source numeric a b (Decided order)
 IsMet source numeric left_steps right_steps a b Stopped left right left_class right_class = Unit {0}
+
+-- ## Elements that count whole, by their secondaries and tertiaries
+
+-- the rank of the secondary of an element of 64 bits, and its weight at the tertiary level
+abbrev pub secondary_in : ℕ → Option ℕ
+secondary_in bits = option_map secondary_rank (secondary_at (whole (element_of bits)))
+
+abbrev pub tertiary_in : ResolvedCollatorOptions → ℕ → Option ℕ
+tertiary_in options bits = tertiary_at options (whole (element_of bits))
+
+-- the order of two lists of elements: by their secondaries, then by one that is known of the tertiaries before, then by theirs
+abbrev pub weights_order : ResolvedCollatorOptions → Ordering → List ℕ → List ℕ → Ordering
+weights_order options known xs ys =
+    ordering_then (lists_order (filter_map secondary_in xs) (filter_map secondary_in ys))
+    (ordering_then known (lists_order (filter_map (tertiary_in options) xs) (filter_map (tertiary_in options) ys)))
+
+-- two elements have secondaries and tertiaries, and these have these orders
+pub record AreOrders (options : ResolvedCollatorOptions) (first second : ℕ) (secondaries tertiaries : Ordering) : Type 0 where
+  pub secondary : ℕ
+  pub other : ℕ
+  pub tertiary : ℕ
+  pub further : ℕ
+  pub first_secondary : secondary_in first ≡ Some secondary
+  pub second_secondary : secondary_in second ≡ Some other
+  pub first_tertiary : tertiary_in options first ≡ Some tertiary
+  pub second_tertiary : tertiary_in options second ≡ Some further
+  pub by_secondaries : secondaries ≡ nat_cmp secondary other
+  pub by_tertiaries : tertiaries ≡ nat_cmp tertiary further
+
+-- secondaries and tertiaries alone count behind the primaries, both in the order of the text
+pub record HasTwoLevels (collation : Collation) (options : ResolvedCollatorOptions) : Type 0 where
+  pub forward : collation.backward ≡ false
+  pub uncased : has_case_level options.case_level ≡ false
+  pub tertiary : is_at_least options.strength Tertiary ≡ true
+  pub no_more : is_at_least options.strength Quaternary ≡ false

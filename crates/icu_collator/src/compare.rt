@@ -5,5 +5,6 @@ mod flat;
 mod iterators;
 mod levels;
 mod orders;
+mod weights;
 
 pub(crate) use encoded::{common_place, compare_texts};

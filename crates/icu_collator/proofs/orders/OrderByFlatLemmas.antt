@@ -1,5 +1,5 @@
 -- How texts that are read flat compare, by their primaries.
-use Rattle.std.proofs.Common.{◌≡◌, ℕ, ◌==◌, ◌/◌, ◌^◌, Bool, true, false, cond, List, [], ◌∷◌, ◌++◌, map, filter_map, Option, Some, None, inl, inr, refl, sym, ◌∙◌, ap, subst, append_assoc, append-nil}
+use Rattle.std.proofs.Common.{◌≡◌, ℕ, ◌==◌, ◌/◌, ◌^◌, Bool, true, false, cond, List, [], ◌∷◌, ◌++◌, map, filter_map, Option, Some, None, inl, inr, refl, sym, ◌∙◌, ap, append_assoc, append-nil}
 use Rattle.std.specs.Prelude.{◌≢◌, All, ltb}
 use Rattle.std.specs.Char.{IsScalar}
 use Rattle.std.specs.Option.{is_some}
@@ -9,7 +9,7 @@ use Rattle.std.specs.declared.cmp.Ordering.TheVariants.{Less, Equal, Greater}
 use Rattle.std.proofs.lemmas.Bool.{cases_Bool, true≢false}
 use Rattle.std.proofs.lemmas.List.{map-append}
 use Rattle.std.proofs.lemmas.List.Elements.{filter_map-append}
-use Rattle.icu_normalizer_core.specs.Canonical.{IsDecomposing, decomposed}
+use Rattle.icu_normalizer_core.specs.Canonical.{decomposed}
 use Rattle.icu_normalizer_core.specs.Iter.{Spells}
 use Rattle.icu_collator_types.specs.declared.elements.Element.{Element}
 use Rattle.icu_collator_types.specs.declared.options.ResolvedCollatorOptions.{ResolvedCollatorOptions}
@@ -25,9 +25,9 @@ use Rattle.icu_collator_core.specs.Pools.{element_of}
 use Rattle.icu_collator_core.specs.ReadSources.{canonical_by, weights_by}
 use Rattle.icu_collator_core.specs.declared.flat.steps.FlatStep.{FlatStep}
 use Rattle.icu_collator_core.specs.declared.flat.steps.FlatStep.TheVariants.{Primary, End, Other}
-use Rattle.icu_collator_core.proofs.readings.FlatStepLemmas.{next_primary, nothing_read_to}
+use Rattle.icu_collator_core.proofs.readings.FlatStepLemmas.{nothing_read_to}
 use Rattle.icu_collator.specs.Collators.{source_collation}
-use Rattle.icu_collator.specs.FlatOrders.{AreReadAlike, AreReadAlike, AreStarters, HaveSamePrimaries, IsByPrimaries, IsMeeting, IsMet, moved_primaries, reordered_by}
+use Rattle.icu_collator.specs.FlatOrders.{AreReadAlike, AreReadAlike, HaveSamePrimaries, IsByPrimaries, IsMeeting, IsMet, moved_primaries, reordered_by}
 use Rattle.icu_collator.specs.LevelLists.{counted_by, counted_list, primaries_by}
 use Rattle.icu_collator.specs.Levels.{elements_of_text, levels_of, levels_of_text, primary_at}
 use Rattle.icu_collator.specs.Order.{collation_order, list_order}
@@ -249,19 +249,6 @@ module _ (source : CollationSource) where
       met first second BothEnd m l r ok also = both_ended first second m l r
       met first second (Parted o) m l r ok also = meeting_decides first second o m l r ok also
       met first second Stopped m l r ok also = tt
-
-    -- where both go on with starters
-    pub starters_met : IsDecomposing (canonical_by source) → (left next_left : I) (right next_right : J) (first second : Option ℕ) (last other : ℕ) (meeting : Meeting)
-        → ReadAlike left right last other → AreStarters source first second last other meeting → left_steps left first next_left → right_steps right second next_right
-        → All IsScalar a → All IsScalar b → IsMet source numeric left_steps right_steps a b meeting next_left next_right 0 0
-    starters_met decomposing left next_left right next_right first second last other meeting h starters step also ok scalars =
-        let s = starters in
-        met h.0 h.1 h.2.same next_left next_right 0 0 (Primary s.p) (Primary s.q) meeting s.meets
-        (next_primary source numeric left_steps a left next_left last s.c s.p 0 h.0 h.0 decomposing h.2.left_read refl
-        (subst (λ (next : Option ℕ). left_steps left next next_left) s.first_is step) (s.first_steps numeric) s.some)
-        (next_primary source numeric right_steps b right next_right other s.d s.q 0 h.1 h.1 decomposing h.2.right_read refl
-        (subst (λ (next : Option ℕ). right_steps right next next_right) s.second_is also) (s.second_steps numeric) s.also)
-        ok scalars
 
   -- ---- texts with equal primaries
 

@@ -2,18 +2,18 @@
 
 ghost use Rattle.std.specs.Char.{IsScalar};
 ghost use Rattle.std.specs.Iterator.{IsFinite, IsNearerEnd};
-ghost use Rattle.std.specs.Prelude.{◌≡◌, ◌≤◌, ℕ, All, List, IfOk, IfSome, IsSome, drop, false, length};
+ghost use Rattle.std.specs.Prelude.{◌≡◌, ◌≤◌, ℕ, All, List, IfOk, IfSome, drop, false, length};
 ghost use Rattle.icu_normalizer_core.specs.Iter.{Spells};
-ghost use Rattle.icu_collator_core.specs.FlatSteps.{IsLeftBehind};
+ghost use Rattle.icu_collator_core.specs.FlatSteps.{IsNextPrimary, IsReadUpTo};
 ghost use Rattle.icu_collator_core.specs.declared.flat.steps.FlatStep.TheVariants.{Primary};
 ghost use Rattle.icu_collator.specs.Collators.{source_collation};
 ghost use Rattle.icu_collator_types.specs.Options.{is_at_least, is_shifted};
 ghost use Rattle.icu_collator_types.specs.declared.options.Strength.TheVariants.{Identical};
-ghost use Rattle.icu_collator.specs.FlatOrders.{AreReadAlike, AreStarters, HaveSamePrimaries, IsByPrimaries, IsMeeting, IsMet};
+ghost use Rattle.icu_collator.specs.FlatOrders.{AreReadAlike, HaveSamePrimaries, IsByPrimaries, IsMeeting, IsMet};
 ghost use Rattle.icu_collator.specs.Order.{collation_order};
 ghost use Rattle.icu_collator.specs.declared.compare.flat.Meeting.TheVariants.{Alike};
 
-use super::orders::compare_from_secondaries;
+use super::weights::compare_behind_primaries;
 use crate::common_front::behind;
 use crate::encodings::Characters;
 use crate::levels::weights::reordered;
@@ -25,7 +25,7 @@ use std::alloc::{AllocError, Global};
 use std::cmp::Ordering;
 
 /// How many elements of each text are kept for the levels behind the primaries.
-const KEPT: usize = 32;
+const KEPT: usize = 64;
 
 /// What the next primaries of two texts say.
 #[derive(Clone, Copy)]
@@ -40,13 +40,11 @@ enum Meeting {
     Stopped,
 }
 
-/// What the next primaries say, each as it is before reordering.
-fn meet_primaries(checked: &CheckedTables<'_>, first: u32, second: u32) -> Meeting
+/// What the next primaries say, each as it is before reordering, by these as they are reordered.
+#[inline(never)]
+fn meet_reordered(checked: &CheckedTables<'_>, first: u32, second: u32) -> Meeting
     ensures { IsMeeting checked.now (Primary first) (Primary second) result }
 {
-    if first == second {
-        return Meeting::Alike;
-    }
     let first = reordered(checked.tables(), first);
     let second = reordered(checked.tables(), second);
     if first < second {
@@ -55,6 +53,18 @@ fn meet_primaries(checked: &CheckedTables<'_>, first: u32, second: u32) -> Meeti
         Meeting::Parted(Ordering::Greater)
     } else {
         Meeting::Alike
+    }
+}
+
+/// What the next primaries say, each as it is before reordering.
+#[inline(always)]
+fn meet_primaries(checked: &CheckedTables<'_>, first: u32, second: u32) -> Meeting
+    ensures { IsMeeting checked.now (Primary first) (Primary second) result }
+{
+    if first == second {
+        Meeting::Alike
+    } else {
+        meet_reordered(checked, first, second)
     }
 }
 
@@ -89,73 +99,42 @@ enum ByPrimaries {
     NotFlat,
 }
 
-/// What the next characters of two texts say, each behind a character of a class, if both are starters of one element with a
-/// primary; `None` for others, and at an end.
+/// Reads a text flat, from the place to which it was read so, behind a character of a class, up to its next primary: answers
+/// that, the text behind it, and the class of the last character that was read. No memory is taken.
 #[inline(always)]
-fn meet_starters(
-    checked: &CheckedTables<'_>,
-    first: Option<char>,
-    second: Option<char>,
-    first_class: u32,
-    second_class: u32,
-) -> Option<Meeting>
-    ensures { IfSome result (λ meeting. AreStarters checked.now first second first_class second_class meeting) }
-{
-    let c = first?;
-    let d = second?;
-    let primary = checked.starter_primary(c, first_class);
-    if primary == 0 {
-        return None;
-    }
-    if c == d && first_class == second_class {
-        return Some(Meeting::Alike);
-    }
-    let other = checked.starter_primary(d, second_class);
-    if other == 0 {
-        return None;
-    }
-    Some(meet_primaries(checked, primary, other))
-}
-
-/// What the next primaries of two texts say, that were read up to primaries that are alike, each behind a character of a class,
-/// and whose next characters were taken; with the texts behind these primaries, and the classes of the last characters. No
-/// memory is taken.
-#[inline(never)]
-fn meet_others<I: Iterator<Item = char> + Drop, J: Iterator<Item = char> + Drop>(
+fn next_primary<I: Iterator<Item = char> + Drop>(
     checked: &CheckedTables<'_>,
     numeric: Option<u8>,
-    first: Option<char>,
-    second: Option<char>,
-    left: I,
-    right: J,
-    left_class: u32,
-    right_class: u32,
-) -> (Meeting, I, J, u32, u32)
-    requires left { IfSome first (λ _. I.can_next left) }
-    requires left_ends { IfSome first (λ _. IsFinite (I.remaining left)) }
-    requires right { IfSome second (λ _. J.can_next right) }
-    requires right_ends { IfSome second (λ _. IsFinite (J.remaining right)) }
-    ensures next { (a b : List ℕ) → All IsScalar a → All IsScalar b → (before : I) (also : J)
-        → AreReadAlike checked.now numeric I.next_gives J.next_gives a b before also left_class right_class
-        → I.next_gives before first left → J.next_gives also second right
-        → IsMet checked.now numeric I.next_gives J.next_gives a b result.0 result.1 result.2 result.3 result.4 }
-    ensures left_nearer { result.0 ≡ Alike → IsLeftBehind I.can_next I.remaining left result.1 }
-    ensures right_nearer { result.0 ≡ Alike → IsLeftBehind J.can_next J.remaining right result.2 }
-    ensures left_given { result.0 ≡ Alike → IsSome first }
-    ensures right_given { result.0 ≡ Alike → IsSome second }
+    chars: I,
+    class: u32,
+) -> (FlatStep, I, u32)
+    requires can { I.can_next chars }
+    requires finite { IsFinite (I.remaining chars) }
+    ensures next { (text items : List ℕ) → IsReadUpTo checked.now numeric I.next_gives text chars class items
+        → IsNextPrimary checked.now numeric I.next_gives text items result.0 result.1 result.2 }
+    ensures nearer { (p : ℕ) → result.0 ≡ Primary p → IsNearerEnd I.can_next I.remaining chars result.1 }
 {
-    let (one, left_rest, left_last) = checked.read_to_primary(numeric, first, left, left_class);
-    let (two, right_rest, right_last) = checked.read_to_primary(
-        numeric,
-        second,
-        right,
-        right_class,
-    );
-    let meeting = meet(checked, one, two);
-    (meeting, left_rest, right_rest, left_last, right_last)
+    checked.canonical().keep_promise();
+    let mut chars = chars;
+    let mut class = class;
+    'reading: while let Some(c) = chars.next() {
+        let starter = checked.starter_primary(c, class);
+        if starter != 0 {
+            return (FlatStep::Primary(starter), chars, 0);
+        }
+        let Some((primary, trail)) = checked.flat_primary(numeric, c, class) else {
+            return (FlatStep::Other, chars, class);
+        };
+        class = trail;
+        if primary != 0 {
+            return (FlatStep::Primary(primary), chars, class);
+        }
+    }
+    (FlatStep::End, chars, class)
 }
 
-/// The same, where the next characters are still to be taken.
+/// What the next primaries of two texts say, that were read up to primaries that are alike, each behind a character of a class;
+/// with the texts behind these primaries, and the classes of the last characters. No memory is taken.
 #[inline(always)]
 fn meet_next<I: Iterator<Item = char> + Drop, J: Iterator<Item = char> + Drop>(
     checked: &CheckedTables<'_>,
@@ -175,15 +154,10 @@ fn meet_next<I: Iterator<Item = char> + Drop, J: Iterator<Item = char> + Drop>(
     ensures left_nearer { result.0 ≡ Alike → IsNearerEnd I.can_next I.remaining left result.1 }
     ensures right_nearer { result.0 ≡ Alike → IsNearerEnd J.can_next J.remaining right result.2 }
 {
-    checked.canonical().keep_promise();
-    let mut left = left;
-    let mut right = right;
-    let c = left.next();
-    let d = right.next();
-    if let Some(meeting) = meet_starters(checked, c, d, left_class, right_class) {
-        return (meeting, left, right, 0, 0);
-    }
-    meet_others(checked, numeric, c, d, left, right, left_class, right_class)
+    let (one, left_rest, left_last) = next_primary(checked, numeric, left, left_class);
+    let (two, right_rest, right_last) = next_primary(checked, numeric, right, right_class);
+    let meeting = meet(checked, one, two);
+    (meeting, left_rest, right_rest, left_last, right_last)
 }
 
 /// Reads two texts side by side as long as their primaries are alike. No memory is taken.
@@ -265,7 +239,7 @@ fn compare_kept<T: Characters, U: Characters>(
         variable_end: 0,
         characters: &[],
     };
-    let order = compare_from_secondaries(alloc, checked, options, left, right)?;
+    let order = compare_behind_primaries(alloc, checked, options, left, right)?;
     Ok(Some(order))
 }
 
