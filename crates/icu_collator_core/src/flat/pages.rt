@@ -7,9 +7,9 @@ ghost use Rattle.icu_collator_core.specs.NotePages.{AreNotePages, IsNotePage};
 ghost use Rattle.icu_collator_core.specs.declared.flat.notes.FlatNote.TheVariants.{Other};
 
 use super::notes::{FlatNote, note_at, note_of, own_note};
-use crate::table_words::fields::has_tag;
 use crate::checked::CheckedTables;
 use crate::table_words::counting_words::FALLBACK;
+use crate::table_words::fields::has_tag;
 use icu_collator_types::elements::Tag;
 use icu_normalizer_core::built_in::{is_jamo, is_syllable};
 use icu_normalizer_core::canonical::Reading;
