@@ -3,7 +3,7 @@ use Rattle.std.proofs.Common.{◌≡◌, ℕ, List, [], ◌∷◌, ◌++◌, Con
 use Rattle.std.proofs.lemmas.List.Elements.{Contains-append_left, Contains-push}
 use Rattle.std.specs.Char.{IsScalar}
 use Rattle.icu_normalizer_core.specs.Canonical.{Canonical, IsCanonical}
-use Rattle.icu_normalizer_core.proofs.FormingLemmas.{forming_canonical}
+use Rattle.icu_normalizer_core.proofs.decomposed_lists.FormingLemmas.{forming_canonical}
 use Rattle.icu_collator_core.specs.Acceptance.{CollationSource}
 use Rattle.icu_collator_core.specs.FlatNotes.{AreReadFlat, IsPushed, StandInOrder, last_class}
 use Rattle.icu_collator_core.specs.ReadSources.{canonical_by}
