@@ -68,7 +68,7 @@ fn two_sorted(
     if basis.class(first) == 0 || basis.class(second) == 0 {
         return Ok(None);
     }
-    let mut marks: SmallVec<char, 18> = SmallVec::new(alloc);
+    let mut marks: SmallVec<char, 16> = SmallVec::new(alloc);
     marks.push(first)?;
     marks.push(second)?;
     sort_marks(basis, &mut marks, 0)?;
