@@ -52,9 +52,12 @@ module _ (canonical : Canonical) (weights : Weights) (numeric : Option ℕ) wher
       and_right (is_some numeric) (is_some (weights.digit p.character)) (ap (λ (o : Option ℕ). is_some o) none) in
       rw (reading_is canonical led (is_some numeric) p ps, reading_is canonical weights false p ps)
       (rw uncounted
-      (chosen_alike (λ (x y : Reading). x ≡ y) (special_primary p.character) _ _ false _ _
+      (chosen_alike (λ (x y : Reading). x ≡ y) (special_primary p.character) _ _ false (number_reading led (p ∷ ps)) (number_reading weights (p ∷ ps))
       (weights.dot_above && (p.character == 0x307) && is_before_accent ps) _ _ (prefix_match weights p) _ _ _ _
-      (λ s. refl) (λ e. absurd (false≢true e)) refl (λ es. refl) (text_led p.character (p ∷ ps))))
+      (λ s. refl) (λ e. never e) refl (λ es. refl) (text_led p.character (p ∷ ps))))
+    where
+      never : {x y : Reading} → false ≡ true → x ≡ y
+      never e = absurd (false≢true e)
 
   pub within_led : (n : ℕ) (ps : List Placed) → AllByRecursion IsNoDigit ps
       → elements_within n canonical led (is_some numeric) ps ≡ elements_within n canonical weights false ps

@@ -1,8 +1,9 @@
 -- What a note of a character says of its elements.
-use Rattle.std.proofs.Common.{◌≡◌, ◌≤◌, ◌<◌, ℕ, Bool, true, false, ◌==◌, ◌&&◌, ◌||◌, List, [], ◌∷◌, ⊎_elim, inl, inr, Option, None, arith, refl, ap}
+use Rattle.std.proofs.Common.{◌≡◌, ◌↔◌, ◌≤◌, ◌<◌, ℕ, Bool, true, false, IsTrue, not, length, ◌==◌, ◌&&◌, ◌||◌, List, [], ◌∷◌, ⊎_elim, inl, inr, Option, None, Some, arith, refl, ap}
 use Rattle.std.specs.List.{AllByRecursion}
+use Rattle.std.specs.Prelude.{slice_index}
 use Rattle.std.specs.Option.{is_some}
-use Rattle.std.proofs.lemmas.Bool.{and_right, cases_lt, or_parts}
+use Rattle.std.proofs.lemmas.Bool.{and_right, cases_lt, false≢true, or_parts}
 use lib.Utf8.{scalar, scalars}
 use Rattle.icu_collator_core.specs.Acceptance.{CollationSource}
 use Rattle.icu_collator_core.specs.Boundaries.{is_accent}
@@ -10,6 +11,7 @@ use Rattle.icu_collator_core.specs.Defaults.{special_primary}
 use Rattle.icu_collator_core.specs.ElementLists.{unpacked}
 use Rattle.icu_collator_core.specs.Elements.{elements_of_list}
 use Rattle.icu_collator_core.specs.FlatNotes.{AreReadFlat, IsBoundaryApart, IsFlatNote, IsFlatUpTo, IsReadFlat, IsSteady, IsUncounted, MayBegin, MayFollow, StandInOrder, note_by}
+use Rattle.icu_collator_core.specs.declared.flat.notes.FlatNote.TheVariants.{One, Other, Two}
 use Rattle.icu_collator_core.specs.PlainWords.{IsReadAlone, IsReadUncounted}
 use Rattle.icu_collator_core.specs.ReadSources.{canonical_by, weights_by}
 use Rattle.icu_collator_core.specs.TableMeaning.{weights_of}
@@ -65,6 +67,15 @@ module _ (source : CollationSource) (c : ℕ) where
         record { number = uncounted; accent = and_right weights.dot_above (is_accent c) plain },
       )
 
+  -- one of which a test says that it isn't
+  pub boundary_told : (told : Bool) → (IsTrue told ↔ IsUnsafeItself (canonical_by source) (weights_of (canonical_by source) source.tables) c) → not told ≡ true
+      → is_accent c ≡ false → (numeric : Option ℕ) → IsUncounted source numeric c → IsBoundaryApart source numeric c
+  boundary_told told by safe = boundary_apart (λ own. never_both told safe (by.1 own))
+    where
+      never_both : (b : Bool) → not b ≡ true → b ≡ true → ⊥
+      never_both true e f = false≢true e
+      never_both false e f = false≢true f
+
   -- behind which classes a character of a class may stand: its own, any, or, where it is a boundary, also none
   pub mark_begins : (lead : ℕ) → (canonical_by source).class c ≡ lead → lead ≤ 255 → (numeric : Option ℕ) (before : ℕ) → before ≤ lead → MayBegin source numeric before c
   mark_begins lead is small numeric before least = (inr (omega (arith, is, least)), inl (omega (arith, small, least)))
@@ -105,7 +116,7 @@ module _ (source : CollationSource) (c : ℕ) where
     pub two_flat : (second bits other : ℕ) → full c ≡ first ∷ second ∷ [] → IsReadFlat source numeric first bits → IsReadFlat source numeric second other
         → MayFollow (class first) (class second) → IsFlatUpTo source numeric c (bits ∷ other ∷ []) lead (class second)
     two_flat second bits other is one two order before least =
-        let all : AreReadFlat source numeric (first ∷ second ∷ []) (bits ∷ other ∷ []) = (one, two, tt) in
+        let all : AreReadFlat source numeric (first ∷ second ∷ []) (bits ∷ other ∷ []) = (one, (two, tt)) in
         let may = begins before least one.uncounted in
         record {
           first = first;
@@ -113,7 +124,7 @@ module _ (source : CollationSource) (c : ℕ) where
           full = is;
           characters = flat_scalars source numeric (first ∷ second ∷ []) (bits ∷ other ∷ []) all;
           follows = may.1;
-          order = (may.0, order, tt);
+          order = (may.0, (order, tt));
           last = λ small. refl;
           alone = λ small. all;
           read = flat_before source numeric (first ∷ second ∷ []) (bits ∷ other ∷ []) (class second) all;
@@ -122,7 +133,7 @@ module _ (source : CollationSource) (c : ℕ) where
   -- characters that begin with a boundary, by what they are by themselves
   pub bounded_flat : (first : ℕ) (rest items : List ℕ) → full c ≡ first ∷ rest → scalars (first ∷ rest) ≡ true
       → ((numeric : Option ℕ) → IsUncounted source numeric first → IsBoundaryApart source numeric first) → AllByRecursion (IsSteady source) (first ∷ rest)
-      → StandInOrder class (class first) rest → unpacked items ≡ elements_of_list (canonical_by source) (weights_by None source) false (first ∷ rest)
+      → ((class first ≡ 0) → StandInOrder class (class first) rest) → unpacked items ≡ elements_of_list (canonical_by source) (weights_by None source) false (first ∷ rest)
       → (numeric : Option ℕ) → IsFlatUpTo source numeric c items 256 256
   bounded_flat first rest items is ok apart steady order are numeric before least =
       let uncounted : IsUncounted source numeric first =
@@ -134,7 +145,7 @@ module _ (source : CollationSource) (c : ℕ) where
         full = is;
         characters = ok;
         follows = inr boundary;
-        order = (inl boundary.0.starter, order);
+        order = (inl boundary.0.starter, order boundary.0.starter);
         last = λ (small : 256 ≤ 255). absurd (omega (arith, small));
         alone = λ (small : 256 ≤ 255). absurd (omega (arith, small));
         read = read_bounded source numeric (first ∷ rest) items ok steady are;
@@ -145,3 +156,26 @@ module _ (source : CollationSource) (c : ℕ) where
   noted_by (bits ∷ []) h = h
   noted_by (first ∷ second ∷ []) h = h
   noted_by (first ∷ second ∷ third ∷ more) h = tt
+
+-- ---- the note by so many elements
+
+pub none_told : {A : Type 0} (o : Option A) → not (is_some o) ≡ true → o ≡ None
+none_told None e = refl
+none_told (Some x) e = absurd (false≢true e)
+
+pub note_of_single : (items : List ℕ) (x : ℕ) → length items ≡ 1 → x ≡ slice_index items 0 → One x 256 256 ≡ note_by items
+note_of_single [] x l e = absurd (omega (arith, l))
+note_of_single (a ∷ []) x l e = ap (λ (y : ℕ). One y 256 256) e
+note_of_single (a ∷ b ∷ more) x l e = absurd (omega (arith, l))
+
+pub note_of_pair : (items : List ℕ) (x y : ℕ) → length items ≡ 2 → x ≡ slice_index items 0 → y ≡ slice_index items 1 → Two x y 256 256 ≡ note_by items
+note_of_pair [] x y l e f = absurd (omega (arith, l))
+note_of_pair (a ∷ []) x y l e f = absurd (omega (arith, l))
+note_of_pair (a ∷ b ∷ []) x y l e f = ap (λ (z : ℕ). Two z y 256 256) e ∙ ap (λ (z : ℕ). Two a z 256 256) f
+note_of_pair (a ∷ b ∷ d ∷ more) x y l e f = absurd (omega (arith, l))
+
+pub note_of_more : (items : List ℕ) → (length items ≡ 1 → ⊥) → (length items ≡ 2 → ⊥) → Other ≡ note_by items
+note_of_more [] one two = refl
+note_of_more (a ∷ []) one two = absurd (one refl)
+note_of_more (a ∷ b ∷ []) one two = absurd (two refl)
+note_of_more (a ∷ b ∷ d ∷ more) one two = refl

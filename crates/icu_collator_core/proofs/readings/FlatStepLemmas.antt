@@ -1,8 +1,9 @@
 -- Texts that are read flat, one primary after another.
-use Rattle.std.proofs.Common.{◌≡◌, ℕ, ◌+◌, ◌<◌, ◌≤◌, ◌==◌, Bool, true, false, ◌&&◌, cond, List, [], ◌∷◌, ◌++◌, flat_map, filter_map, Option, Some, None, ◌⊎◌, ⊎_elim, inl, inr, refl, sym, ◌∙◌, ap, subst, arith, append_assoc, append-nil}
+use Rattle.std.proofs.Common.{◌≡◌, ℕ, ◌+◌, ◌<◌, ◌≤◌, ◌==◌, Bool, true, false, ◌&&◌, cond, List, [], ◌∷◌, ◌++◌, flat_map, filter_map, Option, Some, None, ◌×◌, ◌⊎◌, ⊎_elim, inl, inr, refl, sym, ◌∙◌, ap, subst, arith, append_assoc, append-nil}
 use Rattle.std.specs.Char.{IsScalar}
-use Rattle.std.specs.Prelude.{All}
-use Rattle.std.proofs.lemmas.Bool.{and_from, and_parts, cases_Bool}
+use Rattle.std.specs.Prelude.{All, IfSome}
+use Rattle.std.specs.Option.{is_some}
+use Rattle.std.proofs.lemmas.Bool.{and_from, and_parts, cases_Bool, false≢true}
 use Rattle.std.proofs.lemmas.List.{map-append}
 use Rattle.std.proofs.lemmas.List.Elements.{filter_map-append, recursion_from_All}
 use lib.Utf8.{scalar, scalars}
@@ -295,6 +296,13 @@ module _ (source : CollationSource) (numeric : Option ℕ) where
     next_from chars last items old Other same h = (h.0, tt)
 
     -- ---- what stands, whatever else the text holds
+
+    pub settled_told : (now next : I) (last c : ℕ) (items : List ℕ) (step : Option (ℕ × ℕ)) → IsDecomposing (canonical_by source) → All IsScalar text → 255 < last
+        → ReadTo now last items → steps now (Some c) next → IfSome step (λ s. StepsTo source numeric c last s.0 s.1) → is_some step ≡ true
+        → BeginsWithPrimaries source numeric text (primaries_in items)
+    settled_told now next last c items None decomposing ok above h step steps_to told = absurd (false≢true told)
+    settled_told now next last c items (Some s) decomposing ok above h step steps_to told =
+        settled_on now next last c s.0 s.1 items decomposing ok above h step steps_to
 
     pub settled_small : (chars : I) (last : ℕ) (old : List ℕ) (result : FlatStep) → last ≤ 255
         → IsNextPrimary source numeric steps text old result chars last → IsSettled source numeric text old result

@@ -27,7 +27,10 @@ fn is_accent(c: char) -> bool
 pub(super) fn is_boundary(checked: &CheckedTables<'_>, c: char) -> bool
     ensures { result ≡ true → (numeric : Option ℕ) → IsUncounted checked.now numeric c → IsBoundaryApart checked.now numeric c }
 {
-    !is_accent(c) && !checked.is_unsafe_itself(c)
+    if is_accent(c) {
+        return false;
+    }
+    !checked.is_unsafe_itself(c)
 }
 
 /// Whether a character of a decomposed list is no digit, and no prefix is recorded with it.
@@ -35,18 +38,28 @@ fn is_steady(checked: &CheckedTables<'_>, c: char) -> bool
     ensures { result ≡ true → IsSteady checked.now c }
 {
     let word = checked_word(checked, c);
-    word.is_unprefixed() && word.digit().is_none()
+    if !word.is_unprefixed() {
+        return false;
+    }
+    word.digit().is_none()
 }
 
 /// The note of a character that has these elements wherever a boundary follows.
 fn note_of_elements(elements: &[CollationElement]) -> FlatNote
     ensures { result ≡ note_by elements.now }
 {
-    match elements.len() {
-        1 => FlatNote::One(elements[0], BEFORE_BOUNDARY, BEFORE_BOUNDARY),
-        2 => FlatNote::Two(elements[0], elements[1], BEFORE_BOUNDARY, BEFORE_BOUNDARY),
-        _ => FlatNote::Other,
+    if elements.len() == 1 {
+        return FlatNote::One(elements[0], BEFORE_BOUNDARY, BEFORE_BOUNDARY);
     }
+    if elements.len() == 2 {
+        return FlatNote::Two(
+            elements[0],
+            elements[1],
+            BEFORE_BOUNDARY,
+            BEFORE_BOUNDARY,
+        );
+    }
+    FlatNote::Other
 }
 
 /// The note of a character whose full list is this, by the elements of the list. Fails only when out of memory.
