@@ -1,5 +1,4 @@
 use Rattle.std.proofs.Common.{[], ◌∷◌, subst}
-use Rattle.icu_collator_core.proofs.readings.FlatNoteLemmas.{noted_by}
 use Rattle.icu_collator_core.specs.FlatNotes.{IsFlatNote}
 use Rattle.icu_collator_core.specs.declared.flat.notes.FlatNote.{FlatNote}
 use Rattle.icu_collator_core.proofs.flat.notes.FlatNote.push.Goals as goal
