@@ -8,5 +8,5 @@ returns c = λ told.
     let said = c.checked_word-word.ensures None in
     record {
       unprefixed = c.is_unprefixed.ensures c.if-not-is_unprefixed.false (weights_by None c.args.checked.now) c.args.c said;
-      uncounted = said.digit ∙ sym c.digit.ensures ∙ none_told c.digit.result told;
+      uncounted = said.digit ∙ sym c.digit.ensures ∙ none_told c.digit.result (sym c.is_none.ensures ∙ told);
     }
