@@ -168,12 +168,25 @@ impl Index {
         ensures none { IfOk result (λ found. found.names.start ≡ found.names.end → found.names.end ≡ 0) }
         ensures few { IfOk result (λ found. (digits : ℕ) → length (sorted_names self.now) < 2 ^ digits → found.comparisons ≤ 2 * digits) }
     {
+        if let Some(key) = self.names.key_of(name) {
+            return Ok(self.found_by(name, key));
+        }
         let key = self.key_of(name)?;
+        Ok(self.found_by(name, &key))
+    }
+
+    /// What a search by the key of a name finds.
+    fn found_by(&self, name: &[u8], key: &IndexKey) -> Found
+        requires { IsKeyOf (meaning_in self.now) name.now key.now }
+        ensures bound { (result.names.start ≤ result.names.end) × (result.names.end ≤ length (sorted_names self.now)) }
+        ensures names { slice_range (sorted_names self.now) result.names.start result.names.end ≡ equal_names (order_of self.now) name.now (sorted_names self.now) }
+        ensures none { result.names.start ≡ result.names.end → result.names.end ≡ 0 }
+        ensures few { (digits : ℕ) → length (sorted_names self.now) < 2 ^ digits → result.comparisons ≤ 2 * digits }
+    {
         let mut comparisons = 0;
-        let start = self.names.place(&key, false, &mut comparisons);
-        let end = self.names.place(&key, true, &mut comparisons);
+        let (start, end) = self.names.places(key, &mut comparisons);
         let names = range_between(start, end);
-        Ok(Found { names, comparisons })
+        Found { names, comparisons }
     }
 
     /// The places of the names that are neither below the first of two names nor above the last, `0..0` if there are none,

@@ -18,8 +18,8 @@ use Rattle.collate_name_list.specs.Slots.{AreFronted, places_of, entry_of, entry
 use Rattle.collate_name_list.specs.declared.slots.Stored.{Stored}
 use Rattle.collate_name_list.specs.declared.name_list.NameList.TheInside.{Inside}
 use Rattle.collate_name_list.proofs.SlotLemmas.{IsSlot, full_below}
-use Rattle.collate_name_list.proofs.EntryLemmas.{distinct_from_own, own_push, own_emptied, name_there}
-use Rattle.collate_name_list.proofs.PlacesLemmas.{key_total, names_listed, length_slots, slots_push, slots_remove, all_slots, all_full, name_listed}
+use Rattle.collate_name_list.proofs.EntryLemmas.{distinct_from_own, own_push, own_emptied, name_there, entry_there}
+use Rattle.collate_name_list.proofs.PlacesLemmas.{key_total, names_listed, length_slots, slots_push, slots_remove, all_slots, all_full, name_listed, entry_read}
 use Rattle.collate_name_list.proofs.FrontedLemmas.{places-insert, places-remove, push_fronts, remove_fronts}
 
 -- with no names
@@ -128,3 +128,11 @@ module _ (s : Inside) (kept : IsKept s) (now : List StoredName) (is : names_insi
 
   pub name_sorted : (place : ℕ) → slice_get (names_of (sorted now)) place ≡ option_map (λ (e : StoredName). e.name) (option_map (entry_at s.slots.items) (slice_get (places_of s.by_key) place))
   name_sorted place = sym (ap (λ ns. slice_get (names_of (sorted ns)) place) is) ∙ name_listed s.slots.items (places_of s.by_key) place kept.by_key
+
+  -- a name that is read in a slot is there with its key
+  pub stored_kept : (slots : List (Option Stored)) → slots ≡ s.slots.items → (m : ℕ) (stored : Stored) (name : List ℕ) → get_or slots m None ≡ Some stored → IsFull slots m → (entry_at slots m).name ≡ name → Contains now (record { key = stored.key; name = name })
+  stored_kept slots e m stored name read full named =
+      let held : entry_at slots m ≡ entry_of stored = entry_read slots m stored read in
+      let own : stored.bytes.items ≡ name = sym (ap (λ (x : StoredName). x.name) held) ∙ named in
+      let is' : entry_at slots m ≡ record { key = stored.key; name = name } = held ∙ ap (λ (n : List ℕ). record { key = stored.key; name = n }) own in
+      subst (Contains now) is' (subst (λ (ns : List StoredName). Contains ns (entry_at slots m)) (ap entries e ∙ is) (entry_there slots m full))

@@ -3,6 +3,7 @@ pub mod KeptLemmas
 pub mod ListLemmas
 pub mod PlacesLemmas
 pub mod RoomLemmas
+pub mod SearchedLemmas
 pub mod SlotLemmas
 pub mod FrontedLemmas
 pub mod HashLemmas

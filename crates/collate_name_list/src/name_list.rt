@@ -1,6 +1,6 @@
 //! Names with their keys, no name twice: in order of their keys, those of one key as they arrived.
 
-ghost use Rattle.std.specs.Prelude.{◌≡◌, ℕ, ◌+◌, ◌^◌, ◌<◌, ◌≤◌, ◌↔◌, ◌==◌, List, [], ◌∷◌, ◌++◌, false, true, length, Err, OnOk, OnErr, IsTrue, slice_get};
+ghost use Rattle.std.specs.Prelude.{◌≡◌, ℕ, ◌+◌, ◌*◌, ◌^◌, ◌<◌, ◌≤◌, ◌↔◌, ◌==◌, List, [], ◌∷◌, ◌++◌, false, true, length, Err, IfSome, OnOk, OnErr, IsTrue, slice_get};
 ghost use Rattle.std.specs.Cmp.Lexicographic.{slice_cmp};
 ghost use Rattle.std.specs.List.{Contains};
 ghost use Rattle.std.specs.Option.{option_copied};
@@ -11,7 +11,7 @@ ghost use Rattle.collate_name_list.specs.StoredNames.{AreDistinct, names_of, sor
 use crate::arrived::Arrived;
 use crate::errors::AddError;
 use crate::room::{drop_empty, numbers_of};
-use crate::slots::{Stored, place_of_key, place_of_slot, slot_of_name, stored_in};
+use crate::slots::{Stored, place_of_key, place_of_slot, places_of_key, slot_of_name, stored_in};
 use collate_hashes::HashList;
 use collate_hashes::hashing::hash_of;
 use collate_keys::IndexKey;
@@ -135,6 +135,29 @@ impl NameList {
         ensures few { (digits : ℕ) → length (sorted self.now) < 2 ^ digits → count.new ≤ count.old + digits }
     {
         place_of_key(self.slots.as_slice(), &self.by_key, key, past_equal, count)
+    }
+
+    /// The places of the names with a key: that of the first name whose key isn't below it, and that of the first whose key is
+    /// above it. The count goes up by one for each comparison of keys: by at most twice as many as the number of names has
+    /// binary digits.
+    pub fn places(&self, key: &IndexKey, count: &mut usize) -> (usize, usize)
+        ensures first_bound { result.0 ≤ length (sorted self.now) }
+        ensures first { IsPlaceOf (λ e. slice_cmp nat_cmp e.key key.now) false (sorted self.now) result.0 }
+        ensures last_bound { result.1 ≤ length (sorted self.now) }
+        ensures last { IsPlaceOf (λ e. slice_cmp nat_cmp e.key key.now) true (sorted self.now) result.1 }
+        ensures few { (digits : ℕ) → length (sorted self.now) < 2 ^ digits → count.new ≤ count.old + 2 * digits }
+    {
+        places_of_key(self.slots.as_slice(), &self.by_key, key, count)
+    }
+
+    /// The key of a name that is there, byte for byte. It asks for no memory.
+    pub fn key_of(&self, name: &[u8]) -> Option<&IndexKey>
+        ensures { IfSome result (λ key. Contains self.now (record { key = key.now; name = name.now })) }
+    {
+        let slots = self.slots.as_slice();
+        let slot = slot_of_name(slots, &self.hashes, hash_of(name), name)?;
+        let stored = stored_in(slots, slot)?;
+        Some(&stored.key)
     }
 
     /// The name at a place, counted from 0; `None` past the last.

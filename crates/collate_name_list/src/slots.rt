@@ -1,16 +1,18 @@
 //! The slots of a list of names, and binary search among the full ones.
 
-ghost use Rattle.std.specs.Prelude.{◌≡◌, ℕ, ◌+◌, ◌-◌, ◌^◌, ◌<◌, ◌≤◌, ◌↔◌, length, Some, None, IfSome, IfNone, IsTrue, slice_get, slice_index_or};
+ghost use Rattle.std.specs.Prelude.{◌≡◌, ℕ, Bool, false, true, ◌+◌, ◌-◌, ◌*◌, ◌^◌, ◌<◌, ◌≤◌, ◌↔◌, length, Some, None, IfSome, IfNone, IsTrue, if◌then◌else◌, slice_get, slice_index_or};
 ghost use Rattle.std.specs.Cmp.Lexicographic.{slice_cmp};
 ghost use Rattle.std.specs.List.{All, Contains};
 ghost use Rattle.std.specs.List.Sorted.{IsPartitionedBy};
 ghost use Rattle.std.specs.Option.{option_copied};
 ghost use Rattle.std.specs.Ordering.{nat_cmp};
+ghost use Rattle.collate_names.specs.Names.{is_greater};
 ghost use Rattle.collate_names.specs.Search.{IsPlaceOf, stands_before};
 ghost use Rattle.collate_hashes.specs.Hashes.{hash_of};
 ghost use Rattle.collate_name_list.specs.StoredNames.{names_of};
 ghost use Rattle.collate_places.specs.Fronts.{IsFrontOf};
 ghost use Rattle.collate_places.specs.Windows.{shows};
+ghost use Rattle.collate_name_list.specs.Searched.{AreAbove, IsBetween};
 ghost use Rattle.collate_name_list.specs.Slots.{AreFronted, IsFull, compared, entries, entry_at, hashes_in, places_of, slots_by_key, sought_key};
 
 use collate_hashes::HashList;
@@ -161,40 +163,58 @@ fn stands_before(ordering: Ordering, past_equal: bool) -> bool
     }
 }
 
-/// The first place of a slot that isn't below what is looked for, or, past equal ones, of one above it.
+/// From where on all are above what is looked for: from this place on, if what stands there is.
+fn above_by(ordering: Ordering, middle: usize, above: usize) -> usize
+    ensures { result ≡ (if is_greater ordering then middle else above) }
+{
+    match ordering {
+        Ordering::Greater => middle,
+        Ordering::Less | Ordering::Equal => above,
+    }
+}
+
+/// The first place of a slot that isn't below what is looked for, or, past equal ones, of one above it; and a place from which
+/// on all are above it. It is looked for between two places.
 fn place_of(
     slots: &[Option<Stored>],
     places: &PlaceList,
     sought: &Sought<'_>,
     past_equal: bool,
+    from: usize,
+    to: usize,
     count: &mut usize,
-) -> usize
+) -> (usize, usize)
     requires full { All (IsFull slots.now) (places_of places.now) }
     requires fronts { AreFronted slots.now places.now }
-    requires parted { IsPartitionedBy (λ slot. stands_before past_equal (compared slots.now sought.now slot)) (places_of places.now) }
-    ensures bound { result ≤ length (places_of places.now) }
-    ensures place { IsPlaceOf (compared slots.now sought.now) past_equal (places_of places.now) result }
+    requires parted { (past : Bool) → IsPartitionedBy (λ slot. stands_before past (compared slots.now sought.now slot)) (places_of places.now) }
+    requires between { IsBetween (compared slots.now sought.now) past_equal (places_of places.now) from to }
+    ensures bound { result.0 ≤ result.1 }
+    ensures place { IsPlaceOf (compared slots.now sought.now) past_equal (places_of places.now) result.0 }
+    ensures above { AreAbove (compared slots.now sought.now) (places_of places.now) result.1 }
     ensures grown { count.old ≤ count.new }
     ensures few { (digits : ℕ) → length (places_of places.now) < 2 ^ digits → count.new ≤ count.old + digits }
 {
     let front = front_sought(sought);
     let (mut first, mut last) = (0, usize::MAX);
-    let mut window = places.around(0, first, last);
-    let mut low = 0;
-    let mut high = places.len();
+    let mut window = places.around(from, first, last);
+    let mut above = places.len();
+    let mut low = from;
+    let mut high = to;
     while low < high {
         let middle = low + (high - low) / 2;
         window = window_around(places, window, middle, first, last);
         let placed = placed_in(window.places, window.start, middle);
-        if stands_before(compare(slots, placed, sought, front, count), past_equal) {
+        let ordering = compare(slots, placed, sought, front, count);
+        if stands_before(ordering, past_equal) {
             low = middle + 1;
             first = window.part;
         } else {
             high = middle;
             last = window.part;
+            above = above_by(ordering, middle, above);
         }
     }
-    low
+    (low, above)
 }
 
 /// The first place in the order of keys of a slot whose key isn't below a key, or, past equal ones, is above it.
@@ -212,7 +232,30 @@ pub fn place_of_key(
     ensures grown { count.old ≤ count.new }
     ensures few { (digits : ℕ) → length (places_of by_key.now) < 2 ^ digits → count.new ≤ count.old + digits }
 {
-    place_of(slots, by_key, &Sought::Key(key), past_equal, count)
+    let to = by_key.len();
+    place_of(slots, by_key, &Sought::Key(key), past_equal, 0, to, count).0
+}
+
+/// The first place in the order of keys of a slot whose key isn't below a key, and the first of one whose key is above it.
+pub fn places_of_key(
+    slots: &[Option<Stored>],
+    by_key: &PlaceList,
+    key: &IndexKey,
+    count: &mut usize,
+) -> (usize, usize)
+    requires order { places_of by_key.now ≡ slots_by_key slots.now }
+    requires fronts { AreFronted slots.now by_key.now }
+    ensures first_bound { result.0 ≤ length (places_of by_key.now) }
+    ensures first { IsPlaceOf (λ slot. slice_cmp nat_cmp (entry_at slots.now slot).key key.now) false (places_of by_key.now) result.0 }
+    ensures last_bound { result.1 ≤ length (places_of by_key.now) }
+    ensures last { IsPlaceOf (λ slot. slice_cmp nat_cmp (entry_at slots.now slot).key key.now) true (places_of by_key.now) result.1 }
+    ensures few { (digits : ℕ) → length (places_of by_key.now) < 2 ^ digits → count.new ≤ count.old + 2 * digits }
+{
+    let sought = Sought::Key(key);
+    let to = by_key.len();
+    let (first, above) = place_of(slots, by_key, &sought, false, 0, to, count);
+    let (last, _) = place_of(slots, by_key, &sought, true, first, above, count);
+    (first, last)
 }
 
 /// The place of a full slot in the order of keys.
@@ -223,10 +266,11 @@ pub fn place_of_slot(slots: &[Option<Stored>], by_key: &PlaceList, slot: usize) 
     ensures { slice_get (places_of by_key.now) result ≡ Some slot }
 {
     let mut count = 0;
+    let to = by_key.len();
     match stored_in(slots, slot) {
         Some(stored) => {
             let sought = Sought::Slot(&stored.key, slot);
-            place_of(slots, by_key, &sought, false, &mut count)
+            place_of(slots, by_key, &sought, false, 0, to, &mut count).0
         }
         None => unreachable!(),
     }

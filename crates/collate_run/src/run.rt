@@ -1,6 +1,6 @@
 //! A run: the commands of a reader, each answered to a writer.
 
-ghost use Rattle.std.specs.Prelude.{◌≡◌, ◌+◌, ◌≤◌, ◌↔◌, ◌++◌, ℕ, List, length, flat_map, false, true, Ok, Err, IfErr, IfSome, is_err, ◌||◌};
+ghost use Rattle.std.specs.Prelude.{◌≡◌, ◌+◌, ◌≤◌, ◌↔◌, [], ◌++◌, ℕ, List, length, flat_map, false, true, Ok, Err, IfErr, IfSome, is_err, ◌||◌};
 ghost use Rattle.std.specs.Io.KnownBytes.{Consumes};
 ghost use Rattle.collate_index.specs.Catalogue.{opened};
 ghost use Rattle.collate_run.specs.Reading.{GivesByte, ReadsLine, ReadsRequest, is_read_fault};
@@ -22,6 +22,9 @@ use thiserror::Error;
 
 /// The most bytes that a line may have, its LF not counted.
 const LINE_LIMIT: usize = 65_536;
+
+/// How many bytes a line is given memory for at first: most lines have no more.
+const USUAL_LINE: usize = 64;
 
 /// The most bytes that a run reads.
 const INPUT_LIMIT: u64 = 4_294_967_295;
@@ -81,6 +84,15 @@ fn read_byte<R: Read>(reader: &mut Watched<R>) -> Result<Option<u8>, RunFault>
     }
 }
 
+/// No bytes, with memory for a usual line if that is granted.
+fn begin_line(alloc: Global) -> Vec<u8>
+    ensures { result.items ≡ [] }
+{
+    let mut bytes = Vec::new(alloc);
+    let _ = bytes.reserve(USUAL_LINE);
+    bytes
+}
+
 /// Reads the next line; `None` at the end of the input. `count` is how many bytes have been read.
 fn next_line<R: Read>(
     alloc: Global,
@@ -93,7 +105,7 @@ fn next_line<R: Read>(
         × ReadsLine result (R.remaining (watched_inner reader.new)) count.old count.new bytes }
     ensures failed { watched_failed reader.new ≡ watched_failed reader.old || is_read_fault result }
 {
-    let mut bytes = Vec::new(alloc);
+    let mut bytes = begin_line(alloc);
     'bytes: loop {
         let byte = match read_byte(reader) {
             Ok(Some(byte)) => byte,

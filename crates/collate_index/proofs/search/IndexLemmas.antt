@@ -1,7 +1,7 @@
 -- what an index keeps: names with their keys, which stand in order as their keys do
 use Rattle.std.proofs.Common.{◌≡◌, ℕ, ◌≤◌, List, [], ◌∷◌, ◌++◌, length, get_or, refl, sym, ap, ◌∙◌, subst, Bool, true, false, cond, not}
 use Rattle.std.specs.Prelude.{Result, Ok, Err, OnOk, OnErr, bytes_eq, filter}
-use Rattle.std.specs.List.{All}
+use Rattle.std.specs.List.{All, Contains}
 use Rattle.std.specs.Cmp.{IsTotalOrder}
 use Rattle.std.specs.Cmp.Lexicographic.{slice_cmp}
 use Rattle.std.specs.Ordering.{nat_cmp}
@@ -76,6 +76,12 @@ module _ (s : Inside) (kept : IsKept s) (now : Catalogue) (is : catalogue_of s �
       subst (λ (c : Catalogue). IsPlaceOf (λ other. order_of c other name) past (sorted_names c) at) is
       (place_by_names (meaning_in (catalogue_of s)) kept.accepted s.names kept.keyed name key
       (subst (λ (c : Catalogue). IsKeyOf (meaning_in c) name key) (sym is) of) past at within place)
+
+  -- the key that a name is stored with is its key
+  pub key_there : (name key : List ℕ) → Contains s.names (record { key = key; name = name }) → IsKeyOf (meaning_in now) name key
+  key_there name key h =
+      subst (λ (c : Catalogue). IsKeyOf (meaning_in c) name key) is
+      (subst (IsKeyed (meaning_in (catalogue_of s))) h.2 (kept.keyed h.0 (record { key = key; name = name }) h.1))
 
 -- other names, each with its key
 pub kept_names : (s : Inside) → IsKept s → (names : List StoredName) → All (IsKeyed (meaning_in (catalogue_of s))) names → IsKept (record s { names = names })
