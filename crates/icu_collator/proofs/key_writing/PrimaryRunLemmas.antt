@@ -1,12 +1,18 @@
 -- The run after a primary, by the lead that it had before reordering, over checked tables.
-use Rattle.std.proofs.Common.{◌≡◌, ℕ, ◌<◌, ◌/◌, ◌^◌, Bool, true, false, cond, Option, Some, None, sym, ◌∙◌, ap}
+use Rattle.std.proofs.Common.{◌≡◌, ℕ, ◌<◌, ◌/◌, ◌^◌, ◌++◌, Bool, List, true, false, cond, Option, Some, None, arith, refl, sym, ◌∙◌, ap}
 use Rattle.icu_normalizer_core.specs.Canonical.{Canonical}
-use Rattle.icu_collator_core.specs.Acceptance.{IsAccepted}
+use Rattle.icu_normalizer_core.specs.CanonicalMeaning.{meaning}
+use Rattle.icu_collator_core.specs.Acceptance.{CollationSource, IsAccepted}
 use Rattle.icu_collator_core.specs.TableMeaning.{collation_of}
 use Rattle.icu_collator_core.specs.TableSettings.{is_compressible_in, reordered_in}
 use Rattle.icu_collator_core.specs.declared.tables.CollationTables.{CollationTables}
-use Rattle.icu_collator.specs.KeyBytes.{primary_run, was_compressible}
-use Rattle.icu_collator.specs.KeyCodes.{IsRun}
+use Rattle.icu_collator_core.specs.WeightRules.{primary_bytes}
+use Rattle.icu_collator_core.specs.declared.tables.reordering.CollationReordering.{CollationReordering}
+use Rattle.icu_collator.specs.AskedLeads.{IsWrittenWhole}
+use Rattle.icu_collator.specs.Collators.{source_collation}
+use Rattle.icu_collator.specs.KeyBytes.{primary_code, primary_run, was_compressible}
+use Rattle.icu_collator.specs.KeyCodes.{AddsPrimary, IsRun}
+use Rattle.icu_collator.proofs.key_writing.GivenLevelLemmas.{adds_primary}
 use Rattle.icu_collator.proofs.keys.CompressedLemmas.{accepted_alike, lead_before, run_goes_on}
 
 module _ (canonical : Canonical) (tables : CollationTables) (accepted : IsAccepted canonical tables)
@@ -36,3 +42,18 @@ module _ (canonical : Canonical) (tables : CollationTables) (accepted : IsAccept
     pub run_ended : (run : Option ℕ) → is_compressible_in tables.special_primaries.last_primaries (primary / 2 ^ 24) ≡ false
         → None ≡ primary_run starts_run run in_place
     run_ended run is_none = sym (ap (λ (b : Bool). cond b (Some (in_place / 2 ^ 24)) None) (was_asked ∙ is_none))
+
+-- a primary with a lead that is written whole is written behind no run, and begins none
+pub adds_plain :
+    (source : CollationSource) (p plain : ℕ) (before after : List ℕ) → IsAccepted (meaning source.canonical) source.tables
+    → plain ≡ p / 2 ^ 24 → plain < 256 → IsWrittenWhole source plain → after ≡ before ++ primary_bytes p
+    → AddsPrimary (was_compressible (source_collation source)) (Some ((source_collation source).reordered p)) None before None after
+unfolding primary_code
+adds_plain source p plain before after accepted led low is written =
+    let collation = source_collation source in
+    let small : p < 2 ^ 32 = omega (arith, led, low) in
+    let ends : is_compressible_in source.tables.special_primaries.last_primaries (p / 2 ^ 24) ≡ false =
+    ap (is_compressible_in source.tables.special_primaries.last_primaries) (sym led) ∙ is.0 in
+    let moved : p ≡ reordered_in source.tables.reordering p = sym (ap (λ (r : Option CollationReordering). reordered_in r p) is.1) in
+    adds_primary (was_compressible collation) (Some (collation.reordered p)) p None None before after (ap Some (sym moved)) written
+    (run_ended (meaning source.canonical) source.tables accepted p p (p / 2 ^ 24) small moved refl None ends) tt

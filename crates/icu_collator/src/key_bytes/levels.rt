@@ -1,6 +1,6 @@
 //! The levels of a key behind the primary one, each with the bytes that separate and end it.
 
-ghost use Rattle.std.specs.Prelude.{◌≡◌, ◌<◌, ◌≤◌, ◌+◌, ◌^◌, [], ◌∷◌, ◌++◌, List, filter_map, map, true, All, OnOk};
+ghost use Rattle.std.specs.Prelude.{◌≡◌, ◌<◌, ◌≤◌, ◌+◌, ◌^◌, [], ◌∷◌, ◌++◌, List, false, filter_map, map, true, All, OnOk};
 ghost use Rattle.std.specs.List.{list_all};
 ghost use Rattle.icu_collator_types.specs.Options.{is_shifted, is_upper_first};
 ghost use Rattle.icu_collator.specs.KeyBytes.{case_halves, character_level, paired_halves, quaternary_level, secondary_code, tertiary_code_of, with_runs};
@@ -15,7 +15,11 @@ use super::characters::write_characters;
 use super::quaternaries::write_quaternaries;
 use super::run_level::RunLevel;
 use super::runs::{write_given_runs, write_runs};
-use crate::levels::weights::{has_case_bits, plain_tertiary_at, secondary_rank_at, tertiary_at};
+use crate::levels::counted::CountedElement;
+use crate::levels::weights::{
+    has_case_bits, has_common_secondary, has_common_tertiary, plain_tertiary_at, secondary_rank_at,
+    tertiary_at,
+};
 use icu_collator_types::elements::CollationElement;
 use icu_collator_types::options::{
     AlternateHandling, CaseLevel, CollationCaseFirst, ResolvedCollatorOptions,
@@ -54,6 +58,7 @@ fn write_forward_by(
         elements,
         variable_end,
         secondary_rank_at,
+        has_common_secondary,
         key,
     )?;
     key.push(LEVEL_SEPARATOR)?;
@@ -131,6 +136,14 @@ fn tertiary_level(options: &ResolvedCollatorOptions) -> RunLevel
     }
 }
 
+/// Tells no element's weight by a look: with its case none is common to most.
+#[inline(always)]
+fn tells_none(_element: CountedElement) -> bool
+    ensures { result ≡ false }
+{
+    false
+}
+
 /// Appends the weights of the tertiary level. Fails only when out of memory.
 #[inline(always)]
 fn write_tertiaries(
@@ -149,6 +162,7 @@ fn write_tertiaries(
             elements,
             variable_end,
             |element| tertiary_at(options, element),
+            tells_none,
             key,
         )?;
         return Ok(());
@@ -158,6 +172,7 @@ fn write_tertiaries(
         elements,
         variable_end,
         plain_tertiary_at,
+        has_common_tertiary,
         key,
     )?;
     Ok(())

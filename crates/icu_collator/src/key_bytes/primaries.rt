@@ -1,7 +1,8 @@
 //! The primary level of a key.
 
-ghost use Rattle.std.specs.Prelude.{◌≡◌, ◌<◌, ◌≤◌, ◌/◌, ◌^◌, ◌++◌, false, length, true, None, IfOk, OnOk, option_map};
+ghost use Rattle.std.specs.Prelude.{◌≡◌, ◌<◌, ◌≤◌, ◌/◌, ◌^◌, ◌∷◌, ◌++◌, [], bit_and, false, length, true, None, Some, IfOk, OnOk, option_map};
 ghost use Rattle.icu_collator_core.specs.TableSettings.{is_compressible_in};
+ghost use Rattle.icu_collator_core.specs.WeightRules.{primary_bytes, primary_rest};
 ghost use Rattle.icu_collator.specs.Collators.{source_collation};
 ghost use Rattle.icu_collator.specs.KeyBytes.{primary_code, primary_level, primary_run, run_end, was_compressible};
 ghost use Rattle.icu_collator.specs.AskedLeads.{IsAnswered, IsPlainLead, IsWrittenWhole};
@@ -182,6 +183,56 @@ fn has_lead(primary: u32, plain: u16) -> bool
     u32::from(plain) == primary >> 24
 }
 
+/// Whether a primary has two bytes, the first of them a plain lead.
+#[inline(always)]
+fn is_short(primary: u32, plain: u16) -> bool
+    ensures lead { result ≡ true → plain ≡ primary / 2 ^ 24 }
+    ensures low { result ≡ true → plain < 256 }
+    ensures rest { result ≡ true → primary_rest primary ≡ bit_and (primary / 2 ^ 16) 0xff ∷ [] }
+{
+    if primary & 0xffff != 0 {
+        return false;
+    }
+    let first = u32::from(plain) * 256 + 1;
+    (primary >> 16).wrapping_sub(first) < 255
+}
+
+/// Appends a primary with a plain lead that has two bytes, where there is room for both without memory; else nothing.
+#[inline(always)]
+fn put_short(primary: u32, plain: u16, key: &mut KeyBytes) -> bool
+    ensures lead { result ≡ true → plain ≡ primary / 2 ^ 24 }
+    ensures low { result ≡ true → plain < 256 }
+    ensures put { result ≡ true → key.new.items ≡ key.old.items ++ primary_bytes primary }
+    ensures none { result ≡ false → key.new.items ≡ key.old.items }
+{
+    if !is_short(primary, plain) {
+        return false;
+    }
+    key.put_two(plain as u8, ((primary >> 16) & 0xff) as u8)
+}
+
+/// Appends a primary behind no run, if it has a plain lead: then no run is behind it. `false` for another, and then nothing.
+/// Fails only when out of memory.
+#[inline(never)]
+fn write_plain_long(
+    checked: &CheckedTables<'_>,
+    plain: u16,
+    primary: u32,
+    key: &mut KeyBytes,
+) -> Result<bool, AllocError>
+    requires { plain < 256 → IsWrittenWhole checked.now plain }
+    ensures adds { IfOk result (λ goes_on. goes_on ≡ true
+        → AddsPrimary (was_compressible (source_collation checked.now)) (Some ((source_collation checked.now).reordered primary)) None key.old.items None key.new.items) }
+    ensures stays { IfOk result (λ goes_on. goes_on ≡ false → key.new.items ≡ key.old.items) }
+{
+    checked.keep_promise();
+    if !has_lead(primary, plain) {
+        return Ok(false);
+    }
+    write_primary_bytes(primary, key)?;
+    Ok(true)
+}
+
 /// Appends what an element gives behind no run, if it gives nothing or a primary with a plain lead: then no run is behind it.
 /// `false` for another, and then nothing. Fails only when out of memory.
 #[inline(always)]
@@ -200,11 +251,11 @@ fn write_plain(
         return Ok(true);
     };
     checked.keep_promise();
-    if !has_lead(primary, plain) {
-        return Ok(false);
+    if put_short(primary, plain, key) {
+        return Ok(true);
     }
-    write_primary_bytes(primary, key)?;
-    Ok(true)
+    let goes_on = write_plain_long(checked, plain, primary, key)?;
+    Ok(goes_on)
 }
 
 /// Appends what the elements from a place on give behind no run, up to the first with a primary that has another than a plain
@@ -255,6 +306,15 @@ fn write_plain_front(
     }
 }
 
+/// The lead byte of the first element.
+#[inline(always)]
+fn first_lead(elements: &[CollationElement]) -> u8 {
+    match elements.first() {
+        Some(element) => lead_of(element.primary()),
+        None => 0,
+    }
+}
+
 /// Appends the primary level. Fails only when out of memory.
 #[inline(always)]
 pub(super) fn write_primaries(
@@ -267,7 +327,7 @@ pub(super) fn write_primaries(
         ++ primary_level (source_collation checked.now) (primaries_by (source_collation checked.now) (counted_list variable_end elements.now))) }
 {
     let mut run: Option<u8> = None;
-    let mut asked = asked_lead(checked, 0);
+    let mut asked = asked_lead(checked, first_lead(elements));
     let mut place = 0;
     'elements: while place < elements.len() {
         let behind = write_plain_front(

@@ -1,6 +1,6 @@
 //! Levels whose runs of the common weight are written short, in one pass.
 
-ghost use Rattle.std.specs.Prelude.{◌≡◌, ◌<◌, ◌≤◌, ◌+◌, ◌-◌, ◌%◌, ◌^◌, ◌/◌, ◌∷◌, ◌++◌, [], ℕ, Option, false, true, cond, filter_map, replicate, All, IfOk, IfSome, OnOk};
+ghost use Rattle.std.specs.Prelude.{◌≡◌, ◌<◌, ◌≤◌, ◌+◌, ◌-◌, ◌%◌, ◌^◌, ◌/◌, ◌∷◌, ◌++◌, [], ℕ, Option, Some, false, true, cond, filter_map, replicate, All, IfOk, IfSome, OnOk};
 ghost use Rattle.std.specs.List.{list_all};
 ghost use Rattle.icu_collator.specs.KeyBytes.{run_bytes, with_runs};
 ghost use Rattle.icu_collator.specs.KeyCodes.{AddsGiven, AddsWeight, code_of, rank_limit};
@@ -114,25 +114,36 @@ fn write_given(
     Ok(now)
 }
 
-/// Appends a level of the weights that elements give, by their ranks. Fails only when out of memory.
+/// Appends a level of the weights that elements give, by their ranks; a test tells the common weight by a look, or doesn't.
+/// Fails only when out of memory.
 #[inline(always)]
-pub(super) fn write_given_runs<F: Fn(CountedElement) -> Option<u32>>(
+pub(super) fn write_given_runs<
+    F: Fn(CountedElement) -> Option<u32>,
+    G: Fn(CountedElement) -> bool,
+>(
     level: RunLevel,
     elements: &[CollationElement],
     variable_end: u32,
     given: F,
+    is_common: G,
     key: &mut KeyBytes,
 ) -> Result<(), AllocError>
     requires callable { F.IsAlwaysCallable given }
+    requires tested { G.IsAlwaysCallable is_common }
     requires cases { list_all has_sound_case (counted_list variable_end elements.now) ≡ true }
     requires small { (e : CountedElement) (w : Option ℕ) → F.post given e w → has_sound_case (counted_of e) ≡ true
         → IfSome w (λ rank. rank < rank_limit level) }
     ensures { OnOk result ((at : Counted → Option ℕ) → ((e : CountedElement) (w : Option ℕ) → F.post given e w → w ≡ at (counted_of e))
+        → ((e : CountedElement) → G.post is_common e true → at (counted_of e) ≡ Some (code_of level).common)
         → key.new.items ≡ key.old.items ++ with_runs (code_of level) (filter_map at (counted_list variable_end elements.now))) }
 {
     let common = level.common();
     let mut pending = 0;
     for element in elements {
+        if is_common(counted_element(*element, variable_end)) {
+            pending += 1;
+            continue;
+        }
         let rank = given(counted_element(*element, variable_end));
         pending = write_given(level, common, rank, pending, key)?;
     }

@@ -38,6 +38,23 @@ fn add_primaries(
     Ok(())
 }
 
+/// Appends the secondary level of tables that count secondaries from the end. Fails only when out of memory.
+#[inline(never)]
+fn add_backward_secondaries(
+    checked: &CheckedTables<'_>,
+    elements: &[CollationElement],
+    variable_end: u32,
+    key: &mut KeyBytes,
+) -> Result<(), AllocError>
+    requires { list_all has_sound_case (counted_list variable_end elements.now) ≡ true }
+    ensures { OnOk result (key.new.items ≡ key.old.items
+        ++ 0x01 ∷ (with_runs secondary_code (secondaries_of (source_collation checked.now) (counted_list variable_end elements.now)) ++ 0x01 ∷ [])) }
+{
+    let ranks = secondaries(key.allocator(), checked, elements, variable_end)?;
+    write_secondary_level(&ranks, key)?;
+    Ok(())
+}
+
 /// Appends the secondary level, where it is in force. Fails only when out of memory.
 #[inline(always)]
 fn add_secondaries(
@@ -55,11 +72,27 @@ fn add_secondaries(
         return Ok(());
     }
     if checked.tables().metadata.backward_second_level() {
-        let ranks = secondaries(key.allocator(), checked, elements, variable_end)?;
-        write_secondary_level(&ranks, key)?;
+        add_backward_secondaries(checked, elements, variable_end, key)?;
         return Ok(());
     }
     write_forward_level(elements, variable_end, key)?;
+    Ok(())
+}
+
+/// Appends the case level. Fails only when out of memory.
+#[inline(never)]
+fn add_listed_cases(
+    options: &ResolvedCollatorOptions,
+    elements: &[CollationElement],
+    variable_end: u32,
+    key: &mut KeyBytes,
+) -> Result<(), AllocError>
+    requires { list_all has_sound_case (counted_list variable_end elements.now) ≡ true }
+    ensures { OnOk result (key.new.items ≡ key.old.items
+        ++ 0x01 ∷ paired_halves (case_halves options.now (cases_by options.now (counted_list variable_end elements.now)))) }
+{
+    let list = cases(key.allocator(), options, elements, variable_end)?;
+    write_case_level(options, &list, key)?;
     Ok(())
 }
 
@@ -78,8 +111,7 @@ fn add_cases(
     match options.case_level {
         CaseLevel::Off => Ok(()),
         CaseLevel::On => {
-            let list = cases(key.allocator(), options, elements, variable_end)?;
-            write_case_level(options, &list, key)?;
+            add_listed_cases(options, elements, variable_end, key)?;
             Ok(())
         }
     }
@@ -104,6 +136,23 @@ fn add_tertiaries(
     Ok(())
 }
 
+/// Appends the quaternary level. Fails only when out of memory.
+#[inline(never)]
+fn add_listed_quaternaries(
+    checked: &CheckedTables<'_>,
+    options: &ResolvedCollatorOptions,
+    elements: &[CollationElement],
+    variable_end: u32,
+    key: &mut KeyBytes,
+) -> Result<(), AllocError>
+    ensures { OnOk result (key.new.items ≡ key.old.items
+        ++ 0x01 ∷ (quaternary_level options.now (filter_map (quaternary_at (source_collation checked.now)) (counted_list variable_end elements.now)) ++ 0x01 ∷ [])) }
+{
+    let ranks = quaternaries(key.allocator(), checked, elements, variable_end)?;
+    write_quaternary_level(options, &ranks, key)?;
+    Ok(())
+}
+
 /// Appends the quaternary level, where it is in force. Fails only when out of memory.
 #[inline(always)]
 fn add_quaternaries(
@@ -119,8 +168,7 @@ fn add_quaternaries(
     if !options.strength.is_at_least(Strength::Quaternary) {
         return Ok(());
     }
-    let ranks = quaternaries(key.allocator(), checked, elements, variable_end)?;
-    write_quaternary_level(options, &ranks, key)?;
+    add_listed_quaternaries(checked, options, elements, variable_end, key)?;
     Ok(())
 }
 

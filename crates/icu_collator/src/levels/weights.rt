@@ -1,6 +1,6 @@
 //! What an element gives at each level.
 
-ghost use Rattle.std.specs.Prelude.{◌≡◌, ◌<◌, ◌+◌, ◌^◌, IfSome, false, ltb, option_map, true};
+ghost use Rattle.std.specs.Prelude.{◌≡◌, ◌<◌, ◌+◌, ◌^◌, IfSome, Some, false, ltb, option_map, true};
 ghost use Rattle.icu_collator_types.specs.Options.{has_case_bits};
 ghost use Rattle.icu_collator_types.specs.declared.options.ResolvedCollatorOptions.{ResolvedCollatorOptions};
 ghost use Rattle.icu_collator_core.specs.Pools.{element_of};
@@ -14,7 +14,7 @@ ghost use Rattle.icu_collator.specs.Order.{quaternary_rank, secondary_rank};
 use super::counted::{CountedElement, SEGMENT_END_PRIMARY};
 use icu_collator_core::checked::CheckedTables;
 use icu_collator_core::tables::CollationTables;
-use icu_collator_types::elements::CollationElement;
+use icu_collator_types::elements::{COMMON_WEIGHT, CollationElement};
 use icu_collator_types::options::{
     CaseLevel, CollationCaseFirst, ResolvedCollatorOptions, Strength,
 };
@@ -84,6 +84,17 @@ pub(crate) fn secondary_rank_at(element: CountedElement) -> Option<u32>
             }
         }
         CountedElement::Variable(_) => None,
+    }
+}
+
+/// Whether an element has the common secondary.
+#[inline(always)]
+pub(crate) fn has_common_secondary(element: CountedElement) -> bool
+    ensures { result ≡ true → option_map secondary_rank (secondary_at (counted_of element)) ≡ Some 0x501 }
+{
+    match element {
+        CountedElement::Whole(element) => element.secondary() == COMMON_WEIGHT,
+        CountedElement::Variable(_) => false,
     }
 }
 
@@ -181,6 +192,18 @@ pub(crate) fn plain_tertiary_at(element: CountedElement) -> Option<u32>
             if tertiary == 0 { None } else { Some(tertiary) }
         }
         CountedElement::Variable(_) => None,
+    }
+}
+
+/// Whether an element has the common tertiary.
+#[inline(always)]
+pub(crate) fn has_common_tertiary(element: CountedElement) -> bool
+    ensures { result ≡ true → (options : ResolvedCollatorOptions) → has_case_bits options ≡ false
+        → tertiary_at options (counted_of element) ≡ Some 0x500 }
+{
+    match element {
+        CountedElement::Whole(element) => tertiary_of(element) == u32::from(COMMON_WEIGHT),
+        CountedElement::Variable(_) => false,
     }
 }
 

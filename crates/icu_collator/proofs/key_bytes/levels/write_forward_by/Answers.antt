@@ -1,4 +1,4 @@
-use Rattle.std.proofs.Common.{◌∙◌, ap, filter_map, rules}
+use Rattle.std.proofs.Common.{◌∙◌, ap, filter_map, refl, rules}
 use Rattle.std.specs.Prelude.{option_map}
 use Rattle.icu_collator.specs.KeyBytes.{secondary_code, with_runs}
 use Rattle.icu_collator.specs.KeyCodes.{code_of, rank_limit}
@@ -16,11 +16,12 @@ unfolding rank_limit
 write_given_runs-requires-clause-small c = λ e w h sound. h.1.0
 
 pub returns : goal.returns
+unfolding code_of
 returns c =
     let es = counted_list c.args.variable_end c.args.elements.now in
     let places = filter_map secondary_at es in
     let ranks = filter_map (λ e. option_map secondary_rank (secondary_at e)) es in
     level_written c.args.key.now.items (with_runs (code_of Secondaries) ranks) (with_runs secondary_code places)
     c.push.new.self.items c.write_given_runs.new.key.items c.push-2.new.self.items
-    c.in_ok-push.ensures.ok (c.in_ok-write_given_runs.ensures (λ e. option_map secondary_rank (secondary_at e)) (λ e w h. search rules)) c.in_ok-push-2.ensures.ok
+    c.in_ok-push.ensures.ok (c.in_ok-write_given_runs.ensures (λ e. option_map secondary_rank (secondary_at e)) (λ e w h. search rules) (λ e h. h refl)) c.in_ok-push-2.ensures.ok
     (ap (with_runs (code_of Secondaries)) (ranks_by secondary_rank secondary_at es) ∙ secondaries_ranked places)
