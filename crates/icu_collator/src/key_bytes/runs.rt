@@ -117,10 +117,7 @@ fn write_given(
 /// Appends a level of the weights that elements give, by their ranks; a test tells the common weight by a look, or doesn't.
 /// Fails only when out of memory.
 #[inline(always)]
-pub(super) fn write_given_runs<
-    F: Fn(CountedElement) -> Option<u32>,
-    G: Fn(CountedElement) -> bool,
->(
+pub(super) fn write_given_runs<F: Fn(CountedElement) -> Option<u32>, G: Fn(CountedElement) -> bool>(
     level: RunLevel,
     elements: &[CollationElement],
     variable_end: u32,

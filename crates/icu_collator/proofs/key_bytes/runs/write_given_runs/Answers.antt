@@ -9,7 +9,7 @@ use Rattle.icu_collator.proofs.key_bytes.runs.write_given_runs.Goals as goal
 pub write_given-requires-clause-rank : goal.write_given-requires-clause-rank
 write_given-requires-clause-rank g c =
     c.requires.small _ _ c.given-rank.ensures
-    (ap has_sound_case c.counted_element-2.ensures
+    (ap has_sound_case c.counted_element-in-loop-element.ensures
     ∙ passes_at has_sound_case c.args.variable_end c.args.elements.now c.loop-element.element-index c.element-item.result c.loop-element-test.true c.element-item.is
     c.requires.cases)
 
@@ -40,7 +40,7 @@ loop-element-preserved g c =
           c.in_ok-pending.pending c.given-rank.result
           (c.args.key.now.items ++ with_runs (code_of c.args.level) (filter_map at (counted_list c.args.variable_end c.args.elements.now)))
           c.loop-element.key.items c.write_given.new.key.items c.loop-element-test.true c.element-item.is
-          (says _ _ c.given-rank.ensures ∙ ap at c.counted_element-2.ensures) (c.loop-element.invariant.level at says common) adds;
+          (says _ _ c.given-rank.ensures ∙ ap at c.counted_element-in-loop-element.ensures) (c.loop-element.invariant.level at says common) adds;
     }
 
 pub returns : goal.returns
