@@ -2,10 +2,8 @@
 
 ghost use Rattle.std.specs.Prelude.{◌≡◌};
 
-mod flat;
 mod texts;
 
-pub(crate) use flat::read_any_text;
 use icu_collator_types::elements::CollationElement;
 use smallvec::SmallVec;
 pub(crate) use texts::{is_unshifted, numeric_lead, read_text};

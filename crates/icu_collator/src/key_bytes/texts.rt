@@ -13,7 +13,7 @@ ghost use Rattle.icu_collator.specs.Sinks.{IsRefusedKey};
 
 use super::buffer::KeyBytes;
 use super::whole::{write_unshifted_key, write_whole_key};
-use crate::reading::{is_unshifted, numeric_lead, read_any_text};
+use crate::reading::{is_unshifted, numeric_lead, read_text};
 use crate::sinks::whole::write_key;
 use crate::sinks::{CollationKeySink, KeyError};
 use crate::texts::Characters;
@@ -164,7 +164,7 @@ fn write_read_key<T: Characters>(
 {
     checked.keep_promise();
     checked.canonical().keep_promise();
-    let read = read_any_text(alloc, checked, options, text)?;
+    let read = read_text(alloc, checked, options, text.chars())?;
     write_whole_key(
         checked,
         options,
