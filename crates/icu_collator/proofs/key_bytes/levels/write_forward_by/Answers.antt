@@ -23,5 +23,5 @@ returns c =
     let ranks = filter_map (λ e. option_map secondary_rank (secondary_at e)) es in
     level_written c.args.key.now.items (with_runs (code_of Secondaries) ranks) (with_runs secondary_code places)
     c.push.new.self.items c.write_given_runs.new.key.items c.push-2.new.self.items
-    c.in_ok-push.ensures.ok (c.in_ok-write_given_runs.ensures (λ e. option_map secondary_rank (secondary_at e)) (λ e w h. search rules) (λ e h. h refl)) c.in_ok-push-2.ensures.ok
+    c.in_ok-push.ensures.ok (c.in_ok-write_given_runs.ensures (λ e. option_map secondary_rank (secondary_at e)) (λ e w h. search rules) (λ e h. h.1 refl)) c.in_ok-push-2.ensures.ok
     (ap (with_runs (code_of Secondaries)) (ranks_by secondary_rank secondary_at es) ∙ secondaries_ranked places)

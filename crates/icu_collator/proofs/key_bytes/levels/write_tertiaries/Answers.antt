@@ -23,7 +23,7 @@ write_given_runs-requires-2-clause-small c = λ e w h sound. h.1.0
 pub returns-then-has_case_bits : goal.returns-then-has_case_bits
 returns-then-has_case_bits c =
     let ws = tertiaries_by c.args.options.now (counted_list c.args.variable_end c.args.elements.now) in
-    c.in_ok-write_given_runs.ensures (tertiary_at c.args.options.now) (λ e w h. search rules) (λ e h. absurd (true≢false h))
+    c.in_ok-write_given_runs.ensures (tertiary_at c.args.options.now) (λ e w h. search rules) (λ e h. absurd (true≢false h.1))
     ∙ ap (λ code. c.args.key.now.items ++ with_runs code ws) c.tertiary_level-level.ensures.code
 
 pub returns : goal.returns
@@ -32,5 +32,5 @@ returns c =
     let options = c.args.options.now in
     let ws = tertiaries_by options (counted_list c.args.variable_end c.args.elements.now) in
     let none = sym c.has_case_bits.ensures ∙ c.if-has_case_bits.false in
-    c.in_ok-write_given_runs-2.ensures (tertiary_at options) (λ e w h. h.1.1 options none) (λ e h. h refl options none)
+    c.in_ok-write_given_runs-2.ensures (tertiary_at options) (λ e w h. h.1.1 options none) (λ e h. h.1 refl options none)
     ∙ ap (λ code. c.args.key.now.items ++ with_runs code ws) (plain_code options none)
