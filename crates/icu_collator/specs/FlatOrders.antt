@@ -48,8 +48,8 @@ pub record AreReadAlike {I J : Type 0} (source : CollationSource) (numeric : Opt
   pub same : moved_primaries source lefts ≡ moved_primaries source rights
 
 -- the same, with some elements
-abbrev pub AreReadAlike : {I J : Type 0} → CollationSource → Option ℕ → (I → Option ℕ → I → Type 0) → (J → Option ℕ → J → Type 0) → List ℕ → List ℕ → I → J → ℕ → ℕ → Type 0
-AreReadAlike source numeric left_steps right_steps a b left right left_class right_class =
+abbrev pub AreAlikeSoFar : {I J : Type 0} → CollationSource → Option ℕ → (I → Option ℕ → I → Type 0) → (J → Option ℕ → J → Type 0) → List ℕ → List ℕ → I → J → ℕ → ℕ → Type 0
+AreAlikeSoFar source numeric left_steps right_steps a b left right left_class right_class =
     (lefts : List ℕ) × (rights : List ℕ) × AreReadAlike source numeric left_steps right_steps a b left right left_class right_class lefts rights
 
 -- two texts have the same primaries, as they are reordered
@@ -71,7 +71,7 @@ IsByPrimaries source numeric a b NotFlat = Unit {0}
 -- what the next primaries of two texts that were read so say, and what is left of both
 abbrev pub IsMet : {I J : Type 0} → CollationSource → Option ℕ → (I → Option ℕ → I → Type 0) → (J → Option ℕ → J → Type 0) → List ℕ → List ℕ → Meeting → I → J → ℕ → ℕ → Type 0
 IsMet source numeric left_steps right_steps a b Alike left right left_class right_class =
-    AreReadAlike source numeric left_steps right_steps a b left right left_class right_class
+    AreAlikeSoFar source numeric left_steps right_steps a b left right left_class right_class
 IsMet source numeric left_steps right_steps a b BothEnd left right left_class right_class = IsByPrimaries source numeric a b Same
 IsMet source numeric left_steps right_steps a b (Parted order) left right left_class right_class = IsByPrimaries source numeric a b (Decided order)
 IsMet source numeric left_steps right_steps a b Stopped left right left_class right_class = Unit {0}

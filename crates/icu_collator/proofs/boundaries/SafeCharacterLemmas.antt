@@ -12,7 +12,7 @@ use Rattle.icu_collator_core.specs.Weights.{Weights}
 use Rattle.icu_collator_core.proofs.unsafety.UnsafeLemmas.{safe_character}
 use Rattle.icu_collator.specs.Boundaries.{IsBoundary, IsPlain}
 use Rattle.icu_collator.specs.Collators.{source_collation}
-use Rattle.icu_collator.proofs.boundaries.TableBoundaryLemmas.{alone_plain, safe_boundary}
+use Rattle.icu_collator.proofs.boundaries.TableBoundaryLemmas.{alone_plain, starter_boundary}
 
 never_both : (told : Bool) → not told ≡ true → told ≡ true → ⊥
 never_both true e f = false≢true e
@@ -35,7 +35,7 @@ pub safe_boundary : (canonical : Canonical) (weights : Weights) (c first : ℕ) 
 safe_boundary canonical weights c first others safe full =
     let lists : safe.first ∷ safe.rest ≡ first ∷ others = sym safe.full ∙ full
     in let same : safe.first ≡ first = cc
-    in let boundary = safe_boundary canonical weights safe.first safe.starter
+    in let boundary = starter_boundary canonical weights safe.first safe.starter
     (λ prefix x later es r w. safe.stands_first (record { prefix = prefix; first = x; later = later; elements = es; recorded = r; within = w }))
     (λ p ps later es r. safe.unprefixed (record { nearest = p; further = ps; later = later; elements = es; recorded = r }))
     in subst (λ d. IsBoundary canonical weights d) same boundary

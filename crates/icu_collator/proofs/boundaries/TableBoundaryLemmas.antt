@@ -19,11 +19,11 @@ not_recorded None h = refl
 not_recorded (Some x) h = absurd (h x refl)
 
 -- a starter that no recorded text holds behind its first character, and with which no prefix is recorded
-pub safe_boundary : (canonical : Canonical) (weights : Weights) (d : ℕ) → canonical.class d ≡ 0
+pub starter_boundary : (canonical : Canonical) (weights : Weights) (d : ℕ) → canonical.class d ≡ 0
     → ((prefix : List ℕ) (first : ℕ) (later : List ℕ) (es : List Element) → weights.recorded prefix (first ∷ later) ≡ Some es → Contains later d → ⊥)
     → ((nearest : ℕ) (further later : List ℕ) (es : List Element) → weights.recorded (nearest ∷ further) (d ∷ later) ≡ Some es → ⊥)
     → IsBoundary canonical weights d
-safe_boundary canonical weights d starter first unprefixed =
+starter_boundary canonical weights d starter first unprefixed =
     record {
       starter = starter;
       behind = λ x xs ys s.

@@ -27,7 +27,7 @@ use Rattle.icu_collator_core.specs.declared.flat.steps.FlatStep.{FlatStep}
 use Rattle.icu_collator_core.specs.declared.flat.steps.FlatStep.TheVariants.{Primary, End, Other}
 use Rattle.icu_collator_core.proofs.readings.FlatStepLemmas.{nothing_read_to}
 use Rattle.icu_collator.specs.Collators.{source_collation}
-use Rattle.icu_collator.specs.FlatOrders.{AreReadAlike, AreReadAlike, HaveSamePrimaries, IsByPrimaries, IsMeeting, IsMet, moved_primaries, reordered_by}
+use Rattle.icu_collator.specs.FlatOrders.{AreAlikeSoFar, AreReadAlike, HaveSamePrimaries, IsByPrimaries, IsMeeting, IsMet, moved_primaries, reordered_by}
 use Rattle.icu_collator.specs.LevelLists.{counted_by, counted_list, primaries_by}
 use Rattle.icu_collator.specs.Levels.{elements_of_text, levels_of, levels_of_text, primary_at}
 use Rattle.icu_collator.specs.Order.{collation_order, list_order}
@@ -170,7 +170,7 @@ module _ (source : CollationSource) where
 
   module _ {I J : Type 0} (left_steps : I → Option ℕ → I → Type 0) (right_steps : J → Option ℕ → J → Type 0) (numeric : Option ℕ) (a b : List ℕ) where
     abbrev ReadAlike : I → J → ℕ → ℕ → Type 0
-    ReadAlike left right left_class right_class = AreReadAlike source numeric left_steps right_steps a b left right left_class right_class
+    ReadAlike left right left_class right_class = AreAlikeSoFar source numeric left_steps right_steps a b left right left_class right_class
 
     pub begin_alike : (left : I) (right : J) → Spells left_steps left a → Spells right_steps right b → ReadAlike left right 0 0
     begin_alike left right spelled others = (

@@ -9,7 +9,7 @@ ghost use Rattle.icu_collator_core.specs.declared.flat.steps.FlatStep.TheVariant
 ghost use Rattle.icu_collator.specs.Collators.{source_collation};
 ghost use Rattle.icu_collator_types.specs.Options.{is_at_least, is_shifted};
 ghost use Rattle.icu_collator_types.specs.declared.options.Strength.TheVariants.{Identical};
-ghost use Rattle.icu_collator.specs.FlatOrders.{AreReadAlike, HaveSamePrimaries, IsByPrimaries, IsMeeting, IsMet};
+ghost use Rattle.icu_collator.specs.FlatOrders.{AreAlikeSoFar, HaveSamePrimaries, IsByPrimaries, IsMeeting, IsMet};
 ghost use Rattle.icu_collator.specs.Order.{collation_order};
 ghost use Rattle.icu_collator.specs.declared.compare.flat.Meeting.TheVariants.{Alike};
 
@@ -149,7 +149,7 @@ fn meet_next<I: Iterator<Item = char> + Drop, J: Iterator<Item = char> + Drop>(
     requires right { J.can_next right }
     requires right_ends { IsFinite (J.remaining right) }
     ensures next { (a b : List ℕ) → All IsScalar a → All IsScalar b
-        → AreReadAlike checked.now numeric I.next_gives J.next_gives a b left right left_class right_class
+        → AreAlikeSoFar checked.now numeric I.next_gives J.next_gives a b left right left_class right_class
         → IsMet checked.now numeric I.next_gives J.next_gives a b result.0 result.1 result.2 result.3 result.4 }
     ensures left_nearer { result.0 ≡ Alike → IsNearerEnd I.can_next I.remaining left result.1 }
     ensures right_nearer { result.0 ≡ Alike → IsNearerEnd J.can_next J.remaining right result.2 }

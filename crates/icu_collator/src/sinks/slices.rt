@@ -48,7 +48,7 @@ impl CollationKeySink for &mut [u8] {
 /// Writes as many of the bytes as fit behind a place, and answers the place behind all of them.
 fn write_at(slice: &mut [u8], place: usize, bytes: &[u8]) -> usize
     ensures written { slice.new ≡ written_at slice.old place bytes.now }
-    ensures byte_count { result ≡ min (place + length bytes.now) greatest_count }
+    ensures counted { result ≡ min (place + length bytes.now) greatest_count }
     ensures bounded { length slice.old ≤ greatest_count }
 {
     if place < slice.len() {

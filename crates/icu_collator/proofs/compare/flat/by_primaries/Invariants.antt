@@ -3,7 +3,7 @@ use Rattle.std.specs.Prelude.{All}
 use Rattle.std.specs.Char.{IsScalar}
 use Rattle.std.specs.Iterator.{IsFinite, size}
 use Rattle.icu_normalizer_core.specs.Iter.{Spells}
-use Rattle.icu_collator.specs.FlatOrders.{AreReadAlike}
+use Rattle.icu_collator.specs.FlatOrders.{AreAlikeSoFar}
 use Rattle.icu_collator.proofs.compare.flat.by_primaries.Given as goal
 
 abbrev pub invariant-primaries : goal.invariant-primaries
@@ -13,7 +13,7 @@ invariant-primaries g l = record {
   right_can : g.J.Iterator.can_next l.right;
   right_ends : IsFinite (g.J.Iterator.remaining l.right);
   alike : (a b : List ℕ) → All IsScalar a → All IsScalar b → Spells g.I.Iterator.next_gives l.fn.left a → Spells g.J.Iterator.next_gives l.fn.right b
-      → AreReadAlike l.checked l.numeric g.I.Iterator.next_gives g.J.Iterator.next_gives a b l.left l.right l.left_class l.right_class;
+      → AreAlikeSoFar l.checked l.numeric g.I.Iterator.next_gives g.J.Iterator.next_gives a b l.left l.right l.left_class l.right_class;
 }
 
 abbrev pub decreases-primaries : goal.decreases-primaries

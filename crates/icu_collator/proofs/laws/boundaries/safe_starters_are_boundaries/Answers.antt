@@ -1,5 +1,5 @@
-use Rattle.icu_collator.proofs.boundaries.TableBoundaryLemmas.{safe_boundary}
+use Rattle.icu_collator.proofs.boundaries.TableBoundaryLemmas.{starter_boundary}
 use Rattle.icu_collator.proofs.laws.boundaries.safe_starters_are_boundaries.Goals as goal
 
 pub returns : goal.returns
-returns c = safe_boundary
+returns c = starter_boundary
