@@ -7,7 +7,7 @@ use Rattle.icu_collator_types.specs.declared.options.ResolvedCollatorOptions.{Re
 use Rattle.icu_collator_types.specs.Options.{is_shifted}
 use Rattle.icu_collator_core.specs.Acceptance.{CollationSource}
 use Rattle.icu_collator_core.specs.Collation.{Collation}
-use Rattle.icu_collator_core.specs.FlatSteps.{IsReadUpTo, StepsTo, primaries_in}
+use Rattle.icu_collator_core.specs.FlatSteps.{IsReadUpTo, IsSettled, StepsTo, primaries_in}
 use Rattle.icu_collator_core.specs.declared.flat.steps.FlatStep.{FlatStep}
 use Rattle.icu_collator_core.specs.declared.flat.steps.FlatStep.TheVariants.{Primary, End, Other}
 use Rattle.icu_collator.specs.Collators.{source_collation}
@@ -33,6 +33,12 @@ IsMeeting source End (Primary q) (Parted order) = order ≡ Less
 IsMeeting source End End BothEnd = Unit {0}
 IsMeeting source first second Stopped = Unit {0}
 IsMeeting source first second meeting = ⊥
+
+-- Where two texts part, their next primaries stand, whatever else the texts hold.
+abbrev pub AreSettled : CollationSource → Option ℕ → List ℕ → List ℕ → List ℕ → List ℕ → FlatStep → FlatStep → Meeting → Type 0
+AreSettled source numeric a b lefts rights first second (Parted order) =
+    IsSettled source numeric a lefts first × IsSettled source numeric b rights second
+AreSettled source numeric a b lefts rights first second meeting = Unit {0}
 
 -- The next characters of two texts, each behind a character of a class, are starters with these primaries, and this is what
 -- they say.

@@ -1,5 +1,5 @@
 -- How texts that are read flat compare, by their primaries.
-use Rattle.std.proofs.Common.{◌≡◌, ℕ, ◌==◌, ◌/◌, ◌^◌, Bool, true, false, cond, List, [], ◌∷◌, ◌++◌, map, filter_map, Option, Some, None, inl, inr, refl, sym, ◌∙◌, ap, subst, append_assoc, append-nil}
+use Rattle.std.proofs.Common.{◌≡◌, ℕ, ◌==◌, ◌/◌, ◌^◌, Bool, true, false, cond, List, [], ◌∷◌, ◌++◌, map, filter_map, Option, Some, None, inl, inr, refl, sym, ◌∙◌, ap, subst, arith, append_assoc, append-nil}
 use Rattle.std.specs.Prelude.{◌≢◌, All, ltb}
 use Rattle.std.specs.Char.{IsScalar}
 use Rattle.std.specs.Option.{is_some}
@@ -20,14 +20,14 @@ use Rattle.icu_collator_core.specs.Collation.{Collation}
 use Rattle.icu_collator_core.specs.ElementLists.{unpacked}
 use Rattle.icu_collator_core.specs.Elements.{elements_of_list}
 use Rattle.icu_collator_core.specs.ElementTexts.{text_elements}
-use Rattle.icu_collator_core.specs.FlatSteps.{BeginsWithPrimaries, IsNextPrimary, IsReadUpTo, primaries_in, primary_in}
+use Rattle.icu_collator_core.specs.FlatSteps.{BeginsWithPrimaries, IsNextPrimary, IsReadUpTo, IsSettled, primaries_in, primary_in}
 use Rattle.icu_collator_core.specs.Pools.{element_of}
 use Rattle.icu_collator_core.specs.ReadSources.{canonical_by, weights_by}
 use Rattle.icu_collator_core.specs.declared.flat.steps.FlatStep.{FlatStep}
 use Rattle.icu_collator_core.specs.declared.flat.steps.FlatStep.TheVariants.{Primary, End, Other}
-use Rattle.icu_collator_core.proofs.readings.FlatStepLemmas.{next_primary, nothing_read_to}
+use Rattle.icu_collator_core.proofs.readings.FlatStepLemmas.{next_primary, nothing_read_to, settled_small}
 use Rattle.icu_collator.specs.Collators.{source_collation}
-use Rattle.icu_collator.specs.FlatOrders.{AreReadAlike, AreReadAlike, AreStarters, HaveSamePrimaries, IsByPrimaries, IsMeeting, IsMet, moved_primaries, reordered_by}
+use Rattle.icu_collator.specs.FlatOrders.{AreReadAlike, AreReadAlike, AreSettled, AreStarters, HaveSamePrimaries, IsByPrimaries, IsMeeting, IsMet, moved_primaries, reordered_by}
 use Rattle.icu_collator.specs.LevelLists.{counted_by, counted_list, primaries_by}
 use Rattle.icu_collator.specs.Levels.{elements_of_text, levels_of, levels_of_text, primary_at}
 use Rattle.icu_collator.specs.Order.{collation_order, list_order}
@@ -228,27 +228,47 @@ module _ (source : CollationSource) where
       both_ended Other Other m l r = absurd m
 
       pub meeting_decides : (first second : FlatStep) (o : Ordering) → IsMeeting source first second (Parted o) → LeftNext first → RightNext second
-          → All IsScalar a → All IsScalar b → IsByPrimaries source numeric a b (Decided o)
-      meeting_decides (Primary p) (Primary q) o m l r ok also = λ options unshifted is.
-          parted numeric options unshifted is a b (primaries_in old_lefts) (primaries_in old_rights) p q o same (l.1.2 ok) (r.1.2 also) m.0 m.1
-      meeting_decides (Primary p) End o m l r ok also = λ options unshifted is.
-          m ∙ right_ends numeric options unshifted is a b (primaries_in old_lefts) r.0 p (same ∙ sym (ap (map (reordered_by source)) r.1.1)) (l.1.2 ok) r.1.0
-      meeting_decides End (Primary q) o m l r ok also = λ options unshifted is.
-          m ∙ left_ends numeric options unshifted is a b l.0 (primaries_in old_rights) q (ap (map (reordered_by source)) l.1.1 ∙ same) l.1.0 (r.1.2 also)
-      meeting_decides (Primary p) Other o m l r ok also = absurd m
-      meeting_decides End End o m l r ok also = absurd m
-      meeting_decides End Other o m l r ok also = absurd m
-      meeting_decides Other (Primary q) o m l r ok also = absurd m
-      meeting_decides Other End o m l r ok also = absurd m
-      meeting_decides Other Other o m l r ok also = absurd m
+          → AreSettled source numeric a b old_lefts old_rights first second (Parted o) → All IsScalar a → All IsScalar b → IsByPrimaries source numeric a b (Decided o)
+      meeting_decides (Primary p) (Primary q) o m l r s ok also = λ options unshifted is.
+          parted numeric options unshifted is a b (primaries_in old_lefts) (primaries_in old_rights) p q o same (s.0 ok) (s.1 also) m.0 m.1
+      meeting_decides (Primary p) End o m l r s ok also = λ options unshifted is.
+          m ∙ right_ends numeric options unshifted is a b (primaries_in old_lefts) r.0 p (same ∙ sym (ap (map (reordered_by source)) r.1.1)) (s.0 ok) r.1.0
+      meeting_decides End (Primary q) o m l r s ok also = λ options unshifted is.
+          m ∙ left_ends numeric options unshifted is a b l.0 (primaries_in old_rights) q (ap (map (reordered_by source)) l.1.1 ∙ same) l.1.0 (s.1 also)
+      meeting_decides (Primary p) Other o m l r s ok also = absurd m
+      meeting_decides End End o m l r s ok also = absurd m
+      meeting_decides End Other o m l r s ok also = absurd m
+      meeting_decides Other (Primary q) o m l r s ok also = absurd m
+      meeting_decides Other End o m l r s ok also = absurd m
+      meeting_decides Other Other o m l r s ok also = absurd m
 
       -- what they say, with what is left of both
       pub met : (first second : FlatStep) (meeting : Meeting) → IsMeeting source first second meeting → LeftNext first → RightNext second
-          → All IsScalar a → All IsScalar b → IsMet source numeric left_steps right_steps a b meeting left right left_class right_class
-      met first second Alike m l r ok also = read_alike first second m l r
-      met first second BothEnd m l r ok also = both_ended first second m l r
-      met first second (Parted o) m l r ok also = meeting_decides first second o m l r ok also
-      met first second Stopped m l r ok also = tt
+          → AreSettled source numeric a b old_lefts old_rights first second meeting → All IsScalar a → All IsScalar b
+          → IsMet source numeric left_steps right_steps a b meeting left right left_class right_class
+      met first second Alike m l r s ok also = read_alike first second m l r
+      met first second BothEnd m l r s ok also = both_ended first second m l r
+      met first second (Parted o) m l r s ok also = meeting_decides first second o m l r s ok also
+      met first second Stopped m l r s ok also = tt
+
+    -- two primaries that stand, whatever they say
+    settled : (lefts rights : List ℕ) (first second : FlatStep) (meeting : Meeting) → IsSettled source numeric a lefts first → IsSettled source numeric b rights second
+        → AreSettled source numeric a b lefts rights first second meeting
+    settled lefts rights first second Alike s t = tt
+    settled lefts rights first second BothEnd s t = tt
+    settled lefts rights first second (Parted o) s t = (s, t)
+    settled lefts rights first second Stopped s t = tt
+
+    -- what is left of both counts only where they go on
+    pub met_left : (meeting : Meeting) (left next_left : I) (right next_right : J) (left_class right_class : ℕ) → (meeting ≡ Alike → next_left ≡ left) → (meeting ≡ Alike → next_right ≡ right)
+        → IsMet source numeric left_steps right_steps a b meeting left right left_class right_class
+        → IsMet source numeric left_steps right_steps a b meeting next_left next_right left_class right_class
+    met_left Alike left next_left right next_right left_class right_class same also h =
+        subst (λ (it : I). ReadAlike it next_right left_class right_class) (sym (same refl))
+        (subst (λ (it : J). ReadAlike left it left_class right_class) (sym (also refl)) h)
+    met_left BothEnd left next_left right next_right left_class right_class same also h = h
+    met_left (Parted o) left next_left right next_right left_class right_class same also h = h
+    met_left Stopped left next_left right next_right left_class right_class same also h = h
 
     -- where both go on with starters
     pub starters_met : IsDecomposing (canonical_by source) → (left next_left : I) (right next_right : J) (first second : Option ℕ) (last other : ℕ) (meeting : Meeting)
@@ -256,11 +276,14 @@ module _ (source : CollationSource) where
         → All IsScalar a → All IsScalar b → IsMet source numeric left_steps right_steps a b meeting next_left next_right 0 0
     starters_met decomposing left next_left right next_right first second last other meeting h starters step also ok scalars =
         let s = starters in
-        met h.0 h.1 h.2.same next_left next_right 0 0 (Primary s.p) (Primary s.q) meeting s.meets
-        (next_primary source numeric left_steps a left next_left last s.c s.p 0 h.0 h.0 decomposing h.2.left_read refl
-        (subst (λ (next : Option ℕ). left_steps left next next_left) s.first_is step) (s.first_steps numeric) s.some)
-        (next_primary source numeric right_steps b right next_right other s.d s.q 0 h.1 h.1 decomposing h.2.right_read refl
-        (subst (λ (next : Option ℕ). right_steps right next next_right) s.second_is also) (s.second_steps numeric) s.also)
+        let one = next_primary source numeric left_steps a left next_left last s.c s.p 0 h.0 h.0 decomposing h.2.left_read refl
+        (subst (λ (next : Option ℕ). left_steps left next next_left) s.first_is step) (s.first_steps numeric) s.some in
+        let two = next_primary source numeric right_steps b right next_right other s.d s.q 0 h.1 h.1 decomposing h.2.right_read refl
+        (subst (λ (next : Option ℕ). right_steps right next next_right) s.second_is also) (s.second_steps numeric) s.also in
+        met h.0 h.1 h.2.same next_left next_right 0 0 (Primary s.p) (Primary s.q) meeting s.meets one two
+        (settled h.0 h.1 (Primary s.p) (Primary s.q) meeting
+        (settled_small source numeric left_steps a next_left 0 h.0 (Primary s.p) (omega arith) one)
+        (settled_small source numeric right_steps b next_right 0 h.1 (Primary s.q) (omega arith) two))
         ok scalars
 
   -- ---- texts with equal primaries

@@ -4,12 +4,12 @@ ghost use Rattle.std.specs.Char.{IsScalar};
 ghost use Rattle.std.specs.Iterator.{IsFinite, IsNearerEnd};
 ghost use Rattle.std.specs.Prelude.{◌≡◌, ◌≤◌, ℕ, All, List, IfOk, IfSome, IsSome, drop, false, length};
 ghost use Rattle.icu_normalizer_core.specs.Iter.{Spells};
-ghost use Rattle.icu_collator_core.specs.FlatSteps.{IsLeftBehind};
+ghost use Rattle.icu_collator_core.specs.FlatSteps.{IsLeftBehind, IsNextPrimary};
 ghost use Rattle.icu_collator_core.specs.declared.flat.steps.FlatStep.TheVariants.{Primary};
 ghost use Rattle.icu_collator.specs.Collators.{source_collation};
 ghost use Rattle.icu_collator_types.specs.Options.{is_at_least, is_shifted};
 ghost use Rattle.icu_collator_types.specs.declared.options.Strength.TheVariants.{Identical};
-ghost use Rattle.icu_collator.specs.FlatOrders.{AreReadAlike, AreStarters, HaveSamePrimaries, IsByPrimaries, IsMeeting, IsMet};
+ghost use Rattle.icu_collator.specs.FlatOrders.{AreReadAlike, AreSettled, AreStarters, HaveSamePrimaries, IsByPrimaries, IsMeeting, IsMet};
 ghost use Rattle.icu_collator.specs.Order.{collation_order};
 ghost use Rattle.icu_collator.specs.declared.compare.flat.Meeting.TheVariants.{Alike};
 
@@ -117,6 +117,45 @@ fn meet_starters(
     Some(meet_primaries(checked, primary, other))
 }
 
+/// What comes next in two texts, as it is before reordering, where both were read to behind it, each behind a character of a class:
+/// they part only if both primaries stand, whatever else the texts hold. Then the text behind one may have been asked.
+#[inline(always)]
+fn meet_settled<I: Iterator<Item = char> + Drop, J: Iterator<Item = char> + Drop>(
+    checked: &CheckedTables<'_>,
+    numeric: Option<u8>,
+    first: FlatStep,
+    second: FlatStep,
+    left: &mut I,
+    right: &mut J,
+    left_class: u32,
+    right_class: u32,
+) -> Meeting
+    requires left { (p : ℕ) → first ≡ Primary p → I.can_next left.old }
+    requires right { (p : ℕ) → second ≡ Primary p → J.can_next right.old }
+    ensures meets { IsMeeting checked.now first second result }
+    ensures settled { (a b lefts rights : List ℕ) → IsNextPrimary checked.now numeric I.next_gives a lefts first left.old left_class
+        → IsNextPrimary checked.now numeric J.next_gives b rights second right.old right_class
+        → AreSettled checked.now numeric a b lefts rights first second result }
+    ensures left_kept { result ≡ Alike → left.new ≡ left.old }
+    ensures right_kept { result ≡ Alike → right.new ≡ right.old }
+{
+    let meeting = meet(checked, first, second);
+    match meeting {
+        Meeting::Parted(_order) => {
+            if checked.is_settled(numeric, first, left, left_class)
+                && checked.is_settled(numeric, second, right, right_class)
+            {
+                meeting
+            } else {
+                Meeting::Stopped
+            }
+        }
+        Meeting::Alike => Meeting::Alike,
+        Meeting::BothEnd => Meeting::BothEnd,
+        Meeting::Stopped => Meeting::Stopped,
+    }
+}
+
 /// What the next primaries of two texts say, that were read up to primaries that are alike, each behind a character of a class,
 /// and whose next characters were taken; with the texts behind these primaries, and the classes of the last characters. No
 /// memory is taken.
@@ -144,14 +183,23 @@ fn meet_others<I: Iterator<Item = char> + Drop, J: Iterator<Item = char> + Drop>
     ensures left_given { result.0 ≡ Alike → IsSome first }
     ensures right_given { result.0 ≡ Alike → IsSome second }
 {
-    let (one, left_rest, left_last) = checked.read_to_primary(numeric, first, left, left_class);
-    let (two, right_rest, right_last) = checked.read_to_primary(
+    let (one, mut left_rest, left_last) = checked.read_to_primary(numeric, first, left, left_class);
+    let (two, mut right_rest, right_last) = checked.read_to_primary(
         numeric,
         second,
         right,
         right_class,
     );
-    let meeting = meet(checked, one, two);
+    let meeting = meet_settled(
+        checked,
+        numeric,
+        one,
+        two,
+        &mut left_rest,
+        &mut right_rest,
+        left_last,
+        right_last,
+    );
     (meeting, left_rest, right_rest, left_last, right_last)
 }
 
