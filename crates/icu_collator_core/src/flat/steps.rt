@@ -1,11 +1,12 @@
 //! Flat reading, one primary after another.
 
-ghost use Rattle.std.specs.Prelude.{◌≡◌, ◌≤◌, ◌==◌, ℕ, false, true, List, IfSome, IsSome, Option};
+ghost use Rattle.std.specs.Char.{IsScalar};
+ghost use Rattle.std.specs.Prelude.{◌≡◌, ◌≤◌, ◌<◌, ◌==◌, ℕ, false, true, All, List, IfSome, IsSome, Option};
 ghost use Rattle.std.specs.Iterator.{IsFinite};
 ghost use Rattle.icu_normalizer_core.specs.Canonical.{IsDecomposing};
 ghost use Rattle.icu_collator_core.specs.Acceptance.{CollationSource};
 ghost use Rattle.icu_collator_core.specs.FlatNotes.{IsFlatNote};
-ghost use Rattle.icu_collator_core.specs.FlatSteps.{IsLeftBehind, IsNextPrimary, IsReadUpTo, StepsTo};
+ghost use Rattle.icu_collator_core.specs.FlatSteps.{BeginsWithPrimaries, IsLeftBehind, IsNextPrimary, IsReadUpTo, IsSettled, StepsTo, primaries_in};
 ghost use Rattle.icu_collator_core.specs.Pools.{element_of};
 ghost use Rattle.icu_collator_core.specs.ReadSources.{canonical_by};
 ghost use Rattle.icu_collator_core.specs.declared.flat.steps.FlatStep.TheVariants.{Primary};
@@ -14,8 +15,8 @@ use super::notes::FlatNote;
 use crate::checked::CheckedTables;
 use icu_collator_types::elements::CollationElement;
 
-/// The note of a starter: it may stand behind any class.
-const STARTER: u8 = u8::MAX;
+/// The note of a starter: it may stand behind any class, which is at most this.
+const STARTER: u16 = 255;
 
 /// What comes next of a text that is read flat.
 #[derive(Clone, Copy, Debug)]
@@ -28,16 +29,16 @@ pub enum FlatStep {
     Other,
 }
 
-/// The primary of an element, the only one of a character with this class, if it may stand behind one of another; a primary
-/// only where it is a starter.
+/// The primary of an element, the only one of a character, if it may stand behind one of a class; a primary only where it is a
+/// starter's.
 #[inline(always)]
-fn primary_of_one(element: CollationElement, lead: u8, trail: u8, before: u32) -> Option<u32>
+fn primary_of_one(element: CollationElement, lead: u16, before: u32) -> Option<u32>
     ensures primary { IfSome result (λ p. (element_of element).primary ≡ p) }
     ensures follows { IfSome result (λ p. before ≤ lead) }
-    ensures starter { IfSome result (λ p. (p == 0) ≡ false → trail ≡ 0) }
+    ensures starter { IfSome result (λ p. (p == 0) ≡ false → 255 ≤ lead) }
 {
     let primary = element.primary();
-    if before <= lead as u32 && (primary == 0 || trail == 0) {
+    if before <= lead as u32 && (primary == 0 || lead >= STARTER) {
         Some(primary)
     } else {
         None
@@ -50,16 +51,16 @@ fn primary_of_one(element: CollationElement, lead: u8, trail: u8, before: u32) -
 fn primary_of_two(
     first: CollationElement,
     second: CollationElement,
-    lead: u8,
+    lead: u16,
     before: u32,
 ) -> Option<u32>
     ensures primary { IfSome result (λ p. (element_of first).primary ≡ p) }
     ensures none { IfSome result (λ p. (element_of second).primary ≡ 0) }
     ensures follows { IfSome result (λ p. before ≤ lead) }
-    ensures starter { IfSome result (λ p. (p == 0) ≡ false → lead ≡ 255) }
+    ensures starter { IfSome result (λ p. (p == 0) ≡ false → 255 ≤ lead) }
 {
     let primary = first.primary();
-    if before > lead as u32 || (primary != 0 && lead != STARTER) || second.primary() != 0 {
+    if before > lead as u32 || (primary != 0 && lead < STARTER) || second.primary() != 0 {
         return None;
     }
     Some(primary)
@@ -67,7 +68,7 @@ fn primary_of_two(
 
 /// Whether a character behind which any may stand, of whose full list the last is a starter, may stand behind one of a class.
 #[inline(always)]
-fn may_start(lead: u8, trail: u8, before: u32) -> bool
+fn may_start(lead: u16, trail: u16, before: u32) -> bool
     ensures follows { result ≡ true → before ≤ lead }
     ensures starter { result ≡ true → trail ≡ 0 }
 {
@@ -98,7 +99,7 @@ impl FlatNote {
             → StepsTo source numeric c before step.0 step.1) }
     {
         if let FlatNote::One(element, lead, trail) = *self {
-            let primary = primary_of_one(element, lead, trail, before)?;
+            let primary = primary_of_one(element, lead, before)?;
             return Some((primary, trail as u32));
         }
         self.step_other(numeric, before)
@@ -119,7 +120,7 @@ impl FlatNote {
                 if numeric.is_some() {
                     return None;
                 }
-                let primary = primary_of_one(element, lead, trail, before)?;
+                let primary = primary_of_one(element, lead, before)?;
                 Some((primary, trail as u32))
             }
             _ => None,
@@ -141,8 +142,8 @@ impl CheckedTables<'_> {
     }
 
     /// The primary of a character that stands behind one of this class, 0 for none, and the class of the last character of its
-    /// full list (UAX 15), if it is read flat there: each character of its full list is read alone, its marks stand in order,
-    /// and none but the first, a starter, has a primary. `None` for another, and for some that are so. Where a lead byte of
+    /// full list (UAX 15), 256 where a boundary has to follow, if it is read flat there: its marks stand in order, and none of
+    /// its elements but the first, a starter's, has a primary. `None` for another, and for some that are so. Where a lead byte of
     /// numbers is given, no digit is read so. A character below U+0800 takes one read; no memory is taken.
     #[inline(always)]
     pub fn flat_primary(&self, numeric: Option<u8>, c: char, before: u32) -> Option<(u32, u32)>
@@ -170,7 +171,8 @@ impl CheckedTables<'_> {
     }
 
     /// Reads a text flat, from the place to which it was read so, behind a character of a class, up to its next primary: answers
-    /// that, the text behind it, and the class of the last character that was read. No element is kept. Where a lead byte of
+    /// that, the text behind it, and the class of the last character that was read, 256 where a boundary has to follow; then the
+    /// primary may still be another (`is_settled`). No element is kept. Where a lead byte of
     /// numbers is given, no digit is read so. No memory is taken.
     #[inline(never)]
     fn search_primary<I: Iterator<Item = char> + Drop>(
@@ -227,5 +229,48 @@ impl CheckedTables<'_> {
             return (FlatStep::Primary(primary), chars, trail);
         }
         self.search_primary(numeric, chars, trail)
+    }
+    /// Whether a primary to which a text was read so stands, whatever else the text holds: where what was read asks for a
+    /// boundary behind it, one stands there, or the text ends. Then the next character is taken from the text, and behind another
+    /// step the text isn't touched. No memory is taken.
+    #[inline(always)]
+    pub fn is_settled<I: Iterator<Item = char> + Drop>(
+        &self,
+        numeric: Option<u8>,
+        step: FlatStep,
+        chars: &mut I,
+        class: u32,
+    ) -> bool
+        requires { (p : ℕ) → step ≡ Primary p → I.can_next chars.old }
+        ensures { result ≡ true → (text items : List ℕ) → IsNextPrimary self.now numeric I.next_gives text items step chars.old class
+            → IsSettled self.now numeric text items step }
+    {
+        if class <= STARTER as u32 {
+            return true;
+        }
+        match step {
+            FlatStep::Primary(_primary) => self.is_followed(numeric, chars, class),
+            _ => true,
+        }
+    }
+
+    /// Whether what was read of a text, behind which a boundary has to follow, is followed by one, or by the end.
+    #[inline(never)]
+    fn is_followed<I: Iterator<Item = char> + Drop>(
+        &self,
+        numeric: Option<u8>,
+        chars: &mut I,
+        class: u32,
+    ) -> bool
+        requires can { I.can_next chars.old }
+        requires above { 255 < class }
+        ensures { result ≡ true → (text items : List ℕ) → IsReadUpTo self.now numeric I.next_gives text chars.old class items
+            → All IsScalar text → BeginsWithPrimaries self.now numeric text (primaries_in items) }
+    {
+        self.canonical().keep_promise();
+        match chars.next() {
+            Some(c) => self.flat_primary(numeric, c, class).is_some(),
+            None => true,
+        }
     }
 }

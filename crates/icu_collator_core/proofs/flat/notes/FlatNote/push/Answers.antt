@@ -8,8 +8,6 @@ returns-then-push g c = λ source x note.
     let flat = subst (λ (n : FlatNote). IsFlatNote source x n) c.in-One.is note c.args.numeric in
     record {
       items = c.in-One.element ∷ [];
-      read = flat.read;
-      order = flat.order c.args.before c.if-before-lead.true;
-      last = flat.last c.args.before;
+      flat = flat c.args.before c.if-before-lead.true;
       appended = c.push.ensures c.if-push.true;
     }

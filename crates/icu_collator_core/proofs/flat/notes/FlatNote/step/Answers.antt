@@ -10,5 +10,5 @@ returns-in-One c = λ source d decomposing note old.
     let pushed = c.in_ok-primary.ensures in (
       old ++ c.in-One.element ∷ [],
       one_step source c.args.numeric d c.in-One.element c.in-One.lead c.in-One.trail c.args.before old (old ++ c.in-One.element ∷ [])
-          c.in_ok-primary.primary (noted c.args.numeric) pushed.follows pushed.primary pushed.starter refl,
+          c.in_ok-primary.primary decomposing (noted c.args.numeric) pushed.follows pushed.primary pushed.starter refl,
     )
