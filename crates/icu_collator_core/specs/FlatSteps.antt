@@ -46,6 +46,11 @@ pub record IsStep (source : CollationSource) (numeric : Option ℕ) (c before : 
 abbrev pub StepsTo : CollationSource → Option ℕ → ℕ → ℕ → ℕ → ℕ → Type 0
 StepsTo source numeric c before p trail = (old : List ℕ) → (new : List ℕ) × IsStep source numeric c before old p trail new
 
+-- next comes the end of a text, or a character that may stand behind this class
+abbrev pub IsFollowed : CollationSource → Option ℕ → ℕ → Option ℕ → Type 0
+IsFollowed source numeric class None = Unit {0}
+IsFollowed source numeric class (Some c) = (p : ℕ) × (trail : ℕ) × StepsTo source numeric c class p trail
+
 -- Of a text, the full lists of its first characters are in order and have these elements, where what follows may stand behind
 -- this class. The characters behind are left to an iterator.
 pub record IsReadUpTo {I : Type 0} (source : CollationSource) (numeric : Option ℕ) (steps : I → Option ℕ → I → Type 0) (text : List ℕ) (chars : I) (class : ℕ) (items : List ℕ) : Type 0 where

@@ -9,7 +9,7 @@ ghost use Rattle.icu_collator_core.specs.declared.flat.steps.FlatStep.TheVariant
 ghost use Rattle.icu_collator.specs.Collators.{source_collation};
 ghost use Rattle.icu_collator_types.specs.Options.{is_at_least, is_shifted};
 ghost use Rattle.icu_collator_types.specs.declared.options.Strength.TheVariants.{Identical};
-ghost use Rattle.icu_collator.specs.FlatOrders.{AreReadAlike, HaveSamePrimaries, IsByPrimaries, IsMeeting, IsMet};
+ghost use Rattle.icu_collator.specs.FlatOrders.{AreReadAlike, AreSettled, HaveSamePrimaries, IsByPrimaries, IsMeeting, IsMet};
 ghost use Rattle.icu_collator.specs.Order.{collation_order};
 ghost use Rattle.icu_collator.specs.declared.compare.flat.Meeting.TheVariants.{Alike};
 
@@ -100,7 +100,8 @@ enum ByPrimaries {
 }
 
 /// Reads a text flat, from the place to which it was read so, behind a character of a class, up to its next primary: answers
-/// that, the text behind it, and the class of the last character that was read. No memory is taken.
+/// that, the text behind it, and the class of the last character that was read, 256 where a boundary has to follow. No memory is
+/// taken.
 #[inline(always)]
 fn next_primary<I: Iterator<Item = char> + Drop>(
     checked: &CheckedTables<'_>,
@@ -133,6 +134,45 @@ fn next_primary<I: Iterator<Item = char> + Drop>(
     (FlatStep::End, chars, class)
 }
 
+/// What comes next in two texts, as it is before reordering, where both were read to behind it, each behind a character of a class:
+/// they part only if both primaries stand, whatever else the texts hold. Then the text behind one may have been asked.
+#[inline(always)]
+fn meet_settled<I: Iterator<Item = char> + Drop, J: Iterator<Item = char> + Drop>(
+    checked: &CheckedTables<'_>,
+    numeric: Option<u8>,
+    first: FlatStep,
+    second: FlatStep,
+    left: &mut I,
+    right: &mut J,
+    left_class: u32,
+    right_class: u32,
+) -> Meeting
+    requires left { (p : ℕ) → first ≡ Primary p → I.can_next left.old }
+    requires right { (p : ℕ) → second ≡ Primary p → J.can_next right.old }
+    ensures meets { IsMeeting checked.now first second result }
+    ensures settled { (a b lefts rights : List ℕ) → IsNextPrimary checked.now numeric I.next_gives a lefts first left.old left_class
+        → IsNextPrimary checked.now numeric J.next_gives b rights second right.old right_class
+        → AreSettled checked.now numeric a b lefts rights first second result }
+    ensures left_kept { result ≡ Alike → left.new ≡ left.old }
+    ensures right_kept { result ≡ Alike → right.new ≡ right.old }
+{
+    let meeting = meet(checked, first, second);
+    match meeting {
+        Meeting::Parted(_order) => {
+            if checked.is_settled(numeric, first, left, left_class)
+                && checked.is_settled(numeric, second, right, right_class)
+            {
+                meeting
+            } else {
+                Meeting::Stopped
+            }
+        }
+        Meeting::Alike => Meeting::Alike,
+        Meeting::BothEnd => Meeting::BothEnd,
+        Meeting::Stopped => Meeting::Stopped,
+    }
+}
+
 /// What the next primaries of two texts say, that were read up to primaries that are alike, each behind a character of a class;
 /// with the texts behind these primaries, and the classes of the last characters. No memory is taken.
 #[inline(always)]
@@ -154,9 +194,18 @@ fn meet_next<I: Iterator<Item = char> + Drop, J: Iterator<Item = char> + Drop>(
     ensures left_nearer { result.0 ≡ Alike → IsNearerEnd I.can_next I.remaining left result.1 }
     ensures right_nearer { result.0 ≡ Alike → IsNearerEnd J.can_next J.remaining right result.2 }
 {
-    let (one, left_rest, left_last) = next_primary(checked, numeric, left, left_class);
-    let (two, right_rest, right_last) = next_primary(checked, numeric, right, right_class);
-    let meeting = meet(checked, one, two);
+    let (one, mut left_rest, left_last) = next_primary(checked, numeric, left, left_class);
+    let (two, mut right_rest, right_last) = next_primary(checked, numeric, right, right_class);
+    let meeting = meet_settled(
+        checked,
+        numeric,
+        one,
+        two,
+        &mut left_rest,
+        &mut right_rest,
+        left_last,
+        right_last,
+    );
     (meeting, left_rest, right_rest, left_last, right_last)
 }
 

@@ -17,7 +17,7 @@ use Rattle.icu_collator_core.specs.Boundaries.{after}
 use Rattle.icu_collator_core.specs.ElementLists.{unpacked}
 use Rattle.icu_collator_core.specs.ElementTexts.{text_elements}
 use Rattle.icu_collator_core.specs.FlatNotes.{AreReadFlat, IsBoundaryApart, IsFlat, IsFlatUpTo, IsReadFlat, IsReadInOrder, MayFollow, MayStandBehind, elements_behind, last_class}
-use Rattle.icu_collator_core.specs.FlatSteps.{BeginsWithPrimaries, IsNextPrimary, IsReadUpTo, IsSettled, IsStep, StepsTo, primaries_in, primary_if_any, primary_in}
+use Rattle.icu_collator_core.specs.FlatSteps.{BeginsWithPrimaries, IsFollowed, IsNextPrimary, IsReadUpTo, IsSettled, IsStep, StepsTo, primaries_in, primary_if_any, primary_in}
 use Rattle.icu_collator_core.specs.declared.flat.steps.FlatStep.{FlatStep}
 use Rattle.icu_collator_core.specs.declared.flat.steps.FlatStep.TheVariants.{Primary, End, Other}
 use Rattle.icu_collator_core.specs.Pools.{element_of}
@@ -297,12 +297,11 @@ module _ (source : CollationSource) (numeric : Option ℕ) where
 
     -- ---- what stands, whatever else the text holds
 
-    pub settled_told : (now next : I) (last c : ℕ) (items : List ℕ) (step : Option (ℕ × ℕ)) → IsDecomposing (canonical_by source) → All IsScalar text → 255 < last
-        → ReadTo now last items → steps now (Some c) next → IfSome step (λ s. StepsTo source numeric c last s.0 s.1) → is_some step ≡ true
-        → BeginsWithPrimaries source numeric text (primaries_in items)
-    settled_told now next last c items None decomposing ok above h step steps_to told = absurd (false≢true told)
-    settled_told now next last c items (Some s) decomposing ok above h step steps_to told =
-        settled_on now next last c s.0 s.1 items decomposing ok above h step steps_to
+    pub settled_next : (now next : I) (last : ℕ) (items : List ℕ) (found : Option ℕ) → IsDecomposing (canonical_by source) → All IsScalar text → 255 < last
+        → ReadTo now last items → steps now found next → IsFollowed source numeric last found → BeginsWithPrimaries source numeric text (primaries_in items)
+    settled_next now next last items None decomposing ok above h step follows = settled_end now next last items h step
+    settled_next now next last items (Some c) decomposing ok above h step follows =
+        settled_on now next last c follows.0 follows.1.0 items decomposing ok above h step follows.1.1
 
     pub settled_small : (chars : I) (last : ℕ) (old : List ℕ) (result : FlatStep) → last ≤ 255
         → IsNextPrimary source numeric steps text old result chars last → IsSettled source numeric text old result
@@ -315,3 +314,9 @@ module _ (source : CollationSource) (numeric : Option ℕ) where
         → ((items : List ℕ) → ReadTo chars last items → All IsScalar text → BeginsWithPrimaries source numeric text (primaries_in items))
         → IsSettled source numeric text old (Primary p)
     settled_by chars last p old h stands = λ ok. subst (λ (ps : List ℕ). BeginsWithPrimaries source numeric text ps) h.1.1 (stands h.0 h.1.0 ok)
+
+-- a character may stand behind a class where its step there was told
+pub followed_told : (source : CollationSource) (numeric : Option ℕ) (last c : ℕ) (step : Option (ℕ × ℕ)) → IfSome step (λ s. StepsTo source numeric c last s.0 s.1)
+    → is_some step ≡ true → IsFollowed source numeric last (Some c)
+followed_told source numeric last c None steps_to told = absurd (false≢true told)
+followed_told source numeric last c (Some s) steps_to told = (s.0, (s.1, steps_to))

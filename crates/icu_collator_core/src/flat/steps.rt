@@ -1,12 +1,11 @@
 //! Flat reading, one primary after another.
 
-ghost use Rattle.std.specs.Char.{IsScalar};
-ghost use Rattle.std.specs.Prelude.{◌≡◌, ◌≤◌, ◌<◌, ◌==◌, ℕ, false, true, All, List, IfSome, IsSome, Option};
+ghost use Rattle.std.specs.Prelude.{◌≡◌, ◌≤◌, ◌==◌, ℕ, false, true, List, IfSome, IsSome, Option};
 ghost use Rattle.std.specs.Iterator.{IsFinite};
 ghost use Rattle.icu_normalizer_core.specs.Canonical.{IsDecomposing};
 ghost use Rattle.icu_collator_core.specs.Acceptance.{CollationSource};
 ghost use Rattle.icu_collator_core.specs.FlatNotes.{IsFlatNote};
-ghost use Rattle.icu_collator_core.specs.FlatSteps.{BeginsWithPrimaries, IsLeftBehind, IsNextPrimary, IsReadUpTo, IsSettled, StepsTo, primaries_in};
+ghost use Rattle.icu_collator_core.specs.FlatSteps.{IsFollowed, IsLeftBehind, IsNextPrimary, IsReadUpTo, IsSettled, StepsTo};
 ghost use Rattle.icu_collator_core.specs.Pools.{element_of};
 ghost use Rattle.icu_collator_core.specs.ReadSources.{canonical_by};
 ghost use Rattle.icu_collator_core.specs.declared.flat.steps.FlatStep.TheVariants.{Primary};
@@ -230,6 +229,7 @@ impl CheckedTables<'_> {
         }
         self.search_primary(numeric, chars, trail)
     }
+
     /// Whether a primary to which a text was read so stands, whatever else the text holds: where what was read asks for a
     /// boundary behind it, one stands there, or the text ends. Then the next character is taken from the text, and behind another
     /// step the text isn't touched. No memory is taken.
@@ -249,26 +249,18 @@ impl CheckedTables<'_> {
             return true;
         }
         match step {
-            FlatStep::Primary(_primary) => self.is_followed(numeric, chars, class),
+            FlatStep::Primary(_primary) => self.is_followed(numeric, chars.next(), class),
             _ => true,
         }
     }
 
-    /// Whether what was read of a text, behind which a boundary has to follow, is followed by one, or by the end.
+    /// Whether what was read of a text, behind which a boundary has to follow, is followed by one, or by the end: this character
+    /// was taken next, `None` at the end.
     #[inline(never)]
-    fn is_followed<I: Iterator<Item = char> + Drop>(
-        &self,
-        numeric: Option<u8>,
-        chars: &mut I,
-        class: u32,
-    ) -> bool
-        requires can { I.can_next chars.old }
-        requires above { 255 < class }
-        ensures { result ≡ true → (text items : List ℕ) → IsReadUpTo self.now numeric I.next_gives text chars.old class items
-            → All IsScalar text → BeginsWithPrimaries self.now numeric text (primaries_in items) }
+    fn is_followed(&self, numeric: Option<u8>, next: Option<char>, class: u32) -> bool
+        ensures { result ≡ true → IsFollowed self.now numeric class next }
     {
-        self.canonical().keep_promise();
-        match chars.next() {
+        match next {
             Some(c) => self.flat_primary(numeric, c, class).is_some(),
             None => true,
         }
