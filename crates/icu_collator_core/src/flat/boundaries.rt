@@ -52,12 +52,7 @@ fn note_of_elements(elements: &[CollationElement]) -> FlatNote
         return FlatNote::One(elements[0], BEFORE_BOUNDARY, BEFORE_BOUNDARY);
     }
     if elements.len() == 2 {
-        return FlatNote::Two(
-            elements[0],
-            elements[1],
-            BEFORE_BOUNDARY,
-            BEFORE_BOUNDARY,
-        );
+        return FlatNote::Two(elements[0], elements[1], BEFORE_BOUNDARY, BEFORE_BOUNDARY);
     }
     FlatNote::Other
 }

@@ -214,7 +214,11 @@ fn whole_note(alloc: Global, checked: &CheckedTables<'_>, c: char) -> Result<Fla
 }
 
 /// What is to be noted of the character of a code, if it is one. Fails only when out of memory.
-pub(super) fn note_at(alloc: Global, checked: &CheckedTables<'_>, code: u32) -> Result<FlatNote, AllocError>
+pub(super) fn note_at(
+    alloc: Global,
+    checked: &CheckedTables<'_>,
+    code: u32,
+) -> Result<FlatNote, AllocError>
     ensures { IfOk result (λ note. IsFlatNote checked.now code note) }
 {
     match char::from_u32(code) {
