@@ -248,6 +248,7 @@ impl CheckedTables<'_> {
         if class <= STARTER as u32 {
             return true;
         }
+        self.canonical().keep_promise();
         match step {
             FlatStep::Primary(_primary) => self.is_followed(numeric, chars.next(), class),
             _ => true,
