@@ -262,6 +262,18 @@ module _ (source : CollationSource) where
     met_left (Parted o) left next_left right next_right left_class right_class same also h = h
     met_left Stopped left next_left right next_right left_class right_class same also h = h
 
+  -- next primaries that are alike are there
+  pub both_primaries : (first second : FlatStep) → IsMeeting source first second Alike → ((p : ℕ) × (first ≡ Primary p)) × ((q : ℕ) × (second ≡ Primary q))
+  both_primaries (Primary p) (Primary q) m = ((p, refl), (q, refl))
+  both_primaries (Primary p) End m = absurd m
+  both_primaries (Primary p) Other m = absurd m
+  both_primaries End (Primary q) m = absurd m
+  both_primaries End End m = absurd m
+  both_primaries End Other m = absurd m
+  both_primaries Other (Primary q) m = absurd m
+  both_primaries Other End m = absurd m
+  both_primaries Other Other m = absurd m
+
   -- ---- texts with equal primaries
 
   zero_counted : (items : List ℕ) → counted_list 0 items ≡ map whole (unpacked items)

@@ -1,4 +1,8 @@
-use Rattle.icu_collator.proofs.orders.OrderByFlatLemmas.{met, met_left}
+use Rattle.std.proofs.Common.{◌≡◌, subst, sym}
+use Rattle.std.specs.Iterator.{IsNearerEnd}
+use Rattle.icu_collator.specs.FlatOrders.{IsMeeting}
+use Rattle.icu_collator.specs.declared.compare.flat.Meeting.{Meeting}
+use Rattle.icu_collator.proofs.orders.OrderByFlatLemmas.{both_primaries, met, met_left}
 use Rattle.icu_collator.proofs.compare.flat.meet_next.Goals as goal
 
 pub returns-clause-next : goal.returns-clause-next
@@ -15,3 +19,21 @@ returns-clause-next g c = λ a b ok scalars alike.
     (met source g.I.Iterator.next_gives g.J.Iterator.next_gives numeric a b alike.0 alike.1 alike.2.same
     one.result.1 two.result.1 one.result.2 two.result.2 one.result.0 two.result.0 meeting.result meeting.ensures.meets
     left_next right_next (meeting.ensures.settled a b alike.0 alike.1 left_next right_next) ok scalars)
+
+pub returns-clause-left_nearer : goal.returns-clause-left_nearer
+returns-clause-left_nearer g c = λ alike.
+    let one = c.next_primary-one in
+    let two = c.next_primary-two in
+    let source = c.args.checked.now in
+    let meeting = c.meet_settled-meeting in
+    let found = both_primaries source one.result.0 two.result.0 (subst (λ (said : Meeting). IsMeeting source one.result.0 two.result.0 said) alike meeting.ensures.meets) in
+    subst (λ it. IsNearerEnd g.I.Iterator.can_next g.I.Iterator.remaining c.args.left it) (sym (meeting.ensures.left_kept alike)) (one.ensures.nearer found.0.0 found.0.1)
+
+pub returns-clause-right_nearer : goal.returns-clause-right_nearer
+returns-clause-right_nearer g c = λ alike.
+    let one = c.next_primary-one in
+    let two = c.next_primary-two in
+    let source = c.args.checked.now in
+    let meeting = c.meet_settled-meeting in
+    let found = both_primaries source one.result.0 two.result.0 (subst (λ (said : Meeting). IsMeeting source one.result.0 two.result.0 said) alike meeting.ensures.meets) in
+    subst (λ it. IsNearerEnd g.J.Iterator.can_next g.J.Iterator.remaining c.args.right it) (sym (meeting.ensures.right_kept alike)) (two.ensures.nearer found.1.0 found.1.1)
