@@ -263,16 +263,27 @@ module _ (source : CollationSource) where
     met_left Stopped left next_left right next_right left_class right_class same also h = h
 
   -- next primaries that are alike are there
-  pub both_primaries : (first second : FlatStep) → IsMeeting source first second Alike → ((p : ℕ) × (first ≡ Primary p)) × ((q : ℕ) × (second ≡ Primary q))
-  both_primaries (Primary p) (Primary q) m = ((p, refl), (q, refl))
-  both_primaries (Primary p) End m = absurd m
-  both_primaries (Primary p) Other m = absurd m
-  both_primaries End (Primary q) m = absurd m
-  both_primaries End End m = absurd m
-  both_primaries End Other m = absurd m
-  both_primaries Other (Primary q) m = absurd m
-  both_primaries Other End m = absurd m
-  both_primaries Other Other m = absurd m
+  pub first_primary : (first second : FlatStep) → IsMeeting source first second Alike → (p : ℕ) × (first ≡ Primary p)
+  first_primary (Primary p) (Primary q) m = (p, refl)
+  first_primary (Primary p) End m = absurd m
+  first_primary (Primary p) Other m = absurd m
+  first_primary End (Primary q) m = absurd m
+  first_primary End End m = absurd m
+  first_primary End Other m = absurd m
+  first_primary Other (Primary q) m = absurd m
+  first_primary Other End m = absurd m
+  first_primary Other Other m = absurd m
+
+  pub second_primary : (first second : FlatStep) → IsMeeting source first second Alike → (q : ℕ) × (second ≡ Primary q)
+  second_primary (Primary p) (Primary q) m = (q, refl)
+  second_primary (Primary p) End m = absurd m
+  second_primary (Primary p) Other m = absurd m
+  second_primary End (Primary q) m = absurd m
+  second_primary End End m = absurd m
+  second_primary End Other m = absurd m
+  second_primary Other (Primary q) m = absurd m
+  second_primary Other End m = absurd m
+  second_primary Other Other m = absurd m
 
   -- ---- texts with equal primaries
 

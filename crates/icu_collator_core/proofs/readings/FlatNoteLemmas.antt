@@ -159,10 +159,6 @@ module _ (source : CollationSource) (c : ℕ) where
 
 -- ---- the note by so many elements
 
-pub none_told : {A : Type 0} (o : Option A) → not (is_some o) ≡ true → o ≡ None
-none_told None e = refl
-none_told (Some x) e = absurd (false≢true e)
-
 pub note_of_single : (items : List ℕ) (x : ℕ) → length items ≡ 1 → x ≡ slice_index items 0 → One x 256 256 ≡ note_by items
 note_of_single [] x l e = absurd (omega (arith, l))
 note_of_single (a ∷ []) x l e = ap (λ (y : ℕ). One y 256 256) e

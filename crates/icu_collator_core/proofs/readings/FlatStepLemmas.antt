@@ -1,5 +1,5 @@
 -- Texts that are read flat, one primary after another.
-use Rattle.std.proofs.Common.{◌≡◌, ℕ, ◌+◌, ◌<◌, ◌≤◌, ◌==◌, Bool, true, false, ◌&&◌, cond, List, [], ◌∷◌, ◌++◌, flat_map, filter_map, Option, Some, None, ◌×◌, ◌⊎◌, ⊎_elim, inl, inr, refl, sym, ◌∙◌, ap, subst, arith, append_assoc, append-nil}
+use Rattle.std.proofs.Common.{◌≡◌, ℕ, ◌+◌, ◌<◌, ◌≤◌, ◌==◌, Bool, true, false, ◌&&◌, cond, List, [], ◌∷◌, ◌++◌, flat_map, filter_map, Option, Some, None, ◌⊎◌, ⊎_elim, inl, inr, refl, sym, ◌∙◌, ap, subst, arith, append_assoc, append-nil}
 use Rattle.std.specs.Char.{IsScalar}
 use Rattle.std.specs.Prelude.{All, IfSome}
 use Rattle.std.specs.Option.{is_some}
@@ -301,7 +301,7 @@ module _ (source : CollationSource) (numeric : Option ℕ) where
         → ReadTo now last items → steps now found next → IsFollowed source numeric last found → BeginsWithPrimaries source numeric text (primaries_in items)
     settled_next now next last items None decomposing ok above h step follows = settled_end now next last items h step
     settled_next now next last items (Some c) decomposing ok above h step follows =
-        settled_on now next last c follows.0 follows.1.0 items decomposing ok above h step follows.1.1
+        settled_on now next last c follows.0 follows.1 items decomposing ok above h step follows.2
 
     pub settled_small : (chars : I) (last : ℕ) (old : List ℕ) (result : FlatStep) → last ≤ 255
         → IsNextPrimary source numeric steps text old result chars last → IsSettled source numeric text old result
@@ -319,4 +319,4 @@ module _ (source : CollationSource) (numeric : Option ℕ) where
 pub followed_told : (source : CollationSource) (numeric : Option ℕ) (last c : ℕ) (step : Option (ℕ × ℕ)) → IfSome step (λ s. StepsTo source numeric c last s.0 s.1)
     → is_some step ≡ true → IsFollowed source numeric last (Some c)
 followed_told source numeric last c None steps_to told = absurd (false≢true told)
-followed_told source numeric last c (Some s) steps_to told = (s.0, (s.1, steps_to))
+followed_told source numeric last c (Some s) steps_to told = (s.0, s.1, steps_to)

@@ -2,7 +2,7 @@ use Rattle.std.proofs.Common.{◌≡◌, subst, sym}
 use Rattle.std.specs.Iterator.{IsNearerEnd}
 use Rattle.icu_collator.specs.FlatOrders.{IsMeeting}
 use Rattle.icu_collator.specs.declared.compare.flat.Meeting.{Meeting}
-use Rattle.icu_collator.proofs.orders.OrderByFlatLemmas.{both_primaries, met, met_left}
+use Rattle.icu_collator.proofs.orders.OrderByFlatLemmas.{first_primary, met, met_left, second_primary}
 use Rattle.icu_collator.proofs.compare.flat.meet_next.Goals as goal
 
 pub returns-clause-next : goal.returns-clause-next
@@ -26,8 +26,8 @@ returns-clause-left_nearer g c = λ alike.
     let two = c.next_primary-two in
     let source = c.args.checked.now in
     let meeting = c.meet_settled-meeting in
-    let found = both_primaries source one.result.0 two.result.0 (subst (λ (said : Meeting). IsMeeting source one.result.0 two.result.0 said) alike meeting.ensures.meets) in
-    subst (λ it. IsNearerEnd g.I.Iterator.can_next g.I.Iterator.remaining c.args.left it) (sym (meeting.ensures.left_kept alike)) (one.ensures.nearer found.0.0 found.0.1)
+    let found = first_primary source one.result.0 two.result.0 (subst (λ (said : Meeting). IsMeeting source one.result.0 two.result.0 said) alike meeting.ensures.meets) in
+    subst (λ it. IsNearerEnd g.I.Iterator.can_next g.I.Iterator.remaining c.args.left it) (sym (meeting.ensures.left_kept alike)) (one.ensures.nearer found.0 found.1)
 
 pub returns-clause-right_nearer : goal.returns-clause-right_nearer
 returns-clause-right_nearer g c = λ alike.
@@ -35,5 +35,5 @@ returns-clause-right_nearer g c = λ alike.
     let two = c.next_primary-two in
     let source = c.args.checked.now in
     let meeting = c.meet_settled-meeting in
-    let found = both_primaries source one.result.0 two.result.0 (subst (λ (said : Meeting). IsMeeting source one.result.0 two.result.0 said) alike meeting.ensures.meets) in
-    subst (λ it. IsNearerEnd g.J.Iterator.can_next g.J.Iterator.remaining c.args.right it) (sym (meeting.ensures.right_kept alike)) (two.ensures.nearer found.1.0 found.1.1)
+    let found = second_primary source one.result.0 two.result.0 (subst (λ (said : Meeting). IsMeeting source one.result.0 two.result.0 said) alike meeting.ensures.meets) in
+    subst (λ it. IsNearerEnd g.J.Iterator.can_next g.J.Iterator.remaining c.args.right it) (sym (meeting.ensures.right_kept alike)) (two.ensures.nearer found.0 found.1)

@@ -1,6 +1,6 @@
-use Rattle.std.proofs.Common.{◌≡◌, None, Option, ℕ, rules, sym, ◌∙◌}
+use Rattle.std.proofs.Common.{None, ap, not, sym, ◌∙◌}
 use Rattle.icu_collator_core.specs.ReadSources.{weights_by}
-use Rattle.icu_collator_core.proofs.readings.FlatNoteLemmas.{none_told}
+use Rattle.icu_collator_core.proofs.readings.AloneReadLemmas.{not_some}
 use Rattle.icu_collator_core.proofs.flat.boundaries.is_steady.Goals as goal
 
 pub returns : goal.returns
@@ -8,5 +8,5 @@ returns c = λ told.
     let said = c.checked_word-word.ensures None in
     record {
       unprefixed = c.is_unprefixed.ensures c.if-not-is_unprefixed.false (weights_by None c.args.checked.now) c.args.c said;
-      uncounted = said.digit ∙ sym c.digit.ensures ∙ none_told c.digit.result (sym c.is_none.ensures ∙ told);
+      uncounted = said.digit ∙ sym c.digit.ensures ∙ not_some c.digit.result (c.is_none.ensures ∙ ap not told);
     }

@@ -16,7 +16,7 @@ returns c = λ d is.
     let list : c.push.new.self.items ≡ first ∷ [] = search rules in
     let ok : scalars (first ∷ []) ≡ true = search rules in
     let note = c.in_ok-note.ensures in
-    subst (λ (n : FlatNote). IsFlatNote source d n) (sym note.1.1)
+    subst (λ (n : FlatNote). IsFlatNote source d n) (sym note.2)
     (noted_by source d note.0
     (bounded_flat source d first [] note.0 is ok (c.is_boundary.ensures boundary) (c.is_steady.ensures steady, tt) (λ starter. tt)
-    (note.1.0 ∙ ap (λ (l : List ℕ). elements_of_list (canonical_by source) (weights_by None source) false l) list)))
+    (note.1 ∙ ap (λ (l : List ℕ). elements_of_list (canonical_by source) (weights_by None source) false l) list)))
