@@ -6,9 +6,9 @@ use Rattle.icu_collator_core.specs.declared.flat.steps.FlatStep.{FlatStep}
 use Rattle.icu_collator_core.proofs.readings.FlatStepLemmas.{settled_by, settled_next, settled_small}
 use Rattle.icu_collator_core.proofs.checked.CheckedTables.is_settled.Goals as goal
 
-pub returns-then-class-le-STARTER : goal.returns-then-class-le-STARTER
-returns-then-class-le-STARTER g c = λ told text items read.
-    settled_small c.args.self.now c.args.numeric g.I.Iterator.next_gives text c.args.chars.now c.args.class items c.args.step c.if-class-le-STARTER.true read
+pub returns-then-class : goal.returns-then-class
+returns-then-class g c = λ told text items read.
+    settled_small c.args.self.now c.args.numeric g.I.Iterator.next_gives text c.args.chars.now c.args.class items c.args.step c.if-class.true read
 
 pub returns-in-Primary : goal.returns-in-Primary
 returns-in-Primary g c = λ told text items.
@@ -16,7 +16,7 @@ returns-in-Primary g c = λ told text items.
     let numeric = c.args.numeric in
     let class = c.args.class in
     let decomposing : IsDecomposing (canonical_by source) = search rules in
-    let above : 255 < class = omega (arith, c.if-class-le-STARTER.false) in
+    let above : 255 < class = omega (arith, c.if-class.false) in
     subst (λ (step : FlatStep). IsNextPrimary source numeric g.I.Iterator.next_gives text items step c.args.chars.now class → IsSettled source numeric text items step)
     (sym c.in-Primary.is)
     (λ read. settled_by source numeric g.I.Iterator.next_gives text c.args.chars.now class c.in-Primary._primary items read
