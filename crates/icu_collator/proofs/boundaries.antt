@@ -1,4 +1,3 @@
-pub mod SplitAtBoundaryLemmas
 pub mod BehindBoundaryLemmas
 pub mod DecomposedAtLemmas
 pub mod LevelFrontLemmas

@@ -9,6 +9,7 @@ use lib.Utf8.{scalars}
 use Rattle.icu_normalizer_core.specs.Canonical.{Canonical}
 use Rattle.icu_collator_types.specs.declared.options.ResolvedCollatorOptions.{ResolvedCollatorOptions}
 use Rattle.icu_collator_types.specs.Options.{group_index, is_numeric, is_shifted}
+use Rattle.icu_collator_core.specs.Boundaries.{IsApart, IsBoundary, is_accent}
 use Rattle.icu_collator_core.specs.Collation.{Collation}
 use Rattle.icu_collator_core.specs.Defaults.{special_primary}
 use Rattle.icu_collator_core.specs.PlainWords.{IsReadAlone, IsUnprefixed}
@@ -16,17 +17,6 @@ use Rattle.icu_collator_core.specs.Pools.{element_of}
 use Rattle.icu_collator_core.specs.Weights.{Weights}
 use Rattle.icu_collator.specs.NumbersInTexts.{is_digit}
 use Rattle.icu_collator.specs.Shifted.{is_variable}
-
--- a grave, an acute or a tilde, before which a dot above may be dropped
-abbrev pub is_accent : ℕ → Bool
-is_accent c = (c == 0x300) || (c == 0x301) || (c == 0x303)
-
--- A boundary between recorded texts: a starter that stands first wherever it stands in one, and with which no prefix is
--- recorded.
-pub record IsBoundary (canonical : Canonical) (weights : Weights) (d : ℕ) : Type 0 where
-  pub starter : canonical.class d ≡ 0
-  pub behind : (x : ℕ) (xs ys : List ℕ) → scalars (x ∷ xs ++ d ∷ ys) ≡ true → weights.recorded [] (x ∷ xs ++ d ∷ ys) ≡ None
-  pub prefixes : (p : ℕ) (ps : List ℕ) → scalars (p ∷ ps) ≡ true → weights.recorded (p ∷ ps) (d ∷ []) ≡ None
 
 -- a boundary that decomposing leaves as it is
 pub record IsOwnBoundary (canonical : Canonical) (weights : Weights) (c : ℕ) : Type 0 where
@@ -36,11 +26,6 @@ pub record IsOwnBoundary (canonical : Canonical) (weights : Weights) (c : ℕ) :
 -- with no character of its full list a prefix is recorded
 abbrev pub GoesOn : Canonical → Weights → ℕ → Type 0
 GoesOn canonical weights c = AllByRecursion (IsUnprefixed weights) (canonical.full c)
-
--- a character that goes on with no number, and before which no dot above is dropped
-pub record IsApart (weights : Weights) (numeric : Bool) (c : ℕ) : Type 0 where
-  pub number : (numeric && is_digit weights c) ≡ false
-  pub accent : (weights.dot_above && is_accent c) ≡ false
 
 -- A character whose full list begins with a boundary that is neither special nor an accent before which a dot above is
 -- dropped, and that has one element, these 64 bits, wherever it stands. An unmapped character is its own full list.

@@ -8,7 +8,7 @@ use Rattle.icu_collator_types.specs.declared.options.Strength.TheVariants.{Terti
 use Rattle.icu_collator_types.specs.Options.{has_case_level, is_at_least, is_shifted}
 use Rattle.icu_collator_core.specs.Acceptance.{CollationSource}
 use Rattle.icu_collator_core.specs.Collation.{Collation}
-use Rattle.icu_collator_core.specs.FlatSteps.{IsReadUpTo, primaries_in}
+use Rattle.icu_collator_core.specs.FlatSteps.{IsReadUpTo, IsSettled, primaries_in}
 use Rattle.icu_collator_core.specs.Pools.{element_of}
 use Rattle.icu_collator_core.specs.declared.flat.steps.FlatStep.{FlatStep}
 use Rattle.icu_collator_core.specs.declared.flat.steps.FlatStep.TheVariants.{Primary, End, Other}
@@ -36,6 +36,12 @@ IsMeeting source End (Primary q) (Parted order) = order ≡ Less
 IsMeeting source End End BothEnd = Unit {0}
 IsMeeting source first second Stopped = Unit {0}
 IsMeeting source first second meeting = ⊥
+
+-- Where two texts part, their next primaries stand, whatever else the texts hold.
+abbrev pub AreSettled : CollationSource → Option ℕ → List ℕ → List ℕ → List ℕ → List ℕ → FlatStep → FlatStep → Meeting → Type 0
+AreSettled source numeric a b lefts rights first second (Parted order) =
+    IsSettled source numeric a lefts first × IsSettled source numeric b rights second
+AreSettled source numeric a b lefts rights first second meeting = Unit {0}
 
 -- the primaries of elements of 64 bits, as they are reordered
 abbrev pub moved_primaries : CollationSource → List ℕ → List ℕ

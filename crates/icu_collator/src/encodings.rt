@@ -1,6 +1,6 @@
 //! Texts in each encoding, as the characters that they decode to.
 
-ghost use Rattle.std.specs.Prelude.{◌≡◌, ℕ, All, List};
+ghost use Rattle.std.specs.Prelude.{◌≡◌, ◌<◌, ℕ, All, List, Option, Some};
 ghost use Rattle.std.specs.Char.{IsScalar};
 ghost use Rattle.std.specs.Iterator.{IsFinite};
 ghost use Rattle.icu_normalizer_core.specs.Decoding.{latin1_chars, utf16_chars, utf8_chars};
@@ -11,10 +11,34 @@ mod utf8;
 use icu_normalizer_core::decoding::{Latin1Chars, Utf16Chars, decode_latin1, decode_utf16};
 use utf8::Utf8Steps;
 
+/// Characters one after another, the next of which may be told by a look.
+pub(crate) trait PeekLow: Iterator<Item = char> {
+    ghost use Rattle.std.specs.Prelude.{◌≡◌, ◌<◌, ℕ, Option, Some};
+
+    /// The next character if it is below U+0080 and a look tells it; from 80 (hex) on for another, at the end, and where none
+    /// tells. Nothing is taken.
+    fn peek_low(&self) -> u8
+        ensures { result < 0x80 → (next : Option ℕ) (rest : Self) → Self.next_gives self.now next rest → next ≡ Some result };
+}
+
+impl<'a> PeekLow for Utf16Chars<'a> {
+    #[inline(always)]
+    fn peek_low(&self) -> u8 {
+        u8::MAX
+    }
+}
+
+impl<'a> PeekLow for Latin1Chars<'a> {
+    #[inline(always)]
+    fn peek_low(&self) -> u8 {
+        u8::MAX
+    }
+}
+
 /// A text that can be read more than once: it gives its characters anew each time.
 pub(crate) trait Characters: Copy {
     /// Gives the characters one after another.
-    type Chars: Iterator<Item = char> + Drop;
+    type Chars: PeekLow + Drop;
 
     /// The characters that the text decodes to.
     ghost characters: { Self → List ℕ };

@@ -1,6 +1,7 @@
 pub mod AlikeDecomposedLemmas
 pub mod AlikeLemmas
 pub mod AloneReadLemmas
+pub mod BoundaryReadLemmas
 pub mod CaseLemmas
 pub mod CountLemmas
 pub mod DecomposingLemmas
@@ -17,5 +18,6 @@ pub mod ReaderLemmas
 pub mod ReadingLeftLemmas
 pub mod SamenessLemmas
 pub mod SoundElementsLemmas
+pub mod SplitAtBoundaryLemmas
 pub mod ReadStepLemmas
 pub mod UpcomingLemmas

@@ -1,13 +1,17 @@
 -- Texts whose characters are read one by one: notes of characters, and the order of marks.
-use Rattle.std.specs.Prelude.{◌≡◌, ℕ, ◌≤◌, ◌⊎◌, ◌==◌, ◌&&◌, true, false, List, [], ◌∷◌, ◌++◌, Option, None, get_or}
+use Rattle.std.specs.Prelude.{◌≡◌, ℕ, ◌≤◌, ◌⊎◌, ◌==◌, ◌&&◌, true, false, List, [], ◌∷◌, ◌++◌, length, Option, None, get_or}
 use Rattle.std.specs.Option.{is_some}
-use lib.Utf8.{scalar}
+use lib.Utf8.{scalar, scalars}
+use Rattle.icu_collator_types.specs.declared.elements.Element.{Element}
 use Rattle.icu_collator_core.specs.Acceptance.{CollationSource}
+use Rattle.icu_collator_core.specs.Boundaries.{IsApart, IsBoundary, after}
 use Rattle.icu_collator_core.specs.Defaults.{special_primary}
-use Rattle.icu_collator_core.specs.PlainWords.{IsReadUncounted}
+use Rattle.icu_collator_core.specs.ElementLists.{unpacked}
+use Rattle.icu_collator_core.specs.Elements.{elements_of_list, elements_within, placed_behind}
+use Rattle.icu_collator_core.specs.PlainWords.{IsReadUncounted, IsUnprefixed}
 use Rattle.icu_collator_core.specs.ReadSources.{canonical_by, weights_by}
 use Rattle.icu_collator_core.specs.declared.flat.notes.FlatNote.{FlatNote}
-use Rattle.icu_collator_core.specs.declared.flat.notes.FlatNote.TheVariants.{Other, One, Digit, Two}
+use Rattle.icu_collator_core.specs.declared.flat.notes.FlatNote.TheVariants.{Other, Boundary, One, Digit, Two}
 
 -- A character of a decomposed list is read alone, with one element, these 64 bits, whatever stands before and behind it; digits
 -- count where a lead byte of numbers is given.
@@ -39,29 +43,96 @@ abbrev pub last_class : (ℕ → ℕ) → ℕ → List ℕ → ℕ
 last_class class before [] = before
 last_class class before (c ∷ cs) = last_class class (class c) cs
 
--- Each character of a character's full list is read alone and gives one of these elements. Behind a character whose class isn't
--- above lead its marks stand in order, and the last has this class.
-pub record IsFlat (source : CollationSource) (numeric : Option ℕ) (c : ℕ) (items : List ℕ) (lead trail : ℕ) : Type 0 where
-  pub read : AreReadFlat source numeric ((canonical_by source).full c) items
-  pub order : (before : ℕ) → before ≤ lead → StandInOrder (canonical_by source).class before ((canonical_by source).full c)
-  pub last : (before : ℕ) → last_class (canonical_by source).class before ((canonical_by source).full c) ≡ trail
+-- ## What may follow
+
+-- a boundary that goes on with no number, and before which no dot above is dropped
+abbrev pub IsBoundaryApart : CollationSource → Option ℕ → ℕ → Type 0
+IsBoundaryApart source numeric d =
+    IsBoundary (canonical_by source) (weights_by numeric source) d × IsApart (weights_by numeric source) (is_some numeric) d
+
+-- Whether characters may stand behind others: anything may behind a class of a character, which is at most 255. Where the
+-- number is greater, nothing stands there, or a boundary.
+abbrev pub MayStandBehind : CollationSource → Option ℕ → ℕ → List ℕ → Type 0
+MayStandBehind source numeric class [] = Unit {0}
+MayStandBehind source numeric class (d ∷ ds) = (class ≤ 255) ⊎ IsBoundaryApart source numeric d
+
+-- a character isn't read as a digit
+abbrev pub IsUncounted : CollationSource → Option ℕ → ℕ → Type 0
+IsUncounted source numeric c = (is_some numeric && is_some ((weights_by numeric source).digit c)) ≡ false
+
+-- behind a class may stand what begins with a character, and marks are in order up to it
+abbrev pub MayBegin : CollationSource → Option ℕ → ℕ → ℕ → Type 0
+MayBegin source numeric before c = MayFollow before ((canonical_by source).class c) × MayStandBehind source numeric before (c ∷ [])
+
+-- a character is no digit, and no prefix is recorded with it
+pub record IsSteady (source : CollationSource) (c : ℕ) : Type 0 where
+  pub unprefixed : IsUnprefixed (weights_by None source) c
+  pub uncounted : (weights_by None source).digit c ≡ None
+
+-- the elements of characters that stand behind others, the nearest of these first
+abbrev pub elements_behind : CollationSource → Option ℕ → List ℕ → List ℕ → List Element
+elements_behind source numeric before list =
+    elements_within (length list) (canonical_by source) (weights_by numeric source) (is_some numeric) (placed_behind before list)
+
+-- Characters have these elements whatever stands before them, and whatever may stand behind a class stands there.
+abbrev pub AreReadBefore : CollationSource → Option ℕ → List ℕ → ℕ → List ℕ → Type 0
+AreReadBefore source numeric list class items =
+    (before later : List ℕ) → scalars before ≡ true → scalars later ≡ true → MayStandBehind source numeric class later
+    → elements_behind source numeric before (list ++ later)
+    ≡ unpacked items ++ elements_behind source numeric (after before list) later
+
+-- Characters stand in order and have these elements, where what follows may stand behind this class: that of the last character,
+-- 0 where there is none; where the number is above 255, no class.
+pub record IsReadInOrder (source : CollationSource) (numeric : Option ℕ) (list : List ℕ) (class : ℕ) (items : List ℕ) : Type 0 where
+  pub characters : scalars list ≡ true
+  pub read : AreReadBefore source numeric list class items
+  pub order : StandInOrder (canonical_by source).class 0 list
+  pub last : class ≤ 255 → last_class (canonical_by source).class 0 list ≡ class
+
+-- ## Notes
+
+-- A character that stands behind others, the last with a class, has these elements, where what follows may stand behind another
+-- class: that of the last of its full list, if it is one. There each character of its full list is read alone.
+pub record IsFlat (source : CollationSource) (numeric : Option ℕ) (c before : ℕ) (items : List ℕ) (trail : ℕ) : Type 0 where
+  pub first : ℕ
+  pub rest : List ℕ
+  pub full : (canonical_by source).full c ≡ first ∷ rest
+  pub characters : scalars (first ∷ rest) ≡ true
+  pub follows : MayStandBehind source numeric before (first ∷ rest)
+  pub order : StandInOrder (canonical_by source).class before (first ∷ rest)
+  pub last : trail ≤ 255 → last_class (canonical_by source).class before (first ∷ rest) ≡ trail
+  pub alone : trail ≤ 255 → AreReadFlat source numeric (first ∷ rest) items
+  pub read : AreReadBefore source numeric (first ∷ rest) trail items
+
+-- so it is behind each class up to this one
+abbrev pub IsFlatUpTo : CollationSource → Option ℕ → ℕ → List ℕ → ℕ → ℕ → Type 0
+IsFlatUpTo source numeric c items lead trail = (before : ℕ) → before ≤ lead → IsFlat source numeric c before items trail
 
 -- what is noted of a character is so
 abbrev pub IsFlatNote : CollationSource → ℕ → FlatNote → Type 0
 IsFlatNote source c Other = Unit {0}
-IsFlatNote source c (One bits lead trail) = (numeric : Option ℕ) → IsFlat source numeric c (bits ∷ []) lead trail
-IsFlatNote source c (Digit bits lead trail) = IsFlat source None c (bits ∷ []) lead trail
-IsFlatNote source c (Two first second lead trail) = (numeric : Option ℕ) → IsFlat source numeric c (first ∷ second ∷ []) lead trail
+IsFlatNote source c (Boundary bits) = (numeric : Option ℕ) (before : ℕ) → IsFlat source numeric c before (bits ∷ []) 0
+IsFlatNote source c (One bits lead trail) = (numeric : Option ℕ) → IsFlatUpTo source numeric c (bits ∷ []) lead trail
+IsFlatNote source c (Digit bits lead trail) = IsFlatUpTo source None c (bits ∷ []) lead trail
+IsFlatNote source c (Two first second lead trail) = (numeric : Option ℕ) → IsFlatUpTo source numeric c (first ∷ second ∷ []) lead trail
 
 -- notes, each at the place that is its character's code
 abbrev pub AreFlatNotes : CollationSource → List FlatNote → Type 0
 AreFlatNotes source notes = (c : ℕ) → IsFlatNote source c (get_or notes c Other)
 
--- The elements of a character's full list, each read alone, were appended to those that were there; behind a character of a class
--- its marks stand in order, and the last has that class.
+-- the note of a character that has these elements wherever a boundary follows
+abbrev pub note_by : List ℕ → FlatNote
+note_by (bits ∷ []) = One bits 256 256
+note_by (first ∷ second ∷ []) = Two first second 256 256
+note_by items = Other
+
+-- what is noted of a list of characters by its elements
+abbrev pub IsNoteOf : CollationSource → List ℕ → FlatNote → Type 0
+IsNoteOf source list note =
+    (items : List ℕ) × (unpacked items ≡ elements_of_list (canonical_by source) (weights_by None source) false list) × (note ≡ note_by items)
+
+-- a character's elements were appended to those that were there
 pub record IsPushed (source : CollationSource) (numeric : Option ℕ) (c before : ℕ) (old : List ℕ) (trail : ℕ) (new : List ℕ) : Type 0 where
   pub items : List ℕ
-  pub read : AreReadFlat source numeric ((canonical_by source).full c) items
-  pub order : StandInOrder (canonical_by source).class before ((canonical_by source).full c)
-  pub last : last_class (canonical_by source).class before ((canonical_by source).full c) ≡ trail
+  pub flat : IsFlat source numeric c before items trail
   pub appended : new ≡ old ++ items

@@ -46,6 +46,7 @@ pub mod DigitRuns
 pub mod Upcoming
 pub mod ElementTexts
 pub mod UnsafeCharacters
+pub mod Boundaries
 pub mod UnsafeWords
 pub mod CollationNotes
 pub mod FlatLists

@@ -270,7 +270,7 @@ impl<'a> CheckedTables<'a> {
     }
 
     /// Whether a character is a mark, or unsafe by what is recorded.
-    fn is_unsafe_itself(&self, c: char) -> bool
+    pub(crate) fn is_unsafe_itself(&self, c: char) -> bool
         ensures { IsTrue result ↔ IsUnsafeItself (meaning self.now.canonical) (weights_of (meaning self.now.canonical) self.now.tables) c }
     {
         if !self.canonical().is_starter(c) {

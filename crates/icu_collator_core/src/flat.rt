@@ -7,6 +7,7 @@ ghost use Rattle.icu_collator_core.specs.ElementLists.{unpacked};
 ghost use Rattle.icu_collator_core.specs.ElementTexts.{text_elements};
 ghost use Rattle.icu_collator_core.specs.FlatNotes.{IsPushed};
 
+mod boundaries;
 mod flat_elements;
 mod listed;
 pub(crate) mod notes;
@@ -19,16 +20,16 @@ use notes::FlatNote;
 pub use steps::FlatStep;
 
 impl CheckedTables<'_> {
-    /// Appends the elements of a character that stands behind one of this class, if each character of its full list is read
-    /// alone, its marks stand in order, and there is room; answers the class of the last character of its full list.
+    /// Appends the elements of a character that stands behind one of this class, if it is read so, its marks stand in order, and
+    /// there is room; answers the class of the last character of its full list, 256 where a boundary has to follow.
     #[inline(always)]
     fn push_flat<const N: usize>(
         &self,
         numeric: Option<u8>,
         c: char,
-        before: u8,
+        before: u16,
         elements: &mut FlatElements<N>,
-    ) -> Option<u8>
+    ) -> Option<u16>
         ensures { IfSome result (λ trail. IsPushed self.now numeric c before elements.old.items trail elements.new.items) }
     {
         match self.flat_note(c) {
@@ -46,9 +47,9 @@ impl CheckedTables<'_> {
         &self,
         numeric: Option<u8>,
         c: char,
-        before: u8,
+        before: u16,
         elements: &mut FlatElements<N>,
-    ) -> Option<u8>
+    ) -> Option<u16>
         ensures { IfSome result (λ trail. IsPushed self.now numeric c before elements.old.items trail elements.new.items) }
     {
         let note = self.find_note(c);
@@ -60,9 +61,9 @@ impl CheckedTables<'_> {
     }
 
     /// Reads the text that an iterator gives into an empty list, if it is flat: each of its characters has a full list (UAX 15)
-    /// of characters that are read alone, below U+0800 one or two, its marks stand in order, and the list has room for its
-    /// elements. `false` for another text; what the list has then is not said. Where a lead byte of numbers is given, a text
-    /// with a digit is none. A character below U+0800 takes one read; no memory is taken.
+    /// of characters that are read alone, below U+0800 one or two, or behind which a boundary stands, its marks stand in order, and
+    /// the list has room for its elements. `false` for another text; what the list has then is not said. Where a lead byte of
+    /// numbers is given, a text with a digit is none. A character below U+0800 takes one read; no memory is taken.
     #[inline]
     pub fn read_flat<I: Iterator<Item = char> + Drop, const N: usize>(
         &self,

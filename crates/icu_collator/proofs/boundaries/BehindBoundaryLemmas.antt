@@ -15,15 +15,7 @@ use Rattle.icu_collator_core.proofs.lookups.MatchLemmas.{scalars_front}
 use Rattle.icu_collator_core.proofs.lookups.PrefixLemmas.{scalars_back}
 use Rattle.icu_collator_core.proofs.readings.SamenessLemmas.{at_greatest_same}
 use Rattle.icu_collator_core.proofs.readings.ReadStepLemmas.{alike_self}
-use Rattle.icu_collator.specs.Boundaries.{IsBoundary}
-use Rattle.icu_collator.proofs.numbers.NumbersInTextsLemmas.{after}
-
--- characters stand before a place as they stand in their list
-pub after_scalars : (before cs : List ℕ) → scalars before ≡ true → scalars cs ≡ true → scalars (after before cs) ≡ true
-after_scalars before [] h g = h
-after_scalars before (c ∷ cs) h g =
-    let parts = and_parts (scalar c) (scalars cs) g
-    in after_scalars (take 3 (c ∷ before)) cs (scalars_front 3 (c ∷ before) (and_from (scalar c) (scalars before) parts.0 h)) parts.1
+use Rattle.icu_collator_core.specs.Boundaries.{IsBoundary, after}
 
 module _ (canonical : Canonical) (weights : Weights) where
   recorded_none : (d : ℕ) (xs : List ℕ) → IsBoundary canonical weights d → 0 < length xs → scalars xs ≡ true

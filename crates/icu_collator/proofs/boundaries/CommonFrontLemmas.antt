@@ -10,7 +10,8 @@ use Rattle.icu_collator_types.specs.declared.options.ResolvedCollatorOptions.{Re
 use Rattle.icu_collator_types.specs.Options.{is_numeric, is_shifted}
 use Rattle.icu_collator_core.specs.Collation.{Collation}
 use Rattle.icu_collator_core.specs.Pools.{element_of}
-use Rattle.icu_collator.specs.Boundaries.{IsApart, IsOwnBoundary, IsPlain}
+use Rattle.icu_collator_core.specs.Boundaries.{IsApart}
+use Rattle.icu_collator.specs.Boundaries.{IsOwnBoundary, IsPlain}
 use Rattle.icu_collator.specs.Levels.{elements_of_text}
 use Rattle.icu_collator.specs.Order.{collation_order}
 use Rattle.icu_collator.proofs.boundaries.BehindBoundaryLemmas.{boundary_unprefixed}

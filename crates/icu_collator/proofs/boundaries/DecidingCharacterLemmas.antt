@@ -16,17 +16,18 @@ use Rattle.icu_collator_core.specs.Collation.{Collation}
 use Rattle.icu_collator_core.specs.Elements.{Placed, Reading, characters_of, elements_of_list, elements_within, placed_behind}
 use Rattle.icu_collator_core.specs.Pools.{element_of}
 use Rattle.icu_collator_core.proofs.readings.AloneReadLemmas.{alone_read}
-use Rattle.icu_collator.specs.Boundaries.{CountsWhole, IsApart, IsPlain, reordered_primary}
+use Rattle.icu_collator_core.specs.Boundaries.{IsApart, after}
+use Rattle.icu_collator.specs.Boundaries.{CountsWhole, IsPlain, reordered_primary}
 use Rattle.icu_collator.specs.Levels.{elements_of_text, levels_of, levels_of_text, primary_at}
 use Rattle.icu_collator.specs.NumbersInTexts.{is_digit}
 use Rattle.icu_collator.specs.Order.{collation_order, list_order}
 use Rattle.icu_collator.specs.Shifted.{Counted, counted, counted_behind, whole}
-use Rattle.icu_collator.proofs.boundaries.BehindBoundaryLemmas.{after_scalars}
+use Rattle.icu_collator_core.proofs.readings.SplitAtBoundaryLemmas.{after_scalars}
 use Rattle.icu_collator.proofs.boundaries.DecomposedAtLemmas.{behind_first, decomposed_at}
 use Rattle.icu_collator.proofs.boundaries.LevelFrontLemmas.{ranks_behind, ranks_end, ranks_on}
 use Rattle.icu_collator.proofs.boundaries.SkippingLemmas.{decomposed_characters, list_from, scalars_parts}
 use Rattle.icu_collator.proofs.numbers.NumberLevelLemmas.{behind_after, counted_append, decided, first_decides}
-use Rattle.icu_collator.proofs.numbers.NumbersInTextsLemmas.{after, characters_placed}
+use Rattle.icu_collator_core.proofs.lookups.PlacedLemmas.{characters_placed}
 
 module _ (collation : Collation) (options : ResolvedCollatorOptions) (decomposing : IsDecomposing collation.canonical) (c bits : ℕ) (plain : IsPlain collation c bits) where
   abbrev numeric : Bool

@@ -10,9 +10,11 @@ use Rattle.icu_collator_core.specs.ReadSources.{IsAloneAnywhere}
 use Rattle.icu_collator_core.specs.UnsafeCharacters.{IsSafe, IsUnsafe}
 use Rattle.icu_collator_core.specs.Weights.{Weights}
 use Rattle.icu_collator_core.proofs.unsafety.UnsafeLemmas.{safe_character}
-use Rattle.icu_collator.specs.Boundaries.{IsBoundary, IsPlain}
+use Rattle.icu_collator_core.specs.Boundaries.{IsBoundary}
+use Rattle.icu_collator.specs.Boundaries.{IsPlain}
 use Rattle.icu_collator.specs.Collators.{source_collation}
-use Rattle.icu_collator.proofs.boundaries.TableBoundaryLemmas.{alone_plain, starter_boundary}
+use Rattle.icu_collator_core.proofs.readings.SplitAtBoundaryLemmas.{starter_boundary}
+use Rattle.icu_collator.proofs.boundaries.TableBoundaryLemmas.{alone_plain}
 
 never_both : (told : Bool) → not told ≡ true → told ≡ true → ⊥
 never_both true e f = false≢true e

@@ -8,28 +8,11 @@ use Rattle.icu_collator_types.specs.declared.elements.Element.{Element}
 use Rattle.icu_collator_core.specs.Acceptance.{CollationSource}
 use Rattle.icu_collator_core.specs.ReadSources.{IsAloneAnywhere}
 use Rattle.icu_collator_core.specs.Weights.{Weights}
-use Rattle.icu_collator.specs.Boundaries.{IsApart, IsBoundary, IsPlain, is_accent}
+use Rattle.icu_collator_core.specs.Boundaries.{IsApart, IsBoundary, is_accent}
+use Rattle.icu_collator.specs.Boundaries.{IsPlain}
 use Rattle.icu_collator.specs.Collators.{source_collation}
 use Rattle.icu_collator.specs.NumbersInTexts.{is_digit}
 use Rattle.icu_collator.proofs.readings.SplitAtDigitLemmas.{acute_class, grave_class}
-
--- what is no record is none
-not_recorded : {A : Type 0} (o : Option A) → ((x : A) → o ≡ Some x → ⊥) → o ≡ None
-not_recorded None h = refl
-not_recorded (Some x) h = absurd (h x refl)
-
--- a starter that no recorded text holds behind its first character, and with which no prefix is recorded
-pub starter_boundary : (canonical : Canonical) (weights : Weights) (d : ℕ) → canonical.class d ≡ 0
-    → ((prefix : List ℕ) (first : ℕ) (later : List ℕ) (es : List Element) → weights.recorded prefix (first ∷ later) ≡ Some es → Contains later d → ⊥)
-    → ((nearest : ℕ) (further later : List ℕ) (es : List Element) → weights.recorded (nearest ∷ further) (d ∷ later) ≡ Some es → ⊥)
-    → IsBoundary canonical weights d
-starter_boundary canonical weights d starter first unprefixed =
-    record {
-      starter = starter;
-      behind = λ x xs ys s.
-          not_recorded (weights.recorded [] (x ∷ xs ++ d ∷ ys)) (λ es e. first [] x (xs ++ d ∷ ys) es e (Contains-append_right xs (d ∷ ys) d (0, omega arith, refl)));
-      prefixes = λ p ps s. not_recorded (weights.recorded (p ∷ ps) (d ∷ [])) (λ es e. unprefixed p ps [] es e);
-    }
 
 other_than : (canonical : Canonical) (c d : ℕ) → canonical.class c ≡ 0 → canonical.class d ≡ 230 → (c == d) ≡ false
 other_than canonical c d starter mark =

@@ -1,5 +1,5 @@
 -- Iterators that are seen as what is left of their characters.
-use Rattle.std.proofs.Common.{◌≡◌, ℕ, List, [], ◌∷◌, subst}
+use Rattle.std.proofs.Common.{◌≡◌, ◌∙◌, ℕ, List, [], ◌∷◌, Option, None, Some, ap, subst, sym}
 use Rattle.std.specs.Iterator.{YieldsFirst}
 use Rattle.icu_normalizer_core.specs.Iter.{Spells}
 
@@ -25,3 +25,9 @@ spells_left (c ∷ cs) = (
 
 pub spells_same : (cs text : List ℕ) → cs ≡ text → Spells (YieldsFirst {S = List ℕ} {A = ℕ} (λ rest. rest)) cs text
 spells_same cs text e = subst (λ ys. Spells (YieldsFirst {S = List ℕ} {A = ℕ} (λ rest. rest)) cs ys) e (spells_left cs)
+
+-- what comes next is the first of what is left
+pub first_next : (left more : List ℕ) (c : ℕ) (next : Option ℕ) (rest : List ℕ) → left ≡ c ∷ more
+    → YieldsFirst {S = List ℕ} {A = ℕ} (λ ys. ys) left next rest → next ≡ Some c
+first_next left more c None rest is step = none_yet c more (sym is ∙ step.0)
+first_next left more c (Some d) rest is step = ap Some (same_head c d more rest (sym is ∙ step))

@@ -13,6 +13,7 @@ use Rattle.icu_collator_types.specs.declared.elements.Element.{Element}
 use Rattle.icu_collator_types.specs.declared.options.ResolvedCollatorOptions.{ResolvedCollatorOptions}
 use Rattle.icu_collator_types.specs.declared.options.Strength.TheVariants.{Identical}
 use Rattle.icu_collator_types.specs.Options.{is_at_least, is_numeric}
+use Rattle.icu_collator_core.specs.Boundaries.{after}
 use Rattle.icu_collator_core.specs.Collation.{Collation}
 use Rattle.icu_collator_core.specs.Weights.{Weights}
 use Rattle.icu_collator_core.specs.Defaults.{special_primary}
@@ -22,6 +23,7 @@ use Rattle.icu_collator_core.specs.Elements.{Placed, Reading, placed_behind, cha
 use Rattle.icu_collator_core.proofs.numbers.NumberOrderLemmas.{equal_numbers}
 use Rattle.icu_collator.specs.Levels.{levels_of, elements_of_text, levels_of_text}
 use Rattle.icu_collator.specs.Order.{levels_order, collation_order}
+use Rattle.icu_collator_core.proofs.lookups.PlacedLemmas.{characters_placed, length_placed, placed_append}
 use Rattle.icu_collator.specs.NumbersInTexts.{AreNumbersTogether, AreDigitsApart, IsRunOfDigits, IsNumberBetween, is_digit, begins_with_digit, ends_with_digit, digits_of, run_value, no_number_is_variable}
 use Rattle.icu_collator.proofs.numbers.DecomposedDigitsLemmas.{decomposed_run}
 use Rattle.icu_collator.proofs.numbers.NumberLevelLemmas.{different_numbers, same_elements}
@@ -30,26 +32,6 @@ use Rattle.icu_collator_core.proofs.readings.CountLemmas.{any_count}
 use Rattle.icu_collator.proofs.readings.SplitAtDigitLemmas.{split_at_digit}
 use Rattle.icu_collator.proofs.readings.AfterNumberLemmas.{AgreeToDigit, placed_alike}
 use Rattle.icu_collator_core.proofs.readings.AlikeLemmas.{reading_is, count_of, taken_of, elements_alike}
-
--- what stands directly before what follows these characters
-abbrev pub after : List ℕ → List ℕ → List ℕ
-after before [] = before
-after before (c ∷ cs) = after (take 3 (c ∷ before)) cs
-
-pub placed_append : (before xs ys : List ℕ) → placed_behind before (xs ++ ys) ≡ placed_behind before xs ++ placed_behind (after before xs) ys
-unfolding placed_behind
-placed_append before [] ys = refl
-placed_append before (x ∷ xs) ys = ap (λ (w : List Placed). record { character = x; before = before } ∷ w) (placed_append (take 3 (x ∷ before)) xs ys)
-
-pub characters_placed : (before xs : List ℕ) → characters_of (placed_behind before xs) ≡ xs
-unfolding placed_behind
-characters_placed before [] = refl
-characters_placed before (x ∷ xs) = ap (λ (w : List ℕ). x ∷ w) (characters_placed (take 3 (x ∷ before)) xs)
-
-pub length_placed : (before xs : List ℕ) → length (placed_behind before xs) ≡ length xs
-unfolding placed_behind
-length_placed before [] = refl
-length_placed before (x ∷ xs) = ap suc (length_placed (take 3 (x ∷ before)) xs)
 
 drop_placed : (before xs ys : List ℕ) → drop (length xs) (placed_behind before (xs ++ ys)) ≡ placed_behind (after before xs) ys
 unfolding placed_behind

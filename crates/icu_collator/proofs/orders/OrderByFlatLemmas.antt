@@ -1,5 +1,5 @@
 -- How texts that are read flat compare, by their primaries.
-use Rattle.std.proofs.Common.{◌≡◌, ℕ, ◌==◌, ◌/◌, ◌^◌, Bool, true, false, cond, List, [], ◌∷◌, ◌++◌, map, filter_map, Option, Some, None, inl, inr, refl, sym, ◌∙◌, ap, append_assoc, append-nil}
+use Rattle.std.proofs.Common.{◌≡◌, ℕ, ◌==◌, ◌/◌, ◌^◌, Bool, true, false, cond, List, [], ◌∷◌, ◌++◌, map, filter_map, Option, Some, None, inl, inr, refl, sym, ◌∙◌, ap, subst, append_assoc, append-nil}
 use Rattle.std.specs.Prelude.{◌≢◌, All, ltb}
 use Rattle.std.specs.Char.{IsScalar}
 use Rattle.std.specs.Option.{is_some}
@@ -27,7 +27,7 @@ use Rattle.icu_collator_core.specs.declared.flat.steps.FlatStep.{FlatStep}
 use Rattle.icu_collator_core.specs.declared.flat.steps.FlatStep.TheVariants.{Primary, End, Other}
 use Rattle.icu_collator_core.proofs.readings.FlatStepLemmas.{nothing_read_to}
 use Rattle.icu_collator.specs.Collators.{source_collation}
-use Rattle.icu_collator.specs.FlatOrders.{AreAlikeSoFar, AreReadAlike, HaveSamePrimaries, IsByPrimaries, IsMeeting, IsMet, moved_primaries, reordered_by}
+use Rattle.icu_collator.specs.FlatOrders.{AreAlikeSoFar, AreReadAlike, AreSettled, HaveSamePrimaries, IsByPrimaries, IsMeeting, IsMet, moved_primaries, reordered_by}
 use Rattle.icu_collator.specs.LevelLists.{counted_by, counted_list, primaries_by}
 use Rattle.icu_collator.specs.Levels.{elements_of_text, levels_of, levels_of_text, primary_at}
 use Rattle.icu_collator.specs.Order.{collation_order, list_order}
@@ -228,27 +228,39 @@ module _ (source : CollationSource) where
       both_ended Other Other m l r = absurd m
 
       pub meeting_decides : (first second : FlatStep) (o : Ordering) → IsMeeting source first second (Parted o) → LeftNext first → RightNext second
-          → All IsScalar a → All IsScalar b → IsByPrimaries source numeric a b (Decided o)
-      meeting_decides (Primary p) (Primary q) o m l r ok also = λ options unshifted is.
-          parted numeric options unshifted is a b (primaries_in old_lefts) (primaries_in old_rights) p q o same (l.1.2 ok) (r.1.2 also) m.0 m.1
-      meeting_decides (Primary p) End o m l r ok also = λ options unshifted is.
-          m ∙ right_ends numeric options unshifted is a b (primaries_in old_lefts) r.0 p (same ∙ sym (ap (map (reordered_by source)) r.1.1)) (l.1.2 ok) r.1.0
-      meeting_decides End (Primary q) o m l r ok also = λ options unshifted is.
-          m ∙ left_ends numeric options unshifted is a b l.0 (primaries_in old_rights) q (ap (map (reordered_by source)) l.1.1 ∙ same) l.1.0 (r.1.2 also)
-      meeting_decides (Primary p) Other o m l r ok also = absurd m
-      meeting_decides End End o m l r ok also = absurd m
-      meeting_decides End Other o m l r ok also = absurd m
-      meeting_decides Other (Primary q) o m l r ok also = absurd m
-      meeting_decides Other End o m l r ok also = absurd m
-      meeting_decides Other Other o m l r ok also = absurd m
+          → AreSettled source numeric a b old_lefts old_rights first second (Parted o) → All IsScalar a → All IsScalar b → IsByPrimaries source numeric a b (Decided o)
+      meeting_decides (Primary p) (Primary q) o m l r s ok also = λ options unshifted is.
+          parted numeric options unshifted is a b (primaries_in old_lefts) (primaries_in old_rights) p q o same (s.0 ok) (s.1 also) m.0 m.1
+      meeting_decides (Primary p) End o m l r s ok also = λ options unshifted is.
+          m ∙ right_ends numeric options unshifted is a b (primaries_in old_lefts) r.0 p (same ∙ sym (ap (map (reordered_by source)) r.1.1)) (s.0 ok) r.1.0
+      meeting_decides End (Primary q) o m l r s ok also = λ options unshifted is.
+          m ∙ left_ends numeric options unshifted is a b l.0 (primaries_in old_rights) q (ap (map (reordered_by source)) l.1.1 ∙ same) l.1.0 (s.1 also)
+      meeting_decides (Primary p) Other o m l r s ok also = absurd m
+      meeting_decides End End o m l r s ok also = absurd m
+      meeting_decides End Other o m l r s ok also = absurd m
+      meeting_decides Other (Primary q) o m l r s ok also = absurd m
+      meeting_decides Other End o m l r s ok also = absurd m
+      meeting_decides Other Other o m l r s ok also = absurd m
 
       -- what they say, with what is left of both
       pub met : (first second : FlatStep) (meeting : Meeting) → IsMeeting source first second meeting → LeftNext first → RightNext second
-          → All IsScalar a → All IsScalar b → IsMet source numeric left_steps right_steps a b meeting left right left_class right_class
-      met first second Alike m l r ok also = read_alike first second m l r
-      met first second BothEnd m l r ok also = both_ended first second m l r
-      met first second (Parted o) m l r ok also = meeting_decides first second o m l r ok also
-      met first second Stopped m l r ok also = tt
+          → AreSettled source numeric a b old_lefts old_rights first second meeting → All IsScalar a → All IsScalar b
+          → IsMet source numeric left_steps right_steps a b meeting left right left_class right_class
+      met first second Alike m l r s ok also = read_alike first second m l r
+      met first second BothEnd m l r s ok also = both_ended first second m l r
+      met first second (Parted o) m l r s ok also = meeting_decides first second o m l r s ok also
+      met first second Stopped m l r s ok also = tt
+
+    -- what is left of both counts only where they go on
+    pub met_left : (meeting : Meeting) (left next_left : I) (right next_right : J) (left_class right_class : ℕ) → (meeting ≡ Alike → next_left ≡ left) → (meeting ≡ Alike → next_right ≡ right)
+        → IsMet source numeric left_steps right_steps a b meeting left right left_class right_class
+        → IsMet source numeric left_steps right_steps a b meeting next_left next_right left_class right_class
+    met_left Alike left next_left right next_right left_class right_class same also h =
+        subst (λ (it : I). ReadAlike it next_right left_class right_class) (sym (same refl))
+        (subst (λ (it : J). ReadAlike left it left_class right_class) (sym (also refl)) h)
+    met_left BothEnd left next_left right next_right left_class right_class same also h = h
+    met_left (Parted o) left next_left right next_right left_class right_class same also h = h
+    met_left Stopped left next_left right next_right left_class right_class same also h = h
 
   -- ---- texts with equal primaries
 

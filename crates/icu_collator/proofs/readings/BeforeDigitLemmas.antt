@@ -9,6 +9,7 @@ use Rattle.icu_collator_core.specs.Collation.{Collation}
 use Rattle.icu_collator_core.specs.Weights.{Weights}
 use Rattle.icu_collator_core.specs.Elements.{Placed, Joining, characters_of, at_greatest, recorded_length, match_length, joining}
 use Rattle.icu_collator_core.proofs.readings.AlikeLemmas.{two_ways}
+use Rattle.icu_collator_core.proofs.readings.SplitAtBoundaryLemmas.{greatest_below, greatest_same, none_where}
 use Rattle.icu_collator.specs.NumbersInTexts.{AreDigitsApart, is_digit, holds_digit, ends_with_digit}
 
 -- characters that don't end in a digit
@@ -29,26 +30,6 @@ append_plain weights [] qs h g = g
 append_plain weights (p ∷ []) [] h g = h
 append_plain weights (p ∷ []) (q ∷ qs) h g = g
 append_plain weights (p ∷ r ∷ rs) qs h g = append_plain weights (r ∷ rs) qs h g
-
--- marks join no further than up to a starter, and what stands from there on is left after what is left before it
-pub record JoinsAlike (behind : List Placed) (whole front : Joining) : Type 0 where
-  pub text : whole.text ≡ front.text
-  pub left : whole.left ≡ front.left ++ behind
-
-pub joining_apart : (canonical : Canonical) (weights : Weights) (text : List ℕ) (between ms : List Placed) (q : Placed) (qs : List Placed)
-    → canonical.class q.character ≡ 0
-    → JoinsAlike (q ∷ qs) (joining canonical weights text between (ms ++ q ∷ qs)) (joining canonical weights text between ms)
-unfolding joining
-joining_apart canonical weights text between [] q qs h =
-    let starter : (canonical.class q.character == 0) ≡ true = eq-eqb (canonical.class q.character) 0 h
-    in rw starter (record { text = refl; left = refl })
-joining_apart canonical weights text between (m ∷ ms) q qs h =
-    two_ways (canonical.class m.character == 0)
-    (list_all (λ b. ltb (canonical.class b.character) (canonical.class m.character)) between && is_some (weights.recorded [] (text ++ m.character ∷ [])))
-    _ _ _ _ _ _ (JoinsAlike (q ∷ qs))
-    (record { text = refl {a = text}; left = sym (append_assoc between (m ∷ ms) (q ∷ qs)) })
-    (joining_apart canonical weights (text ++ m.character ∷ []) between ms q qs h)
-    (joining_apart canonical weights text (between ++ m ∷ []) ms q qs h)
 
 mark_plain : (collation : Collation) (c : ℕ) → AreDigitsApart collation → (collation.canonical.class c == 0) ≡ false
     → is_digit collation.weights c ≡ false
@@ -71,27 +52,6 @@ joining_plain collation text between (m ∷ ms) d h g =
     (λ _. joining_plain collation text (between ++ m ∷ []) ms d
     (append_plain collation.weights between (m ∷ []) h (mark_plain collation m.character d n)) (tail_plain collation.weights m ms g)))
 
--- the characters of two lists of placed characters, one after the other
-pub characters_append : (ps qs : List Placed) → characters_of (ps ++ qs) ≡ characters_of ps ++ characters_of qs
-characters_append ps qs = map-append (λ p. p.character) ps qs
-
--- what is found at no number above m is found up to m
-pub greatest_below : (found : ℕ → Option ℕ) (m n : ℕ) → m ≤ n → ((k : ℕ) → m < k → found k ≡ None) → at_greatest found n ≡ at_greatest found m
-unfolding at_greatest
-greatest_below found m zero h none = let same : m ≡ 0 = omega arith in ap (at_greatest found) (sym same)
-greatest_below found m (suc n) h none =
-    elim (cases_lt n m) [
-      | inl above ↦ let same : suc n ≡ m = omega arith in ap (at_greatest found) same
-      | inr below ↦
-          ap (λ (o : Option ℕ). elim o as (λ _. Option ℕ) [ Some x ↦ Some x | None ↦ at_greatest found n ]) (none (suc n) (omega arith))
-          ∙ greatest_below found m n below none
-    ]
-
-pub greatest_same : (f g : ℕ → Option ℕ) (n : ℕ) → ((k : ℕ) → k ≤ n → f k ≡ g k) → at_greatest f n ≡ at_greatest g n
-unfolding at_greatest
-greatest_same f g zero h = h zero (omega arith)
-greatest_same f g (suc n) h = cc (h (suc n) (omega arith), greatest_same f g n (λ k l. h k (omega arith)))
-
 -- no recorded text reaches to a digit
 taken_holds : (weights : Weights) (xs ys : List ℕ) (d n : ℕ) → is_digit weights d ≡ true → length xs < n
     → holds_digit weights (take n (xs ++ d ∷ ys)) ≡ true
@@ -105,10 +65,6 @@ taken_long xs ys c d zero l = absurd (omega arith)
 taken_long xs ys c d (suc zero) l = absurd (omega arith)
 taken_long [] ys c d (suc (suc n)) l = omega arith
 taken_long (x ∷ xs) ys c d (suc (suc n)) l = omega arith
-
-pub none_where : (b c : Bool) (n : ℕ) → c ≡ false → cond (b && c) (Some n) None ≡ None
-none_where true c n e = rw e refl
-none_where false c n e = refl
 
 pub match_kept : (collation : Collation) (c : ℕ) (xs ys : List ℕ) (d : ℕ) → AreDigitsApart collation → is_digit collation.weights d ≡ true
     → match_length collation.weights ((c ∷ xs) ++ d ∷ ys) ≡ match_length collation.weights (c ∷ xs)

@@ -15,16 +15,14 @@ use Rattle.icu_collator_core.specs.Elements.{Placed, Reading, characters_of, mat
 use Rattle.icu_collator_core.proofs.readings.AlikeLemmas.{chosen_alike, reading_is}
 use Rattle.icu_collator.specs.NumbersInTexts.{AreDigitsApart, is_digit}
 use Rattle.icu_collator_core.proofs.readings.CountLemmas.{any_count, match_within, reading_shrinks}
-use Rattle.icu_collator.proofs.readings.BeforeDigitLemmas.{EndsPlain, tail_plain, drop_plain, JoinsAlike, joining_apart, joining_plain, characters_append, match_kept}
+use Rattle.icu_collator_core.proofs.readings.SplitAtBoundaryLemmas.{JoinsAlike, characters_append, characters_count, joining_apart, nothing_within}
+use Rattle.icu_collator.proofs.readings.BeforeDigitLemmas.{EndsPlain, tail_plain, drop_plain, joining_plain, match_kept}
 
 -- a reading of a list, and that of its front: what stands after the front is left
 record ReadsApart (weights : Weights) (behind : List Placed) (whole front : Reading) : Type 0 where
   elements : whole.elements ≡ front.elements
   left : whole.left ≡ front.left ++ behind
   ends : EndsPlain weights front.left
-
-pub characters_count : (ps : List Placed) (n : ℕ) → n ≤ length (characters_of ps) → n ≤ length ps
-characters_count ps n h = omega (arith, length-map {A = Placed} {B = ℕ})
 
 text_match_apart : (collation : Collation) (p : Placed) (ps : List Placed) (q : Placed) (qs : List Placed)
     → AreDigitsApart collation → is_digit collation.weights q.character ≡ true
@@ -141,11 +139,6 @@ reading_apart collation numeric p ps q qs a d h e =
     (record { elements = refl; left = refl; ends = rest })
     (λ es. record { elements = refl; left = refl; ends = rest })
     (text_apart collation p.character p ps q qs a h e)))
-
-pub nothing_within : (canonical : Canonical) (weights : Weights) (numeric : Bool) (n : ℕ) → elements_within n canonical weights numeric [] ≡ []
-unfolding elements_within
-nothing_within canonical weights numeric zero = refl
-nothing_within canonical weights numeric (suc n) = refl
 
 -- the elements of what stands before a digit, then those of the rest
 pub split_at_digit : (collation : Collation) (numeric : Bool) (n : ℕ) (ps : List Placed) (q : Placed) (qs : List Placed)

@@ -2,19 +2,16 @@
 
 ghost use Rattle.std.specs.Prelude.{◌≡◌, ◌&&◌, ◌==◌, false, ltb, true, IfSome};
 ghost use Rattle.icu_collator_types.specs.declared.options.ResolvedCollatorOptions.{ResolvedCollatorOptions};
-ghost use Rattle.icu_collator_core.specs.TableSettings.{reordered_in};
 ghost use Rattle.icu_collator.specs.Boundaries.{CountsWhole, Decide, EndsVariable, reordered_primary};
 ghost use Rattle.icu_collator.specs.Collators.{source_collation};
 ghost use Rattle.icu_collator.specs.NextCharacters.{IsOrderOfNext};
 ghost use Rattle.icu_collator.specs.declared.common_front.deciding.NextCharacter.TheVariants.{End, Plain};
 
+use crate::levels::counted_elements::SEGMENT_END_PRIMARY;
+use crate::levels::weights::reordered;
 use icu_collator_core::checked::CheckedTables;
-use icu_collator_core::tables::CollationTables;
 use icu_collator_types::elements::CollationElement;
 use std::cmp::Ordering;
-
-/// The primary of U+FFFE: no element up to it is variable.
-const SEGMENT_END_PRIMARY: u32 = 0x0200_0000;
 
 /// What stands next in a text.
 #[derive(Clone, Copy, Debug)]
@@ -32,16 +29,6 @@ fn counts_whole(primary: u32, variable_end: u32) -> bool
     ensures { result ≡ true → ((ltb 0x02000000 primary && ltb primary variable_end) ≡ false) × ((primary == 0) ≡ false) }
 {
     primary != 0 && (primary <= SEGMENT_END_PRIMARY || primary >= variable_end)
-}
-
-/// The primary that stands in the place of another.
-fn reordered(tables: &CollationTables<'_>, primary: u32) -> u32
-    ensures { result ≡ reordered_in tables.now.reordering primary }
-{
-    match &tables.reordering {
-        Some(reordering) => reordering.reorder(primary),
-        None => primary,
-    }
 }
 
 /// The primary of an element that counts whole, as it is reordered; `None` of another.

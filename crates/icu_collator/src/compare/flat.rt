@@ -2,20 +2,22 @@
 
 ghost use Rattle.std.specs.Char.{IsScalar};
 ghost use Rattle.std.specs.Iterator.{IsFinite, IsNearerEnd};
-ghost use Rattle.std.specs.Prelude.{◌≡◌, ◌≤◌, ℕ, All, List, IfOk, IfSome, drop, false, length};
+ghost use Rattle.std.specs.Ordering.{nat_cmp};
+ghost use Rattle.std.specs.Prelude.{◌≡◌, ◌≤◌, ◌==◌, ℕ, All, List, IfOk, IfSome, None, Option, drop, false, length, true};
 ghost use Rattle.icu_normalizer_core.specs.Iter.{Spells};
-ghost use Rattle.icu_collator_core.specs.FlatSteps.{IsNextPrimary, IsReadUpTo};
+ghost use Rattle.icu_collator_core.specs.FlatSteps.{IsNextPrimary, IsReadUpTo, IsSettled};
 ghost use Rattle.icu_collator_core.specs.declared.flat.steps.FlatStep.TheVariants.{Primary};
 ghost use Rattle.icu_collator.specs.Collators.{source_collation};
 ghost use Rattle.icu_collator_types.specs.Options.{is_at_least, is_shifted};
 ghost use Rattle.icu_collator_types.specs.declared.options.Strength.TheVariants.{Identical};
-ghost use Rattle.icu_collator.specs.FlatOrders.{AreAlikeSoFar, HaveSamePrimaries, IsByPrimaries, IsMeeting, IsMet};
+ghost use Rattle.icu_collator.specs.FlatOrders.{AreAlikeSoFar, AreSettled, HaveSamePrimaries, IsByPrimaries, IsMeeting, IsMet, reordered_by};
 ghost use Rattle.icu_collator.specs.Order.{collation_order};
+ghost use Rattle.icu_collator.specs.declared.compare.flat.ByPrimaries.TheVariants.{Decided};
 ghost use Rattle.icu_collator.specs.declared.compare.flat.Meeting.TheVariants.{Alike};
 
 use super::weights::compare_behind_primaries;
 use crate::common_front::behind;
-use crate::encodings::Characters;
+use crate::encodings::{Characters, PeekLow};
 use crate::levels::weights::reordered;
 use crate::read_texts::{ReadText, is_unshifted, numeric_lead};
 use icu_collator_core::checked::CheckedTables;
@@ -100,7 +102,8 @@ enum ByPrimaries {
 }
 
 /// Reads a text flat, from the place to which it was read so, behind a character of a class, up to its next primary: answers
-/// that, the text behind it, and the class of the last character that was read. No memory is taken.
+/// that, the text behind it, and the class of the last character that was read, 256 where a boundary has to follow. No memory is
+/// taken.
 #[inline(always)]
 fn next_primary<I: Iterator<Item = char> + Drop>(
     checked: &CheckedTables<'_>,
@@ -118,9 +121,9 @@ fn next_primary<I: Iterator<Item = char> + Drop>(
     let mut chars = chars;
     let mut class = class;
     'reading: while let Some(c) = chars.next() {
-        let starter = checked.starter_primary(c, class);
-        if starter != 0 {
-            return (FlatStep::Primary(starter), chars, 0);
+        let boundary = checked.boundary_primary(c);
+        if boundary != 0 {
+            return (FlatStep::Primary(boundary), chars, 0);
         }
         let Some((primary, trail)) = checked.flat_primary(numeric, c, class) else {
             return (FlatStep::Other, chars, class);
@@ -131,6 +134,85 @@ fn next_primary<I: Iterator<Item = char> + Drop>(
         }
     }
     (FlatStep::End, chars, class)
+}
+
+/// Whether two texts that were read to what comes next in both part there: whether what they were read to stands, whatever else
+/// they hold. Then the text behind one may have been asked.
+#[inline(never)]
+fn part<I: Iterator<Item = char> + Drop, J: Iterator<Item = char> + Drop>(
+    checked: &CheckedTables<'_>,
+    numeric: Option<u8>,
+    first: FlatStep,
+    second: FlatStep,
+    left: I,
+    right: J,
+    left_class: u32,
+    right_class: u32,
+) -> (bool, I, J)
+    requires left { (p : ℕ) → first ≡ Primary p → I.can_next left }
+    requires right { (p : ℕ) → second ≡ Primary p → J.can_next right }
+    ensures { result.0 ≡ true → (a b lefts rights : List ℕ)
+        → IsNextPrimary checked.now numeric I.next_gives a lefts first left left_class
+        → IsNextPrimary checked.now numeric J.next_gives b rights second right right_class
+        → IsSettled checked.now numeric a lefts first × IsSettled checked.now numeric b rights second }
+{
+    let mut left = left;
+    let mut right = right;
+    if !checked.is_settled(numeric, first, &mut left, left_class) {
+        return (false, left, right);
+    }
+    let right_stands = checked.is_settled(numeric, second, &mut right, right_class);
+    (right_stands, left, right)
+}
+
+/// What comes next in two texts, as it is before reordering, where both were read to behind it, each behind a character of a class:
+/// they part only if both primaries stand, whatever else the texts hold. Then the text behind one may have been asked.
+#[inline(always)]
+fn meet_settled<I: Iterator<Item = char> + Drop, J: Iterator<Item = char> + Drop>(
+    checked: &CheckedTables<'_>,
+    numeric: Option<u8>,
+    first: FlatStep,
+    second: FlatStep,
+    left: I,
+    right: J,
+    left_class: u32,
+    right_class: u32,
+) -> (Meeting, I, J)
+    requires left { (p : ℕ) → first ≡ Primary p → I.can_next left }
+    requires right { (p : ℕ) → second ≡ Primary p → J.can_next right }
+    ensures meets { IsMeeting checked.now first second result.0 }
+    ensures settled { (a b lefts rights : List ℕ) → IsNextPrimary checked.now numeric I.next_gives a lefts first left left_class
+        → IsNextPrimary checked.now numeric J.next_gives b rights second right right_class
+        → AreSettled checked.now numeric a b lefts rights first second result.0 }
+    ensures left_kept { result.0 ≡ Alike → result.1 ≡ left }
+    ensures right_kept { result.0 ≡ Alike → result.2 ≡ right }
+{
+    let meeting = meet(checked, first, second);
+    match meeting {
+        Meeting::Parted(_order) => {
+            if left_class < 256 && right_class < 256 {
+                return (meeting, left, right);
+            }
+            let (stands, left, right) = part(
+                checked,
+                numeric,
+                first,
+                second,
+                left,
+                right,
+                left_class,
+                right_class,
+            );
+            if stands {
+                (meeting, left, right)
+            } else {
+                (Meeting::Stopped, left, right)
+            }
+        }
+        Meeting::Alike => (Meeting::Alike, left, right),
+        Meeting::BothEnd => (Meeting::BothEnd, left, right),
+        Meeting::Stopped => (Meeting::Stopped, left, right),
+    }
 }
 
 /// What the next primaries of two texts say, that were read up to primaries that are alike, each behind a character of a class;
@@ -156,13 +238,98 @@ fn meet_next<I: Iterator<Item = char> + Drop, J: Iterator<Item = char> + Drop>(
 {
     let (one, left_rest, left_last) = next_primary(checked, numeric, left, left_class);
     let (two, right_rest, right_last) = next_primary(checked, numeric, right, right_class);
-    let meeting = meet(checked, one, two);
+    let (meeting, left_rest, right_rest) = meet_settled(
+        checked, numeric, one, two, left_rest, right_rest, left_last, right_last,
+    );
     (meeting, left_rest, right_rest, left_last, right_last)
+}
+
+/// The order of two primaries, as they are reordered.
+#[inline(always)]
+fn order_of_primaries(checked: &CheckedTables<'_>, first: u32, second: u32) -> Ordering
+    ensures { result ≡ nat_cmp (reordered_by checked.now first) (reordered_by checked.now second) }
+{
+    if first == second {
+        return Ordering::Equal;
+    }
+    reordered(checked.tables(), first).cmp(&reordered(checked.tables(), second))
+}
+
+/// Reads two texts side by side as long as their next characters are the same boundary below U+0080, and a look tells so. No
+/// memory is taken.
+#[inline(always)]
+fn pass_common<I: PeekLow + Drop, J: PeekLow + Drop>(
+    checked: &CheckedTables<'_>,
+    left: I,
+    right: J,
+) -> (I, J)
+    requires left { I.can_next left }
+    requires left_ends { IsFinite (I.remaining left) }
+    requires right { J.can_next right }
+    requires right_ends { IsFinite (J.remaining right) }
+    ensures alike { (numeric : Option ℕ) (a b : List ℕ) → All IsScalar a → All IsScalar b → Spells I.next_gives left a → Spells J.next_gives right b
+        → AreAlikeSoFar checked.now numeric I.next_gives J.next_gives a b result.0 result.1 0 0 }
+    ensures left { I.can_next result.0 }
+    ensures left_ends { IsFinite (I.remaining result.0) }
+    ensures right { J.can_next result.1 }
+    ensures right_ends { IsFinite (J.remaining result.1) }
+{
+    checked.canonical().keep_promise();
+    let mut left = left;
+    let mut right = right;
+    'common: loop {
+        let low = left.peek_low();
+        if low >= 0x80 || right.peek_low() != low {
+            return (left, right);
+        }
+        if checked.boundary_primary(low as char) == 0 {
+            return (left, right);
+        }
+        let _first = left.next();
+        let _second = right.next();
+    }
+}
+
+/// The order of two texts that were read up to primaries that are alike, where looks tell the next characters of both, and these
+/// are boundaries with primaries that differ; `None` for others. With the texts, which are as they were where there is none.
+#[inline(always)]
+fn order_by_low<I: PeekLow + Drop, J: PeekLow + Drop>(
+    checked: &CheckedTables<'_>,
+    left: I,
+    right: J,
+) -> (Option<Ordering>, I, J)
+    requires left { I.can_next left }
+    requires right { J.can_next right }
+    ensures order { IfSome result.0 (λ order. (numeric : Option ℕ) (a b : List ℕ) → All IsScalar a → All IsScalar b
+        → AreAlikeSoFar checked.now numeric I.next_gives J.next_gives a b left right 0 0 → IsByPrimaries checked.now numeric a b (Decided order)) }
+    ensures left_kept { result.0 ≡ None → result.1 ≡ left }
+    ensures right_kept { result.0 ≡ None → result.2 ≡ right }
+{
+    checked.canonical().keep_promise();
+    let low = left.peek_low();
+    let other = right.peek_low();
+    if low >= 0x80 || other >= 0x80 {
+        return (None, left, right);
+    }
+    let first = checked.boundary_primary(low as char);
+    let second = checked.boundary_primary(other as char);
+    if first == 0 || second == 0 {
+        return (None, left, right);
+    }
+    let order = order_of_primaries(checked, first, second);
+    if order == Ordering::Equal {
+        return (None, left, right);
+    }
+    let mut behind_left = left;
+    let mut behind_right = right;
+    let _first = behind_left.next();
+    let _second = behind_right.next();
+    (Some(order), behind_left, behind_right)
 }
 
 /// Reads two texts side by side as long as their primaries are alike. No memory is taken.
 #[inline(always)]
-fn by_primaries<I: Iterator<Item = char> + Drop, J: Iterator<Item = char> + Drop>(
+fn by_primaries<I: PeekLow + Drop, J: PeekLow + Drop>(
     checked: &CheckedTables<'_>,
     numeric: Option<u8>,
     left: I,
@@ -175,8 +342,11 @@ fn by_primaries<I: Iterator<Item = char> + Drop, J: Iterator<Item = char> + Drop
     ensures { (a b : List ℕ) → All IsScalar a → All IsScalar b → Spells I.next_gives left a → Spells J.next_gives right b
         → IsByPrimaries checked.now numeric a b result }
 {
-    let mut left = left;
-    let mut right = right;
+    let (left, right) = pass_common(checked, left, right);
+    let (order, mut left, mut right) = order_by_low(checked, left, right);
+    if let Some(order) = order {
+        return ByPrimaries::Decided(order);
+    }
     let mut left_class = 0;
     let mut right_class = 0;
     'primaries: loop {

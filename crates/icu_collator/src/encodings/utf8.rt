@@ -1,10 +1,11 @@
 //! The characters of a text in UTF-8, one after another: those of one or two bytes by a look at these alone.
 
-ghost use Rattle.std.specs.Prelude.{◌≡◌, ◌∷◌, [], All, IfSome, MatchOption};
+ghost use Rattle.std.specs.Prelude.{◌≡◌, ◌<◌, ◌≤◌, ◌∷◌, [], All, IfSome, MatchOption, drop, length};
 ghost use Rattle.std.specs.Char.{IsScalar};
 ghost use Rattle.std.specs.Iterator.{YieldsFirst, item_count};
 ghost use Rattle.icu_normalizer_core.specs.Decoding.{utf8_chars};
 
+use super::PeekLow;
 use bstr::ByteSlice;
 use std::marker::Model;
 
@@ -55,25 +56,65 @@ fn short_char(bytes: &[u8]) -> Option<(char, &[u8])>
     Some((char::from_u32(code)?, behind))
 }
 
-/// The first character of any bytes, and the bytes behind it.
+/// The first character where three bytes spell it, the first of them from E1 to EC (hex). `None` says nothing.
 #[inline(never)]
-fn any_char(bytes: &[u8]) -> Option<(char, &[u8])>
-    ensures { MatchOption result (utf8_chars bytes.now ≡ []) (λ r. utf8_chars bytes.now ≡ r.0 ∷ utf8_chars r.1.now) }
+fn three_byte_char(bytes: &[u8]) -> Option<char>
+    ensures spelled { IfSome result (λ c. utf8_chars bytes.now ≡ c ∷ utf8_chars (drop 3 bytes.now)) }
+    ensures within { IfSome result (λ _. 3 ≤ length bytes.now) }
 {
-    let mut chars = bytes.chars();
-    let first = chars.next()?;
-    Some((first, chars.as_bytes()))
+    let (lead, rest) = bytes.split_first()?;
+    if *lead < 0xE1 || 0xED <= *lead {
+        return None;
+    }
+    let (next, behind) = rest.split_first()?;
+    if *next < 0x80 || 0xC0 <= *next {
+        return None;
+    }
+    let (last, _after) = behind.split_first()?;
+    if *last < 0x80 || 0xC0 <= *last {
+        return None;
+    }
+    let front = (*lead as u32 - 0xE0) * 0x40 + (*next as u32 - 0x80);
+    let first = char::from_u32(front * 0x40 + (*last as u32 - 0x80))?;
+    Some(first)
 }
 
-/// The same, by a look at the bytes alone where one or two spell it.
+/// The first character of any bytes.
+#[inline(never)]
+fn any_char(bytes: &[u8]) -> Option<char>
+    ensures { MatchOption result (utf8_chars bytes.now ≡ []) (λ c. utf8_chars bytes.now ≡ c ∷ drop 1 (utf8_chars bytes.now)) }
+{
+    let mut chars = bytes.chars();
+    chars.next()
+}
+
+/// The bytes behind the first character of any. Apart from `any_char`, so that both answer in registers.
+#[inline(never)]
+fn behind_any_char(bytes: &[u8]) -> &[u8]
+    ensures { utf8_chars result.now ≡ drop 1 (utf8_chars bytes.now) }
+{
+    let mut chars = bytes.chars();
+    let _first = chars.next();
+    chars.as_bytes()
+}
+
+/// The first character of any bytes, and the bytes behind it: by a look at the bytes alone where one or two spell it, and mostly
+/// where three do.
 #[inline(always)]
 fn first_char(bytes: &[u8]) -> Option<(char, &[u8])>
     ensures { MatchOption result (utf8_chars bytes.now ≡ []) (λ r. utf8_chars bytes.now ≡ r.0 ∷ utf8_chars r.1.now) }
 {
+    if bytes.is_empty() {
+        return None;
+    }
     if let Some((first, rest)) = short_char(bytes) {
         return Some((first, rest));
     }
-    any_char(bytes)
+    if let Some(first) = three_byte_char(bytes) {
+        return Some((first, &bytes[3..]));
+    }
+    let first = any_char(bytes)?;
+    Some((first, behind_any_char(bytes)))
 }
 
 impl<'a> Iterator for Utf8Steps<'a> {
@@ -88,5 +129,15 @@ impl<'a> Iterator for Utf8Steps<'a> {
         let (first, rest) = first_char(self.bytes)?;
         self.bytes = rest;
         Some(first)
+    }
+}
+
+impl<'a> PeekLow for Utf8Steps<'a> {
+    #[inline(always)]
+    fn peek_low(&self) -> u8 {
+        match self.bytes.split_first() {
+            Some((lead, _rest)) => *lead,
+            None => u8::MAX,
+        }
     }
 }

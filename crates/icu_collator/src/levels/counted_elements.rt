@@ -16,7 +16,7 @@ use smallvec::SmallVec;
 use std::alloc::{AllocError, Global};
 
 /// The primary of U+FFFE: no element up to it is variable.
-pub(super) const SEGMENT_END_PRIMARY: u32 = 0x0200_0000;
+pub(crate) const SEGMENT_END_PRIMARY: u32 = 0x0200_0000;
 
 /// An element that counts, as the levels look at it.
 #[derive(Clone, Copy, Debug)]

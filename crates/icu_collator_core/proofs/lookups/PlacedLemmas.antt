@@ -1,7 +1,8 @@
 -- What is left of a decomposed list from a place on: its characters, and behind what they stand.
 use Rattle.std.proofs.Common.{◌≡◌, ℕ, zero, suc, ◌≤◌, List, [], ◌∷◌, ◌++◌, length, take, drop, reverse, refl, sym, ◌∙◌, ap, arith, append-nil, append_assoc}
 use Rattle.std.proofs.lemmas.List.{length-take, reverse-append, take_all}
-use Rattle.icu_collator_core.specs.Elements.{characters_of, longest_prefix, placed, placed_behind}
+use Rattle.icu_collator_core.specs.Boundaries.{after}
+use Rattle.icu_collator_core.specs.Elements.{Placed, characters_of, longest_prefix, placed, placed_behind}
 use Rattle.icu_collator_core.specs.ReadTexts.{characters_before}
 
 take_less : (n m : ℕ) (xs : List ℕ) → n ≤ m → take n (take m xs) ≡ take n xs
@@ -38,3 +39,14 @@ pub characters_placed : (before list : List ℕ) → characters_of (placed_behin
 unfolding placed_behind
 characters_placed before [] = refl
 characters_placed before (c ∷ cs) = ap (λ l. c ∷ l) (characters_placed (take longest_prefix (c ∷ before)) cs)
+
+pub length_placed : (before list : List ℕ) → length (placed_behind before list) ≡ length list
+unfolding placed_behind
+length_placed before [] = refl
+length_placed before (c ∷ cs) = ap suc (length_placed (take longest_prefix (c ∷ before)) cs)
+
+pub placed_append : (before xs ys : List ℕ) → placed_behind before (xs ++ ys) ≡ placed_behind before xs ++ placed_behind (after before xs) ys
+unfolding placed_behind
+placed_append before [] ys = refl
+placed_append before (x ∷ xs) ys =
+    ap (λ (w : List Placed). record { character = x; before = before } ∷ w) (placed_append (take longest_prefix (x ∷ before)) xs ys)

@@ -1,9 +1,10 @@
 -- Texts that are read flat, one primary after another.
-use Rattle.std.proofs.Common.{◌≡◌, ℕ, ◌+◌, ◌<◌, ◌≤◌, ◌==◌, Bool, true, false, ◌&&◌, cond, List, [], ◌∷◌, ◌++◌, flat_map, filter_map, length, take, Option, Some, None, ◌⊎◌, ⊎_elim, inl, inr, refl, sym, ◌∙◌, ap, subst, arith, append_assoc, append-nil}
+use Rattle.std.proofs.Common.{◌≡◌, ℕ, ◌+◌, ◌<◌, ◌≤◌, ◌==◌, Bool, true, false, ◌&&◌, cond, List, [], ◌∷◌, ◌++◌, flat_map, filter_map, Option, Some, None, ◌⊎◌, ⊎_elim, inl, inr, refl, sym, ◌∙◌, ap, subst, arith, append_assoc, append-nil}
 use Rattle.std.specs.Char.{IsScalar}
-use Rattle.std.specs.Prelude.{All}
+use Rattle.std.specs.Prelude.{All, IfSome}
 use Rattle.std.specs.Option.{is_some}
-use Rattle.std.proofs.lemmas.Bool.{and_from, and_parts, cases_Bool}
+use Rattle.std.proofs.lemmas.Bool.{and_from, and_parts, cases_Bool, false≢true}
+use Rattle.std.proofs.lemmas.List.{map-append}
 use Rattle.std.proofs.lemmas.List.Elements.{filter_map-append, recursion_from_All}
 use lib.Utf8.{scalar, scalars}
 use Rattle.icu_normalizer_core.specs.Canonical.{IsDecomposing, decomposed, marks_in_order}
@@ -12,20 +13,18 @@ use Rattle.icu_normalizer_core.proofs.decomposed_lists.DecomposedLemmas.{AreScal
 use Rattle.icu_normalizer_core.proofs.decomposed_lists.IterLemmas.{Spells-end, Spells-next}
 use Rattle.icu_collator_types.specs.declared.elements.Element.{Element}
 use Rattle.icu_collator_core.specs.Acceptance.{CollationSource}
+use Rattle.icu_collator_core.specs.Boundaries.{after}
 use Rattle.icu_collator_core.specs.ElementLists.{unpacked}
-use Rattle.icu_collator_core.specs.Elements.{Placed, Reading, elements_within, longest_prefix, placed_behind}
 use Rattle.icu_collator_core.specs.ElementTexts.{text_elements}
-use Rattle.icu_collator_core.specs.FlatNotes.{AreReadFlat, IsFlat, IsPushed, MayFollow, StandInOrder, last_class}
-use Rattle.icu_collator_core.specs.FlatSteps.{BeginsWithPrimaries, BeginsWithStarter, IsNextPrimary, IsReadUpTo, IsStep, StepsTo, primaries_in, primary_if_any, primary_in}
+use Rattle.icu_collator_core.specs.FlatNotes.{AreReadFlat, IsBoundaryApart, IsFlat, IsFlatUpTo, IsReadFlat, IsReadInOrder, MayFollow, MayStandBehind, elements_behind, last_class}
+use Rattle.icu_collator_core.specs.FlatSteps.{BeginsWithPrimaries, IsFollowed, IsNextPrimary, IsReadUpTo, IsSettled, IsStep, StepsTo, primaries_in, primary_if_any, primary_in}
 use Rattle.icu_collator_core.specs.declared.flat.steps.FlatStep.{FlatStep}
 use Rattle.icu_collator_core.specs.declared.flat.steps.FlatStep.TheVariants.{Primary, End, Other}
 use Rattle.icu_collator_core.specs.Pools.{element_of}
-use Rattle.icu_collator_core.specs.ReadSources.{canonical_by, weights_by}
-use Rattle.icu_collator_core.proofs.lookups.MatchLemmas.{scalars_front}
-use Rattle.icu_collator_core.proofs.lookups.PlacedLemmas.{characters_placed}
-use Rattle.icu_collator_core.proofs.readings.AloneReadLemmas.{uncounted_read}
-use Rattle.icu_collator_core.proofs.readings.FlatOrderLemmas.{last_appended, order_appended, order_stands}
-use Rattle.icu_collator_core.proofs.readings.FlatReadLemmas.{flat_elements, flat_scalars, read_appended}
+use Rattle.icu_collator_core.specs.ReadSources.{canonical_by}
+use Rattle.icu_collator_core.proofs.readings.FlatOrderLemmas.{order_stands}
+use Rattle.icu_collator_core.proofs.readings.FlatReadLemmas.{flat_before, more_in_order, nothing_in_order, whole_elements}
+use Rattle.icu_collator_core.proofs.readings.SplitAtBoundaryLemmas.{after_scalars}
 
 -- ---- primaries
 
@@ -60,69 +59,65 @@ module _ (source : CollationSource) (numeric : Option ℕ) where
   abbrev full : ℕ → List ℕ
   full = (canonical_by source).full
 
-  one_of : (list : List ℕ) (bits : ℕ) → AreReadFlat source numeric list (bits ∷ []) → (x : ℕ) × (list ≡ x ∷ [])
-  one_of [] bits h = absurd h
-  one_of (x ∷ []) bits h = (x, refl)
-  one_of (x ∷ y ∷ ys) bits h = absurd h.1
-
-  some_of : (list : List ℕ) (bits : ℕ) (others : List ℕ) → AreReadFlat source numeric list (bits ∷ others)
-      → (x : ℕ) × (xs : List ℕ) × (list ≡ x ∷ xs) × (scalar x ≡ true)
-  some_of [] bits others h = absurd h
-  some_of (x ∷ xs) bits others h = (x, xs, refl, h.0.character)
-
-  pub one_step : (c bits lead trail before : ℕ) (old new : List ℕ) (p : ℕ) → IsFlat source numeric c (bits ∷ []) lead trail → before ≤ lead
-      → (element_of bits).primary ≡ p → ((p == 0) ≡ false → trail ≡ 0) → new ≡ old ++ bits ∷ [] → IsStep source numeric c before old p trail new
-  one_step c bits lead trail before old new p flat least is starter appended =
-      let last = flat.last before in
-      let found = one_of (full c) bits flat.read in
-      record {
-        pushed = record { items = bits ∷ []; read = flat.read; order = flat.order before least; last = last; appended = appended };
-        primaries = one_primary bits p is;
-        begins = λ some. record {
-          first = found.0;
-          rest = [];
-          full = found.1;
-          starter = ap (λ (l : List ℕ). last_class class before l) (sym found.1) ∙ last ∙ starter some;
-          bits = bits;
-          others = [];
-          items_are = refl;
-          primary = has_primary bits p is some;
-        };
-      }
+  -- characters with one element that are read alone are one
+  single : (x : ℕ) (xs : List ℕ) (bits : ℕ) → AreReadFlat source numeric (x ∷ xs) (bits ∷ []) → xs ≡ []
+  single x [] bits h = refl
+  single x (y ∷ ys) bits h = absurd h.1
 
   -- a character that may stand behind any class is a starter
   starts : (x : ℕ) → IsDecomposing (canonical_by source) → scalar x ≡ true → MayFollow 255 (class x) → class x ≡ 0
   starts x decomposing ok follows =
       ⊎_elim (λ (e : class x ≡ 0). e) (λ (e : 255 ≤ class x). let bound = decomposing.classes x ok in absurd (omega (arith, e, bound))) follows
 
-  pub two_step : (c bits other lead trail before : ℕ) (old new : List ℕ) (p : ℕ) → IsDecomposing (canonical_by source)
-      → IsFlat source numeric c (bits ∷ other ∷ []) lead trail → before ≤ lead → (element_of bits).primary ≡ p → ((p == 0) ≡ false → lead ≡ 255)
-      → (element_of other).primary ≡ 0 → new ≡ old ++ bits ∷ other ∷ [] → IsStep source numeric c before old p trail new
-  two_step c bits other lead trail before old new p decomposing flat least is starter none appended =
-      let found = some_of (full c) bits (other ∷ []) flat.read in
+  -- one whose elements have a primary has that of a starter, which is read alone where anything may follow
+  pub step_by : (c bits : ℕ) (others : List ℕ) (trail before : ℕ) (old new : List ℕ) (p : ℕ) (flat : IsFlat source numeric c before (bits ∷ others) trail)
+      → (element_of bits).primary ≡ p → primaries_in (bits ∷ others) ≡ primary_if_any p → ((p == 0) ≡ false → trail ≤ 255 → class flat.first ≡ 0)
+      → new ≡ old ++ bits ∷ others → IsStep source numeric c before old p trail new
+  step_by c bits others trail before old new p flat is only starter appended =
       record {
-        pushed = record {
-          items = bits ∷ other ∷ [];
-          read = flat.read;
-          order = flat.order before least;
-          last = flat.last before;
-          appended = appended;
+        pushed = record { items = bits ∷ others; flat = flat; appended = appended };
+        primaries = only;
+        begins = λ some small. record {
+          starter = starter some small;
+          bits = bits;
+          others = others;
+          items_are = refl;
+          read = (flat.alone small).0;
+          primary = has_primary bits p is some;
         };
-        primaries = two_primaries bits other p is none;
-        begins = λ some.
-            let above : 255 ≤ lead = let e = starter some in omega (arith, e) in
-            let order = subst (λ (l : List ℕ). StandInOrder class 255 l) found.2 (flat.order 255 above) in
-            record {
-              first = found.0;
-              rest = found.1;
-              full = found.2;
-              starter = starts found.0 decomposing found.3 order.0;
-              bits = bits;
-              others = other ∷ [];
-              items_are = refl;
-              primary = has_primary bits p is some;
-            };
       }
+
+  -- one that may stand behind any class begins with a starter
+  first_starts : (c before : ℕ) (items : List ℕ) (lead trail : ℕ) → IsDecomposing (canonical_by source) → (note : IsFlatUpTo source numeric c items lead trail)
+      → (least : before ≤ lead) → 255 ≤ lead → class (note before least).first ≡ 0
+  first_starts c before items lead trail decomposing note least above =
+      let flat = note before least in
+      let any = note 255 above in
+      let same : any.first ∷ any.rest ≡ flat.first ∷ flat.rest = sym any.full ∙ flat.full in
+      let first : any.first ≡ flat.first = cc in
+      subst (λ (x : ℕ). class x ≡ 0) first (starts any.first decomposing (and_parts (scalar any.first) (scalars any.rest) any.characters).0 any.order.0)
+
+  pub one_step : (c bits lead trail before : ℕ) (old new : List ℕ) (p : ℕ) → IsDecomposing (canonical_by source)
+      → IsFlatUpTo source numeric c (bits ∷ []) lead trail → before ≤ lead → (element_of bits).primary ≡ p → ((p == 0) ≡ false → 255 ≤ lead)
+      → new ≡ old ++ bits ∷ [] → IsStep source numeric c before old p trail new
+  one_step c bits lead trail before old new p decomposing note least is above appended =
+      step_by c bits [] trail before old new p (note before least) is (one_primary bits p is)
+      (λ some _. first_starts c before (bits ∷ []) lead trail decomposing note least (above some)) appended
+
+  -- the same of one element behind which any mark may stand
+  pub boundary_step : (c bits before : ℕ) (old new : List ℕ) (p : ℕ) → IsFlat source numeric c before (bits ∷ []) 0
+      → (element_of bits).primary ≡ p → new ≡ old ++ bits ∷ [] → IsStep source numeric c before old p 0 new
+  boundary_step c bits before old new p flat is appended =
+      let one = single flat.first flat.rest bits (flat.alone (omega arith)) in
+      step_by c bits [] 0 before old new p flat is (one_primary bits p is)
+      (λ _ small. ap (λ (l : List ℕ). last_class class (class flat.first) l) (sym one) ∙ flat.last small) appended
+
+  pub two_step : (c bits other lead trail before : ℕ) (old new : List ℕ) (p : ℕ) → IsDecomposing (canonical_by source)
+      → IsFlatUpTo source numeric c (bits ∷ other ∷ []) lead trail → before ≤ lead → (element_of bits).primary ≡ p → ((p == 0) ≡ false → 255 ≤ lead)
+      → (element_of other).primary ≡ 0 → new ≡ old ++ bits ∷ other ∷ [] → IsStep source numeric c before old p trail new
+  two_step c bits other lead trail before old new p decomposing note least is above none appended =
+      step_by c bits (other ∷ []) trail before old new p (note before least) is (two_primaries bits other p is none)
+      (λ some _. first_starts c before (bits ∷ other ∷ []) lead trail decomposing note least (above some)) appended
 
   -- ---- a text
 
@@ -132,31 +127,19 @@ module _ (source : CollationSource) (numeric : Option ℕ) where
 
     pub nothing_read_to : (chars : I) (items : List ℕ) → Spells steps chars text → items ≡ [] → ReadTo chars 0 items
     nothing_read_to chars items spelled none =
-        record {
-          list = [];
-          rest = text;
-          text_is = refl;
-          left = spelled;
-          read = subst (λ (is : List ℕ). AreReadFlat source numeric [] is) (sym none) tt;
-          order = tt;
-          last = refl;
-        }
+        record { list = []; rest = text; text_is = refl; left = spelled; read = nothing_in_order source numeric items none }
 
     pub read_on : (now next : I) (last c p trail : ℕ) (items new : List ℕ) → ReadTo now last items → steps now (Some c) next
         → IsStep source numeric c last items p trail new → ReadTo next trail new
     read_on now next last c p trail items new h step stepped =
         let here = full c in
-        let pushed = stepped.pushed in
         let got = Spells-next steps now next c h.rest step h.left in
         record {
           list = h.list ++ here;
           rest = got.0;
           text_is = h.text_is ∙ ap (λ (l : List ℕ). h.list ++ flat_map full l) got.1 ∙ sym (append_assoc h.list here (flat_map full got.0));
           left = got.2;
-          read = subst (λ (l : List ℕ). AreReadFlat source numeric (h.list ++ here) l) (sym pushed.appended)
-              (read_appended source numeric h.list items here pushed.items h.read pushed.read);
-          order = order_appended class 0 h.list here h.order (subst (λ (k : ℕ). StandInOrder class k here) (sym h.last) pushed.order);
-          last = last_appended class 0 h.list here ∙ ap (λ k. last_class class k here) h.last ∙ pushed.last;
+          read = more_in_order source numeric h.list items new last c trail h.read stepped.pushed;
         }
 
     pub primaries_on : (last c p trail : ℕ) (items new : List ℕ) → IsStep source numeric c last items p trail new
@@ -166,82 +149,94 @@ module _ (source : CollationSource) (numeric : Option ℕ) where
         ∙ ap (λ (ps : List ℕ). primaries_in items ++ ps) stepped.primaries
 
     pub read_whole : (now next : I) (last : ℕ) (items : List ℕ) → ReadTo now last items → steps now None next → unpacked items ≡ text_elements source numeric text
-    unfolding decomposed
     read_whole now next last items h step =
         let none = Spells-end steps now next h.rest step h.left in
-        let all = h.text_is ∙ ap (λ (l : List ℕ). h.list ++ flat_map full l) none ∙ append-nil h.list in
-        sym (flat_elements source numeric [] h.list items refl h.read)
-        ∙ ap (λ (l : List ℕ). elements_within (length l) (canonical_by source) (weights_by numeric source) (is_some numeric) (placed_behind [] l))
-        (sym (ap (λ (l : List ℕ). marks_in_order class l) all ∙ order_stands class 0 h.list h.order))
+        whole_elements source numeric text h.list last items h.read (h.text_is ∙ ap (λ (l : List ℕ). h.list ++ flat_map full l) none ∙ append-nil h.list)
 
-    -- the elements of a list that begins with characters that are read flat
-    front_elements : (before list rest items : List ℕ) → scalars before ≡ true → scalars rest ≡ true → AreReadFlat source numeric list items
-        → (more : List Element) × (elements_within (length (list ++ rest)) (canonical_by source) (weights_by numeric source) (is_some numeric) (placed_behind before (list ++ rest)) ≡ unpacked items ++ more)
-    unfolding elements_within placed_behind
-    front_elements before [] rest [] ok behind h =
-        (elements_within (length rest) (canonical_by source) (weights_by numeric source) (is_some numeric) (placed_behind before rest), refl)
-    front_elements before [] rest (bits ∷ items) ok behind h = absurd h
-    front_elements before (c ∷ cs) rest [] ok behind h = absurd h
-    front_elements before (c ∷ cs) rest (bits ∷ items) ok behind h =
-        let canonical = canonical_by source in
-        let weights = weights_by numeric source in
-        let nearer = take longest_prefix (c ∷ before) in
-        let p : Placed = record { character = c; before = before } in
-        let ps = placed_behind nearer (cs ++ rest) in
-        let after = ap scalars (characters_placed nearer (cs ++ rest)) ∙ scalars_joined cs rest (flat_scalars source numeric cs items h.1) behind in
-        let first = uncounted_read canonical weights c bits h.0.alone (is_some numeric) p ps refl ok after h.0.ordinary h.0.uncounted h.0.undropped in
-        let more = front_elements nearer cs rest items (scalars_front longest_prefix (c ∷ before) (and_from (scalar c) (scalars before) h.0.character ok)) behind h.1 in (
-          more.0,
-          ap (λ (r : Reading). r.elements ++ elements_within (length (cs ++ rest)) canonical weights (is_some numeric) r.left) first
-              ∙ ap (λ (es : List Element). element_of bits ∷ es) more.1,
-        )
-      where
-        scalars_joined : (xs ys : List ℕ) → scalars xs ≡ true → scalars ys ≡ true → scalars (xs ++ ys) ≡ true
-        scalars_joined [] ys h g = g
-        scalars_joined (x ∷ xs) ys h g = let parts = and_parts (scalar x) (scalars xs) h in and_from (scalar x) (scalars (xs ++ ys)) parts.0 (scalars_joined xs ys parts.1 g)
+    -- the elements of a text that goes on with a starter behind what was read
+    module _ (list : List ℕ) (last x : ℕ) (behind items : List ℕ) (decomposing : IsDecomposing (canonical_by source)) (ok : All IsScalar text)
+        (read : IsReadInOrder source numeric list last items) (whole : flat_map full text ≡ list ++ x ∷ behind) (starter : class x ≡ 0)
+        (follows : MayStandBehind source numeric last (x ∷ behind)) where
+      abbrev left : List ℕ
+      left = marks_in_order class behind
+
+      list_is : decomposed (canonical_by source) text ≡ list ++ x ∷ left
+      unfolding decomposed
+      list_is =
+          ap (marks_in_order class) whole ∙ order_before class x list behind starter
+          ∙ ap (λ (l : List ℕ). l ++ x ∷ left) (order_stands class 0 list read.order)
+
+      left_scalars : scalars (x ∷ left) ≡ true
+      left_scalars =
+          behind_scalars list (x ∷ left)
+          (ap scalars (sym list_is) ∙ all_are (decomposed (canonical_by source) text) (recursion_from_All IsScalar (decomposed (canonical_by source) text) (decomposed_all_scalars (canonical_by source) text decomposing ok)))
+        where
+          all_are : (cs : List ℕ) → AreScalar cs → scalars cs ≡ true
+          all_are [] h = refl
+          all_are (c ∷ cs) h = and_from (scalar c) (scalars cs) h.0 (all_are cs h.1)
+
+          behind_scalars : (xs ys : List ℕ) → scalars (xs ++ ys) ≡ true → scalars ys ≡ true
+          behind_scalars [] ys h = h
+          behind_scalars (x ∷ xs) ys h = behind_scalars xs ys (and_parts (scalar x) (scalars (xs ++ ys)) h).1
+
+      on_elements : text_elements source numeric text ≡ unpacked items ++ elements_behind source numeric (after [] list) (x ∷ left)
+      on_elements = ap (elements_behind source numeric []) list_is ∙ read.read [] (x ∷ left) refl left_scalars follows
+
+      -- its primaries are those of what was read
+      begins_on : BeginsWithPrimaries source numeric text (primaries_in items)
+      begins_on = record { items = items; more = elements_behind source numeric (after [] list) (x ∷ left); elements = on_elements; primaries = refl }
+
+      -- and that of the starter, where it is read alone
+      begins_with : (bits p : ℕ) → IsReadFlat source numeric x bits → primary_in bits ≡ Some p → BeginsWithPrimaries source numeric text (primaries_in items ++ p ∷ [])
+      begins_with bits p alone primary =
+          let near = after [] list in
+          let rest = elements_behind source numeric (after near (x ∷ [])) left in
+          let parts = and_parts (scalar x) (scalars left) left_scalars in
+          let one = flat_before source numeric (x ∷ []) (bits ∷ []) 0 (alone, tt) near left (after_scalars [] list refl read.characters) parts.1 (anything left) in
+          record {
+            items = items ++ bits ∷ [];
+            more = rest;
+            elements = on_elements ∙ ap (λ (es : List Element). unpacked items ++ es) one
+                ∙ sym (append_assoc (unpacked items) (unpacked (bits ∷ [])) rest) ∙ ap (λ (es : List Element). es ++ rest) (sym (map-append element_of items (bits ∷ [])));
+            primaries = filter_map-append primary_in items (bits ∷ []) ∙ ap (λ (ps : List ℕ). primaries_in items ++ ps) (primary_of_one bits primary);
+          }
+        where
+          anything : (l : List ℕ) → MayStandBehind source numeric 0 l
+          anything [] = tt
+          anything (d ∷ ds) = inl (omega arith)
+
+          primary_of_one : (b : ℕ) → primary_in b ≡ Some p → primaries_in (b ∷ []) ≡ p ∷ []
+          primary_of_one b e = rw e refl
+
+    next_is : (list rest more : List ℕ) (c first : ℕ) (others : List ℕ) → flat_map full text ≡ list ++ flat_map full rest → rest ≡ c ∷ more → full c ≡ first ∷ others
+        → flat_map full text ≡ list ++ first ∷ (others ++ flat_map full more)
+    next_is list rest more c first others is left here =
+        is ∙ ap (λ (l : List ℕ). list ++ flat_map full l) left ∙ ap (λ (l : List ℕ). list ++ (l ++ flat_map full more)) here
 
     -- the elements of a text up to a starter behind what was read
     pub primary_reached : (now next : I) (last c p trail : ℕ) (items new : List ℕ) → IsDecomposing (canonical_by source) → All IsScalar text
-        → ReadTo now last items → steps now (Some c) next → IsStep source numeric c last items p trail new → (p == 0) ≡ false
+        → ReadTo now last items → steps now (Some c) next → IsStep source numeric c last items p trail new → (p == 0) ≡ false → trail ≤ 255
         → BeginsWithPrimaries source numeric text (primaries_in items ++ p ∷ [])
-    unfolding decomposed
-    primary_reached now next last c p trail items new decomposing ok h step stepped some =
-        let begins = stepped.begins some in
+    primary_reached now next last c p trail items new decomposing ok h step stepped some small =
+        let begins = stepped.begins some small in
+        let flat = stepped.pushed.flat in
         let got = Spells-next steps now next c h.rest step h.left in
-        let x = begins.first in
-        let behind = begins.rest ++ flat_map full got.0 in
-        let whole : flat_map full text ≡ h.list ++ x ∷ behind =
-        h.text_is ∙ ap (λ (l : List ℕ). h.list ++ flat_map full l) got.1 ∙ ap (λ (l : List ℕ). h.list ++ (l ++ flat_map full got.0)) begins.full in
-        let left = marks_in_order class behind in
-        let front = h.list ++ x ∷ [] in
-        let list_is : decomposed (canonical_by source) text ≡ front ++ left =
-        ap (marks_in_order class) whole ∙ order_before class x h.list behind begins.starter
-        ∙ ap (λ (l : List ℕ). l ++ x ∷ left) (order_stands class 0 h.list h.order)
-        ∙ sym (append_assoc h.list (x ∷ []) left) in
-        let scalar_list : scalars (front ++ left) ≡ true =
-        ap scalars (sym list_is) ∙ all_are (decomposed (canonical_by source) text) (recursion_from_All IsScalar (decomposed (canonical_by source) text) (decomposed_all_scalars (canonical_by source) text decomposing ok)) in
-        let first : AreReadFlat source numeric (x ∷ begins.rest) (begins.bits ∷ begins.others) =
-        subst (λ (l : List ℕ). AreReadFlat source numeric l (begins.bits ∷ begins.others)) begins.full
-        (subst (λ (l : List ℕ). AreReadFlat source numeric (full c) l) begins.items_are stepped.pushed.read) in
-        let read = read_appended source numeric h.list items (x ∷ []) (begins.bits ∷ []) h.read (first.0, tt) in
-        let found = front_elements [] front left (items ++ begins.bits ∷ []) refl (behind_scalars front left scalar_list) read in
-        record {
-          items = items ++ begins.bits ∷ [];
-          more = found.0;
-          elements = ap (λ (l : List ℕ). elements_within (length l) (canonical_by source) (weights_by numeric source) (is_some numeric) (placed_behind [] l)) list_is ∙ found.1;
-          primaries = filter_map-append primary_in items (begins.bits ∷ []) ∙ ap (λ (ps : List ℕ). primaries_in items ++ ps) (primary_of_one begins.bits begins.primary);
-        }
-      where
-        all_are : (cs : List ℕ) → AreScalar cs → scalars cs ≡ true
-        all_are [] h = refl
-        all_are (c ∷ cs) h = and_from (scalar c) (scalars cs) h.0 (all_are cs h.1)
+        begins_with h.list last flat.first (flat.rest ++ flat_map full got.0) items decomposing ok h.read (next_is h.list h.rest got.0 c flat.first flat.rest h.text_is got.1 flat.full)
+        begins.starter flat.follows begins.bits p begins.read begins.primary
 
-        behind_scalars : (xs ys : List ℕ) → scalars (xs ++ ys) ≡ true → scalars ys ≡ true
-        behind_scalars [] ys h = h
-        behind_scalars (x ∷ xs) ys h = behind_scalars xs ys (and_parts (scalar x) (scalars (xs ++ ys)) h).1
+    -- What was read stands, where behind it the text ends, or a character may stand that asks for a boundary there.
+    pub settled_end : (now next : I) (last : ℕ) (items : List ℕ) → ReadTo now last items → steps now None next → BeginsWithPrimaries source numeric text (primaries_in items)
+    settled_end now next last items h step =
+        record { items = items; more = []; elements = sym (read_whole now next last items h step) ∙ sym (append-nil (unpacked items)); primaries = refl }
 
-        primary_of_one : (bits : ℕ) → primary_in bits ≡ Some p → primaries_in (bits ∷ []) ≡ p ∷ []
-        primary_of_one bits e = rw e refl
+    pub settled_on : (now next : I) (last c p trail : ℕ) (items : List ℕ) → IsDecomposing (canonical_by source) → All IsScalar text → 255 < last
+        → ReadTo now last items → steps now (Some c) next → StepsTo source numeric c last p trail → BeginsWithPrimaries source numeric text (primaries_in items)
+    settled_on now next last c p trail items decomposing ok above h step steps_to =
+        let flat = (steps_to items).1.pushed.flat in
+        let got = Spells-next steps now next c h.rest step h.left in
+        begins_on h.list last flat.first (flat.rest ++ flat_map full got.0) items decomposing ok h.read (next_is h.list h.rest got.0 c flat.first flat.rest h.text_is got.1 flat.full)
+        (⊎_elim (λ (small : last ≤ 255). absurd (omega (arith, small, above))) (λ (boundary : IsBoundaryApart source numeric flat.first). boundary.0.starter) flat.follows)
+        flat.follows
 
     -- ---- what comes next
 
@@ -261,8 +256,8 @@ module _ (source : CollationSource) (numeric : Option ℕ) where
             read_on now next last c p trail items new h step stepped.1,
             primaries_on last c p trail items new stepped.1
                 ∙ ap (λ (ps : List ℕ). primaries_in items ++ ps) (some_primary p some) ∙ ap (λ (ps : List ℕ). ps ++ p ∷ []) same,
-            λ ok. subst (λ (ps : List ℕ). BeginsWithPrimaries source numeric text (ps ++ p ∷ [])) same
-                (primary_reached now next last c p trail items new decomposing ok h step stepped.1 some),
+            λ small ok. subst (λ (ps : List ℕ). BeginsWithPrimaries source numeric text (ps ++ p ∷ [])) same
+                (primary_reached now next last c p trail items new decomposing ok h step stepped.1 some small),
           ),
         )
 
@@ -285,16 +280,28 @@ module _ (source : CollationSource) (numeric : Option ℕ) where
         → steps now None next → IsNextPrimary source numeric steps text old End next class_then
     end_next now next last class_then items old h same step = (items, (read_whole now next last items h step, same))
 
-    -- the same of other elements with the same primaries
-    pub next_from : (chars : I) (last : ℕ) (items old : List ℕ) (result : FlatStep) → primaries_in items ≡ primaries_in old
-        → IsNextPrimary source numeric steps text items result chars last → IsNextPrimary source numeric steps text old result chars last
-    next_from chars last items old (Primary p) same h = (
-      h.0,
-      (
-        h.1.0,
-        h.1.1 ∙ ap (λ (ps : List ℕ). ps ++ p ∷ []) same,
-        λ ok. subst (λ (ps : List ℕ). BeginsWithPrimaries source numeric text (ps ++ p ∷ [])) same (h.1.2 ok),
-      ),
-    )
-    next_from chars last items old End same h = (h.0, (h.1.0, h.1.1 ∙ same))
-    next_from chars last items old Other same h = (h.0, tt)
+    -- ---- what stands, whatever else the text holds
+
+    pub settled_next : (now next : I) (last : ℕ) (items : List ℕ) (found : Option ℕ) → IsDecomposing (canonical_by source) → All IsScalar text → 255 < last
+        → ReadTo now last items → steps now found next → IsFollowed source numeric last found → BeginsWithPrimaries source numeric text (primaries_in items)
+    settled_next now next last items None decomposing ok above h step follows = settled_end now next last items h step
+    settled_next now next last items (Some c) decomposing ok above h step follows =
+        settled_on now next last c follows.0 follows.1 items decomposing ok above h step follows.2
+
+    pub settled_small : (chars : I) (last : ℕ) (old : List ℕ) (result : FlatStep) → last ≤ 255
+        → IsNextPrimary source numeric steps text old result chars last → IsSettled source numeric text old result
+    settled_small chars last old (Primary p) small h = h.1.2 small
+    settled_small chars last old End small h = tt
+    settled_small chars last old Other small h = tt
+
+    -- what was read to is so where what was read stands
+    pub settled_by : (chars : I) (last p : ℕ) (old : List ℕ) → IsNextPrimary source numeric steps text old (Primary p) chars last
+        → ((items : List ℕ) → ReadTo chars last items → All IsScalar text → BeginsWithPrimaries source numeric text (primaries_in items))
+        → IsSettled source numeric text old (Primary p)
+    settled_by chars last p old h stands = λ ok. subst (λ (ps : List ℕ). BeginsWithPrimaries source numeric text ps) h.1.1 (stands h.0 h.1.0 ok)
+
+-- a character may stand behind a class where its step there was told
+pub followed_told : (source : CollationSource) (numeric : Option ℕ) (last c : ℕ) (step : Option (ℕ × ℕ)) → IfSome step (λ s. StepsTo source numeric c last s.0 s.1)
+    → is_some step ≡ true → IsFollowed source numeric last (Some c)
+followed_told source numeric last c None steps_to told = absurd (false≢true told)
+followed_told source numeric last c (Some s) steps_to told = (s.0, s.1, steps_to)

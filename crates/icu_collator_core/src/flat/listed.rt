@@ -4,7 +4,7 @@ ghost use Rattle.std.specs.Prelude.{◌≡◌, IfSome};
 ghost use Rattle.icu_collator_core.specs.FlatNotes.{IsPushed};
 
 use super::flat_elements::FlatElements;
-use super::notes::note_of;
+use super::notes::{BEFORE_BOUNDARY, note_of};
 use crate::checked::CheckedTables;
 
 impl CheckedTables<'_> {
@@ -14,9 +14,9 @@ impl CheckedTables<'_> {
         &self,
         numeric: Option<u8>,
         c: char,
-        before: u8,
+        before: u16,
         elements: &mut FlatElements<N>,
-    ) -> Option<u8>
+    ) -> Option<u16>
         ensures { IfSome result (λ trail. IsPushed self.now numeric c before elements.old.items trail elements.new.items) }
     {
         if let Some(note) = self.flat_note(c) {
@@ -39,16 +39,21 @@ impl CheckedTables<'_> {
         &self,
         numeric: Option<u8>,
         c: char,
-        before: u8,
+        before: u16,
         elements: &mut FlatElements<N>,
-    ) -> Option<u8>
+    ) -> Option<u16>
         ensures { IfSome result (λ trail. IsPushed self.now numeric c before elements.old.items trail elements.new.items) }
     {
         self.canonical().keep_promise();
         let mut last = before;
         for part in self.canonical().full_list(c) {
             match self.push_part(numeric, part, last, elements) {
-                Some(class) => last = class,
+                Some(class) => {
+                    if class >= BEFORE_BOUNDARY {
+                        return None;
+                    }
+                    last = class;
+                }
                 None => return None,
             }
         }

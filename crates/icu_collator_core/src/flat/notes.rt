@@ -1,12 +1,13 @@
 //! Notes of low characters by which texts are read flat: found once for all, and looked up by one read.
 
-ghost use Rattle.std.specs.Prelude.{◌≡◌, ◌∷◌, ◌≤◌, ◌==◌, ◌&&◌, ◌||◌, ℕ, [], IfOk, IfSome, Option, None, is_some};
+ghost use Rattle.std.specs.Prelude.{◌≡◌, ◌∷◌, ◌≤◌, ◌==◌, ◌&&◌, ◌||◌, ℕ, [], true, IfOk, IfSome, Option, None, is_some};
 ghost use Rattle.icu_collator_core.specs.Acceptance.{CollationSource};
 ghost use Rattle.icu_collator_core.specs.Defaults.{special_primary};
-ghost use Rattle.icu_collator_core.specs.FlatNotes.{AreFlatNotes, IsFlatNote, IsPushed, IsReadFlat, MayFollow};
+ghost use Rattle.icu_collator_core.specs.FlatNotes.{AreFlatNotes, IsFlatNote, IsPushed, IsReadFlat, IsUncounted, MayBegin, MayFollow};
 ghost use Rattle.icu_collator_core.specs.ReadSources.{canonical_by};
 ghost use Rattle.icu_collator_core.specs.TableSettings.{has_bit};
 
+use super::boundaries::{is_boundary, note_before_boundary};
 use super::flat_elements::FlatElements;
 use crate::checked::CheckedTables;
 use crate::reading::checked_words::checked_word;
@@ -17,25 +18,24 @@ use std::alloc::{AllocError, Global};
 /// The characters of which there are notes end before this one: all of one or two bytes in UTF-8 have one.
 const FLAT_END: u32 = 0x800;
 
-/// What is noted of a character: the elements of its full list, each character of which is read alone, whatever stands before
-/// and behind it, behind them the highest canonical combining class behind which it may stand, and the class of the last.
+/// In place of a class: behind the character a boundary has to follow, or the end of the text.
+pub(crate) const BEFORE_BOUNDARY: u16 = 256;
+
+/// What is noted of a character: the elements of its full list, whatever stands before it; behind them the highest canonical
+/// combining class behind which it may stand, 256 for a boundary, and the class of the last of the full list. Each character
+/// of that is read alone, whatever stands behind it, but where the last class is 256: there a boundary has to follow.
 #[derive(Clone, Copy, Debug)]
 pub(crate) enum FlatNote {
     /// Nothing: it isn't read so.
     Other,
-    /// The full list is one character.
-    One(CollationElement, u8, u8),
+    /// There is one element, whatever stands beside the character, and it is a boundary.
+    Boundary(CollationElement),
+    /// There is one element.
+    One(CollationElement, u16, u16),
     /// The same, of a digit, where numbers aren't read.
-    Digit(CollationElement, u8, u8),
-    /// The full list is two characters, in order.
-    Two(CollationElement, CollationElement, u8, u8),
-}
-
-/// The highest class behind which a character of this class may stand: any behind which is a starter, else its own.
-fn highest_before(class: u8) -> u8
-    ensures { (before : ℕ) → before ≤ result → MayFollow before class }
-{
-    if class == 0 { u8::MAX } else { class }
+    Digit(CollationElement, u16, u16),
+    /// There are two elements.
+    Two(CollationElement, CollationElement, u16, u16),
 }
 
 impl FlatNote {
@@ -45,15 +45,15 @@ impl FlatNote {
     pub(crate) fn push<const N: usize>(
         &self,
         numeric: Option<u8>,
-        before: u8,
+        before: u16,
         elements: &mut FlatElements<N>,
-    ) -> Option<u8>
+    ) -> Option<u16>
         ensures { IfSome result (λ trail. (source : CollationSource) (c : ℕ) → IsFlatNote source c self.now
             → IsPushed source numeric c before elements.old.items trail elements.new.items) }
     {
-        if let FlatNote::One(element, lead, trail) = *self {
-            if before <= lead && elements.push(element) {
-                return Some(trail);
+        if let FlatNote::Boundary(element) = *self {
+            if elements.push(element) {
+                return Some(0);
             }
             return None;
         }
@@ -65,9 +65,9 @@ impl FlatNote {
     fn push_other<const N: usize>(
         &self,
         numeric: Option<u8>,
-        before: u8,
+        before: u16,
         elements: &mut FlatElements<N>,
-    ) -> Option<u8>
+    ) -> Option<u16>
         ensures { IfSome result (λ trail. (source : CollationSource) (c : ℕ) → IsFlatNote source c self.now
             → IsPushed source numeric c before elements.old.items trail elements.new.items) }
     {
@@ -81,6 +81,13 @@ impl FlatNote {
             }
             FlatNote::Digit(element, lead, trail) => {
                 if numeric.is_none() && before <= lead && elements.push(element) {
+                    Some(trail)
+                } else {
+                    None
+                }
+            }
+            FlatNote::One(element, lead, trail) => {
+                if before <= lead && elements.push(element) {
                     Some(trail)
                 } else {
                     None
@@ -121,6 +128,29 @@ fn flat_digit(checked: &CheckedTables<'_>, c: char) -> Option<CollationElement>
     Some(element)
 }
 
+/// Whether a mark of a class may stand behind a character of another; a starter behind any.
+fn may_follow(before: u8, class: u8) -> bool
+    ensures { result ≡ true → MayFollow before class }
+{
+    class == 0 || before <= class
+}
+
+/// The highest class behind which a character of a decomposed list may stand: any behind which is a starter, 256 for a boundary,
+/// else its own.
+fn highest_before(checked: &CheckedTables<'_>, c: char) -> u16
+    ensures { (numeric : Option ℕ) (before : ℕ) → before ≤ result → IsUncounted checked.now numeric c → MayBegin checked.now numeric before c }
+{
+    let class = checked.canonical().class(c);
+    if class != 0 {
+        return class as u16;
+    }
+    if is_boundary(checked, c) {
+        BEFORE_BOUNDARY
+    } else {
+        BEFORE_BOUNDARY - 1
+    }
+}
+
 /// What is to be noted of a character whose full list is one.
 fn note_of_one(checked: &CheckedTables<'_>, first: char) -> FlatNote
     ensures { (c : ℕ) → (canonical_by checked.now).full c ≡ first ∷ [] → IsFlatNote checked.now c result }
@@ -135,9 +165,16 @@ pub(super) fn own_note(checked: &CheckedTables<'_>, first: char, class: u8) -> F
     requires { (canonical_by checked.now).class first ≡ class }
     ensures { (c : ℕ) → (canonical_by checked.now).full c ≡ first ∷ [] → IsFlatNote checked.now c result }
 {
-    let lead = highest_before(class);
+    let lead = highest_before(checked, first);
+    let class = class as u16;
     match flat_element(checked, first) {
-        Some(element) => FlatNote::One(element, lead, class),
+        Some(element) => {
+            if lead == BEFORE_BOUNDARY {
+                FlatNote::Boundary(element)
+            } else {
+                FlatNote::One(element, lead, class)
+            }
+        }
         None => match flat_digit(checked, first) {
             Some(element) => FlatNote::Digit(element, lead, class),
             None => FlatNote::Other,
@@ -151,7 +188,7 @@ fn note_of_two(checked: &CheckedTables<'_>, first: char, second: char) -> FlatNo
 {
     let class = checked.canonical().class(first);
     let trail = checked.canonical().class(second);
-    if class > highest_before(trail) {
+    if !may_follow(class, trail) {
         return FlatNote::Other;
     }
     let Some(element) = flat_element(checked, first) else {
@@ -160,7 +197,7 @@ fn note_of_two(checked: &CheckedTables<'_>, first: char, second: char) -> FlatNo
     let Some(next) = flat_element(checked, second) else {
         return FlatNote::Other;
     };
-    FlatNote::Two(element, next, highest_before(class), trail)
+    FlatNote::Two(element, next, highest_before(checked, first), trail as u16)
 }
 
 /// What is to be noted of a character.
@@ -180,13 +217,28 @@ pub(crate) fn note_of(checked: &CheckedTables<'_>, c: char) -> FlatNote
     note_of_two(checked, first, second)
 }
 
-/// What is to be noted of the character of a code, if it is one.
-pub(crate) fn note_at(checked: &CheckedTables<'_>, code: u32) -> FlatNote
-    ensures { IsFlatNote checked.now code result }
+/// What is to be noted of a character, also of one that is read so only where a boundary follows. Fails only when out of memory.
+fn whole_note(alloc: Global, checked: &CheckedTables<'_>, c: char) -> Result<FlatNote, AllocError>
+    ensures { IfOk result (λ note. IsFlatNote checked.now c note) }
+{
+    let note = note_of(checked, c);
+    match note {
+        FlatNote::Other => note_before_boundary(alloc, checked, c),
+        _ => Ok(note),
+    }
+}
+
+/// What is to be noted of the character of a code, if it is one. Fails only when out of memory.
+pub(super) fn note_at(
+    alloc: Global,
+    checked: &CheckedTables<'_>,
+    code: u32,
+) -> Result<FlatNote, AllocError>
+    ensures { IfOk result (λ note. IsFlatNote checked.now code note) }
 {
     match char::from_u32(code) {
-        Some(c) => note_of(checked, c),
-        None => FlatNote::Other,
+        Some(c) => whole_note(alloc, checked, c),
+        None => Ok(FlatNote::Other),
     }
 }
 
@@ -199,7 +251,8 @@ pub(crate) fn flat_notes(
 {
     let mut notes = Vec::new(alloc);
     for code in 0..FLAT_END {
-        notes.push(note_at(checked, code))?;
+        let note = note_at(alloc, checked, code)?;
+        notes.push(note)?;
     }
     Ok(notes)
 }

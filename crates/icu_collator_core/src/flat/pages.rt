@@ -97,7 +97,8 @@ fn note_page(alloc: Global, checked: &CheckedTables<'_>, page: u32) -> Result<No
 {
     let mut notes = Vec::new(alloc);
     for place in 0..PAGE_LENGTH {
-        notes.push(note_at(checked, page * PAGE_LENGTH + place))?;
+        let note = note_at(alloc, checked, page * PAGE_LENGTH + place)?;
+        notes.push(note)?;
     }
     Ok(NotePage { notes })
 }

@@ -1,10 +1,39 @@
-use Rattle.icu_collator.proofs.orders.OrderByFlatLemmas.{met}
+use Rattle.std.proofs.Common.{◌≡◌, subst, sym}
+use Rattle.std.specs.Iterator.{IsNearerEnd}
+use Rattle.icu_collator.specs.FlatOrders.{IsMeeting}
+use Rattle.icu_collator.specs.declared.compare.flat.Meeting.{Meeting}
+use Rattle.icu_collator.proofs.orders.OrderByFlatLemmas.{alike_left, alike_right, met, met_left}
 use Rattle.icu_collator.proofs.compare.flat.meet_next.Goals as goal
 
 pub returns-clause-next : goal.returns-clause-next
 returns-clause-next g c = λ a b ok scalars alike.
     let one = c.next_primary-one in
     let two = c.next_primary-two in
-    met c.args.checked.now g.I.Iterator.next_gives g.J.Iterator.next_gives c.args.numeric a b alike.0 alike.1 alike.2.same
-    one.result.1 two.result.1 one.result.2 two.result.2 one.result.0 two.result.0 c.meet-meeting.result c.meet-meeting.ensures
-    (one.ensures.next a alike.0 alike.2.left_read) (two.ensures.next b alike.1 alike.2.right_read) ok scalars
+    let source = c.args.checked.now in
+    let numeric = c.args.numeric in
+    let left_next = one.ensures.next a alike.0 alike.2.left_read in
+    let right_next = two.ensures.next b alike.1 alike.2.right_read in
+    let meeting = c.meet_settled-meeting in
+    met_left source g.I.Iterator.next_gives g.J.Iterator.next_gives numeric a b meeting.result.0 one.result.1 meeting.result.1 two.result.1 meeting.result.2 one.result.2 two.result.2
+    meeting.ensures.left_kept meeting.ensures.right_kept
+    (met source g.I.Iterator.next_gives g.J.Iterator.next_gives numeric a b alike.0 alike.1 alike.2.same
+    one.result.1 two.result.1 one.result.2 two.result.2 one.result.0 two.result.0 meeting.result.0 meeting.ensures.meets
+    left_next right_next (meeting.ensures.settled a b alike.0 alike.1 left_next right_next) ok scalars)
+
+pub returns-clause-left_nearer : goal.returns-clause-left_nearer
+returns-clause-left_nearer g c = λ alike.
+    let one = c.next_primary-one in
+    let two = c.next_primary-two in
+    let source = c.args.checked.now in
+    let meeting = c.meet_settled-meeting in
+    let found = alike_left source one.result.0 two.result.0 (subst (λ (said : Meeting). IsMeeting source one.result.0 two.result.0 said) alike meeting.ensures.meets) in
+    subst (λ it. IsNearerEnd g.I.Iterator.can_next g.I.Iterator.remaining c.args.left it) (sym (meeting.ensures.left_kept alike)) (one.ensures.nearer found.0 found.1)
+
+pub returns-clause-right_nearer : goal.returns-clause-right_nearer
+returns-clause-right_nearer g c = λ alike.
+    let one = c.next_primary-one in
+    let two = c.next_primary-two in
+    let source = c.args.checked.now in
+    let meeting = c.meet_settled-meeting in
+    let found = alike_right source one.result.0 two.result.0 (subst (λ (said : Meeting). IsMeeting source one.result.0 two.result.0 said) alike meeting.ensures.meets) in
+    subst (λ it. IsNearerEnd g.J.Iterator.can_next g.J.Iterator.remaining c.args.right it) (sym (meeting.ensures.right_kept alike)) (two.ensures.nearer found.0 found.1)

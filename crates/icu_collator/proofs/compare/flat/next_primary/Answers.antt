@@ -4,15 +4,15 @@ use Rattle.icu_collator_core.specs.ReadSources.{canonical_by}
 use Rattle.icu_collator_core.proofs.readings.FlatStepLemmas.{end_next, next_primary, none_next}
 use Rattle.icu_collator.proofs.compare.flat.next_primary.Goals as goal
 
-pub returns-then-starter-ne0-clause-next : goal.returns-then-starter-ne0-clause-next
-returns-then-starter-ne0-clause-next g c = λ text items read.
+pub returns-then-boundary-ne0-clause-next : goal.returns-then-boundary-ne0-clause-next
+returns-then-boundary-ne0-clause-next g c = λ text items read.
     let source = c.args.checked.now in
-    let p = c.starter_primary-starter.result in
+    let p = c.boundary_primary-boundary.result in
     let some : (p == 0) ≡ false = search rules in
     let decomposing : IsDecomposing (canonical_by source) = search rules in
     let so_far = c.reading.invariant.read text items read in
     next_primary source c.args.numeric g.I.Iterator.next_gives text _ _ c.reading.class c.in-Some.c p 0 so_far.0 items decomposing so_far.1 so_far.2
-    c.in-Some.ensures.steps (c.starter_primary-starter.ensures some c.args.numeric) some
+    c.in-Some.ensures.steps (c.boundary_primary-boundary.ensures some c.args.numeric c.reading.class) some
 
 pub returns-then-primary-ne0-clause-next : goal.returns-then-primary-ne0-clause-next
 returns-then-primary-ne0-clause-next g c = λ text items read.

@@ -15,9 +15,9 @@ loop-code-init c = record {
 pub loop-code-preserved : goal.loop-code-preserved
 loop-code-preserved c =
     let notes = c.loop-code.notes.items in
-    let note = c.note_at.result in
+    let note = c.in_ok-note.note in
     record {
       count = ap length c.in_ok-push.ensures.items ∙ length_push notes note ∙ ap (λ n. n + 1) c.loop-code.invariant.count;
       notes = subst (λ (notes : List FlatNote). AreFlatNotes c.args.checked.now notes) (sym c.in_ok-push.ensures.items)
-          (noted_more (IsFlatNote c.args.checked.now) Other (λ d. tt) notes note c.loop-code.code c.loop-code.invariant.count c.note_at.ensures c.loop-code.invariant.notes);
+          (noted_more (IsFlatNote c.args.checked.now) Other (λ d. tt) notes note c.loop-code.code c.loop-code.invariant.count c.in_ok-note.ensures c.loop-code.invariant.notes);
     }

@@ -16,10 +16,10 @@ loop-place-init c = record {
 pub loop-place-preserved : goal.loop-place-preserved
 loop-place-preserved c =
     let notes = c.loop-place.notes.items in
-    let note = c.note_at.result in
+    let note = c.in_ok-note.note in
     record {
       count = ap length c.in_ok-push.ensures.items ∙ length_push notes note ∙ ap (λ n. n + 1) c.loop-place.invariant.count;
       notes = subst (λ (notes : List FlatNote). IsNotePage c.args.checked.now c.args.page notes) (sym c.in_ok-push.ensures.items)
           (noted_more (λ place. IsFlatNote c.args.checked.now (c.args.page * 64 + place)) Other (λ d. tt) notes note c.loop-place.place
-          c.loop-place.invariant.count c.note_at.ensures c.loop-place.invariant.notes);
+          c.loop-place.invariant.count c.in_ok-note.ensures c.loop-place.invariant.notes);
     }

@@ -5,11 +5,9 @@ use Rattle.icu_collator_core.proofs.flat.notes.FlatNote.push.Goals as goal
 
 pub returns-then-push : goal.returns-then-push
 returns-then-push g c = λ source x note.
-    let flat = subst (λ (n : FlatNote). IsFlatNote source x n) c.in-One.is note c.args.numeric in
+    let flat = subst (λ (n : FlatNote). IsFlatNote source x n) c.in-Boundary.is note c.args.numeric in
     record {
-      items = c.in-One.element ∷ [];
-      read = flat.read;
-      order = flat.order c.args.before c.if-before-lead.true;
-      last = flat.last c.args.before;
+      items = c.in-Boundary.element ∷ [];
+      flat = flat c.args.before;
       appended = c.push.ensures c.if-push.true;
     }

@@ -10,9 +10,7 @@ returns-then-push-2 g c = λ source x note.
     let second = c.in-Two.second in
     record {
       items = first ∷ second ∷ [];
-      read = flat.read;
-      order = flat.order c.args.before c.if-before-lead.true;
-      last = flat.last c.args.before;
+      flat = flat c.args.before c.if-before-lead.true;
       appended =
           c.push-then-push.ensures c.if-push-2.true ∙ ap (λ (l : List ℕ). l ++ second ∷ []) (c.push.ensures c.if-push.true)
           ∙ append_assoc c.args.elements.now.items (first ∷ []) (second ∷ []);

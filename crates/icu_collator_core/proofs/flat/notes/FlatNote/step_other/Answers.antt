@@ -1,6 +1,6 @@
 use Rattle.std.proofs.Common.{◌≡◌, Option, ℕ, [], ◌∷◌, ◌++◌, false, refl, rules, subst, sym}
 use Rattle.std.specs.Option.{is_some}
-use Rattle.icu_collator_core.specs.FlatNotes.{IsFlat, IsFlatNote}
+use Rattle.icu_collator_core.specs.FlatNotes.{IsFlatNote, IsFlatUpTo}
 use Rattle.icu_collator_core.specs.declared.flat.notes.FlatNote.{FlatNote}
 use Rattle.icu_collator_core.proofs.readings.AloneReadLemmas.{not_some}
 use Rattle.icu_collator_core.proofs.readings.FlatStepLemmas.{one_step, two_step}
@@ -20,8 +20,8 @@ returns-in_ok-primary-in-Digit c = λ source d decomposing note old.
     let noted = subst (λ (n : FlatNote). IsFlatNote source d n) c.in-Digit.is note in
     let pushed = c.in_ok-primary-in-Digit.ensures in
     let uncounted : is_some c.args.numeric ≡ false = search rules in
-    let counted = subst (λ (n : Option ℕ). IsFlat source n d (c.in-Digit.element ∷ []) c.in-Digit.lead c.in-Digit.trail) (sym (not_some c.args.numeric uncounted)) noted in (
+    let counted = subst (λ (n : Option ℕ). IsFlatUpTo source n d (c.in-Digit.element ∷ []) c.in-Digit.lead c.in-Digit.trail) (sym (not_some c.args.numeric uncounted)) noted in (
       old ++ c.in-Digit.element ∷ [],
       one_step source c.args.numeric d c.in-Digit.element c.in-Digit.lead c.in-Digit.trail c.args.before old (old ++ c.in-Digit.element ∷ [])
-          c.in_ok-primary-in-Digit.primary counted pushed.follows pushed.primary pushed.starter refl,
+          c.in_ok-primary-in-Digit.primary decomposing counted pushed.follows pushed.primary pushed.starter refl,
     )

@@ -1,26 +1,105 @@
 -- The elements of a list with a boundary in it: those of what stands before, and those of what stands from there on.
-use Rattle.std.proofs.Common.{◌≡◌, ℕ, zero, suc, ◌+◌, ◌<◌, ◌≤◌, ◌==◌, Bool, true, false, cond, ◌&&◌, ltb, List, [], ◌∷◌, ◌++◌, length, take, drop, refl, sym, ap, ◌∙◌, arith, append_assoc, length-append, filter_map, Option, Some, None}
-use Rattle.std.specs.List.{AllByRecursion}
+use Rattle.std.proofs.Common.{◌≡◌, ℕ, zero, suc, ◌+◌, ◌<◌, ◌≤◌, ◌==◌, Bool, true, false, cond, ◌&&◌, ltb, List, [], ◌∷◌, ◌++◌, length, take, drop, refl, sym, ap, ◌∙◌, arith, append_assoc, length-append, filter_map, inl, inr, Option, Some, None}
+use Rattle.std.specs.List.{AllByRecursion, Contains, list_all}
 use Rattle.std.specs.Option.{unwrap_or, is_some}
-use Rattle.std.proofs.lemmas.Bool.{and_from, and_parts}
-use Rattle.std.proofs.lemmas.List.{take-append-le, drop-append-le}
+use Rattle.std.proofs.lemmas.Bool.{and_from, and_parts, cases_lt, eq-eqb}
+use Rattle.std.proofs.lemmas.List.{drop-append-le, length-map, map-append, take-append-le}
 use Rattle.std.proofs.lemmas.List.Sums.{prefix_len-le-length}
+use Rattle.std.proofs.lemmas.List.Elements.{Contains-append_right}
 use lib.Utf8.{scalar, scalars}
 use Rattle.icu_normalizer_core.specs.Canonical.{Canonical}
 use Rattle.icu_collator_types.specs.declared.elements.Element.{Element}
+use Rattle.icu_collator_core.specs.Boundaries.{IsApart, IsBoundary, after, is_accent}
 use Rattle.icu_collator_core.specs.Weights.{Weights}
 use Rattle.icu_collator_core.specs.Defaults.{special_primary, default_elements}
 use Rattle.icu_collator_core.specs.Numbers.{number_elements}
-use Rattle.icu_collator_core.specs.Elements.{Placed, Reading, characters_of, recorded_length, match_length, prefix_match, text_match, text_reading, digit_count, number_reading, is_before_accent, reading, elements_within}
+use Rattle.icu_collator_core.specs.Elements.{Placed, longest_prefix, Reading, Joining, characters_of, at_greatest, recorded_length, match_length, prefix_match, joining, text_match, text_reading, digit_count, number_reading, is_before_accent, reading, elements_within}
 use Rattle.icu_collator_core.proofs.lookups.MatchLemmas.{scalars_front}
 use Rattle.icu_collator_core.proofs.lookups.PrefixLemmas.{scalars_join}
-use Rattle.icu_collator_core.proofs.readings.AlikeLemmas.{chosen_alike, reading_is}
+use Rattle.icu_collator_core.proofs.readings.AlikeLemmas.{chosen_alike, reading_is, two_ways}
 use Rattle.icu_collator_core.proofs.readings.CountLemmas.{any_count, match_within, reading_shrinks}
 use Rattle.icu_collator_core.proofs.readings.ReadingLeftLemmas.{reading_left}
-use Rattle.icu_collator.specs.Boundaries.{IsApart, IsBoundary, is_accent}
-use Rattle.icu_collator.specs.NumbersInTexts.{is_digit}
-use Rattle.icu_collator.proofs.readings.BeforeDigitLemmas.{JoinsAlike, characters_append, greatest_below, greatest_same, joining_apart, none_where}
-use Rattle.icu_collator.proofs.readings.SplitAtDigitLemmas.{characters_count, nothing_within}
+
+abbrev is_digit : Weights → ℕ → Bool
+is_digit weights c = is_some (weights.digit c)
+
+-- marks join no further than up to a starter, and what stands from there on is left after what is left before it
+pub record JoinsAlike (behind : List Placed) (whole front : Joining) : Type 0 where
+  pub text : whole.text ≡ front.text
+  pub left : whole.left ≡ front.left ++ behind
+
+pub joining_apart : (canonical : Canonical) (weights : Weights) (text : List ℕ) (between ms : List Placed) (q : Placed) (qs : List Placed)
+    → canonical.class q.character ≡ 0
+    → JoinsAlike (q ∷ qs) (joining canonical weights text between (ms ++ q ∷ qs)) (joining canonical weights text between ms)
+unfolding joining
+joining_apart canonical weights text between [] q qs h =
+    let starter : (canonical.class q.character == 0) ≡ true = eq-eqb (canonical.class q.character) 0 h
+    in rw starter (record { text = refl; left = refl })
+joining_apart canonical weights text between (m ∷ ms) q qs h =
+    two_ways (canonical.class m.character == 0)
+    (list_all (λ b. ltb (canonical.class b.character) (canonical.class m.character)) between && is_some (weights.recorded [] (text ++ m.character ∷ [])))
+    _ _ _ _ _ _ (JoinsAlike (q ∷ qs))
+    (record { text = refl {a = text}; left = sym (append_assoc between (m ∷ ms) (q ∷ qs)) })
+    (joining_apart canonical weights (text ++ m.character ∷ []) between ms q qs h)
+    (joining_apart canonical weights text (between ++ m ∷ []) ms q qs h)
+
+-- the characters of two lists of placed characters, one after the other
+pub characters_append : (ps qs : List Placed) → characters_of (ps ++ qs) ≡ characters_of ps ++ characters_of qs
+characters_append ps qs = map-append (λ p. p.character) ps qs
+
+-- what is found at no number above m is found up to m
+pub greatest_below : (found : ℕ → Option ℕ) (m n : ℕ) → m ≤ n → ((k : ℕ) → m < k → found k ≡ None) → at_greatest found n ≡ at_greatest found m
+unfolding at_greatest
+greatest_below found m zero h none = let same : m ≡ 0 = omega arith in ap (at_greatest found) (sym same)
+greatest_below found m (suc n) h none =
+    elim (cases_lt n m) [
+      | inl above ↦ let same : suc n ≡ m = omega arith in ap (at_greatest found) same
+      | inr below ↦
+          ap (λ (o : Option ℕ). elim o as (λ _. Option ℕ) [ Some x ↦ Some x | None ↦ at_greatest found n ]) (none (suc n) (omega arith))
+          ∙ greatest_below found m n below none
+    ]
+
+pub greatest_same : (f g : ℕ → Option ℕ) (n : ℕ) → ((k : ℕ) → k ≤ n → f k ≡ g k) → at_greatest f n ≡ at_greatest g n
+unfolding at_greatest
+greatest_same f g zero h = h zero (omega arith)
+greatest_same f g (suc n) h = cc (h (suc n) (omega arith), greatest_same f g n (λ k l. h k (omega arith)))
+
+pub none_where : (b c : Bool) (n : ℕ) → c ≡ false → cond (b && c) (Some n) None ≡ None
+none_where true c n e = rw e refl
+none_where false c n e = refl
+
+pub characters_count : (ps : List Placed) (n : ℕ) → n ≤ length (characters_of ps) → n ≤ length ps
+characters_count ps n h = omega (arith, length-map {A = Placed} {B = ℕ})
+
+pub nothing_within : (canonical : Canonical) (weights : Weights) (numeric : Bool) (n : ℕ) → elements_within n canonical weights numeric [] ≡ []
+unfolding elements_within
+nothing_within canonical weights numeric zero = refl
+nothing_within canonical weights numeric (suc n) = refl
+
+-- what is no record is none
+not_recorded : {A : Type 0} (o : Option A) → ((x : A) → o ≡ Some x → ⊥) → o ≡ None
+not_recorded None h = refl
+not_recorded (Some x) h = absurd (h x refl)
+
+-- a starter that no recorded text holds behind its first character, and with which no prefix is recorded
+pub starter_boundary : (canonical : Canonical) (weights : Weights) (d : ℕ) → canonical.class d ≡ 0
+    → ((prefix : List ℕ) (first : ℕ) (later : List ℕ) (es : List Element) → weights.recorded prefix (first ∷ later) ≡ Some es → Contains later d → ⊥)
+    → ((nearest : ℕ) (further later : List ℕ) (es : List Element) → weights.recorded (nearest ∷ further) (d ∷ later) ≡ Some es → ⊥)
+    → IsBoundary canonical weights d
+starter_boundary canonical weights d starter first unprefixed =
+    record {
+      starter = starter;
+      behind = λ x xs ys s.
+          not_recorded (weights.recorded [] (x ∷ xs ++ d ∷ ys)) (λ es e. first [] x (xs ++ d ∷ ys) es e (Contains-append_right xs (d ∷ ys) d (0, omega arith, refl)));
+      prefixes = λ p ps s. not_recorded (weights.recorded (p ∷ ps) (d ∷ [])) (λ es e. unprefixed p ps [] es e);
+    }
+
+-- characters stand before a place as they stand in their list
+pub after_scalars : (before cs : List ℕ) → scalars before ≡ true → scalars cs ≡ true → scalars (after before cs) ≡ true
+after_scalars before [] h g = h
+after_scalars before (c ∷ cs) h g =
+    let parts = and_parts (scalar c) (scalars cs) g
+    in after_scalars (take longest_prefix (c ∷ before)) cs (scalars_front longest_prefix (c ∷ before) (and_from (scalar c) (scalars before) parts.0 h)) parts.1
 
 -- a reading of a list, and that of its front: what stands after the front is left
 record ReadsApart (behind : List Placed) (whole front : Reading) : Type 0 where

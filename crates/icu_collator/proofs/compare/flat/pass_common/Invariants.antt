@@ -1,0 +1,20 @@
+use Rattle.std.proofs.Common.{◌≡◌, ℕ, List, Option}
+use Rattle.std.specs.Prelude.{All}
+use Rattle.std.specs.Char.{IsScalar}
+use Rattle.std.specs.Iterator.{IsFinite, size}
+use Rattle.icu_normalizer_core.specs.Iter.{Spells}
+use Rattle.icu_collator.specs.FlatOrders.{AreAlikeSoFar}
+use Rattle.icu_collator.proofs.compare.flat.pass_common.Given as goal
+
+abbrev pub invariant-common : goal.invariant-common
+invariant-common g l = record {
+  left_can : g.I.Iterator.can_next l.left;
+  left_ends : IsFinite (g.I.Iterator.remaining l.left);
+  right_can : g.J.Iterator.can_next l.right;
+  right_ends : IsFinite (g.J.Iterator.remaining l.right);
+  alike : (numeric : Option ℕ) (a b : List ℕ) → All IsScalar a → All IsScalar b → Spells g.I.Iterator.next_gives l.fn.left a → Spells g.J.Iterator.next_gives l.fn.right b
+      → AreAlikeSoFar l.checked numeric g.I.Iterator.next_gives g.J.Iterator.next_gives a b l.left l.right 0 0;
+}
+
+abbrev pub decreases-common : goal.decreases-common
+decreases-common g l = size (g.I.Iterator.remaining l.left)
