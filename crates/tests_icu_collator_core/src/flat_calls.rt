@@ -132,6 +132,29 @@ fn syllables_and_unnamed_characters_are_read_flat(rt: HostRuntime) {
 }
 
 #[test]
+fn beginnings_of_contractions_are_read_flat_where_a_boundary_follows(rt: HostRuntime) {
+    let alloc = rt.alloc();
+    assert!(rt;
+        has_elements(
+            alloc,
+            None,
+            "ba",
+            &[0x2a20_0000_0500_0500, 0x2a10_0000_0500_0500]
+        )
+    );
+    assert!(rt;
+        has_elements(
+            alloc,
+            None,
+            "ab",
+            &[0x2a10_0000_0500_0500, 0x2a20_0000_0500_0500]
+        )
+    );
+    assert!(rt; is_not_flat(alloc, None, "bc"));
+    assert!(rt; is_not_flat(alloc, None, "b\u{300}c"));
+}
+
+#[test]
 fn digits_are_read_flat_without_numbers(rt: HostRuntime) {
     assert!(rt;
         has_elements(
@@ -147,7 +170,8 @@ fn digits_are_read_flat_without_numbers(rt: HostRuntime) {
 #[test]
 fn other_texts_are_not_read_flat(rt: HostRuntime) {
     let alloc = rt.alloc();
-    assert!(rt; is_not_flat(alloc, None, "ab"));
+    assert!(rt; is_not_flat(alloc, None, "abc"));
+    assert!(rt; is_not_flat(alloc, None, "abac"));
     assert!(rt; is_not_flat(alloc, None, "acac"));
     assert!(rt; is_not_flat(alloc, None, "ac\u{e0}"));
 }
