@@ -2,9 +2,10 @@
 """Times sort keys and comparisons beside ICU4C's: collator.py [NAMES] [--instructions] [--requests] [SET..]
 
 Each set of bench/sets.py, or of those that are named, has 200,000 names unless NAMES says otherwise. The program of
-crates/speed_collator and ICU4C (bench/icu4c.cpp) take turns over it, three times, and the best of each counts. Printed is a
-row a set: millions of keys, of comparisons of random pairs and of neighbours a second of a processor, ours : ICU4C's, and
-ours by ICU4C's. ICU4C makes keys of UTF-8 by way of UTF-16, and that counts; in parentheses stands what it makes without.
+crates/speed_collator and ICU4C (bench/icu4c.cpp) take turns over it, five times, each with ten rounds over 200,000 names and
+more over fewer, and the best round of each counts: on a host with other guests most rounds are slow. Printed is a row a
+set: millions of keys, of comparisons of random pairs and of neighbours a second of a processor, ours : ICU4C's, and ours by
+ICU4C's. ICU4C makes keys of UTF-8 by way of UTF-16, and that counts; in parentheses stands what it makes without.
 With NAMES 0 no times are taken.
 
 With --instructions a row more a set: instructions of each, by callgrind over 2,000 names (21 rounds less one), ours :
@@ -28,7 +29,8 @@ FOLDER = os.path.join(ROOT, 'crates/speed_collator')
 PROGRAM = os.environ.get('COLLATOR_SPEED', os.path.join(FOLDER, 'out/speed_collator'))
 TITLES = {'keys': 'keys', 'cmp_random': 'random pairs', 'cmp_near': 'neighbours'}
 TASKS = {'keys': 'keys', 'random': 'cmp_random', 'near': 'cmp_near'}
-TURNS = 3
+TURNS = 5
+ROUNDS_OF_NAMES = 2_000_000
 COUNTED_NAMES = 2000
 COUNTED_ROUNDS = 10
 INSTRUCTION_ROUNDS = 20
@@ -63,8 +65,9 @@ class Measured:
     def best(self):
         """What each does in a second at best."""
         best = {}, {}
+        rounds = max(3, ROUNDS_OF_NAMES // self.count)
         for _ in range(TURNS):
-            for who, command in enumerate(self.commands(self.chosen.task, 3)):
+            for who, command in enumerate(self.commands(self.chosen.task, rounds)):
                 for line in subprocess.run(command, stdout=subprocess.PIPE, check=True).stdout.decode().splitlines():
                     task, speed = line.split()[:2]
                     best[who][task] = max(int(speed), best[who].get(task, 0))
