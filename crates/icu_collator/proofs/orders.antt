@@ -2,4 +2,5 @@ pub mod OrderSamenessLemmas
 pub mod StrengthsLemmas
 pub mod TotalOrderLemmas
 pub mod OrderByFlatLemmas
+pub mod FlatListLemmas
 pub mod WeightOrderLemmas

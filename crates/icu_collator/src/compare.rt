@@ -4,6 +4,7 @@ mod encoded;
 mod flat;
 mod iterators;
 mod levels;
+mod listed;
 mod orders;
 mod weights;
 

@@ -9,6 +9,7 @@ ghost use Rattle.icu_collator.specs.ReadingPlaces.{IsCommonPlace};
 
 use super::flat::compare_flat;
 use super::iterators::compare_characters;
+use super::listed::compare_listed;
 use crate::common_front::{
     FirstDifference, behind, first_difference, order_by_difference, reading_place,
 };
@@ -74,10 +75,13 @@ fn compare_behind<T: Characters, U: Characters>(
 {
     match compare_flat_behind(alloc, checked, options, left, right, place)? {
         Some(order) => Ok(order),
-        None => {
-            let order = compare_whole_behind(alloc, checked, options, left, right, place)?;
-            Ok(order)
-        }
+        None => match compare_listed(alloc, checked, options, left, right, place)? {
+            Some(order) => Ok(order),
+            None => {
+                let order = compare_whole_behind(alloc, checked, options, left, right, place)?;
+                Ok(order)
+            }
+        },
     }
 }
 

@@ -94,7 +94,7 @@ pub(crate) fn counted_element(element: CollationElement, variable_end: u32) -> C
 
 /// The elements that count, where some may be variable. After a variable element, those without a primary count nowhere, up
 /// to the next that has one. Fails only when out of memory.
-fn kept(
+pub(crate) fn kept(
     alloc: Global,
     elements: &[CollationElement],
     variable_end: u32,
