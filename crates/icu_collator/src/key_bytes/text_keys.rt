@@ -1,19 +1,23 @@
 //! The key of a text.
 
-ghost use Rattle.std.specs.Prelude.{◌≡◌, [], ◌++◌, List, IfErr, IfOk, OnOk, false, true};
+ghost use Rattle.std.specs.Prelude.{◌≡◌, [], ◌++◌, All, List, IfErr, IfOk, OnOk, false, true};
+ghost use Rattle.std.specs.Char.{IsScalar};
 ghost use Rattle.std.specs.List.{list_all};
 ghost use Rattle.icu_normalizer_core.specs.Canonical.{decomposed};
+ghost use Rattle.icu_collator_types.specs.Options.{is_at_least};
 ghost use Rattle.icu_collator_types.specs.declared.elements.Element.{Element};
+ghost use Rattle.icu_collator_types.specs.declared.options.Strength.TheVariants.{Identical};
 ghost use Rattle.icu_collator.specs.Collators.{source_collation};
 ghost use Rattle.icu_collator.specs.KeyBytes.{key_bytes, key_of_text};
 ghost use Rattle.icu_collator.specs.LevelLists.{counted_list, has_sound_case};
-ghost use Rattle.icu_collator.specs.Levels.{levels_of};
+ghost use Rattle.icu_collator.specs.Levels.{elements_of_text, levels_of};
 ghost use Rattle.icu_collator.specs.Shifted.{counted};
 ghost use Rattle.icu_collator.specs.Sinks.{IsRefusedKey};
 
 use super::buffer::KeyBytes;
 use super::whole::{write_unshifted_key, write_whole_key};
 use crate::encodings::Characters;
+use crate::levels::counted_elements::{kept, variable_end};
 use crate::read_texts::{is_unshifted, numeric_lead, read_text};
 use crate::sinks::whole::write_key;
 use crate::sinks::{CollationKeySink, KeyError};
@@ -33,6 +37,9 @@ const FEW_ELEMENTS: usize = 64;
 
 /// The same of a longer one.
 const MANY_ELEMENTS: usize = 512;
+
+/// The same of any text, where elements may be variable.
+const SHIFTED_ELEMENTS: usize = 256;
 
 /// The decomposed list of a text. Fails only when out of memory.
 fn listed_characters<T: Characters>(
@@ -150,6 +157,75 @@ fn write_roomy_key<T: Characters>(
     Ok(is_written)
 }
 
+/// The decomposed list of a text, at strength `Identical`. Fails only when out of memory.
+fn exact_characters<T: Characters>(
+    alloc: Global,
+    checked: &CheckedTables<'_>,
+    strength: Strength,
+    text: T,
+) -> Result<SmallVec<char, 64>, AllocError>
+    ensures { IfOk result (λ list. is_at_least strength Identical ≡ true
+        → list.items ≡ decomposed (source_collation checked.now).canonical (T.characters text)) }
+{
+    if strength.is_at_least(Strength::Identical) {
+        let list = listed_characters(alloc, checked, text)?;
+        Ok(list)
+    } else {
+        Ok(SmallVec::new(alloc))
+    }
+}
+
+/// Appends the key of a text by its elements that count to no byte. Fails only when out of memory.
+fn write_counted_key<T: Characters>(
+    alloc: Global,
+    checked: &CheckedTables<'_>,
+    options: &ResolvedCollatorOptions,
+    elements: &[CollationElement],
+    variable_end: u32,
+    text: T,
+    key: &mut KeyBytes,
+) -> Result<(), AllocError>
+    requires empty { key.old.items ≡ [] }
+    requires scalars { All IsScalar (T.characters text) }
+    requires elements { counted_list variable_end elements.now
+        ≡ counted (source_collation checked.now) options.now (elements_of_text (source_collation checked.now) options.now (T.characters text)) }
+    ensures { OnOk result (key.new.items ≡ key_of_text (source_collation checked.now) options.now (T.characters text)) }
+{
+    checked.keep_promise();
+    checked.canonical().keep_promise();
+    let characters = exact_characters(alloc, checked, options.strength, text)?;
+    write_whole_key(checked, options, elements, variable_end, &characters, key)?;
+    Ok(())
+}
+
+/// Appends the key of a text that is read flat, where elements may be variable, to no byte; `false` for another text and where
+/// nothing is shifted, and then nothing. Fails only when out of memory.
+#[inline(never)]
+fn write_shifted_key<T: Characters>(
+    alloc: Global,
+    checked: &CheckedTables<'_>,
+    options: &ResolvedCollatorOptions,
+    text: T,
+    key: &mut KeyBytes,
+) -> Result<bool, AllocError>
+    requires { key.old.items ≡ [] }
+    ensures written { IfOk result (λ is_written. is_written ≡ true
+        → key.new.items ≡ key_of_text (source_collation checked.now) options.now (T.characters text)) }
+    ensures unwritten { IfOk result (λ is_written. is_written ≡ false → key.new.items ≡ []) }
+{
+    if is_unshifted(options) {
+        return Ok(false);
+    }
+    let mut flat = FlatElements::<SHIFTED_ELEMENTS>::new();
+    if !checked.read_flat(numeric_lead(checked, options), text.chars(), &mut flat) {
+        return Ok(false);
+    }
+    let end = variable_end(checked, options);
+    let elements = kept(alloc, flat.as_slice(), end)?;
+    write_counted_key(alloc, checked, options, &elements, end, text, key)?;
+    Ok(true)
+}
+
 /// Appends the key of a text to no byte. Fails only when out of memory.
 #[inline(never)]
 fn write_read_key<T: Characters>(
@@ -188,6 +264,9 @@ fn write_key_bytes<T: Characters>(
     ensures { OnOk result (key.new.items ≡ key_of_text (source_collation checked.now) options.now (T.characters text)) }
 {
     if write_roomy_key(alloc, checked, options, text, key)? {
+        return Ok(());
+    }
+    if write_shifted_key(alloc, checked, options, text, key)? {
         return Ok(());
     }
     write_read_key(alloc, checked, options, text, key)?;

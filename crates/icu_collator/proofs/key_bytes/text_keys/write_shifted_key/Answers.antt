@@ -1,0 +1,19 @@
+use Rattle.std.proofs.Common.{◌≡◌, ◌∙◌, true, ap, rules}
+use Rattle.icu_collator_core.specs.ElementLists.{unpacked}
+use Rattle.icu_collator.specs.Collators.{source_collation}
+use Rattle.icu_collator.specs.LevelLists.{counted_list}
+use Rattle.icu_collator.specs.Shifted.{counted}
+use Rattle.icu_collator.proofs.orders.FlatListLemmas.{listed_elements}
+use Rattle.icu_collator.proofs.key_bytes.text_keys.write_shifted_key.Goals as goal
+
+pub write_counted_key-requires-clause-elements : goal.write_counted_key-requires-clause-elements
+write_counted_key-requires-clause-elements g c =
+    let source = c.args.checked.now in
+    let collation = source_collation source in
+    let options = c.args.options.now in
+    let text = g.T.Characters.characters c.args.text in
+    let end = c.variable_end-end.result in
+    let whole : c.read_flat.result ≡ true = search rules in
+    let are = listed_elements source options c.numeric_lead.result text c.read_flat.new.elements.items c.numeric_lead.ensures (c.read_flat.ensures whole text c.chars.ensures.spelled) in
+    ap (counted_list end) c.deref.ensures ∙ c.in_ok-elements.ensures collation options c.variable_end-end.ensures
+    ∙ ap (λ items. counted collation options (unpacked items)) c.as_slice.ensures ∙ ap (counted collation options) are
