@@ -1,5 +1,6 @@
 -- How texts that are read flat compare: by their primaries, then by the weights of their elements.
-use Rattle.std.specs.Prelude.{◌≡◌, ◌≢◌, ℕ, false, true, List, filter_map, map, Option, Some, option_map}
+use Rattle.std.specs.Prelude.{◌≡◌, ◌≢◌, ◌≤◌, ℕ, false, true, List, filter_map, map, Option, Some, option_map}
+use Rattle.std.specs.List.{AllByRecursion}
 use Rattle.std.specs.Ordering.{nat_cmp, ordering_then}
 use Rattle.std.specs.declared.cmp.Ordering.{Ordering}
 use Rattle.std.specs.declared.cmp.Ordering.TheVariants.{Less, Equal, Greater}
@@ -13,6 +14,7 @@ use Rattle.icu_collator_core.specs.Pools.{element_of}
 use Rattle.icu_collator_core.specs.declared.flat.steps.FlatStep.{FlatStep}
 use Rattle.icu_collator_core.specs.declared.flat.steps.FlatStep.TheVariants.{Primary, End, Other}
 use Rattle.icu_collator.specs.Collators.{source_collation}
+use Rattle.icu_collator.specs.LevelLists.{variable_end_of}
 use Rattle.icu_collator.specs.Levels.{levels_of_text, secondary_at, tertiary_at}
 use Rattle.icu_collator.specs.Order.{collation_order, secondary_rank}
 use Rattle.icu_collator.specs.Shifted.{whole}
@@ -47,40 +49,47 @@ AreSettled source numeric a b lefts rights first second meeting = Unit {0}
 abbrev pub moved_primaries : CollationSource → List ℕ → List ℕ
 moved_primaries source items = map (reordered_by source) (primaries_in items)
 
--- Two texts were read up to primaries that are alike so far, each behind a character of a class; these elements were read.
-pub record AreReadAlike {I J : Type 0} (source : CollationSource) (numeric : Option ℕ) (left_steps : I → Option ℕ → I → Type 0) (right_steps : J → Option ℕ → J → Type 0) (a b : List ℕ) (left : I) (right : J) (left_class right_class : ℕ) (lefts rights : List ℕ) : Type 0 where
+-- none of these primaries is below this one
+abbrev pub AreFrom : ℕ → List ℕ → Type 0
+AreFrom least ps = AllByRecursion (λ p. least ≤ p) ps
+
+-- Two texts were read up to primaries that are alike so far and not below the least, each behind a character of a class; these
+-- elements were read.
+pub record AreReadAlike {I J : Type 0} (source : CollationSource) (least : ℕ) (numeric : Option ℕ) (left_steps : I → Option ℕ → I → Type 0) (right_steps : J → Option ℕ → J → Type 0) (a b : List ℕ) (left : I) (right : J) (left_class right_class : ℕ) (lefts rights : List ℕ) : Type 0 where
   pub left_read : IsReadUpTo source numeric left_steps a left left_class lefts
   pub right_read : IsReadUpTo source numeric right_steps b right right_class rights
   pub same : moved_primaries source lefts ≡ moved_primaries source rights
+  pub left_from : AreFrom least (primaries_in lefts)
+  pub right_from : AreFrom least (primaries_in rights)
 
 -- the same, with some elements
-abbrev pub AreAlikeSoFar : {I J : Type 0} → CollationSource → Option ℕ → (I → Option ℕ → I → Type 0) → (J → Option ℕ → J → Type 0) → List ℕ → List ℕ → I → J → ℕ → ℕ → Type 0
-AreAlikeSoFar source numeric left_steps right_steps a b left right left_class right_class =
-    (lefts : List ℕ) × (rights : List ℕ) × AreReadAlike source numeric left_steps right_steps a b left right left_class right_class lefts rights
+abbrev pub AreAlikeSoFar : {I J : Type 0} → CollationSource → ℕ → Option ℕ → (I → Option ℕ → I → Type 0) → (J → Option ℕ → J → Type 0) → List ℕ → List ℕ → I → J → ℕ → ℕ → Type 0
+AreAlikeSoFar source least numeric left_steps right_steps a b left right left_class right_class =
+    (lefts : List ℕ) × (rights : List ℕ) × AreReadAlike source least numeric left_steps right_steps a b left right left_class right_class lefts rights
 
 -- two texts have the same primaries, as they are reordered
 abbrev pub HaveSamePrimaries : Collation → ResolvedCollatorOptions → List ℕ → List ℕ → Type 0
 HaveSamePrimaries collation options a b =
     (levels_of_text collation options a).primaries ≡ (levels_of_text collation options b).primaries
 
--- What the primaries of two texts say, where numbers have this lead byte, if nothing is shifted: the order of the texts, or
--- that they are the same.
-abbrev pub IsByPrimaries : CollationSource → Option ℕ → List ℕ → List ℕ → ByPrimaries → Type 0
-IsByPrimaries source numeric a b (Decided order) =
-    (options : ResolvedCollatorOptions) → is_shifted options.alternate_handling ≡ false → numeric ≡ numeric_by source options
+-- What the primaries of two texts say, where numbers have this lead byte: the order of the texts, if variable elements end at this
+-- least primary or below it; or that they are the same, if nothing is shifted.
+abbrev pub IsByPrimaries : CollationSource → ℕ → Option ℕ → List ℕ → List ℕ → ByPrimaries → Type 0
+IsByPrimaries source least numeric a b (Decided order) =
+    (options : ResolvedCollatorOptions) → variable_end_of (source_collation source) options ≤ least → numeric ≡ numeric_by source options
     → order ≡ collation_order (source_collation source) options a b
-IsByPrimaries source numeric a b Same =
+IsByPrimaries source least numeric a b Same =
     (options : ResolvedCollatorOptions) → is_shifted options.alternate_handling ≡ false → numeric ≡ numeric_by source options
     → HaveSamePrimaries (source_collation source) options a b
-IsByPrimaries source numeric a b NotFlat = Unit {0}
+IsByPrimaries source least numeric a b NotFlat = Unit {0}
 
 -- what the next primaries of two texts that were read so say, and what is left of both
-abbrev pub IsMet : {I J : Type 0} → CollationSource → Option ℕ → (I → Option ℕ → I → Type 0) → (J → Option ℕ → J → Type 0) → List ℕ → List ℕ → Meeting → I → J → ℕ → ℕ → Type 0
-IsMet source numeric left_steps right_steps a b Alike left right left_class right_class =
-    AreAlikeSoFar source numeric left_steps right_steps a b left right left_class right_class
-IsMet source numeric left_steps right_steps a b BothEnd left right left_class right_class = IsByPrimaries source numeric a b Same
-IsMet source numeric left_steps right_steps a b (Parted order) left right left_class right_class = IsByPrimaries source numeric a b (Decided order)
-IsMet source numeric left_steps right_steps a b Stopped left right left_class right_class = Unit {0}
+abbrev pub IsMet : {I J : Type 0} → CollationSource → ℕ → Option ℕ → (I → Option ℕ → I → Type 0) → (J → Option ℕ → J → Type 0) → List ℕ → List ℕ → Meeting → I → J → ℕ → ℕ → Type 0
+IsMet source least numeric left_steps right_steps a b Alike left right left_class right_class =
+    AreAlikeSoFar source least numeric left_steps right_steps a b left right left_class right_class
+IsMet source least numeric left_steps right_steps a b BothEnd left right left_class right_class = IsByPrimaries source least numeric a b Same
+IsMet source least numeric left_steps right_steps a b (Parted order) left right left_class right_class = IsByPrimaries source least numeric a b (Decided order)
+IsMet source least numeric left_steps right_steps a b Stopped left right left_class right_class = Unit {0}
 
 -- ## Elements that count whole, by their secondaries and tertiaries
 

@@ -6,6 +6,7 @@ mod iterators;
 mod levels;
 mod listed;
 mod orders;
+mod shifted;
 mod weights;
 
 pub(crate) use encoded::{common_place, compare_texts};

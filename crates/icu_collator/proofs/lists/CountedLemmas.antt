@@ -36,7 +36,7 @@ module _ (collation : Collation) (options : ResolvedCollatorOptions) (end : ℕ)
   unfolding counted_behind
   first_variable behind e es test = rw (variable_by e ∙ test) refl
 
-  first_whole : (behind : Bool) (e : Element) (es : List Element) → (ltb 0x02000000 e.primary && ltb e.primary end) ≡ false
+  pub first_whole : (behind : Bool) (e : Element) (es : List Element) → (ltb 0x02000000 e.primary && ltb e.primary end) ≡ false
       → (behind && (e.primary == 0)) ≡ false
       → counted_behind collation options behind (e ∷ es) ≡ whole e ∷ counted_behind collation options false es
   unfolding counted_behind

@@ -10,6 +10,7 @@ ghost use Rattle.icu_collator.specs.ReadingPlaces.{IsCommonPlace};
 use super::flat::compare_flat;
 use super::iterators::compare_characters;
 use super::listed::compare_listed;
+use super::shifted::compare_shifted;
 use crate::common_front::{
     FirstDifference, behind, first_difference, order_by_difference, reading_place,
 };
@@ -105,8 +106,8 @@ fn compare_past<T: Characters, U: Characters>(
     Ok(order)
 }
 
-/// The order of two texts: where they first differ decides it, or both are read from a place before that. Fails only
-/// when out of memory.
+/// The order of two texts: where variable elements are shifted and none is met, the primaries decide it; else where the texts first
+/// differ, or both are read from a place before that. Fails only when out of memory.
 #[inline(never)]
 fn compare_by_difference<T: Characters, U: Characters>(
     alloc: Global,
@@ -117,6 +118,9 @@ fn compare_by_difference<T: Characters, U: Characters>(
 ) -> Result<Ordering, AllocError>
     ensures { IfOk result (λ order. order ≡ collation_order (source_collation checked.now) options.now (T.characters left) (U.characters right)) }
 {
+    if let Some(order) = compare_shifted(checked, options, left, right) {
+        return Ok(order);
+    }
     let difference = first_difference(left.chars(), right.chars());
     match order_by_difference(checked, options, difference) {
         Some(order) => Ok(order),

@@ -92,29 +92,32 @@ fn meet(checked: &CheckedTables<'_>, first: FlatStep, second: FlatStep) -> Meeti
 
 /// What the primaries of two texts say.
 #[derive(Clone, Copy)]
-enum ByPrimaries {
+pub(super) enum ByPrimaries {
     /// They differ: this is the order.
     Decided(Ordering),
     /// They are the same.
     Same,
-    /// A text isn't read flat, as far as it was read.
+    /// A text isn't read flat, or has a primary below the least, as far as it was read.
     NotFlat,
 }
 
 /// Reads a text flat, from the place to which it was read so, behind a character of a class, up to its next primary: answers
-/// that, the text behind it, and the class of the last character that was read, 256 where a boundary has to follow. No memory is
-/// taken.
+/// that, if it isn't below the least, the text behind it, and the class of the last character that was read, 256 where a boundary
+/// has to follow. No memory is taken.
 #[inline(always)]
 fn next_primary<I: Iterator<Item = char> + Drop>(
     checked: &CheckedTables<'_>,
+    least: u32,
     numeric: Option<u8>,
     chars: I,
     class: u32,
 ) -> (FlatStep, I, u32)
+    requires least { 1 ≤ least }
     requires can { I.can_next chars }
     requires finite { IsFinite (I.remaining chars) }
     ensures next { (text items : List ℕ) → IsReadUpTo checked.now numeric I.next_gives text chars class items
         → IsNextPrimary checked.now numeric I.next_gives text items result.0 result.1 result.2 }
+    ensures least { (p : ℕ) → result.0 ≡ Primary p → least ≤ p }
     ensures nearer { (p : ℕ) → result.0 ≡ Primary p → IsNearerEnd I.can_next I.remaining chars result.1 }
 {
     checked.canonical().keep_promise();
@@ -122,15 +125,21 @@ fn next_primary<I: Iterator<Item = char> + Drop>(
     let mut class = class;
     'reading: while let Some(c) = chars.next() {
         let boundary = checked.boundary_primary(c);
-        if boundary != 0 {
+        if boundary >= least {
             return (FlatStep::Primary(boundary), chars, 0);
+        }
+        if boundary != 0 {
+            return (FlatStep::Other, chars, class);
         }
         let Some((primary, trail)) = checked.flat_primary(numeric, c, class) else {
             return (FlatStep::Other, chars, class);
         };
         class = trail;
-        if primary != 0 {
+        if primary >= least {
             return (FlatStep::Primary(primary), chars, class);
+        }
+        if primary != 0 {
+            return (FlatStep::Other, chars, class);
         }
     }
     (FlatStep::End, chars, class)
@@ -215,29 +224,31 @@ fn meet_settled<I: Iterator<Item = char> + Drop, J: Iterator<Item = char> + Drop
     }
 }
 
-/// What the next primaries of two texts say, that were read up to primaries that are alike, each behind a character of a class;
-/// with the texts behind these primaries, and the classes of the last characters. No memory is taken.
+/// What the next primaries of two texts say, that were read up to primaries that are alike, each behind a character of a class, and
+/// that stop below the least; with the texts behind these primaries, and the classes of the last characters. No memory is taken.
 #[inline(always)]
 fn meet_next<I: Iterator<Item = char> + Drop, J: Iterator<Item = char> + Drop>(
     checked: &CheckedTables<'_>,
+    least: u32,
     numeric: Option<u8>,
     left: I,
     right: J,
     left_class: u32,
     right_class: u32,
 ) -> (Meeting, I, J, u32, u32)
+    requires least { 1 ≤ least }
     requires left { I.can_next left }
     requires left_ends { IsFinite (I.remaining left) }
     requires right { J.can_next right }
     requires right_ends { IsFinite (J.remaining right) }
     ensures next { (a b : List ℕ) → All IsScalar a → All IsScalar b
-        → AreAlikeSoFar checked.now numeric I.next_gives J.next_gives a b left right left_class right_class
-        → IsMet checked.now numeric I.next_gives J.next_gives a b result.0 result.1 result.2 result.3 result.4 }
+        → AreAlikeSoFar checked.now least numeric I.next_gives J.next_gives a b left right left_class right_class
+        → IsMet checked.now least numeric I.next_gives J.next_gives a b result.0 result.1 result.2 result.3 result.4 }
     ensures left_nearer { result.0 ≡ Alike → IsNearerEnd I.can_next I.remaining left result.1 }
     ensures right_nearer { result.0 ≡ Alike → IsNearerEnd J.can_next J.remaining right result.2 }
 {
-    let (one, left_rest, left_last) = next_primary(checked, numeric, left, left_class);
-    let (two, right_rest, right_last) = next_primary(checked, numeric, right, right_class);
+    let (one, left_rest, left_last) = next_primary(checked, least, numeric, left, left_class);
+    let (two, right_rest, right_last) = next_primary(checked, least, numeric, right, right_class);
     let (meeting, left_rest, right_rest) = meet_settled(
         checked, numeric, one, two, left_rest, right_rest, left_last, right_last,
     );
@@ -255,20 +266,22 @@ fn order_of_primaries(checked: &CheckedTables<'_>, first: u32, second: u32) -> O
     reordered(checked.tables(), first).cmp(&reordered(checked.tables(), second))
 }
 
-/// Reads two texts side by side as long as their next characters are the same boundary below U+0080, and a look tells so. No
-/// memory is taken.
+/// Reads two texts side by side as long as their next characters are the same boundary below U+0080, whose primary isn't below the
+/// least, and a look tells so. No memory is taken.
 #[inline(always)]
 fn pass_common<I: PeekLow + Drop, J: PeekLow + Drop>(
     checked: &CheckedTables<'_>,
+    least: u32,
     left: I,
     right: J,
 ) -> (I, J)
+    requires least { 1 ≤ least }
     requires left { I.can_next left }
     requires left_ends { IsFinite (I.remaining left) }
     requires right { J.can_next right }
     requires right_ends { IsFinite (J.remaining right) }
     ensures alike { (numeric : Option ℕ) (a b : List ℕ) → All IsScalar a → All IsScalar b → Spells I.next_gives left a → Spells J.next_gives right b
-        → AreAlikeSoFar checked.now numeric I.next_gives J.next_gives a b result.0 result.1 0 0 }
+        → AreAlikeSoFar checked.now least numeric I.next_gives J.next_gives a b result.0 result.1 0 0 }
     ensures left { I.can_next result.0 }
     ensures left_ends { IsFinite (I.remaining result.0) }
     ensures right { J.can_next result.1 }
@@ -282,7 +295,7 @@ fn pass_common<I: PeekLow + Drop, J: PeekLow + Drop>(
         if low >= 0x80 || right.peek_low() != low {
             return (left, right);
         }
-        if checked.boundary_primary(low as char) == 0 {
+        if checked.boundary_primary(low as char) < least {
             return (left, right);
         }
         let _first = left.next();
@@ -291,17 +304,20 @@ fn pass_common<I: PeekLow + Drop, J: PeekLow + Drop>(
 }
 
 /// The order of two texts that were read up to primaries that are alike, where looks tell the next characters of both, and these
-/// are boundaries with primaries that differ; `None` for others. With the texts, which are as they were where there is none.
+/// are boundaries with primaries that differ and aren't below the least; `None` for others. With the texts, which are as they were
+/// where there is none.
 #[inline(always)]
 fn order_by_low<I: PeekLow + Drop, J: PeekLow + Drop>(
     checked: &CheckedTables<'_>,
+    least: u32,
     left: I,
     right: J,
 ) -> (Option<Ordering>, I, J)
+    requires least { 1 ≤ least }
     requires left { I.can_next left }
     requires right { J.can_next right }
     ensures order { IfSome result.0 (λ order. (numeric : Option ℕ) (a b : List ℕ) → All IsScalar a → All IsScalar b
-        → AreAlikeSoFar checked.now numeric I.next_gives J.next_gives a b left right 0 0 → IsByPrimaries checked.now numeric a b (Decided order)) }
+        → AreAlikeSoFar checked.now least numeric I.next_gives J.next_gives a b left right 0 0 → IsByPrimaries checked.now least numeric a b (Decided order)) }
     ensures left_kept { result.0 ≡ None → result.1 ≡ left }
     ensures right_kept { result.0 ≡ None → result.2 ≡ right }
 {
@@ -313,7 +329,7 @@ fn order_by_low<I: PeekLow + Drop, J: PeekLow + Drop>(
     }
     let first = checked.boundary_primary(low as char);
     let second = checked.boundary_primary(other as char);
-    if first == 0 || second == 0 {
+    if first < least || second < least {
         return (None, left, right);
     }
     let order = order_of_primaries(checked, first, second);
@@ -327,23 +343,25 @@ fn order_by_low<I: PeekLow + Drop, J: PeekLow + Drop>(
     (Some(order), behind_left, behind_right)
 }
 
-/// Reads two texts side by side as long as their primaries are alike. No memory is taken.
+/// Reads two texts side by side as long as their primaries are alike and not below the least. No memory is taken.
 #[inline(always)]
-fn by_primaries<I: PeekLow + Drop, J: PeekLow + Drop>(
+pub(super) fn by_primaries<I: PeekLow + Drop, J: PeekLow + Drop>(
     checked: &CheckedTables<'_>,
+    least: u32,
     numeric: Option<u8>,
     left: I,
     right: J,
 ) -> ByPrimaries
+    requires least { 1 ≤ least }
     requires left { I.can_next left }
     requires left_ends { IsFinite (I.remaining left) }
     requires right { J.can_next right }
     requires right_ends { IsFinite (J.remaining right) }
     ensures { (a b : List ℕ) → All IsScalar a → All IsScalar b → Spells I.next_gives left a → Spells J.next_gives right b
-        → IsByPrimaries checked.now numeric a b result }
+        → IsByPrimaries checked.now least numeric a b result }
 {
-    let (left, right) = pass_common(checked, left, right);
-    let (order, mut left, mut right) = order_by_low(checked, left, right);
+    let (left, right) = pass_common(checked, least, left, right);
+    let (order, mut left, mut right) = order_by_low(checked, least, left, right);
     if let Some(order) = order {
         return ByPrimaries::Decided(order);
     }
@@ -352,6 +370,7 @@ fn by_primaries<I: PeekLow + Drop, J: PeekLow + Drop>(
     'primaries: loop {
         let (meeting, left_rest, right_rest, left_last, right_last) = meet_next(
             checked,
+            least,
             numeric,
             left,
             right,
@@ -459,7 +478,7 @@ pub(super) fn compare_flat<T: Characters, U: Characters>(
     let numeric = numeric_lead(checked, options);
     let lefts = behind(left.chars(), place);
     let rights = behind(right.chars(), place);
-    match by_primaries(checked, numeric, lefts, rights) {
+    match by_primaries(checked, 1, numeric, lefts, rights) {
         ByPrimaries::Decided(order) => Ok(Some(order)),
         ByPrimaries::NotFlat => Ok(None),
         ByPrimaries::Same => {

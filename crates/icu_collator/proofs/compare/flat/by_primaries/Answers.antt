@@ -22,8 +22,8 @@ primaries-init g c =
       right_can = subst (λ it. g.J.Iterator.can_next it) right_is passed.ensures.right;
       right_ends = subst (λ it. IsFinite (g.J.Iterator.remaining it)) right_is passed.ensures.right_ends;
       alike = λ a b ok also spelled others.
-          subst (λ it. AreAlikeSoFar source c.args.numeric g.I.Iterator.next_gives g.J.Iterator.next_gives a b it low.result.2 0 0) left_is
-          (subst (λ it. AreAlikeSoFar source c.args.numeric g.I.Iterator.next_gives g.J.Iterator.next_gives a b passed.result.0 it 0 0) right_is
+          subst (λ it. AreAlikeSoFar source c.args.least c.args.numeric g.I.Iterator.next_gives g.J.Iterator.next_gives a b it low.result.2 0 0) left_is
+          (subst (λ it. AreAlikeSoFar source c.args.least c.args.numeric g.I.Iterator.next_gives g.J.Iterator.next_gives a b passed.result.0 it 0 0) right_is
           (passed.ensures.alike c.args.numeric a b ok also spelled others));
     }
 
@@ -33,8 +33,8 @@ returns-in-Some g c = λ a b ok also spelled others.
     let passed = c.pass_common-left in
     let said =
     subst (λ (answer : Option Ordering). IfSome answer (λ order. (numeric : Option ℕ) (a b : List ℕ) → All IsScalar a → All IsScalar b
-    → AreAlikeSoFar source numeric g.I.Iterator.next_gives g.J.Iterator.next_gives a b passed.result.0 passed.result.1 0 0
-    → IsByPrimaries source numeric a b (Decided order))) c.in-Some.is c.order_by_low-order.ensures.order in
+    → AreAlikeSoFar source c.args.least numeric g.I.Iterator.next_gives g.J.Iterator.next_gives a b passed.result.0 passed.result.1 0 0
+    → IsByPrimaries source c.args.least numeric a b (Decided order))) c.in-Some.is c.order_by_low-order.ensures.order in
     said c.args.numeric a b ok also (passed.ensures.alike c.args.numeric a b ok also spelled others)
 
 pub primaries-preserved : goal.primaries-preserved
@@ -48,18 +48,18 @@ primaries-preserved g c =
       right_can = right.0;
       right_ends = right.1;
       alike = λ a b ok also spelled others.
-          subst (λ (meeting : Meeting). IsMet c.args.checked.now c.args.numeric g.I.Iterator.next_gives g.J.Iterator.next_gives a b meeting next.result.1 next.result.2 next.result.3 next.result.4)
+          subst (λ (meeting : Meeting). IsMet c.args.checked.now c.args.least c.args.numeric g.I.Iterator.next_gives g.J.Iterator.next_gives a b meeting next.result.1 next.result.2 next.result.3 next.result.4)
           c.in-Alike.is (next.ensures.next a b ok also (c.primaries.invariant.alike a b ok also spelled others));
     }
 
 pub returns-in-BothEnd : goal.returns-in-BothEnd
 returns-in-BothEnd g c = λ a b ok also spelled others.
     let next = c.meet_next-meeting in
-    subst (λ (meeting : Meeting). IsMet c.args.checked.now c.args.numeric g.I.Iterator.next_gives g.J.Iterator.next_gives a b meeting next.result.1 next.result.2 next.result.3 next.result.4)
+    subst (λ (meeting : Meeting). IsMet c.args.checked.now c.args.least c.args.numeric g.I.Iterator.next_gives g.J.Iterator.next_gives a b meeting next.result.1 next.result.2 next.result.3 next.result.4)
     c.in-BothEnd.is (next.ensures.next a b ok also (c.primaries.invariant.alike a b ok also spelled others))
 
 pub returns-in-Parted : goal.returns-in-Parted
 returns-in-Parted g c = λ a b ok also spelled others.
     let next = c.meet_next-meeting in
-    subst (λ (meeting : Meeting). IsMet c.args.checked.now c.args.numeric g.I.Iterator.next_gives g.J.Iterator.next_gives a b meeting next.result.1 next.result.2 next.result.3 next.result.4)
+    subst (λ (meeting : Meeting). IsMet c.args.checked.now c.args.least c.args.numeric g.I.Iterator.next_gives g.J.Iterator.next_gives a b meeting next.result.1 next.result.2 next.result.3 next.result.4)
     c.in-Parted.is (next.ensures.next a b ok also (c.primaries.invariant.alike a b ok also spelled others))

@@ -13,7 +13,7 @@ invariant-primaries g l = record {
   right_can : g.J.Iterator.can_next l.right;
   right_ends : IsFinite (g.J.Iterator.remaining l.right);
   alike : (a b : List ℕ) → All IsScalar a → All IsScalar b → Spells g.I.Iterator.next_gives l.fn.left a → Spells g.J.Iterator.next_gives l.fn.right b
-      → AreAlikeSoFar l.checked l.numeric g.I.Iterator.next_gives g.J.Iterator.next_gives a b l.left l.right l.left_class l.right_class;
+      → AreAlikeSoFar l.checked l.least l.numeric g.I.Iterator.next_gives g.J.Iterator.next_gives a b l.left l.right l.left_class l.right_class;
 }
 
 abbrev pub decreases-primaries : goal.decreases-primaries

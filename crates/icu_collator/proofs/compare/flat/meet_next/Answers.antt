@@ -14,11 +14,11 @@ returns-clause-next g c = λ a b ok scalars alike.
     let left_next = one.ensures.next a alike.0 alike.2.left_read in
     let right_next = two.ensures.next b alike.1 alike.2.right_read in
     let meeting = c.meet_settled-meeting in
-    met_left source g.I.Iterator.next_gives g.J.Iterator.next_gives numeric a b meeting.result.0 one.result.1 meeting.result.1 two.result.1 meeting.result.2 one.result.2 two.result.2
+    met_left source g.I.Iterator.next_gives g.J.Iterator.next_gives c.args.least numeric a b meeting.result.0 one.result.1 meeting.result.1 two.result.1 meeting.result.2 one.result.2 two.result.2
     meeting.ensures.left_kept meeting.ensures.right_kept
-    (met source g.I.Iterator.next_gives g.J.Iterator.next_gives numeric a b alike.0 alike.1 alike.2.same
+    (met source g.I.Iterator.next_gives g.J.Iterator.next_gives c.args.least numeric a b alike.0 alike.1 alike.2.same alike.2.left_from alike.2.right_from
     one.result.1 two.result.1 one.result.2 two.result.2 one.result.0 two.result.0 meeting.result.0 meeting.ensures.meets
-    left_next right_next (meeting.ensures.settled a b alike.0 alike.1 left_next right_next) ok scalars)
+    left_next right_next one.ensures.least two.ensures.least (meeting.ensures.settled a b alike.0 alike.1 left_next right_next) ok scalars)
 
 pub returns-clause-left_nearer : goal.returns-clause-left_nearer
 returns-clause-left_nearer g c = λ alike.

@@ -1,24 +1,27 @@
-use Rattle.std.proofs.Common.{refl, ◌≡◌, ◌==◌, ℕ, false, true, List, arith, rules}
+use Rattle.std.proofs.Common.{refl, ◌≡◌, ◌≤◌, ◌==◌, ℕ, false, true, List, arith, rules}
+use Rattle.std.proofs.lemmas.Bool.Decides.{nat_tests}
 use Rattle.icu_normalizer_core.specs.Canonical.{IsDecomposing}
 use Rattle.icu_collator_core.specs.ReadSources.{canonical_by}
 use Rattle.icu_collator_core.proofs.readings.FlatStepLemmas.{end_next, next_primary, none_next}
 use Rattle.icu_collator.proofs.compare.flat.next_primary.Goals as goal
 
-pub returns-then-boundary-ne0-clause-next : goal.returns-then-boundary-ne0-clause-next
-returns-then-boundary-ne0-clause-next g c = λ text items read.
+pub returns-then-boundary-least-clause-next : goal.returns-then-boundary-least-clause-next
+returns-then-boundary-least-clause-next g c = λ text items read.
     let source = c.args.checked.now in
     let p = c.boundary_primary-boundary.result in
-    let some : (p == 0) ≡ false = search rules in
+    let from : c.args.least ≤ p = search rules in
+    let some : (p == 0) ≡ false = grind (arith, nat_tests) in
     let decomposing : IsDecomposing (canonical_by source) = search rules in
     let so_far = c.reading.invariant.read text items read in
     next_primary source c.args.numeric g.I.Iterator.next_gives text _ _ c.reading.class c.in-Some.c p 0 so_far.0 items decomposing so_far.1 so_far.2
     c.in-Some.ensures.steps (c.boundary_primary-boundary.ensures some c.args.numeric c.reading.class) some
 
-pub returns-then-primary-ne0-clause-next : goal.returns-then-primary-ne0-clause-next
-returns-then-primary-ne0-clause-next g c = λ text items read.
+pub returns-then-primary-least-clause-next : goal.returns-then-primary-least-clause-next
+returns-then-primary-least-clause-next g c = λ text items read.
     let source = c.args.checked.now in
     let p = c.in-Some-flat_primary.primary in
-    let some : (p == 0) ≡ false = search rules in
+    let from : c.args.least ≤ p = search rules in
+    let some : (p == 0) ≡ false = grind (arith, nat_tests) in
     let decomposing : IsDecomposing (canonical_by source) = search rules in
     let so_far = c.reading.invariant.read text items read in
     next_primary source c.args.numeric g.I.Iterator.next_gives text _ _ c.reading.class c.in-Some.c p c.in-Some-flat_primary.trail so_far.0 items decomposing so_far.1 so_far.2

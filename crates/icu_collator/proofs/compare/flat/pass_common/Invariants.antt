@@ -13,7 +13,7 @@ invariant-common g l = record {
   right_can : g.J.Iterator.can_next l.right;
   right_ends : IsFinite (g.J.Iterator.remaining l.right);
   alike : (numeric : Option ℕ) (a b : List ℕ) → All IsScalar a → All IsScalar b → Spells g.I.Iterator.next_gives l.fn.left a → Spells g.J.Iterator.next_gives l.fn.right b
-      → AreAlikeSoFar l.checked numeric g.I.Iterator.next_gives g.J.Iterator.next_gives a b l.left l.right 0 0;
+      → AreAlikeSoFar l.checked l.least numeric g.I.Iterator.next_gives g.J.Iterator.next_gives a b l.left l.right 0 0;
 }
 
 abbrev pub decreases-common : goal.decreases-common
