@@ -7,6 +7,7 @@ pub mod orders
 pub mod equivalence
 pub mod tables
 pub mod lists
+pub mod ThreeByteLemmas
 pub mod CollatorSinkLemmas
 pub mod MakingLemmas
 pub mod CollatorLawLemmas

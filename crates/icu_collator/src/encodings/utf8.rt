@@ -1,4 +1,4 @@
-//! The characters of a text in UTF-8, one after another: those of one or two bytes by a look at these alone.
+//! The characters of a text in UTF-8, one after another: those of one to three bytes by a look at these alone.
 
 ghost use Rattle.std.specs.Prelude.{◌≡◌, ◌<◌, ◌≤◌, ◌∷◌, [], All, IfSome, MatchOption, drop, length};
 ghost use Rattle.std.specs.Char.{IsScalar};
@@ -56,14 +56,14 @@ fn short_char(bytes: &[u8]) -> Option<(char, &[u8])>
     Some((char::from_u32(code)?, behind))
 }
 
-/// The first character where three bytes spell it, the first of them from E1 to EC (hex). `None` says nothing.
+/// The first character where three bytes spell it. `None` says nothing.
 #[inline(never)]
 fn three_byte_char(bytes: &[u8]) -> Option<char>
     ensures spelled { IfSome result (λ c. utf8_chars bytes.now ≡ c ∷ utf8_chars (drop 3 bytes.now)) }
     ensures within { IfSome result (λ _. 3 ≤ length bytes.now) }
 {
     let (lead, rest) = bytes.split_first()?;
-    if *lead < 0xE1 || 0xED <= *lead {
+    if *lead < 0xE0 || 0xF0 <= *lead {
         return None;
     }
     let (next, behind) = rest.split_first()?;
@@ -75,7 +75,11 @@ fn three_byte_char(bytes: &[u8]) -> Option<char>
         return None;
     }
     let front = (*lead as u32 - 0xE0) * 0x40 + (*next as u32 - 0x80);
-    let first = char::from_u32(front * 0x40 + (*last as u32 - 0x80))?;
+    let code = front * 0x40 + (*last as u32 - 0x80);
+    if code < 0x800 {
+        return None;
+    }
+    let first = char::from_u32(code)?;
     Some(first)
 }
 
@@ -98,8 +102,7 @@ fn behind_any_char(bytes: &[u8]) -> &[u8]
     chars.as_bytes()
 }
 
-/// The first character of any bytes, and the bytes behind it: by a look at the bytes alone where one or two spell it, and mostly
-/// where three do.
+/// The first character of any bytes, and the bytes behind it: by a look at the bytes alone where one, two or three spell it.
 #[inline(always)]
 fn first_char(bytes: &[u8]) -> Option<(char, &[u8])>
     ensures { MatchOption result (utf8_chars bytes.now ≡ []) (λ r. utf8_chars bytes.now ≡ r.0 ∷ utf8_chars r.1.now) }
