@@ -21,24 +21,24 @@ ghost use Rattle.icu_collator_core.specs.SameSettings.{AreSameSettings};
 pub fn same_data_have_same_levels()
     ensures { (a b : Collation) (options : ResolvedCollatorOptions) (text : List ℕ)
         → AreSameCanonical a.canonical b.canonical → AreSameWeights a.weights b.weights → AreSameSettings a b
-        → IsDecomposing b.canonical → All IsScalar text
-        → levels_of_text a options text ≡ levels_of_text b options text }
+        → IsDecomposing b.canonical
+        → All IsScalar text → levels_of_text a options text ≡ levels_of_text b options text }
 {}
 
 /// A text has the same key under both.
 pub fn same_data_have_same_keys()
     ensures { (a b : Collation) (options : ResolvedCollatorOptions) (text : List ℕ)
         → AreSameCanonical a.canonical b.canonical → AreSameWeights a.weights b.weights → AreSameSettings a b
-        → IsDecomposing b.canonical → All IsScalar text
-        → key_of_text a options text ≡ key_of_text b options text }
+        → IsDecomposing b.canonical
+        → All IsScalar text → key_of_text a options text ≡ key_of_text b options text }
 {}
 
 /// Two texts compare alike under both.
 pub fn same_data_order_alike()
     ensures { (a b : Collation) (options : ResolvedCollatorOptions) (x y : List ℕ)
         → AreSameCanonical a.canonical b.canonical → AreSameWeights a.weights b.weights → AreSameSettings a b
-        → IsDecomposing b.canonical → All IsScalar x → All IsScalar y
-        → collation_order a options x y ≡ collation_order b options x y }
+        → IsDecomposing b.canonical
+        → All IsScalar x → All IsScalar y → collation_order a options x y ≡ collation_order b options x y }
 {}
 
 /// Levels are of the elements, the decomposed list, the options and the settings: data with the same
