@@ -4,6 +4,8 @@ pub mod CodesWrittenLemmas
 pub mod GivenLevelLemmas
 pub mod KeyWrittenLemmas
 pub mod PlaceRankLemmas
+pub mod PlainLevelLemmas
+pub mod PlainPrimaryLemmas
 pub mod PrimaryRunLemmas
 pub mod RankedRunLemmas
 pub mod SoundCaseLemmas

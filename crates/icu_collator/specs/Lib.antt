@@ -3,6 +3,7 @@ pub mod Levels
 pub mod Order
 pub mod Strengths
 pub mod AskedLeads
+pub mod PlainPrimaries
 pub mod KeyBuffers
 pub mod KeyBytes
 pub mod Settings

@@ -7,4 +7,6 @@ mod calls;
 #[cfg(test)]
 mod failing_sinks;
 #[cfg(test)]
+mod long_keys;
+#[cfg(test)]
 mod sinks;

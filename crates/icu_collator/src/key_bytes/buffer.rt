@@ -1,5 +1,7 @@
 //! The bytes of a key while it is written.
 
+pub(super) mod short_primaries;
+
 ghost use Rattle.std.specs.Prelude.{◌≡◌, ◌≤◌, ◌∷◌, [], ◌++◌, false, true, take, OnOk};
 
 use std::alloc::{AllocError, Global};

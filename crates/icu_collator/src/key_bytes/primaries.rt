@@ -1,8 +1,8 @@
 //! The primary level of a key.
 
-ghost use Rattle.std.specs.Prelude.{◌≡◌, ◌<◌, ◌≤◌, ◌/◌, ◌^◌, ◌∷◌, ◌++◌, [], bit_and, false, length, true, None, Some, IfOk, OnOk, option_map};
+ghost use Rattle.std.specs.Prelude.{◌≡◌, ◌<◌, ◌≤◌, ◌/◌, ◌^◌, ◌++◌, false, length, true, None, Some, IfOk, OnOk, option_map};
 ghost use Rattle.icu_collator_core.specs.TableSettings.{is_compressible_in};
-ghost use Rattle.icu_collator_core.specs.WeightRules.{primary_bytes, primary_rest};
+ghost use Rattle.icu_collator_core.specs.WeightRules.{primary_bytes};
 ghost use Rattle.icu_collator.specs.Collators.{source_collation};
 ghost use Rattle.icu_collator.specs.KeyBytes.{primary_code, primary_level, primary_run, run_end, was_compressible};
 ghost use Rattle.icu_collator.specs.AskedLeads.{IsAnswered, IsPlainLead, IsWrittenWhole};
@@ -10,6 +10,7 @@ ghost use Rattle.icu_collator.specs.KeyCodes.{AddsPrimary, IsRun, IsWrittenUpTo}
 ghost use Rattle.icu_collator.specs.LevelLists.{counted_list, primaries_by};
 
 use super::buffer::KeyBytes;
+use super::buffer::short_primaries::is_short;
 use super::weights::{write_primary_bytes, write_primary_rest};
 use crate::levels::counted_elements::counted_element;
 use crate::levels::weights::{own_primary_at, reordered};
@@ -183,20 +184,6 @@ fn has_lead(primary: u32, plain: u16) -> bool
     u32::from(plain) == primary >> 24
 }
 
-/// Whether a primary has two bytes, the first of them a plain lead.
-#[inline(always)]
-fn is_short(primary: u32, plain: u16) -> bool
-    ensures lead { result ≡ true → plain ≡ primary / 2 ^ 24 }
-    ensures low { result ≡ true → plain < 256 }
-    ensures rest { result ≡ true → primary_rest primary ≡ bit_and (primary / 2 ^ 16) 0xff ∷ [] }
-{
-    if primary & 0xffff != 0 {
-        return false;
-    }
-    let first = u32::from(plain) * 256 + 1;
-    (primary >> 16).wrapping_sub(first) < 255
-}
-
 /// Appends a primary with a plain lead that has two bytes, where there is room for both without memory; else nothing.
 #[inline(always)]
 fn put_short(primary: u32, plain: u16, key: &mut KeyBytes) -> bool
@@ -273,7 +260,9 @@ fn write_plain_ones(
     requires within { from ≤ length elements.now }
     ensures { IfOk result (λ behind. IsWrittenUpTo (source_collation checked.now) variable_end elements.now None from key.old.items behind key.new.items) }
 {
-    for place in from..elements.len() {
+    checked.keep_promise();
+    let start = key.put_short_primaries(elements, variable_end, from, plain);
+    for place in start..elements.len() {
         let primary = own_primary_at(counted_element(elements[place], variable_end));
         if !write_plain(checked, plain, primary, key)? {
             return Ok(place);

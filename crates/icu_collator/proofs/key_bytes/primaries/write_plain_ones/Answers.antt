@@ -1,4 +1,4 @@
-use Rattle.std.proofs.Common.{◌≡◌, ◌++◌, ◌<◌, ◌≤◌, ◌∙◌, List, None, ℕ, drop, length, refl, ap, arith, subst, sym}
+use Rattle.std.proofs.Common.{◌≡◌, ◌++◌, ◌<◌, ◌∙◌, List, None, ℕ, drop, length, ap, arith, subst, sym}
 use Rattle.std.specs.Prelude.{option_map}
 use Rattle.icu_collator.specs.Collators.{source_collation}
 use Rattle.icu_collator.specs.KeyBytes.{codes_from, primary_code, primary_run, was_compressible}
@@ -6,10 +6,14 @@ use Rattle.icu_collator.specs.KeyCodes.{IsWrittenUpTo}
 use Rattle.icu_collator.specs.LevelLists.{counted_list, counted_of, primaries_by}
 use Rattle.icu_collator.specs.Levels.{primary_at}
 use Rattle.icu_collator.proofs.key_writing.GivenLevelLemmas.{own_reordered, primaries_go_on}
+use Rattle.icu_collator.proofs.key_writing.PlainLevelLemmas.{plain_up_to}
 use Rattle.icu_collator.proofs.key_bytes.primaries.write_plain_ones.Goals as goal
 
 pub loop-place-init : goal.loop-place-init
-loop-place-init c = record { onward = omega arith; level = refl }
+loop-place-init c =
+    let put = c.put_short_primaries-start.ensures in
+    plain_up_to c.args.checked.now c.args.plain c.args.variable_end c.keep_promise.ensures c.requires.plain c.args.elements.now c.args.from
+    c.put_short_primaries-start.result c.args.key.now.items c.put_short_primaries-start.new.self.items put.onward put.plain put.put
 
 pub loop-place-preserved : goal.loop-place-preserved
 loop-place-preserved c =
@@ -41,7 +45,7 @@ returns-then-not-branch c =
 pub returns : goal.returns
 returns c =
     let collation = source_collation c.args.checked.now in
-    let within = c.requires.within in
+    let within = c.put_short_primaries-start.ensures.within in
     let ended = c.loop-place-test.false in
     let last : c.loop-place.place ≡ length c.args.elements.now = omega (arith, ended, within) in
     subst (λ (n : ℕ). IsWrittenUpTo collation c.args.variable_end c.args.elements.now None c.args.from c.args.key.now.items n c.loop-place.key.items)

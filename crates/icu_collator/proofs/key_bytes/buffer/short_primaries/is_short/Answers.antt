@@ -2,7 +2,7 @@ use Rattle.std.proofs.Common.{◌≡◌, ◌≢◌, ℕ, ◌<◌, ◌+◌, ◌-�
 use Rattle.std.proofs.lemmas.Bool.{ltb-true}
 use Rattle.std.proofs.lemmas.Nat.{and_mask}
 use Rattle.icu_collator.proofs.key_writing.WeightWrittenLemmas.{one_behind}
-use Rattle.icu_collator.proofs.key_bytes.primaries.is_short.Goals as goal
+use Rattle.icu_collator.proofs.key_bytes.buffer.short_primaries.is_short.Goals as goal
 
 module _ (p plain : ℕ) (small : p < 2 ^ 32) (narrow : plain < 2 ^ 16) (near : (p / 2 ^ 16 + (2 ^ 32 - (plain * 256 + 1))) % 2 ^ 32 < 255) where
   leads : plain ≡ p / 2 ^ 24

@@ -1,0 +1,71 @@
+-- Elements with plain primaries, one behind another: their bytes, and how a buffer takes them.
+use Rattle.std.proofs.Common.{◌≡◌, ◌≢◌, ℕ, ◌<◌, ◌≤◌, ◌+◌, ◌-◌, ◌/◌, ◌^◌, Bool, true, false, List, [], ◌∷◌, ◌++◌, length, drop, take, get_or, set, refl, sym, ◌∙◌, ap, subst, append_assoc, arith}
+use Rattle.std.specs.Prelude.{◌==◌, cond, flat_map, All}
+use Rattle.std.proofs.lemmas.Bool.Decides.{nat_tests}
+use Rattle.std.proofs.lemmas.Grind.{take-set_at}
+use Rattle.std.proofs.lemmas.List.{flat_map_more, get_or-drop, length-drop, length-set, take_more, take_more_set}
+use Rattle.std.proofs.lemmas.List.Elements.{All-more}
+use Rattle.icu_collator_core.specs.WeightRules.{primary_bytes, primary_rest}
+use Rattle.icu_collator.specs.PlainPrimaries.{between, own_bytes}
+
+-- one more element
+module _ (xs : List ℕ) (from place x : ℕ) (onward : from ≤ place) (inside : place < length xs) (is : x ≡ get_or xs place x) where
+  inside_rest : place - from < length (drop from xs)
+  inside_rest = let n = length-drop from xs in omega (arith, n, onward, inside)
+
+  last_is : get_or (drop from xs) (place - from) x ≡ x
+  last_is =
+      let there : from + (place - from) ≡ place = omega (arith, onward) in
+      get_or-drop from xs (place - from) x ∙ ap (λ n. get_or xs n x) there ∙ sym is
+
+  count_is : place - from + 1 ≡ place + 1 - from
+  count_is = omega (arith, onward)
+
+  pub between_more : between from (place + 1) xs ≡ between from place xs ++ x ∷ []
+  between_more =
+      ap (λ n. take n (drop from xs)) (sym count_is)
+      ∙ take_more (drop from xs) (place - from) x inside_rest
+      ∙ ap (λ y. between from place xs ++ y ∷ []) last_is
+
+  pub all_more : (P : ℕ → Type 0) → All P (between from place xs) → P x → All P (between from (place + 1) xs)
+  all_more P all one =
+      subst (λ n. All P (take n (drop from xs))) count_is
+      (All-more P (drop from xs) (place - from) x inside_rest all (subst P (sym last_is) one))
+
+  pub bytes_more :
+      (bytes : ℕ → List ℕ) (start before after : List ℕ) → before ≡ start ++ flat_map bytes (between from place xs) → after ≡ before ++ bytes x
+      → after ≡ start ++ flat_map bytes (between from (place + 1) xs)
+  bytes_more bytes start before after so_far more =
+      more ∙ ap (λ l. l ++ bytes x) so_far ∙ flat_map_more bytes start (between from place xs) x
+      ∙ ap (λ l. start ++ flat_map bytes l) (sym between_more)
+
+-- none yet
+pub between_none : (xs : List ℕ) (from : ℕ) → between from from xs ≡ []
+between_none xs from = let none : from - from ≡ 0 = omega arith in ap (λ n. take n (drop from xs)) none
+
+-- the bytes of an element without a primary, and of one with two bytes
+pub no_bytes : (bits : ℕ) → bits / 2 ^ 32 ≡ 0 → own_bytes bits ≡ []
+unfolding own_bytes
+no_bytes bits none = rw none refl
+
+pub two_bytes : (bits : ℕ) (lead second : ℕ) → bits / 2 ^ 32 ≢ 0 → lead ≡ bits / 2 ^ 32 / 2 ^ 24 → primary_rest (bits / 2 ^ 32) ≡ second ∷ []
+    → own_bytes bits ≡ lead ∷ second ∷ []
+unfolding own_bytes
+two_bytes bits lead second some led rest =
+    let test : (bits / 2 ^ 32 == 0) ≡ false = grind (arith, nat_tests) in
+    ap (λ (b : Bool). cond b [] (primary_bytes (bits / 2 ^ 32))) test
+    ∙ ap (λ l. bits / 2 ^ 32 / 2 ^ 24 ∷ l) rest ∙ ap (λ n. n ∷ second ∷ []) (sym led)
+
+-- two bytes behind what a buffer holds
+two_put : (array : List ℕ) (n a b : ℕ) → n + 1 < length array → take (n + 2) (set (set array n a) (n + 1) b) ≡ take n array ++ a ∷ b ∷ []
+two_put array n a b room =
+    let inside : n < length array = omega (arith, room) in
+    let inside_too : n + 1 < length (set array n a) = let same = length-set array n a in omega (arith, room, same) in
+    take-set_at (set array n a) (n + 1) (n + 2) b (omega arith) inside_too
+    ∙ ap (λ l. l ++ b ∷ []) (take_more_set array n a inside)
+    ∙ append_assoc (take n array) (a ∷ []) (b ∷ [])
+
+pub two_put_in : (is_long : Bool) (list array : List ℕ) (n a b : ℕ) → (is_long ≡ true → n ≡ 512) → n ≤ 510 → length array ≡ 512
+    → cond is_long list (take (n + 2) (set (set array n a) (n + 1) b)) ≡ cond is_long list (take n array) ++ a ∷ b ∷ []
+two_put_in true list array n a b full room is = absurd (let at = full refl in omega (arith, at, room))
+two_put_in false list array n a b full room is = two_put array n a b (omega (arith, room, is))

@@ -1,0 +1,21 @@
+-- Primaries whose bytes follow one another in a key: those with one lead byte, where no run goes on.
+use Rattle.std.specs.Prelude.{◌≡◌, ◌≢◌, ℕ, ◌-◌, ◌/◌, ◌^◌, ◌<◌, ◌≤◌, ◌==◌, cond, List, [], drop, take}
+use Rattle.icu_collator_core.specs.WeightRules.{primary_bytes}
+
+-- it has this lead byte, and variable primaries end below it
+pub record IsPlain (lead end primary : ℕ) : Type 0 where
+  pub byte : lead < 256
+  pub led : lead ≡ primary / 2 ^ 24
+  pub counts : end ≤ primary
+
+-- an element of 64 bits has no primary, or a plain one
+abbrev pub GivesPlain : ℕ → ℕ → ℕ → Type 0
+GivesPlain lead end bits = bits / 2 ^ 32 ≢ 0 → IsPlain lead end (bits / 2 ^ 32)
+
+-- the bytes of an element's primary; none where it has no primary
+unfoldable pub own_bytes : ℕ → List ℕ
+own_bytes bits = cond (bits / 2 ^ 32 == 0) [] (primary_bytes (bits / 2 ^ 32))
+
+-- the elements from a place up to another
+abbrev pub between : ℕ → ℕ → List ℕ → List ℕ
+between from behind items = take (behind - from) (drop from items)
