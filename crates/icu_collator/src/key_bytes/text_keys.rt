@@ -38,9 +38,6 @@ const FEW_ELEMENTS: usize = 64;
 /// The same of a longer one.
 const MANY_ELEMENTS: usize = 512;
 
-/// The same of any text, where elements may be variable.
-const SHIFTED_ELEMENTS: usize = 256;
-
 /// The decomposed list of a text. Fails only when out of memory.
 fn listed_characters<T: Characters>(
     alloc: Global,
@@ -198,8 +195,8 @@ fn write_counted_key<T: Characters>(
     Ok(())
 }
 
-/// Appends the key of a text that is read flat, where elements may be variable, to no byte; `false` for another text and where
-/// nothing is shifted, and then nothing. Fails only when out of memory.
+/// Appends the key of a text of few elements that is read flat, where elements may be variable, to no byte; `false` for another
+/// text and where nothing is shifted, and then nothing. Fails only when out of memory.
 #[inline(never)]
 fn write_shifted_key<T: Characters>(
     alloc: Global,
@@ -216,7 +213,7 @@ fn write_shifted_key<T: Characters>(
     if is_unshifted(options) {
         return Ok(false);
     }
-    let mut flat = FlatElements::<SHIFTED_ELEMENTS>::new();
+    let mut flat = FlatElements::<FEW_ELEMENTS>::new();
     if !checked.read_flat(numeric_lead(checked, options), text.chars(), &mut flat) {
         return Ok(false);
     }
