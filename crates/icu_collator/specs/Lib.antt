@@ -13,6 +13,7 @@ pub mod NumbersInTexts
 pub mod Boundaries
 pub mod Fronts
 pub mod NextCharacters
+pub mod Syllables
 pub mod LevelOrders
 pub mod Sinks
 pub mod Loading

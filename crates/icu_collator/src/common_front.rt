@@ -10,6 +10,7 @@ mod deciding;
 mod next;
 mod ordering;
 mod passage;
+mod syllables;
 
 pub(crate) use ordering::order_by_difference;
 pub(crate) use passage::reading_place;

@@ -9,13 +9,15 @@ ghost use Rattle.icu_collator.specs.Order.{collation_order};
 use super::FirstDifference;
 use super::deciding::order_of_next;
 use super::next::next_character;
+use super::syllables::by_letters;
 use crate::levels::counted_elements::variable_end;
 use icu_collator_core::checked::CheckedTables;
 use icu_collator_types::options::ResolvedCollatorOptions;
 use std::cmp::Ordering;
 
 /// The order of two texts, if it is decided by where they first differ: there both end, or one does and the other goes
-/// on with a plain character, or both go on with plain characters whose primaries differ. No memory is taken.
+/// on with a plain character, or both go on with plain characters whose primaries differ. Of two Hangul syllables the first
+/// letters that differ count. No memory is taken.
 pub(crate) fn order_by_difference(
     checked: &CheckedTables<'_>,
     options: &ResolvedCollatorOptions,
@@ -25,8 +27,9 @@ pub(crate) fn order_by_difference(
         → PartAt a b difference.common difference.left difference.right → order ≡ collation_order (source_collation checked.now) options.now a b) }
 {
     checked.canonical().keep_promise();
-    let left = next_character(checked, difference.left);
-    let right = next_character(checked, difference.right);
+    let spelled = by_letters(difference);
+    let left = next_character(checked, spelled.left);
+    let right = next_character(checked, spelled.right);
     let order = order_of_next(checked, variable_end(checked, options), left, right)?;
     Some(order)
 }
