@@ -230,8 +230,29 @@ BEHIND = (TWENTY + 'c', TWENTY + 'e')
 TIED = [('abcl', 'abco'), ('abc', 'abe'), ('ablcl', 'ablco'), ('ablc', 'able'), ('ehl', 'eho'), ('eh', 'ec'), ('hhhhl', 'hhhho')]
 MARKED = ('\u00e1' * 20, 'a\u0301' * 20, 'a\u0323\u0301' * 20, '\uac00' * 20, 'e\u0301\uac01\u00e1' * 20)
 ENDS = [('c', 'e'), ('tc', 'te'), ('\u0323', 'e'), ('', 'c')]
+JAMO = [at('\u1100', '3A10'), at('\u1101', '3A20'), at('\u1161', '3B40'), at('\u1162', '3B30'), 'w 1163 ; [0.9200.0.0500.0]',
+        at('\u11a8', '3C20'), at('\u11a9', '3C10')]
 TEXTS = ('', 'a', 'A', 'ab', 'a b', 'a.b', 'Ab', 'aB', '\u00e1b', 'a\u0301B', 'b', 'a2', 'a10', 'A\u0323c')
 NEAR = list(zip(TEXTS, TEXTS[1:])) + [('ab', 'Ab'), ('a b', 'ab'), ('a.b', 'ab'), ('a b', 'a.b'), ('\u00e1b', 'a\u0301b')]
+
+
+def syllable(leading, vowel, trailing=0):
+    """The Hangul syllable of three letters by their numbers; trailing 0 is none."""
+    return chr(0xac00 + (leading * 21 + vowel) * 28 + trailing)
+
+
+FIRST = syllable(0, 0)
+SYLLABLES = [compare(syllable(0, 0, 1), syllable(1, 1), 'Less'), compare(syllable(0, 1), syllable(1, 0), 'Less'),
+             compare(FIRST, syllable(0, 1), 'Greater'), compare(syllable(0, 0, 1), syllable(0, 1, 2), 'Greater'),
+             compare(syllable(0, 0, 1), syllable(0, 0, 2), 'Greater'), compare(FIRST, syllable(0, 0, 1), 'Less'),
+             compare(FIRST + 'b', syllable(0, 0, 1) + 'a', 'Less'), compare(FIRST + '\u11a8', syllable(0, 0, 2), 'Greater'),
+             compare(FIRST + '\u11a8', syllable(0, 0, 1), 'Equal'), compare('\u1100\u1161', FIRST, 'Equal'),
+             compare('\u1100\u1162', FIRST, 'Less'), compare(syllable(0, 2, 1), syllable(0, 0, 2), 'Greater'),
+             compare(syllable(0, 2), syllable(0, 3)), compare(syllable(0, 0, 3), syllable(0, 0, 4)),
+             compare(syllable(5, 0), syllable(6, 0)), compare(syllable(0, 0, 3), syllable(0, 0, 1)),
+             compare('\ud7a3', syllable(18, 20, 26)), compare('\ud7a3', '\ud7a4'), compare(FIRST, '\uabff'),
+             compare(FIRST, 'a', 'Greater'), compare('a' + syllable(0, 1) + 'b', 'a' + FIRST + 'a', 'Less'),
+             compare(FIRST * 20 + syllable(1, 0), FIRST * 20 + syllable(0, 1), 'Greater')]
 
 
 def option_paragraphs():
@@ -268,6 +289,8 @@ OTHERS = [
     section('From where texts are read: letters with marks, and syllables', [at('a\u0301', '2A60'), 'w 0074 | 0063 ; [2A900000.0500.0.0500.0]'],
             ('options none', [*(place(front + a, front + b, 'at least 10') for front in MARKED for a, b in ENDS),
                                *(compare(front + a, front + b) for front in MARKED for a, b in ENDS)])),
+    section('Texts that first differ in syllables: the letters decide', JAMO,
+            *((f'options {words}', SYLLABLES) for words in ('primary', 'tertiary', 'identical'))),
     section('Leads in the place of others', ['set reorder 2A 2B 2B 2A'],
             ('options tertiary', [compare('t', 'a', 'Less'), key('t', '2a40010501010501'), key('a', '2b10010501010501')])),
     section('Settings of a file count where nothing else is given', [
