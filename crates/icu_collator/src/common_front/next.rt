@@ -57,6 +57,19 @@ fn noted_element(checked: &CheckedTables<'_>, c: char) -> Option<CollationElemen
     Some(element)
 }
 
+/// The element of a plain character other than U+0303 that is its own full list, by the tables; `None` for another, and for some
+/// that are so.
+fn own_element(checked: &CheckedTables<'_>, c: char) -> Option<CollationElement>
+    ensures plain { IfSome result (λ bits. IsPlainCharacter checked.now c bits) }
+    ensures other { IfSome result (λ bits. (c == 0x303) ≡ false) }
+{
+    if !checked.is_own_beginning(c) {
+        return None;
+    }
+    let element = alone_element(checked, c)?;
+    Some(element)
+}
+
 /// The element of a plain character, by its full list; `None` for one that isn't plain, and for some that are.
 fn find_plain_element(checked: &CheckedTables<'_>, c: char) -> Option<CollationElement>
     ensures { IfSome result (λ bits. IsPlain (source_collation checked.now) c bits) }
@@ -75,7 +88,10 @@ fn plain_element(checked: &CheckedTables<'_>, c: char) -> Option<CollationElemen
     ensures { IfSome result (λ bits. IsPlain (source_collation checked.now) c bits) }
 {
     checked.canonical().keep_promise();
-    match noted_element(checked, c) {
+    if let Some(element) = noted_element(checked, c) {
+        return Some(element);
+    }
+    match own_element(checked, c) {
         Some(element) => Some(element),
         None => find_plain_element(checked, c),
     }

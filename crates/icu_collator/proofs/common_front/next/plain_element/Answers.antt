@@ -11,3 +11,11 @@ returns-in-Some c =
     let scalar : IsScalar c.args.c = search rules in
     let decomposing : IsDecomposing (meaning source.canonical) = subst (λ tables. IsDecomposing (meaning tables)) c.canonical.ensures c.keep_promise.ensures.decomposing in
     noted_plain source c.args.c c.in-Some.element decomposing scalar c.in-Some.ensures.other c.in-Some.ensures.plain
+
+pub returns-in-Some-own_element : goal.returns-in-Some-own_element
+returns-in-Some-own_element c =
+    let source = c.args.checked.now in
+    let scalar : IsScalar c.args.c = search rules in
+    let decomposing : IsDecomposing (meaning source.canonical) = subst (λ tables. IsDecomposing (meaning tables)) c.canonical.ensures c.keep_promise.ensures.decomposing in
+    let own = c.in-Some-own_element in
+    noted_plain source c.args.c own.element decomposing scalar own.ensures.other own.ensures.plain
