@@ -1,4 +1,4 @@
--- Primaries whose bytes follow one another in a key: those with one lead byte, where no run goes on.
+-- Primaries whose bytes follow one another in a key: those with one lead byte, where no run goes on, or the run of that lead.
 use Rattle.std.specs.Prelude.{◌≡◌, ◌≢◌, ℕ, ◌-◌, ◌/◌, ◌^◌, ◌<◌, ◌≤◌, ◌==◌, cond, List, [], drop, take}
 use Rattle.icu_collator_core.specs.WeightRules.{primary_bytes}
 
@@ -12,9 +12,9 @@ pub record IsPlain (lead end primary : ℕ) : Type 0 where
 abbrev pub GivesPlain : ℕ → ℕ → ℕ → Type 0
 GivesPlain lead end bits = bits / 2 ^ 32 ≢ 0 → IsPlain lead end (bits / 2 ^ 32)
 
--- the bytes of an element's primary; none where it has no primary
-unfoldable pub own_bytes : ℕ → List ℕ
-own_bytes bits = cond (bits / 2 ^ 32 == 0) [] (primary_bytes (bits / 2 ^ 32))
+-- the bytes of an element's primary behind so many that are left out; none where it has no primary
+unfoldable pub own_bytes : ℕ → ℕ → List ℕ
+own_bytes left_out bits = cond (bits / 2 ^ 32 == 0) [] (drop left_out (primary_bytes (bits / 2 ^ 32)))
 
 -- the elements from a place up to another
 abbrev pub between : ℕ → ℕ → List ℕ → List ℕ

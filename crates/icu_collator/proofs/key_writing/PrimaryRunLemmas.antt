@@ -6,13 +6,14 @@ use Rattle.icu_collator_core.specs.Acceptance.{CollationSource, IsAccepted}
 use Rattle.icu_collator_core.specs.TableMeaning.{collation_of}
 use Rattle.icu_collator_core.specs.TableSettings.{is_compressible_in, reordered_in}
 use Rattle.icu_collator_core.specs.declared.tables.CollationTables.{CollationTables}
-use Rattle.icu_collator_core.specs.WeightRules.{primary_bytes}
+use Rattle.icu_collator_core.specs.WeightRules.{primary_bytes, primary_rest}
 use Rattle.icu_collator_core.specs.declared.tables.reordering.CollationReordering.{CollationReordering}
 use Rattle.icu_collator.specs.AskedLeads.{IsWrittenWhole}
 use Rattle.icu_collator.specs.Collators.{source_collation}
 use Rattle.icu_collator.specs.KeyBytes.{primary_code, primary_run, was_compressible}
 use Rattle.icu_collator.specs.KeyCodes.{AddsPrimary, IsRun}
 use Rattle.icu_collator.proofs.key_writing.GivenLevelLemmas.{adds_primary}
+use Rattle.icu_collator.proofs.key_writing.WeightWrittenLemmas.{inside_run}
 use Rattle.icu_collator.proofs.keys.CompressedLemmas.{accepted_alike, lead_before, run_goes_on}
 
 module _ (canonical : Canonical) (tables : CollationTables) (accepted : IsAccepted canonical tables)
@@ -57,3 +58,17 @@ adds_plain source p plain before after accepted led low is written =
     let moved : p ≡ reordered_in source.tables.reordering p = sym (ap (λ (r : Option CollationReordering). reordered_in r p) is.1) in
     adds_primary (was_compressible collation) (Some (collation.reordered p)) p None None before after (ap Some (sym moved)) written
     (run_ended (meaning source.canonical) source.tables accepted p p (p / 2 ^ 24) small moved refl None ends) tt
+
+-- a primary with the lead of a run is written without it, and the run goes on, where nothing is reordered
+pub adds_in_run :
+    (source : CollationSource) (p lead : ℕ) (before after : List ℕ) → IsAccepted (meaning source.canonical) source.tables
+    → lead ≡ p / 2 ^ 24 → lead < 256 → source.tables.reordering ≡ None → IsRun (was_compressible (source_collation source)) (Some lead)
+    → after ≡ before ++ primary_rest p
+    → AddsPrimary (was_compressible (source_collation source)) (Some ((source_collation source).reordered p)) (Some lead) before (Some lead) after
+adds_in_run source p lead before after accepted led low unmoved is written =
+    let collation = source_collation source in
+    let small : p < 2 ^ 32 = omega (arith, led, low) in
+    let moved : p ≡ reordered_in source.tables.reordering p = sym (ap (λ (r : Option CollationReordering). reordered_in r p) unmoved) in
+    adds_primary (was_compressible collation) (Some (collation.reordered p)) p (Some lead) (Some lead) before after (ap Some (sym moved))
+    (written ∙ sym (ap (λ l. before ++ l) (inside_run lead p (sym led))))
+    (run_kept (meaning source.canonical) source.tables accepted p p lead small moved led (Some lead) is refl) is

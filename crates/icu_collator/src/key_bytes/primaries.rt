@@ -261,7 +261,7 @@ fn write_plain_ones(
     ensures { IfOk result (λ behind. IsWrittenUpTo (source_collation checked.now) variable_end elements.now None from key.old.items behind key.new.items) }
 {
     checked.keep_promise();
-    let start = key.put_short_primaries(elements, variable_end, from, plain);
+    let start = key.put_short_primaries(elements, variable_end, from, plain, 0);
     for place in start..elements.len() {
         let primary = own_primary_at(counted_element(elements[place], variable_end));
         if !write_plain(checked, plain, primary, key)? {
@@ -271,7 +271,8 @@ fn write_plain_ones(
     Ok(elements.len())
 }
 
-/// The same behind any run: behind one of primaries with a compressible lead nothing is appended.
+/// The same behind any run: behind one of primaries with a compressible lead, what the elements give, at most up to the first with
+/// a primary that isn't a short one of that lead, and nothing where primaries are reordered; answers the place behind them.
 #[inline(always)]
 fn write_plain_front(
     checked: &CheckedTables<'_>,
@@ -282,16 +283,24 @@ fn write_plain_front(
     plain: u16,
     key: &mut KeyBytes,
 ) -> Result<usize, AllocError>
+    requires run { IsRun (was_compressible (source_collation checked.now)) run }
     requires plain { plain < 256 → IsWrittenWhole checked.now plain }
     requires within { from ≤ length elements.now }
     ensures { IfOk result (λ behind. IsWrittenUpTo (source_collation checked.now) variable_end elements.now run from key.old.items behind key.new.items) }
 {
+    checked.keep_promise();
     match run {
         None => {
             let behind = write_plain_ones(checked, elements, variable_end, from, plain, key)?;
             Ok(behind)
         }
-        Some(_) => Ok(from),
+        Some(lead) => match &checked.tables().reordering {
+            Some(_) => Ok(from),
+            None => {
+                let lead = u16::from(lead);
+                Ok(key.put_short_primaries(elements, variable_end, from, lead, 1))
+            }
+        },
     }
 }
 

@@ -1,6 +1,9 @@
-use Rattle.std.proofs.Common.{Option, ℕ, arith, refl, subst, sym}
+use Rattle.std.proofs.Common.{◌≡◌, ◌∙◌, None, Option, Some, ℕ, ap, subst, sym}
+use Rattle.icu_collator_core.specs.declared.tables.CollationTables.{CollationTables}
 use Rattle.icu_collator.specs.Collators.{source_collation}
-use Rattle.icu_collator.specs.KeyCodes.{IsWrittenUpTo}
+use Rattle.icu_collator.specs.KeyBytes.{was_compressible}
+use Rattle.icu_collator.specs.KeyCodes.{IsRun, IsWrittenUpTo}
+use Rattle.icu_collator.proofs.key_writing.PlainLevelLemmas.{run_up_to}
 use Rattle.icu_collator.proofs.key_bytes.primaries.write_plain_front.Goals as goal
 
 pub returns-in_ok-behind-in-None : goal.returns-in_ok-behind-in-None
@@ -8,5 +11,14 @@ returns-in_ok-behind-in-None c =
     subst (λ (run : Option ℕ). IsWrittenUpTo (source_collation c.args.checked.now) c.args.variable_end c.args.elements.now run c.args.from c.args.key.now.items
     c.in_ok-behind-in-None.behind c.write_plain_ones.new.key.items) (sym c.in-None.is) c.in_ok-behind-in-None.ensures
 
-pub returns-in-Some : goal.returns-in-Some
-returns-in-Some c = record { onward = omega arith; level = refl }
+pub returns-in-None-reordering : goal.returns-in-None-reordering
+returns-in-None-reordering c =
+    let source = c.args.checked.now in
+    let put = c.put_short_primaries.ensures in
+    let lead = c.from-lead.result in
+    let is : c.args.run ≡ Some lead = c.in-Some.is ∙ ap Some (sym c.from-lead.ensures) in
+    let unmoved : source.tables.reordering ≡ None = ap (λ (t : CollationTables). t.reordering) (sym c.tables.ensures) ∙ c.in-None-reordering.is in
+    subst (λ (run : Option ℕ). IsWrittenUpTo (source_collation source) c.args.variable_end c.args.elements.now run c.args.from c.args.key.now.items
+    c.put_short_primaries.result c.put_short_primaries.new.self.items) (sym is)
+    (run_up_to source lead c.args.variable_end c.keep_promise.ensures unmoved (subst (IsRun (was_compressible (source_collation source))) is c.requires.run)
+    c.args.elements.now c.args.from c.put_short_primaries.result c.args.key.now.items c.put_short_primaries.new.self.items put.onward put.plain put.put)

@@ -10,9 +10,9 @@ invariant-elements l = record {
   array : length l.self-inside.array ≡ 512;
   room : l.length ≤ 512;
   full : l.self-inside.is_long ≡ true → l.length ≡ 512;
-  plain : All (GivesPlain l.plain l.variable_end) (between l.from l.place l.elements);
+  plain : All (GivesPlain l.lead l.variable_end) (between l.from l.place l.elements);
   put : cond l.self-inside.is_long l.self-inside.list.items (take l.length l.self-inside.array)
-      ≡ l.fn.self.items ++ flat_map own_bytes (between l.from l.place l.elements);
+      ≡ l.fn.self.items ++ flat_map (own_bytes l.left_out) (between l.from l.place l.elements);
 }
 
 abbrev pub decreases-elements : goal.decreases-elements

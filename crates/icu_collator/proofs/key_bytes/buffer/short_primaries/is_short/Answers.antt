@@ -23,14 +23,14 @@ small_difference p wide plain is near = subst (λ (w : ℕ). (p / 2 ^ 16 + (2 ^ 
 
 pub returns-clause-lead : goal.returns-clause-lead
 returns-clause-lead c = λ near.
-    leads c.args.primary c.args.plain c.ranges.primary.fits c.ranges.plain.fits (small_difference c.args.primary c.from.result c.args.plain c.from.ensures near)
+    leads c.args.primary c.args.lead c.ranges.primary.fits c.ranges.lead.fits (small_difference c.args.primary c.from.result c.args.lead c.from.ensures near)
 
 pub returns-clause-low : goal.returns-clause-low
 returns-clause-low c = λ near.
-    low c.args.primary c.args.plain c.ranges.primary.fits c.ranges.plain.fits (small_difference c.args.primary c.from.result c.args.plain c.from.ensures near)
+    low c.args.primary c.args.lead c.ranges.primary.fits c.ranges.lead.fits (small_difference c.args.primary c.from.result c.args.lead c.from.ensures near)
 
 pub returns-clause-rest : goal.returns-clause-rest
 returns-clause-rest c = λ near.
     one_behind c.args.primary
-    (goes_on c.args.primary c.args.plain c.ranges.primary.fits c.ranges.plain.fits (small_difference c.args.primary c.from.result c.args.plain c.from.ensures near))
+    (goes_on c.args.primary c.args.lead c.ranges.primary.fits c.ranges.lead.fits (small_difference c.args.primary c.from.result c.args.lead c.from.ensures near))
     c.if-primary-ne0.false
