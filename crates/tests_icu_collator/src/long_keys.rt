@@ -19,6 +19,17 @@ class 0301 230
 set groups 0306 030A 030A 030A
 set maxvariable punctuation";
 
+/// The same records, but the letters' lead is compressible.
+const COMPRESSED: &str = "w 0061 ; [2A100000.0500.0.0500.0]
+w 0062 ; [2A200000.0500.0.0500.0]
+w 0063 ; [2A300500.0500.0.0500.0]
+w 0301 ; [00000000.8800.0.0500.0]
+w 0020 ; [03040000.0500.0.0500.0]
+class 0301 230
+set groups 0306 030A 030A 030A
+set maxvariable punctuation
+set compress 2A";
+
 /// Primaries alone.
 const PRIMARIES: CollatorOptions = CollatorOptions {
     strength: Some(Strength::Primary),
@@ -68,14 +79,15 @@ fn key_over(
     Some(key)
 }
 
-/// Whether the text of some pieces has the key of others.
+/// Whether the text of some pieces has the key of others, over some records.
 fn has_key(
     alloc: Global,
+    records: &str,
     options: CollatorOptions,
     text: &[(&[u8], usize)],
     key: &[(&[u8], usize)],
 ) -> bool {
-    let Some(held) = held_tables(alloc, RECORDS, TrieType::Small) else {
+    let Some(held) = held_tables(alloc, records, TrieType::Small) else {
         return false;
     };
     let (Some(text), Some(key)) = (joined(alloc, text), joined(alloc, key)) else {
@@ -96,26 +108,40 @@ fn long_keys_have_each_level(rt: HostRuntime) {
         (b"\x1f\x03\x04", 119),
         (b"\x1c\x01", 1),
     ];
-    assert!(rt; has_key(rt.alloc(), SHIFTED, &text, &key));
+    assert!(rt; has_key(rt.alloc(), RECORDS, SHIFTED, &text, &key));
 }
 
 #[test]
 fn long_keys_have_all_primaries(rt: HostRuntime) {
     let text: [(&[u8], usize); 1] = [(b"a\xcc\x81b c", 120)];
     let key: [(&[u8], usize); 1] = [(b"\x2a\x10\x2a\x20\x03\x04\x2a\x30\x05", 120)];
-    assert!(rt; has_key(rt.alloc(), PRIMARIES, &text, &key));
+    assert!(rt; has_key(rt.alloc(), RECORDS, PRIMARIES, &text, &key));
 }
 
 #[test]
 fn primaries_go_on_where_room_ends(rt: HostRuntime) {
     let text: [(&[u8], usize); 1] = [(b"a ", 257)];
     let key: [(&[u8], usize); 1] = [(b"\x2a\x10", 257)];
-    assert!(rt; has_key(rt.alloc(), SHIFTED_PRIMARIES, &text, &key));
+    assert!(rt; has_key(rt.alloc(), RECORDS, SHIFTED_PRIMARIES, &text, &key));
 }
 
 #[test]
 fn primaries_go_on_over_the_end_of_room(rt: HostRuntime) {
     let text: [(&[u8], usize); 2] = [(b"c", 1), (b"a ", 255)];
     let key: [(&[u8], usize); 2] = [(b"\x2a\x30\x05", 1), (b"\x2a\x10", 255)];
-    assert!(rt; has_key(rt.alloc(), SHIFTED_PRIMARIES, &text, &key));
+    assert!(rt; has_key(rt.alloc(), RECORDS, SHIFTED_PRIMARIES, &text, &key));
+}
+
+#[test]
+fn primaries_in_a_run_go_on_where_room_ends(rt: HostRuntime) {
+    let text: [(&[u8], usize); 1] = [(b"a\xcc\x81 ", 600)];
+    let key: [(&[u8], usize); 2] = [(b"\x2a", 1), (b"\x10", 600)];
+    assert!(rt; has_key(rt.alloc(), COMPRESSED, SHIFTED_PRIMARIES, &text, &key));
+}
+
+#[test]
+fn primaries_in_a_run_end_before_another_lead(rt: HostRuntime) {
+    let text: [(&[u8], usize); 1] = [(b"a\xcc\x81b c", 120)];
+    let key: [(&[u8], usize); 2] = [(b"\x2a", 1), (b"\x10\x20\x03\x03\x04\x2a\x30\x05", 120)];
+    assert!(rt; has_key(rt.alloc(), COMPRESSED, PRIMARIES, &text, &key));
 }
