@@ -21,6 +21,6 @@ options_of preferences options = record {
 pub record IsChoice (words : List (List ℕ)) (choice : Choice) : Type 0 where
   pub rest : List (List ℕ)
   pub words_are : words ≡ choice.file.now ∷ rest
-  pub given : AreWordsOf (options_of choice.preferences choice.options) rest
-  pub locale : choice.preferences.locale.now ≡ []
-  pub collation_type : choice.preferences.collation_type ≡ None
+  pub given : AreWordsOf (options_of choice.prefs choice.options) rest
+  pub locale : choice.prefs.locale.now ≡ []
+  pub collation_type : choice.prefs.collation_type ≡ None

@@ -15,7 +15,7 @@ pub struct Choice<'a> {
     /// The path of the records file.
     pub file: &'a str,
     /// The preferences, of which case first and numeric ordering may be given.
-    pub preferences: CollatorPreferences<'a>,
+    pub prefs: CollatorPreferences<'a>,
     /// The options.
     pub options: CollatorOptions,
 }
@@ -37,7 +37,7 @@ impl<'a> Choice<'a> {
         };
         Some(Choice {
             file: file.as_str(),
-            preferences: CollatorPreferences {
+            prefs: CollatorPreferences {
                 locale: "",
                 collation_type: None,
                 case_first: given.case_first,

@@ -4,3 +4,5 @@ pub mod LayerLemmas
 pub mod LineLemmas
 pub mod MapLemmas
 pub mod SourceLemmas
+pub mod WrittenBlockLemmas
+pub mod BuiltRoomLemmas

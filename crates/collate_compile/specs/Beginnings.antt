@@ -1,9 +1,10 @@
--- The characters that begin records of a layer, and how many lines begin with each.
-use Rattle.std.specs.Prelude.{◌≡◌, ℕ, ◌+◌, ◌≤◌, Bool, cond, not, ◌==◌, ◌&&◌, List, [], ◌∷◌, ◌++◌, Option, Some, None, count_by, length, nat_eq, sum_by}
+-- The characters that begin records of a layer, and what the lines take that begin with each.
+use Rattle.std.specs.Prelude.{◌≡◌, ℕ, ◌+◌, ◌≤◌, Bool, true, cond, not, ◌==◌, ◌&&◌, List, [], ◌∷◌, ◌++◌, Option, Some, None, count_by, flat_map, length, nat_eq, sum_by}
 use Rattle.std.specs.List.{IsDistinct, list_any}
 use Rattle.collate_lines.specs.Record.{Layer, Record, root, tailoring, weights}
-use Rattle.collate_rules.specs.Rules.{is_range}
-use Rattle.collate_words.specs.Sayings.{Saying, record_count}
+use Rattle.collate_rules.specs.GivenWeights.{elements_of}
+use Rattle.collate_rules.specs.Rules.{is_beside, is_range, named}
+use Rattle.collate_words.specs.Sayings.{Saying, element_count, text_count}
 use Rattle.collate_compile.specs.LineSayings.{begins_line, is_rooted, is_tailored}
 
 -- whether a layer has what is recorded of the texts that begin with a character
@@ -16,18 +17,27 @@ pub record AreBeginnings (layer : Layer) (lines : List Record) (cs : List ℕ) :
   pub begun : (c : ℕ) → list_any (λ d. c == d) cs ≡ is_begun layer lines c
   pub once : IsDistinct nat_eq cs
 
--- how many lines begin with a character
-abbrev pub lines_of : List Record → ℕ → ℕ
-lines_of lines c = count_by (begins_line c) lines
+-- what the lines take together that begin with a character
+abbrev pub begun_sum : (Record → ℕ) → List Record → ℕ → ℕ
+begun_sum taken lines c = sum_by (λ line. cond (begins_line c line) (taken line) 0) lines
 
--- a saying of a character has a record for each such line at most, and one for the character itself
-abbrev pub IsWithinLines : List Record → ℕ → Saying → Type 0
-IsWithinLines lines c saying = record_count saying ≤ 1 + lines_of lines c
+-- how many elements they give, and how many of them have texts of several characters or behind a prefix
+abbrev pub elements_begun : List Record → ℕ → ℕ
+elements_begun lines c = begun_sum (λ line. length (elements_of line)) lines c
 
--- Of all these characters and of all ranges there are few records, and few enough are named.
+abbrev pub texts_begun : List Record → ℕ → ℕ
+texts_begun lines c = begun_sum (λ line. cond (is_beside line) 1 0) lines c
+
+-- a saying of a character has no more elements and texts than these lines
+pub record IsWithinLines (lines : List Record) (c : ℕ) (saying : Saying) : Type 0 where
+  pub elements : element_count saying ≤ 1 + elements_begun lines c
+  pub texts : text_count saying ≤ texts_begun lines c
+
+-- Of all these characters and of all ranges there are few elements and few texts, and lines name each character.
 pub record AreFew (lines : List Record) (cs : List ℕ) : Type 0 where
-  pub records : sum_by (λ c. 1 + lines_of lines c) cs + count_by is_range lines ≤ 2000
-  pub names : length cs + count_by is_range lines ≤ 150
+  pub elements : sum_by (λ c. 1 + elements_begun lines c) cs + count_by is_range lines ≤ 520000
+  pub texts : sum_by (texts_begun lines) cs ≤ 2600
+  pub are_named : (c : ℕ) → list_any (λ d. c == d) cs ≡ true → list_any (λ d. c == d) (flat_map named lines) ≡ true
 
 -- ## How they are gathered
 

@@ -1,5 +1,6 @@
 -- Collation tables, as they are compiled of the lines of a records file.
 use Rattle.std.specs.Prelude.{◌≡◌, ℕ, ◌+◌, ◌^◌, ◌<◌, true, false, List, [], ◌∷◌, All, IfSome, length, slice_index, IsTrue, MatchOption, Some, Option, is_some}
+use Rattle.icu_codepointtrie.specs.declared.trie.TrieType.{TrieType}
 use Rattle.icu_collator_types.specs.declared.elements.Element.{Element}
 use Rattle.icu_collator_core.specs.declared.tables.CollationTables.{CollationTables}
 use Rattle.icu_collator_core.specs.declared.tables.metadata.CollationMetadata.{CollationMetadata}
@@ -14,7 +15,7 @@ use Rattle.collate_lines.specs.Record.{Record}
 use Rattle.collate_rules.specs.Meaning as lines
 use Rattle.collate_rules.specs.SettingLines as set
 use Rattle.collate_compile.specs.LineSayings.{is_tailored}
-use Rattle.collate_compile.specs.Layers.{IsRootOf, IsTailoringOf}
+use Rattle.collate_compile.specs.Layers.{HasTrieType, IsRootOf, IsTailoringOf}
 
 -- ## The table of jamo
 
@@ -51,6 +52,13 @@ pub record IsReorderingOf (records : List Record) (reordering : Option Collation
   pub moved : (p : ℕ) → reordered_in reordering p ≡ with_lead (lines.place_among (set.reorder_of records)) p
   pub count : IfSome reordering (λ r. length r.reorder_table ≡ 256)
   pub bytes : IfSome reordering (λ r. All (λ byte. byte < 2 ^ 8) r.reorder_table)
+
+-- ## The type of tries
+
+-- the tries of the root and of the tailoring, where there is one, are of this type
+pub record HaveTrieType (trie_type : TrieType) (tables : CollationTables) : Type 0 where
+  pub root : HasTrieType trie_type tables.root
+  pub tailoring : IfSome tables.tailoring (HasTrieType trie_type)
 
 -- ## The whole
 

@@ -1,5 +1,5 @@
 -- A layer in the making: the words of characters, and the lists that they name places in.
-use Rattle.std.specs.Prelude.{◌≡◌, ℕ, ◌+◌, ◌≤◌, Bool, ◌==◌, List, MatchBool, MatchOption, Option, option_map}
+use Rattle.std.specs.Prelude.{◌≡◌, ℕ, ◌+◌, ◌≤◌, Bool, false, ◌==◌, List, length, MatchBool, MatchOption, Option, option_map}
 use Rattle.std.specs.Char.{IsScalar}
 use Rattle.std.specs.List.{list_any}
 use Rattle.icu_codepointtrie.specs.Blocks.{different_blocks}
@@ -65,8 +65,20 @@ pub record GivesWord (old new : LayerBuilder) (covers : ℕ → Bool) (saying : 
   pub written : IsWritten (λ n. n) old.words covers word new.words
   pub grows : Grows old.pools new.pools
 
--- a layer grows for so many records, and by so many different blocks of a width at most
-pub record GrowsBy (record_count block_count : ℕ) (old new : LayerBuilder) : Type 0 where
-  pub pools : GrowsFor record_count old.pools new.pools
+-- the map goes on as one of as many words, for the same type of trie
+pub record IsSameMap (old new : LayerBuilder) : Type 0 where
+  pub count : length new.words.values ≡ length old.words.values
+  pub trie_type : new.words.trie_type ≡ old.words.trie_type
+
+-- a layer grows for so many elements, and by so many different blocks of a width at most
+pub record GrowsBy (elements block_count : ℕ) (old new : LayerBuilder) : Type 0 where
+  pub pools : GrowsFor elements 0 old.pools new.pools
   pub blocks : (width : ℕ)
       → different_blocks (λ n. n) width new.words.values ≤ different_blocks (λ n. n) width old.words.values + block_count
+  pub same : IsSameMap old new
+
+-- a layer grows for so many elements and texts, and the word of any other character stays
+pub record KeepsOthers (elements texts : ℕ) (cs : List ℕ) (old new : LayerBuilder) : Type 0 where
+  pub pools : GrowsFor elements texts old.pools new.pools
+  pub words : (c : ℕ) → c ≤ 0x10_FFFF → list_any (λ d. c == d) cs ≡ false → word_of new c ≡ word_of old c
+  pub same : IsSameMap old new

@@ -1,6 +1,7 @@
 -- The data of the root and of the tailoring, as they are written of lines.
 use Rattle.std.specs.Prelude.{◌≡◌, ℕ, List, IsTrue, MatchBool, MatchOption}
 use Rattle.std.specs.Char.{IsScalar}
+use Rattle.icu_codepointtrie.specs.declared.trie.TrieType.{TrieType}
 use Rattle.icu_codepointtrie.specs.Places.{has_cell}
 use Rattle.icu_collator_core.specs.declared.tables.data.CollationData.{CollationData}
 use Rattle.icu_collator_core.specs.TableMeaning.{fallback, pools_of, word_at}
@@ -18,6 +19,10 @@ IsWrittenOf lines source c = (saying : Saying) × IsSayingOf lines c saying × S
 abbrev pub IsUnwritten : List Record → CollationData → ℕ → Type 0
 IsUnwritten lines source c =
     MatchOption (offset_of lines c) (word_at source c ≡ implicit) (λ bits. SaysOf (pools_of source) (word_at source c) (ranged_saying bits))
+
+-- the trie is of this type
+abbrev pub HasTrieType : TrieType → CollationData → Type 0
+HasTrieType trie_type source = source.trie.header.trie_type ≡ trie_type
 
 -- the root: characters that begin w lines alone, and ranges
 pub record IsRootOf (lines : List Record) (source : CollationData) : Type 0 where

@@ -1,6 +1,6 @@
 //! A layer in the making: the words of characters, and the lists that they name places in.
 
-ghost use Rattle.std.specs.Prelude.{◌≡◌, ℕ, ◌≤◌, ◌==◌, true, [], IfOk, OnOk};
+ghost use Rattle.std.specs.Prelude.{◌≡◌, ℕ, ◌+◌, ◌≤◌, ◌==◌, true, [], length, IfOk, OnOk};
 ghost use Rattle.std.specs.Char.{IsScalar};
 ghost use Rattle.icu_codepointtrie.specs.Blocks.{different_blocks};
 ghost use Rattle.icu_codepointtrie.specs.BuiltTries.{IsTrieOf};
@@ -9,8 +9,10 @@ ghost use Rattle.icu_normalizer_core.specs.BuiltIn.{is_within};
 ghost use Rattle.icu_collator_core.specs.TableMeaning.{pools_of, word_at};
 ghost use Rattle.collate_words.specs.Entries.{saying_of};
 ghost use Rattle.collate_words.specs.Fits.{HasRoom, IsFit};
-ghost use Rattle.collate_words.specs.Sayings.{record_count};
-ghost use Rattle.collate_compile.specs.LayerBuilds.{GivesWord, GrowsBy, word_of};
+ghost use Rattle.collate_words.specs.Growth.{GrowsFor};
+ghost use Rattle.collate_words.specs.Sayings.{element_count, text_count};
+ghost use Rattle.collate_compile.specs.LayerBuilds.{GivesWord, word_of};
+ghost use Rattle.collate_compile.specs.Layers.{HasTrieType};
 
 use collate_words::entry::Entry;
 use collate_words::pools::Pools;
@@ -40,6 +42,8 @@ impl LayerBuilder {
         ensures unwritten { IfOk result (λ layer. layer.words.default ≡ unwritten) }
         ensures words { IfOk result (λ layer. (c : ℕ) → word_of layer c ≡ unwritten) }
         ensures blocks { IfOk result (λ layer. (width : ℕ) → different_blocks (λ n. n) width layer.words.values ≤ 1) }
+        ensures count { IfOk result (λ layer. length layer.words.values ≡ 0x110000) }
+        ensures trie_type { IfOk result (λ layer. layer.words.trie_type ≡ trie_type) }
         ensures pools { IfOk result (λ layer. layer.pools ≡ record { ces = []; ce32s = []; contexts = [] }) }
     {
         Ok(LayerBuilder {
@@ -58,9 +62,9 @@ impl LayerBuilder {
         entry: &Entry<'_>,
     ) -> Result<(), AllocError>
         requires fit { IsFit (saying_of entry.now) }
-        requires room { HasRoom self.old.pools (record_count (saying_of entry.now)) }
+        requires room { HasRoom self.old.pools (element_count (saying_of entry.now)) (text_count (saying_of entry.now)) }
         ensures word { OnOk result (GivesWord self.old self.new (λ c. c == character) (saying_of entry.now)) }
-        ensures size { OnOk result (GrowsBy (record_count (saying_of entry.now)) 1 self.old self.new) }
+        ensures size { OnOk result (GrowsFor (element_count (saying_of entry.now)) (text_count (saying_of entry.now)) self.old.pools self.new.pools) }
     {
         let word = self.pools.write_entry(alloc, entry)?;
         self.words.set_value(u32::from(character), word).unwrap();
@@ -78,9 +82,11 @@ impl LayerBuilder {
         entry: &Entry<'_>,
     ) -> Result<(), AllocError>
         requires fit { IsFit (saying_of entry.now) }
-        requires room { HasRoom self.old.pools (record_count (saying_of entry.now)) }
+        requires room { HasRoom self.old.pools (element_count (saying_of entry.now)) (text_count (saying_of entry.now)) }
         ensures word { OnOk result (GivesWord self.old self.new (is_within first last) (saying_of entry.now)) }
-        ensures size { OnOk result (GrowsBy (record_count (saying_of entry.now)) 3 self.old self.new) }
+        ensures size { OnOk result (GrowsFor (element_count (saying_of entry.now)) (text_count (saying_of entry.now)) self.old.pools self.new.pools) }
+        ensures blocks { OnOk result ((width : ℕ)
+            → different_blocks (λ n. n) width self.new.words.values ≤ different_blocks (λ n. n) width self.old.words.values + 3) }
     {
         let word = self.pools.write_entry(alloc, entry)?;
         let range = u32::from(first)..=u32::from(last);
@@ -92,7 +98,9 @@ impl LayerBuilder {
     ///
     /// Errors: `AllocError` where memory is refused.
     pub(crate) fn build(self, alloc: Global) -> Result<CollationData<'static>, AllocError>
-        requires { (width : ℕ) → different_blocks (λ n. n) width self.words.values ≤ 800 }
+        requires wide { different_blocks (λ n. n) 512 self.words.values ≤ 800 }
+        requires narrow { different_blocks (λ n. n) 16 self.words.values ≤ 12000 }
+        ensures trie_type { IfOk result (HasTrieType self.words.trie_type) }
         ensures cells { IfOk result (λ source. (c : ℕ) → has_cell source.trie c ≡ true) }
         ensures words { IfOk result (λ source. (c : ℕ) → IsScalar c → word_at source c ≡ word_of self c) }
         ensures pools { IfOk result (λ source. pools_of source ≡ self.pools) }
@@ -112,11 +120,12 @@ impl LayerBuilder {
     }
 }
 
-/// The trie of a map of few different blocks.
+/// The trie of a map of few different blocks, of 512 code points and of 16.
 ///
 /// Errors: `AllocError` where memory is refused.
 fn build_trie(words: &CodePointTrieBuilder<u32>) -> Result<CodePointTrie<'static, u32>, AllocError>
-    requires { (width : ℕ) → different_blocks (λ n. n) width words.now.values ≤ 800 }
+    requires wide { different_blocks (λ n. n) 512 words.now.values ≤ 800 }
+    requires narrow { different_blocks (λ n. n) 16 words.now.values ≤ 12000 }
     ensures { IfOk result (IsTrieOf words.now) }
 {
     match words.build() {

@@ -1,6 +1,6 @@
 //! The data of the root and of the tailoring, written of the lines of a records file.
 
-ghost use Rattle.std.specs.Prelude.{◌≡◌, ℕ, ◌+◌, ◌*◌, ◌==◌, ◌∷◌, [], cond, count_by, false, length, map, sum_by, List, IfOk, MatchOption, OnOk};
+ghost use Rattle.std.specs.Prelude.{◌≡◌, ℕ, ◌+◌, ◌*◌, ◌==◌, ◌∷◌, [], cond, count_by, false, map, sum_by, List, IfOk, IfSome, MatchOption, OnOk};
 ghost use Rattle.icu_normalizer_core.specs.BorrowedMeaning.{borrowed_meaning};
 ghost use Rattle.icu_normalizer_core.specs.Sameness.{AreSameCanonical};
 ghost use Rattle.collate_lines.specs.Record.{Layer as PlainLayer, Record as PlainRecord, said};
@@ -9,10 +9,11 @@ ghost use Rattle.collate_rules.specs.Meaning.{canonical_of};
 ghost use Rattle.collate_rules.specs.Rules.{is_range};
 ghost use Rattle.collate_words.specs.Entries.{saying_of};
 ghost use Rattle.collate_words.specs.Fits.{HasRoom, IsFit};
+ghost use Rattle.collate_words.specs.Growth.{GrowsFor};
 ghost use Rattle.collate_words.specs.Sayings.{Saying};
-ghost use Rattle.collate_compile.specs.Beginnings.{lines_of};
-ghost use Rattle.collate_compile.specs.LayerBuilds.{AreRangesWritten, AreWritten, GivesWord, GrowsBy};
-ghost use Rattle.collate_compile.specs.Layers.{IsRootOf, IsTailoringOf};
+ghost use Rattle.collate_compile.specs.Beginnings.{elements_begun, texts_begun};
+ghost use Rattle.collate_compile.specs.LayerBuilds.{AreRangesWritten, AreWritten, GivesWord, GrowsBy, KeepsOthers};
+ghost use Rattle.collate_compile.specs.Layers.{HasTrieType, IsRootOf, IsTailoringOf};
 ghost use Rattle.collate_compile.specs.LineSayings.{IsSayingOf, is_tailored, ranged_saying};
 
 use crate::beginnings::beginnings;
@@ -60,7 +61,7 @@ fn write_range(
     line: &Record,
     layer: &mut LayerBuilder,
 ) -> Result<(), AllocError>
-    requires { HasRoom layer.old.pools (cond (is_range (said line.now)) 1 0) }
+    requires { HasRoom layer.old.pools (cond (is_range (said line.now)) 1 0) 0 }
     ensures written { (some : List PlainRecord) → AreRangesWritten (map said lines.now) some layer.old
         → OnOk result (AreRangesWritten (map said lines.now) (said line.now ∷ some) layer.new) }
     ensures size { let count = cond (is_range (said line.now)) 1 0
@@ -80,7 +81,7 @@ fn write_range(
 ///
 /// Errors: `AllocError` where memory is refused.
 fn write_ranges(alloc: Global, lines: &[Record], layer: &mut LayerBuilder) -> Result<(), AllocError>
-    requires room { HasRoom layer.old.pools (count_by is_range (map said lines.now)) }
+    requires room { HasRoom layer.old.pools (count_by is_range (map said lines.now)) 0 }
     requires none { AreRangesWritten (map said lines.now) [] layer.old }
     ensures written { OnOk result (AreRangesWritten (map said lines.now) (map said lines.now) layer.new) }
     ensures size { let count = count_by is_range (map said lines.now)
@@ -105,10 +106,12 @@ fn write_character(
 ) -> Result<(), AllocError>
     requires accepted { AreAccepted (map said lines.now) }
     requires canonical { AreSameCanonical (borrowed_meaning canonical.now) (canonical_of (map said lines.now)) }
-    requires room { HasRoom layer.old.pools (1 + lines_of (map said lines.now) character) }
+    requires room { HasRoom layer.old.pools (1 + elements_begun (map said lines.now) character)
+        (texts_begun (map said lines.now) character) }
     ensures written { OnOk result ((saying : Saying) × IsSayingOf (map said lines.now) character saying
         × GivesWord layer.old layer.new (λ c. c == character) saying) }
-    ensures size { OnOk result (GrowsBy (1 + lines_of (map said lines.now) character) 1 layer.old layer.new) }
+    ensures size { OnOk result (GrowsFor (1 + elements_begun (map said lines.now) character)
+        (texts_begun (map said lines.now) character) layer.old.pools layer.new.pools) }
 {
     let entry = entry_of(alloc, lines, character, canonical)?;
     layer.write_character(alloc, character, &entry)?;
@@ -127,11 +130,12 @@ fn write_characters(
 ) -> Result<(), AllocError>
     requires accepted { AreAccepted (map said lines.now) }
     requires canonical { AreSameCanonical (borrowed_meaning canonical.now) (canonical_of (map said lines.now)) }
-    requires room { HasRoom layer.old.pools (sum_by (λ c. 1 + lines_of (map said lines.now) c) characters.now) }
+    requires room { HasRoom layer.old.pools (sum_by (λ c. 1 + elements_begun (map said lines.now) c) characters.now)
+        (sum_by (texts_begun (map said lines.now)) characters.now) }
     ensures written { (which : PlainLayer) → AreWritten which (map said lines.now) [] layer.old
         → OnOk result (AreWritten which (map said lines.now) characters.now layer.new) }
-    ensures size { OnOk result (GrowsBy (sum_by (λ c. 1 + lines_of (map said lines.now) c) characters.now)
-        (length characters.now) layer.old layer.new) }
+    ensures size { OnOk result (KeepsOthers (sum_by (λ c. 1 + elements_begun (map said lines.now) c) characters.now)
+        (sum_by (texts_begun (map said lines.now)) characters.now) characters.now layer.old layer.new) }
 {
     words_say_the_same_in_longer_lists();
     for character in characters {
@@ -151,7 +155,8 @@ pub(crate) fn write_root(
 ) -> Result<CollationData<'static>, AllocError>
     requires accepted { AreAccepted (map said lines.now) }
     requires canonical { AreSameCanonical (borrowed_meaning canonical.now) (canonical_of (map said lines.now)) }
-    ensures { IfOk result (IsRootOf (map said lines.now)) }
+    ensures root { IfOk result (IsRootOf (map said lines.now)) }
+    ensures trie_type { IfOk result (HasTrieType trie_type) }
 {
     let characters = beginnings(alloc, lines, Layer::Root)?;
     let mut layer = LayerBuilder::new(alloc, IMPLICIT, trie_type)?;
@@ -172,9 +177,10 @@ pub(crate) fn write_tailoring(
 ) -> Result<Option<CollationData<'static>>, AllocError>
     requires accepted { AreAccepted (map said lines.now) }
     requires canonical { AreSameCanonical (borrowed_meaning canonical.now) (canonical_of (map said lines.now)) }
-    ensures { IfOk result (λ tailoring. MatchOption tailoring
+    ensures tailoring { IfOk result (λ tailoring. MatchOption tailoring
         ((c : ℕ) → is_tailored (map said lines.now) c ≡ false)
         (IsTailoringOf (map said lines.now))) }
+    ensures trie_type { IfOk result (λ tailoring. IfSome tailoring (HasTrieType trie_type)) }
 {
     let characters = beginnings(alloc, lines, Layer::Tailoring)?;
     if characters.is_empty() {

@@ -7,7 +7,7 @@ ghost use Rattle.collate_lines.specs.Record.{said};
 ghost use Rattle.collate_rules.specs.Accepted.{AreAccepted};
 ghost use Rattle.collate_rules.specs.KeptSettings.{AreSoundlySet};
 ghost use Rattle.collate_rules.specs.Meaning.{canonical_of};
-ghost use Rattle.collate_compile.specs.Compiled.{AreCompiledFrom};
+ghost use Rattle.collate_compile.specs.Compiled.{AreCompiledFrom, HaveTrieType};
 
 use crate::jamo::jamo_words;
 use crate::layers::{write_root, write_tailoring};
@@ -34,7 +34,8 @@ pub fn compile_tables(
     requires accepted { AreAccepted (map said lines.now) }
     requires settings { AreSoundlySet (map said lines.now) }
     requires canonical { AreSameCanonical (borrowed_meaning canonical.now) (canonical_of (map said lines.now)) }
-    ensures { IfOk result (AreCompiledFrom (map said lines.now)) }
+    ensures compiled { IfOk result (AreCompiledFrom (map said lines.now)) }
+    ensures trie_type { IfOk result (HaveTrieType trie_type) }
 {
     let root = write_root(alloc, lines, canonical, trie_type)?;
     let tailoring = write_tailoring(alloc, lines, canonical, trie_type)?;

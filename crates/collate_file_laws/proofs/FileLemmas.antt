@@ -30,9 +30,10 @@ use Rattle.icu_collator.proofs.equivalence.NormalisingLemmas.{first_replaced, se
 use Rattle.icu_collator.proofs.keys.TextKeyLemmas.{equal_text_keys, identical_text_keys, text_keys_order}
 use Rattle.icu_collator.proofs.orders.StrengthsLemmas.{raised_order}
 use Rattle.icu_collator.proofs.orders.TotalOrderLemmas.{collation_order_total}
+use Rattle.collate_lines.specs.declared.limits.Limits.{Limits}
 use Rattle.collate_lines.specs.Lines.{records_of}
-use Rattle.collate_records.specs.Files.{IsAccepted}
-use Rattle.collate_records.proofs.reading.ReadingAcceptedLemmas.{accepted_lines}
+use Rattle.collate_records.specs.Files.{IsAcceptedWithin}
+use Rattle.collate_records.proofs.reading.ReadingAcceptedLemmas.{lines_within}
 use Rattle.collate_rules.specs.Meaning.{collation_of}
 use Rattle.collate_laws.specs.OverRecords.{IsCollatorOf}
 use Rattle.collate_laws.proofs.LawAnswerLemmas.{keys, orders}
@@ -56,9 +57,9 @@ module _ (file : List ℕ) (options : CollatorOptions) (preferences : CollatorPr
       → file_order file (with_strength options strength) preferences x y ≡ file_order file options preferences x y
   raised_file_order strength x y off above differ = raised_order said resolved resolved.strength strength x y off above differ
 
-  module _ (accepted : IsAccepted file) where
+  module _ (limits : Limits) (accepted : IsAcceptedWithin limits file) where
     canonical : IsCanonical (file_canonical file)
-    canonical = accepted_canonical (records_of file) (accepted_lines file accepted)
+    canonical = accepted_canonical (records_of file) (lines_within limits file accepted)
 
     -- ## Collators
 
@@ -68,25 +69,25 @@ module _ (file : List ℕ) (options : CollatorOptions) (preferences : CollatorPr
       order_said x y scalars too =
           ap (λ (s : CollationSource). collation_order (source_collation s) (borrowed_options borrowed) x y) source
           ∙ ap (λ (o : ResolvedCollatorOptions). collation_order (source_collation collator.source) o x y) same
-          ∙ orders (records_of file) options preferences collator (accepted_lines file accepted) is x y scalars too
+          ∙ orders (records_of file) options preferences collator (lines_within limits file accepted) is x y scalars too
 
       pub key_said : (x : List ℕ) → All IsScalar x → key_by borrowed x ≡ file_key file options preferences x
       key_said x scalars =
           ap (λ (s : CollationSource). key_of_text (source_collation s) (borrowed_options borrowed) x) source
           ∙ ap (λ (o : ResolvedCollatorOptions). key_of_text (source_collation collator.source) o x) same
-          ∙ keys (records_of file) options preferences collator (accepted_lines file accepted) is x scalars
+          ∙ keys (records_of file) options preferences collator (lines_within limits file accepted) is x scalars
 
     -- ## Keys
 
     pub file_keys_order : HasPlainLeads file options preferences → (x y : List ℕ) → All IsScalar x → All IsScalar y
         → slice_cmp nat_cmp (file_key file options preferences x) (file_key file options preferences y) ≡ file_order file options preferences x y
     file_keys_order plain x y scalars too =
-        text_keys_order said resolved x y canonical.decomposing (accepted_sound (records_of file) (accepted_lines file accepted)) plain scalars too
+        text_keys_order said resolved x y canonical.decomposing (accepted_sound (records_of file) (lines_within limits file accepted)) plain scalars too
 
     pub file_keys_equal : HasPlainLeads file options preferences → (x y : List ℕ) → All IsScalar x → All IsScalar y
         → (file_key file options preferences x ≡ file_key file options preferences y) ↔ (file_order file options preferences x y ≡ Equal)
     file_keys_equal plain x y scalars too =
-        equal_text_keys said resolved x y canonical.decomposing (accepted_sound (records_of file) (accepted_lines file accepted)) plain scalars too
+        equal_text_keys said resolved x y canonical.decomposing (accepted_sound (records_of file) (lines_within limits file accepted)) plain scalars too
 
     -- ## Equivalence and normal forms
 
@@ -109,7 +110,7 @@ module _ (file : List ℕ) (options : CollatorOptions) (preferences : CollatorPr
     pub identical_keys : HasPlainLeads file options preferences → resolved.strength ≡ Identical → (x y : List ℕ) → All IsScalar x → All IsScalar y
         → (file_key file options preferences x ≡ file_key file options preferences y) ↔ IsEquivalent (file_canonical file) x y
     identical_keys plain identical x y scalars too =
-        identical_text_keys said resolved x y canonical.decomposing (accepted_sound (records_of file) (accepted_lines file accepted)) plain identical scalars too
+        identical_text_keys said resolved x y canonical.decomposing (accepted_sound (records_of file) (lines_within limits file accepted)) plain identical scalars too
 
     pub decomposed_good : (text : List ℕ) → All IsScalar text → IsAsGood file options preferences (decomposed (file_canonical file) text) text
     decomposed_good text scalars =

@@ -1,5 +1,6 @@
 -- hashes in chains: for each bucket the last place whose hash is in it, and for each place the last before it in its bucket
-use Rattle.std.specs.Prelude.{◌≡◌, ℕ, ◌-◌, ◌%◌, ◌<◌, ◌≤◌, List, length, map, slice_index}
+use Rattle.std.specs.Prelude.{◌≡◌, ℕ, ◌-◌, ◌%◌, ◌<◌, ◌≤◌, List, length, map, min, slice_index, vec_capacity}
+use Rattle.std.specs.Global.{Vec}
 use Rattle.collate_hashes.specs.declared.chains.Link.{Link}
 
 -- the hashes at the places, 0 where there is none, and the places before them
@@ -28,3 +29,7 @@ pub record IsLinkedTo (heads : List ℕ) (links : List Link) (end : ℕ) : Type 
 pub record IsLinked (heads : List ℕ) (links : List Link) : Type 0 where
   pub all : IsLinkedTo heads links (length links)
   pub room : length links ≤ length heads
+
+-- for how many places more there is room: memory for their links, and buckets
+abbrev pub room_in : Vec ℕ → Vec Link → ℕ
+room_in heads links = min (vec_capacity links) (length heads.items) - length links.items

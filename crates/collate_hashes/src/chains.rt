@@ -1,8 +1,8 @@
 //! Chains of places, one for each bucket: the last place of the bucket, and from each place the last one before it.
 
-ghost use Rattle.std.specs.Prelude.{◌≡◌, ℕ, ◌+◌, ◌-◌, ◌%◌, ◌<◌, ◌≤◌, [], ◌∷◌, ◌++◌, All, IfNone, IfSome, OnErr, OnOk, filter, length, slice_index, slice_set};
+ghost use Rattle.std.specs.Prelude.{◌≡◌, ℕ, ◌+◌, ◌-◌, ◌%◌, ◌<◌, ◌≤◌, [], ◌∷◌, ◌++◌, All, IfNone, IfSome, OnOk, filter, length, slice_index, slice_set};
 ghost use Rattle.collate_hashes.specs.Hashes.{is_hash};
-ghost use Rattle.collate_hashes.specs.Chains.{befores_of, hashes_of, IsIn, IsLinked, IsLinkedTo};
+ghost use Rattle.collate_hashes.specs.Chains.{befores_of, hashes_of, room_in, IsIn, IsLinked, IsLinkedTo};
 
 use std::alloc::{AllocError, Global};
 
@@ -56,6 +56,20 @@ pub(crate) fn relink(heads: &mut Vec<usize>, links: &mut Vec<Link>)
     }
 }
 
+/// Makes twice as many buckets as places, and a few more.
+fn rebuild(alloc: Global, heads: &mut Vec<usize>, links: &mut Vec<Link>) -> Result<(), AllocError>
+    requires linked { IsLinked heads.old.items links.old.items }
+    ensures linked { IsLinked heads.new.items links.new.items }
+    ensures hashes { hashes_of links.new.items ≡ hashes_of links.old.items }
+    ensures room { OnOk result (length links.new.items < length heads.new.items) }
+{
+    let buckets = links.len().saturating_mul(2).saturating_add(9);
+    let mut more = Vec::from_elem(alloc, 0, buckets)?;
+    relink(&mut more, links);
+    *heads = more;
+    Ok(())
+}
+
 /// Makes buckets for one place more, if there are as many places as buckets.
 fn make_buckets(
     alloc: Global,
@@ -68,31 +82,77 @@ fn make_buckets(
     ensures room { OnOk result (length links.new.items < length heads.new.items) }
 {
     if links.len() >= heads.len() {
-        let buckets = links.len().saturating_mul(2).saturating_add(9);
-        let mut more = Vec::from_elem(alloc, 0, buckets)?;
-        relink(&mut more, links);
-        *heads = more;
+        rebuild(alloc, heads, links)
+    } else {
+        Ok(())
     }
-    Ok(())
 }
 
-/// Puts a hash behind the others. An error if memory is refused; the hashes are then as before.
-pub(crate) fn push(
+/// Gives memory back that is more than four times what the places need. If memory for fewer buckets is refused, they
+/// stay as many.
+fn shrink(alloc: Global, heads: &mut Vec<usize>, links: &mut Vec<Link>)
+    requires linked { IsLinked heads.old.items links.old.items }
+    ensures linked { IsLinked heads.new.items links.new.items }
+    ensures hashes { hashes_of links.new.items ≡ hashes_of links.old.items }
+{
+    if links.capacity() / 4 > links.len() {
+        links.shrink_to_fit();
+    }
+    if heads.len() / 4 > links.len().saturating_add(9) {
+        let _ = rebuild(alloc, heads, links);
+    }
+}
+
+/// Makes room for one place more, once memory that is left over was given back. An error if memory is refused.
+pub(crate) fn reserve(
     alloc: Global,
     heads: &mut Vec<usize>,
     links: &mut Vec<Link>,
-    hash: usize,
 ) -> Result<(), AllocError>
     requires linked { IsLinked heads.old.items links.old.items }
     ensures linked { IsLinked heads.new.items links.new.items }
-    ensures pushed { OnOk result (hashes_of links.new.items ≡ hashes_of links.old.items ++ hash ∷ []) }
-    ensures unchanged { OnErr result (hashes_of links.new.items ≡ hashes_of links.old.items) }
+    ensures hashes { hashes_of links.new.items ≡ hashes_of links.old.items }
+    ensures room { OnOk result (0 < room_in heads.new links.new) }
 {
+    shrink(alloc, heads, links);
     make_buckets(alloc, heads, links)?;
+    links.reserve(1)
+}
+
+/// Puts a hash behind the others. There is room.
+pub(crate) fn push(heads: &mut Vec<usize>, links: &mut Vec<Link>, hash: usize)
+    requires linked { IsLinked heads.old.items links.old.items }
+    requires room { 0 < room_in heads.old links.old }
+    ensures linked { IsLinked heads.new.items links.new.items }
+    ensures pushed { hashes_of links.new.items ≡ hashes_of links.old.items ++ hash ∷ [] }
+{
     let place = links.len();
-    links.push(Link { hash, before: 0 })?;
+    links.push_reserved(Link { hash, before: 0 });
     put_in(heads, links, place);
-    Ok(())
+}
+
+/// The last place before an end at which a hash stands: looked for from a place in its bucket on, counted from 1. None
+/// from that place up to the end has the hash.
+fn walk(heads: &[usize], links: &[Link], from: usize, hash: usize, end: usize) -> Option<usize>
+    requires linked { IsLinked heads.now links.now }
+    requires hash { 0 < hash }
+    requires upto { from ≤ length links.now }
+    requires first { 0 < from → IsIn (length heads.now) (hash % length heads.now) (slice_index (hashes_of links.now) (from - 1)) }
+    requires past { (place : ℕ) → from ≤ place → place < end → slice_index (hashes_of links.now) place ≡ hash → ⊥ }
+    ensures before { IfSome result (λ place. place < end) }
+    ensures there { IfSome result (λ place. slice_index (hashes_of links.now) place ≡ hash) }
+    ensures last { IfSome result (λ place. (later : ℕ) → place < later → later < end → slice_index (hashes_of links.now) later ≡ hash → ⊥) }
+    ensures none { IfNone result ((place : ℕ) → place < end → slice_index (hashes_of links.now) place ≡ hash → ⊥) }
+{
+    let mut place = from;
+    'chain: while place > 0 {
+        let link = links[place - 1];
+        if link.hash == hash && place <= end {
+            return Some(place - 1);
+        }
+        place = link.before;
+    }
+    None
 }
 
 /// The last place before an end at which a hash stands.
@@ -107,15 +167,22 @@ pub(crate) fn last_before(heads: &[usize], links: &[Link], hash: usize, end: usi
     if heads.is_empty() {
         return None;
     }
-    let mut place = heads[bucket_of(hash, heads.len())];
-    'chain: while place > 0 {
-        let link = links[place - 1];
-        if link.hash == hash && place <= end {
-            return Some(place - 1);
-        }
-        place = link.before;
-    }
-    None
+    let from = heads[bucket_of(hash, heads.len())];
+    walk(heads, links, from, hash, end)
+}
+
+/// The last place before another one at which the same hash stands.
+pub(crate) fn same_before(heads: &[usize], links: &[Link], place: usize) -> Option<usize>
+    requires linked { IsLinked heads.now links.now }
+    requires within { place < length links.now }
+    requires full { 0 < slice_index (hashes_of links.now) place }
+    ensures before { IfSome result (λ other. other < place) }
+    ensures there { IfSome result (λ other. slice_index (hashes_of links.now) other ≡ slice_index (hashes_of links.now) place) }
+    ensures last { IfSome result (λ other. (later : ℕ) → other < later → later < place → slice_index (hashes_of links.now) later ≡ slice_index (hashes_of links.now) place → ⊥) }
+    ensures none { IfNone result ((other : ℕ) → other < place → slice_index (hashes_of links.now) other ≡ slice_index (hashes_of links.now) place → ⊥) }
+{
+    let Link { hash, before } = links[place];
+    walk(heads, links, before, hash, place)
 }
 
 /// The place behind another one in the chain of a bucket, which both are in: looked for from one on, counted from 1.

@@ -2,17 +2,18 @@
 //! through the list. Begin with `HashList::new` and `hashing::hash_of`.
 #![tactic(auto)]
 
-ghost use Rattle.std.specs.Prelude.{◌≡◌, ℕ, ◌+◌, ◌<◌, ◌==◌, [], ◌∷◌, ◌++◌, IfNone, IfSome, OnErr, OnOk, filter, length, slice_index, slice_set};
+ghost use Rattle.std.specs.Prelude.{◌≡◌, ℕ, ◌+◌, ◌<◌, ◌==◌, [], ◌∷◌, ◌++◌, IfNone, IfSome, OnOk, filter, length, slice_index, slice_set};
 ghost use Rattle.collate_hashes.specs.Hashes.{is_hash};
 
 mod chains;
 pub mod hashing;
 
-use crate::chains::{Link, drop_empty, last_before, push, take_out};
+use crate::chains::{Link, drop_empty, last_before, push, reserve, same_before, take_out};
 use std::alloc::{AllocError, Global};
 use std::marker::Model;
 
-/// A list of hashes, each above 0; 0 stands at the places whose hash was taken out. A contract sees the list.
+/// A list of hashes, each above 0; 0 stands at the places whose hash was taken out. A contract sees the list,
+/// and for how many more there is room (`Listed`).
 #[derive(Drop)]
 pub struct HashList {
     alloc: Global,
@@ -22,12 +23,12 @@ pub struct HashList {
 }
 
 impl Model for HashList {
-    ghost use Rattle.std.specs.Prelude.{List, ℕ};
-    ghost use Rattle.collate_hashes.specs.Chains.{hashes_of, IsLinked};
+    ghost use Rattle.collate_hashes.specs.Chains.{hashes_of, room_in, IsLinked};
+    ghost use Rattle.collate_hashes.specs.Listed.{Listed};
 
-    ghost Value = { List ℕ };
+    ghost Value = { Listed };
 
-    ghost view = { λ inside. hashes_of inside.links.items };
+    ghost view = { λ inside. record { hashes = hashes_of inside.links.items; room = room_in inside.heads inside.links } };
 
     ghost invariant = { λ inside. IsLinked inside.heads.items inside.links.items };
 }
@@ -35,7 +36,7 @@ impl Model for HashList {
 impl HashList {
     /// A list with no hashes. It asks for no memory.
     pub fn new(alloc: Global) -> HashList
-        ensures { result ≡ [] }
+        ensures { result.hashes ≡ [] }
     {
         HashList {
             alloc,
@@ -46,14 +47,14 @@ impl HashList {
 
     /// How many places there are.
     pub fn len(&self) -> usize
-        ensures { result ≡ length self.now }
+        ensures { result ≡ length self.now.hashes }
     {
         self.links.len()
     }
 
     /// Whether there are none.
     pub fn is_empty(&self) -> bool
-        ensures { result ≡ (length self.now == 0) }
+        ensures { result ≡ (length self.now.hashes == 0) }
     {
         self.links.len() == 0
     }
@@ -63,33 +64,55 @@ impl HashList {
     pub fn last_before(&self, hash: usize, end: usize) -> Option<usize>
         requires hash { 0 < hash }
         ensures before { IfSome result (λ place. place < end) }
-        ensures there { IfSome result (λ place. slice_index self.now place ≡ hash) }
-        ensures last { IfSome result (λ place. (later : ℕ) → place < later → later < end → slice_index self.now later ≡ hash → ⊥) }
-        ensures none { IfNone result ((place : ℕ) → place < end → slice_index self.now place ≡ hash → ⊥) }
+        ensures there { IfSome result (λ place. slice_index self.now.hashes place ≡ hash) }
+        ensures last { IfSome result (λ place. (later : ℕ) → place < later → later < end → slice_index self.now.hashes later ≡ hash → ⊥) }
+        ensures none { IfNone result ((place : ℕ) → place < end → slice_index self.now.hashes place ≡ hash → ⊥) }
     {
         last_before(self.heads.as_slice(), self.links.as_slice(), hash, end)
     }
 
-    /// Puts a hash behind the others. An error if memory is refused; the list is then as before.
-    pub fn push(&mut self, hash: usize) -> Result<(), AllocError>
-        requires hash { 0 < hash }
-        ensures pushed { OnOk result (self.new ≡ self.old ++ hash ∷ []) }
-        ensures unchanged { OnErr result (self.new ≡ self.old) }
+    /// The last place before another one at which the same hash stands. It asks for no memory, and goes on in the bucket
+    /// from there: who looks at all places of a hash goes through its bucket once.
+    pub fn same_before(&self, place: usize) -> Option<usize>
+        requires within { place < length self.now.hashes }
+        requires full { 0 < slice_index self.now.hashes place }
+        ensures before { IfSome result (λ other. other < place) }
+        ensures there { IfSome result (λ other. slice_index self.now.hashes other ≡ slice_index self.now.hashes place) }
+        ensures last { IfSome result (λ other. (later : ℕ) → other < later → later < place → slice_index self.now.hashes later ≡ slice_index self.now.hashes place → ⊥) }
+        ensures none { IfNone result ((other : ℕ) → other < place → slice_index self.now.hashes other ≡ slice_index self.now.hashes place → ⊥) }
     {
-        push(self.alloc, &mut self.heads, &mut self.links, hash)
+        same_before(self.heads.as_slice(), self.links.as_slice(), place)
+    }
+
+    /// Makes room for one hash more. Memory that is left over, as once many were dropped, is given back first. An error if
+    /// memory is refused; the hashes are as before either way.
+    pub fn reserve(&mut self) -> Result<(), AllocError>
+        ensures same { self.new.hashes ≡ self.old.hashes }
+        ensures room { OnOk result (0 < self.new.room) }
+    {
+        reserve(self.alloc, &mut self.heads, &mut self.links)
+    }
+
+    /// Puts a hash behind the others. It asks for no memory: `reserve` makes room.
+    pub fn push(&mut self, hash: usize)
+        requires hash { 0 < hash }
+        requires room { 0 < self.old.room }
+        ensures { self.new.hashes ≡ self.old.hashes ++ hash ∷ [] }
+    {
+        push(&mut self.heads, &mut self.links, hash);
     }
 
     /// Takes the hash at a place out: 0 stands there from then on. It asks for no memory.
     pub fn take_out(&mut self, place: usize)
-        requires { place < length self.old }
-        ensures { self.new ≡ slice_set self.old place 0 }
+        requires { place < length self.old.hashes }
+        ensures { self.new.hashes ≡ slice_set self.old.hashes place 0 }
     {
         take_out(&mut self.heads, &mut self.links, place);
     }
 
     /// Drops the places whose hash was taken out. It asks for no memory.
     pub fn drop_empty(&mut self)
-        ensures { self.new ≡ filter is_hash self.old }
+        ensures { self.new.hashes ≡ filter is_hash self.old.hashes }
     {
         drop_empty(&mut self.heads, &mut self.links);
     }

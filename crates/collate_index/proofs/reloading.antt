@@ -2,3 +2,4 @@
 pub mod AnewLemmas
 pub mod KnownLemmas
 pub mod ReloadLemmas
+pub mod RekeyedLemmas

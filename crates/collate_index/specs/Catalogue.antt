@@ -5,7 +5,10 @@ use Rattle.icu_collator_types.specs.Options.{resolved_options}
 use Rattle.icu_collator_types.specs.declared.options.CollatorOptions.{CollatorOptions}
 use Rattle.icu_collator_types.specs.declared.options.CollatorPreferences.{CollatorPreferences}
 use Rattle.icu_collator_types.specs.declared.options.ResolvedCollatorOptions.{ResolvedCollatorOptions}
+use Rattle.collate_lines.specs.declared.limits.Limits.{Limits}
+use Rattle.collate_lines.specs.Lines.{records_of}
 use Rattle.collate_lines.specs.Record.{Record}
+use Rattle.collate_records.specs.Files.{FileRecords}
 use Rattle.collate_rules.specs.Meaning.{settings_of}
 use Rattle.collate_names.specs.Names.{TextOrder, in_order}
 use Rattle.collate_index.specs.Meaning.{Meaning, meaning_of, order_by}
@@ -27,6 +30,8 @@ preferences_of asked =
     }
 
 pub record Catalogue : Type 0 where
+  -- the limits within which records files are read
+  pub limits : Limits
   -- what the lines of the records file say
   pub records : List Record
   -- what the caller asks of the order, whatever the records
@@ -55,8 +60,13 @@ abbrev pub AreDistinct : List (List ℕ) → Type 0
 AreDistinct names = AllPairs (λ name other. name ≢ other) names
 
 -- the catalogue that records, preferences and options open, with no names
-abbrev pub opened : List Record → CollatorPreferences → CollatorOptions → Catalogue
-opened records preferences options = record { records = records; asked = asked_of options preferences; arrivals = [] }
+abbrev pub opened : FileRecords → CollatorPreferences → CollatorOptions → Catalogue
+opened records preferences options =
+    record { limits = records.limits; records = records.lines; asked = asked_of options preferences; arrivals = [] }
+
+-- the catalogue that the records of a file open, which was read within limits
+abbrev pub opened_by : Limits → List ℕ → CollatorPreferences → CollatorOptions → Catalogue
+opened_by limits file preferences options = opened (record { limits = limits; lines = records_of file }) preferences options
 
 -- a catalogue in which a name has arrived
 abbrev pub with_name : List ℕ → Catalogue → Catalogue
@@ -66,7 +76,7 @@ with_name name s = record s { arrivals = s.arrivals ++ name ∷ [] }
 abbrev pub without_name : List ℕ → Catalogue → Catalogue
 without_name name s = record s { arrivals = filter (λ other. not (bytes_eq other name)) s.arrivals }
 
--- a catalogue over other records, with the same names
+-- a catalogue over other records, with the same names and within the same limits
 abbrev pub reloaded : List Record → Catalogue → Catalogue
 reloaded records s = record s { records = records }
 

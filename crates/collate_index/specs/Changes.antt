@@ -10,7 +10,7 @@ pub record TwoRecords : Type 0 where
   pub after : List Record
 
 abbrev pub records_inside : Inside → TwoRecords
-records_inside s = record { before = s.before.now; after = s.after.now }
+records_inside s = record { before = s.before.now.lines; after = s.after.now.lines }
 
 -- what is known of characters is so
 abbrev pub AreKnown : List Record → List Record → List (Option Bool) → Type 0
@@ -18,7 +18,7 @@ AreKnown before after known =
     (c : ℕ) (is : Bool) → slice_index_or known c None ≡ Some is → MatchBool is (IsChanged before after c) (IsUnchanged before after c)
 
 pub record IsKept (s : Inside) : Type 0 where
-  pub known : AreKnown s.before.now s.after.now s.known.items
+  pub known : AreKnown s.before.now.lines s.after.now.lines s.known.items
 
 -- an answer to whether a character changed is right
 abbrev pub Tells : TwoRecords → ℕ → Bool → Type 0

@@ -2,12 +2,13 @@
 use Rattle.std.specs.Prelude.{◌≡◌, ℕ, ◌+◌, ◌⊎◌, List, [], ◌∷◌, length}
 use Rattle.icu_normalizer_core.specs.Canonical.{Reaches}
 use Rattle.icu_normalizer_core.specs.Decoding.{utf8_chars}
+use Rattle.collate_lines.specs.declared.limits.Limits.{Limits}
 use Rattle.collate_lines.specs.Record.{Record as Line}
 use Rattle.collate_lines.specs.declared.rule.RecordsError.{RecordsError}
 use Rattle.collate_lines.specs.declared.rule.RecordsError.TheVariants.{Fault, Memory as NoMemory}
 use Rattle.collate_rules.specs.Meaning.{step_of}
 use Rattle.collate_records.specs.Changes.{AreSettingsEqual, IsChanged}
-use Rattle.collate_records.specs.Files.{Refuses}
+use Rattle.collate_records.specs.Files.{RefusesWithin}
 use Rattle.collate_laws.specs.Unchanged.{ReachesUnchanged}
 use Rattle.collate_index.specs.Catalogue.{Catalogue}
 use Rattle.collate_index.specs.declared.reload.ReloadError.{ReloadError}
@@ -34,7 +35,7 @@ abbrev pub error_of : RecordsError → ReloadError
 error_of (Fault fault) = Record fault
 error_of NoMemory = Memory
 
--- a fault is the first of these bytes
-abbrev pub IsRefused : List ℕ → ReloadError → Type 0
-IsRefused bytes (Record fault) = Refuses bytes (Fault fault)
-IsRefused bytes Memory = Unit {0}
+-- a fault is the first of these bytes, within limits
+abbrev pub IsRefused : Limits → List ℕ → ReloadError → Type 0
+IsRefused limits bytes (Record fault) = RefusesWithin limits bytes (Fault fault)
+IsRefused limits bytes Memory = Unit {0}

@@ -73,7 +73,7 @@ impl<'a> Changes<'a> {
         before: &'a Records,
         after: &'a Records,
     ) -> Result<Changes<'a>, AllocError>
-        ensures { IfOk result (λ changes. changes ≡ record { before = before.now; after = after.now }) }
+        ensures { IfOk result (λ changes. changes ≡ record { before = before.now.lines; after = after.now.lines }) }
     {
         let known = nothing_known(alloc)?;
         Ok(Changes {

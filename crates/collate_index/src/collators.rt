@@ -28,7 +28,7 @@ pub fn collator_of(
     preferences: CollatorPreferences<'_>,
     options: CollatorOptions,
 ) -> Result<Collator<'static>, AllocError>
-    ensures { IfOk result (IsCollatorOf records.now options preferences.entry) }
+    ensures { IfOk result (IsCollatorOf records.now.lines options preferences.entry) }
 {
     records.keep_rules();
     let (canonical, collation) = compile(alloc, records, TrieType::Fast)?.into_tables();

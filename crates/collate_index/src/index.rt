@@ -10,21 +10,19 @@ ghost use Rattle.icu_collator.specs.Order.{collation_order};
 ghost use Rattle.collate_laws.specs.OverRecords.{IsCollatorOf};
 ghost use Rattle.collate_lines.specs.Lines.{records_of};
 ghost use Rattle.collate_name_list.specs.StoredNames.{names_of};
-ghost use Rattle.collate_records.specs.Files.{IsAccepted};
+ghost use Rattle.collate_records.specs.Files.{IsAcceptedWithin};
 ghost use Rattle.collate_rules.specs.Meaning.{collation_of};
 ghost use Rattle.collate_names.specs.Names.{equal_names, names_between};
 ghost use Rattle.collate_names.specs.Search.{IsPlaceOf};
 ghost use Rattle.collate_index.specs.Catalogue.{AreDistinct, meaning_in, opened, options_in, order_of, preferences_of, reloaded, sorted_names, with_name, without_name};
-ghost use Rattle.collate_index.specs.Index.{IsKeyed};
 ghost use Rattle.collate_index.specs.Keys.{IsKeyOf};
 ghost use Rattle.collate_index.specs.Reloads.{AreKeysMade, IsRefused};
 
 use crate::asked::Asked;
-use crate::changes::Changes;
 use crate::collators::collator_of;
 use crate::names::Names;
 pub use crate::reload::ReloadError;
-use crate::reload::{is_due, put, renewed};
+use crate::reload::keys_by;
 use collate_keys::IndexKey;
 pub use collate_name_list::errors::AddError;
 use collate_name_list::name_list::NameList;
@@ -110,7 +108,8 @@ impl Index {
         ensures duplicate { result ≡ Err AddError.Duplicate → Contains self.old.arrivals name.now }
         ensures unchanged { OnErr result (self.new ≡ self.old) }
     {
-        let key = self.key_of(name)?;
+        let mut keys = 0;
+        let key = self.make_key(name, &mut keys)?;
         let mut comparisons = 0;
         self.names.add(name, key, &mut comparisons)
     }
@@ -132,34 +131,44 @@ impl Index {
         Ok(())
     }
 
-    /// Reads a records file (docs/RECORDS.md), and puts its records in the place of those of the index; the names stay as
-    /// they arrived, and stand in the order of the new records. One key is made for each touched name, which reaches a
-    /// changed character by the old records' mapping steps, or, where a setting changed, one for each name. The answer is
-    /// how many.
+    /// Reads a records file (docs/RECORDS.md) within the limits of the index's records, and puts its records in the place of
+    /// those of the index; the names stay as they arrived, and stand in the order of the new records. One key is made for each
+    /// touched name, which reaches a changed character by the old records' mapping steps, or, where a setting changed, one for
+    /// each name; the others keep theirs. The answer is how many.
     ///
     /// Errors: `Record` with the first fault of a file that isn't accepted, `Memory` where memory is refused; the index is
     /// then as before.
     pub fn reload(&mut self, bytes: &[u8]) -> Result<usize, ReloadError>
-        ensures accepted { OnOk result (IsAccepted bytes.now) }
+        ensures accepted { OnOk result (IsAcceptedWithin self.old.limits bytes.now) }
         ensures reloaded { OnOk result (self.new ≡ reloaded (records_of bytes.now) self.old) }
         ensures made { IfOk result (λ made. AreKeysMade self.old (records_of bytes.now) made) }
-        ensures refused { IfErr result (IsRefused bytes.now) }
+        ensures refused { IfErr result (IsRefused self.old.limits bytes.now) }
         ensures unchanged { OnErr result (self.new ≡ self.old) }
     {
-        let records = Records::read(self.alloc, bytes)?;
+        let records = Records::read_within(self.alloc, bytes, self.records.limits())?;
         records.keep_rules();
         let preferences = self.asked.preferences();
         let collator = collator_of(self.alloc, &records, preferences, self.asked.options)?;
         let mut made = 0;
-        let names = self.names_by(&records, &collator, &mut made)?;
+        let keys = keys_by(
+            self.alloc,
+            &self.records,
+            &self.names,
+            &self.asked,
+            &records,
+            &collator,
+            &mut made,
+        )?;
+        let mut comparisons = 0;
+        self.names.rekey(keys, &mut comparisons)?;
         self.records = records;
         self.collator = collator;
-        self.names = names;
         Ok(made)
     }
 
     /// The places of the names that compare as equal to a name, `0..0` if there are none, and how many comparisons of
-    /// keys that took: at most twice as many as the number of names has binary digits (docs/DECISIONS.md, "Index").
+    /// keys that took: at most twice as many as the number of names has binary digits, and one at least if there are
+    /// names (docs/DECISIONS.md, "Index"). A key is made only for a name that isn't there.
     ///
     /// Errors: `AllocError` where memory is refused.
     pub fn find(&self, name: &[u8]) -> Result<Found, AllocError>
@@ -167,13 +176,16 @@ impl Index {
         ensures names { IfOk result (λ found. slice_range (sorted_names self.now) found.names.start found.names.end ≡ equal_names (order_of self.now) name.now (sorted_names self.now)) }
         ensures none { IfOk result (λ found. found.names.start ≡ found.names.end → found.names.end ≡ 0) }
         ensures few { IfOk result (λ found. (digits : ℕ) → length (sorted_names self.now) < 2 ^ digits → found.comparisons ≤ 2 * digits) }
+        ensures some { IfOk result (λ found. 0 < length (sorted_names self.now) → 0 < found.comparisons) }
     {
-        let key = self.key_of(name)?;
-        let mut comparisons = 0;
-        let start = self.names.place(&key, false, &mut comparisons);
-        let end = self.names.place(&key, true, &mut comparisons);
-        let names = range_between(start, end);
-        Ok(Found { names, comparisons })
+        match self.names.key_of(name) {
+            Some(key) => Ok(self.found(name, key)),
+            None => {
+                let mut keys = 0;
+                let key = self.make_key(name, &mut keys)?;
+                Ok(self.found(name, &key))
+            }
+        }
     }
 
     /// The places of the names that are neither below the first of two names nor above the last, `0..0` if there are none,
@@ -185,8 +197,9 @@ impl Index {
         ensures names { IfOk result (λ places. slice_range (sorted_names self.now) places.start places.end ≡ names_between (order_of self.now) first.now last.now (sorted_names self.now)) }
         ensures none { IfOk result (λ places. places.start ≡ places.end → places.end ≡ 0) }
     {
-        let lowest = self.key_of(first)?;
-        let highest = self.key_of(last)?;
+        let mut keys = 0;
+        let lowest = self.make_key(first, &mut keys)?;
+        let highest = self.make_key(last, &mut keys)?;
         let mut comparisons = 0;
         let start = self.names.place(&lowest, false, &mut comparisons);
         let end = self.names.place(&highest, true, &mut comparisons);
@@ -238,41 +251,26 @@ impl Index {
         self.collator.as_borrowed()
     }
 
-    /// The names with their keys by other records and a collator of these. The count goes up by one for each key that is
-    /// made.
-    fn names_by(
-        &self,
-        records: &Records,
-        collator: &Collator<'static>,
-        made: &mut usize,
-    ) -> Result<NameList, AllocError>
-        requires collator { IsCollatorOf records.now self.now.asked.options (preferences_of self.now.asked) collator.now }
-        requires none { made.old ≡ 0 }
-        ensures names { IfOk result (λ names. names_of names ≡ self.now.arrivals) }
-        ensures keyed { IfOk result (λ names. All (IsKeyed (meaning_in (reloaded records.now self.now))) names) }
-        ensures made { OnOk result (AreKeysMade self.now records.now made.new) }
+    /// What a search by the key of a name finds.
+    fn found(&self, name: &[u8], key: &IndexKey) -> Found
+        requires { IsKeyOf (meaning_in self.now) name.now key.now }
+        ensures bound { (result.names.start ≤ result.names.end) × (result.names.end ≤ length (sorted_names self.now)) }
+        ensures names { slice_range (sorted_names self.now) result.names.start result.names.end ≡ equal_names (order_of self.now) name.now (sorted_names self.now) }
+        ensures none { result.names.start ≡ result.names.end → result.names.end ≡ 0 }
+        ensures few { (digits : ℕ) → length (sorted_names self.now) < 2 ^ digits → result.comparisons ≤ 2 * digits }
+        ensures some { 0 < length (sorted_names self.now) → 0 < result.comparisons }
     {
-        records.keep_rules();
-        self.names.keep_promise();
-        let _most = self.names.len();
-        let is_set_alike = self.records.settings_equal(records);
-        let lent = collator.as_borrowed();
-        let mut changes = Changes::new(self.alloc, &self.records, records)?;
-        let mut names = NameList::new(self.alloc);
-        for (name, key) in self.names.arrived() {
-            let is_due = is_due(&mut changes, is_set_alike, name);
-            let key = renewed(self.alloc, &lent, name, key, is_due, made)?;
-            put(&mut names, name, key)?;
-        }
-        Ok(names)
+        let mut comparisons = 0;
+        let (start, end) = self.names.range(key, &mut comparisons);
+        let names = range_between(start, end);
+        Found { names, comparisons }
     }
 
-    /// The key of a name.
-    fn key_of(&self, name: &[u8]) -> Result<IndexKey, AllocError>
+    /// The key of a name. The count goes up by one where it is made.
+    fn make_key(&self, name: &[u8], count: &mut usize) -> Result<IndexKey, AllocError>
         ensures { IfOk result (IsKeyOf (meaning_in self.now) name.now) }
     {
-        let mut keys = 0;
-        IndexKey::make(self.alloc, &self.collator(), name, &mut keys)
+        IndexKey::make(self.alloc, &self.collator(), name, count)
     }
 }
 

@@ -54,11 +54,12 @@ pub fn keys_order_as_names_of_records()
         → slice_cmp nat_cmp (key_of_text (collation_of m.records) m.options (utf8_chars a)) (key_of_text (collation_of m.records) m.options (utf8_chars b)) ≡ order_by m a b }
 {}
 
-/// A reloaded index is, to its callers, the one that is built anew: opened over the new records by the same preferences and
-/// options, its names added in their order of arrival, each of them new. So it replies as that one does.
+/// A reloaded index is, to its callers, the one that is built anew: opened over the new records, within the same limits, by the
+/// same preferences and options, its names added in their order of arrival, each of them new. So it replies as that one does.
 pub fn reloaded_as_built_anew()
-    ensures same { (records : List Record) (preferences : CollatorPreferences) (options : CollatorOptions) (s : Catalogue)
-        → s.asked ≡ asked_of options preferences → reloaded records s ≡ with_names s.arrivals (opened records preferences options) }
+    ensures same { (lines : List Record) (preferences : CollatorPreferences) (options : CollatorOptions) (s : Catalogue)
+        → s.asked ≡ asked_of options preferences
+        → reloaded lines s ≡ with_names s.arrivals (opened (record { limits = s.limits; lines = lines }) preferences options) }
     ensures new { (s : Catalogue) (before behind : List (List ℕ)) (name : List ℕ)
         → AreDistinct s.arrivals → s.arrivals ≡ before ++ name ∷ behind → ¬ Contains before name }
 {}

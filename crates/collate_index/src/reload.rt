@@ -1,25 +1,28 @@
 //! What a reload of records asks of each name: whether its key is made anew, and the key.
 
 ghost use Rattle.std.specs.Bool.{OnFalse, OnTrue};
-ghost use Rattle.std.specs.Prelude.{◌≡◌, ◌+◌, ◌<◌, ◌∷◌, ◌++◌, [], All, IfOk, IsTrue, MatchBool, OnOk, if◌then◌else◌};
-ghost use Rattle.std.specs.List.{Contains};
+ghost use Rattle.std.specs.Prelude.{◌≡◌, ◌+◌, ◌<◌, ◌∷◌, [], All, IfOk, IsTrue, MatchBool, None, OnOk, Some, if◌then◌else◌, length};
 ghost use Rattle.icu_normalizer_core.specs.Decoding.{utf8_chars};
 ghost use Rattle.icu_collator.specs.CollatorAnswers.{key_by};
+ghost use Rattle.collate_laws.specs.OverRecords.{IsCollatorOf};
 ghost use Rattle.collate_laws.specs.Unchanged.{ReachesUnchanged};
-ghost use Rattle.collate_name_list.specs.StoredNames.{names_of};
+ghost use Rattle.collate_name_list.specs.StoredNames.{rekeyed};
 ghost use Rattle.collate_records.specs.Changes.{IsUnchanged};
 ghost use Rattle.collate_records.specs.Reaching.{ReachesOne, brought_within};
 ghost use Rattle.collate_rules.specs.Meaning.{step_of};
+ghost use Rattle.collate_index.specs.Catalogue.{meaning_in, preferences_of, reloaded};
 ghost use Rattle.collate_index.specs.Changes.{Tells};
-ghost use Rattle.collate_index.specs.Reloads.{IsTouched, error_of};
+ghost use Rattle.collate_index.specs.Keys.{IsKeyed, catalogue};
+ghost use Rattle.collate_index.specs.Reloads.{AreKeysMade, IsTouched, error_of};
 ghost use Rattle.collate_index.specs.declared.reload.ReloadError.TheVariants.{Memory};
 
+use crate::asked::Asked;
 use crate::changes::Changes;
 use collate_keys::IndexKey;
 use collate_lines::rule::{RecordFault, RecordsError};
-use collate_name_list::errors::AddError;
 use collate_name_list::name_list::NameList;
-use icu_collator::CollatorBorrowed;
+use collate_records::records::Records;
+use icu_collator::{Collator, CollatorBorrowed};
 use icu_normalizer_core::decoding::decode_utf8;
 use icu_normalizer_core::properties::Decomposed;
 use std::alloc::{AllocError, Global};
@@ -110,7 +113,7 @@ fn is_touched(changes: &mut Changes<'_>, name: &[u8]) -> bool
 }
 
 /// Whether the key of a name is made anew: a setting changed, or the name reaches a changed character.
-pub(crate) fn is_due(changes: &mut Changes<'_>, is_set_alike: bool, name: &[u8]) -> bool
+fn is_due(changes: &mut Changes<'_>, is_set_alike: bool, name: &[u8]) -> bool
     ensures same { changes.new ≡ changes.old }
     ensures due { OnTrue result (IsTrue is_set_alike → IsTouched changes.old.before changes.old.after name.now) }
     ensures other { OnFalse result (IsTrue is_set_alike × ReachesUnchanged changes.old.before changes.old.after (utf8_chars name.now)) }
@@ -118,35 +121,55 @@ pub(crate) fn is_due(changes: &mut Changes<'_>, is_set_alike: bool, name: &[u8])
     !is_set_alike || is_touched(changes, name)
 }
 
-/// The new key of a name: made where it is due, and counted, and else as it was.
-pub(crate) fn renewed(
+/// The new key of a name, made where it is due, and counted.
+fn renewed(
     alloc: Global,
     collator: &CollatorBorrowed<'_>,
     name: &[u8],
-    key: &IndexKey,
     is_due: bool,
     made: &mut usize,
-) -> Result<IndexKey, AllocError>
+) -> Result<Option<IndexKey>, AllocError>
     requires { made.old < usize.MAX }
-    ensures key { IfOk result (λ renewed. renewed ≡ (if is_due then key_by collator.now (utf8_chars name.now) else key.now)) }
+    ensures key { IfOk result (λ renewed. renewed ≡ (if is_due then Some (key_by collator.now (utf8_chars name.now)) else None)) }
     ensures made { OnOk result (made.new ≡ (if is_due then made.old + 1 else made.old)) }
 {
     if is_due {
-        IndexKey::make(alloc, collator, name, made)
+        let key = IndexKey::make(alloc, collator, name, made)?;
+        Ok(Some(key))
     } else {
-        key.clone()
+        Ok(None)
     }
 }
 
-/// Adds a name that isn't there.
-pub(crate) fn put(names: &mut NameList, name: &[u8], key: IndexKey) -> Result<(), AllocError>
-    requires { ¬ Contains (names_of names.old) name.now }
-    ensures { OnOk result (names.new ≡ names.old ++ record { key = key; name = name.now } ∷ []) }
+/// The new keys of names by other records and a collator of these, as the names arrived; none for a name whose key stays.
+/// The count goes up by one for each key that is made.
+pub(crate) fn keys_by(
+    alloc: Global,
+    before: &Records,
+    names: &NameList,
+    asked: &Asked,
+    records: &Records,
+    collator: &Collator<'static>,
+    made: &mut usize,
+) -> Result<Vec<Option<IndexKey>>, AllocError>
+    requires collator { IsCollatorOf records.now.lines asked.now.options (preferences_of asked.now) collator.now }
+    requires keyed { All (IsKeyed (meaning_in (catalogue before.now asked.now names.now))) names.now }
+    requires none { made.old ≡ 0 }
+    ensures count { IfOk result (λ keys. length keys.items ≡ length names.now) }
+    ensures keyed { IfOk result (λ keys. All (IsKeyed (meaning_in (reloaded records.now.lines (catalogue before.now asked.now names.now)))) (rekeyed keys.items names.now)) }
+    ensures made { OnOk result (AreKeysMade (catalogue before.now asked.now names.now) records.now.lines made.new) }
 {
-    let mut comparisons = 0;
-    match names.add(name, key, &mut comparisons) {
-        Ok(()) => Ok(()),
-        Err(AddError::Memory) => Err(AllocError),
-        Err(AddError::Duplicate) => unreachable!(),
+    before.keep_rules();
+    records.keep_rules();
+    let is_set_alike = before.settings_equal(records);
+    let lent = collator.as_borrowed();
+    let mut changes = Changes::new(alloc, before, records)?;
+    let mut keys = Vec::with_capacity(alloc, names.len())?;
+    for (name, own) in names.arrived() {
+        let _ = own;
+        let is_due = is_due(&mut changes, is_set_alike, name);
+        let key = renewed(alloc, &lent, name, is_due, made)?;
+        keys.push(key)?;
     }
+    Ok(keys)
 }

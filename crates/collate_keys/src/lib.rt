@@ -8,7 +8,7 @@ ghost use Rattle.icu_normalizer_core.specs.Decoding.{utf8_chars};
 ghost use Rattle.icu_collator.specs.CollatorAnswers.{key_by};
 ghost use Rattle.collate_places.specs.Fronts.{IsFrontOf};
 
-use collate_places::fronts::front_of;
+use collate_places::fronts::Front;
 use icu_collator::CollatorBorrowed;
 use std::alloc::{AllocError, Global};
 use std::cmp::Ordering;
@@ -16,8 +16,7 @@ use std::marker::Model;
 
 /// The sort key of a name, as its contracts see it a list of bytes. Only `make` makes one, and only `compare` reads it;
 /// each adds one to its caller's count, which stays at the greatest `usize`. Its front may be compared in its stead
-/// (`collate_places::fronts::compare_fronts`), which counts as one comparison too. A clone is the same key.
-#[derive(Clone)]
+/// (`Front::compare`), which counts as one comparison too. It is moved, and never copied.
 pub struct IndexKey {
     bytes: Vec<u8>,
 }
@@ -63,10 +62,10 @@ impl IndexKey {
     }
 
     /// The front of the key, by which it compares with most keys.
-    pub fn front(&self) -> u64
+    pub fn front(&self) -> Front
         ensures { IsFrontOf result self.now }
     {
-        front_of(self.bytes.as_slice())
+        Front::new(self.bytes.as_slice())
     }
 
     /// How two keys compare: as their bytes do, the first that differs decides, and a key comes before one that goes on.

@@ -15,11 +15,12 @@ use Rattle.icu_collator.specs.KeyBytes.{key_of_text}
 use Rattle.icu_collator.specs.Order.{collation_order}
 use Rattle.icu_collator.proofs.orders.OrderSamenessLemmas.{keys_same, order_same}
 use Rattle.collate_lines.specs.declared.rule.Rule.TheVariants.{C5, V6, V14}
+use Rattle.collate_lines.specs.declared.limits.Limits.{Limits}
 use Rattle.collate_lines.specs.Lines.{lines_of, records_of}
 use Rattle.collate_lines.specs.Record.{Record}
-use Rattle.collate_records.specs.Files.{IsAccepted}
+use Rattle.collate_records.specs.Files.{IsAcceptedWithin}
 use Rattle.collate_records.proofs.comparing.LineOrderLemmas.{same_composing, same_settings, same_weights}
-use Rattle.collate_records.proofs.reading.ReadingAcceptedLemmas.{accepted_decompose, accepted_lines, kept}
+use Rattle.collate_records.proofs.reading.ReadingAcceptedLemmas.{accepted_decompose, lines_within}
 use Rattle.collate_records.proofs.reordering.AcceptedMovedLemmas.{records_moved}
 use Rattle.collate_rules.specs.Accepted.{AreAccepted}
 use Rattle.collate_rules.specs.Meaning.{canonical_of, collation_of, weights_of}
@@ -70,15 +71,16 @@ same_records_alike records options preferences a b accepted first second =
     }
 
 -- collators of two files that have the same lines in another order
-pub moved_alike : (file moved : List ℕ) (options : CollatorOptions) (preferences : CollatorPreferences) (a b : CollatorParts)
-    → IsAccepted file → IsAccepted moved → IsPermutation (lines_of file) (lines_of moved)
+pub moved_alike : (limits : Limits) (file moved : List ℕ) (options : CollatorOptions) (preferences : CollatorPreferences) (a b : CollatorParts)
+    → IsAcceptedWithin limits file → IsAcceptedWithin limits moved → IsPermutation (lines_of file) (lines_of moved)
     → IsCollatorOf (records_of file) options preferences a → IsCollatorOf (records_of moved) options preferences b → AnswerAlike a b
-moved_alike file moved options preferences a b accepted also lines first second =
+moved_alike limits file moved options preferences a b accepted also lines first second =
+    let lines_accepted = lines_within limits file accepted in
     let shifted = records_moved file moved lines in
-    let settings = same_settings (records_of file) (records_of moved) shifted (kept file accepted V14) in
+    let settings = same_settings (records_of file) (records_of moved) shifted (lines_accepted.keep_rules V14) in
     answers_alike (records_of file) (records_of moved) options options preferences preferences a b
-    (accepted_lines file accepted) (accepted_lines moved also) first second
+    lines_accepted (lines_within limits moved also) first second
     (first.resolved ∙ ap (resolved_options options preferences) settings.options ∙ sym second.resolved)
-    (same_composing (records_of file) (records_of moved) shifted (kept file accepted V14) (kept file accepted C5)).same
-    (same_weights (records_of file) (records_of moved) shifted (kept file accepted V14) (kept file accepted V6))
+    (same_composing (records_of file) (records_of moved) shifted (lines_accepted.keep_rules V14) (lines_accepted.keep_rules C5)).same
+    (same_weights (records_of file) (records_of moved) shifted (lines_accepted.keep_rules V14) (lines_accepted.keep_rules V6))
     settings.settings

@@ -16,17 +16,20 @@ use Rattle.icu_normalizer.specs.NormalizerTables.{NormalizerTables, tables_meani
 use Rattle.icu_normalizer.specs.TextForms.{composed_text, decomposed_text}
 use Rattle.icu_normalizer.proofs.forms.SameFormLemmas.{same_composed, same_decomposed, same_text_composed, same_text_decomposed}
 use Rattle.collate_lines.specs.declared.rule.Rule.TheVariants.{C5, V14}
+use Rattle.collate_lines.specs.declared.limits.Limits.{Limits}
 use Rattle.collate_lines.specs.Lines.{lines_of, records_of}
 use Rattle.collate_lines.specs.Record.{Record}
-use Rattle.collate_records.specs.Files.{IsAccepted}
+use Rattle.collate_records.specs.Files.{IsAcceptedWithin}
 use Rattle.collate_records.proofs.comparing.LineOrderLemmas.{said_alike, same_composing}
+use Rattle.collate_records.proofs.maps.AnyStepLemmas.{any_ends}
 use Rattle.collate_records.proofs.comparing.OneLineLemmas.{compatibility_second, mapping_second}
-use Rattle.collate_records.proofs.reading.ReadingAcceptedLemmas.{accepted_compose, accepted_decompose, accepted_lines, kept}
+use Rattle.collate_records.proofs.reading.ReadingAcceptedLemmas.{accepted_compose, accepted_decompose, lines_within}
 use Rattle.collate_records.proofs.reordering.AcceptedMovedLemmas.{records_moved}
 use Rattle.collate_rules.specs.Accepted.{AreAccepted}
 use Rattle.collate_rules.specs.Meaning.{any_step, canonical_of, compatibility_in, compatibility_of, else_mapped, mapping_in, step_of}
+use Rattle.collate_rules.specs.Rules.{compatibility_full_of}
 use Rattle.collate_laws.specs.Alike.{NormalizeAlike, composed_by, decomposed_by}
-use Rattle.collate_laws.specs.OverRecords.{IsCanonicalNormalizerOf, IsCompatibilityNormalizerOf}
+use Rattle.collate_laws.specs.OverRecords.{IsCanonicalNormalizerOf, IsCompatibilityNormalizerOf, both_of}
 
 -- accepted lines give canonical data
 pub accepted_canonical : (records : List Record) → AreAccepted records → IsCanonical (canonical_of records)
@@ -93,6 +96,36 @@ left_alike step other same xs ns (unmapped c cs ms u left) = unmapped c cs ms (s
 left_alike step other same xs ns (mapped c d ds cs ms u left) =
     mapped c d ds cs ms (sym (same c) ∙ u) (left_alike step other same ((d ∷ ds) ++ cs) ms left)
 
+-- a normaliser gives the forms that records say by mappings of both kinds
+module _ (records : List Record) (tables : NormalizerTables) (accepted : AreAccepted records) (is : IsCompatibilityNormalizerOf records tables) where
+  same_both : AreSameComposing (both_of records) (tables_meaning tables)
+  same_both = record {
+    same = record {
+      class = λ c scalar. sym (is.both.class c scalar);
+      full = λ c scalar.
+          left_one (any_step records) (c ∷ []) (compatibility_full_of records c) ((tables_meaning tables).full c)
+          (any_ends records accepted c scalar) (is.both.full c scalar);
+    };
+    pair = λ x y one two. sym (canonical_pairs tables.canonical tables.nfkd x y ∙ is.canonical.pair x y one two);
+  }
+
+  pub both_decomposed_said : (x : List ℕ) → All IsScalar x → decomposed_by tables x ≡ decomposed (both_of records) x
+  both_decomposed_said x scalars =
+      sym (same_decomposed (meaning tables.canonical) (tables_meaning tables) (both_of records) x is.promise is.over same_both.same scalars)
+
+  pub both_composed_said : (x : List ℕ) → All IsScalar x → composed_by tables x ≡ composed (both_of records) x
+  both_composed_said x scalars =
+      sym (same_composed (meaning tables.canonical) (tables_meaning tables) (both_of records) x is.promise is.over same_both scalars)
+
+  -- and of texts in UTF-8
+  pub both_decomposed_text_said : (text : List ℕ) → IsUtf8 text → decomposed_text (tables_meaning tables) text ≡ decomposed_text (both_of records) text
+  both_decomposed_text_said text whole =
+      sym (same_text_decomposed (meaning tables.canonical) (tables_meaning tables) (both_of records) text is.promise is.over same_both.same whole)
+
+  pub both_composed_text_said : (text : List ℕ) → IsUtf8 text → composed_text (tables_meaning tables) text ≡ composed_text (both_of records) text
+  both_composed_text_said text whole =
+      sym (same_text_composed (meaning tables.canonical) (tables_meaning tables) (both_of records) text is.promise is.over same_both whole)
+
 module _ (lines others : List Record) (a b : NormalizerTables) (first : IsCompatibilityNormalizerOf lines a) (second : IsCompatibilityNormalizerOf others b)
     (same : AreSameComposing (canonical_of lines) (canonical_of others)) (steps : (c : ℕ) → any_step lines c ≡ any_step others c) where
   meant_alike : AreSameComposing (tables_meaning a) (tables_meaning b)
@@ -135,27 +168,30 @@ pub same_compatibility_alike : (records : List Record) (a b : NormalizerTables)
 same_compatibility_alike records a b first second =
     compatibility_alike records records a b first second (itself (canonical_of records)) (λ c. refl)
 
-module _ (file moved : List ℕ) (accepted : IsAccepted file) (lines : IsPermutation (lines_of file) (lines_of moved)) where
+module _ (limits : Limits) (file moved : List ℕ) (accepted : IsAcceptedWithin limits file) (lines : IsPermutation (lines_of file) (lines_of moved)) where
+  lines_accepted : AreAccepted (records_of file)
+  lines_accepted = lines_within limits file accepted
+
   canonical_moved : AreSameComposing (canonical_of (records_of file)) (canonical_of (records_of moved))
   canonical_moved =
-      same_composing (records_of file) (records_of moved) (records_moved file moved lines) (kept file accepted V14) (kept file accepted C5)
+      same_composing (records_of file) (records_of moved) (records_moved file moved lines) (lines_accepted.keep_rules V14) (lines_accepted.keep_rules C5)
 
   steps_moved : (c : ℕ) → any_step (records_of file) c ≡ any_step (records_of moved) c
   steps_moved c =
       let shifted = records_moved file moved lines in
       let step : step_of (records_of file) c ≡ step_of (records_of moved) c =
       ap (λ (o : Option (List ℕ)). cond (is_built_in c) (unwrap_or (built_in_step c) []) (unwrap_or o []))
-      (said_alike (records_of file) (records_of moved) shifted (kept file accepted V14) (mapping_in c) (mapping_second c)) in
+      (said_alike (records_of file) (records_of moved) shifted (lines_accepted.keep_rules V14) (mapping_in c) (mapping_second c)) in
       let compatibility : compatibility_of (records_of file) c ≡ compatibility_of (records_of moved) c =
       ap (λ (o : Option (List ℕ)). cond (is_built_in c) [] (unwrap_or o []))
-      (said_alike (records_of file) (records_of moved) shifted (kept file accepted V14) (compatibility_in c) (compatibility_second c)) in
+      (said_alike (records_of file) (records_of moved) shifted (lines_accepted.keep_rules V14) (compatibility_in c) (compatibility_second c)) in
       ap (λ (ds : List ℕ). unwrap_or (built_in_compatibility_step c) (else_mapped ds (compatibility_of (records_of file) c))) step
       ∙ ap (λ (ds : List ℕ). unwrap_or (built_in_compatibility_step c) (else_mapped (step_of (records_of moved) c) ds)) compatibility
 
-  pub moved_canonical_alike : (a b : NormalizerTables) → IsAccepted moved
+  pub moved_canonical_alike : (a b : NormalizerTables) → IsAcceptedWithin limits moved
       → IsCanonicalNormalizerOf (records_of file) a → IsCanonicalNormalizerOf (records_of moved) b → NormalizeAlike a b
   moved_canonical_alike a b also first second =
-      canonical_alike (records_of file) (records_of moved) a b (accepted_lines file accepted) (accepted_lines moved also) first second canonical_moved
+      canonical_alike (records_of file) (records_of moved) a b lines_accepted (lines_within limits moved also) first second canonical_moved
 
   pub moved_compatibility_alike : (a b : NormalizerTables)
       → IsCompatibilityNormalizerOf (records_of file) a → IsCompatibilityNormalizerOf (records_of moved) b → NormalizeAlike a b

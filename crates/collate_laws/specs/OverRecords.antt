@@ -15,6 +15,7 @@ use Rattle.icu_collator_core.specs.WholeLeads.{MovesOnlyWholeLeads}
 use Rattle.icu_collator.specs.Collators.{CollatorParts, source_collation}
 use Rattle.collate_lines.specs.Record.{Record}
 use Rattle.collate_rules.specs.Meaning.{any_step, canonical_of, class_of, collation_of, settings_of, weights_of}
+use Rattle.collate_rules.specs.Rules.{compatibility_full_of}
 
 -- a collator says of characters, weights and settings what a file says; options that the caller leaves open are the file's
 pub record IsCollatorOf (records : List Record) (options : CollatorOptions) (preferences : CollatorPreferences) (collator : CollatorParts) : Type 0 where
@@ -33,6 +34,10 @@ pub record IsCanonicalNormalizerOf (records : List Record) (tables : NormalizerT
 pub record AreBothOf (records : List Record) (canonical : Canonical) : Type 0 where
   pub class : (c : ℕ) → IsScalar c → canonical.class c ≡ class_of records c
   pub full : (c : ℕ) → IsScalar c → Leaves (any_step records) (c ∷ []) (canonical.full c)
+
+-- what records say of mappings of both kinds: the full list of a character is what steps of both leave of it
+abbrev pub both_of : List Record → Canonical
+both_of records = record (canonical_of records) { full = compatibility_full_of records }
 
 -- a normaliser to compatibility forms says of mappings of both kinds what a file says, and keeps what data of both kinds promise
 pub record IsCompatibilityNormalizerOf (records : List Record) (tables : NormalizerTables) : Type 0 where

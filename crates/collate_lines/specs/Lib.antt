@@ -1,5 +1,6 @@
 pub mod Grammar
 pub mod Keys
+pub mod Limits
 pub mod Lines
 pub mod Record
 pub mod Repeats

@@ -42,13 +42,9 @@ numbers_from n (r ∷ rs) = cond (says_something r) (n ∷ numbers_from (n + 1) 
 abbrev pub numbers_of : List ℕ → List ℕ
 numbers_of file = numbers_from 0 (records_in (lines_of file))
 
--- the most bytes of a file
-abbrev pub size_limit : ℕ
-size_limit = 1048576
-
--- Line i holds the first byte past the limit: i LFs stand before that byte.
-abbrev pub PassesSize : List ℕ → ℕ → Type 0
-PassesSize file i = (size_limit < length file) × (i ≡ count_by (λ b. b == 10) (take size_limit file))
+-- Line i holds the first byte past so many bytes: i LFs stand before that byte.
+abbrev pub PassesSize : ℕ → List ℕ → ℕ → Type 0
+PassesSize limit file i = (limit < length file) × (i ≡ count_by (λ b. b == 10) (take limit file))
 
 -- line i isn't in the grammar
 abbrev pub IsOutside : List (List ℕ) → ℕ → Type 0

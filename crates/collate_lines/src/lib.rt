@@ -3,6 +3,7 @@
 #![tactic(auto)]
 
 mod fields;
+pub mod limits;
 pub mod line;
 pub mod lines;
 mod list_fields;

@@ -4,9 +4,6 @@ ghost use Rattle.std.specs.Prelude.{◌≡◌, ◌∷◌, ◌==◌, ℕ, MatchOp
 ghost use Rattle.std.specs.List.{position};
 ghost use Rattle.collate_lines.specs.Lines.{PassesSize, lines_left, lines_of};
 
-/// The most bytes of a file (docs/RECORDS.md).
-pub const FILE_LIMIT: usize = 1048576;
-
 /// The first line of some bytes, without its LF, and what stands behind that LF; `None` where the line has none.
 pub fn split_line(bytes: &[u8]) -> (&[u8], Option<&[u8]>)
     ensures { lines_of bytes.now ≡ result.0.now ∷ lines_left result.1 }
@@ -24,17 +21,12 @@ fn line_end(bytes: &[u8]) -> Option<usize>
     bytes.iter().position(|byte| *byte == b'\n')
 }
 
-/// The line that holds the first byte past the most bytes of a file, counted from 0; `None` where the file isn't that long.
-pub fn line_past_size(bytes: &[u8]) -> Option<usize>
-    ensures { MatchOption result ((i : ℕ) → PassesSize bytes.now i → ⊥) (PassesSize bytes.now) }
+/// The line that holds the first byte past so many bytes, counted from 0; `None` where the file isn't that long.
+pub fn line_past_size(bytes: &[u8], limit: usize) -> Option<usize>
+    ensures { MatchOption result ((i : ℕ) → PassesSize limit bytes.now i → ⊥) (PassesSize limit bytes.now) }
 {
-    if bytes.len() <= FILE_LIMIT {
+    if bytes.len() <= limit {
         return None;
     }
-    Some(
-        bytes[..FILE_LIMIT]
-            .iter()
-            .filter(|byte| **byte == b'\n')
-            .count(),
-    )
+    Some(bytes[..limit].iter().filter(|byte| **byte == b'\n').count())
 }

@@ -5,25 +5,18 @@ use Rattle.std.specs.Cmp.Lexicographic.{slice_cmp}
 use Rattle.std.specs.Ordering.{ordering_then}
 use Rattle.std.specs.Option.{option_map}
 use Rattle.std.proofs.lemmas.List.{length-map, get_or-map, map-append, take-map, drop-map}
-use Rattle.std.proofs.lemmas.List.Elements.{All-append, All-cons, All-drop, All-take, All-weaker}
+use Rattle.std.proofs.lemmas.List.Elements.{All-weaker}
 use Rattle.std.proofs.lemmas.Option.{slice_get_within, get_or_from_slice_get, slice_get-map}
 use Rattle.collate_places.specs.Fronts.{IsFrontOf}
 use Rattle.collate_places.specs.Windows.{shows}
 use Rattle.collate_places.specs.declared.windows.Placed.{Placed}
+use Rattle.collate_places.proofs.Rows.{All-insert, All-remove}
 use Rattle.collate_name_list.specs.StoredNames.{StoredName}
 use Rattle.collate_name_list.specs.Slots.{AreFronted, IsFull, compared, entry_at, entry_of, places_of, sought_key}
 use Rattle.collate_name_list.specs.declared.slots.Stored.{Stored}
 use Rattle.collate_name_list.specs.declared.slots.Sought.{Sought}
 use Rattle.collate_name_list.specs.declared.slots.Sought.TheVariants.{Key, Slot}
 use Rattle.collate_name_list.proofs.SlotLemmas.{IsSlot, entry_before, entry_pushed, entry_other, still_full}
-
--- ---- lists
-
-All-insert : {X : Type 0} (P : X → Type 0) (xs : List X) (n : ℕ) (x : X) → All P xs → P x → All P (insert xs n x)
-All-insert P xs n x all h = All-append P (take n xs) (x ∷ drop n xs) (All-take P n xs all) (All-cons P x (drop n xs) h (All-drop P n xs all))
-
-All-remove : {X : Type 0} (P : X → Type 0) (xs : List X) (n : ℕ) → All P xs → All P (remove xs n)
-All-remove P xs n all = All-append P (take n xs) (drop (suc n) xs) (All-take P n xs all) (All-drop P (suc n) xs all)
 
 -- ---- places
 

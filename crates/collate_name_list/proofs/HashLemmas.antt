@@ -1,5 +1,5 @@
 -- the hashes of slots: what one tells of its slot, and a name looked for by its hash
-use Rattle.std.proofs.Common.{◌≡◌, ℕ, zero, suc, ◌<◌, ◌≤◌, true, List, [], ◌∷◌, get_or, Option, Some, None, is_some, refl, sym, ap, ◌∙◌, arith, true≢false, ⊎_elim}
+use Rattle.std.proofs.Common.{◌≡◌, ℕ, zero, suc, ◌+◌, ◌<◌, ◌≤◌, true, List, [], ◌∷◌, get_or, length, Option, Some, None, IfNone, IfSome, is_some, refl, sym, ap, ◌∙◌, arith, true≢false, ⊎_elim}
 use Rattle.std.specs.List.{Contains}
 use Rattle.std.proofs.lemmas.Bool.{cases_lt, cases_eq}
 use Rattle.collate_hashes.specs.Hashes.{hash_of}
@@ -21,20 +21,55 @@ hash_of_some (Some s) h = refl
 hash_of_full : (slots : List (Option Stored)) (slot : ℕ) → IsFull slots slot → get_or (hashes_in slots) slot 0 ≡ hash_of (entry_at slots slot).name
 hash_of_full slots slot h = hash_at slots slot ∙ hash_of_some (get_or slots slot None) h
 
-module _ (slots : List (Option Stored)) (name : List ℕ) (hash end : ℕ) (is : hash ≡ hash_of name) (absent : (slot : ℕ) → end ≤ slot → IsFull slots slot → (entry_at slots slot).name ≡ name → ⊥) where
+-- a slot with a hash has a name
+full_of_hash : (slot : Option Stored) → 0 < hash_in slot → is_some slot ≡ true
+full_of_hash None h = absurd (omega arith)
+full_of_hash (Some s) h = refl
+
+pub hash_full : (slots : List (Option Stored)) (slot hash : ℕ) → 0 < hash → get_or (hashes_in slots) slot 0 ≡ hash → IsFull slots slot
+hash_full slots slot hash positive is =
+    let here : hash_in (get_or slots slot None) ≡ hash = sym (hash_at slots slot) ∙ is in
+    full_of_hash (get_or slots slot None) (omega (arith, here))
+
+-- ---- the slots of a hash, looked at from the last one on
+
+-- the next one to look at has the hash, and none behind it has the name
+pub record IsSearched (slots : List (Option Stored)) (name : List ℕ) (hash : ℕ) (found : Option ℕ) : Type 0 where
+  pub within : IfSome found (λ slot. slot < length slots)
+  pub there : IfSome found (λ slot. get_or (hashes_in slots) slot 0 ≡ hash)
+  pub behind : IfSome found (λ slot. (k : ℕ) → slot < k → IsFull slots k → (entry_at slots k).name ≡ name → ⊥)
+  pub none : IfNone found (Contains (names_of (entries slots)) name → ⊥)
+
+-- how many are left to look at, at most
+abbrev pub left_of : Option ℕ → ℕ
+left_of None = 0
+left_of (Some slot) = slot + 1
+
+module _ (slots : List (Option Stored)) (name : List ℕ) (hash end : ℕ) (is : hash ≡ hash_of name) (absent : (slot : ℕ) → end ≤ slot → IsFull slots slot → (entry_at slots slot).name ≡ name → ⊥) (upto : end ≤ length slots) where
   hash_there : (slot : ℕ) → IsFull slots slot → (entry_at slots slot).name ≡ name → get_or (hashes_in slots) slot 0 ≡ hash
   hash_there slot full named = hash_of_full slots slot full ∙ ap hash_of named ∙ sym is
 
-  -- no slot from one on has the name, if that one hasn't, and no other before the end has its hash
-  pub absent_from : (last : ℕ) → ((entry_at slots last).name ≡ name → ⊥) → ((slot : ℕ) → last < slot → slot < end → get_or (hashes_in slots) slot 0 ≡ hash → ⊥) → (slot : ℕ) → last ≤ slot → IsFull slots slot → (entry_at slots slot).name ≡ name → ⊥
-  absent_from last here behind slot low full named =
-      ⊎_elim (λ (e : slot ≡ last). here (ap (λ k. (entry_at slots k).name) (sym e) ∙ named))
-      (λ (n : slot ≡ last → ⊥).
-      ⊎_elim (λ (l : slot < end). behind slot (omega (arith, λ (e : slot ≡ last). n e)) l (hash_there slot full named)) (λ (l : end ≤ slot). absent slot l full named) (cases_lt slot end))
-      (cases_eq slot last)
+  absent_behind : (last : ℕ) → ((later : ℕ) → last < later → later < end → get_or (hashes_in slots) later 0 ≡ hash → ⊥) → (k : ℕ) → last < k → IsFull slots k → (entry_at slots k).name ≡ name → ⊥
+  absent_behind last later k l full named =
+      ⊎_elim (λ (h : k < end). later k l h (hash_there k full named)) (λ (h : end ≤ k). absent k h full named) (cases_lt k end)
 
-  -- no slot has the name, if none before the end has its hash
-  pub absent_all : ((slot : ℕ) → slot < end → get_or (hashes_in slots) slot 0 ≡ hash → ⊥) → Contains (names_of (entries slots)) name → ⊥
+  absent_all : ((slot : ℕ) → slot < end → get_or (hashes_in slots) slot 0 ≡ hash → ⊥) → Contains (names_of (entries slots)) name → ⊥
   absent_all none h =
       let there : (m : ℕ) × IsFull slots m × ((entry_at slots m).name ≡ name) = slot_there slots name h in
       ⊎_elim (λ (l : there.0 < end). none there.0 l (hash_there there.0 there.1 there.2)) (λ (l : end ≤ there.0). absent there.0 l there.1 there.2) (cases_lt there.0 end)
+
+  -- the last one before an end, from which on none has the name
+  pub searched : (found : Option ℕ) → IfSome found (λ slot. slot < end) → IfSome found (λ slot. get_or (hashes_in slots) slot 0 ≡ hash)
+      → IfSome found (λ slot. (later : ℕ) → slot < later → later < end → get_or (hashes_in slots) later 0 ≡ hash → ⊥)
+      → IfNone found ((slot : ℕ) → slot < end → get_or (hashes_in slots) slot 0 ≡ hash → ⊥) → IsSearched slots name hash found
+  searched None before there last none = record { within = tt; there = tt; behind = tt; none = absent_all none }
+  searched (Some slot) before there last none = record { within = omega arith; there = there; behind = absent_behind slot last; none = tt }
+
+pub fewer_left : (found : Option ℕ) (slot : ℕ) → IfSome found (λ other. other < slot) → left_of found < slot + 1
+fewer_left None slot h = omega arith
+fewer_left (Some other) slot h = omega arith
+
+-- the slots from one on haven't the name, if that one hasn't
+pub absent_from : (slots : List (Option Stored)) (name : List ℕ) (slot : ℕ) → ((k : ℕ) → slot < k → IsFull slots k → (entry_at slots k).name ≡ name → ⊥) → ((entry_at slots slot).name ≡ name → ⊥) → (k : ℕ) → slot ≤ k → IsFull slots k → (entry_at slots k).name ≡ name → ⊥
+absent_from slots name slot behind here k l full named =
+    ⊎_elim (λ (e : k ≡ slot). here (ap (λ n. (entry_at slots n).name) (sym e) ∙ named)) (λ (n : k ≡ slot → ⊥). behind k (omega (arith, λ (e : k ≡ slot). n e)) full named) (cases_eq k slot)

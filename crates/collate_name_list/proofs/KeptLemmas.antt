@@ -1,5 +1,5 @@
 -- what a list of names keeps: with no names, one more and one less; and what its callers see of it
-use Rattle.std.proofs.Common.{◌≡◌, ℕ, zero, suc, ◌<◌, ◌≤◌, Bool, true, not, List, [], ◌∷◌, ◌++◌, length, map, get_or, set, slice_get, Option, Some, None, is_some, IfSome, IfNone, refl, sym, ap, ◌∙◌, subst, arith, true≢false, ◌↔◌, nat_cmp, bytes_eq}
+use Rattle.std.proofs.Common.{◌≡◌, ℕ, ◌<◌, ◌≤◌, Bool, true, not, List, [], ◌∷◌, ◌++◌, length, map, get_or, set, slice_get, Option, Some, None, is_some, IfSome, IfNone, refl, sym, ap, ◌∙◌, subst, arith, true≢false, ◌↔◌, nat_cmp, bytes_eq}
 use Rattle.std.specs.List.{All, Contains, insert, remove}
 use Rattle.std.specs.Cmp.Lexicographic.{slice_cmp}
 use Rattle.std.proofs.lemmas.Bool.{false_from_ne_true}
@@ -18,12 +18,12 @@ use Rattle.collate_name_list.specs.Slots.{AreFronted, places_of, entry_of, entry
 use Rattle.collate_name_list.specs.declared.slots.Stored.{Stored}
 use Rattle.collate_name_list.specs.declared.name_list.NameList.TheInside.{Inside}
 use Rattle.collate_name_list.proofs.SlotLemmas.{IsSlot, full_below}
-use Rattle.collate_name_list.proofs.NameListEntryLemmas.{distinct_from_own, own_push, own_emptied, name_there}
+use Rattle.collate_name_list.proofs.NameListEntryLemmas.{distinct_from_own, own_push, own_emptied, entry_there, name_there}
 use Rattle.collate_name_list.proofs.PlacesLemmas.{key_total, names_listed, length_slots, slots_push, slots_remove, all_slots, all_full, name_listed}
 use Rattle.collate_name_list.proofs.FrontedLemmas.{places-insert, places-remove, push_fronts, remove_fronts}
 
 -- with no names
-pub kept_none : (s : Inside) → s.slots.items ≡ [] → s.by_key ≡ [] → s.hashes ≡ [] → IsKept s
+pub kept_none : (s : Inside) → s.slots.items ≡ [] → s.by_key ≡ [] → s.hashes.hashes ≡ [] → IsKept s
 unfolding in_order
 kept_none s e k h = record {
   by_key = ap places_of k ∙ sym (ap slots_by_key e);
@@ -33,7 +33,7 @@ kept_none s e k h = record {
 }
 
 -- one more, at its place
-pub kept_push : (o s : Inside) (n : Stored) (keyed : ℕ) (by_key : Placed) → IsKept o → s.slots.items ≡ o.slots.items ++ Some n ∷ [] → s.by_key ≡ insert o.by_key keyed by_key → s.hashes ≡ o.hashes ++ hash_of n.bytes.items ∷ [] → by_key.place ≡ length o.slots.items → IsFrontOf by_key.front n.key → keyed ≤ length (places_of o.by_key) → (Contains (names_of (entries o.slots.items)) n.bytes.items → ⊥) → IsPlaceOf (λ m. slice_cmp nat_cmp (entry_at o.slots.items m).key n.key) true (places_of o.by_key) keyed → IsKept s
+pub kept_push : (o s : Inside) (n : Stored) (keyed : ℕ) (by_key : Placed) → IsKept o → s.slots.items ≡ o.slots.items ++ Some n ∷ [] → s.by_key ≡ insert o.by_key keyed by_key → s.hashes.hashes ≡ o.hashes.hashes ++ hash_of n.bytes.items ∷ [] → by_key.place ≡ length o.slots.items → IsFrontOf by_key.front n.key → keyed ≤ length (places_of o.by_key) → (Contains (names_of (entries o.slots.items)) n.bytes.items → ⊥) → IsPlaceOf (λ m. slice_cmp nat_cmp (entry_at o.slots.items m).key n.key) true (places_of o.by_key) keyed → IsKept s
 kept_push o s n keyed by_key kept es ik hs pk fk lk absent place_keyed =
     let slots : List (Option Stored) = o.slots.items in
     let place_key : IsPlaceOf (λ m. key_order (entry_at slots m) (entry_of n)) true (slots_by_key slots) keyed =
@@ -51,7 +51,7 @@ kept_push o s n keyed by_key kept es ik hs pk fk lk absent place_keyed =
     }
 
 -- one less, taken from its place
-pub kept_remove : (o s : Inside) (k keyed : ℕ) → IsKept o → s.slots.items ≡ set o.slots.items k None → s.by_key ≡ remove o.by_key keyed → s.hashes ≡ set o.hashes k 0 → IsFull o.slots.items k → slice_get (places_of o.by_key) keyed ≡ Some k → IsKept s
+pub kept_remove : (o s : Inside) (k keyed : ℕ) → IsKept o → s.slots.items ≡ set o.slots.items k None → s.by_key ≡ remove o.by_key keyed → s.hashes.hashes ≡ set o.hashes.hashes k 0 → IsFull o.slots.items k → slice_get (places_of o.by_key) keyed ≡ Some k → IsKept s
 kept_remove o s k keyed kept es rk hs full gk =
     let slots : List (Option Stored) = o.slots.items in
     let less : List (Option Stored) = set slots k None in
@@ -68,21 +68,14 @@ kept_remove o s k keyed kept es rk hs full gk =
       distinct = subst HaveOwnNames (sym es) (own_emptied slots k within kept.distinct);
     }
 
--- the same as before
-pub kept_same : (s t : Inside) → IsKept s → t.slots.items ≡ s.slots.items → t.by_key ≡ s.by_key → t.hashes ≡ s.hashes → IsKept t
+-- the same, with the same hashes
+pub kept_same : (s t : Inside) → IsKept s → t.slots.items ≡ s.slots.items → t.by_key ≡ s.by_key → t.hashes.hashes ≡ s.hashes.hashes → IsKept t
 kept_same s t kept e k h = record {
   by_key = ap places_of k ∙ kept.by_key ∙ sym (ap slots_by_key e);
   fronts = subst (λ (ss : List (Option Stored)). AreFronted ss t.by_key) (sym e) (subst (AreFronted s.slots.items) (sym k) kept.fronts);
   hashes = h ∙ kept.hashes ∙ sym (ap hashes_in e);
   distinct = subst HaveOwnNames (sym e) kept.distinct;
 }
-
--- what was put in is taken out again
-pub remove_insert : {X : Type 0} (xs : List X) (i : ℕ) (y : X) → i ≤ length xs → remove (insert xs i y) i ≡ xs
-remove_insert [] zero y l = refl
-remove_insert [] (suc i) y l = absurd (omega arith)
-remove_insert (x ∷ xs) zero y l = refl
-remove_insert (x ∷ xs) (suc i) y l = ap (λ ys. x ∷ ys) (remove_insert xs i y (omega arith))
 
 -- ---- what callers see
 
@@ -128,3 +121,10 @@ module _ (s : Inside) (kept : IsKept s) (now : List StoredName) (is : names_insi
 
   pub name_sorted : (place : ℕ) → slice_get (names_of (sorted now)) place ≡ option_map (λ (e : StoredName). e.name) (option_map (entry_at s.slots.items) (slice_get (places_of s.by_key) place))
   name_sorted place = sym (ap (λ ns. slice_get (names_of (sorted ns)) place) is) ∙ name_listed s.slots.items (places_of s.by_key) place kept.by_key
+
+  -- the key that stands in the slot of a name
+  pub stored_kept : (slots : List (Option Stored)) → slots ≡ s.slots.items → (slot : ℕ) (name key : List ℕ) → IsFull slots slot → (entry_at slots slot).name ≡ name → key ≡ (entry_at slots slot).key → Contains now (record { key = key; name = name })
+  stored_kept slots e slot name key full named keyed =
+      let there : entry_at slots slot ≡ record { key = key; name = name } =
+      ap (λ (n : List ℕ). record { key = (entry_at slots slot).key; name = n }) named ∙ ap (λ (k : List ℕ). record { key = k; name = name }) (sym keyed) in
+      subst (λ (ns : List StoredName). Contains ns (record { key = key; name = name })) (ap entries e ∙ is) (entry_there slots slot (record { key = key; name = name }) full there)

@@ -6,3 +6,5 @@ pub mod RoomLemmas
 pub mod SlotLemmas
 pub mod FrontedLemmas
 pub mod HashLemmas
+pub mod SpanLemmas
+pub mod RekeyLemmas

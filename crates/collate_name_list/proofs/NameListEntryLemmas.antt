@@ -41,6 +41,14 @@ name_there slots m name full named =
     let found : Contains (full_slots 0 slots) m = contains_full slots m full in
     (found.0, omega (arith, found.1, length_names slots), name_at slots found.0 name m found.1 ∙ ap (λ x. (entry_at slots x).name) found.2 ∙ named)
 
+pub entry_there : (slots : List (Option Stored)) (m : ℕ) (stored : StoredName) → IsFull slots m → entry_at slots m ≡ stored → Contains (entries slots) stored
+entry_there slots m stored full is =
+    let found : Contains (full_slots 0 slots) m = contains_full slots m full in (
+      found.0,
+      omega (arith, found.1, length-map (full_slots 0 slots) (entry_at slots)),
+      get_or-map (entry_at slots) (full_slots 0 slots) found.0 m stored found.1 ∙ ap (entry_at slots) found.2 ∙ is,
+    )
+
 pub slot_there : (slots : List (Option Stored)) (name : List ℕ) → Contains (names_of (entries slots)) name → (m : ℕ) × IsFull slots m × ((entry_at slots m).name ≡ name)
 slot_there slots name h =
     let within : h.0 < length (full_slots 0 slots) = omega (arith, h.1, length_names slots) in

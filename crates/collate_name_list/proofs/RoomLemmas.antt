@@ -154,7 +154,7 @@ hashes_dense (Some s ∷ slots) =
     ap (λ hs. hash_of s.bytes.items ∷ hs) (hashes_dense slots)
     ∙ sym (ap (λ b. cond b (hash_of s.bytes.items ∷ filter is_hash (hashes_in slots)) (filter is_hash (hashes_in slots))) (hash_above s.bytes.items))
 
-pub kept_dense : (s t : Inside) (numbers : List ℕ) → IsKept s → numbers ≡ numbers_from 0 s.slots.items → t.slots.items ≡ filter is_some s.slots.items → t.by_key ≡ renumbered numbers s.by_key → t.hashes ≡ filter is_hash s.hashes → IsKept t
+pub kept_dense : (s t : Inside) (numbers : List ℕ) → IsKept s → numbers ≡ numbers_from 0 s.slots.items → t.slots.items ≡ filter is_some s.slots.items → t.by_key ≡ renumbered numbers s.by_key → t.hashes.hashes ≡ filter is_hash s.hashes.hashes → IsKept t
 kept_dense s t numbers kept n e k h =
     let slots : List (Option Stored) = s.slots.items in
     let keys : t.by_key ≡ renumbered (numbers_from 0 slots) s.by_key = k ∙ ap (λ ns. renumbered ns s.by_key) n in

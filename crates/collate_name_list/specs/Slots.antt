@@ -1,10 +1,12 @@
 -- how a list of names is kept: its names in slots, as they arrived, some of the slots emptied; the full slots in order of their keys; and the hashes of the names
 use Rattle.std.specs.Borrow.{Bor}
-use Rattle.std.specs.Prelude.{All, ◌≡◌, ℕ, ◌+◌, List, [], ◌∷◌, map, slice_index_or, Option, Some, None, IsSome}
+use Rattle.std.specs.List.{AllWithin}
+use Rattle.std.specs.Prelude.{All, ◌≡◌, ℕ, Bool, true, false, ◌+◌, ◌≤◌, List, [], ◌∷◌, length, map, slice_index_or, Option, Some, None, IsSome}
 use Rattle.std.specs.Cmp.Lexicographic.{slice_cmp}
 use Rattle.std.specs.Ordering.{nat_cmp, on, ordering_then}
 use Rattle.std.specs.declared.cmp.Ordering.{Ordering}
 use Rattle.collate_names.specs.Names.{in_order}
+use Rattle.collate_names.specs.Search.{stands_before}
 use Rattle.collate_hashes.specs.Hashes.{hash_of}
 use Rattle.collate_places.specs.Fronts.{IsFrontOf}
 use Rattle.collate_places.specs.declared.windows.Placed.{Placed}
@@ -93,5 +95,12 @@ sought_key (Slot key other) = key.now
 pub record IsKept (s : Inside) : Type 0 where
   pub by_key : places_of s.by_key ≡ slots_by_key s.slots.items
   pub fronts : AreFronted s.slots.items s.by_key
-  pub hashes : s.hashes ≡ hashes_in s.slots.items
+  pub hashes : s.hashes.hashes ≡ hashes_in s.slots.items
   pub distinct : HaveOwnNames s.slots.items
+
+-- the place that is looked for is one of these: all before them stand before it, and none behind them
+pub record IsSpan {A : Type 0} (compared : A → Ordering) (past : Bool) (xs : List A) (low high : ℕ) : Type 0 where
+  pub ordered : low ≤ high
+  pub bound : high ≤ length xs
+  pub front : AllWithin (λ other. stands_before past (compared other) ≡ true) xs 0 low
+  pub back : AllWithin (λ other. stands_before past (compared other) ≡ false) xs high (length xs)

@@ -4,6 +4,7 @@
 
 pub mod arrived;
 pub mod errors;
+mod keys;
 pub mod name_list;
 mod room;
 mod slots;

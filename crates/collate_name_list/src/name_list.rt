@@ -1,17 +1,20 @@
 //! Names with their keys, no name twice: in order of their keys, those of one key as they arrived.
 
-ghost use Rattle.std.specs.Prelude.{◌≡◌, ℕ, ◌+◌, ◌^◌, ◌<◌, ◌≤◌, ◌↔◌, ◌==◌, List, [], ◌∷◌, ◌++◌, false, true, length, Err, OnOk, OnErr, IsTrue, slice_get};
+ghost use Rattle.std.specs.Prelude.{◌≡◌, ℕ, ◌+◌, ◌*◌, ◌^◌, ◌<◌, ◌≤◌, ◌↔◌, ◌==◌, List, [], ◌∷◌, ◌++◌, false, true, length, Err, IfNone, IfSome, OnOk, OnErr, IsTrue, slice_get};
 ghost use Rattle.std.specs.Cmp.Lexicographic.{slice_cmp};
 ghost use Rattle.std.specs.List.{Contains};
 ghost use Rattle.std.specs.Option.{option_copied};
 ghost use Rattle.std.specs.Ordering.{nat_cmp};
 ghost use Rattle.collate_names.specs.Search.{IsPlaceOf};
-ghost use Rattle.collate_name_list.specs.StoredNames.{AreDistinct, names_of, sorted, without};
+ghost use Rattle.collate_name_list.specs.StoredNames.{AreDistinct, names_of, rekeyed, sorted, without};
 
 use crate::arrived::Arrived;
 use crate::errors::AddError;
+use crate::keys::reorder;
 use crate::room::{drop_empty, numbers_of};
-use crate::slots::{Stored, place_of_key, place_of_slot, slot_of_name, stored_in};
+use crate::slots::{
+    Stored, key_in, place_of_key, place_of_slot, range_of_key, slot_of_name, stored_in,
+};
 use collate_hashes::HashList;
 use collate_hashes::hashing::hash_of;
 use collate_keys::IndexKey;
@@ -137,6 +140,32 @@ impl NameList {
         place_of_key(self.slots.as_slice(), &self.by_key, key, past_equal, count)
     }
 
+    /// The places of the names with a key: from the first on, and before the second. The count goes up by one for each
+    /// comparison of keys: by twice as many at most as the number of names has binary digits, and, from 0 on, by one at
+    /// least if there are names.
+    pub fn range(&self, key: &IndexKey, count: &mut usize) -> (usize, usize)
+        ensures ordered { result.0 ≤ result.1 }
+        ensures bound { result.1 ≤ length (sorted self.now) }
+        ensures start { IsPlaceOf (λ e. slice_cmp nat_cmp e.key key.now) false (sorted self.now) result.0 }
+        ensures end { IsPlaceOf (λ e. slice_cmp nat_cmp e.key key.now) true (sorted self.now) result.1 }
+        ensures few { (digits : ℕ) → length (sorted self.now) < 2 ^ digits → count.new ≤ count.old + 2 * digits }
+        ensures some { 0 < length (sorted self.now) → 0 < count.new }
+    {
+        range_of_key(self.slots.as_slice(), &self.by_key, key, count)
+    }
+
+    /// The key of a name, if the name is there, byte for byte. It asks for no memory.
+    pub fn key_of(&self, name: &[u8]) -> Option<&IndexKey>
+        ensures stored { IfSome result (λ key. Contains self.now (record { key = key.now; name = name.now })) }
+        ensures absent { IfNone result (¬ Contains (names_of self.now) name.now) }
+    {
+        let slots = self.slots.as_slice();
+        match slot_of_name(slots, &self.hashes, hash_of(name), name) {
+            Some(slot) => Some(key_in(slots, slot)),
+            None => None,
+        }
+    }
+
     /// The name at a place, counted from 0; `None` past the last.
     pub fn get(&self, place: usize) -> Option<&[u8]>
         ensures { option_copied result ≡ slice_get (names_of (sorted self.now)) place }
@@ -155,6 +184,26 @@ impl NameList {
         }
     }
 
+    /// Gives names other keys, in the order of their arrival: where there is one, in the place of the old one. The new order
+    /// is made beside the old one. An error if memory is refused; the names then have their old keys. The count goes up by
+    /// one for each comparison of keys.
+    pub fn rekey(
+        &mut self,
+        keys: Vec<Option<IndexKey>>,
+        count: &mut usize,
+    ) -> Result<(), AllocError>
+        requires { length keys.items ≡ length self.old }
+        ensures rekeyed { OnOk result (self.new ≡ rekeyed keys.items self.old) }
+        ensures unchanged { OnErr result (self.new ≡ self.old) }
+    {
+        let numbers = numbers_of(self.alloc, self.slots.as_slice())?;
+        self.by_key.renumber(numbers.as_slice());
+        self.hashes.drop_empty();
+        drop_empty(&mut self.slots);
+        self.by_key = reorder(self.alloc, &mut self.slots, keys, count)?;
+        Ok(())
+    }
+
     /// No name is there twice: it does nothing, and its contract says so.
     pub fn keep_promise(&self)
         ensures { AreDistinct self.now }
@@ -162,7 +211,7 @@ impl NameList {
         let _ = &self.slots;
     }
 
-    /// Adds a name with its key in a new slot.
+    /// Adds a name with its key in a new slot. All growths come first.
     fn append(&mut self, name: &[u8], key: IndexKey, count: &mut usize) -> Result<(), AddError>
         ensures added { OnOk result (self.new ≡ self.old ++ record { key = key; name = name.now } ∷ []) }
         ensures new { OnOk result (¬ Contains (names_of self.old) name.now) }
@@ -179,20 +228,13 @@ impl NameList {
         let keyed = place_of_key(slots, &self.by_key, &key, true, count);
         let bytes = Vec::from_slice(self.alloc, name)?;
         self.slots.reserve(1)?;
+        self.hashes.reserve()?;
         let place = self.slots.len();
         let front = key.front();
         self.by_key.insert(keyed, Placed { front, place })?;
-        match self.hashes.push(hash) {
-            Ok(()) => {
-                self.slots.push(Some(Stored { bytes, key })).unwrap();
-                Ok(())
-            }
-            // (the order without the hash: as before)
-            Err(_) => {
-                self.by_key.remove(keyed);
-                Err(AddError::Memory)
-            }
-        }
+        self.hashes.push(hash);
+        self.slots.push_reserved(Some(Stored { bytes, key }));
+        Ok(())
     }
 
     /// Drops the empty slots once they are most of all, if the little memory that this takes is granted. The names stay.

@@ -27,9 +27,10 @@ fn next_number(number: usize, slot: &Option<Stored>) -> usize
     if slot.is_some() { number + 1 } else { number }
 }
 
-/// Drops the empty slots.
+/// Drops the empty slots, and gives their memory back, unless memory for the others is refused.
 pub fn drop_empty(slots: &mut Vec<Option<Stored>>)
     ensures { slots.new.items ≡ filter is_some slots.old.items }
 {
     slots.retain(|slot| slot.is_some());
+    slots.shrink_to_fit();
 }

@@ -1,6 +1,6 @@
 //! The slots of a list of names, and binary search among the full ones.
 
-ghost use Rattle.std.specs.Prelude.{◌≡◌, ℕ, ◌+◌, ◌-◌, ◌^◌, ◌<◌, ◌≤◌, ◌↔◌, length, Some, None, IfSome, IfNone, IsTrue, slice_get, slice_index_or};
+ghost use Rattle.std.specs.Prelude.{◌≡◌, ℕ, ◌+◌, ◌*◌, ◌-◌, ◌^◌, ◌<◌, ◌≤◌, ◌↔◌, false, length, true, Some, None, IfSome, IfNone, IsTrue, slice_get, slice_index_or};
 ghost use Rattle.std.specs.Cmp.Lexicographic.{slice_cmp};
 ghost use Rattle.std.specs.List.{All, Contains};
 ghost use Rattle.std.specs.List.Sorted.{IsPartitionedBy};
@@ -11,12 +11,12 @@ ghost use Rattle.collate_hashes.specs.Hashes.{hash_of};
 ghost use Rattle.collate_name_list.specs.StoredNames.{names_of};
 ghost use Rattle.collate_places.specs.Fronts.{IsFrontOf};
 ghost use Rattle.collate_places.specs.Windows.{shows};
-ghost use Rattle.collate_name_list.specs.Slots.{AreFronted, IsFull, compared, entries, entry_at, hashes_in, places_of, slots_by_key, sought_key};
+ghost use Rattle.collate_name_list.specs.Slots.{AreFronted, IsFull, IsSpan, compared, entries, entry_at, hashes_in, places_of, slots_by_key, sought_key};
 
 use collate_hashes::HashList;
 use collate_keys::IndexKey;
 use collate_places::PlaceList;
-use collate_places::fronts::compare_fronts;
+use collate_places::fronts::Front;
 use collate_places::windows::{Placed, Window};
 use std::cmp::Ordering;
 
@@ -49,6 +49,17 @@ pub fn stored_in(slots: &[Option<Stored>], slot: usize) -> Option<&Stored>
     slots.get(slot)?.as_ref()
 }
 
+/// The key in a full slot.
+pub fn key_in(slots: &[Option<Stored>], slot: usize) -> &IndexKey
+    requires { IsFull slots.now slot }
+    ensures { result.now ≡ (entry_at slots.now slot).key }
+{
+    match stored_in(slots, slot) {
+        Some(stored) => &stored.key,
+        None => unreachable!(),
+    }
+}
+
 /// Whether a full slot has a name.
 fn has_name(slots: &[Option<Stored>], slot: usize, name: &[u8]) -> bool
     requires { IsFull slots.now slot }
@@ -61,7 +72,7 @@ fn has_name(slots: &[Option<Stored>], slot: usize, name: &[u8]) -> bool
 }
 
 /// The front of what is looked for.
-fn front_sought(sought: &Sought<'_>) -> u64
+fn front_sought(sought: &Sought<'_>) -> Front
     ensures { IsFrontOf result (sought_key sought.now) }
 {
     match sought {
@@ -69,8 +80,8 @@ fn front_sought(sought: &Sought<'_>) -> u64
     }
 }
 
-/// How what stands in a full slot compares with what is looked for, by all of its bytes. The count goes up by one at most,
-/// where keys are compared.
+/// How what stands in a full slot compares with what is looked for, by all of its bytes. The count goes up by one, unless
+/// it is the greatest `usize`.
 fn compare_whole(
     slots: &[Option<Stored>],
     slot: usize,
@@ -81,6 +92,7 @@ fn compare_whole(
     ensures order { result ≡ compared slots.now sought.now slot }
     ensures grown { count.old ≤ count.new }
     ensures few { count.new ≤ count.old + 1 }
+    ensures some { 0 < count.new }
 {
     // (read, so that the proof knows its range)
     let _before = *count;
@@ -94,24 +106,25 @@ fn compare_whole(
 }
 
 /// How what stands in a full slot compares with what is looked for: by their fronts where these differ, and then the slot
-/// isn't read. The count goes up by one at most.
+/// isn't read. The count goes up by one, unless it is the greatest `usize`.
 pub fn compare(
     slots: &[Option<Stored>],
     placed: Placed,
     sought: &Sought<'_>,
-    front: u64,
+    front: &Front,
     count: &mut usize,
 ) -> Ordering
     requires full { IsFull slots.now placed.place }
     requires stored { IsFrontOf placed.front (entry_at slots.now placed.place).key }
-    requires sought { IsFrontOf front (sought_key sought.now) }
+    requires sought { IsFrontOf front.now (sought_key sought.now) }
     ensures order { result ≡ compared slots.now sought.now placed.place }
     ensures grown { count.old ≤ count.new }
     ensures few { count.new ≤ count.old + 1 }
+    ensures some { 0 < count.new }
 {
     // (read, so that the proof knows its range)
     let _before = *count;
-    match compare_fronts(placed.front, front, count) {
+    match placed.front.compare(front, count) {
         Ordering::Equal => compare_whole(slots, placed.place, sought, count),
         ordering => ordering,
     }
@@ -161,6 +174,72 @@ fn stands_before(ordering: Ordering, past_equal: bool) -> bool
     }
 }
 
+/// What a search has still to look at: places from one on and before another, and the parts of a list in which they are.
+#[derive(Clone, Copy)]
+pub struct Span {
+    pub low: usize,
+    pub high: usize,
+    pub first: usize,
+    pub last: usize,
+}
+
+/// The first place of a slot that isn't below what is looked for, or, past equal ones, of one above it: one of a span, all
+/// before which stand before it, and none from whose end on.
+fn place_within(
+    slots: &[Option<Stored>],
+    places: &PlaceList,
+    sought: &Sought<'_>,
+    past_equal: bool,
+    span: Span,
+    count: &mut usize,
+) -> usize
+    requires full { All (IsFull slots.now) (places_of places.now) }
+    requires fronts { AreFronted slots.now places.now }
+    requires parted { IsPartitionedBy (λ slot. stands_before past_equal (compared slots.now sought.now slot)) (places_of places.now) }
+    requires span { IsSpan (compared slots.now sought.now) past_equal (places_of places.now) span.low span.high }
+    ensures bound { result ≤ length (places_of places.now) }
+    ensures from { span.low ≤ result }
+    ensures place { IsPlaceOf (compared slots.now sought.now) past_equal (places_of places.now) result }
+    ensures grown { count.old ≤ count.new }
+    ensures few { (digits : ℕ) → length (places_of places.now) < 2 ^ digits → count.new ≤ count.old + digits }
+{
+    let front = front_sought(sought);
+    let Span {
+        low: start,
+        high: end,
+        mut first,
+        mut last,
+    } = span;
+    let (mut low, mut high) = (start, end);
+    let mut window = places.around(low, first, last);
+    'halves: while low < high {
+        let middle = low + (high - low) / 2;
+        window = window_around(places, window, middle, first, last);
+        let placed = placed_in(window.places, window.start, middle);
+        if stands_before(compare(slots, placed, sought, &front, count), past_equal) {
+            low = middle + 1;
+            first = window.part;
+        } else {
+            high = middle;
+            last = window.part;
+        }
+    }
+    low
+}
+
+/// All places of a list.
+fn whole(places: &PlaceList) -> Span
+    ensures low { result.low ≡ 0 }
+    ensures high { result.high ≡ length places.now }
+{
+    Span {
+        low: 0,
+        high: places.len(),
+        first: 0,
+        last: usize::MAX,
+    }
+}
+
 /// The first place of a slot that isn't below what is looked for, or, past equal ones, of one above it.
 fn place_of(
     slots: &[Option<Stored>],
@@ -177,24 +256,76 @@ fn place_of(
     ensures grown { count.old ≤ count.new }
     ensures few { (digits : ℕ) → length (places_of places.now) < 2 ^ digits → count.new ≤ count.old + digits }
 {
+    place_within(slots, places, sought, past_equal, whole(places), count)
+}
+
+/// The first place of a slot that isn't below what is looked for, and where the first one above it is: a span that begins
+/// with the one and has the other in it or at its end.
+fn span_of(
+    slots: &[Option<Stored>],
+    places: &PlaceList,
+    sought: &Sought<'_>,
+    count: &mut usize,
+) -> Span
+    requires full { All (IsFull slots.now) (places_of places.now) }
+    requires fronts { AreFronted slots.now places.now }
+    requires parted { IsPartitionedBy (λ slot. stands_before false (compared slots.now sought.now slot)) (places_of places.now) }
+    requires parted_past { IsPartitionedBy (λ slot. stands_before true (compared slots.now sought.now slot)) (places_of places.now) }
+    ensures place { IsPlaceOf (compared slots.now sought.now) false (places_of places.now) result.low }
+    ensures span { IsSpan (compared slots.now sought.now) true (places_of places.now) result.low result.high }
+    ensures grown { count.old ≤ count.new }
+    ensures few { (digits : ℕ) → length (places_of places.now) < 2 ^ digits → count.new ≤ count.old + digits }
+    ensures some { 0 < length (places_of places.now) → 0 < count.new }
+{
     let front = front_sought(sought);
-    let (mut first, mut last) = (0, usize::MAX);
-    let mut window = places.around(0, first, last);
-    let mut low = 0;
-    let mut high = places.len();
-    while low < high {
-        let middle = low + (high - low) / 2;
-        window = window_around(places, window, middle, first, last);
+    let mut span = whole(places);
+    let mut high = span.high;
+    let mut last = span.last;
+    let mut window = places.around(0, span.first, last);
+    'halves: while span.low < high {
+        let middle = span.low + (high - span.low) / 2;
+        window = window_around(places, window, middle, span.first, last);
         let placed = placed_in(window.places, window.start, middle);
-        if stands_before(compare(slots, placed, sought, front, count), past_equal) {
-            low = middle + 1;
-            first = window.part;
-        } else {
-            high = middle;
-            last = window.part;
+        match compare(slots, placed, sought, &front, count) {
+            Ordering::Less => {
+                span.low = middle + 1;
+                span.first = window.part;
+            }
+            Ordering::Equal => {
+                high = middle;
+                last = window.part;
+            }
+            Ordering::Greater => {
+                high = middle;
+                last = window.part;
+                span.high = middle;
+                span.last = window.part;
+            }
         }
     }
-    low
+    span
+}
+
+/// The places in the order of keys of the slots that have a key: from the first on, and before the second.
+pub fn range_of_key(
+    slots: &[Option<Stored>],
+    by_key: &PlaceList,
+    key: &IndexKey,
+    count: &mut usize,
+) -> (usize, usize)
+    requires order { places_of by_key.now ≡ slots_by_key slots.now }
+    requires fronts { AreFronted slots.now by_key.now }
+    ensures ordered { result.0 ≤ result.1 }
+    ensures bound { result.1 ≤ length (places_of by_key.now) }
+    ensures start { IsPlaceOf (λ slot. slice_cmp nat_cmp (entry_at slots.now slot).key key.now) false (places_of by_key.now) result.0 }
+    ensures end { IsPlaceOf (λ slot. slice_cmp nat_cmp (entry_at slots.now slot).key key.now) true (places_of by_key.now) result.1 }
+    ensures few { (digits : ℕ) → length (places_of by_key.now) < 2 ^ digits → count.new ≤ count.old + 2 * digits }
+    ensures some { 0 < length (places_of by_key.now) → 0 < count.new }
+{
+    let sought = Sought::Key(key);
+    let span = span_of(slots, by_key, &sought, count);
+    let end = place_within(slots, by_key, &sought, true, span, count);
+    (span.low, end)
 }
 
 /// The first place in the order of keys of a slot whose key isn't below a key, or, past equal ones, is above it.
@@ -232,26 +363,26 @@ pub fn place_of_slot(slots: &[Option<Stored>], by_key: &PlaceList, slot: usize) 
     }
 }
 
-/// The slot of a name, whose hash is given, if the name is there.
+/// The slot of a name, whose hash is given, if the name is there. The slots of one hash are gone through once.
 pub fn slot_of_name(
     slots: &[Option<Stored>],
     hashes: &HashList,
     hash: usize,
     name: &[u8],
 ) -> Option<usize>
-    requires hashes { hashes.now ≡ hashes_in slots.now }
+    requires hashes { hashes.now.hashes ≡ hashes_in slots.now }
     requires hash { hash ≡ hash_of name.now }
     requires positive { 0 < hash }
     ensures full { IfSome result (IsFull slots.now) }
     ensures name { IfSome result (λ slot. (entry_at slots.now slot).name ≡ name.now) }
     ensures absent { IfNone result (¬ Contains (names_of (entries slots.now)) name.now) }
 {
-    let mut end = slots.len();
-    while let Some(slot) = hashes.last_before(hash, end) {
+    let mut found = hashes.last_before(hash, slots.len());
+    'names: while let Some(slot) = found {
         if has_name(slots, slot, name) {
             return Some(slot);
         }
-        end = slot;
+        found = hashes.same_before(slot);
     }
     None
 }

@@ -2,3 +2,4 @@ pub mod Renumbering
 pub mod Rows
 pub mod Places
 pub mod PlaceFrontLemmas
+pub mod Ranks

@@ -5,7 +5,7 @@ use Rattle.std.proofs.lemmas.List.{take-append-le, drop-append-le, take-append-d
 use Rattle.std.proofs.lemmas.List.Concat.{flat_map-append}
 use Rattle.std.proofs.lemmas.List.Elements.{All-nil, All-cons, All-weaker, All-append, All-take, All-drop, All-set}
 use Rattle.std.proofs.lemmas.Option.{slice_get-get_or}
-use Rattle.std.proofs.lemmas.List.Edits.{length-insert, length-remove}
+use Rattle.std.proofs.lemmas.List.Edits.{length-insert, length-remove, get_or-remove_below}
 use Rattle.std.proofs.Math.ListN.{get_or-append}
 use Rattle.std.specs.Prelude.{insert, remove, slice_get, slice_index, vec_len, vec_capacity}
 use Rattle.collate_places.specs.declared.list_rows.TheConstants.{FULL}
@@ -16,6 +16,12 @@ use Rattle.collate_places.specs.Lists.{joined, lengths, rank_of, starts_from, st
 -- what is said of a call that is done
 pub done_is : {X : Type 0} (done : Bool) (xs ys zs : List X) → done ≡ true → zs ≡ cond done xs ys → zs ≡ xs
 done_is done xs ys zs h e = e ∙ ap (λ b. cond b xs ys) h
+
+pub All-insert : {X : Type 0} (P : X → Type 0) (xs : List X) (n : ℕ) (x : X) → All P xs → P x → All P (insert xs n x)
+All-insert P xs n x all h = All-append P (take n xs) (x ∷ drop n xs) (All-take P n xs all) (All-cons P x (drop n xs) h (All-drop P n xs all))
+
+pub All-remove : {X : Type 0} (P : X → Type 0) (xs : List X) (n : ℕ) → All P xs → All P (remove xs n)
+All-remove P xs n all = All-append P (take n xs) (drop (suc n) xs) (All-take P n xs all) (All-drop P (suc n) xs all)
 
 -- ---- an edit of a list, seen in the lists before and behind it
 
@@ -321,11 +327,6 @@ halved lists part list low high new half done within is lower upper long succeed
           ∙ ap (λ xs. insert xs (part + 1) half) (map-set (λ (l : Vec Placed). length l.items) lists part low ∙ ap (λ n. set (lengths lists) part n) h),
     )
 
-pub AreRoomy-insert : (lists : List (Vec Placed)) (n : ℕ) (list : Vec Placed) → AreRoomy lists → (length list.items ≤ FULL) × (FULL ≤ vec_capacity list) → AreRoomy (insert lists n list)
-AreRoomy-insert lists n list all h =
-    let P : Vec Placed → Type 0 = λ l. (length l.items ≤ FULL) × (FULL ≤ vec_capacity l) in
-    All-append P (take n lists) (list ∷ drop n lists) (All-take P n lists all) (All-cons P list (drop n lists) h (All-drop P n lists all))
-
 -- a list is cut at a half, and the second one put behind it
 pub AreRoomy-halved : (lists : List (Vec Placed)) (part : ℕ) (low high : Vec Placed) (new : List (Vec Placed)) (done : Bool) → done ≡ true
     → new ≡ cond done (insert (set lists part low) (part + 1) high) (set lists part low) → AreRoomy lists
@@ -333,4 +334,79 @@ pub AreRoomy-halved : (lists : List (Vec Placed)) (part : ℕ) (low high : Vec P
 AreRoomy-halved lists part low high new done succeeds items all lower upper =
     let made : new ≡ insert (set lists part low) (part + 1) high = done_is done (insert (set lists part low) (part + 1) high) (set lists part low) new succeeds items in
     let P : Vec Placed → Type 0 = λ l. (length l.items ≤ FULL) × (FULL ≤ vec_capacity l) in
-    subst AreRoomy (sym made) (AreRoomy-insert (set lists part low) (part + 1) high (All-set P lists part low lower all) upper)
+    subst AreRoomy (sym made) (All-insert P (set lists part low) (part + 1) high (All-set P lists part low lower all) upper)
+
+-- ---- a list and the one behind it become one
+
+-- the lists around two of them
+split_two : (lists : List (Vec Placed)) (part : ℕ) (low high : Vec Placed) → suc part < length lists → low ≡ get_or lists part low → high ≡ get_or lists (suc part) high
+    → lists ≡ take part lists ++ low ∷ high ∷ drop (suc (suc part)) lists
+split_two [] part low high within is next = absurd (omega arith)
+split_two (list ∷ []) part low high within is next = absurd (omega arith)
+split_two (list ∷ other ∷ lists) zero low high within is next = ap (λ l. l ∷ other ∷ lists) (sym is) ∙ ap (λ l. low ∷ l ∷ lists) (sym next)
+split_two (list ∷ other ∷ lists) (suc part) low high within is next = ap (λ ls. list ∷ ls) (split_two (other ∷ lists) part low high (omega arith) is next)
+
+-- one list in the place of two
+joined_two : (front back : List (Vec Placed)) (low high list : Vec Placed) (part : ℕ) → part ≡ length front → set (remove (front ++ low ∷ high ∷ back) (suc part)) part list ≡ front ++ list ∷ back
+joined_two [] back low high list zero at = refl
+joined_two [] back low high list (suc part) at = absurd (omega arith)
+joined_two (first ∷ front) back low high list zero at = absurd (omega arith)
+joined_two (first ∷ front) back low high list (suc part) at = ap (λ ls. first ∷ ls) (joined_two front back low high list part (omega arith))
+
+remove_inserted : {X : Type 0} (xs : List X) (n : ℕ) (x : X) → n ≤ length xs → remove (insert xs n x) n ≡ xs
+remove_inserted [] zero x h = refl
+remove_inserted [] (suc n) x h = absurd (omega arith)
+remove_inserted (y ∷ ys) zero x h = refl
+remove_inserted (y ∷ ys) (suc n) x h = ap (λ zs. y ∷ zs) (remove_inserted ys n x (omega arith))
+
+-- the second list is taken out, and what it held goes behind what the first one holds
+module _ (lists : List (Vec Placed)) (part : ℕ) (low high list : Vec Placed) (within : part + 1 < length lists) (is : low ≡ get_or (remove lists (part + 1)) part low) (next : high ≡ get_or lists (part + 1) high)
+    (few : slice_index (lengths lists) part + slice_index (lengths lists) (part + 1) ≤ FULL) (room : AreRoomy lists) where
+  low_is : low ≡ get_or lists part low
+  low_is = is ∙ get_or-remove_below lists (part + 1) low part (omega arith) within
+
+  pub joined_fits : vec_len low + length high.items ≤ vec_capacity low
+  joined_fits =
+      omega (
+        arith,
+        few,
+        length_at lists part low (omega arith) low_is,
+        length_at lists (part + 1) high within next,
+        (room_at lists part low (omega arith) low_is room).1,
+        low.ok.0,
+      )
+
+  module _ (e : list.items ≡ low.items ++ high.items) where
+    rows : lists ≡ take part lists ++ low ∷ high ∷ drop (suc (suc part)) lists
+    rows = split_two lists part low high (omega arith) low_is (next ∙ ap (λ n. get_or lists n high) (add-one part))
+
+    rows_new : set (remove lists (part + 1)) part list ≡ take part lists ++ list ∷ drop (suc (suc part)) lists
+    rows_new =
+        ap (λ n. set (remove lists n) part list) (add-one part)
+        ∙ ap (λ ls. set (remove ls (suc part)) part list) rows
+        ∙ joined_two (take part lists) (drop (suc (suc part)) lists) low high list part (length_front lists part (omega arith))
+
+    pub joined_values : joined (set (remove lists (part + 1)) part list) ≡ joined lists
+    joined_values =
+        ap joined rows_new ∙ sym (halved_values (take part lists) (drop (suc (suc part)) lists) list low high e) ∙ ap joined (sym rows)
+
+    pub joined_starts : starts_of (set (remove lists (part + 1)) part list) ≡ remove (starts_of lists) (part + 1)
+    joined_starts =
+        let front = take part lists in
+        let back = drop (suc (suc part)) lists in
+        let at : part ≡ length front = length_front lists part (omega arith) in
+        let from : ℕ = length (joined front) + length low.items in
+        let parted : starts_of (front ++ low ∷ high ∷ back) ≡ insert (starts_of (front ++ list ∷ back)) (part + 1) from = halved_starts front back list low high part (length low.items) from at e refl refl in
+        let long : part + 1 ≤ length (starts_of (front ++ list ∷ back)) = omega (arith, length-starts_from 0 (front ++ list ∷ back), length-append front (list ∷ back)) in
+        ap starts_of rows_new ∙ sym (remove_inserted (starts_of (front ++ list ∷ back)) (part + 1) from long)
+        ∙ ap (λ xs. remove xs (part + 1)) (sym parted) ∙ ap (λ ls. remove (starts_of ls) (part + 1)) (sym rows)
+
+    pub joined_room : vec_capacity low ≤ vec_capacity list → AreRoomy (set (remove lists (part + 1)) part list)
+    joined_room more =
+        let P : Vec Placed → Type 0 = λ l. (length l.items ≤ FULL) × (FULL ≤ vec_capacity l) in
+        let long : length list.items ≡ length low.items + length high.items = ap length e ∙ length-append low.items high.items in
+        let here : (length list.items ≤ FULL) × (FULL ≤ vec_capacity list) = (
+          omega (arith, long, few, length_at lists part low (omega arith) low_is, length_at lists (part + 1) high within next),
+          omega (arith, more, (room_at lists part low (omega arith) low_is room).1),
+        ) in
+        All-set P (remove lists (part + 1)) part list here (All-remove P lists (part + 1) room)

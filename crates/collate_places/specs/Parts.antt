@@ -2,13 +2,20 @@
 use Rattle.std.specs.Prelude.{◌≡◌, ℕ, ◌+◌, ◌^◌, ◌<◌, ◌≤◌, List, [], length, slice_index, vec_capacity}
 use Rattle.std.specs.Global.{Vec}
 use Rattle.collate_places.specs.Lists.{joined, lengths, rank_of, starts_of, AreRoomy}
+use Rattle.collate_places.specs.Starts.{AreBased, HasPlace, ranks_of}
 use Rattle.collate_places.specs.declared.list_rows.TheConstants.{FULL}
 use Rattle.collate_places.specs.declared.windows.Placed.{Placed}
 use Rattle.collate_places.specs.declared.parts.Parts.{Parts}
 
+-- a list and the one behind it have room in one
+pub record AreJoinable (lists : List (Vec Placed)) (part : ℕ) : Type 0 where
+  pub within : part + 1 < length lists
+  pub few : slice_index (lengths lists) part + slice_index (lengths lists) (part + 1) ≤ FULL
+
 -- the ranks and the count are those of the lists, each list has its memory, and the spare one is empty
 pub record IsSound (parts : Parts) : Type 0 where
-  pub starts : parts.starts.items ≡ starts_of parts.lists.items
+  pub starts : ranks_of parts.starts ≡ starts_of parts.lists.items
+  pub based : AreBased parts.starts
   pub count : parts.count ≡ length (joined parts.lists.items)
   pub room : AreRoomy parts.lists.items
   pub spare : parts.spare.items ≡ []
@@ -17,13 +24,14 @@ pub record IsSound (parts : Parts) : Type 0 where
 pub record HasRoom (parts : Parts) : Type 0 where
   pub spare : FULL ≤ vec_capacity parts.spare
   pub lists : length parts.lists.items < vec_capacity parts.lists
-  pub starts : length parts.starts.items < vec_capacity parts.starts
+  pub starts : HasPlace parts.starts
   pub count : parts.count + 1 < 2 ^ 64
 
 -- they hold the same
 pub record IsSame (old new : Parts) : Type 0 where
   pub lists : new.lists.items ≡ old.lists.items
-  pub starts : new.starts.items ≡ old.starts.items
+  pub starts : ranks_of new.starts ≡ ranks_of old.starts
+  pub based : AreBased old.starts → AreBased new.starts
   pub spare : new.spare.items ≡ old.spare.items
   pub count : new.count ≡ old.count
 

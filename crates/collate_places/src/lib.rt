@@ -88,27 +88,21 @@ impl PlaceList {
         }
     }
 
-    /// Makes room for one place more, wherever it goes: the next `insert` then asks for no memory. An error if memory is
-    /// refused, or if the places are as many as a `usize` counts; what was made until then is kept for later.
-    pub fn reserve(&mut self) -> Result<(), AllocError>
-        ensures { self.new ≡ self.old }
-    {
-        self.parts.reserve()
-    }
-
-    /// Puts a place at a rank, before all that stood there and behind. An error if memory is refused, or if the places
-    /// are as many as a `usize` counts; the list is then as before.
+    /// Puts a place at a rank, before all that stood there and behind. Memory that is left over is given back first. An
+    /// error if memory is refused, or if the places are as many as a `usize` counts; the list is then as before.
     pub fn insert(&mut self, rank: usize, value: Placed) -> Result<(), AllocError>
         requires { rank ≤ length self.old }
         ensures inserted { OnOk result (self.new ≡ insert self.old rank value) }
         ensures unchanged { OnErr result (self.new ≡ self.old) }
     {
+        self.parts.shrink();
         self.parts.reserve()?;
         self.parts.insert(rank, value);
         Ok(())
     }
 
-    /// Takes the place at a rank out, and answers it. It asks for no memory, and gives some back when a part is empty.
+    /// Takes the place at a rank out, and answers it. It asks for no memory, and gives some back when a part is empty, or
+    /// holds so little that it goes into the one beside it.
     pub fn remove(&mut self, rank: usize) -> Placed
         requires { rank < length self.old }
         ensures value { slice_get self.old rank ≡ Some result }

@@ -2,6 +2,7 @@
 
 ghost use Rattle.std.specs.Prelude.{◌≡◌, ◌+◌, ◌-◌, ◌<◌, ◌≤◌, [], All, drop, length, take, Some, insert, remove, slice_get, slice_index, slice_set, vec_capacity};
 ghost use Rattle.collate_places.specs.Lists.{joined, lengths, rank_of, starts_of, raised, lowered, renumbered, AreRoomy};
+ghost use Rattle.collate_places.specs.Parts.{AreJoinable};
 
 use crate::windows::Placed;
 
@@ -71,6 +72,19 @@ pub(crate) fn halve(lists: &mut Vec<Vec<Placed>>, part: usize, empty: Vec<Placed
 {
     let upper = cut(&mut lists[part], empty);
     let _ = lists.insert(part + 1, upper);
+}
+
+/// Makes a list one with the list behind it, within the memory that it has.
+pub(crate) fn join(lists: &mut Vec<Vec<Placed>>, part: usize)
+    requires room { AreRoomy lists.old.items }
+    requires few { AreJoinable lists.old.items part }
+    ensures values { joined lists.new.items ≡ joined lists.old.items }
+    ensures starts { starts_of lists.new.items ≡ remove (starts_of lists.old.items) (part + 1) }
+    ensures room { AreRoomy lists.new.items }
+{
+    let upper = lists.remove(part + 1);
+    let list = &mut lists[part];
+    let _ = list.extend_from_slice(upper.as_slice());
 }
 
 /// Lets go of a list with no values.

@@ -1,22 +1,25 @@
 //! Lists in a row that are seen as one, with the rank at which each begins.
 
-ghost use Rattle.std.specs.Prelude.{◌≡◌, ℕ, ◌+◌, ◌-◌, ◌<◌, ◌≤◌, [], All, length, Some, OnOk, insert, remove, slice_get, slice_index};
+ghost use Rattle.std.specs.Prelude.{◌≡◌, ℕ, ◌+◌, ◌-◌, ◌<◌, ◌≤◌, [], All, IsTrue, length, Some, OnOk, insert, remove, slice_get, slice_index};
 ghost use Rattle.collate_places.specs.Lists.{joined, lengths, renumbered};
-ghost use Rattle.collate_places.specs.Parts.{IsSound, HasRoom, IsSame, IsPlaceOf, IsFreeFor};
+ghost use Rattle.collate_places.specs.Parts.{IsSound, HasRoom, IsSame, IsPlaceOf, IsFreeFor, AreJoinable};
 ghost use Rattle.collate_places.specs.Windows.{shows};
 
-use crate::list_rows::{FULL, HALF, halve, let_go, put, renumber, take_out};
-use crate::starts::{list_around, lower, raise};
+use crate::list_rows::{FULL, HALF, halve, join, let_go, put, renumber, take_out};
+use crate::starts::Starts;
 use crate::windows::{Placed, Window};
 use std::alloc::{AllocError, Global};
 use std::mem;
+
+/// How many values two lists next to each other hold at most together, if they are made one.
+const JOINED: usize = 384;
 
 /// Lists in a row.
 #[derive(Drop)]
 pub(crate) struct Parts {
     pub(crate) lists: Vec<Vec<Placed>>,
     /// The rank at which each list begins.
-    pub(crate) starts: Vec<usize>,
+    pub(crate) starts: Starts,
     /// The next list, with nothing in it.
     pub(crate) spare: Vec<Placed>,
     /// How many values there are.
@@ -31,7 +34,7 @@ impl Parts {
     {
         Parts {
             lists: Vec::new(alloc),
-            starts: Vec::new(alloc),
+            starts: Starts::new(alloc),
             spare: Vec::new(alloc),
             count: 0,
         }
@@ -48,7 +51,18 @@ impl Parts {
         }
         self.spare.reserve_exact(FULL)?;
         self.lists.reserve(1)?;
-        self.starts.reserve(1)
+        self.starts.reserve()
+    }
+
+    /// Gives memory back that is more than four times what the lists need.
+    pub(crate) fn shrink(&mut self)
+        requires { IsSound self.old }
+        ensures { IsSame self.old self.new }
+    {
+        if self.lists.capacity() / 4 > self.lists.len() {
+            self.lists.shrink_to_fit();
+        }
+        self.starts.shrink();
     }
 
     /// The list and the place in it of a rank.
@@ -59,8 +73,8 @@ impl Parts {
         ensures place { IsPlaceOf self.now.lists.items rank result.0 result.1 }
         ensures inside { rank < self.now.count → result.1 < slice_index (lengths self.now.lists.items) result.0 }
     {
-        let part = list_around(self.starts.as_slice(), rank, 0, usize::MAX);
-        (part, rank - self.starts[part])
+        let part = self.starts.around(rank, 0, usize::MAX);
+        (part, rank - self.starts.at(part))
     }
 
     /// The value at a rank.
@@ -82,8 +96,8 @@ impl Parts {
         ensures from { result.start ≤ rank }
         ensures before { rank < result.start + length result.places.now }
     {
-        let part = list_around(self.starts.as_slice(), rank, first, last);
-        let start = self.starts[part];
+        let part = self.starts.around(rank, first, last);
+        let start = self.starts.at(part);
         let list = &self.lists[part];
         let places = list.as_slice();
         Window {
@@ -105,7 +119,7 @@ impl Parts {
     {
         let list = mem::replace(&mut self.spare, Vec::new(*self.lists.allocator()));
         let _ = self.lists.push(list);
-        let _ = self.starts.push(0);
+        self.starts.insert(0, 0);
     }
 
     /// Makes a full list two, the second of them the spare one.
@@ -122,8 +136,8 @@ impl Parts {
     {
         let empty = mem::replace(&mut self.spare, Vec::new(*self.lists.allocator()));
         halve(&mut self.lists, part, empty);
-        let start = self.starts[part] + HALF;
-        let _ = self.starts.insert(part + 1, start);
+        let start = self.starts.at(part) + HALF;
+        self.starts.insert(part + 1, start);
     }
 
     /// The list and the place in it where a value goes that is put at a rank. That list isn't full.
@@ -162,7 +176,7 @@ impl Parts {
     {
         let (part, place) = self.free_place(rank);
         put(&mut self.lists, part, place, value);
-        raise(&mut self.starts, part + 1);
+        self.starts.raise(part + 1);
         self.count += 1;
     }
 
@@ -176,13 +190,47 @@ impl Parts {
     {
         let (part, place) = self.find(rank);
         let value = take_out(&mut self.lists, part, place);
-        lower(&mut self.starts, part + 1);
+        self.starts.lower(part + 1);
         self.count -= 1;
+        self.tidy(part);
+        value
+    }
+
+    /// Lets go of a list with no values, and makes it one with the list behind it or before it if they hold few.
+    fn tidy(&mut self, part: usize)
+        requires sound { IsSound self.old }
+        requires part { part < length self.old.lists.items }
+        ensures sound { IsSound self.new }
+        ensures values { joined self.new.lists.items ≡ joined self.old.lists.items }
+    {
         if self.lists[part].is_empty() {
             let_go(&mut self.lists, part);
-            let _ = self.starts.remove(part);
+            self.starts.remove(part);
+        } else if self.are_few(part) {
+            self.join(part);
+        } else if part > 0 && self.are_few(part - 1) {
+            self.join(part - 1);
         }
-        value
+    }
+
+    /// Whether a list and the one behind it hold few values.
+    fn are_few(&self, part: usize) -> bool
+        requires sound { IsSound self.now }
+        requires part { part < length self.now.lists.items }
+        ensures { IsTrue result → AreJoinable self.now.lists.items part }
+    {
+        part + 1 < self.lists.len() && self.lists[part].len() + self.lists[part + 1].len() <= JOINED
+    }
+
+    /// Makes a list one with the list behind it.
+    fn join(&mut self, part: usize)
+        requires sound { IsSound self.old }
+        requires few { AreJoinable self.old.lists.items part }
+        ensures sound { IsSound self.new }
+        ensures values { joined self.new.lists.items ≡ joined self.old.lists.items }
+    {
+        join(&mut self.lists, part);
+        self.starts.remove(part + 1);
     }
 
     /// Puts in place of each value the number that stands at it.

@@ -1,11 +1,13 @@
 //! What stands in a list of places: a place with the front of what it is the place of, and a part of a list that is lent.
 
-/// A place with the front of what stands there: a number by which most of what stands at places can be compared, so that
-/// a search need not look there.
-#[derive(Clone, Copy, Debug, PartialEq, Eq)]
+use crate::fronts::Front;
+
+/// A place with the front of what stands there, by which most of what stands at places can be compared, so that a search
+/// need not look there.
+#[derive(Clone, Copy)]
 pub struct Placed {
     /// The front.
-    pub front: u64,
+    pub front: Front,
     /// The place.
     pub place: usize,
 }

@@ -9,3 +9,4 @@ pub mod MapMeaningLemmas
 pub mod MapNameLemmas
 pub mod MapPairLemmas
 pub mod MapRuleLemmas
+pub mod RoomMapLemmas

@@ -7,3 +7,4 @@ pub mod ReadLineLemmas
 pub mod ReadingScalarLemmas
 pub mod ReadingSoundSettingLemmas
 pub mod ReadingSoundWeightLemmas
+pub mod StandardLimitLemmas

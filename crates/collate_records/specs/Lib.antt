@@ -15,3 +15,4 @@ pub use Rattle.collate_rules.specs.Accepted
 pub use Rattle.collate_rules.specs.Meaning
 pub use Rattle.collate_rules.specs.Offenders
 pub use Rattle.collate_rules.specs.Rules
+pub mod StandardLimits

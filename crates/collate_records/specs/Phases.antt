@@ -3,40 +3,43 @@ use Rattle.std.specs.Prelude.{◌≡◌, ℕ, ◌+◌, ◌<◌, List, map, filte
 use Rattle.std.specs.List.{list_any}
 use Rattle.collate_lines.specs.declared.rule.Rule.{Rule}
 use Rattle.collate_lines.specs.declared.rule.RecordsError.{RecordsError}
+use Rattle.collate_lines.specs.declared.limits.Limits.{Limits}
 use Rattle.collate_lines.specs.Record.{Record, said}
 use Rattle.collate_lines.specs.Repeats.{is_second, says_something}
-use Rattle.collate_lines.specs.Lines.{lines_of, numbers_from, numbers_of, records_in, records_of}
+use Rattle.collate_lines.specs.Lines.{lines_of, numbers_from, records_in, records_of}
 use Rattle.collate_lines.specs.Seen.{is_seen}
-use Rattle.collate_rules.specs.Offenders.{NoneOffends, IsFirstOffender}
+use Rattle.collate_rules.specs.Offenders.{NoneOffendsWithin, IsFirstOffenderWithin}
 use Rattle.collate_rules.specs.Rules.{rank}
 use Rattle.collate_records.specs.declared.reader.Reading.{Reading}
-use Rattle.collate_records.specs.Files.{Breaks, Refuses}
+use Rattle.collate_records.specs.Files.{Breaks, RefusesWithin}
 
 -- no line before line i breaks the grammar, the size or V14
-abbrev pub AreSound : List ℕ → ℕ → Type 0
-AreSound file i = (rule : Rule) (k : ℕ) → k < i → rank rule ≡ 0 → Breaks rule file k → ⊥
+abbrev pub AreSound : Limits → List ℕ → ℕ → Type 0
+AreSound limits file i = (rule : Rule) (k : ℕ) → k < i → rank rule ≡ 0 → Breaks limits rule file k → ⊥
 
--- The lines before line i were read: what those say that say something, their numbers, and what they were for.
+-- The lines before line i were read: what those say that say something, their numbers, which count from 1, and what they were for.
 pub record IsReadTo (file : List ℕ) (i : ℕ) (reading : Reading) : Type 0 where
   pub records : map said reading.records.items ≡ filter says_something (take i (records_in (lines_of file)))
-  pub numbers : reading.numbers.items ≡ numbers_from 0 (take i (records_in (lines_of file)))
+  pub numbers : reading.numbers.items ≡ numbers_from 1 (take i (records_in (lines_of file)))
   pub seen : (other : Record) → is_seen reading.seen other ≡ list_any (λ s. is_second s other) (map said reading.records.items)
 
 -- no line breaks a rule of a rank below the bound
-abbrev pub KeepsBelow : ℕ → List ℕ → Type 0
-KeepsBelow bound file = (rule : Rule) (i : ℕ) → rank rule < bound → Breaks rule file i → ⊥
+abbrev pub KeepsBelow : Limits → ℕ → List ℕ → Type 0
+KeepsBelow limits bound file = (rule : Rule) (i : ℕ) → rank rule < bound → Breaks limits rule file i → ⊥
 
--- the records of a file, with the numbers of their lines
+-- the records of a file, with the numbers of their lines, which count from 1
 pub record AreOfFile (file : List ℕ) (records : List Record) (numbers : List ℕ) : Type 0 where
   pub same_records : records ≡ records_of file
-  pub same_numbers : numbers ≡ numbers_of file
+  pub same_numbers : numbers ≡ numbers_from 1 (records_in (lines_of file))
 
 -- One rule was asked after those of lower ranks: what was found is the first record that offends against it.
-abbrev pub AsksRule : Rule → List ℕ → List Record → List ℕ → Option ℕ → Result (Unit {0}) RecordsError → Type 0
-AsksRule rule file records numbers found answer =
-    AreOfFile file records numbers → 0 < rank rule → MatchOption found (NoneOffends rule records) (IsFirstOffender rule records) → KeepsBelow (rank rule) file
-    → MatchResult answer (λ _. KeepsBelow (rank rule + 1) file) (Refuses file)
+abbrev pub AsksRule : Limits → Rule → List ℕ → List Record → List ℕ → Option ℕ → Result (Unit {0}) RecordsError → Type 0
+AsksRule limits rule file records numbers found answer =
+    AreOfFile file records numbers → 0 < rank rule
+    → MatchOption found (NoneOffendsWithin limits rule records) (IsFirstOffenderWithin limits rule records) → KeepsBelow limits (rank rule) file
+    → MatchResult answer (λ _. KeepsBelow limits (rank rule + 1) file) (RefusesWithin limits file)
 
 -- The rules from the limits on were asked, after the grammar and V14.
-abbrev pub AsksRules : List ℕ → Result (Unit {0}) RecordsError → Type 0
-AsksRules file answer = KeepsBelow 1 file → MatchResult answer (λ _. KeepsBelow 26 file) (Refuses file)
+abbrev pub AsksRules : Limits → List ℕ → Result (Unit {0}) RecordsError → Type 0
+AsksRules limits file answer =
+    KeepsBelow limits 1 file → MatchResult answer (λ _. KeepsBelow limits 26 file) (RefusesWithin limits file)

@@ -1,10 +1,11 @@
 //! Canonical tables and data of lines: their classes and mappings, built with what is built in.
 
-ghost use Rattle.std.specs.Prelude.{◌≡◌, IfOk, map};
+ghost use Rattle.std.specs.Prelude.{◌≡◌, ◌≤◌, IfOk, map};
 ghost use Rattle.icu_normalizer_core.specs.CanonicalFaults.{IsAccepted};
 ghost use Rattle.icu_normalizer_core.specs.CanonicalMaps.{AreMeaning};
 ghost use Rattle.icu_normalizer_core.specs.CanonicalMeaning.{lists_of, meaning};
 ghost use Rattle.collate_rules.specs.Accepted.{AreAccepted};
+ghost use Rattle.collate_rules.specs.Rules.{names_in};
 ghost use Rattle.collate_records.specs.Maps.{maps_of};
 ghost use Rattle.collate_lines.specs.Record.{said};
 
@@ -15,16 +16,19 @@ use icu_normalizer_core::canonical::{
 };
 use std::alloc::{AllocError, Global};
 
-/// Canonical tables of accepted lines, which pass every check. `AllocError` where memory is refused.
+/// Canonical tables of accepted lines, which name at most so many code points: they pass every check. `AllocError` where
+/// memory is refused.
 pub(crate) fn canonical_tables(
     alloc: Global,
     records: &[Record],
+    limit: usize,
 ) -> Result<CanonicalTables<'static>, AllocError>
-    requires { AreAccepted (map said records.now) }
+    requires accepted { AreAccepted (map said records.now) }
+    requires few { names_in (map said records.now) ≤ limit }
     ensures means { IfOk result (λ made. AreMeaning (maps_of (map said records.now)) (meaning made)) }
     ensures accepted { IfOk result (λ made. IsAccepted (lists_of made)) }
 {
-    let maps = given_maps(alloc, records)?;
+    let maps = given_maps(alloc, records, limit)?;
     match maps.build() {
         Ok(tables) => Ok(tables),
         Err(CanonicalDataBuildError::Memory) => Err(AllocError),

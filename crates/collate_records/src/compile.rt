@@ -1,6 +1,7 @@
 //! Records, compiled to tables from which normalisers and collators answer.
 
 ghost use Rattle.std.specs.Prelude.{IfOk};
+ghost use Rattle.collate_compile.specs.Compiled.{HaveTrieType};
 ghost use Rattle.collate_records.specs.CompiledOf.{IsCompiledOf};
 
 use crate::compatibility_data::compatibility_data;
@@ -18,10 +19,11 @@ pub fn compile(
     records: &Records,
     trie_type: TrieType,
 ) -> Result<Provider, AllocError>
-    ensures { IfOk result (IsCompiledOf records.now) }
+    ensures compiled { IfOk result (IsCompiledOf records.now.lines) }
+    ensures trie_type { IfOk result (λ provided. HaveTrieType trie_type provided.collation) }
 {
     let canonical = records.copied_tables(alloc)?;
-    let compatibility = compatibility_data(alloc, records.lines())?;
+    let compatibility = compatibility_data(alloc, records.lines(), records.limits().code_points)?;
     let collation = compile_tables(alloc, records.lines(), &records.canonical(), trie_type)?;
     Ok(Provider::of_tables(canonical, compatibility, collation))
 }

@@ -1,8 +1,8 @@
 //! Laws of record sets: what follows of lines that keep the rules.
 
-ghost use Rattle.std.specs.Prelude.{ℕ, List};
+ghost use Rattle.std.specs.Prelude.{ℕ, ◌≤◌, List};
 ghost use Rattle.icu_normalizer_core.specs.Canonical.{IsComposing, IsDecomposing};
-ghost use Rattle.icu_normalizer_core.specs.CanonicalMaps.{AreMeaning, KeepRules};
+ghost use Rattle.icu_normalizer_core.specs.CanonicalMaps.{AreMeaning, KeepRulesWithin};
 ghost use Rattle.icu_collator_core.specs.WeightRules.{AreSoundWeights};
 ghost use Rattle.collate_lines.specs.declared.rule.Rule.TheVariants.{C1, C2, C3, C4, C9};
 ghost use Rattle.collate_lines.specs.Record.{Record};
@@ -10,11 +10,14 @@ ghost use Rattle.collate_records.specs.Maps.{maps_of};
 ghost use Rattle.collate_rules.specs.Meaning.{canonical_of, weights_of};
 ghost use Rattle.collate_rules.specs.Offenders.{NoneOffends};
 ghost use Rattle.collate_rules.specs.Accepted.{AreAccepted, AreScalars};
-ghost use Rattle.collate_records.specs.Files.{IsAccepted};
+ghost use Rattle.collate_rules.specs.Rules.{names_in};
+ghost use Rattle.collate_lines.specs.declared.limits.Limits.{Limits};
+ghost use Rattle.collate_records.specs.Files.{IsAcceptedWithin};
 ghost use Rattle.collate_lines.specs.Lines.{records_of};
 
 pub mod changes;
 pub mod files;
+pub mod limits;
 pub mod maps;
 pub mod order;
 /// Lines of the grammar of which none breaks `C1` to `C4` or `C9` give canonical data, as far as
@@ -28,13 +31,13 @@ pub fn accepted_lines_decompose()
         → NoneOffends C3 records → NoneOffends C4 records → NoneOffends C9 records → IsDecomposing (canonical_of records) }
 {}
 
-/// The lines of an accepted file are accepted: each is in the grammar, and none offends against a
-/// rule (docs/RECORDS.md).
+/// The lines of a file that is accepted within some limits are accepted: each is in the grammar, and none offends against
+/// a rule. They name no more code points than the limits let them (docs/RECORDS.md).
 ///
 /// It computes nothing: its contract is the law.
-#[tactic(auto, using(crate::proofs::reading::ReadingAcceptedLemmas::accepted_lines))]
 pub fn accepted_files_have_accepted_lines()
-    ensures { (file : List ℕ) → IsAccepted file → AreAccepted (records_of file) }
+    ensures accepted { (limits : Limits) (file : List ℕ) → IsAcceptedWithin limits file → AreAccepted (records_of file) }
+    ensures few { (limits : Limits) (file : List ℕ) → IsAcceptedWithin limits file → names_in (records_of file) ≤ limits.code_points }
 {}
 
 /// Accepted lines, as those of all records are, give canonical data, as far as decomposing goes
@@ -55,12 +58,11 @@ pub fn accepted_records_compose()
     ensures { (records : List Record) → AreAccepted records → IsComposing (canonical_of records) }
 {}
 
-/// An accepted file gives canonical data, as far as decomposing goes (docs/RECORDS.md; UAX 15).
+/// A file that is accepted within some limits gives canonical data, as far as decomposing goes (docs/RECORDS.md; UAX 15).
 ///
 /// It computes nothing: its contract is the law.
-#[tactic(auto, using(crate::proofs::reading::ReadingAcceptedLemmas::accepted_file))]
 pub fn accepted_files_decompose()
-    ensures { (file : List ℕ) → IsAccepted file → IsDecomposing (canonical_of (records_of file)) }
+    ensures { (limits : Limits) (file : List ℕ) → IsAcceptedWithin limits file → IsDecomposing (canonical_of (records_of file)) }
 {}
 
 /// The classes and the mappings that accepted lines give mean, as maps, what the lines mean
@@ -72,12 +74,12 @@ pub fn accepted_records_mean_their_maps()
     ensures { (records : List Record) → AreAccepted records → AreMeaning (maps_of records) (canonical_of records) }
 {}
 
-/// The classes and the mappings that accepted lines give keep, as maps, the rules of canonical data, so that tables of
-/// them can be built (docs/RECORDS.md, `C1` to `C9`).
+/// The classes and the mappings that accepted lines give keep, as maps, the rules of canonical data within each limit on
+/// code points that the lines keep, so that tables of them can be built (docs/RECORDS.md, `limit`, `C1` to `C9`).
 ///
 /// It computes nothing: its contract is the law.
 pub fn accepted_records_keep_the_rules_of_maps()
-    ensures { (records : List Record) → AreAccepted records → KeepRules (maps_of records) }
+    ensures { (records : List Record) (limit : ℕ) → AreAccepted records → names_in records ≤ limit → KeepRulesWithin limit (maps_of records) }
 {}
 
 /// The weights that accepted lines give are sound: what the laws of keys ask (docs/RECORDS.md, `V1` to `V6`).

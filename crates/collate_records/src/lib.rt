@@ -4,7 +4,7 @@
 //! `collate_weight_rules` and `collate_record_rules`.
 #![tactic(auto)]
 
-pub use collate_lines::{record, rule};
+pub use collate_lines::{limits, record, rule};
 pub use collate_provider as provider;
 
 mod canonical_data;

@@ -1,14 +1,16 @@
 //! A records file, from its bytes to what its lines say.
 
 ghost use Rattle.std.specs.Prelude.{◌≡◌, ℕ, ◌+◌, ◌<◌, ◌↔◌, List, All, Some, IsTrue, map, length, IfOk, IfSome, MatchOption, MatchResult, None, OnOk};
+ghost use Rattle.collate_lines.specs.declared.limits.Limits.{Limits as PlainLimits};
 ghost use Rattle.collate_lines.specs.Lines.{PassesSize, line_at, lines_of, records_of};
 ghost use Rattle.collate_lines.specs.Record.{Record as PlainRecord, said};
 ghost use Rattle.collate_rules.specs.CanonicalParts.{IsShort};
 ghost use Rattle.collate_rules.specs.Offenders.{IsFirstOffender, NoneOffends};
 ghost use Rattle.collate_rules.specs.Rules.{rank};
-ghost use Rattle.collate_records.specs.Files.{IsAccepted, Refuses};
+ghost use Rattle.collate_records.specs.Files.{IsAcceptedWithin, RefusesWithin};
 ghost use Rattle.collate_records.specs.Phases.{AreOfFile, AreSound, AsksRule, AsksRules, IsReadTo, KeepsBelow};
 
+use collate_lines::limits::Limits;
 use collate_lines::line::parse_line;
 use collate_lines::lines::{line_past_size, split_line};
 use collate_lines::record::Record;
@@ -36,34 +38,38 @@ use std::alloc::{AllocError, Global};
 /// Reads a records file (docs/RECORDS.md): what its lines say that say something, in their order.
 ///
 /// Errors: the first fault of a file that is not accepted, in the order of faults; `Memory` where memory is refused.
-pub(crate) fn read_records(alloc: Global, bytes: &[u8]) -> Result<Vec<Record>, RecordsError>
-    ensures { MatchResult result (λ records. IsAccepted bytes.now × (map said records.items ≡ records_of bytes.now)) (Refuses bytes.now) }
+pub(crate) fn read_records(
+    alloc: Global,
+    bytes: &[u8],
+    limits: Limits,
+) -> Result<Vec<Record>, RecordsError>
+    ensures { MatchResult result (λ records. IsAcceptedWithin limits bytes.now × (map said records.items ≡ records_of bytes.now)) (RefusesWithin limits bytes.now) }
 {
-    let reading = read_lines(alloc, bytes)?;
-    keep_rules(alloc, &reading.records, &reading.numbers)?;
+    let reading = read_lines(alloc, bytes, limits)?;
+    keep_rules(alloc, &reading.records, &reading.numbers, limits)?;
     Ok(reading.records)
 }
 
-/// The lines read so far: what those say that say something, the number of each such line, which counts from 0, and what
+/// The lines read so far: what those say that say something, the number of each such line, which counts from 1, and what
 /// they were for.
 #[derive(Drop)]
 struct Reading {
     records: Vec<Record>,
-    numbers: Vec<u32>,
+    numbers: Vec<usize>,
     seen: Seen,
 }
 
 /// Reads all lines of a file, in the order of faults.
-fn read_lines(alloc: Global, bytes: &[u8]) -> Result<Reading, RecordsError>
-    ensures { MatchResult result (λ reading. KeepsBelow 1 bytes.now × AreOfFile bytes.now (map said reading.records.items) reading.numbers.items) (Refuses bytes.now) }
+fn read_lines(alloc: Global, bytes: &[u8], limits: Limits) -> Result<Reading, RecordsError>
+    ensures { MatchResult result (λ reading. KeepsBelow limits 1 bytes.now × AreOfFile bytes.now (map said reading.records.items) reading.numbers.items) (RefusesWithin limits bytes.now) }
 {
-    let past = line_past_size(bytes);
+    let past = line_past_size(bytes, limits.bytes);
     let mut reading = Reading::new(alloc);
     let mut left = Some(bytes);
     let mut number = 0;
     while let Some(rest) = left {
         if is_at(past, number) {
-            return Err(fault(number, Rule::Grammar));
+            return Err(fault(number + 1, Rule::Grammar));
         }
         let (line, rest) = split_line(rest);
         reading.read_line(alloc, line, number)?;
@@ -74,11 +80,11 @@ fn read_lines(alloc: Global, bytes: &[u8]) -> Result<Reading, RecordsError>
 }
 
 /// Whether a line that is looked for, if any is, is this one.
-fn is_at(line: Option<usize>, number: u32) -> bool
+fn is_at(line: Option<usize>, number: usize) -> bool
     ensures { IsTrue result ↔ (line ≡ Some number) }
 {
     match line {
-        Some(line) => line == number as usize,
+        Some(line) => line == number,
         None => false,
     }
 }
@@ -96,25 +102,26 @@ impl Reading {
     }
 
     /// Reads the next line, which is within the file's size.
-    fn read_line(&mut self, alloc: Global, line: &[u8], number: u32) -> Result<(), RecordsError>
-        ensures { (file : List ℕ) → number < length (lines_of file) → line.now ≡ line_at (lines_of file) number → (PassesSize file number → ⊥)
-            → IsReadTo file number self.old → AreSound file number
-            → MatchResult result (λ _. IsReadTo file (number + 1) self.new × AreSound file (number + 1)) (Refuses file) }
+    fn read_line(&mut self, alloc: Global, line: &[u8], number: usize) -> Result<(), RecordsError>
+        requires { number + 1 < 0x10000000000000000 }
+        ensures { (limits : PlainLimits) (file : List ℕ) → number < length (lines_of file) → line.now ≡ line_at (lines_of file) number
+            → (PassesSize limits.bytes file number → ⊥) → IsReadTo file number self.old → AreSound limits file number
+            → MatchResult result (λ _. IsReadTo file (number + 1) self.new × AreSound limits file (number + 1)) (RefusesWithin limits file) }
     {
         let Some(given) = parse_line(alloc, line)? else {
-            return Err(fault(number, Rule::Grammar));
+            return Err(fault(number + 1, Rule::Grammar));
         };
         if !given.says_something() {
             return Ok(());
         }
         let is_new = self.seen.insert(&given)?;
         if !is_new {
-            return Err(fault(number, Rule::V14));
+            return Err(fault(number + 1, Rule::V14));
         }
         if self.records.push(given).is_err() {
             return Err(RecordsError::Memory);
         }
-        if self.numbers.push(number).is_err() {
+        if self.numbers.push(number + 1).is_err() {
             return Err(RecordsError::Memory);
         }
         Ok(())
@@ -122,18 +129,53 @@ impl Reading {
 }
 
 /// Asks the rules in the order of faults, from the limits on.
-fn keep_rules(alloc: Global, records: &[Record], numbers: &[u32]) -> Result<(), RecordsError>
+fn keep_rules(
+    alloc: Global,
+    records: &[Record],
+    numbers: &[usize],
+    limits: Limits,
+) -> Result<(), RecordsError>
     requires { length records.now ≡ length numbers.now }
-    ensures { (file : List ℕ) → AreOfFile file (map said records.now) numbers.now → AsksRules file result }
+    ensures { (file : List ℕ) → AreOfFile file (map said records.now) numbers.now → AsksRules limits file result }
 {
-    let over = first_over_limit(alloc, records)?;
-    refuse(Rule::Limit, over, numbers)?;
+    keep_limits(alloc, records, numbers, limits)?;
     for rank in 2..26 {
-        let rule = rule_of_rank(rank);
-        let found = first_offender(alloc, rule, records)?;
-        refuse(rule, found, numbers)?;
+        keep_rule(alloc, rule_of_rank(rank), records, numbers)?;
     }
     Ok(())
+}
+
+/// Asks the limits.
+fn keep_limits(
+    alloc: Global,
+    records: &[Record],
+    numbers: &[usize],
+    limits: Limits,
+) -> Result<(), RecordsError>
+    requires { length records.now ≡ length numbers.now }
+    ensures asks { (file : List ℕ) → AreOfFile file (map said records.now) numbers.now → KeepsBelow limits 1 file
+        → MatchResult result (λ _. KeepsBelow limits 2 file) (RefusesWithin limits file) }
+    ensures short { OnOk result (All IsShort (map said records.now)) }
+{
+    let over = first_over_limit(alloc, records, limits)?;
+    refuse(Rule::Limit, over, numbers)
+}
+
+/// Asks one rule from C1 on.
+fn keep_rule(
+    alloc: Global,
+    rule: Rule,
+    records: &[Record],
+    numbers: &[usize],
+) -> Result<(), RecordsError>
+    requires after_limit { 1 < rank rule }
+    requires short { All IsShort (map said records.now) }
+    requires numbered { length records.now ≡ length numbers.now }
+    ensures { (limits : PlainLimits) (file : List ℕ) → AreOfFile file (map said records.now) numbers.now → KeepsBelow limits (rank rule) file
+        → MatchResult result (λ _. KeepsBelow limits (rank rule + 1) file) (RefusesWithin limits file) }
+{
+    let found = first_offender(alloc, rule, records)?;
+    refuse(rule, found, numbers)
 }
 
 /// The rule of a rank in the order of faults, from C1 on.
@@ -210,9 +252,9 @@ fn first_offender(
 }
 
 /// Refuses a file for the first record that offends against a rule, if there is one.
-fn refuse(rule: Rule, found: Option<usize>, numbers: &[u32]) -> Result<(), RecordsError>
+fn refuse(rule: Rule, found: Option<usize>, numbers: &[usize]) -> Result<(), RecordsError>
     requires { IfSome found (λ place. place < length numbers.now) }
-    ensures asks { (file : List ℕ) (records : List PlainRecord) → AsksRule rule file records numbers.now found result }
+    ensures asks { (limits : PlainLimits) (file : List ℕ) (records : List PlainRecord) → AsksRule limits rule file records numbers.now found result }
     ensures none { OnOk result (found ≡ None) }
 {
     match found {
@@ -221,12 +263,9 @@ fn refuse(rule: Rule, found: Option<usize>, numbers: &[u32]) -> Result<(), Recor
     }
 }
 
-/// The fault of a line, which counts from 0 here.
-fn fault(number: u32, rule: Rule) -> RecordsError
-    ensures { result ≡ RecordsError.Fault (record { line = number + 1; rule = rule }) }
+/// The fault of a line, which counts from 1.
+fn fault(line: usize, rule: Rule) -> RecordsError
+    ensures { result ≡ RecordsError.Fault (record { line = line; rule = rule }) }
 {
-    RecordsError::Fault(RecordFault {
-        line: number as usize + 1,
-        rule,
-    })
+    RecordsError::Fault(RecordFault { line, rule })
 }

@@ -6,4 +6,5 @@ pub mod MappedMarkLemmas
 pub mod NamedCharacterLemmas
 pub mod OffenderPairLemmas
 pub mod PartRuleLemmas
+pub mod RoomLemmas
 pub mod ShortLineLemmas

@@ -24,7 +24,7 @@ AreScalars records = All MapsToScalars records
 abbrev pub IsSaid : Record → Type 0
 IsSaid given = (line : List ℕ) × (record_of line ≡ Some given)
 
--- Lines as an accepted file has them: each is in the grammar, and none offends against a rule.
+-- Lines as a file has them that is accepted within some limits: each is in the grammar, and none offends against a rule.
 pub record AreAccepted (records : List Record) : Type 0 where
   pub in_grammar : All IsSaid records
   pub keep_rules : (rule : Rule) → NoneOffends rule records

@@ -16,3 +16,4 @@ pub mod RecordRules
 pub mod SettingLines
 pub mod Breaks
 pub mod NotedLines
+pub mod MappedLines

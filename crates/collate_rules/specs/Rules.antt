@@ -1,11 +1,13 @@
 -- The rules on lines that are in the grammar: which line offends against a rule. Lines count from 0 here.
-use Rattle.std.specs.Prelude.{◌≡◌, ◌≢◌, ℕ, ◌+◌, ◌<◌, ◌⊎◌, Bool, true, false, cond, not, ◌==◌, ◌&&◌, ◌||◌, List, [], ◌∷◌, ◌++◌, Option, count_by, flat_map, filter, length, take, Some, None, IsTrue, bytes_eq}
+use Rattle.std.specs.Prelude.{◌≡◌, ◌≢◌, ℕ, ◌+◌, ◌*◌, ◌/◌, ◌<◌, ◌⊎◌, Bool, true, false, cond, not, ◌==◌, ◌&&◌, ◌||◌, List, [], ◌∷◌, ◌++◌, Option, count_by, flat_map, filter, length, map, sum_by, take, Some, None, IsTrue, bytes_eq}
 use Rattle.std.specs.Option.{is_some}
 use Rattle.std.specs.List.{list_any}
 use Rattle.icu_normalizer_core.specs.BuiltIn.{built_in_class, built_in_step, built_in_compatibility_step, is_jamo, is_syllable, is_within, is_built_in}
 use Rattle.icu_normalizer_core.specs.Canonical.{Reaches, composed}
+use Rattle.icu_normalizer_core.specs.ListRoom.{list_room}
 use Rattle.collate_lines.specs.declared.rule.Rule.{Rule}
 use Rattle.collate_lines.specs.declared.rule.Rule.TheVariants.{Grammar, Limit, Set, C1, C2, C3, C4, C5, C6, C7, C8, C9, V1, V2, V3, V4, V5, V6, V7, V8, V9, V10, V11, V12, V13, V14, V15}
+use Rattle.collate_lines.specs.declared.limits.Limits.{Limits}
 use Rattle.collate_lines.specs.Record.{Record, class, mapping, compatibility, weights, range, digit}
 use Rattle.collate_rules.specs.Meaning.{first_found, mapping_in, compatibility_in, class_of, step_of, compatibility_of, canonical_of, any_step, expanded, full_of}
 use Rattle.collate_rules.specs.RecordRules.{breaks_decomposed, breaks_digits, breaks_dot_above, breaks_marks_last, breaks_prefixes, is_bad_jamo_record, lacks_shorter, names_special}
@@ -42,12 +44,53 @@ IsLong (compatibility c ds) = 8 < length ds
 IsLong (weights layer prefix text es) = (8 < length text) ⊎ (8 < length es)
 IsLong _ = ⊥
 
--- limit: the lines up to here name over 150 different code points, or over 1,000 of them say something, or this one lists
--- over eight characters or elements
-abbrev pub IsOverLimit : List Record → ℕ → Type 0
-IsOverLimit records i =
+-- the aligned blocks of so many code points in which lines name one, a range counted as three
+abbrev pub blocks_in : ℕ → List Record → ℕ
+blocks_in width records = different (map (λ c. c / width) (flat_map named records)) + 3 * count_by is_range records
+
+-- a text of several characters, or one behind a prefix
+abbrev pub is_beside : Record → Bool
+is_beside (weights layer [] (c ∷ []) es) = false
+is_beside (weights layer prefix text es) = true
+is_beside _ = false
+
+-- how many elements a line gives, and one for what it says them of
+abbrev pub element_room : Record → ℕ
+element_room (weights layer prefix text es) = 1 + length es
+element_room (range r) = 1
+element_room (digit c value) = 1
+element_room _ = 0
+
+-- how many characters the full list of a line's character takes at most, by canonical mappings, and by those of both kinds
+abbrev pub canonical_room : List Record → Record → ℕ
+canonical_room records (mapping c ds is_excluded) = list_room (step_of records) ds
+canonical_room records _ = 0
+
+abbrev pub mapping_room : List Record → Record → ℕ
+mapping_room records (mapping c ds is_excluded) = list_room (any_step records) ds
+mapping_room records (compatibility c ds) = list_room (any_step records) ds
+mapping_room records _ = 0
+
+-- What tables have room for, whatever the limits: some lines take more.
+abbrev pub LackRoom : List Record → List Record → Type 0
+LackRoom records lines =
+    (700 < blocks_in 512 lines)
+    ⊎ ((11000 < blocks_in 16 lines)
+    ⊎ ((520000 < sum_by element_room lines)
+    ⊎ ((2600 < count_by is_beside lines)
+    ⊎ ((16000 < sum_by (canonical_room records) lines)
+    ⊎ (16000 < sum_by (mapping_room records) lines)))))
+
+-- limit, whatever numbers are set: the lines up to here take more than tables have room for, or this one lists over eight
+-- characters or elements
+abbrev pub IsTooLarge : List Record → ℕ → Type 0
+IsTooLarge records i = LackRoom records (take (i + 1) records) ⊎ IsLong (record_at records i)
+
+-- limit, with the numbers that are set: the lines up to here name more code points, or more of them say something
+abbrev pub IsOverLimit : Limits → List Record → ℕ → Type 0
+IsOverLimit limits records i =
     let lines = take (i + 1) records
-    in (150 < names_in lines) ⊎ ((1000 < length (filter says_something lines)) ⊎ IsLong (record_at records i))
+    in (limits.code_points < names_in lines) ⊎ ((limits.records < length (filter says_something lines)) ⊎ IsTooLarge records i)
 
 -- whether a line maps a character, canonically or by compatibility
 abbrev pub is_mapped : List Record → ℕ → Bool
@@ -162,11 +205,11 @@ MapsHangul (mapping c ds x) = IsTrue (has_hangul (c ∷ ds)) × (is_built_in_rec
 MapsHangul (compatibility c ds) = IsTrue (has_hangul (c ∷ ds)) × (is_built_in_record (compatibility c ds) ≡ false)
 MapsHangul _ = ⊥
 
--- Line i offends against a rule. A breach that several lines make together offends from the latest of them on: there the
+-- Line i offends against a rule, whatever the limits. A breach that several lines make together offends from the latest of them on: there the
 -- lines up to i are in breach.
 abbrev pub Offends : Rule → List Record → ℕ → Type 0
 Offends V14 records i = Repeats records i
-Offends Limit records i = IsOverLimit records i
+Offends Limit records i = IsTooLarge records i
 Offends C1 records i = MapsMark (take (i + 1) records)
 Offends C2 records i = HasLoop (take (i + 1) records)
 Offends C3 records i = IsBadClass (record_at records i)
@@ -192,6 +235,11 @@ Offends V13 records i = IsTrue (names_special (record_at records i))
 Offends V15 records i = IsTrue (breaks_dot_above records (take (i + 1) records))
 Offends Set records i = IsTrue (breaks_settings (numeric_of records) (take (i + 1) records))
 Offends _ records i = ⊥
+
+-- line i offends against a rule, by these limits
+abbrev pub OffendsWithin : Limits → Rule → List Record → ℕ → Type 0
+OffendsWithin limits Limit records i = IsOverLimit limits records i
+OffendsWithin limits rule records i = Offends rule records i
 
 -- The fault order: the grammar with V14, then the limits, then one rule after another.
 abbrev pub rank : Rule → ℕ

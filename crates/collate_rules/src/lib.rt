@@ -4,9 +4,12 @@
 
 pub mod breaks;
 pub mod canonical_part;
+mod counts;
 pub mod full_list;
 pub mod laws;
 pub mod limit;
+mod mapped;
+mod names;
 pub mod noted;
 pub mod parts;
 pub mod places;

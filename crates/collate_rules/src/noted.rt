@@ -107,7 +107,7 @@ impl<'r> Characters<'r> {
 }
 
 /// Whether a mapping that may be there is to some characters.
-fn is_to_some(step: Option<Decomposed>) -> bool
+pub(crate) fn is_to_some(step: Option<Decomposed>) -> bool
     ensures { result ≡ is_to_some (option_map mapped_to step) }
 {
     match step {

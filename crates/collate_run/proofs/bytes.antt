@@ -2,3 +2,4 @@
 pub mod KnownBytesLemmas
 pub mod SendingLemmas
 pub mod TellingLemmas
+pub mod ContentLemmas

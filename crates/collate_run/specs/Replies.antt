@@ -9,7 +9,7 @@ use Rattle.collate_lines.specs.Lines.{records_of}
 use Rattle.collate_lines.specs.Rule.{fault_text}
 use Rattle.collate_lines.specs.declared.rule.RecordFault.{RecordFault}
 use Rattle.collate_lines.specs.declared.rule.RecordsError.TheVariants.{Fault}
-use Rattle.collate_records.specs.Files.{IsAccepted, Refuses}
+use Rattle.collate_records.specs.Files.{IsAcceptedWithin, RefusesWithin}
 use Rattle.collate_rules.specs.Meaning.{collation_of}
 use Rattle.collate_index.specs.Catalogue.{Catalogue, options_in, order_of, reloaded, sorted_names, with_name, without_name}
 use Rattle.collate_index.specs.Names.{equal_names, names_between}
@@ -95,11 +95,11 @@ abbrev pub reload_reply : Result ℕ RecordFault → List ℕ
 reload_reply (Ok made) = ended (codes "reloaded " ++ decimal made)
 reload_reply (Err fault) = ended (codes "refused " ++ fault_text fault.line fault.rule)
 
--- what a reload does: the records of an accepted file take the place of those that were there, and keys are made; another
--- file is refused, and nothing has changed
+-- what a reload does: the records of a file that is accepted within the catalogue's limits take the place of those that were
+-- there, and keys are made; another file is refused, and nothing has changed
 abbrev pub Reloads : List ℕ → Catalogue → Catalogue → Result ℕ RecordFault → Type 0
-Reloads file old new (Ok made) = IsAccepted file × (new ≡ reloaded (records_of file) old) × AreKeysMade old (records_of file) made
-Reloads file old new (Err fault) = Refuses file (Fault fault) × (new ≡ old)
+Reloads file old new (Ok made) = IsAcceptedWithin old.limits file × (new ≡ reloaded (records_of file) old) × AreKeysMade old (records_of file) made
+Reloads file old new (Err fault) = RefusesWithin old.limits file (Fault fault) × (new ≡ old)
 
 -- what a command does that gets its memory: text is its reply, old and new the catalogue before and after it; file is the
 -- record lines behind it

@@ -1,14 +1,16 @@
 -- what the program does, but for reading its words and FILE
-use Rattle.std.specs.Prelude.{◌≡◌, ℕ, Option, Result, Ok, Err, List, [], ◌++◌, codes, MatchOption, MatchResult}
+use Rattle.std.specs.Prelude.{◌≡◌, ℕ, ◌+◌, ◌⊎◌, true, Bool, Option, Result, Ok, Err, OnOk, List, [], ◌++◌, codes, take, IfOk, IfSome, MatchOption, MatchResult}
 use denote.Bor.{Bor}
 use Rattle.std.specs.Io.KnownBytes.{Appends, Keeps}
-use Rattle.collate_records.specs.Files.{IsReadFrom}
-use Rattle.collate_lines.specs.Record.{Record}
+use Rattle.collate_records.specs.Files.{FileRecords, IsReadWithin}
+use Rattle.collate_lines.specs.Limits.{standard}
+use Rattle.collate_lines.specs.declared.limits.Limits.{Limits}
 use Rattle.collate_lines.specs.Rule.{fault_text}
 use Rattle.collate_lines.specs.declared.rule.RecordsError.{RecordsError}
 use Rattle.collate_lines.specs.declared.rule.RecordsError.TheVariants.{Fault, Memory as NoMemory}
 use Rattle.collate_index.specs.Catalogue.{Catalogue, opened}
 use Rattle.collate_run.specs.Runs.{Ran}
+use Rattle.collate_choice.specs.Choices.{IsChoice}
 use Rattle.collate_choice.specs.declared.Choice.{Choice}
 use Rattle.collate_run.specs.declared.run.RunFault.{RunFault}
 use Rattle.collate_run.specs.declared.run.RunFault.TheVariants.{Memory, Read, Write, LineTooLong, InputTooLong, CutReload}
@@ -69,19 +71,42 @@ pub record Runs (start : Catalogue) (status : ℕ) (reader_old reader_new writer
   pub status_is : status ≡ run_status result
   pub tells : Tells errors_old errors_new (run_text result)
 
-module _ (status : ℕ) (reader_old reader_new writer_old writer_new errors_old errors_new : Option (List ℕ)) where
-  -- what is served of a file of records: a run over them, or their refusal
+module _ (limits : Limits) (status : ℕ) (reader_old reader_new writer_old writer_new errors_old errors_new : Option (List ℕ)) where
+  -- what is served of a file of records, read within limits: a run over them, or their refusal
   pub record ServesFile (choice : Choice) (bytes : List ℕ) : Type 0 where
-    pub read : Result (List Record) RecordsError
-    pub read_is : IsReadFrom bytes read
+    pub read : Result FileRecords RecordsError
+    pub read_is : IsReadWithin limits bytes read
     pub served : MatchResult read
-        (λ records. Runs (opened records choice.preferences choice.options) status reader_old reader_new writer_old writer_new errors_old errors_new)
+        (λ records. Runs (opened records choice.prefs choice.options) status reader_old reader_new writer_old writer_new errors_old errors_new)
         (λ refusal. Stops 1 (records_line refusal) status reader_old reader_new writer_old writer_new errors_old errors_new)
 
   -- what is served of the words and of FILE: the usage line, or what is wrong with FILE, or with its records, or the run
-  abbrev pub Serves : Option (Bor Choice) → Result (Bor (List ℕ)) FileFault → Type 0
-  Serves choice file = MatchOption choice
+  abbrev pub ServesWithin : Option (Bor Choice) → Result (Bor (List ℕ)) FileFault → Type 0
+  ServesWithin choice file = MatchOption choice
       (Stops 2 usage_line status reader_old reader_new writer_old writer_new errors_old errors_new)
       (λ given. MatchResult file
       (λ bytes. ServesFile given.now bytes.now)
       (λ fault. Stops 1 (file_line given.now.file.now fault) status reader_old reader_new writer_old writer_new errors_old errors_new))
+
+  -- what is served of words, by what each path reads as: the usage line, or what is wrong with FILE, or with its records, or
+  -- the run
+  abbrev pub ServesWords : List (List ℕ) → (List ℕ → Result (List ℕ) FileFault → Type 0) → Type 0
+  ServesWords words Reads =
+      (((choice : Choice) → ¬ IsChoice words choice)
+      × Stops 2 usage_line status reader_old reader_new writer_old writer_new errors_old errors_new)
+      ⊎ ((choice : Choice) × IsChoice words choice × (file : Result (List ℕ) FileFault) × Reads choice.file.now file
+      × MatchResult file
+      (ServesFile choice)
+      (λ fault. Stops 1 (file_line choice.file.now fault) status reader_old reader_new writer_old writer_new errors_old errors_new))
+
+-- what is served within the standard limits
+abbrev pub Serves : ℕ → Option (List ℕ) → Option (List ℕ) → Option (List ℕ) → Option (List ℕ) → Option (List ℕ) → Option (List ℕ)
+    → Option (Bor Choice) → Result (Bor (List ℕ)) FileFault → Type 0
+Serves = ServesWithin standard
+
+-- What is read of FILE: one byte more than the limit at most, and only where the run can have its input; or a fault, which is
+-- `Unreadable` where it can't be opened.
+abbrev pub IsContents : {F E : Type 0} → (F → Option (List ℕ)) → ℕ → Bool → Result F E → Result (List ℕ) FileFault → Type 0
+IsContents remaining limit has_input (Err e) file = file ≡ Err Unreadable
+IsContents remaining limit has_input (Ok held) file =
+    IfOk file (λ bytes. IfSome (remaining held) (λ known. bytes ≡ take (limit + 1) known)) × OnOk file (has_input ≡ true)

@@ -7,6 +7,7 @@ pub mod program;
 mod replies;
 pub mod run;
 pub mod serve;
+pub mod setup;
 pub mod watched;
 
 pub use collate_choice as choice;

@@ -2,10 +2,11 @@
 
 ghost use Rattle.std.specs.Prelude.{◌≡◌, false, flat_map};
 ghost use Rattle.collate_run.specs.Sending.{Sends};
-ghost use Rattle.collate_run.specs.Served.{Serves, Tells, records_line, run_line};
+ghost use Rattle.collate_run.specs.Served.{Serves, ServesWithin, Tells, records_line, run_line};
 ghost use Rattle.collate_run.specs.Watched.{watched_failed, watched_inner};
 
 use crate::run::{RunFault, run};
+use crate::setup::Setup;
 use crate::watched::Watched;
 use collate_choice::Choice;
 use collate_records::records::Records;
@@ -88,12 +89,7 @@ pub fn tell_run_fault<E: Write>(errors: &mut E, fault: RunFault)
     tell(errors, &[line]);
 }
 
-/// Serves the words of the program and the bytes of FILE: a run over the records of FILE, from the
-/// reader to the writer. Answers the status of the program (README.md, "The program").
-///
-/// Status 2 and the usage line to `errors` if `choice` is `None`, whatever `file` is. Status 1 and a line that begins with
-/// `collate: ` if FILE wasn't read, its records are refused, or the run ends by a fault, in this order. Else status 0. An
-/// error of `errors` is dropped. Before the run nothing is read or written.
+/// Serves the words of the program and the bytes of FILE, as `serve_within` does within the standard limits.
 pub fn serve<R: Read, W: Write, E: Write>(
     alloc: Global,
     choice: Option<&Choice<'_>>,
@@ -105,6 +101,33 @@ pub fn serve<R: Read, W: Write, E: Write>(
     requires reader { watched_failed reader.old ≡ false }
     requires writer { watched_failed writer.old ≡ false }
     ensures { Serves result
+        (R.remaining (watched_inner reader.old)) (R.remaining (watched_inner reader.new))
+        (W.contents (watched_inner writer.old)) (W.contents (watched_inner writer.new))
+        (E.contents errors.old) (E.contents errors.new)
+        choice.entry file.entry }
+{
+    serve_within(alloc, Setup::STANDARD, choice, file, reader, writer, errors)
+}
+
+/// Serves the words of the program and the bytes of FILE: a run over the records of FILE, from the
+/// reader to the writer. Answers the status of the program (README.md, "The program").
+///
+/// Status 2 and the usage line to `errors` if `choice` is `None`, whatever `file` is. Status 1 and a line that begins with
+/// `collate: ` if FILE wasn't read, its records are refused, or the run ends by a fault, in this order. Else status 0. An
+/// error of `errors` is dropped. Before the run nothing is read or written. FILE, and each file that a command reloads, is read
+/// within the limits of the setup.
+pub fn serve_within<R: Read, W: Write, E: Write>(
+    alloc: Global,
+    setup: Setup,
+    choice: Option<&Choice<'_>>,
+    file: Result<&[u8], FileFault>,
+    reader: &mut Watched<R>,
+    writer: &mut Watched<W>,
+    errors: &mut E,
+) -> u8
+    requires reader { watched_failed reader.old ≡ false }
+    requires writer { watched_failed writer.old ≡ false }
+    ensures { ServesWithin setup.limits result
         (R.remaining (watched_inner reader.old)) (R.remaining (watched_inner reader.new))
         (W.contents (watched_inner writer.old)) (W.contents (watched_inner writer.new))
         (E.contents errors.old) (E.contents errors.new)
@@ -126,15 +149,21 @@ pub fn serve<R: Read, W: Write, E: Write>(
             return 1;
         }
     };
-    let records = match Records::read(alloc, bytes) {
+    let records = match Records::read_within(alloc, bytes, setup.limits) {
         Ok(records) => records,
         Err(error) => {
             tell_refusal(errors, error);
             return 1;
         }
     };
-    let (preferences, options) = (&choice.preferences, &choice.options);
-    match run(alloc, records, preferences, options, reader, writer) {
+    match run(
+        alloc,
+        records,
+        &choice.prefs,
+        &choice.options,
+        reader,
+        writer,
+    ) {
         Ok(()) => 0,
         Err(fault) => {
             tell_run_fault(errors, fault);

@@ -4,14 +4,17 @@ use Rattle.std.specs.List.{Contains, filter, flat_map}
 use Rattle.std.specs.List.Sorted.{IsPermutation}
 use Rattle.std.specs.Prelude.{bytes_eq, not, Option}
 use Rattle.std.proofs.lemmas.List.Sorted.{IsPermutation-refl}
+use Rattle.collate_lines.specs.declared.limits.Limits.{Limits}
+use Rattle.collate_lines.specs.declared.rule.RecordFault.{RecordFault}
+use Rattle.collate_lines.specs.declared.rule.RecordsError.TheVariants.{Fault}
 use Rattle.collate_lines.specs.Lines.{lines_of, records_of}
-use Rattle.collate_records.specs.Files.{IsAccepted}
-use Rattle.collate_records.proofs.reading.ReadingAcceptedLemmas.{accepted_lines}
+use Rattle.collate_records.specs.Files.{IsAcceptedWithin, RefusesWithin}
+use Rattle.collate_records.proofs.reading.ReadingAcceptedLemmas.{lines_within}
 use Rattle.collate_records.proofs.reordering.AcceptedMovedLemmas.{records_moved}
 use Rattle.icu_collator_types.specs.declared.options.CollatorOptions.{CollatorOptions}
 use Rattle.icu_collator_types.specs.declared.options.CollatorPreferences.{CollatorPreferences}
 use Rattle.hex.specs.Hex.{encode_lower}
-use Rattle.collate_index.specs.Catalogue.{Catalogue, opened, reloaded, with_name, without_name}
+use Rattle.collate_index.specs.Catalogue.{Catalogue, opened_by, reloaded, with_name, without_name}
 use Rattle.collate_run.specs.Replies.{Answers, AreReplies, Denies, Grants, LineCommand, Replied, add, remove, find, between, key, list, reload, unknown, nothing, command, command_of, ended, listing}
 use Rattle.collate_run.specs.Runs.{Does, Ran, input_limit, lines_read}
 use Rattle.collate_run.specs.declared.run.RunFault.{RunFault}
@@ -33,7 +36,7 @@ changes old new other names does moved same is = (
   record other { arrivals = names other.arrivals },
   is,
   subst (λ (s : Catalogue). AreMoved s (record other { arrivals = names other.arrivals })) (sym same)
-      (record { accepted = moved.accepted; records = moved.records; asked = moved.asked; arrivals = ap names moved.arrivals }),
+      (record { limits = moved.limits; accepted = moved.accepted; records = moved.records; asked = moved.asked; arrivals = ap names moved.arrivals }),
 )
 
 module _ (old other : Catalogue) (moved : AreMoved old other) (file : List ℕ) (new : Catalogue) (text : List ℕ) where
@@ -67,17 +70,19 @@ module _ (old other : Catalogue) (moved : AreMoved old other) (file : List ℕ) 
       stays old new other (λ later. Grants list file other later text) moved same (says ∙ ap listing (sorted_same old other moved), refl)
   granted (reload count) (Ok made, (accepted, same, keys), says) = (
     reloaded (records_of file) other,
-    (Ok made, (accepted, refl, made_same old other moved (records_of file) made keys), says),
+    (Ok made, (subst (λ (limits : Limits). IsAcceptedWithin limits file) moved.limits accepted, refl, made_same old other moved (records_of file) made keys), says),
     subst (λ (s : Catalogue). AreMoved s (reloaded (records_of file) other)) (sym same)
         (record {
-          accepted = accepted_lines file accepted;
+          limits = moved.limits;
+          accepted = lines_within old.limits file accepted;
           records = IsPermutation-refl (records_of file);
           asked = moved.asked;
           arrivals = moved.arrivals;
         }),
   )
   granted (reload count) (Err fault, (refuses, same), says) =
-      stays old new other (λ later. Grants (reload count) file other later text) moved same (Err fault, (refuses, refl), says)
+      stays old new other (λ later. Grants (reload count) file other later text) moved same
+      (Err fault, (subst (λ (limits : Limits). RefusesWithin limits file (Fault fault)) moved.limits refuses, refl), says)
   granted unknown (says, same) = stays old new other (λ later. Grants unknown file other later text) moved same (says, refl)
 
   answered : (line : List ℕ) → Answers line file old new text → Comes (λ later. Answers line file other later text) new
@@ -99,11 +104,12 @@ replies_moved start other moved lines out replies =
     let there = replied start other moved lines out replies.0 replies.1 in (there.0, there.1)
 
 -- catalogues that two such files open
-pub opened_moved : (file other : List ℕ) (preferences : CollatorPreferences) (options : CollatorOptions) → IsAccepted file
-    → IsPermutation (lines_of file) (lines_of other)
-    → AreMoved (opened (records_of file) preferences options) (opened (records_of other) preferences options)
-opened_moved file other preferences options accepted lines = record {
-  accepted = accepted_lines file accepted;
+pub opened_moved : (limits : Limits) (file other : List ℕ) (preferences : CollatorPreferences) (options : CollatorOptions)
+    → IsAcceptedWithin limits file → IsPermutation (lines_of file) (lines_of other)
+    → AreMoved (opened_by limits file preferences options) (opened_by limits other preferences options)
+opened_moved limits file other preferences options accepted lines = record {
+  limits = refl;
+  accepted = lines_within limits file accepted;
   records = records_moved file other lines;
   asked = refl;
   arrivals = refl;

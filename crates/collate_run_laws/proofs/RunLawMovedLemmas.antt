@@ -31,6 +31,7 @@ use Rattle.collate_run_laws.proofs.TouchedLemmas.{names_touched_along, settings_
 
 -- catalogues that differ in the order of accepted records alone
 pub record AreMoved (s t : Catalogue) : Type 0 where
+  pub limits : s.limits ≡ t.limits
   pub accepted : AreAccepted s.records
   pub records : IsPermutation s.records t.records
   pub asked : s.asked ≡ t.asked

@@ -52,8 +52,9 @@ pub record IsFit (saying : Saying) : Type 0 where
   -- a character with prefixes has elements of its own
   pub prefixed : saying.prefixes ≢ [] → IsTrue (is_some saying.own)
 
--- Room for this many records: each takes at most 200 items of a list, and a word names 2 ^ 19 places.
-pub record HasRoom (pools : Pools) (count : ℕ) : Type 0 where
-  pub ces : length pools.ces + 200 * count ≤ 2 ^ 19
-  pub ce32s : length pools.ce32s + 200 * count ≤ 2 ^ 19
-  pub contexts : length pools.contexts + 200 * count ≤ 2 ^ 19
+-- Room for so many elements, and for so many texts beside characters: each of these takes at most 200 units of contexts, and
+-- a word names 2 ^ 19 places.
+pub record HasRoom (pools : Pools) (elements texts : ℕ) : Type 0 where
+  pub ces : length pools.ces + elements ≤ 2 ^ 19
+  pub ce32s : length pools.ce32s + elements ≤ 2 ^ 19
+  pub contexts : length pools.contexts + 200 * texts ≤ 2 ^ 19

@@ -11,8 +11,8 @@ pub record Grows (pools larger : Pools) : Type 0 where
   pub ce32s : IsFrontOf pools.ce32s larger.ce32s
   pub contexts : IsFrontOf pools.contexts larger.contexts
 
--- by no more than 200 items a record in each list
-pub record GrowsFor (count : ℕ) (pools larger : Pools) : Type 0 where
-  pub ces : length larger.ces ≤ length pools.ces + 200 * count
-  pub ce32s : length larger.ce32s ≤ length pools.ce32s + 200 * count
-  pub contexts : length larger.contexts ≤ length pools.contexts + 200 * count
+-- by no more than so many elements take, and 200 units of contexts for each of so many texts beside characters
+pub record GrowsFor (elements texts : ℕ) (pools larger : Pools) : Type 0 where
+  pub ces : length larger.ces ≤ length pools.ces + elements
+  pub ce32s : length larger.ce32s ≤ length pools.ce32s + elements
+  pub contexts : length larger.contexts ≤ length pools.contexts + 200 * texts

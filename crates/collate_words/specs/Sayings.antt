@@ -1,5 +1,5 @@
 -- What is recorded of the texts that begin with one character, as it is written into tables.
-use Rattle.std.specs.Prelude.{ℕ, ◌+◌, Bool, List, length, map, reverse, Option, option_map}
+use Rattle.std.specs.Prelude.{ℕ, ◌+◌, Bool, List, length, map, reverse, sum_by, Option, Some, None, option_map}
 use Rattle.std.specs.List.{find}
 use Rattle.std.specs.Str.{bytes_eq}
 use Rattle.icu_collator_types.specs.declared.elements.Element.{Element}
@@ -35,6 +35,24 @@ texts_beside saids = map (λ said. said.characters) saids
 abbrev pub texts_backward : List SaidBeside → List (List ℕ)
 texts_backward saids = map (λ said. reverse said.characters) saids
 
--- how many records these are, the character's own among them
-abbrev pub record_count : Saying → ℕ
-record_count saying = 1 + length saying.suffixes + length saying.prefixes
+-- how many elements a character has alone, where it has any
+abbrev pub own_count : Option (List Element) → ℕ
+own_count (Some es) = length es
+own_count None = 0
+
+-- the same, and one where it has none: what moves the primary of a range to it is as long
+abbrev pub own_room : Option (List Element) → ℕ
+own_room (Some es) = length es
+own_room None = 1
+
+-- how many elements the character has beside others
+abbrev pub element_sum : List SaidBeside → ℕ
+element_sum saids = sum_by (λ said. length said.elements) saids
+
+-- how many elements these are, and one for the character itself
+abbrev pub element_count : Saying → ℕ
+element_count saying = 1 + own_count saying.own + element_sum saying.suffixes + element_sum saying.prefixes
+
+-- how many texts these are beside the character
+abbrev pub text_count : Saying → ℕ
+text_count saying = length saying.suffixes + length saying.prefixes

@@ -11,7 +11,7 @@ ghost use Rattle.collate_words.specs.Fits.{AreBeside, HasRoom, IsBeside};
 ghost use Rattle.collate_words.specs.Growth.{Grows, GrowsFor, IsFrontOf};
 ghost use Rattle.collate_words.specs.OwnWords.{IsOwnWord};
 ghost use Rattle.collate_words.specs.PartSayings.{saying_before, saying_behind};
-ghost use Rattle.collate_words.specs.Sayings.{Saying};
+ghost use Rattle.collate_words.specs.Sayings.{Saying, element_sum};
 ghost use Rattle.collate_words.specs.Written.{SaysOf};
 
 use crate::entry::{Beside, SuffixFlags};
@@ -118,10 +118,10 @@ impl Pools {
         backward: bool,
     ) -> Result<Vec<ContextKey>, AllocError>
         requires beside { All (IsBeside 7) (map said_beside besides.now) }
-        requires room { HasRoom self.old (length besides.now) }
+        requires room { HasRoom self.old (element_sum (map said_beside besides.now)) (length besides.now) }
         ensures grows { Grows self.old self.new }
         ensures contexts { self.new.contexts ≡ self.old.contexts }
-        ensures size { GrowsFor (length besides.now) self.old self.new }
+        ensures size { GrowsFor (element_sum (map said_beside besides.now)) 0 self.old self.new }
         ensures count { IfOk result (λ keys. length keys.items ≡ length besides.now) }
         ensures fit { IfOk result (λ keys. All FitsContext keys.items) }
         ensures says { IfOk result
@@ -169,9 +169,9 @@ impl Pools {
         flags: SuffixFlags,
     ) -> Result<u32, AllocError>
         requires beside { AreBeside 7 (map said_beside suffixes.now) }
-        requires room { HasRoom self.old (length suffixes.now) }
+        requires room { HasRoom self.old (element_sum (map said_beside suffixes.now)) (length suffixes.now) }
         ensures grows { Grows self.old self.new }
-        ensures size { GrowsFor (length suffixes.now) self.old self.new }
+        ensures size { GrowsFor (element_sum (map said_beside suffixes.now)) (length suffixes.now) self.old self.new }
         ensures says { IfOk result (λ word. (alone : Option (List Element)) (offset : Option ℕ)
             → IsOwnWord self.old own alone offset
             → SaysOf self.new word (saying_behind alone offset (map said_beside suffixes.now) flags)) }
@@ -192,9 +192,9 @@ impl Pools {
         prefixes: &[Beside<'_>],
     ) -> Result<u32, AllocError>
         requires beside { AreBeside 3 (map said_beside prefixes.now) }
-        requires room { HasRoom self.old (length prefixes.now) }
+        requires room { HasRoom self.old (element_sum (map said_beside prefixes.now)) (length prefixes.now) }
         ensures grows { Grows self.old self.new }
-        ensures size { GrowsFor (length prefixes.now) self.old self.new }
+        ensures size { GrowsFor (element_sum (map said_beside prefixes.now)) (length prefixes.now) self.old self.new }
         ensures says { IfOk result (λ word. (saying : Saying)
             → SaysOf self.old behind saying → saying.prefixes ≡ [] → saying.digit ≡ None
             → SaysOf self.new word (saying_before saying (map said_beside prefixes.now))) }

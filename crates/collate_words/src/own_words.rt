@@ -7,6 +7,7 @@ ghost use Rattle.collate_words.specs.DigitWords.{IsDigitOver};
 ghost use Rattle.collate_words.specs.Fits.{AreFit, HasRoom, fits_bits};
 ghost use Rattle.collate_words.specs.Growth.{Grows, GrowsFor, IsFrontOf};
 ghost use Rattle.collate_words.specs.OwnWords.{IsOwnWord};
+ghost use Rattle.collate_words.specs.Sayings.{own_room};
 ghost use Rattle.collate_words.specs.ShortWords.{States, bits_of, case_byte, fits_word, has_long_primary, has_long_secondary, is_narrow, word_of};
 
 use crate::pools::{Pools, naming};
@@ -189,11 +190,10 @@ impl Pools {
     /// The word of the elements of a character alone.
     fn write_elements(&mut self, elements: &[Element]) -> Result<u32, AllocError>
         requires fit { AreFit elements.now }
-        requires room { HasRoom self.old 1 }
+        requires room { HasRoom self.old (length elements.now) 0 }
         ensures grows { Grows self.old self.new }
         ensures contexts { self.new.contexts ≡ self.old.contexts }
-        ensures size { GrowsFor 1 self.old self.new }
-        ensures few { length self.new.ce32s ≤ length self.old.ce32s + 8 }
+        ensures size { GrowsFor (length elements.now) 0 self.old self.new }
         ensures says { IfOk result (λ word. IsOwnWord self.new word (Some elements.now) None) }
     {
         match elements {
@@ -234,11 +234,10 @@ impl Pools {
     ) -> Result<u32, AllocError>
         requires fit { IfSome (option_copied own) AreFit }
         requires own_first { IsTrue (is_some (option_copied own)) → offset ≡ None }
-        requires room { HasRoom self.old 1 }
+        requires room { HasRoom self.old (own_room (option_copied own)) 0 }
         ensures grows { Grows self.old self.new }
         ensures contexts { self.new.contexts ≡ self.old.contexts }
-        ensures size { GrowsFor 1 self.old self.new }
-        ensures few { length self.new.ce32s ≤ length self.old.ce32s + 8 }
+        ensures size { GrowsFor (own_room (option_copied own.entry)) 0 self.old self.new }
         ensures says { IfOk result (λ word. IsOwnWord self.new word (option_copied own.entry) offset) }
     {
         match (own, offset) {

@@ -5,7 +5,7 @@ ghost use Rattle.icu_collator_core.specs.Pools.{Pools as Lists};
 ghost use Rattle.collate_words.specs.Entries.{saying_of};
 ghost use Rattle.collate_words.specs.Fits.{HasRoom, IsFit};
 ghost use Rattle.collate_words.specs.Growth.{Grows, GrowsFor};
-ghost use Rattle.collate_words.specs.Sayings.{Saying, record_count};
+ghost use Rattle.collate_words.specs.Sayings.{Saying, element_count, text_count};
 ghost use Rattle.collate_words.specs.Written.{SaysOf};
 
 use crate::entry::Entry;
@@ -15,12 +15,13 @@ use std::alloc::{AllocError, Global};
 
 impl Pools {
     /// The word of a character: it says just what the entry does. All that it names is written at the ends of the
-    /// lists, which grow by at most 200 items a record each. Fails only when out of memory.
+    /// lists: of elements and words at most as many as it has elements and one, of contexts at most 200 units a text
+    /// beside it. Fails only when out of memory.
     pub fn write_entry(&mut self, alloc: Global, entry: &Entry<'_>) -> Result<u32, AllocError>
         requires fit { IsFit (saying_of entry.now) }
-        requires room { HasRoom self.old (record_count (saying_of entry.now)) }
+        requires room { HasRoom self.old (element_count (saying_of entry.now)) (text_count (saying_of entry.now)) }
         ensures grows { Grows self.old self.new }
-        ensures size { GrowsFor (record_count (saying_of entry.now)) self.old self.new }
+        ensures size { GrowsFor (element_count (saying_of entry.now)) (text_count (saying_of entry.now)) self.old self.new }
         ensures says { IfOk result (λ word. SaysOf self.new word (saying_of entry.now)) }
     {
         let own = self.write_own(entry.own, entry.offset)?;

@@ -20,11 +20,12 @@ use Rattle.icu_collator.specs.Collators.{CollatorParts, borrowed_collation, borr
 use Rattle.icu_collator.specs.KeyBytes.{key_of_text}
 use Rattle.icu_collator.specs.Order.{collation_order}
 use Rattle.icu_collator.specs.declared.comparison.borrowed.CollatorBorrowed.{CollatorBorrowed}
+use Rattle.collate_lines.specs.Limits.{standard}
 use Rattle.collate_lines.specs.Lines.{records_of}
 use Rattle.collate_lines.specs.Record.{Record}
 use Rattle.collate_lines.specs.declared.rule.RecordsError.{RecordsError}
-use Rattle.collate_records.specs.Files.{IsAccepted, IsReadFrom}
-use Rattle.collate_records.proofs.reading.ReadingAcceptedLemmas.{accepted_lines}
+use Rattle.collate_records.specs.Files.{FileRecords, IsAccepted, IsReadFrom}
+use Rattle.collate_records.proofs.reading.ReadingAcceptedLemmas.{lines_within}
 use Rattle.collate_rules.specs.Accepted.{AreAccepted}
 use Rattle.collate_rules.specs.Meaning.{collation_of, settings_of}
 use Rattle.collate_laws.specs.OverRecords.{IsCollatorOf}
@@ -34,8 +35,8 @@ use Rattle.collate_file_laws.specs.Files.{IsAsGood, file_canonical, file_order}
 use Rattle.examples_uses.proofs.UseAnswerLemmas.{ok_gives}
 
 -- records that were read are those of an accepted file
-pub records_read : (file : List ℕ) (result : Result (List Record) RecordsError) (records : List Record) → Some records ≡ result_ok result
-    → IsReadFrom file result → IsAccepted file × (records ≡ records_of file)
+pub records_read : (file : List ℕ) (result : Result FileRecords RecordsError) (records : FileRecords) → Some records ≡ result_ok result
+    → IsReadFrom file result → IsAccepted file × (records ≡ record { limits = standard; lines = records_of file })
 records_read file result records is read = subst (IsReadFrom file) (ok_gives result records is) read
 
 -- ## Normal forms of texts
@@ -51,13 +52,13 @@ module _ (file : List ℕ) (options : CollatorOptions) (preferences : CollatorPr
     pub decomposed_read : utf8_chars (decomposed_text (file_canonical file) text) ≡ decomposed (file_canonical file) (utf8_chars text)
     decomposed_read =
         ap utf8_chars (sym (bytes_decomposed (file_canonical file) text whole))
-        ∙ utf8_text _ (decomposed_all_scalars (file_canonical file) (utf8_chars text) (accepted_canonical (records_of file) (accepted_lines file accepted)).decomposing (utf8_scalars text))
+        ∙ utf8_text _ (decomposed_all_scalars (file_canonical file) (utf8_chars text) (accepted_canonical (records_of file) (lines_within standard file accepted)).decomposing (utf8_scalars text))
 
     -- and its NFC
     pub composed_read : utf8_chars (composed_text (file_canonical file) text) ≡ composed (file_canonical file) (utf8_chars text)
     composed_read =
         ap utf8_chars (sym (bytes_composed (file_canonical file) text whole))
-        ∙ utf8_text _ (composed_scalars (file_canonical file) (utf8_chars text) (accepted_canonical (records_of file) (accepted_lines file accepted)) (utf8_scalars text))
+        ∙ utf8_text _ (composed_scalars (file_canonical file) (utf8_chars text) (accepted_canonical (records_of file) (lines_within standard file accepted)) (utf8_scalars text))
 
     -- so a form is as good as its text where its characters are
     pub decomposed_good : IsAsGood file options preferences (decomposed (file_canonical file) (utf8_chars text)) (utf8_chars text)

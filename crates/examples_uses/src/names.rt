@@ -3,8 +3,9 @@ ghost use Rattle.std.specs.Prelude.{◌≡◌, ◌≢◌, ◌↔◌, ◌∷◌, 
 ghost use Rattle.std.specs.Bool.{OnFalse, OnTrue};
 ghost use Rattle.std.specs.List.{Contains};
 ghost use Rattle.std.specs.Option.{option_copied};
-ghost use Rattle.collate_index.specs.Catalogue.{opened, order_of, reloaded, sorted_names, without_name};
+ghost use Rattle.collate_index.specs.Catalogue.{opened_by, order_of, reloaded, sorted_names, without_name};
 ghost use Rattle.collate_index.specs.Names.{equal_names, names_between};
+ghost use Rattle.collate_lines.specs.Limits.{standard};
 ghost use Rattle.collate_lines.specs.Lines.{records_of};
 ghost use Rattle.collate_records.specs.Files.{IsAccepted};
 
@@ -29,7 +30,7 @@ pub fn index_by_file(
     options: &CollatorOptions,
 ) -> Option<Index>
     ensures accepted { IfSome result (λ _. IsAccepted file.now) }
-    ensures opened { IfSome result (λ index. index ≡ opened (records_of file.now) preferences.now options.now) }
+    ensures opened { IfSome result (λ index. index ≡ opened_by standard file.now preferences.now options.now) }
 {
     let records = Records::read(alloc, file).ok()?;
     Index::new(alloc, records, preferences, options).ok()

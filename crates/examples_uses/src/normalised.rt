@@ -29,7 +29,7 @@ use std::cmp::Ordering;
 
 /// The NFD of a text by the records of a file; `None` where memory is refused.
 fn decomposed_by_records(alloc: Global, records: &Records, text: &str) -> Option<String>
-    ensures { IfSome result (λ form. string_bytes form ≡ decomposed_text (canonical_of records.now) text.now) }
+    ensures { IfSome result (λ form. string_bytes form ≡ decomposed_text (canonical_of records.now.lines) text.now) }
 {
     let provider = compile(alloc, records, TrieType::Fast).ok()?;
     let normalizer = DecomposingNormalizer::try_new_nfd_unstable(alloc, &provider).ok()?;
@@ -42,7 +42,7 @@ fn decomposed_by_records(alloc: Global, records: &Records, text: &str) -> Option
 
 /// The NFC of a text by the records of a file.
 pub(crate) fn composed_by_records(alloc: Global, records: &Records, text: &str) -> Option<String>
-    ensures { IfSome result (λ form. string_bytes form ≡ composed_text (canonical_of records.now) text.now) }
+    ensures { IfSome result (λ form. string_bytes form ≡ composed_text (canonical_of records.now.lines) text.now) }
 {
     let provider = compile(alloc, records, TrieType::Fast).ok()?;
     let normalizer = ComposingNormalizer::try_new_nfc_unstable(alloc, &provider).ok()?;
@@ -62,8 +62,8 @@ fn order_by_records(
     left: &str,
     right: &str,
 ) -> Option<Ordering>
-    ensures { IfSome result (λ order. order ≡ collation_order (collation_of records.now)
-        (resolved_options options preferences.entry (settings_of records.now)) (utf8_chars left.now) (utf8_chars right.now)) }
+    ensures { IfSome result (λ order. order ≡ collation_order (collation_of records.now.lines)
+        (resolved_options options preferences.entry (settings_of records.now.lines)) (utf8_chars left.now) (utf8_chars right.now)) }
 {
     let collator = collator_of(alloc, records, preferences, options).ok()?;
     let order = collator.as_borrowed().compare(alloc, left, right).ok()?;
@@ -81,8 +81,8 @@ fn key_by_records(
     options: CollatorOptions,
     text: &str,
 ) -> Option<Vec<u8>>
-    ensures { IfSome result (λ key. key.items ≡ key_of_text (collation_of records.now)
-        (resolved_options options preferences.entry (settings_of records.now)) (utf8_chars text.now)) }
+    ensures { IfSome result (λ key. key.items ≡ key_of_text (collation_of records.now.lines)
+        (resolved_options options preferences.entry (settings_of records.now.lines)) (utf8_chars text.now)) }
 {
     let collator = collator_of(alloc, records, preferences, options).ok()?;
     let mut key = Vec::new(alloc);
@@ -105,9 +105,9 @@ fn order_of_decomposed(
     left: &str,
     right: &str,
 ) -> Option<Ordering>
-    ensures { IfSome result (λ order. order ≡ collation_order (collation_of records.now)
-        (resolved_options options preferences.entry (settings_of records.now))
-        (utf8_chars (decomposed_text (canonical_of records.now) left.now)) (utf8_chars (decomposed_text (canonical_of records.now) right.now))) }
+    ensures { IfSome result (λ order. order ≡ collation_order (collation_of records.now.lines)
+        (resolved_options options preferences.entry (settings_of records.now.lines))
+        (utf8_chars (decomposed_text (canonical_of records.now.lines) left.now)) (utf8_chars (decomposed_text (canonical_of records.now.lines) right.now))) }
 {
     let left = decomposed_by_records(alloc, records, left)?;
     let right = decomposed_by_records(alloc, records, right)?;
@@ -130,9 +130,9 @@ fn order_of_composed(
     left: &str,
     right: &str,
 ) -> Option<Ordering>
-    ensures { IfSome result (λ order. order ≡ collation_order (collation_of records.now)
-        (resolved_options options preferences.entry (settings_of records.now))
-        (utf8_chars (composed_text (canonical_of records.now) left.now)) (utf8_chars (composed_text (canonical_of records.now) right.now))) }
+    ensures { IfSome result (λ order. order ≡ collation_order (collation_of records.now.lines)
+        (resolved_options options preferences.entry (settings_of records.now.lines))
+        (utf8_chars (composed_text (canonical_of records.now.lines) left.now)) (utf8_chars (composed_text (canonical_of records.now.lines) right.now))) }
 {
     let left = composed_by_records(alloc, records, left)?;
     let right = composed_by_records(alloc, records, right)?;

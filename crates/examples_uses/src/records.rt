@@ -21,7 +21,7 @@ pub fn class_by_file(alloc: Global, file: &[u8], character: char) -> Result<u8, 
 
 /// Whether a character has no canonical mapping. It takes no memory.
 pub fn stands_alone(records: &Records, character: char) -> bool
-    ensures { IsTrue result ↔ (step_of records.now character ≡ []) }
+    ensures { IsTrue result ↔ (step_of records.now.lines character ≡ []) }
 {
     matches!(records.mapping(character), Decomposed::Default)
 }

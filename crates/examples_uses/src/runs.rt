@@ -1,8 +1,8 @@
 //! A whole run by the bytes of a records file: commands, reloads among them, and their replies.
 ghost use Rattle.std.specs.Prelude.{◌≡◌, ℕ, false, List, IfSome};
 ghost use Rattle.std.specs.Io.KnownBytes.{Appends};
-ghost use Rattle.collate_index.specs.Catalogue.{opened};
-ghost use Rattle.collate_lines.specs.Lines.{records_of};
+ghost use Rattle.collate_index.specs.Catalogue.{opened_by};
+ghost use Rattle.collate_lines.specs.Limits.{standard};
 ghost use Rattle.collate_records.specs.Files.{IsAccepted};
 ghost use Rattle.collate_run.specs.Replies.{AreReplies};
 ghost use Rattle.collate_run.specs.Runs.{lines_of};
@@ -28,7 +28,7 @@ pub fn reply_by_file<W: Write>(
     requires { watched_failed writer.old ≡ false }
     ensures accepted { IfSome result (λ _. IsAccepted file.now) }
     ensures replies { IfSome result (λ _. (replies : List ℕ)
-        × AreReplies (opened (records_of file.now) preferences.now options.now) (lines_of commands.now) replies
+        × AreReplies (opened_by standard file.now preferences.now options.now) (lines_of commands.now) replies
         × Appends (W.contents (watched_inner writer.old)) (W.contents (watched_inner writer.new)) replies) }
 {
     let records = Records::read(alloc, file).ok()?;

@@ -7,9 +7,11 @@ pub mod FullWordLemmas
 pub mod InOrderLemmas
 pub mod MapNumberLemmas
 pub mod ListWordLemmas
+pub mod ListRoomLemmas
 pub mod SettledWordLemmas
 pub mod CharacterWordLemmas
 pub mod WordMapLemmas
+pub mod MoreBlockLemmas
 pub mod FullListWordLemmas
 pub mod BuiltMapLemmas
 pub mod AcceptedMapLemmas
@@ -19,7 +21,9 @@ pub mod KeptRuleLemmas
 pub mod BuiltTableLemmas
 pub mod FullWordMapLemmas
 pub mod CompatibilityRuleLemmas
+pub mod CompatibilityRoomLemmas
 pub mod CompatibilityTableLemmas
 pub mod UnnamedWordLemmas
 pub mod NamedLemmas
 pub mod GivenLemmas
+pub mod StandardLimitLemmas

@@ -1,5 +1,6 @@
 -- Tables that are built of maps, as lists.
-use Rattle.std.specs.Prelude.{◌≡◌, ℕ, ◌<◌, ◌≤◌, ◌/◌, ◌^◌, cond, true, List, [], length}
+use Rattle.std.specs.Prelude.{◌≡◌, ℕ, ◌*◌, ◌<◌, ◌≤◌, ◌/◌, ◌^◌, cond, true, List, [], length, map, nat_eq}
+use Rattle.std.specs.Set.{distinct_count}
 use Rattle.std.specs.Option.{is_some, unwrap_or, IsSomeAnd}
 use Rattle.std.specs.Char.{IsScalar}
 use Rattle.icu_codepointtrie.specs.Places.{TrieTables, value_at, has_cell}
@@ -17,11 +18,11 @@ use Rattle.icu_normalizer_core.specs.Settled.{key_at}
 abbrev pub HasPlainWords : TrieTables ℕ → Type 0
 HasPlainWords trie = (c : ℕ) → c ≤ 0x10_FFFF → IsSomeAnd (value_at trie c) (λ word. word < 2 ^ 30)
 
--- The triples, at most 150, are the mappings that aren't built in: one for each character that has such a mapping, in rising order.
+-- The triples are the mappings that aren't built in: one for each character that has such a mapping, in rising order.
 pub record AreStepsOf (mappings : List GivenMapping) (steps : List ℕ) : Type 0 where
   pub triples : AreTriples steps
   pub listed : (c : ℕ) → listed_step steps c ≡ cond (is_some (built_in_step c)) [] (given_step mappings c)
-  pub few : length steps ≤ 450
+  pub few : length steps ≤ 3 * distinct_count nat_eq (map (λ g. g.character) mappings)
   pub free : (place : ℕ) → place < length steps / 3 → IsFree (key_at steps place)
 
 -- pairs list what mappings compose

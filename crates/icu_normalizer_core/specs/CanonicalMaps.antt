@@ -9,6 +9,7 @@ use Rattle.icu_normalizer_core.specs.declared.canonical.builder.GivenClass.{Give
 use Rattle.icu_normalizer_core.specs.declared.canonical.builder.GivenMapping.{GivenMapping}
 use Rattle.icu_normalizer_core.specs.BuiltIn.{built_in_class, built_in_step, is_built_in, is_jamo, is_syllable, is_within, syllable_of}
 use Rattle.icu_normalizer_core.specs.Canonical.{Canonical, IsFree, Leaves, composed}
+use Rattle.icu_normalizer_core.specs.ListRoom.{HasRoom}
 
 -- what a character is mapped to: one character or two
 abbrev pub mapping_given : GivenMapping → List ℕ
@@ -89,9 +90,8 @@ ComposeAlike g h = (a : ℕ) × (b : ℕ) × (composes a b g ≡ true) × (compo
 abbrev pub HaveOneMapping : List GivenMapping → Type 0
 HaveOneMapping mappings = All (λ g. first_mapping mappings g.character ≡ Some g) mappings
 
--- The rules of canonical data (docs/RECORDS.md, C1 to C9), and the limit on what is named. Of the classes of a character the first counts, and only it is judged.
-pub record KeepRules (maps : CanonicalMaps) : Type 0 where
-  pub few : distinct_count nat_eq (named maps) ≤ 150
+-- The rules of canonical data (docs/RECORDS.md, C1 to C9). Of the classes of a character the first counts, and only it is judged.
+pub record KeepCanonicalRules (maps : CanonicalMaps) : Type 0 where
   -- C1: a character has one mapping, and it stands on a starter
   pub one_mapping : HaveOneMapping maps.mappings
   pub starters : (c : ℕ) → IsScalar c → IsMapped maps c → class_of maps c ≡ 0
@@ -115,3 +115,16 @@ pub record KeepRules (maps : CanonicalMaps) : Type 0 where
   pub built_in_mappings : All (λ g. is_built_in g.character ≡ true → is_built_in_mapping g ≡ true) maps.mappings
   -- C9: no mapping but those built in names a jamo or a syllable
   pub letters : All (λ g. is_built_in_mapping g ≡ false → list_any (λ d. is_jamo d || is_syllable d) (g.character ∷ mapping_given g) ≡ false) maps.mappings
+
+-- the rules, and the limit on what is named
+pub record KeepRules (maps : CanonicalMaps) : Type 0 where
+  pub few : distinct_count nat_eq (named maps) ≤ 150
+  pub rules : KeepCanonicalRules maps
+  pub open rules use *
+
+-- the rules, a limit on what is named, and the room of tables, which 150 characters never lack
+pub record KeepRulesWithin (limit : ℕ) (maps : CanonicalMaps) : Type 0 where
+  pub few : distinct_count nat_eq (named maps) ≤ limit
+  pub room : HasRoom (step_of maps) (IsMapped maps) (named maps)
+  pub rules : KeepCanonicalRules maps
+  pub open rules use *

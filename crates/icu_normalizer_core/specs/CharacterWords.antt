@@ -1,5 +1,5 @@
 -- The words of characters in tables that are built: what each says of its character.
-use Rattle.std.specs.Prelude.{◌≡◌, ℕ, ◌+◌, ◌/◌, ◌<◌, ◌≤◌, ◌⊎◌, ◌^◌, true, cond, List, [], ◌∷◌, ◌++◌, length, map, slice_index}
+use Rattle.std.specs.Prelude.{◌≡◌, ℕ, zero, suc, ◌-◌, ◌/◌, ◌<◌, ◌≤◌, ◌^◌, true, cond, List, [], ◌∷◌, ◌++◌, length, map, slice_index, sum_by}
 use Rattle.std.specs.Option.{unwrap_or, IfSome}
 use Rattle.icu_codepointtrie.specs.Blocks.{different_blocks}
 use Rattle.icu_codepointtrie.specs.CodePointMaps.{CodePointMap, mapped}
@@ -11,6 +11,7 @@ use Rattle.icu_normalizer_core.specs.Canonical.{Leaves, IsFree}
 use Rattle.icu_normalizer_core.specs.CanonicalLists.{step_in}
 use Rattle.icu_normalizer_core.specs.CanonicalMaps.{given_class}
 use Rattle.icu_normalizer_core.specs.CanonicalWords.{is_word, is_inside, class_of_word, full_of_word, built_in_full}
+use Rattle.icu_normalizer_core.specs.ListRoom.{list_room}
 use Rattle.icu_normalizer_core.specs.ListWords.{StatesList}
 use Rattle.icu_normalizer_core.specs.Settled.{key_at, IsAmong}
 
@@ -27,6 +28,15 @@ pub record AreListWords (steps : List ℕ) (lists : ListWords) : Type 0 where
   pub count : length lists.words.items ≡ length steps / 3
   pub free : (place : ℕ) → place < length steps / 3 → IsFree (key_at steps place)
   pub each : (place : ℕ) → place < length steps / 3 → IsListWord steps lists.scalars24.items (key_at steps place) (slice_index lists.words.items place)
+
+-- the characters of the first so many triples
+unfoldable pub keys_below : List ℕ → ℕ → List ℕ
+keys_below steps zero = []
+keys_below steps (suc n) = key_at steps n ∷ keys_below steps n
+
+-- the full lists of mapped characters may take more places than words name
+abbrev pub HasLongLists : List ℕ → Type 0
+HasLongLists steps = 2 ^ 14 - 1 ≤ sum_by (λ c. list_room (step_in steps) (step_in steps c)) (keys_below steps (length steps / 3))
 
 -- what mapping steps leave of a mapped character has over eight characters, where they end
 abbrev pub HasBadEnd : List ℕ → Type 0
@@ -60,18 +70,20 @@ unnamed_word c = cond (is_syllable c) 1 0
 
 -- no word is set but 1 for each syllable
 pub record AreUnnamed (words : CodePointMap ℕ) : Type 0 where
+  pub all : length words.values ≡ 0x11_0000
   pub default : words.default ≡ 0
   pub each : (c : ℕ) → c ≤ 0x10_FFFF → mapped words c ≡ unnamed_word c
   pub wide : different_blocks (λ n. n) 512 words.values ≤ 3
   pub narrow : different_blocks (λ n. n) 16 words.values ≤ 3
 
--- A map has right words of the characters of a list. Others have right words or are as none were set.
+-- A map has right words of the characters of a list. Others are as in a map in which none is set.
 pub record HasRightWords (IsRight : ℕ → ℕ → Type 0) (named : List ℕ) (words : CodePointMap ℕ) : Type 0 where
   pub default : words.default ≡ 0
   pub among : (c : ℕ) → c ≤ 0x10_FFFF → IsAmong named c → IsRight c (mapped words c)
-  pub others : (c : ℕ) → c ≤ 0x10_FFFF → IsRight c (mapped words c) ⊎ (mapped words c ≡ unnamed_word c)
-  pub wide : different_blocks (λ n. n) 512 words.values ≤ 3 + length named
-  pub narrow : different_blocks (λ n. n) 16 words.values ≤ 3 + length named
+  pub others : (c : ℕ) → c ≤ 0x10_FFFF → (IsAmong named c → ⊥) → mapped words c ≡ unnamed_word c
+  pub all : length words.values ≡ 0x11_0000
+  pub none_set : CodePointMap ℕ
+  pub unnamed : AreUnnamed none_set
 
 -- a map has the words of canonical tables of the characters of a list
 abbrev pub HasWords : List GivenClass → List ℕ → List ℕ → List ℕ → CodePointMap ℕ → Type 0

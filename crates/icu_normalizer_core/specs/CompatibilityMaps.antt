@@ -1,5 +1,5 @@
 -- Compatibility mappings as they are given one by one, beside canonical maps. What they mean, and the rules that they keep.
-use Rattle.std.specs.Prelude.{◌≡◌, ◌≢◌, ℕ, ◌<◌, ◌≤◌, Bool, true, false, cond, ◌==◌, ◌||◌, List, [], ◌∷◌, ◌++◌, length, map, flat_map, nat_eq, Option, Some, None}
+use Rattle.std.specs.Prelude.{◌≡◌, ◌≢◌, ℕ, ◌<◌, ◌≤◌, Bool, true, false, cond, ◌==◌, ◌||◌, List, [], ◌∷◌, ◌++◌, length, flat_map, nat_eq, Option, Some, None}
 use Rattle.std.specs.List.{All, find, list_any}
 use Rattle.std.specs.Set.{distinct_count}
 use Rattle.std.specs.Option.{is_some, unwrap_or}
@@ -10,14 +10,24 @@ use Rattle.icu_normalizer_core.specs.BuiltIn.{built_in_step, built_in_compatibil
 use Rattle.icu_normalizer_core.specs.Canonical.{Leaves}
 use Rattle.icu_normalizer_core.specs.CanonicalFaults.{IsAccepted}
 use Rattle.icu_normalizer_core.specs.CanonicalLists.{CanonicalLists, canonical_of}
-use Rattle.icu_normalizer_core.specs.CanonicalMaps.{CanonicalMaps, AreMeaning, BeginsWithStarter, KeepRules, class_of, first_mapping, named, step_of}
+use Rattle.icu_normalizer_core.specs.CanonicalMaps.{CanonicalMaps, AreMeaning, BeginsWithStarter, KeepCanonicalRules, KeepRules, KeepRulesWithin, class_of, first_mapping, named, step_of}
 use Rattle.icu_normalizer_core.specs.CompatibilityFaults.{AreAcceptedWords}
+use Rattle.icu_normalizer_core.specs.ListRoom.{HasRoom}
 use Rattle.icu_normalizer_core.specs.Words.{WordLists, class_in, full_in}
 
 -- canonical maps, and compatibility mappings in the order in which they were given
 pub record AllMaps : Type 0 where
   pub canonical : CanonicalMaps
   pub compatibilities : List GivenCompatibility
+
+-- what a builder was given, and how many different characters it takes
+pub record BuilderMaps : Type 0 where
+  pub limit : ℕ
+  pub canonical : CanonicalMaps
+  pub compatibilities : List GivenCompatibility
+
+abbrev pub maps_in : BuilderMaps → AllMaps
+maps_in given = record { canonical = given.canonical; compatibilities = given.compatibilities }
 
 -- one more compatibility mapping
 abbrev pub IsGivenTo : List GivenCompatibility → ℕ → List ℕ → List GivenCompatibility → Type 0
@@ -80,9 +90,8 @@ HaveOneCompatibility given = All (λ g. given_compatibility given g.character �
 abbrev pub AreApart : AllMaps → Type 0
 AreApart maps = All (λ g. is_built_in g.character ≡ false → first_mapping maps.canonical.mappings g.character ≡ None) maps.compatibilities
 
--- The rules of compatibility mappings (docs/RECORDS.md, C1 to C9), and the limit on what is named.
-pub record KeepCompatibilityRules (maps : AllMaps) : Type 0 where
-  pub few : distinct_count nat_eq (all_named maps) ≤ 150
+-- The rules of compatibility mappings (docs/RECORDS.md, C1 to C9).
+pub record KeepCompatibleRules (maps : AllMaps) : Type 0 where
   -- C1: a character has one mapping, of one kind, and it stands on a starter
   pub one_mapping : HaveOneCompatibility maps.compatibilities
   pub apart : AreApart maps
@@ -99,6 +108,26 @@ pub record KeepCompatibilityRules (maps : AllMaps) : Type 0 where
   -- C9: no mapping but those built in names a jamo or a syllable
   pub letters : All (λ g. is_built_in_compatibility g ≡ false → list_any (λ d. is_jamo d || is_syllable d) (g.character ∷ g.mapping.items) ≡ false) maps.compatibilities
 
+-- the rules, and the limit on what is named
+pub record KeepCompatibilityRules (maps : AllMaps) : Type 0 where
+  pub few : distinct_count nat_eq (all_named maps) ≤ 150
+  pub rules : KeepCompatibleRules maps
+  pub open rules use *
+
+-- the rules, a limit on what is named, and the room of tables, which 150 characters never lack
+pub record KeepCompatibilityRulesWithin (limit : ℕ) (maps : AllMaps) : Type 0 where
+  pub few : distinct_count nat_eq (all_named maps) ≤ limit
+  pub room : HasRoom (all_steps_of maps) (IsMappedAtAll maps) (all_named maps)
+  pub rules : KeepCompatibleRules maps
+  pub open rules use *
+
 -- the rules of canonical and of compatibility mappings
+abbrev pub KeepEachRule : AllMaps → Type 0
+KeepEachRule maps = KeepCanonicalRules maps.canonical × KeepCompatibleRules maps
+
+-- these, and the limits
 abbrev pub KeepAllRules : AllMaps → Type 0
 KeepAllRules maps = KeepRules maps.canonical × KeepCompatibilityRules maps
+
+abbrev pub KeepAllRulesWithin : ℕ → AllMaps → Type 0
+KeepAllRulesWithin limit maps = KeepRulesWithin limit maps.canonical × KeepCompatibilityRulesWithin limit maps

@@ -29,6 +29,7 @@ pub mod GivenCompatibilities
 pub mod GivenMaps
 pub mod InOrder
 pub mod Iter
+pub mod ListRoom
 pub mod ListWords
 pub mod Loading
 pub mod MapNumbers

@@ -1,9 +1,10 @@
 -- The words of full lists, whose characters may stand in the lists of tables.
-use Rattle.std.specs.Prelude.{◌≡◌, ℕ, ◌*◌, ◌<◌, ◌≤◌, ◌^◌, true, List, [], ◌++◌, length, slice_index, slice_get, Option, Some}
+use Rattle.std.specs.Prelude.{◌≡◌, ℕ, ◌-◌, ◌<◌, ◌≤◌, ◌⊎◌, ◌^◌, true, cond, ltb, List, [], ◌++◌, length, sum_by, take, slice_index, slice_get, Option, Some, None}
 use Rattle.std.specs.List.{All}
 use Rattle.std.specs.Char.{IsScalar}
 use Rattle.icu_normalizer_core.specs.declared.canonical.check.left.Left.{Left}
 use Rattle.icu_normalizer_core.specs.CanonicalWords.{states_list, is_inside, full_of_word}
+use Rattle.icu_normalizer_core.specs.ListRoom.{is_stated}
 use Rattle.icu_normalizer_core.specs.Settled.{left_items}
 
 -- the word states the list, and names no place outside
@@ -22,10 +23,19 @@ abbrev pub StatesSettled : List ℕ → List ℕ → Option (Option Left) → �
 StatesSettled scalars16 scalars24 found word =
     (left : Left) × (found ≡ Some (Some left)) × (length (left_items left) ≤ 8) × KeepsStating scalars16 scalars24 word (left_items left)
 
+-- how many places a list takes among those of scalars24: none where its word states it by itself
+abbrev pub places_of : List ℕ → ℕ
+places_of list = cond (is_stated list) 0 (length list)
+
+-- how many a settled list takes; one of over eight characters has no word
+abbrev pub settled_places : Option Left → ℕ
+settled_places (Some left) = cond (ltb 8 (length (left_items left))) 0 (places_of (left_items left))
+settled_places None = 0
+
 -- the first words, so many, state what is settled of their triples
 pub record StateSettled (scalars24 : List ℕ) (settled : List (Option Left)) (words : List ℕ) (places : ℕ) : Type 0 where
   pub count : length words ≡ places
-  pub size : length scalars24 ≤ 8 * places
+  pub size : length scalars24 ≤ sum_by settled_places (take places settled)
   pub each : (i : ℕ) → i < places → StatesSettled [] scalars24 (slice_get settled i) (slice_index words i)
 
 -- what is settled is lists of characters, none of them empty
@@ -36,3 +46,7 @@ AreLists settled = (i : ℕ) (left : Left) → slice_get settled i ≡ Some (Som
 abbrev pub HasUnsettled : List (Option Left) → Type 0
 HasUnsettled settled =
     (i : ℕ) × (i < length settled) × ((left : Left) → slice_get settled i ≡ Some (Some left) → 8 < length (left_items left))
+
+-- so it is, or the lists that are settled take more places than words name
+abbrev pub HasUnstated : List (Option Left) → Type 0
+HasUnstated settled = HasUnsettled settled ⊎ (2 ^ 14 - 1 ≤ sum_by settled_places settled)

@@ -1,14 +1,15 @@
 -- What canonical and compatibility steps leave together, found mapping by mapping over canonical tables: a mapping is settled where it is known what
 -- they leave of it, in its first nine characters.
-use Rattle.std.specs.Prelude.{◌≡◌, ℕ, ◌*◌, ◌<◌, ◌≤◌, ◌^◌, true, false, List, [], ◌∷◌, ◌++◌, length, map, take, flat_map, slice_get, Option, Some, None}
-use Rattle.std.specs.List.{All}
+use Rattle.std.specs.Prelude.{◌≡◌, ℕ, ◌-◌, ◌<◌, ◌≤◌, ◌⊎◌, ◌^◌, true, false, cond, nat_eq, sum_by, List, [], ◌∷◌, ◌++◌, length, map, take, flat_map, slice_get, Option, Some, None}
+use Rattle.std.specs.List.{All, IsDistinct}
 use Rattle.std.specs.Char.{IsScalar}
+use Rattle.std.specs.Option.{is_some}
 use Rattle.icu_normalizer_core.specs.declared.canonical.builder.GivenCompatibility.{GivenCompatibility}
 use Rattle.icu_normalizer_core.specs.declared.canonical.builder.GivenClass.{GivenClass}
 use Rattle.icu_normalizer_core.specs.declared.canonical.builder.GivenMapping.{GivenMapping}
 use Rattle.icu_normalizer_core.specs.declared.canonical.builder.mappings.Mappings.{Mappings}
 use Rattle.icu_normalizer_core.specs.declared.canonical.check.left.Left.{Left}
-use Rattle.icu_normalizer_core.specs.BuiltIn.{built_in_compatibility_step, is_built_in}
+use Rattle.icu_normalizer_core.specs.BuiltIn.{built_in_compatibility_step, built_in_step, is_built_in}
 use Rattle.icu_normalizer_core.specs.Canonical.{Leaves, IsFree}
 use Rattle.icu_normalizer_core.specs.CanonicalFaults.{IsAccepted}
 use Rattle.icu_normalizer_core.specs.CanonicalMeaning.{lists_of, meaning}
@@ -17,6 +18,7 @@ use Rattle.icu_normalizer_core.specs.CharacterWords.{HasRightWords, built_in_nam
 use Rattle.icu_codepointtrie.specs.CodePointMaps.{CodePointMap}
 use Rattle.icu_normalizer_core.specs.CompatibilityMaps.{all_steps, first_given}
 use Rattle.icu_normalizer_core.specs.GivenCompatibilities.{IsOfCharacters}
+use Rattle.icu_normalizer_core.specs.ListRoom.{list_room}
 use Rattle.icu_normalizer_core.specs.Settled.{left_items, IsAmong}
 use Rattle.icu_normalizer_core.specs.Words.{WordLists}
 
@@ -86,10 +88,21 @@ named_with classes mappings given =
 abbrev pub HasAllNamed : List GivenClass → List GivenMapping → List GivenCompatibility → List ℕ → Type 0
 HasAllNamed classes mappings given list = (c : ℕ) → IsAmong (named_with classes mappings given) c → IsAmong list c
 
--- the words of so many characters are right, also when scalars24 grows
-pub record AreRightSoFar (step : ℕ → List ℕ) (class : ℕ → ℕ) (scalars24 done : List ℕ) (words : CodePointMap ℕ) (places : ℕ) : Type 0 where
+-- the characters that are named by what is built in, but Hangul, and scalar values, each once
+pub record IsBehindBuiltIn (list : List ℕ) : Type 0 where
+  pub named : List ℕ
+  pub distinct : IsDistinct nat_eq named
+  pub scalars : All IsScalar named
+  pub is : list ≡ (0xff9e ∷ 0xff9f ∷ []) ++ (built_in_named ++ named)
+
+-- how many places the full list of a character takes at most; that of one with a built-in mapping takes none
+abbrev pub full_room : (ℕ → List ℕ) → ℕ → ℕ
+full_room step c = cond (is_some (built_in_step c)) 0 (list_room step (step c))
+
+-- the words of characters are right, also when scalars24 grows
+pub record AreRightSoFar (step : ℕ → List ℕ) (class : ℕ → ℕ) (scalars24 done : List ℕ) (words : CodePointMap ℕ) : Type 0 where
   pub right : HasRightWords (λ c word. (word < 2 ^ 30) × (IsScalar c → KeepsFullWord step (class c) scalars24 c word)) done words
-  pub size : length scalars24 ≤ 8 * places
+  pub size : length scalars24 ≤ sum_by (full_room step) done
 
 -- the word as none is set is right of each character outside a list
 abbrev pub AreOthersUnnamed : (ℕ → List ℕ) → (ℕ → ℕ) → List ℕ → Type 0
@@ -101,3 +114,7 @@ pub record AreFullWords (step : ℕ → List ℕ) (class : ℕ → ℕ) (words :
   pub has_word : (c : ℕ) → IsScalar c → words.has_word c ≡ true
   pub scalars16 : words.scalars16 ≡ []
   pub each : (c : ℕ) → IsScalar c → IsFullWord step (class c) words.scalars24 c (words.word c)
+
+-- there is a character of which no word is right, or full lists of these characters may take more places than words name
+abbrev pub LacksWords : (ℕ → List ℕ) → List ℕ → Type 0
+LacksWords step named = HasBadLeft step ⊎ (2 ^ 14 - 1 ≤ sum_by (full_room step) named)

@@ -68,7 +68,7 @@ fn task_and_choice(words: &[String]) -> Option<(&str, Choice<'_>)> {
     let Some((task, rest)) = words.split_first() else {
         let choice = Choice {
             file: "3",
-            preferences: CollatorPreferences::default(),
+            prefs: CollatorPreferences::default(),
             options: CollatorOptions::default(),
         };
         return Some(("names", choice));

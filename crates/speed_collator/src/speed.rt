@@ -157,7 +157,7 @@ fn measure_over(
     choice: &Choice<'_>,
     rounds: u32,
 ) -> Option<()> {
-    match Collator::try_new_unstable(rt.alloc(), held, choice.preferences, choice.options) {
+    match Collator::try_new_unstable(rt.alloc(), held, choice.prefs, choice.options) {
         Ok(collator) => measure_lines(rt, &collator.as_borrowed(), file, task, rounds),
         Err(_) => None,
     }

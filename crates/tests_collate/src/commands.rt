@@ -36,7 +36,7 @@ fn choices_are_a_file_and_options_in_any_order(rt: HostRuntime) -> Result<(), Fa
     let words = words_of(alloc, &texts)?;
     let choice = Choice::read(&words).ok_or("no choice")?;
     assert_eq!(rt; choice.file, "a.records");
-    let (options, preferences) = (choice.options, choice.preferences);
+    let (options, preferences) = (choice.options, choice.prefs);
     assert_eq!(rt; options.strength, Some(Strength::Identical));
     assert_eq!(rt;
         options.alternate_handling,
@@ -57,7 +57,7 @@ fn what_no_word_gives_is_left_open(rt: HostRuntime) -> Result<(), Fail> {
     let words = words_of(rt.alloc(), &["strength=primary"])?;
     let choice = Choice::read(&words).ok_or("no choice")?;
     assert_eq!(rt; choice.file, "strength=primary");
-    let (options, preferences) = (choice.options, choice.preferences);
+    let (options, preferences) = (choice.options, choice.prefs);
     assert_eq!(rt; options.strength, None);
     assert_eq!(rt; options.alternate_handling, None);
     assert_eq!(rt; options.max_variable, None);

@@ -7,6 +7,8 @@ mod commands;
 #[cfg(test)]
 mod failing;
 #[cfg(test)]
+mod limits;
+#[cfg(test)]
 mod names;
 #[cfg(test)]
 mod option_words;

@@ -74,7 +74,7 @@ fn each_case_and_ordering_has_a_word(rt: HostRuntime) -> Result<(), Fail> {
     for (word, case) in cases {
         let words = words_of(rt.alloc(), &["a.records", word])?;
         let choice = Choice::read(&words).ok_or("no choice")?;
-        assert_eq!(rt; choice.preferences.case_first, Some(case));
+        assert_eq!(rt; choice.prefs.case_first, Some(case));
     }
     let orderings = [
         ("numeric=off", CollationNumericOrdering::False),
@@ -83,7 +83,7 @@ fn each_case_and_ordering_has_a_word(rt: HostRuntime) -> Result<(), Fail> {
     for (word, ordering) in orderings {
         let words = words_of(rt.alloc(), &["a.records", word])?;
         let choice = Choice::read(&words).ok_or("no choice")?;
-        assert_eq!(rt; choice.preferences.numeric_ordering, Some(ordering));
+        assert_eq!(rt; choice.prefs.numeric_ordering, Some(ordering));
     }
     Ok(())
 }

@@ -1,5 +1,7 @@
 //! Hashes are put in, taken out and found again, few and many.
 
+ghost use Rattle.std.specs.Prelude.{◌<◌};
+
 use collate_hashes::HashList;
 use collate_hashes::hashing::hash_of;
 use std::alloc::{AllocError, Global};
@@ -17,13 +19,22 @@ fn ok_hash_of(rt: HostRuntime) {
     );
 }
 
+/// Puts a hash behind the others, once there is room.
+fn put(list: &mut HashList, hash: usize) -> Result<(), AllocError>
+    requires { 0 < hash }
+{
+    list.reserve()?;
+    list.push(hash);
+    Ok(())
+}
+
 #[test]
 fn ok_push(rt: HostRuntime) -> Result<(), Fail> {
     let mut list = HashList::new(rt.alloc());
     assert_eq!(rt; list.last_before(7, 3), None);
-    list.push(7)?;
-    list.push(5)?;
-    list.push(7)?;
+    put(&mut list, 7)?;
+    put(&mut list, 5)?;
+    put(&mut list, 7)?;
     assert_eq!(rt; list.last_before(7, 3), Some(2));
     assert_eq!(rt; list.last_before(7, 2), Some(0));
     assert_eq!(rt; list.last_before(7, 0), None);
@@ -36,6 +47,31 @@ fn ok_push(rt: HostRuntime) -> Result<(), Fail> {
     list.drop_empty();
     assert_eq!(rt; list.last_before(5, 2), Some(0));
     assert_eq!(rt; list.last_before(7, 2), Some(1));
+    Ok(())
+}
+
+#[test]
+fn ok_reserve(rt: HostRuntime) -> Result<(), Fail> {
+    let mut list = HashList::new(rt.alloc());
+    list.reserve()?;
+    assert!(rt; list.is_empty());
+    list.push(3);
+    list.reserve()?;
+    assert_eq!(rt; list.len(), 1);
+    assert_eq!(rt; list.last_before(3, 1), Some(0));
+    Ok(())
+}
+
+#[test]
+fn ok_same_before(rt: HostRuntime) -> Result<(), Fail> {
+    let mut list = HashList::new(rt.alloc());
+    for hash in [7, 16, 7, 25] {
+        put(&mut list, hash + 1)?;
+    }
+    assert_eq!(rt; list.last_before(8, 4), Some(2));
+    if let Some(place) = list.last_before(8, list.len()) {
+        assert_eq!(rt; list.same_before(place), Some(0));
+    }
     Ok(())
 }
 
@@ -56,7 +92,7 @@ fn put_in(alloc: Global, count: usize) -> Result<(HashList, Vec<usize>), AllocEr
     let mut plain = Vec::new(alloc);
     for step in 0..count {
         let hash = step.wrapping_mul(step) % 37 + 1;
-        list.push(hash)?;
+        put(&mut list, hash)?;
         plain.push(hash)?;
     }
     for step in 0..count {

@@ -1,16 +1,33 @@
 //! Places with their fronts are put in, taken out and lent in parts, few and many.
 
 use collate_places::PlaceList;
-use collate_places::fronts::{compare_fronts, front_of};
+use collate_places::fronts::Front;
 use collate_places::windows::Placed;
 use std::alloc::{AllocError, Global};
 use std::cmp::Ordering;
 use std::test::Fail;
 
+/// A front of a place's own.
+fn front_of(place: usize) -> Front {
+    Front::new(&place.to_be_bytes())
+}
+
 /// A place with a front of its own.
 fn placed(place: usize) -> Placed {
-    let front = place as u64 ^ 0x55;
+    let front = front_of(place);
     Placed { front, place }
+}
+
+/// Whether a place with its front is this one.
+fn is_place(found: Option<Placed>, place: usize) -> bool {
+    let mut count = 0;
+    match found {
+        Some(placed) => {
+            let ordering = placed.front.compare(&front_of(place), &mut count);
+            placed.place == place && ordering == Ordering::Equal
+        }
+        None => false,
+    }
 }
 
 #[test]
@@ -21,31 +38,19 @@ fn ok_insert(rt: HostRuntime) -> Result<(), Fail> {
     list.insert(0, placed(5))?;
     list.insert(1, placed(6))?;
     assert_eq!(rt; list.len(), 3);
-    assert_eq!(rt; list.at(0), Some(placed(5)));
-    assert_eq!(rt; list.at(1), Some(placed(6)));
-    assert_eq!(rt; list.at(2), Some(placed(7)));
-    assert_eq!(rt; list.at(3), None);
-    assert_eq!(rt; list.remove(1), placed(6));
-    assert_eq!(rt; list.at(1), Some(placed(7)));
-    Ok(())
-}
-
-#[test]
-fn ok_reserve(rt: HostRuntime) -> Result<(), Fail> {
-    let mut list = PlaceList::new(rt.alloc());
-    list.reserve()?;
-    assert!(rt; list.is_empty());
-    list.insert(0, placed(9))?;
-    list.reserve()?;
-    assert_eq!(rt; list.len(), 1);
-    assert_eq!(rt; list.at(0), Some(placed(9)));
+    assert!(rt; is_place(list.at(0), 5));
+    assert!(rt; is_place(list.at(1), 6));
+    assert!(rt; is_place(list.at(2), 7));
+    assert!(rt; list.at(3).is_none());
+    assert!(rt; is_place(Some(list.remove(1)), 6));
+    assert!(rt; is_place(list.at(1), 7));
     Ok(())
 }
 
 /// Whether two lists are the same.
-fn are_same(list: &PlaceList, plain: &[Placed]) -> bool {
+fn are_same(list: &PlaceList, plain: &[usize]) -> bool {
     for (rank, place) in plain.iter().enumerate() {
-        if list.at(rank) != Some(*place) {
+        if !is_place(list.at(rank), *place) {
             return false;
         }
     }
@@ -53,18 +58,36 @@ fn are_same(list: &PlaceList, plain: &[Placed]) -> bool {
 }
 
 /// Whether each rank is in the part that is lent for it, wherever it is looked for first.
-fn are_lent(list: &PlaceList, plain: &[Placed], first: usize, last: usize) -> bool {
+fn are_lent(list: &PlaceList, plain: &[usize], first: usize, last: usize) -> bool {
     for (rank, place) in plain.iter().enumerate() {
         let window = list.around(rank, first, last);
-        if rank < window.start || window.places.get(rank - window.start) != Some(place) {
+        if rank < window.start {
             return false;
+        }
+        match window.places.get(rank - window.start) {
+            Some(placed) if placed.place == *place => {}
+            _ => return false,
         }
     }
     list.around(plain.len(), first, last).places.is_empty()
 }
 
+/// In how many parts a list is lent.
+fn count_parts(list: &PlaceList) -> usize {
+    let mut last = None;
+    let mut parts: usize = 0;
+    for rank in 0..list.len() {
+        let part = Some(list.around(rank, 0, usize::MAX).part);
+        if part != last {
+            parts = parts.saturating_add(1);
+        }
+        last = part;
+    }
+    parts
+}
+
 /// So many places, put in all over, in parts and in one piece.
-fn put_in(alloc: Global, count: usize) -> Result<(PlaceList, Vec<Placed>), AllocError> {
+fn put_in(alloc: Global, count: usize) -> Result<(PlaceList, Vec<usize>), AllocError> {
     let mut list = PlaceList::new(alloc);
     let mut plain = Vec::new(alloc);
     for place in 0..count {
@@ -72,19 +95,19 @@ fn put_in(alloc: Global, count: usize) -> Result<(PlaceList, Vec<Placed>), Alloc
         if rank <= list.len() {
             list.insert(rank, placed(place))?;
         }
-        plain.insert(rank, placed(place))?;
+        plain.insert(rank, place)?;
     }
     Ok((list, plain))
 }
 
 /// Takes so many places out all over, and tells whether they were the same.
-fn take_out(list: &mut PlaceList, plain: &mut Vec<Placed>, count: usize) -> bool {
+fn take_out(list: &mut PlaceList, plain: &mut Vec<usize>, count: usize) -> bool {
     for step in 0..count {
         if plain.is_empty() {
             return false;
         }
         let rank = step.wrapping_mul(7919) % plain.len();
-        if list.len() <= rank || list.remove(rank) != plain.remove(rank) {
+        if list.len() <= rank || !is_place(Some(list.remove(rank)), plain.remove(rank)) {
             return false;
         }
     }
@@ -104,6 +127,23 @@ fn lists_are_split_and_let_go(rt: HostRuntime) -> Result<(), Fail> {
 }
 
 #[test]
+fn parts_are_joined(rt: HostRuntime) -> Result<(), Fail> {
+    let (mut list, mut plain) = put_in(rt.alloc(), 60_000)?;
+    assert!(rt; count_parts(&list) > 128, "more than a block of ranks");
+    assert!(rt; are_same(&list, &plain));
+    assert!(rt; take_out(&mut list, &mut plain, 59_000));
+    assert!(rt;
+        count_parts(&list) < 7,
+        "1,000 places, two parts hold 385 at least"
+    );
+    assert!(rt; are_same(&list, &plain));
+    assert!(rt; 500 <= list.len());
+    list.insert(500, placed(9))?;
+    assert!(rt; is_place(list.at(500), 9));
+    Ok(())
+}
+
+#[test]
 fn parts_are_lent(rt: HostRuntime) -> Result<(), Fail> {
     let (list, plain) = put_in(rt.alloc(), 3000)?;
     assert!(rt; are_lent(&list, &plain, 0, usize::MAX));
@@ -114,14 +154,15 @@ fn parts_are_lent(rt: HostRuntime) -> Result<(), Fail> {
 
 #[test]
 fn fronts_compare_as_bytes(rt: HostRuntime) -> Result<(), Fail> {
-    assert_eq!(rt; front_of(b"ab"), 0x6162_0000_0000_0000);
-    assert_eq!(rt; front_of(b"abcdefghi"), 0x6162_6364_6566_6768);
     let mut count = 0;
-    let ordering = compare_fronts(front_of(b"ab"), front_of(b"b"), &mut count);
+    let ordering = Front::new(b"ab").compare(&Front::new(b"b"), &mut count);
     assert_eq!(rt; ordering, Ordering::Less);
     assert_eq!(rt; count, 1);
-    let ordering = compare_fronts(front_of(b"abcdefghi"), front_of(b"abcdefghj"), &mut count);
+    let ordering = Front::new(b"ab\x00c").compare(&Front::new(b"ab"), &mut count);
+    assert_eq!(rt; ordering, Ordering::Greater);
+    assert_eq!(rt; count, 2);
+    let ordering = Front::new(b"abcdefghi").compare(&Front::new(b"abcdefghj"), &mut count);
     assert_eq!(rt; ordering, Ordering::Equal);
-    assert_eq!(rt; count, 1);
+    assert_eq!(rt; count, 2);
     Ok(())
 }

@@ -6,6 +6,8 @@ mod changes;
 #[cfg(test)]
 mod compile;
 #[cfg(test)]
+mod limits;
+#[cfg(test)]
 mod reader;
 #[cfg(test)]
 mod records;

@@ -121,83 +121,181 @@ fn comes_to(alloc: Global, edit: Edit, part: Part, edges: &[u32]) -> Result<bool
     has_edges(alloc, &builder, edges)
 }
 
-/// Edits of the builder of two ranges, and the ends then.
-const EDITS: &[(Edit, Part, &[u32])] = &[
-    (Edit::Add, Part::Set, &[0x05, 0x14, 0x16, 0x21, 0x28, 0x33]),
-    (Edit::Add, Part::Char('\u{14}'), &[0x0A, 0x15, 0x28, 0x32]),
-    (Edit::Add, Part::CodePoint(0x27), &[0x0A, 0x14, 0x27, 0x32]),
-    (Edit::Add, Part::Range('\u{10}', '\u{27}'), &[0x0A, 0x32]),
-    (
-        Edit::Add,
-        Part::Range32(0x40, 0xFFFF_FFFF),
-        &[0x0A, 0x14, 0x28, 0x32, 0x40, 0x11_0000],
-    ),
-    (Edit::Remove, Part::Set, &[0x0A, 0x14, 0x28, 0x2C]),
-    (
-        Edit::Remove,
-        Part::Char('\u{0A}'),
-        &[0x0B, 0x14, 0x28, 0x32],
-    ),
-    (
-        Edit::Remove,
-        Part::CodePoint(0x31),
-        &[0x0A, 0x14, 0x28, 0x31],
-    ),
-    (
-        Edit::Remove,
-        Part::Range('\u{10}', '\u{11}'),
-        &[0x0A, 0x10, 0x12, 0x14, 0x28, 0x32],
-    ),
-    (
-        Edit::Remove,
-        Part::Range32(0x13, 0x28),
-        &[0x0A, 0x13, 0x29, 0x32],
-    ),
-    (Edit::Retain, Part::Set, &[0x2C, 0x32]),
-    (Edit::Retain, Part::Char('\u{0A}'), &[0x0A, 0x0B]),
-    (Edit::Retain, Part::CodePoint(0x31), &[0x31, 0x32]),
-    (
-        Edit::Retain,
-        Part::Range('\u{10}', '\u{29}'),
-        &[0x10, 0x14, 0x28, 0x2A],
-    ),
-    (Edit::Retain, Part::Range32(0x2F, 0x2E), &[]),
-    (
-        Edit::Complement,
-        Part::Set,
-        &[0x05, 0x14, 0x16, 0x21, 0x28, 0x2C, 0x32, 0x33],
-    ),
-    (
-        Edit::Complement,
-        Part::Char('\u{0A}'),
-        &[0x0B, 0x14, 0x28, 0x32],
-    ),
-    (
-        Edit::Complement,
-        Part::CodePoint(0x14),
-        &[0x0A, 0x15, 0x28, 0x32],
-    ),
-    (
-        Edit::Complement,
-        Part::Range('\u{10}', '\u{2F}'),
-        &[0x0A, 0x10, 0x14, 0x28, 0x30, 0x32],
-    ),
-    (Edit::Complement, Part::Range32(0x14, 0x27), &[0x0A, 0x32]),
-];
-
-/// The number of the first edit that comes to other ends.
-fn first_wrong_edit(alloc: Global) -> Option<usize> {
-    for (number, (edit, part, edges)) in EDITS.iter().enumerate() {
-        if comes_to(alloc, *edit, *part, edges) != Ok(true) {
-            return Some(number);
-        }
-    }
-    None
+/// Retaining an empty range leaves nothing.
+#[test]
+fn an_empty_range_retains_nothing(rt: HostRuntime) {
+    let retained = comes_to(rt.alloc(), Edit::Retain, Part::Range32(0x2F, 0x2E), &[]);
+    assert!(rt; retained == Ok(true));
 }
 
 #[test]
-fn edits_of_builders(rt: HostRuntime) {
-    assert_eq!(rt; first_wrong_edit(rt.alloc()), None);
+fn ok_add_char(rt: HostRuntime) {
+    let edges = [0x0A, 0x15, 0x28, 0x32];
+    let edited = comes_to(rt.alloc(), Edit::Add, Part::Char('\u{14}'), &edges);
+    assert!(rt; edited == Ok(true));
+}
+
+#[test]
+fn ok_add32(rt: HostRuntime) {
+    let edges = [0x0A, 0x14, 0x27, 0x32];
+    let edited = comes_to(rt.alloc(), Edit::Add, Part::CodePoint(0x27), &edges);
+    assert!(rt; edited == Ok(true));
+}
+
+#[test]
+fn ok_add_range(rt: HostRuntime) {
+    let edges = [0x0A, 0x32];
+    let edited = comes_to(
+        rt.alloc(),
+        Edit::Add,
+        Part::Range('\u{10}', '\u{27}'),
+        &edges,
+    );
+    assert!(rt; edited == Ok(true));
+}
+
+#[test]
+fn ok_add_range32(rt: HostRuntime) {
+    let edges = [0x0A, 0x14, 0x28, 0x32, 0x40, 0x11_0000];
+    let edited = comes_to(
+        rt.alloc(),
+        Edit::Add,
+        Part::Range32(0x40, 0xFFFF_FFFF),
+        &edges,
+    );
+    assert!(rt; edited == Ok(true));
+}
+
+#[test]
+fn ok_add_set(rt: HostRuntime) {
+    let edges = [0x05, 0x14, 0x16, 0x21, 0x28, 0x33];
+    let edited = comes_to(rt.alloc(), Edit::Add, Part::Set, &edges);
+    assert!(rt; edited == Ok(true));
+}
+
+#[test]
+fn ok_remove_char(rt: HostRuntime) {
+    let edges = [0x0B, 0x14, 0x28, 0x32];
+    let edited = comes_to(rt.alloc(), Edit::Remove, Part::Char('\u{0A}'), &edges);
+    assert!(rt; edited == Ok(true));
+}
+
+#[test]
+fn ok_remove32(rt: HostRuntime) {
+    let edges = [0x0A, 0x14, 0x28, 0x31];
+    let edited = comes_to(rt.alloc(), Edit::Remove, Part::CodePoint(0x31), &edges);
+    assert!(rt; edited == Ok(true));
+}
+
+#[test]
+fn ok_remove_range(rt: HostRuntime) {
+    let edges = [0x0A, 0x10, 0x12, 0x14, 0x28, 0x32];
+    let edited = comes_to(
+        rt.alloc(),
+        Edit::Remove,
+        Part::Range('\u{10}', '\u{11}'),
+        &edges,
+    );
+    assert!(rt; edited == Ok(true));
+}
+
+#[test]
+fn ok_remove_range32(rt: HostRuntime) {
+    let edges = [0x0A, 0x13, 0x29, 0x32];
+    let edited = comes_to(rt.alloc(), Edit::Remove, Part::Range32(0x13, 0x28), &edges);
+    assert!(rt; edited == Ok(true));
+}
+
+#[test]
+fn ok_remove_set(rt: HostRuntime) {
+    let edges = [0x0A, 0x14, 0x28, 0x2C];
+    let edited = comes_to(rt.alloc(), Edit::Remove, Part::Set, &edges);
+    assert!(rt; edited == Ok(true));
+}
+
+#[test]
+fn ok_retain_char(rt: HostRuntime) {
+    let edges = [0x0A, 0x0B];
+    let edited = comes_to(rt.alloc(), Edit::Retain, Part::Char('\u{0A}'), &edges);
+    assert!(rt; edited == Ok(true));
+}
+
+#[test]
+fn ok_retain32(rt: HostRuntime) {
+    let edges = [0x31, 0x32];
+    let edited = comes_to(rt.alloc(), Edit::Retain, Part::CodePoint(0x31), &edges);
+    assert!(rt; edited == Ok(true));
+}
+
+#[test]
+fn ok_retain_range(rt: HostRuntime) {
+    let edges = [0x10, 0x14, 0x28, 0x2A];
+    let edited = comes_to(
+        rt.alloc(),
+        Edit::Retain,
+        Part::Range('\u{10}', '\u{29}'),
+        &edges,
+    );
+    assert!(rt; edited == Ok(true));
+}
+
+#[test]
+fn ok_retain_range32(rt: HostRuntime) {
+    let edges = [0x13, 0x14, 0x28, 0x29];
+    let edited = comes_to(rt.alloc(), Edit::Retain, Part::Range32(0x13, 0x28), &edges);
+    assert!(rt; edited == Ok(true));
+}
+
+#[test]
+fn ok_retain_set(rt: HostRuntime) {
+    let edges = [0x2C, 0x32];
+    let edited = comes_to(rt.alloc(), Edit::Retain, Part::Set, &edges);
+    assert!(rt; edited == Ok(true));
+}
+
+#[test]
+fn ok_complement_char(rt: HostRuntime) {
+    let edges = [0x0B, 0x14, 0x28, 0x32];
+    let edited = comes_to(rt.alloc(), Edit::Complement, Part::Char('\u{0A}'), &edges);
+    assert!(rt; edited == Ok(true));
+}
+
+#[test]
+fn ok_complement32(rt: HostRuntime) {
+    let edges = [0x0A, 0x15, 0x28, 0x32];
+    let edited = comes_to(rt.alloc(), Edit::Complement, Part::CodePoint(0x14), &edges);
+    assert!(rt; edited == Ok(true));
+}
+
+#[test]
+fn ok_complement_range(rt: HostRuntime) {
+    let edges = [0x0A, 0x10, 0x14, 0x28, 0x30, 0x32];
+    let edited = comes_to(
+        rt.alloc(),
+        Edit::Complement,
+        Part::Range('\u{10}', '\u{2F}'),
+        &edges,
+    );
+    assert!(rt; edited == Ok(true));
+}
+
+#[test]
+fn ok_complement_range32(rt: HostRuntime) {
+    let edges = [0x0A, 0x32];
+    let edited = comes_to(
+        rt.alloc(),
+        Edit::Complement,
+        Part::Range32(0x14, 0x27),
+        &edges,
+    );
+    assert!(rt; edited == Ok(true));
+}
+
+#[test]
+fn ok_complement_set(rt: HostRuntime) {
+    let edges = [0x05, 0x14, 0x16, 0x21, 0x28, 0x2C, 0x32, 0x33];
+    let edited = comes_to(rt.alloc(), Edit::Complement, Part::Set, &edges);
+    assert!(rt; edited == Ok(true));
 }
 
 /// Whether a new builder is empty, and its set has no end.

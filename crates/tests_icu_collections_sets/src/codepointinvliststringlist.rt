@@ -128,7 +128,7 @@ fn strings_are_copied(alloc: Global, texts: &[&str]) -> bool {
 }
 
 #[test]
-fn copies_of_sets_with_strings(rt: HostRuntime) {
+fn ok_clone(rt: HostRuntime) {
     assert!(rt; strings_are_copied(rt.alloc(), &["ab", "éa"]));
 }
 

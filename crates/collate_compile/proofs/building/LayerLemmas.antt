@@ -1,5 +1,5 @@
 -- What a layer in the making has after a write.
-use Rattle.std.proofs.Common.{◌≡◌, ℕ, ◌≤◌, ⊎_elim, Bool, true, false, cond, ◌||◌, eqb, List, [], ◌∷◌, ◌++◌, Option, Some, None, Result, Ok, Err, refl, sym, ap, ◌∙◌, subst, arith}
+use Rattle.std.proofs.Common.{◌≡◌, ℕ, ◌+◌, ◌*◌, ◌≤◌, ⊎_elim, Bool, true, false, cond, ◌||◌, eqb, List, [], ◌∷◌, ◌++◌, Option, Some, None, Result, Ok, Err, refl, sym, ap, ◌∙◌, subst, arith}
 use Rattle.std.specs.Prelude.{MatchBool, MatchOption, OnOk, option_map}
 use Rattle.std.specs.Char.{IsScalar}
 use Rattle.std.specs.List.{list_any}
@@ -7,6 +7,7 @@ use Rattle.std.proofs.lemmas.Bool.{eqb-true}
 use Rattle.std.proofs.lemmas.Bool.Decides.{nat_tests}
 use Rattle.std.proofs.lemmas.List.Folds.{list_any-append}
 use lib.Utf8.{scalar_cases}
+use Rattle.icu_codepointtrie.specs.Blocks.{different_blocks}
 use Rattle.icu_codepointtrie.specs.CodePointMaps.{mapped}
 use Rattle.icu_normalizer_core.specs.BuiltIn.{is_within}
 use Rattle.icu_collator_core.specs.Pools.{Pools, elements_of_word, lone_word, unprefixed_word}
@@ -15,12 +16,14 @@ use Rattle.icu_collator_core.specs.UnrecordedWords.{implicit}
 use Rattle.collate_lines.specs.declared.record.Range.{Range}
 use Rattle.collate_lines.specs.Record.{Layer, Record, root, tailoring, range}
 use Rattle.collate_rules.specs.Meaning.{first_found, is_compressible_in, range_in, recorded_in, span_of}
-use Rattle.collate_words.specs.Growth.{Grows}
-use Rattle.collate_words.specs.Sayings.{Saying}
+use Rattle.collate_rules.specs.Rules.{is_range}
+use Rattle.collate_words.specs.Growth.{Grows, GrowsFor}
+use Rattle.collate_words.specs.Sayings.{Saying, element_count, text_count}
 use Rattle.collate_words.specs.Written.{SaysOf}
 use Rattle.collate_compile.specs.declared.layer_builder.LayerBuilder.{LayerBuilder}
-use Rattle.collate_compile.specs.LayerBuilds.{AreRangesWritten, AreWritten, GivesWord, IsGiven, IsLeft, IsRanged, offset_among, unwritten_word, word_of}
+use Rattle.collate_compile.specs.LayerBuilds.{AreRangesWritten, AreWritten, GivesWord, GrowsBy, IsGiven, IsLeft, IsRanged, offset_among, unwritten_word, word_of}
 use Rattle.collate_compile.specs.LineSayings.{IsSayingOf, offset_bits, offset_of, ranged_saying}
+use Rattle.collate_compile.proofs.building.BuildingGrowthLemmas.{grown_range}
 use Rattle.collate_compile.proofs.building.MapLemmas.{mapped-default, mapped-kept, mapped-other, mapped-written}
 
 -- what a word says stays said when the lists grow
@@ -206,6 +209,18 @@ range_written stay lines some old new r line saying offset result is says e give
     on_ok_map result (λ g. subst (λ (s : Record). AreRangesWritten lines (s ∷ some) new) (sym is)
     (ranges_more stay lines some old new r written
     (subst (λ (s : Saying). GivesWord old new (is_within r.first r.last) s) (says ∙ ap ranged_saying e) g))) gives
+
+pub range_grown : {E : Type 0} (old new : LayerBuilder) (covers : ℕ → Bool) (r : Range) (line : Record)
+    (saying : Saying) (offset : ℕ) (result : Result (Unit {0}) E) → line ≡ range r → saying ≡ ranged_saying offset
+    → OnOk result (GrowsFor (element_count saying) (text_count saying) old.pools new.pools)
+    → OnOk result ((width : ℕ) → different_blocks (λ n. n) width new.words.values
+    ≤ different_blocks (λ n. n) width old.words.values + 3)
+    → OnOk result (GivesWord old new covers saying)
+    → OnOk result (GrowsBy (cond (is_range line) 1 0) (3 * cond (is_range line) 1 0) old new)
+range_grown old new covers r line saying offset (Ok x) is says grown blocks gives =
+    subst (λ (s : Record). GrowsBy (cond (is_range s) 1 0) (3 * cond (is_range s) 1 0) old new) (sym is)
+    (grown_range old new covers saying grown (ap element_count says) (ap text_count says) blocks gives)
+range_grown old new covers r line saying offset (Err e) is says grown blocks gives = grown
 
 pub none_ranged : (lines : List Record) (layer : LayerBuilder) → layer.words.default ≡ implicit
     → ((c : ℕ) → word_of layer c ≡ implicit) → AreRangesWritten lines [] layer

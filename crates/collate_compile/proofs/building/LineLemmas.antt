@@ -1,14 +1,13 @@
 -- Lines from the last on.
-use Rattle.std.proofs.Common.{◌≡◌, ℕ, suc, ◌+◌, ◌-◌, ◌<◌, ◌≤◌, List, [], ◌∷◌, length, map, drop, get_or, ap, ◌∙◌, arith, cond}
+use Rattle.std.proofs.Common.{◌≡◌, ℕ, suc, ◌+◌, ◌-◌, ◌<◌, ◌≤◌, List, [], ◌∷◌, length, map, drop, get_or, sym, ap, ◌∙◌, arith, cond}
 use Rattle.std.specs.Prelude.{count_by}
 use Rattle.std.proofs.Common.{drop-cons}
-use Rattle.std.proofs.lemmas.List.{length-map}
+use Rattle.std.proofs.lemmas.List.{get_or-map, length-map}
 use Rattle.std.proofs.Math.ListN.{drop_of_length-le}
 use Rattle.std.proofs.lemmas.List.Sums.{sum_by-cons, sum_by-take-drop}
 use Rattle.collate_lines.specs.declared.record.Record.{Record as Line}
 use Rattle.collate_lines.specs.Record.{Record, nothing, said}
 use Rattle.collate_rules.specs.Rules.{is_range}
-use Rattle.collate_rules.proofs.offenders.LimitLemmas.{said_of}
 
 -- the lines from one before a place on
 pub from_line : (lines : List Line) (i : ℕ) (x : Line) → i < length lines → x ≡ get_or lines (length lines - 1 - i) x
@@ -16,7 +15,7 @@ pub from_line : (lines : List Line) (i : ℕ) (x : Line) → i < length lines �
 from_line lines i x h e =
     ap (λ (n : ℕ). drop n (map said lines)) here
     ∙ drop-cons (map said lines) place nothing (omega (arith, length-map lines said))
-    ∙ ap (λ (s : Record). s ∷ drop (suc place) (map said lines)) (said_of lines place x (omega arith) e)
+    ∙ ap (λ (s : Record). s ∷ drop (suc place) (map said lines)) (get_or-map said lines place x nothing (omega arith) ∙ ap said (sym e))
     ∙ ap (λ (n : ℕ). said x ∷ drop n (map said lines)) next
   where
     place : ℕ

@@ -1,6 +1,6 @@
 -- What accepted lines give: keys and elements that can be written, and not too many of them.
 use Rattle.std.proofs.Common.{◌≡◌, ℕ, ◌+◌, ◌/◌, ◌%◌, ◌^◌, ◌<◌, ◌≤◌, Bool, true, false, not, ◌==◌, ◌&&◌, ◌||◌, leb, ltb, List, [], ◌∷◌, length, take, Some, refl, sym, subst, arith, All, inl, inr, ⊎_elim, take_all}
-use Rattle.std.specs.Prelude.{filter}
+use Rattle.std.specs.Prelude.{count_by, sum_by}
 use Rattle.std.specs.List.{list_all}
 use Rattle.std.proofs.lemmas.Bool.{and_from, and_parts, cases_lt, eqb-true, false_from_ne_true, leb-true, lt-ltb, or_cases, true_from_ne_false}
 use Rattle.std.proofs.lemmas.Option.{unwrap_or-slice_get}
@@ -10,11 +10,11 @@ use Rattle.icu_collator_core.specs.WeightRules.{has_widths, is_sound_kind, is_so
 use Rattle.collate_lines.specs.declared.rule.Rule.TheVariants.{Limit, V1, V4, V10, V11}
 use Rattle.collate_lines.specs.Grammar.{record_of}
 use Rattle.collate_lines.specs.Record.{Record, nothing, class, mapping, compatibility, weights, range, digit, setting}
-use Rattle.collate_lines.specs.Repeats.{record_at, says_something}
+use Rattle.collate_lines.specs.Repeats.{record_at}
 use Rattle.collate_rules.specs.Accepted.{AreAccepted, IsSaid}
 use Rattle.collate_rules.specs.GivenWeights.{KeepsWidths, elements_of, has_sound_tertiary}
 use Rattle.collate_rules.specs.RecordRules.{breaks_digits, breaks_prefixes}
-use Rattle.collate_rules.specs.Rules.{IsLong}
+use Rattle.collate_rules.specs.Rules.{IsLong, blocks_in, different, element_room, is_beside}
 use Rattle.collate_rules.proofs.given.GrammarLemmas.{line_keeps_widths}
 use Rattle.collate_rules.proofs.offenders.LineRuleLemmas.{each_line}
 use Rattle.collate_words.specs.Fits.{AreFit, fits_bits}
@@ -120,7 +120,7 @@ module _ (records : List Record) (accepted : AreAccepted records) where
       each_line CanWriteLine records (λ i lt.
       can_write (record_at records i) (at_line HasCharacters (by_grammar HasCharacters line_has_characters) i lt)
       (at_line KeepsWidths (by_grammar KeepsWidths line_keeps_widths) i lt)
-      (λ long. accepted.keep_rules Limit i lt (inr (inr long)))
+      (λ long. accepted.keep_rules Limit i lt (inr long))
       (true_from_ne_false _ (accepted.keep_rules V1 i lt))
       (true_from_ne_false _ (accepted.keep_rules V4 i lt)))
 
@@ -142,15 +142,36 @@ accepted_prefixes records accepted = unbroken (breaks_prefixes records) refl rec
 pub accepted_digits : (records : List Record) → AreAccepted records → breaks_digits records records ≡ false
 accepted_digits records accepted = unbroken (breaks_digits records) refl records (accepted.keep_rules V11)
 
--- at most 1,000 lines say something
-pub accepted_few : (records : List Record) → AreAccepted records → length (filter says_something records) ≤ 1000
-accepted_few records accepted = by records (λ i lt over. accepted.keep_rules Limit i lt (inr (inl over)))
-  where
-    by : (lines : List Record)
-        → ((i : ℕ) → i < length lines → 1000 < length (filter says_something (take (i + 1) lines)) → ⊥)
-        → length (filter says_something lines) ≤ 1000
-    by [] keeps = omega arith
-    by (line ∷ lines) keeps =
-        subst (λ (ls : List Record). length (filter says_something ls) ≤ 1000)
-        (take_all (length lines + 1) (line ∷ lines) (omega arith))
-        (at_most _ 1000 (keeps (length lines) (omega arith)))
+-- ---- What the lines take together
+
+within : (taken : List Record → ℕ) (most : ℕ) → taken [] ≤ most → (records : List Record)
+    → ((i : ℕ) → i < length records → most < taken (take (i + 1) records) → ⊥)
+    → taken records ≤ most
+within taken most empty [] keeps = empty
+within taken most empty (line ∷ records) keeps =
+    subst (λ (ls : List Record). taken ls ≤ most) (take_all (length records + 1) (line ∷ records) (omega arith))
+    (at_most _ most (keeps (length records) (omega arith)))
+
+pub accepted_elements : (records : List Record) → AreAccepted records → sum_by element_room records ≤ 520000
+accepted_elements records accepted =
+    within (sum_by element_room) 520000 (omega arith) records
+    (λ i lt over. accepted.keep_rules Limit i lt (inl (inr (inr (inl over)))))
+
+pub accepted_texts : (records : List Record) → AreAccepted records → count_by is_beside records ≤ 2600
+accepted_texts records accepted =
+    within (count_by is_beside) 2600 (omega arith) records
+    (λ i lt over. accepted.keep_rules Limit i lt (inl (inr (inr (inr (inl over))))))
+
+no_block : (width : ℕ) → blocks_in width [] ≡ 0
+unfolding different
+no_block width = refl
+
+pub accepted_wide : (records : List Record) → AreAccepted records → blocks_in 512 records ≤ 700
+accepted_wide records accepted =
+    within (blocks_in 512) 700 (omega (arith, no_block 512)) records
+    (λ i lt over. accepted.keep_rules Limit i lt (inl (inl over)))
+
+pub accepted_narrow : (records : List Record) → AreAccepted records → blocks_in 16 records ≤ 11000
+accepted_narrow records accepted =
+    within (blocks_in 16) 11000 (omega (arith, no_block 16)) records
+    (λ i lt over. accepted.keep_rules Limit i lt (inl (inr (inl over))))

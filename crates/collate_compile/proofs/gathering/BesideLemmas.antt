@@ -1,6 +1,6 @@
 -- What stands beside a character in lines: just what is recorded.
 use Rattle.std.proofs.Common.{◌≡◌, ℕ, ◌+◌, ◌≤◌, Bool, true, false, cond, not, ◌==◌, ◌&&◌, ◌||◌, List, [], ◌∷◌, length, Option, Some, None, refl, sym, ap, ◌∙◌, subst, arith}
-use Rattle.std.specs.Prelude.{is_some, count_by, bytes_eq}
+use Rattle.std.specs.Prelude.{is_some, sum_by, bytes_eq}
 use Rattle.std.specs.Option.{option_and_then, option_or}
 use Rattle.std.specs.List.{list_any}
 use Rattle.std.proofs.lemmas.Bool.{and_from, and_parts, false≢true, not_from_false, or_left, or_right}
@@ -9,12 +9,15 @@ use Rattle.std.proofs.lemmas.List.Sums.{sum_by-cons}
 use Rattle.std.proofs.lemmas.Slice.Eq.{bytes_eq-Decides}
 use Rattle.icu_collator_types.specs.declared.elements.Element.{Element}
 use Rattle.collate_lines.specs.Record.{Layer, Record, root, tailoring, nothing, class, mapping, compatibility, weights, range, digit, setting, is_same_layer}
+use Rattle.collate_rules.specs.GivenWeights.{elements_of}
 use Rattle.collate_rules.specs.Meaning.{elements_in, first_found, recorded_in}
 use Rattle.collate_rules.specs.RecordRules.{begins_with, is_alone, is_further, is_given, is_replaced}
-use Rattle.collate_words.specs.Sayings.{SaidBeside, elements_beside}
+use Rattle.collate_rules.specs.Rules.{is_beside}
+use Rattle.collate_words.specs.Sayings.{SaidBeside, element_sum, elements_beside, own_count}
+use Rattle.collate_compile.specs.Beginnings.{elements_begun, texts_begun}
 use Rattle.collate_compile.specs.BesideLines.{gathered, prefix_in, prefix_of, prefixes_in, suffix_in, suffix_of, suffixes_in}
 use Rattle.collate_compile.specs.LineSayings.{begins_line}
-use Rattle.collate_compile.proofs.gathering.GatherLemmas.{AreKept, elements_at, gathered-beside, gathered_kept, kept_none, length-gathered, said_of}
+use Rattle.collate_compile.proofs.gathering.GatherLemmas.{AreKept, elements_at, found_size, gathered-beside, gathered_kept, kept_none, said_of, sum-gathered}
 
 bytes_eq-swap : (xs ys : List ℕ) → bytes_eq xs ys ≡ bytes_eq ys xs
 bytes_eq-swap xs ys =
@@ -152,78 +155,196 @@ pub prefixes_kept : (lines : List Record) (c : ℕ) → AreKept (prefixes_in lin
 prefixes_kept lines c =
     gathered_kept (prefix_in root c) lines _ (gathered_kept (prefix_in tailoring c) lines [] kept_none)
 
--- ---- How many there are
-
-abbrev counts_of : ℕ → Record → ℕ
-counts_of c line =
-    (cond (is_some (suffix_in root c line)) 1 0 + cond (is_some (suffix_in tailoring c line)) 1 0)
-    + (cond (is_some (prefix_in root c line)) 1 0 + cond (is_some (prefix_in tailoring c line)) 1 0)
+-- ---- How much there is
 
 by_layer : (layer : Layer) (n : ℕ) (f : Bool → ℕ) → f false ≡ 0 → f true ≤ n
     → f (is_same_layer root layer) + f (is_same_layer tailoring layer) ≤ n
 by_layer root n f none one = omega arith
 by_layer tailoring n f none one = omega arith
 
--- a line counts once at most
-counted_once : (c : ℕ) (line : Record) → counts_of c line ≤ cond (begins_line c line) 1 0
-counted_once c (weights layer prefix text es) =
-    let s : Bool → ℕ = λ b. cond (is_some (cond b (suffix_of c prefix text es) None)) 1 0 in
-    let p : Bool → ℕ = λ b. cond (is_some (cond b (prefix_of c prefix text es) None)) 1 0 in
-    let one = of_key prefix text in
-    omega (arith, by_layer layer (s true) s refl (omega arith), by_layer layer (p true) p refl (omega arith), one)
+-- what stands beside a character, by what a line says of it in one layer, and in both
+module _ (taken : List Element → ℕ) where
+  abbrev pub size_of : SaidBeside → ℕ
+  size_of said = taken said.elements
+
+  abbrev size_beside : Layer → ℕ → Record → ℕ
+  size_beside layer c line = found_size size_of (suffix_in layer c line) + found_size size_of (prefix_in layer c line)
+
+  -- what a line takes beside a character
+  abbrev pub beside_begun : ℕ → Record → ℕ
+  beside_begun c line = cond (begins_line c line) (cond (is_beside line) (taken (elements_of line)) 0) 0
+
+  beside_once : (c : ℕ) (line : Record) → size_beside root c line + size_beside tailoring c line ≤ beside_begun c line
+  beside_once c (weights layer prefix text es) =
+      by_layer layer (beside_begun c (weights layer prefix text es))
+      (λ b. found_size size_of (cond b (suffix_of c prefix text es) None)
+      + found_size size_of (cond b (prefix_of c prefix text es) None)) refl
+      (of_key prefix text)
+    where
+      of_same : (b : Bool) (said : SaidBeside) → size_of said ≡ taken es
+          → found_size size_of (cond b (Some said) None) ≤ cond b (taken es) 0
+      of_same true said e = omega (arith, e)
+      of_same false said e = omega arith
+
+      of_key : (prefix text : List ℕ)
+          → found_size size_of (suffix_of c prefix text es) + found_size size_of (prefix_of c prefix text es)
+          ≤ beside_begun c (weights layer prefix text es)
+      of_key [] [] = omega arith
+      of_key [] (x ∷ []) = omega arith
+      of_key [] (x ∷ y ∷ ys) = omega (arith, of_same (c == x) (record { characters = y ∷ ys; elements = es }) refl)
+      of_key (b ∷ bs) [] = omega arith
+      of_key (b ∷ bs) (x ∷ []) = omega (arith, of_same (c == x) (record { characters = b ∷ bs; elements = es }) refl)
+      of_key (b ∷ bs) (x ∷ y ∷ ys) = omega arith
+  beside_once c nothing = omega arith
+  beside_once c (class e k) = omega arith
+  beside_once c (mapping e es x) = omega arith
+  beside_once c (compatibility e es) = omega arith
+  beside_once c (range r) = omega arith
+  beside_once c (digit e v) = omega arith
+  beside_once c (setting s) = omega arith
+
+  beside_counted : (lines : List Record) (c : ℕ)
+      → (sum_by (λ line. found_size size_of (suffix_in root c line)) lines
+      + sum_by (λ line. found_size size_of (suffix_in tailoring c line)) lines)
+      + (sum_by (λ line. found_size size_of (prefix_in root c line)) lines
+      + sum_by (λ line. found_size size_of (prefix_in tailoring c line)) lines)
+      ≤ sum_by (beside_begun c) lines
+  beside_counted [] c = omega arith
+  beside_counted (line ∷ lines) c =
+      omega (
+        arith,
+        beside_counted lines c,
+        beside_once c line,
+        sum_by-cons (λ l. found_size size_of (suffix_in root c l)) line lines,
+        sum_by-cons (λ l. found_size size_of (suffix_in tailoring c l)) line lines,
+        sum_by-cons (λ l. found_size size_of (prefix_in root c l)) line lines,
+        sum_by-cons (λ l. found_size size_of (prefix_in tailoring c l)) line lines,
+        sum_by-cons (beside_begun c) line lines,
+      )
+
+  -- as much as the lines take beside the character
+  pub few_beside : (lines : List Record) (c : ℕ)
+      → sum_by size_of (suffixes_in lines c) + sum_by size_of (prefixes_in lines c) ≤ sum_by (beside_begun c) lines
+  few_beside lines c =
+      omega (
+        arith,
+        beside_counted lines c,
+        sum-gathered (suffix_in root c) size_of lines (gathered (suffix_in tailoring c) lines []),
+        sum-gathered (suffix_in tailoring c) size_of lines [],
+        sum-gathered (prefix_in root c) size_of lines (gathered (prefix_in tailoring c) lines []),
+        sum-gathered (prefix_in tailoring c) size_of lines [],
+      )
+
+-- ---- How many elements a character has alone
+
+-- what a line gives of them
+abbrev alone_begun : ℕ → Record → ℕ
+alone_begun c line = cond (begins_line c line) (cond (is_beside line) 0 (length (elements_of line))) 0
+
+alone_once : (c : ℕ) (line : Record)
+    → own_count (elements_in root [] (c ∷ []) line) + own_count (elements_in tailoring [] (c ∷ []) line)
+    ≤ alone_begun c line
+alone_once c (weights layer prefix text es) =
+    by_layer layer (alone_begun c (weights layer prefix text es))
+    (λ b. own_count (cond (b && bytes_eq [] prefix && bytes_eq (c ∷ []) text) (Some es) None)) refl (of_key prefix text)
   where
-    of_same : (b : Bool) (said : SaidBeside) → cond (is_some (cond b (Some said) None)) 1 0 ≤ cond b 1 0
-    of_same true said = omega arith
-    of_same false said = omega arith
+    one : (b : Bool) → own_count (cond (b && true) (Some es) None) ≤ cond b (length es) 0
+    one true = omega arith
+    one false = omega arith
+
+    none : (b : Bool) (n : ℕ) → own_count (cond (b && false) (Some es) None) ≤ n
+    none true n = omega arith
+    none false n = omega arith
 
     of_key : (prefix text : List ℕ)
-        → cond (is_some (suffix_of c prefix text es)) 1 0 + cond (is_some (prefix_of c prefix text es)) 1 0 ≤ cond
-        (begins_with c text) 1 0
+        → own_count (cond (bytes_eq [] prefix && bytes_eq (c ∷ []) text) (Some es) None)
+        ≤ alone_begun c (weights layer prefix text es)
     of_key [] [] = omega arith
-    of_key [] (x ∷ []) = omega arith
-    of_key [] (x ∷ y ∷ ys) = omega (arith, of_same (c == x) (record { characters = y ∷ ys; elements = es }))
-    of_key (b ∷ bs) [] = omega arith
-    of_key (b ∷ bs) (x ∷ []) = omega (arith, of_same (c == x) (record { characters = b ∷ bs; elements = es }))
-    of_key (b ∷ bs) (x ∷ y ∷ ys) = omega arith
-counted_once c nothing = omega arith
-counted_once c (class e k) = omega arith
-counted_once c (mapping e es x) = omega arith
-counted_once c (compatibility e es) = omega arith
-counted_once c (range r) = omega arith
-counted_once c (digit e v) = omega arith
-counted_once c (setting s) = omega arith
+    of_key [] (x ∷ []) = one (c == x)
+    of_key [] (x ∷ y ∷ ys) = none (c == x) _
+    of_key (b ∷ bs) text = omega arith
+alone_once c nothing = omega arith
+alone_once c (class e k) = omega arith
+alone_once c (mapping e es x) = omega arith
+alone_once c (compatibility e es) = omega arith
+alone_once c (range r) = omega arith
+alone_once c (digit e v) = omega arith
+alone_once c (setting s) = omega arith
 
-counted : (lines : List Record) (c : ℕ)
-    → (count_by (λ line. is_some (suffix_in root c line)) lines + count_by
-    (λ line. is_some (suffix_in tailoring c line)) lines)
-    + (count_by (λ line. is_some (prefix_in root c line)) lines + count_by
-    (λ line. is_some (prefix_in tailoring c line)) lines)
-    ≤ count_by (begins_line c) lines
-counted [] c = omega arith
-counted (line ∷ lines) c =
+found_few : (found : Record → Option (List Element)) (lines : List Record)
+    → own_count (first_found found lines) ≤ sum_by (λ line. own_count (found line)) lines
+found_few found [] = omega arith
+found_few found (line ∷ lines) = by (found line) refl (found_few found lines)
+  where
+    by : (o : Option (List Element)) → found line ≡ o
+        → own_count (first_found found lines) ≤ sum_by (λ l. own_count (found l)) lines
+        → own_count (elim o [ Some es ↦ Some es | None ↦ first_found found lines ])
+        ≤ sum_by (λ l. own_count (found l)) (line ∷ lines)
+    by (Some es) e later =
+        let here = ap own_count e in omega (arith, here, sum_by-cons (λ l. own_count (found l)) line lines)
+    by None e later = omega (arith, later, sum_by-cons (λ l. own_count (found l)) line lines)
+
+alone_counted : (lines : List Record) (c : ℕ)
+    → sum_by (λ line. own_count (elements_in root [] (c ∷ []) line)) lines
+    + sum_by (λ line. own_count (elements_in tailoring [] (c ∷ []) line)) lines
+    ≤ sum_by (alone_begun c) lines
+alone_counted [] c = omega arith
+alone_counted (line ∷ lines) c =
     omega (
       arith,
-      counted lines c,
-      counted_once c line,
-      sum_by-cons (λ l. cond (is_some (suffix_in root c l)) 1 0) line lines,
-      sum_by-cons (λ l. cond (is_some (suffix_in tailoring c l)) 1 0) line lines,
-      sum_by-cons (λ l. cond (is_some (prefix_in root c l)) 1 0) line lines,
-      sum_by-cons (λ l. cond (is_some (prefix_in tailoring c l)) 1 0) line lines,
-      sum_by-cons (λ l. cond (begins_line c l) 1 0) line lines,
+      alone_counted lines c,
+      alone_once c line,
+      sum_by-cons (λ l. own_count (elements_in root [] (c ∷ []) l)) line lines,
+      sum_by-cons (λ l. own_count (elements_in tailoring [] (c ∷ []) l)) line lines,
+      sum_by-cons (alone_begun c) line lines,
     )
 
--- as many records as lines that begin with the character
-pub few_beside : (lines : List Record) (c : ℕ)
-    → length (suffixes_in lines c) + length (prefixes_in lines c) ≤ count_by (begins_line c) lines
-few_beside lines c =
+few_alone : (lines : List Record) (c : ℕ) → own_count (recorded_in lines [] (c ∷ [])) ≤ sum_by (alone_begun c) lines
+few_alone lines c = by (first_found (elements_in tailoring [] (c ∷ [])) lines) refl
+  where
+    by : (o : Option (List Element)) → first_found (elements_in tailoring [] (c ∷ [])) lines ≡ o
+        → own_count (elim o [ Some es ↦ Some es | None ↦ first_found (elements_in root [] (c ∷ [])) lines ])
+        ≤ sum_by (alone_begun c) lines
+    by (Some es) e =
+        let here = ap own_count e in
+        omega (arith, here, found_few (elements_in tailoring [] (c ∷ [])) lines, alone_counted lines c)
+    by None e = omega (arith, found_few (elements_in root [] (c ∷ [])) lines, alone_counted lines c)
+
+-- ---- All that lines give of a character
+
+all_begun : (lines : List Record) (c : ℕ)
+    → sum_by (alone_begun c) lines + sum_by (beside_begun length c) lines ≤ elements_begun lines c
+all_begun [] c = omega arith
+all_begun (line ∷ lines) c =
     omega (
       arith,
-      counted lines c,
-      length-gathered (suffix_in root c) lines (gathered (suffix_in tailoring c) lines []),
-      length-gathered (suffix_in tailoring c) lines [],
-      length-gathered (prefix_in root c) lines (gathered (prefix_in tailoring c) lines []),
-      length-gathered (prefix_in tailoring c) lines [],
+      all_begun lines c,
+      either (begins_line c line) (is_beside line) (length (elements_of line)),
+      sum_by-cons (alone_begun c) line lines,
+      sum_by-cons (beside_begun length c) line lines,
+      sum_by-cons (λ l. cond (begins_line c l) (length (elements_of l)) 0) line lines,
     )
+  where
+    either : (b s : Bool) (n : ℕ) → cond b (cond s 0 n) 0 + cond b (cond s n 0) 0 ≤ cond b n 0
+    either true true n = omega arith
+    either true false n = omega arith
+    either false s n = omega arith
+
+-- no more elements than lines give that begin with the character
+pub few_elements : (lines : List Record) (c : ℕ)
+    → own_count (recorded_in lines [] (c ∷ [])) + element_sum (suffixes_in lines c) + element_sum (prefixes_in lines c)
+    ≤ elements_begun lines c
+few_elements lines c = omega (arith, few_alone lines c, few_beside length lines c, all_begun lines c)
+
+as_sum : {A : Type 0} (xs : List A) → sum_by (λ x. 1) xs ≡ length xs
+as_sum [] = refl
+as_sum (x ∷ xs) = omega (arith, as_sum xs, sum_by-cons (λ y. 1) x xs)
+
+-- no more texts than such lines have
+pub few_texts : (lines : List Record) (c : ℕ)
+    → length (suffixes_in lines c) + length (prefixes_in lines c) ≤ texts_begun lines c
+few_texts lines c =
+    omega (arith, few_beside (λ es. 1) lines c, as_sum (suffixes_in lines c), as_sum (prefixes_in lines c))
 
 -- ---- What is recorded beside a character counts
 

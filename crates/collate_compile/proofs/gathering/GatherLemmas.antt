@@ -1,13 +1,12 @@
 -- What is gathered: it is found by its characters, as the first of what lines say; its texts are different.
-use Rattle.std.proofs.Common.{◌≡◌, ℕ, ◌+◌, ◌≤◌, Bool, true, false, cond, not, ◌||◌, List, [], ◌∷◌, ◌++◌, length, Option, Some, None, refl, sym, ap, ◌∙◌, arith, All}
-use Rattle.std.specs.Prelude.{IfSome, is_some, option_map, count_by, bytes_eq}
+use Rattle.std.proofs.Common.{◌≡◌, ℕ, ◌+◌, ◌≤◌, Bool, true, false, cond, not, ◌||◌, List, [], ◌∷◌, ◌++◌, Option, Some, None, refl, sym, ap, ◌∙◌, arith, All}
+use Rattle.std.specs.Prelude.{IfSome, is_some, option_map, sum_by, bytes_eq}
 use Rattle.std.specs.Option.{option_and_then, option_or}
 use Rattle.std.specs.List.{find, list_all}
 use Rattle.std.proofs.lemmas.Bool.{and_from, and_parts, cond-true, false≢true, or_parts, not_from_false}
-use Rattle.std.proofs.lemmas.List.{length-append}
 use Rattle.std.proofs.lemmas.List.Elements.{All-head, All-push, All-tail, All-weaker, All-nil}
 use Rattle.std.proofs.lemmas.List.Folds.{find-append}
-use Rattle.std.proofs.lemmas.List.Sums.{sum_by-cons}
+use Rattle.std.proofs.lemmas.List.Sums.{sum_by-cons, sum_by_push}
 use Rattle.std.proofs.lemmas.Slice.Eq.{bytes_eq-Decides}
 use Rattle.icu_collator_types.specs.declared.elements.Element.{Element}
 use Rattle.collate_rules.specs.Meaning.{first_found}
@@ -163,14 +162,19 @@ kept_with_one : (saids : List SaidBeside) (o : Option SaidBeside) → AreKept sa
 kept_with_one saids None kept = kept
 kept_with_one saids (Some said) kept = kept_with saids said kept
 
-length-with_one : (saids : List SaidBeside) (o : Option SaidBeside)
-    → length (with_found saids o) ≤ length saids + cond (is_some o) 1 0
-length-with_one saids None = omega arith
-length-with_one saids (Some said) = by (has_beside saids said.characters)
+-- what is found takes, if something is
+abbrev pub found_size : (SaidBeside → ℕ) → Option SaidBeside → ℕ
+found_size size None = 0
+found_size size (Some said) = size said
+
+sum-with_one : (size : SaidBeside → ℕ) (saids : List SaidBeside) (o : Option SaidBeside)
+    → sum_by size (with_found saids o) ≤ sum_by size saids + found_size size o
+sum-with_one size saids None = omega arith
+sum-with_one size saids (Some said) = by (has_beside saids said.characters)
   where
-    by : (b : Bool) → length (cond b saids (saids ++ said ∷ [])) ≤ length saids + 1
+    by : (b : Bool) → sum_by size (cond b saids (saids ++ said ∷ [])) ≤ sum_by size saids + size said
     by true = omega arith
-    by false = omega (arith, length-append saids (said ∷ []))
+    by false = omega (arith, sum_by_push size saids said)
 
 all_with_one : (P : SaidBeside → Type 0) (saids : List SaidBeside) (o : Option SaidBeside) → All P saids → IfSome o P
     → All P (with_found saids o)
@@ -202,16 +206,15 @@ module _ {A : Type 0} (found : A → Option SaidBeside) where
   gathered_kept [] saids kept = kept
   gathered_kept (x ∷ xs) saids kept = gathered_kept xs (with_found saids (found x)) (kept_with_one saids (found x) kept)
 
-  pub length-gathered : (xs : List A) (saids : List SaidBeside)
-      → length (gathered found xs saids) ≤ length saids + count_by (λ x. is_some (found x)) xs
-  length-gathered [] saids = omega arith
-  length-gathered (x ∷ xs) saids =
+  pub sum-gathered : (size : SaidBeside → ℕ) (xs : List A) (saids : List SaidBeside)
+      → sum_by size (gathered found xs saids) ≤ sum_by size saids + sum_by (λ x. found_size size (found x)) xs
+  sum-gathered size [] saids = omega arith
+  sum-gathered size (x ∷ xs) saids =
       omega (
         arith,
-        length-gathered xs (with_found saids (found x)),
-        length-with_one saids (found x),
-        sum_by-cons
-            (λ y. cond (is_some (found y)) 1 0) x xs,
+        sum-gathered size xs (with_found saids (found x)),
+        sum-with_one size saids (found x),
+        sum_by-cons (λ y. found_size size (found y)) x xs,
       )
 
   pub All-gathered : (P : SaidBeside → Type 0) (xs : List A) (saids : List SaidBeside)

@@ -1,26 +1,26 @@
--- The characters that lines begin with, gathered one after another: just those that pass, each once, and how many lines
--- begin with them.
-use Rattle.std.proofs.Common.{◌≡◌, ℕ, ◌+◌, ◌*◌, ◌≤◌, Bool, true, false, cond, not, ◌==◌, ◌&&◌, ◌||◌, List, [], ◌∷◌, ◌++◌, length, map, drop, Option, Some, None, refl, sym, ap, ◌∙◌, subst, arith, All}
+-- The characters that lines begin with, gathered one after another: just those that pass, each once, and how much the
+-- lines take that begin with them.
+use Rattle.std.proofs.Common.{◌≡◌, ℕ, ◌+◌, ◌≤◌, Bool, true, false, cond, not, ◌==◌, ◌&&◌, ◌||◌, List, [], ◌∷◌, ◌++◌, length, map, drop, Option, Some, None, refl, sym, ap, ◌∙◌, subst, arith, All}
 use Rattle.std.specs.Prelude.{count_by, nat_eq, sum_by}
 use Rattle.std.specs.List.{IsDistinct, list_any}
 use Rattle.std.proofs.lemmas.Bool.{and_parts, and_right, eqb-true, eq-eqb, false_from_ne_true, false≢true, or_parts}
 use Rattle.std.proofs.lemmas.List.{drop_all}
 use Rattle.std.proofs.lemmas.List.Elements.{All-from_recursion, All-head, All-nil, All-push, All-tail, recursion_from_All}
 use Rattle.std.proofs.lemmas.List.Folds.{list_any-append}
-use Rattle.std.proofs.lemmas.List.Sums.{length-filter, sum_by-cons}
+use Rattle.std.proofs.lemmas.List.Sums.{sum_by-cons, sum_by-le-sum_by}
 use Rattle.std.proofs.lemmas.Map.Keys.{IsDistinct-cons, IsDistinct-head, IsDistinct-tail}
 use Rattle.icu_normalizer_core.specs.BuiltIn.{is_jamo}
 use Rattle.collate_lines.specs.declared.record.Record.{Record as Line}
 use Rattle.collate_lines.specs.Record.{Record, said, nothing, class, mapping, compatibility, weights, range, digit, setting, Layer, root, tailoring, is_same_layer}
-use Rattle.collate_lines.specs.Repeats.{says_something}
 use Rattle.collate_rules.specs.Accepted.{AreAccepted}
+use Rattle.collate_rules.specs.GivenWeights.{elements_of}
 use Rattle.collate_rules.specs.RecordRules.{begins_with}
-use Rattle.collate_rules.specs.Rules.{is_range}
-use Rattle.collate_compile.specs.Beginnings.{AreBeginnings, AreFew, begun_by, first_of, is_begun, lines_of, with_character}
+use Rattle.collate_rules.specs.Rules.{element_room, is_beside, is_range}
+use Rattle.collate_compile.specs.Beginnings.{AreBeginnings, AreFew, begun_by, begun_sum, elements_begun, first_of, is_begun, with_character}
 use Rattle.collate_compile.specs.LineSayings.{begins_line, begins_tailored_line, is_tailored}
-use Rattle.collate_compile.proofs.gathering.AcceptedLineLemmas.{accepted_few}
+use Rattle.collate_compile.proofs.gathering.AcceptedLineLemmas.{accepted_elements, accepted_texts}
 use Rattle.collate_compile.proofs.gathering.BesideLemmas.{any_weaker}
-use Rattle.collate_compile.proofs.gathering.NameLemmas.{is_among, names_few, one_if, one_same, or_false}
+use Rattle.collate_compile.proofs.gathering.NameLemmas.{is_among, names_among, one_same, or_false}
 
 abbrev is_it : ℕ → Option ℕ → Bool
 is_it c None = false
@@ -166,7 +166,7 @@ begun_begins tailoring lines c h =
     any_weaker (begins_tailored_line c) (begins_line c) lines (tailored_begins c)
     (and_parts (not (is_jamo c)) (list_any (begins_tailored_line c) lines) h).1
 
--- ---- How many
+-- ---- How much the lines take
 
 abbrev is_weights : Record → Bool
 is_weights (weights layer prefix text es) = true
@@ -177,90 +177,157 @@ sum_none [] = refl
 sum_none (c ∷ cs) = let later = sum_none cs in omega (arith, later, sum_by-cons (λ d. 0) c cs)
 
 -- one of different characters at most begins a line
-begun_line : (cs : List ℕ) → IsDistinct nat_eq cs → (line : Record)
-    → sum_by (λ c. cond (begins_line c line) 1 0) cs ≤ cond (is_weights line) 1 0
-begun_line cs once (weights layer prefix [] es) = omega (arith, sum_none cs)
-begun_line cs once (weights layer prefix (d ∷ ds) es) = one_same d cs once
-begun_line cs once nothing = omega (arith, sum_none cs)
-begun_line cs once (class d k) = omega (arith, sum_none cs)
-begun_line cs once (mapping d ds x) = omega (arith, sum_none cs)
-begun_line cs once (compatibility d ds) = omega (arith, sum_none cs)
-begun_line cs once (range r) = omega (arith, sum_none cs)
-begun_line cs once (digit d v) = omega (arith, sum_none cs)
-begun_line cs once (setting s) = omega (arith, sum_none cs)
+begun_line : (n : ℕ) (cs : List ℕ) → IsDistinct nat_eq cs → (line : Record)
+    → sum_by (λ c. cond (begins_line c line) n 0) cs ≤ cond (is_weights line) n 0
+begun_line n cs once (weights layer prefix [] es) = omega (arith, sum_none cs)
+begun_line n cs once (weights layer prefix (d ∷ ds) es) = one_same d n cs once
+begun_line n cs once nothing = omega (arith, sum_none cs)
+begun_line n cs once (class d k) = omega (arith, sum_none cs)
+begun_line n cs once (mapping d ds x) = omega (arith, sum_none cs)
+begun_line n cs once (compatibility d ds) = omega (arith, sum_none cs)
+begun_line n cs once (range r) = omega (arith, sum_none cs)
+begun_line n cs once (digit d v) = omega (arith, sum_none cs)
+begun_line n cs once (setting s) = omega (arith, sum_none cs)
 
-line_more : (line : Record) (lines : List Record) (cs : List ℕ)
-    → sum_by (λ c. count_by (begins_line c) (line ∷ lines)) cs ≡ sum_by (λ c. cond (begins_line c line) 1 0) cs + sum_by
-    (λ c. count_by (begins_line c) lines) cs
-line_more line lines [] = refl
-line_more line lines (c ∷ cs) =
-    omega (
-      arith,
-      line_more line lines cs,
-      sum_by-cons (λ l. cond (begins_line c l) 1 0) line lines,
-      sum_by-cons (λ d. count_by (begins_line d) (line ∷ lines)) c cs,
-      sum_by-cons (λ d. cond (begins_line d line) 1 0) c cs,
-      sum_by-cons (λ d. count_by (begins_line d) lines) c cs,
-    )
+module _ (taken : Record → ℕ) where
+  line_more : (line : Record) (lines : List Record) (cs : List ℕ)
+      → sum_by (begun_sum taken (line ∷ lines)) cs
+      ≡ sum_by (λ c. cond (begins_line c line) (taken line) 0) cs + sum_by (begun_sum taken lines) cs
+  line_more line lines [] = refl
+  line_more line lines (c ∷ cs) =
+      omega (
+        arith,
+        line_more line lines cs,
+        sum_by-cons (λ l. cond (begins_line c l) (taken l) 0) line lines,
+        sum_by-cons (begun_sum taken (line ∷ lines)) c cs,
+        sum_by-cons (λ d. cond (begins_line d line) (taken line) 0) c cs,
+        sum_by-cons (begun_sum taken lines) c cs,
+      )
 
-none_begun : (cs : List ℕ) → sum_by (λ c. count_by (begins_line c) []) cs ≡ 0
-none_begun [] = refl
-none_begun (c ∷ cs) =
-    let later = none_begun cs in omega (arith, later, sum_by-cons (λ d. count_by (begins_line d) []) c cs)
+  none_begun : (cs : List ℕ) → sum_by (begun_sum taken []) cs ≡ 0
+  none_begun [] = refl
+  none_begun (c ∷ cs) = let later = none_begun cs in omega (arith, later, sum_by-cons (begun_sum taken []) c cs)
 
-begun_lines : (cs : List ℕ) → IsDistinct nat_eq cs → (lines : List Record)
-    → sum_by (λ c. lines_of lines c) cs ≤ count_by is_weights lines
-begun_lines cs once [] = omega (arith, none_begun cs)
-begun_lines cs once (line ∷ lines) =
-    omega (
-      arith,
-      begun_lines cs once lines,
-      begun_line cs once line,
-      line_more line lines cs,
-      sum_by-cons
-          (λ l. cond (is_weights l) 1 0) line lines,
-    )
+  -- what lines take that begin with different characters is counted once
+  begun_lines : (cs : List ℕ) → IsDistinct nat_eq cs → (lines : List Record)
+      → sum_by (begun_sum taken lines) cs ≤ sum_by (λ line. cond (is_weights line) (taken line) 0) lines
+  begun_lines cs once [] = omega (arith, none_begun cs)
+  begun_lines cs once (line ∷ lines) =
+      omega (
+        arith,
+        begun_lines cs once lines,
+        begun_line (taken line) cs once line,
+        line_more line lines cs,
+        sum_by-cons (λ l. cond (is_weights l) (taken l) 0) line lines,
+      )
 
-one_counted : {A : Type 0} (p : A → Bool) (xs : List A) → list_any p xs ≡ true → 1 ≤ count_by p xs
-one_counted p [] h = absurd (false≢true h)
-one_counted p (x ∷ xs) h = by (p x) refl h (one_counted p xs)
+-- the elements of a line, and one
+abbrev elements_and_one : Record → ℕ
+elements_and_one line = 1 + length (elements_of line)
+
+-- where a line begins with the character, there is one more
+one_begun : (c : ℕ) (lines : List Record) → list_any (begins_line c) lines ≡ true
+    → 1 + elements_begun lines c ≤ begun_sum elements_and_one lines c
+one_begun c [] h = absurd (false≢true h)
+one_begun c (line ∷ lines) h = by (begins_line c line) refl h (one_begun c lines) (as_many lines)
   where
-    by : (b : Bool) → p x ≡ b → (b || list_any p xs) ≡ true → (list_any p xs ≡ true → 1 ≤ count_by p xs)
-        → 1 ≤ count_by p (x ∷ xs)
-    by true e k later = let one = ap one_if e in omega (arith, one, sum_by-cons (λ y. cond (p y) 1 0) x xs)
-    by false e k later = let more = later k in omega (arith, more, sum_by-cons (λ y. cond (p y) 1 0) x xs)
+    as_many : (ls : List Record) → elements_begun ls c ≤ begun_sum elements_and_one ls c
+    as_many ls =
+        sum_by-le-sum_by (λ l. cond (begins_line c l) (length (elements_of l)) 0)
+        (λ l. cond (begins_line c l) (elements_and_one l) 0) ls
+        (λ l. rises (begins_line c l) (length (elements_of l)))
+      where
+        rises : (b : Bool) (n : ℕ) → cond b n 0 ≤ cond b (1 + n) 0
+        rises true n = omega arith
+        rises false n = omega arith
+
+    here : (b : Bool) → begins_line c line ≡ b
+        → (1 + elements_begun (line ∷ lines) c ≡ 1 + (cond b (length (elements_of line)) 0 + elements_begun lines c))
+        × (begun_sum elements_and_one (line ∷ lines) c
+        ≡ cond b (elements_and_one line) 0 + begun_sum elements_and_one lines c)
+    here b e = (
+      omega (
+        arith,
+        ap (λ (t : Bool). cond t (length (elements_of line)) 0) e,
+        sum_by-cons (λ l. cond (begins_line c l) (length (elements_of l)) 0) line lines,
+      ),
+      omega (
+        arith,
+        ap (λ (t : Bool). cond t (elements_and_one line) 0) e,
+        sum_by-cons (λ l. cond (begins_line c l) (elements_and_one l) 0) line lines,
+      ),
+    )
+
+    by : (b : Bool) → begins_line c line ≡ b → (b || list_any (begins_line c) lines) ≡ true
+        → (list_any (begins_line c) lines ≡ true → 1 + elements_begun lines c ≤ begun_sum elements_and_one lines c)
+        → elements_begun lines c ≤ begun_sum elements_and_one lines c
+        → 1 + elements_begun (line ∷ lines) c ≤ begun_sum elements_and_one (line ∷ lines) c
+    by true e k later many = let parts = here true e in omega (arith, parts.0, parts.1, many)
+    by false e k later many =
+        let parts = here false e in let more = later k in omega (arith, parts.0, parts.1, more)
 
 each_begun : (lines : List Record) (cs : List ℕ) → All (λ c. list_any (begins_line c) lines ≡ true) cs
-    → sum_by (λ c. 1 + lines_of lines c) cs ≤ 2 * sum_by (λ c. lines_of lines c) cs
+    → sum_by (λ c. 1 + elements_begun lines c) cs ≤ sum_by (begun_sum elements_and_one lines) cs
 each_begun lines [] all = omega arith
 each_begun lines (c ∷ cs) all =
-    let one = one_counted (begins_line c) lines (All-head (λ d. list_any (begins_line d) lines ≡ true) c cs all) in
+    let one = one_begun c lines (All-head (λ d. list_any (begins_line d) lines ≡ true) c cs all) in
     let later = each_begun lines cs (All-tail (λ d. list_any (begins_line d) lines ≡ true) c cs all) in
-    omega (arith, one, later, sum_by-cons (λ d. 1 + lines_of lines d) c cs, sum_by-cons (λ d. lines_of lines d) c cs)
-
-says_one : (line : Record) → cond (is_weights line) 1 0 + cond (is_range line) 1 0 ≤ cond (says_something line) 1 0
-says_one (weights layer prefix text es) = omega arith
-says_one nothing = omega arith
-says_one (class d k) = omega arith
-says_one (mapping d ds x) = omega arith
-says_one (compatibility d ds) = omega arith
-says_one (range r) = omega arith
-says_one (digit d v) = omega arith
-says_one (setting s) = omega arith
-
-say_some : (lines : List Record) → count_by is_weights lines + count_by is_range lines ≤ count_by says_something lines
-say_some [] = omega arith
-say_some (line ∷ lines) =
     omega (
       arith,
-      say_some lines,
-      says_one line,
-      sum_by-cons (λ l. cond (is_weights l) 1 0) line lines,
-      sum_by-cons (λ l. cond (is_range l) 1 0) line lines,
-      sum_by-cons (λ l. cond (says_something l) 1 0) line lines,
+      one,
+      later,
+      sum_by-cons (λ d. 1 + elements_begun lines d) c cs,
+      sum_by-cons (begun_sum elements_and_one lines) c cs,
     )
 
+-- the room that a line takes is no less
+room_one : (line : Record)
+    → cond (is_weights line) (elements_and_one line) 0 + cond (is_range line) 1 0 ≤ element_room line
+room_one (weights layer prefix text es) = omega arith
+room_one nothing = omega arith
+room_one (class d k) = omega arith
+room_one (mapping d ds x) = omega arith
+room_one (compatibility d ds) = omega arith
+room_one (range r) = omega arith
+room_one (digit d v) = omega arith
+room_one (setting s) = omega arith
+
+room_all : (lines : List Record)
+    → sum_by (λ line. cond (is_weights line) (elements_and_one line) 0) lines + count_by is_range lines
+    ≤ sum_by element_room lines
+room_all [] = omega arith
+room_all (line ∷ lines) =
+    omega (
+      arith,
+      room_all lines,
+      room_one line,
+      sum_by-cons (λ l. cond (is_weights l) (elements_and_one l) 0) line lines,
+      sum_by-cons (λ l. cond (is_range l) 1 0) line lines,
+      sum_by-cons element_room line lines,
+    )
+
+-- texts of several characters, and those behind a prefix
+texts_all : (lines : List Record)
+    → sum_by (λ line. cond (is_weights line) (cond (is_beside line) 1 0) 0) lines ≤ count_by is_beside lines
+texts_all lines =
+    sum_by-le-sum_by (λ line. cond (is_weights line) (cond (is_beside line) 1 0) 0) (λ line. cond (is_beside line) 1 0)
+    lines (λ line. falls (is_weights line) (cond (is_beside line) 1 0))
+  where
+    falls : (b : Bool) (n : ℕ) → cond b n 0 ≤ n
+    falls true n = omega arith
+    falls false n = omega arith
+
 -- ---- The whole
+
+-- one of those that pass passes
+among_all : (P : ℕ → Bool) (c : ℕ) (cs : List ℕ) → All (λ d. P d ≡ true) cs → is_among c cs ≡ true → P c ≡ true
+among_all P c [] all h = absurd (false≢true h)
+among_all P c (d ∷ ds) all h =
+    by (c == d) refl h (among_all P c ds (All-tail (λ x. P x ≡ true) d ds all))
+  where
+    by : (b : Bool) → (c == d) ≡ b → (b || is_among c ds) ≡ true → (is_among c ds ≡ true → P c ≡ true) → P c ≡ true
+    by true e k later = subst (λ (x : ℕ). P x ≡ true) (sym (eqb-true c d e)) (All-head (λ x. P x ≡ true) d ds all)
+    by false e k later = later k
 
 module _ (layer : Layer) (lines : List Record) where
   passes_all : All (λ c. is_begun layer lines c ≡ true) (begun_by (is_begun layer lines) lines [])
@@ -288,19 +355,23 @@ module _ (layer : Layer) (lines : List Record) where
       let cs = begun_by (is_begun layer lines) lines [] in
       let all : All (λ c. list_any (begins_line c) lines ≡ true) cs = λ k d lt. begun_begins layer lines _
       (passes_all k d lt) in
-      let few = accepted_few lines accepted in
       record {
-        records =
+        elements =
             omega (
               arith,
-              few,
+              accepted_elements lines accepted,
               each_begun lines cs all,
-              begun_lines cs once_all lines,
-              say_some lines,
-              length-filter
-                  says_something lines,
+              begun_lines elements_and_one cs once_all lines,
+              room_all lines,
             );
-        names = names_few lines accepted cs once_all all;
+        texts =
+            omega (
+              arith,
+              accepted_texts lines accepted,
+              begun_lines (λ line. cond (is_beside line) 1 0) cs once_all lines,
+              texts_all lines,
+            );
+        are_named = λ c among. names_among c lines (begun_begins layer lines c (among_all (is_begun layer lines) c cs passes_all among));
       }
 
 -- where all lines were gone through

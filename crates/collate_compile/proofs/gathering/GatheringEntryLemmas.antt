@@ -22,12 +22,12 @@ use Rattle.collate_words.specs.declared.entry.Beside.{Beside}
 use Rattle.collate_words.specs.declared.entry.Entry.{Entry}
 use Rattle.collate_words.specs.Entries.{said_beside, saying_of}
 use Rattle.collate_words.specs.Fits.{AreBeside, AreFit, IsBeside, IsDigitAlone, IsFit}
-use Rattle.collate_words.specs.Sayings.{SaidBeside, Saying, elements_beside, texts_beside}
+use Rattle.collate_words.specs.Sayings.{SaidBeside, Saying, element_sum, elements_beside, own_count, texts_beside}
 use Rattle.collate_compile.specs.Beginnings.{IsWithinLines}
 use Rattle.collate_compile.specs.BesideLines.{gathered, prefix_in, prefix_of, prefixes_in, suffix_in, suffix_of, suffixes_in}
 use Rattle.collate_compile.specs.LineSayings.{IsSaidAfter, IsSaidBehind, IsSayingOf, offset_of}
 use Rattle.collate_compile.proofs.gathering.AcceptedLineLemmas.{CanWrite, CanWriteLine, accepted_can_write, accepted_digits, accepted_prefixes, accepted_widths}
-use Rattle.collate_compile.proofs.gathering.BesideLemmas.{any_weaker, few_beside, prefixes_kept, prefixes_recorded, recorded_further, suffixes_kept, suffixes_recorded}
+use Rattle.collate_compile.proofs.gathering.BesideLemmas.{any_weaker, few_elements, few_texts, prefixes_kept, prefixes_recorded, recorded_further, suffixes_kept, suffixes_recorded}
 use Rattle.collate_compile.proofs.gathering.GatheringFlagLemmas.{AreScalarsBeside, all_begin_same, one_ends_same, one_holds_same}
 use Rattle.collate_compile.proofs.laws.MeaningLemmas.{all_scalars}
 use Rattle.collate_compile.proofs.gathering.GatherLemmas.{All-gathered, IsFoundIn}
@@ -422,7 +422,16 @@ module _ (canonical : Canonical) (lines : List Record) (accepted : AreAccepted l
   }
 
   pub entry_few : IsWithinLines lines c saying
-  entry_few = omega (arith, few_beside lines c, ap length parts.suffixes, ap length parts.prefixes)
+  entry_few = record {
+    elements = omega (
+      arith,
+      few_elements lines c,
+      ap own_count parts.own,
+      ap element_sum parts.suffixes,
+      ap element_sum parts.prefixes,
+    );
+    texts = omega (arith, few_texts lines c, ap length parts.suffixes, ap length parts.prefixes);
+  }
 
 -- ---- As it is made
 

@@ -97,7 +97,7 @@ module _ (lines : List Record) (accepted : AreAccepted lines) where
       let line = recorded_line lines prefix text es h in
       ⊎_elim
       (λ (long : 8 < length text). absurd
-      (accepted.keep_rules Limit line.place line.inside (inr (inr (subst IsLong (sym line.says) (inl long))))))
+      (accepted.keep_rules Limit line.place line.inside (inr (subst IsLong (sym line.says) (inl long)))))
       (λ few. few)
       (cases_lt 8 (length text))
 

@@ -13,11 +13,12 @@ all_arrived (name ∷ names) s =
     all_arrived names (with_name name s)
     ∙ ap (λ (arrivals : List (List ℕ)). record s { arrivals = arrivals }) (append_assoc s.arrivals (name ∷ []) names)
 
-pub built_anew : (records : List Record) (preferences : CollatorPreferences) (options : CollatorOptions) (s : Catalogue)
-    → s.asked ≡ asked_of options preferences → reloaded records s ≡ with_names s.arrivals (opened records preferences options)
-built_anew records preferences options s asked =
-    ap (λ a. record { records = records; asked = a; arrivals = s.arrivals }) asked
-    ∙ sym (all_arrived s.arrivals (opened records preferences options))
+pub built_anew : (lines : List Record) (preferences : CollatorPreferences) (options : CollatorOptions) (s : Catalogue)
+    → s.asked ≡ asked_of options preferences
+    → reloaded lines s ≡ with_names s.arrivals (opened (record { limits = s.limits; lines = lines }) preferences options)
+built_anew lines preferences options s asked =
+    ap (λ a. record { limits = s.limits; records = lines; asked = a; arrivals = s.arrivals }) asked
+    ∙ sym (all_arrived s.arrivals (opened (record { limits = s.limits; lines = lines }) preferences options))
 
 -- of names none of which occurs twice, none was there before
 pub not_before : (names front back : List (List ℕ)) (name : List ℕ) → AreDistinct names → names ≡ front ++ name ∷ back → Contains front name → ⊥

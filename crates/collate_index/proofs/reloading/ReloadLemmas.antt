@@ -2,7 +2,7 @@
 use Rattle.std.proofs.Common.{◌≡◌, ℕ, ◌+◌, ◌<◌, ◌≤◌, Bool, true, false, ◌↔◌, ◌⊎◌, inl, inr, ⊎_elim, List, [], ◌∷◌, ◌++◌, length, map, refl, sym, ap, ◌∙◌, subst, append-nil, append_assoc, length-append, arith}
 use Rattle.std.specs.Bool.{OnFalse, OnTrue}
 use Rattle.std.specs.Prelude.{if◌then◌else◌}
-use Rattle.std.specs.List.{All, Contains}
+use Rattle.std.specs.List.{All}
 use Rattle.std.proofs.lemmas.List.{length-map, length_push, map_push}
 use Rattle.std.proofs.lemmas.List.Elements.{All-head, All-nil, All-push, All-same, All-tail}
 use Rattle.icu_normalizer_core.specs.Decoding.{utf8_chars}
@@ -11,28 +11,27 @@ use Rattle.icu_collator_types.specs.Options.{resolved_options}
 use Rattle.icu_collator_types.specs.declared.options.ResolvedCollatorOptions.{ResolvedCollatorOptions}
 use Rattle.icu_collator.specs.KeyBytes.{key_of_text}
 use Rattle.icu_collator.proofs.orders.OrderSamenessLemmas.{reached_keys}
+use Rattle.collate_lines.specs.declared.limits.Limits.{Limits}
 use Rattle.collate_lines.specs.Record.{Record}
 use Rattle.collate_lines.specs.declared.rule.RecordsError.{RecordsError}
 use Rattle.collate_lines.specs.declared.rule.RecordsError.TheVariants.{Fault, Memory as NoMemory}
 use Rattle.collate_rules.specs.Accepted.{AreAccepted}
 use Rattle.collate_rules.specs.Meaning.{collation_of}
 use Rattle.collate_records.specs.Changes.{AreSettingsEqual}
-use Rattle.collate_records.specs.Files.{Refuses}
+use Rattle.collate_records.specs.Files.{RefusesWithin}
 use Rattle.collate_records.proofs.comparing.LocalityLemmas.{leads_alike, read_alike, settings_alike}
 use Rattle.collate_records.proofs.reading.ReadingAcceptedLemmas.{accepted_decompose}
 use Rattle.collate_laws.specs.Unchanged.{ReachesUnchanged}
 use Rattle.collate_name_list.specs.StoredNames.{StoredName, names_of}
-use Rattle.collate_index.specs.Catalogue.{AreDistinct, Catalogue, meaning_in, options_in, preferences_of, reloaded}
-use Rattle.collate_index.specs.Index.{IsKeyed}
-use Rattle.collate_index.specs.Keys.{key_of_name}
+use Rattle.collate_index.specs.Catalogue.{Catalogue, meaning_in, options_in, preferences_of, reloaded}
+use Rattle.collate_index.specs.Keys.{IsKeyed, key_of_name}
 use Rattle.collate_index.specs.Reloads.{AreKeysMade, AreTouched, IsRefused, IsTouched, error_of}
-use Rattle.collate_index.proofs.reloading.AnewLemmas.{not_before}
 
 -- ## Why a file is refused
 
-pub refused_for : (bytes : List ℕ) (refused : RecordsError) → Refuses bytes refused → IsRefused bytes (error_of refused)
-refused_for bytes (Fault fault) first = first
-refused_for bytes NoMemory first = tt
+pub refused_for : (limits : Limits) (bytes : List ℕ) (refused : RecordsError) → RefusesWithin limits bytes refused → IsRefused limits bytes (error_of refused)
+refused_for limits bytes (Fault fault) first = first
+refused_for limits bytes NoMemory first = tt
 
 -- ## One name more, touched or not
 
@@ -88,12 +87,6 @@ module _ (old : Catalogue) (new : List Record) where
           length-map names (λ (s : StoredName). s.name),
           length-map left (λ (s : StoredName). s.name),
         )
-
-    -- the next name is a new one
-    pub is_new : AreDistinct old.arrivals → Contains (names_of names) stored.name → ⊥
-    is_new distinct =
-        not_before old.arrivals (names_of names) (names_of later) stored.name distinct
-        (sym (ap (λ ns. names_of names ++ names_of ns) (sym some) ∙ so_far.arrivals))
 
   -- the key of a name that reaches unchanged characters alone
   module _ (accepted : AreAccepted old.records) (also : AreAccepted new) where

@@ -1,12 +1,12 @@
 -- what an index keeps: names with their keys, which stand in order as their keys do
 use Rattle.std.proofs.Common.{◌≡◌, ℕ, ◌≤◌, List, [], ◌∷◌, ◌++◌, length, get_or, refl, sym, ap, ◌∙◌, subst, Bool, true, false, cond, not}
 use Rattle.std.specs.Prelude.{Result, Ok, Err, OnOk, OnErr, bytes_eq, filter}
-use Rattle.std.specs.List.{All}
+use Rattle.std.specs.List.{All, Contains}
 use Rattle.std.specs.Cmp.{IsTotalOrder}
 use Rattle.std.specs.Cmp.Lexicographic.{slice_cmp}
 use Rattle.std.specs.Ordering.{nat_cmp}
 use Rattle.std.proofs.lemmas.List.{length-map}
-use Rattle.std.proofs.lemmas.List.Elements.{All-same, All-push}
+use Rattle.std.proofs.lemmas.List.Elements.{All-contains, All-same, All-push}
 use Rattle.std.proofs.lemmas.List.Sorted.{All-permutation}
 use Rattle.collate_rules.specs.Accepted.{AreAccepted}
 use Rattle.collate_names.specs.Names.{in_order}
@@ -17,9 +17,9 @@ use Rattle.collate_names.proofs.NamePlaceLemmas.{place_alike, place_map}
 use Rattle.collate_name_list.specs.StoredNames.{StoredName, key_order, names_of, sorted, without}
 use Rattle.collate_name_list.specs.declared.errors.AddError.{AddError}
 use Rattle.collate_index.specs.Catalogue.{Catalogue, meaning_in, order_of, sorted_names}
-use Rattle.collate_index.specs.Index.{IsKept, IsKeyed, catalogue_of}
+use Rattle.collate_index.specs.Index.{IsKept, catalogue_of}
 use Rattle.collate_index.specs.declared.index.Index.TheInside.{Inside}
-use Rattle.collate_index.specs.Keys.{IsKeyOf, key_of_name}
+use Rattle.collate_index.specs.Keys.{IsKeyOf, IsKeyed, key_of_name}
 use Rattle.collate_index.specs.Meaning.{Meaning, order_by}
 use Rattle.collate_index.proofs.order.NameOrderLemmas.{keys_order_in_index}
 
@@ -76,6 +76,12 @@ module _ (s : Inside) (kept : IsKept s) (now : Catalogue) (is : catalogue_of s �
       subst (λ (c : Catalogue). IsPlaceOf (λ other. order_of c other name) past (sorted_names c) at) is
       (place_by_names (meaning_in (catalogue_of s)) kept.accepted s.names kept.keyed name key
       (subst (λ (c : Catalogue). IsKeyOf (meaning_in c) name key) (sym is) of) past at within place)
+
+  -- the key that stands with a name is the name's
+  pub key_stored : (name key : List ℕ) → Contains s.names (record { key = key; name = name }) → IsKeyOf (meaning_in now) name key
+  key_stored name key there =
+      subst (λ (c : Catalogue). IsKeyOf (meaning_in c) name key) is
+      (All-contains (IsKeyed (meaning_in (catalogue_of s))) s.names (record { key = key; name = name }) kept.keyed there)
 
 -- other names, each with its key
 pub kept_names : (s : Inside) → IsKept s → (names : List StoredName) → All (IsKeyed (meaning_in (catalogue_of s))) names → IsKept (record s { names = names })

@@ -1,6 +1,7 @@
 -- The maps of both kinds of accepted lines: what they mean, and the rules that they keep.
-use Rattle.std.proofs.Common.{◌≡◌, ℕ, ◌≤◌, inl, inr, ⊎_elim, Bool, true, false, ◌||◌, ◌&&◌, List, [], ◌∷◌, ◌++◌, length, All, Option, Some, None, refl, sym, ap, ◌∙◌, arith, subst}
-use Rattle.std.specs.Prelude.{flat_map, nat_eq}
+use Rattle.std.proofs.Common.{◌≡◌, ℕ, ◌≤◌, inl, inr, ⊎_elim, Bool, true, false, ◌||◌, ◌&&◌, List, [], ◌∷◌, ◌++◌, length, All, Option, Some, None, map, ◌/◌, refl, sym, ap, ◌∙◌, arith, subst}
+use Rattle.std.specs.Prelude.{flat_map, nat_eq, sum_by}
+use Rattle.std.proofs.Math.Path.{fun_ext}
 use Rattle.std.specs.Char.{IsScalar}
 use Rattle.std.specs.List.{list_any}
 use Rattle.std.specs.Option.{is_some, unwrap_or}
@@ -12,25 +13,29 @@ use Rattle.std.proofs.lemmas.List.Folds.{flat_map-map}
 use Rattle.icu_normalizer_core.specs.declared.canonical.builder.GivenMapping.{GivenMapping}
 use Rattle.icu_normalizer_core.specs.BuiltIn.{built_in_compatibility_step, built_in_step, is_jamo, is_syllable, is_built_in}
 use Rattle.icu_normalizer_core.specs.Canonical.{Leaves}
-use Rattle.icu_normalizer_core.specs.CanonicalMaps.{BeginsWithStarter, CanonicalMaps, KeepRules, class_of as class_of_maps, first_mapping, mapping_given, named as named_by, step_of as step_of_maps}
-use Rattle.icu_normalizer_core.specs.CompatibilityMaps.{AllMaps, AreApart, AreMeaningOf, HaveOneCompatibility, IsMappedAtAll, KeepAllRules, KeepCompatibilityRules, all_named, all_steps_of, compatibility_step, else_mapped, given_compatibility, is_built_in_compatibility}
+use Rattle.icu_normalizer_core.specs.CanonicalMaps.{BeginsWithStarter, CanonicalMaps, KeepRulesWithin, class_of as class_of_maps, first_mapping, mapping_given, named as named_by, step_of as step_of_maps}
+use Rattle.icu_normalizer_core.specs.CompatibilityMaps.{AllMaps, AreApart, AreMeaningOf, HaveOneCompatibility, IsMappedAtAll, KeepAllRulesWithin, KeepCompatibleRules, all_named, all_steps_of, compatibility_step, else_mapped, given_compatibility, is_built_in_compatibility}
+use Rattle.icu_normalizer_core.specs.ListRoom.{HasRoom, list_room}
 use Rattle.icu_normalizer_core.specs.Words.{WordLists}
 use Rattle.icu_normalizer_core.proofs.settling.LeftLemmas.{left_one, left_same}
 use Rattle.icu_normalizer_core.proofs.builder.AllStepLemmas.{all_second, cases_step, step_apart, step_fixed, step_given, unbound}
 use Rattle.collate_lines.specs.declared.rule.Rule.TheVariants.{C9, Limit, V14}
-use Rattle.collate_lines.specs.Record.{Record, compatibility}
+use Rattle.collate_lines.specs.Record.{Record, mapping, compatibility}
 use Rattle.collate_rules.specs.Meaning.{any_step, class_of, compatibility_in, compatibility_of, first_found, mapping_in, step_of}
-use Rattle.collate_rules.specs.Rules.{MapsHangul, compatibility_full_of, is_mapped}
+use Rattle.collate_rules.specs.Rules.{MapsHangul, blocks_in, compatibility_full_of, is_mapped, mapping_room, names_in}
+use Rattle.collate_rules.proofs.lookups.FoundLemmas.{mapping_line}
+use Rattle.collate_rules.proofs.offenders.RoomLemmas.{all_fit}
 use Rattle.collate_rules.proofs.offenders.LineRuleLemmas.{each_line}
 use Rattle.collate_rules.specs.Accepted.{AreAccepted}
 use Rattle.collate_records.specs.Maps.{AreAllMapsOf, AreWordsOf, compatibilities_in, compatibility_pair, mappings_in, maps_of}
 use Rattle.collate_records.proofs.mappings.MappingStepLemmas.{step_of-compatibility}
 use Rattle.collate_records.proofs.maps.AcceptedAllMapsLemmas.{accepted_consistent, accepted_few, accepted_maps}
-use Rattle.collate_records.proofs.maps.AnyStepLemmas.{any_begins, any_built_in, any_by_lines, any_ends, any_short, low_compatibility, low_unmapped, mapped_by_line, no_marks}
-use Rattle.collate_records.proofs.maps.CompatibilityLineLemmas.{all_pairs, each_found, each_mapped, first_for, first_for-lines, given_for}
+use Rattle.collate_records.proofs.maps.AnyStepLemmas.{any_begins, any_built_in, any_by_lines, any_ends, any_free, any_short, low_compatibility, low_unmapped, mapped_by_line, no_marks}
+use Rattle.collate_records.proofs.maps.CompatibilityLineLemmas.{all_pairs, compatibility_line, each_found, each_mapped, first_for, first_for-lines, given_for}
 use Rattle.collate_records.proofs.maps.MapLineLemmas.{given_step-maps}
 use Rattle.collate_records.proofs.maps.MapMeaningLemmas.{IsConsistent, class_of-maps, step_of-maps}
-use Rattle.collate_records.proofs.maps.MapNameLemmas.{all_maps_few, pair_names}
+use Rattle.collate_records.proofs.maps.MapNameLemmas.{all_maps_few, all_maps_few_blocks, both_named, pair_names}
+use Rattle.collate_records.proofs.maps.RoomMapLemmas.{line_room, room_for, rooms_within}
 
 -- whether a compatibility mapping says exactly what is built in
 abbrev said_as_built_in : (c : ℕ) (ds : List ℕ) → Bool
@@ -103,14 +108,69 @@ module _ (records : List Record) (maps : AllMaps) (accepted : AreAccepted record
       each_mapped (λ p. P p.0 p.1) compatibility_pair maps.compatibilities
       (subst (All (λ p. P p.0 p.1)) (sym are.compatibilities) (all_pairs (λ p. P p.0 p.1) Q one records all))
 
-  few_names : distinct_count nat_eq (all_named maps) ≤ 150
-  few_names =
+  names_same : all_named maps ≡ both_named records
+  names_same =
       let pairs : flat_map (λ g. g.character ∷ g.mapping.items) maps.compatibilities ≡ pair_names (flat_map compatibilities_in records) =
       sym (flat_map-map (λ (p : ℕ × List ℕ). p.0 ∷ p.1) compatibility_pair maps.compatibilities) ∙ ap pair_names are.compatibilities in
-      let same : all_named maps ≡ named_by (maps_of records) ++ pair_names (flat_map compatibilities_in records) =
       ap (λ (m : CanonicalMaps). named_by m ++ flat_map (λ g. g.character ∷ g.mapping.items) maps.compatibilities) are.canonical
-      ∙ ap (λ (names : List ℕ). named_by (maps_of records) ++ names) pairs in
-      subst (λ (names : List ℕ). distinct_count nat_eq names ≤ 150) (sym same) (all_maps_few records (accepted.keep_rules Limit))
+      ∙ ap (λ (names : List ℕ). named_by (maps_of records) ++ names) pairs
+
+  few_names : (limit : ℕ) → names_in records ≤ limit → distinct_count nat_eq (all_named maps) ≤ limit
+  few_names limit few = subst (λ (names : List ℕ). distinct_count nat_eq names ≤ limit) (sym names_same) (all_maps_few records limit few)
+
+  few_blocks : (width limit : ℕ) → blocks_in width records ≤ limit → distinct_count nat_eq (map (λ c. c / width) (all_named maps)) ≤ limit
+  few_blocks width limit few =
+      subst (λ (names : List ℕ). distinct_count nat_eq (map (λ c. c / width) names) ≤ limit) (sym names_same) (all_maps_few_blocks records width limit few)
+
+  -- the character that a line maps
+  abbrev either_key : Record → Option ℕ
+  either_key (mapping c ds x) = Some c
+  either_key (compatibility c ds) = Some c
+  either_key _ = None
+
+  mapped_room : (c : ℕ) → IsMappedAtAll maps c → list_room (all_steps_of maps) (all_steps_of maps c) ≤ sum_by (room_for either_key (mapping_room records) c) records
+  mapped_room c mapped = by (first_found (mapping_in c) records) (first_found (compatibility_in c) records) refl refl
+    where
+      free : (o p : Option (List ℕ)) → first_found (mapping_in c) records ≡ o → first_found (compatibility_in c) records ≡ p
+          → all_steps_of maps c ≡ else_mapped (unwrap_or o []) (unwrap_or p [])
+      free o p e f =
+          all_steps_same c ∙ any_free records c mapped.0
+          ∙ ap (λ (q : Option (List ℕ)). else_mapped (unwrap_or q []) (unwrap_or (first_found (compatibility_in c) records) [])) e
+          ∙ ap (λ (q : Option (List ℕ)). else_mapped (unwrap_or o []) (unwrap_or q [])) f
+
+      room_same : (ds : List ℕ) → all_steps_of maps c ≡ ds → list_room (all_steps_of maps) (all_steps_of maps c) ≡ list_room (any_step records) ds
+      room_same ds is =
+          ap (λ (step : ℕ → List ℕ). list_room step (all_steps_of maps c)) (fun_ext all_steps_same) ∙ ap (list_room (any_step records)) is
+
+      by_mapping : (ds : List ℕ) → first_found (mapping_in c) records ≡ Some ds → all_steps_of maps c ≡ ds → list_room (all_steps_of maps) (all_steps_of maps c) ≤ sum_by (room_for either_key (mapping_room records) c) records
+      by_mapping ds e is =
+          let w = mapping_line records c ds e in
+          let below = line_room either_key (mapping_room records) records w.0 c (mapping c ds w.1) w.2 w.3 refl in
+          omega (arith, below, room_same ds is)
+
+      by_compatibility : (ds : List ℕ) → first_found (compatibility_in c) records ≡ Some ds → all_steps_of maps c ≡ ds → list_room (all_steps_of maps) (all_steps_of maps c) ≤ sum_by (room_for either_key (mapping_room records) c) records
+      by_compatibility ds e is =
+          let w = compatibility_line records c ds e in
+          let below = line_room either_key (mapping_room records) records w.0 c (compatibility c ds) w.1 w.2 refl in
+          omega (arith, below, room_same ds is)
+
+      by : (o p : Option (List ℕ)) → first_found (mapping_in c) records ≡ o → first_found (compatibility_in c) records ≡ p → list_room (all_steps_of maps) (all_steps_of maps c) ≤ sum_by (room_for either_key (mapping_room records) c) records
+      by (Some (d ∷ ds)) p e f = by_mapping (d ∷ ds) e (free (Some (d ∷ ds)) p e f)
+      by (Some []) (Some es) e f = by_compatibility es f (free (Some []) (Some es) e f)
+      by (Some []) None e f = absurd (mapped.1 (free (Some []) None e f))
+      by None (Some es) e f = by_compatibility es f (free None (Some es) e f)
+      by None None e f = absurd (mapped.1 (free None None e f))
+
+  has_room : HasRoom (all_steps_of maps) (IsMappedAtAll maps) (all_named maps)
+  has_room =
+      let fit = all_fit records (accepted.keep_rules Limit) in
+      record {
+        wide = few_blocks 512 700 fit.wide;
+        narrow = few_blocks 16 11000 fit.narrow;
+        lists = λ cs distinct all.
+            let below = rooms_within either_key (mapping_room records) records (λ c. list_room (all_steps_of maps) (all_steps_of maps c)) (IsMappedAtAll maps) mapped_room cs distinct all in
+            omega (arith, below, fit.mappings);
+      }
 
   one_compatibility : HaveOneCompatibility maps.compatibilities
   one_compatibility =
@@ -178,9 +238,8 @@ module _ (records : List Record) (maps : AllMaps) (accepted : AreAccepted record
       (λ c ds good off. false_from_ne_true _ (λ named. good (named, off)))
       (each_line (λ r. MapsHangul r → ⊥) records (accepted.keep_rules C9))
 
-  keep_compatibility : KeepCompatibilityRules maps
-  keep_compatibility = record {
-    few = few_names;
+  keep_compatible : KeepCompatibleRules maps
+  keep_compatible = record {
     one_mapping = one_compatibility;
     apart = apart;
     starters = on_starters;
@@ -194,6 +253,9 @@ module _ (records : List Record) (maps : AllMaps) (accepted : AreAccepted record
     letters = no_letters;
   }
 
-  -- maps of both kinds of accepted lines keep all rules
-  pub keep_all : KeepAllRules maps
-  keep_all = (subst KeepRules (sym are.canonical) (accepted_maps records accepted), keep_compatibility)
+  -- maps of both kinds of accepted lines keep all rules, and have room in tables
+  pub keep_all : (limit : ℕ) → names_in records ≤ limit → KeepAllRulesWithin limit maps
+  keep_all limit few = (
+    subst (KeepRulesWithin limit) (sym are.canonical) (accepted_maps records limit accepted few),
+    record { few = few_names limit few; room = has_room; rules = keep_compatible },
+  )

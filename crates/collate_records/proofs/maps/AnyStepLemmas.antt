@@ -51,16 +51,19 @@ compatibility_free c free = by (built_in_step c) (built_in_compatibility_step c)
     by None (Some es) e = absurd (cc)
     by None None e = refl
 
--- a character that steps of either kind map is mapped by a line, where nothing is built in
-pub mapped_by_line : (records : List Record) (c : ℕ) → is_built_in c ≡ false → any_step records c ≢ [] → is_mapped records c ≡ true
-mapped_by_line records c free some =
+-- steps of either kind, by the lines, where nothing is built in
+pub any_free : (records : List Record) (c : ℕ) → is_built_in c ≡ false
+    → any_step records c ≡ else_mapped (unwrap_or (first_found (mapping_in c) records) []) (unwrap_or (first_found (compatibility_in c) records) [])
+any_free records c free =
     let first : step_of records c ≡ unwrap_or (first_found (mapping_in c) records) [] = cond-false (is_built_in c) _ _ free in
     let second : compatibility_of records c ≡ unwrap_or (first_found (compatibility_in c) records) [] = cond-false (is_built_in c) _ _ free in
-    let both : any_step records c ≡ else_mapped (unwrap_or (first_found (mapping_in c) records) []) (unwrap_or (first_found (compatibility_in c) records) []) =
     any_by_lines records c (compatibility_free c free)
     ∙ ap (λ (ds : List ℕ). else_mapped ds (compatibility_of records c)) first
-    ∙ ap (λ (es : List ℕ). else_mapped (unwrap_or (first_found (mapping_in c) records) []) es) second in
-    some_mapped _ _ (λ none. some (both ∙ none))
+    ∙ ap (λ (es : List ℕ). else_mapped (unwrap_or (first_found (mapping_in c) records) []) es) second
+
+-- a character that they map is mapped by a line
+pub mapped_by_line : (records : List Record) (c : ℕ) → is_built_in c ≡ false → any_step records c ≢ [] → is_mapped records c ≡ true
+mapped_by_line records c free some = some_mapped _ _ (λ none. some (any_free records c free ∙ none))
 
 module _ (records : List Record) (in_grammar : All IsSaid records) where
   -- a line says one character or more, scalar values

@@ -1,23 +1,23 @@
 -- The characters that maps of lines name: each class and each mapping has its own, and few are named.
-use Rattle.std.proofs.Common.{◌≡◌, ℕ, ◌≤◌, ⊎_elim, inl, Bool, true, false, cond, ◌||◌, eqb, List, [], ◌∷◌, ◌++◌, length, map, refl, sym, ap, ◌∙◌, arith, subst, All, ◌<◌}
+use Rattle.std.proofs.Common.{◌≡◌, ℕ, ◌≤◌, ◌/◌, ⊎_elim, Bool, true, false, cond, ◌||◌, eqb, List, [], ◌∷◌, ◌++◌, length, map, refl, sym, ap, ◌∙◌, arith, subst, All, ◌<◌}
 use Rattle.std.specs.Prelude.{flat_map}
 use Rattle.std.specs.Cmp.{nat_eq_equiv}
 use Rattle.std.specs.List.{list_any, AllByRecursion, IsDistinct}
 use Rattle.std.specs.Set.{distinct_count, is_member, unique_keys}
-use Rattle.std.proofs.lemmas.Bool.{cases_lt, or_right, false≢true, or_cases, or_parts}
+use Rattle.std.proofs.lemmas.Bool.{or_right, false≢true, or_cases, or_parts}
 use Rattle.std.proofs.lemmas.List.{take_all}
 use Rattle.std.proofs.lemmas.List.Folds.{list_any-append}
 use Rattle.std.proofs.lemmas.Map.Made.{length-le_from_is_member}
 use Rattle.icu_normalizer_core.specs.CanonicalMaps.{mapping_given, named as named_by}
-use Rattle.collate_lines.specs.declared.rule.Rule.TheVariants.{Limit, V14}
+use Rattle.collate_lines.specs.declared.rule.Rule.TheVariants.{V14}
 use Rattle.collate_lines.specs.Record.{Record, nothing, class, mapping, compatibility, weights, range, digit, setting}
 use Rattle.collate_records.specs.Maps.{classes_in, compatibilities_in, mappings_in, maps_of}
-use Rattle.collate_rules.specs.Rules.{named, names_in, different}
+use Rattle.collate_rules.specs.Rules.{named, names_in, blocks_in, different}
 use Rattle.collate_rules.specs.Offenders.{NoneOffends}
 use Rattle.collate_lines.specs.Keys.{class_key, mapping_key}
 use Rattle.collate_records.proofs.lookups.LookedUpKeyLemmas.{class_kind, mapping_kind, distinct_to, key_named, different-unique, is_member-unique}
 use Rattle.collate_records.proofs.maps.MapLineLemmas.{MapsToFew, class_keys, mapping_keys}
-use Rattle.collate_rules.proofs.offenders.BreachLemmas.{none_together}
+use Rattle.collate_records.proofs.maps.RoomMapLemmas.{mapped_within}
 
 -- ---- One class and one mapping for a character
 
@@ -83,25 +83,29 @@ all_named q records h =
     by false true e f t = mapping_named q records f
     by false false e f t = absurd (false≢true t)
 
-names_limit : (records : List Record) → NoneOffends Limit records → different (flat_map named records) ≤ 150
-unfolding different
-names_limit records few =
-    let bounded : names_in records ≤ 150 =
-    ⊎_elim (λ (past : 150 < names_in records). absurd (none_together (λ rs. 150 < names_in rs) (λ h. omega arith) records (λ i lt over. few i lt (inl over)) past))
-    (λ (within : names_in records ≤ 150). within) (cases_lt 150 (names_in records)) in
-    omega arith
+-- numbers that all stand in another list are few, where its are
+few_among : (names others : List ℕ) (limit : ℕ) → different others ≤ limit
+    → ((q : ℕ) → list_any (λ d. eqb q d) names ≡ true → list_any (λ d. eqb q d) others ≡ true) → distinct_count eqb names ≤ limit
+few_among names others limit few within =
+    let below = length-le_from_is_member nat_eq_equiv (unique_keys eqb names) (unique_keys eqb others) (unique_distinct names)
+    (λ q is. is_member-unique q others ∙ within q (sym (is_member-unique q names) ∙ is)) in
+    omega (arith, below, different-unique others, few)
 
--- numbers that lines name are few
-few_among : (records : List Record) (names : List ℕ) → NoneOffends Limit records
-    → ((q : ℕ) → list_any (λ d. eqb q d) names ≡ true → list_any (λ d. eqb q d) (flat_map named records) ≡ true) → distinct_count eqb names ≤ 150
-few_among records names few within =
-    let lines = flat_map named records in
-    let below = length-le_from_is_member nat_eq_equiv (unique_keys eqb names) (unique_keys eqb lines) (unique_distinct names)
-    (λ q is. is_member-unique q lines ∙ within q (sym (is_member-unique q names) ∙ is)) in
-    omega (arith, below, different-unique lines, names_limit records few)
+-- so are they, and the blocks in which they lie, where lines name them
+module _ (records : List Record) (names : List ℕ) (within : (q : ℕ) → list_any (λ d. eqb q d) names ≡ true → list_any (λ d. eqb q d) (flat_map named records) ≡ true) where
+  few_named : (limit : ℕ) → names_in records ≤ limit → distinct_count eqb names ≤ limit
+  few_named limit few = few_among names (flat_map named records) limit (omega (arith, few)) within
 
-pub maps_few : (records : List Record) → NoneOffends Limit records → distinct_count eqb (named_by (maps_of records)) ≤ 150
-maps_few records few = few_among records (named_by (maps_of records)) few (λ q is. all_named q records is)
+  few_blocks : (width limit : ℕ) → blocks_in width records ≤ limit → distinct_count eqb (map (λ c. c / width) names) ≤ limit
+  few_blocks width limit few =
+      few_among (map (λ c. c / width) names) (map (λ c. c / width) (flat_map named records)) limit (omega (arith, few))
+      (mapped_within (λ c. c / width) names (flat_map named records) within)
+
+pub maps_few : (records : List Record) (limit : ℕ) → names_in records ≤ limit → distinct_count eqb (named_by (maps_of records)) ≤ limit
+maps_few records = few_named records (named_by (maps_of records)) (λ q is. all_named q records is)
+
+pub maps_few_blocks : (records : List Record) (width limit : ℕ) → blocks_in width records ≤ limit → distinct_count eqb (map (λ c. c / width) (named_by (maps_of records))) ≤ limit
+maps_few_blocks records = few_blocks records (named_by (maps_of records)) (λ q is. all_named q records is)
 
 -- ---- With compatibility mappings
 
@@ -126,11 +130,19 @@ compatibility_named q (range r ∷ rs) h = compatibility_named q rs h
 compatibility_named q (digit c v ∷ rs) h = behind q (digit c v) rs (compatibility_named q rs h)
 compatibility_named q (setting s ∷ rs) h = compatibility_named q rs h
 
-pub all_maps_few : (records : List Record) → NoneOffends Limit records
-    → distinct_count eqb (named_by (maps_of records) ++ pair_names (flat_map compatibilities_in records)) ≤ 150
-all_maps_few records few =
+-- the characters that maps of both kinds name
+abbrev pub both_named : List Record → List ℕ
+both_named records = named_by (maps_of records) ++ pair_names (flat_map compatibilities_in records)
+
+both_within : (records : List Record) (q : ℕ) → list_any (λ d. eqb q d) (both_named records) ≡ true → list_any (λ d. eqb q d) (flat_map named records) ≡ true
+both_within records q is =
     let first = named_by (maps_of records) in
     let others = pair_names (flat_map compatibilities_in records) in
-    few_among records (first ++ others) few
-    (λ q is. ⊎_elim (λ here. all_named q records here) (λ later. compatibility_named q records later)
-    (or_cases _ _ (sym (list_any-append (λ d. eqb q d) first others) ∙ is)))
+    ⊎_elim (λ here. all_named q records here) (λ later. compatibility_named q records later)
+    (or_cases _ _ (sym (list_any-append (λ d. eqb q d) first others) ∙ is))
+
+pub all_maps_few : (records : List Record) (limit : ℕ) → names_in records ≤ limit → distinct_count eqb (both_named records) ≤ limit
+all_maps_few records = few_named records (both_named records) (both_within records)
+
+pub all_maps_few_blocks : (records : List Record) (width limit : ℕ) → blocks_in width records ≤ limit → distinct_count eqb (map (λ c. c / width) (both_named records)) ≤ limit
+all_maps_few_blocks records = few_blocks records (both_named records) (both_within records)

@@ -10,6 +10,7 @@ use Rattle.std.proofs.lemmas.List.Elements.{filter-append}
 use Rattle.std.proofs.Math.Bool.{or-false}
 use Rattle.std.proofs.Common.{append-nil}
 use Rattle.collate_lines.specs.declared.record.Record.{Record as Line}
+use Rattle.collate_lines.specs.declared.limits.Limits.{Limits}
 use Rattle.collate_lines.specs.declared.rule.Rule.{Rule}
 use Rattle.collate_lines.specs.declared.rule.Rule.TheVariants.{Grammar, V14}
 use Rattle.collate_lines.specs.Grammar.{record_of}
@@ -45,21 +46,21 @@ kept_to file i s b h e says =
     ∙ ap (λ (t : Bool). filter says_something (take i (all_of file)) ++ cond t (s ∷ []) []) says
 
 numbers_to : (file : List ℕ) (i : ℕ) (s : Record) (b : Bool) → i < length (lines_of file) → record_of (line_at (lines_of file) i) ≡ Some s → says_something s ≡ b
-    → numbers_from 0 (take (i + 1) (all_of file)) ≡ numbers_from 0 (take i (all_of file)) ++ cond b (i ∷ []) []
+    → numbers_from 1 (take (i + 1) (all_of file)) ≡ numbers_from 1 (take i (all_of file)) ++ cond b ((i + 1) ∷ []) []
 numbers_to file i s b h e says =
-    let many : 0 + length (take i (all_of file)) ≡ i = omega (arith, length-take i (all_of file), length-map (lines_of file) read_line) in
-    ap (numbers_from 0) (said_to file i s h e)
-    ∙ numbers_push 0 (take i (all_of file)) s
-    ∙ ap (λ (k : ℕ). numbers_from 0 (take i (all_of file)) ++ cond (says_something s) (k ∷ []) []) many
-    ∙ ap (λ (t : Bool). numbers_from 0 (take i (all_of file)) ++ cond t (i ∷ []) []) says
+    let many : 1 + length (take i (all_of file)) ≡ i + 1 = omega (arith, length-take i (all_of file), length-map (lines_of file) read_line) in
+    ap (numbers_from 1) (said_to file i s h e)
+    ∙ numbers_push 1 (take i (all_of file)) s
+    ∙ ap (λ (k : ℕ). numbers_from 1 (take i (all_of file)) ++ cond (says_something s) (k ∷ []) []) many
+    ∙ ap (λ (t : Bool). numbers_from 1 (take i (all_of file)) ++ cond t ((i + 1) ∷ []) []) says
 
 -- a line that says something
 pub read_more : (file : List ℕ) (i : ℕ) (x : Line) (before after : Reading) → i < length (lines_of file) → record_of (line_at (lines_of file) i) ≡ Some (said x) → says_something (said x) ≡ true
-    → IsReadTo file i before → after.records.items ≡ before.records.items ++ x ∷ [] → after.numbers.items ≡ before.numbers.items ++ i ∷ []
+    → IsReadTo file i before → after.records.items ≡ before.records.items ++ x ∷ [] → after.numbers.items ≡ before.numbers.items ++ (i + 1) ∷ []
     → ((other : Record) → is_seen after.seen other ≡ (is_seen before.seen other || is_second (said x) other)) → IsReadTo file (i + 1) after
 read_more file i x before after h e says has records numbers seen = record {
   records = pushed ∙ ap (λ (l : List Record). l ++ said x ∷ []) has.records ∙ sym (kept_to file i (said x) true h e says);
-  numbers = numbers ∙ ap (λ (l : List ℕ). l ++ i ∷ []) has.numbers ∙ sym (numbers_to file i (said x) true h e says);
+  numbers = numbers ∙ ap (λ (l : List ℕ). l ++ (i + 1) ∷ []) has.numbers ∙ sym (numbers_to file i (said x) true h e says);
   seen = λ other. seen other
       ∙ ap (λ (b : Bool). b || is_second (said x) other) (has.seen other)
       ∙ ap (λ (b : Bool). list_any (λ s. is_second s other) (map said before.records.items) || b) (sym (or-false (is_second (said x) other)))
@@ -75,7 +76,7 @@ pub read_past : (file : List ℕ) (i : ℕ) (s : Record) (reading : Reading) →
     → IsReadTo file i reading → IsReadTo file (i + 1) reading
 read_past file i s reading h e says has = record {
   records = has.records ∙ sym (kept_to file i s false h e says ∙ append-nil (filter says_something (take i (all_of file))));
-  numbers = has.numbers ∙ sym (numbers_to file i s false h e says ∙ append-nil (numbers_from 0 (take i (all_of file))));
+  numbers = has.numbers ∙ sym (numbers_to file i s false h e says ∙ append-nil (numbers_from 1 (take i (all_of file))));
   seen = has.seen;
 }
 
@@ -105,37 +106,37 @@ seen_before file i j s reading place has =
     ∙ sym (has.seen s)
 
 -- it was: line i breaks V14
-pub breaks_again : (file : List ℕ) (i : ℕ) (s : Record) (reading : Reading) → i < length (lines_of file) → record_of (line_at (lines_of file) i) ≡ Some s → says_something s ≡ true
-    → (PassesSize file i → ⊥) → IsReadTo file i reading → is_seen reading.seen s ≡ true → Breaks V14 file i
-breaks_again file i s reading h e says fits has again =
+pub breaks_again : (limits : Limits) (file : List ℕ) (i : ℕ) (s : Record) (reading : Reading) → i < length (lines_of file) → record_of (line_at (lines_of file) i) ≡ Some s → says_something s ≡ true
+    → (PassesSize limits.bytes file i → ⊥) → IsReadTo file i reading → is_seen reading.seen s ≡ true → Breaks limits V14 file i
+breaks_again limits file i s reading h e says fits has again =
     let within : i < length (all_of file) = omega (arith, length-map (lines_of file) read_line) in
     let at : slice_get (numbers_of file) (length (filter says_something (take i (all_of file)))) ≡ Some i =
     number_here 0 (all_of file) i within (ap says_something (said_at file i s h e) ∙ says) ∙ ap Some (omega arith) in
     (fits, (length (filter says_something (take i (all_of file))), at, seen_before file i _ s reading (placed file i _ s h e at) has ∙ again))
 
 -- it wasn't, or the line says nothing
-pub not_again : (file : List ℕ) (i : ℕ) (s : Record) (reading : Reading) → i < length (lines_of file) → record_of (line_at (lines_of file) i) ≡ Some s
-    → IsReadTo file i reading → (says_something s ≡ true → is_seen reading.seen s ≡ false) → Breaks V14 file i → ⊥
-not_again file i s reading h e has fresh breaks =
-    let offends : OffendsIn V14 file i = breaks.1 in
+pub not_again : (limits : Limits) (file : List ℕ) (i : ℕ) (s : Record) (reading : Reading) → i < length (lines_of file) → record_of (line_at (lines_of file) i) ≡ Some s
+    → IsReadTo file i reading → (says_something s ≡ true → is_seen reading.seen s ≡ false) → Breaks limits V14 file i → ⊥
+not_again limits file i s reading h e has fresh breaks =
+    let offends : OffendsIn limits V14 file i = breaks.1 in
     let place = placed file i offends.0 s h e offends.1 in
     let clash : true ≡ false = sym offends.2 ∙ seen_before file i offends.0 s reading place has ∙ fresh place.says in cc
 
 -- line i is in the grammar
-pub not_outside : (file : List ℕ) (i : ℕ) (s : Record) → record_of (line_at (lines_of file) i) ≡ Some s → (PassesSize file i → ⊥) → Breaks Grammar file i → ⊥
-not_outside file i s e fits breaks =
+pub not_outside : (limits : Limits) (file : List ℕ) (i : ℕ) (s : Record) → record_of (line_at (lines_of file) i) ≡ Some s → (PassesSize limits.bytes file i → ⊥) → Breaks limits Grammar file i → ⊥
+not_outside limits file i s e fits breaks =
     ⊎_elim (λ (outside : IsOutside (lines_of file) i). let clash : Some s ≡ None = sym e ∙ outside in cc) fits breaks
 
 -- one sound line more
-sound_here : (file : List ℕ) (i : ℕ) → (Breaks Grammar file i → ⊥) → (Breaks V14 file i → ⊥) → (rule : Rule) → rank rule ≡ 0 → Breaks rule file i → ⊥
-sound_here file i inside apart Grammar ranked breaks = inside breaks
-sound_here file i inside apart V14 ranked breaks = apart breaks
-sound_here file i inside apart rule ranked breaks = absurd (omega arith)
+sound_here : (limits : Limits) (file : List ℕ) (i : ℕ) → (Breaks limits Grammar file i → ⊥) → (Breaks limits V14 file i → ⊥) → (rule : Rule) → rank rule ≡ 0 → Breaks limits rule file i → ⊥
+sound_here limits file i inside apart Grammar ranked breaks = inside breaks
+sound_here limits file i inside apart V14 ranked breaks = apart breaks
+sound_here limits file i inside apart rule ranked breaks = absurd (omega arith)
 
-pub sound_more : (file : List ℕ) (i : ℕ) → AreSound file i → (Breaks Grammar file i → ⊥) → (Breaks V14 file i → ⊥) → AreSound file (i + 1)
-sound_more file i sound inside apart rule k below ranked breaks =
+pub sound_more : (limits : Limits) (file : List ℕ) (i : ℕ) → AreSound limits file i → (Breaks limits Grammar file i → ⊥) → (Breaks limits V14 file i → ⊥) → AreSound limits file (i + 1)
+sound_more limits file i sound inside apart rule k below ranked breaks =
     ⊎_elim (λ (less : k < i). sound rule k less ranked breaks)
-    (λ (not_less : i ≤ k). let same : k ≡ i = omega arith in sound_here file i inside apart rule ranked (subst (Breaks rule file) same breaks))
+    (λ (not_less : i ≤ k). let same : k ≡ i = omega arith in sound_here limits file i inside apart rule ranked (subst (Breaks limits rule file) same breaks))
     (cases_lt k i)
 
 -- what line i was read as

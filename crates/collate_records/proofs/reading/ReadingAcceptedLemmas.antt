@@ -1,18 +1,22 @@
 -- The lines of an accepted file are in the grammar and keep the rules, and what follows of such lines.
-use Rattle.std.proofs.Common.{◌≡◌, ℕ, ◌<◌, Bool, List, length, Option, Some, None, refl, sym, ap, ◌∙◌, subst, [], get_or, inl, inr, arith, All}
+use Rattle.std.proofs.Common.{◌≡◌, ℕ, ◌<◌, ◌≤◌, Bool, List, length, Option, Some, None, refl, sym, ap, ◌∙◌, subst, [], get_or, inl, inr, arith, All}
 use Rattle.std.specs.Char.{IsScalar}
 use Rattle.std.specs.Option.{unwrap_or}
 use Rattle.std.proofs.lemmas.Option.{slice_get-get_or, unwrap_or-slice_get}
 use Rattle.std.proofs.lemmas.List.{get_or_default}
 use Rattle.std.proofs.lemmas.List.Elements.{All-filter, All-get_or, All-map, All-weaker}
 use Rattle.icu_normalizer_core.specs.Canonical.{IsDecomposing, IsComposing}
+use Rattle.collate_lines.specs.Limits.{standard}
+use Rattle.collate_lines.specs.declared.limits.Limits.{Limits}
 use Rattle.collate_lines.specs.declared.rule.Rule.{Rule}
-use Rattle.collate_lines.specs.declared.rule.Rule.TheVariants.{Grammar, V14, C1, C2, C3, C4, C6, C7, C9}
+use Rattle.collate_lines.specs.declared.rule.Rule.TheVariants.{Grammar, Limit, V14, C1, C2, C3, C4, C6, C7, C9}
 use Rattle.collate_lines.specs.Grammar.{record_of}
 use Rattle.collate_rules.specs.Accepted.{AreAccepted, AreScalars, HasSmallClass, IsSaid, MapsToScalars}
-use Rattle.collate_records.specs.Files.{IsAccepted}
+use Rattle.collate_records.specs.Files.{IsAccepted, IsAcceptedWithin}
 use Rattle.collate_lines.specs.Lines.{lines_of, numbers_of, read_line, records_in, records_of}
-use Rattle.collate_rules.specs.Offenders.{NoneOffends}
+use Rattle.collate_rules.specs.Offenders.{NoneOffends, NoneOffendsWithin}
+use Rattle.collate_rules.specs.Rules.{Offends, OffendsWithin, different, names_in}
+use Rattle.collate_rules.proofs.offenders.BreachLemmas.{none_over_together}
 use Rattle.collate_lines.specs.Repeats.{record_at, says_something}
 use Rattle.collate_lines.specs.Record.{Record, nothing, mapping}
 use Rattle.collate_rules.specs.Meaning.{canonical_of}
@@ -27,26 +31,57 @@ said_here : (line : List ℕ) (o : Option Record) → record_of line ≡ o → (
 said_here line None e inside = absurd (inside refl)
 said_here line (Some s) e inside = (line, e ∙ ap Some (sym (ap (λ (o : Option Record). unwrap_or o nothing) e)))
 
--- no record of an accepted file offends against a rule
+-- no lines name nothing
+none_named : (n : ℕ) → names_in [] ≤ n
+unfolding different
+none_named n = omega arith
+
+-- what offends whatever the limits offends by limits
+offends_by : (limits : Limits) (rule : Rule) (records : List Record) (i : ℕ) → Offends rule records i → OffendsWithin limits rule records i
+offends_by limits Limit records i large = inr (inr large)
+offends_by limits rule records i offends = offends
+
+module _ (limits : Limits) (file : List ℕ) (accepted : IsAcceptedWithin limits file) where
+  -- no record of an accepted file offends against a rule
+  pub kept_limits : (rule : Rule) → NoneOffendsWithin limits rule (records_of file)
+  kept_limits Grammar j lt offends = offends
+  kept_limits V14 j lt offends =
+      let at = slice_get-get_or (numbers_of file) j 0 (omega (arith, as_many file)) in
+      accepted V14 (get_or (numbers_of file) j 0) ((λ past. accepted Grammar _ (inr past)), (j, at, offends))
+  kept_limits rule j lt offends =
+      let at = slice_get-get_or (numbers_of file) j 0 (omega (arith, as_many file)) in accepted rule (get_or (numbers_of file) j 0) (j, at, offends)
+
+  pub kept_within : (rule : Rule) → NoneOffends rule (records_of file)
+  kept_within rule j lt offends = kept_limits rule j lt (offends_by limits rule (records_of file) j offends)
+
+  -- an accepted file gives small classes
+  pub classes_within : All HasSmallClass (records_of file)
+  classes_within = All-HasSmallClass (records_of file) (kept_within C3)
+
+  -- the records of an accepted file
+  pub lines_within : AreAccepted (records_of file)
+  lines_within = record {
+    in_grammar = All-filter says_something IsSaid (records_in (lines_of file)) (All-map IsSaid read_line (lines_of file)
+        (λ k d lt. said_here (get_or (lines_of file) k d) (record_of (get_or (lines_of file) k d)) refl (λ none. accepted Grammar k (inl (ap record_of (get_or_default (lines_of file) k [] d lt) ∙ none)))));
+    keep_rules = kept_within;
+  }
+
+  -- which name no more code points than the limits let them
+  pub few_within : names_in (records_of file) ≤ limits.code_points
+  few_within = none_over_together names_in limits.code_points (none_named limits.code_points) (records_of file) (λ i lt past. kept_limits Limit i lt (inl past))
+
+-- ---- Within the standard limits
+
 pub kept : (file : List ℕ) → IsAccepted file → (rule : Rule) → NoneOffends rule (records_of file)
-kept file accepted Grammar j lt offends = offends
-kept file accepted V14 j lt offends =
-    let at = slice_get-get_or (numbers_of file) j 0 (omega (arith, as_many file)) in
-    accepted V14 (get_or (numbers_of file) j 0) ((λ past. accepted Grammar _ (inr past)), (j, at, offends))
-kept file accepted rule j lt offends =
-    let at = slice_get-get_or (numbers_of file) j 0 (omega (arith, as_many file)) in accepted rule (get_or (numbers_of file) j 0) (j, at, offends)
+kept file accepted = kept_within standard file accepted
 
--- an accepted file gives small classes
 pub accepted_classes : (file : List ℕ) → IsAccepted file → All HasSmallClass (records_of file)
-accepted_classes file accepted = All-HasSmallClass (records_of file) (kept file accepted C3)
+accepted_classes file accepted = classes_within standard file accepted
 
--- the records of an accepted file
 pub accepted_lines : (file : List ℕ) → IsAccepted file → AreAccepted (records_of file)
-accepted_lines file accepted = record {
-  in_grammar = All-filter says_something IsSaid (records_in (lines_of file)) (All-map IsSaid read_line (lines_of file)
-      (λ k d lt. said_here (get_or (lines_of file) k d) (record_of (get_or (lines_of file) k d)) refl (λ none. accepted Grammar k (inl (ap record_of (get_or_default (lines_of file) k [] d lt) ∙ none)))));
-  keep_rules = kept file accepted;
-}
+accepted_lines file accepted = lines_within standard file accepted
+
+-- ---- What accepted lines give
 
 -- lines in the grammar map to scalar values
 pub said_scalars : (records : List Record) → All IsSaid records → AreScalars records
@@ -75,5 +110,8 @@ accepted_compose records accepted =
     in composing records (named_scalar records accepted) (keep V14) (keep C6) (keep C7)
 
 -- an accepted file gives canonical data, as far as decomposing goes
+pub file_within : (limits : Limits) (file : List ℕ) → IsAcceptedWithin limits file → IsDecomposing (canonical_of (records_of file))
+file_within limits file accepted = accepted_decompose (records_of file) (lines_within limits file accepted)
+
 pub accepted_file : (file : List ℕ) → IsAccepted file → IsDecomposing (canonical_of (records_of file))
-accepted_file file accepted = accepted_decompose (records_of file) (accepted_lines file accepted)
+accepted_file = file_within standard

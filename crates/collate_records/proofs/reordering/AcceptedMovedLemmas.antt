@@ -9,26 +9,27 @@ use Rattle.std.proofs.lemmas.List.Sorted.{All-permutation, IsPermutation-map}
 use Rattle.std.proofs.lemmas.Option.{none-some, slice_get_within}
 use Rattle.icu_normalizer_core.specs.Canonical.{IsComposing, IsDecomposing}
 use Rattle.icu_collator_core.specs.WeightRules.{is_sound_kind}
+use Rattle.collate_lines.specs.declared.limits.Limits.{Limits}
 use Rattle.collate_lines.specs.declared.rule.Rule.{Rule}
 use Rattle.collate_lines.specs.declared.rule.Rule.TheVariants.{Grammar, Limit, Set, C1, C2, C3, C4, C5, C6, C7, C8, C9, V1, V2, V3, V4, V5, V6, V7, V8, V9, V10, V11, V12, V13, V14, V15}
 use Rattle.collate_lines.specs.Grammar.{record_of}
-use Rattle.collate_lines.specs.Lines.{lines_of, numbers_of, read_line, records_in, records_of, size_limit}
+use Rattle.collate_lines.specs.Lines.{lines_of, numbers_of, read_line, records_in, records_of}
 use Rattle.collate_lines.specs.Record.{Record, nothing}
 use Rattle.collate_lines.specs.Repeats.{says_something}
 use Rattle.collate_rules.specs.GivenWeights.{HasRefused, has_sound_secondary, has_sound_tertiary}
 use Rattle.collate_rules.specs.Meaning.{canonical_of}
-use Rattle.collate_rules.specs.Offenders.{NoneOffends}
+use Rattle.collate_rules.specs.Offenders.{NoneOffends, NoneOffendsWithin}
 use Rattle.collate_rules.specs.RecordRules.{names_special}
 use Rattle.collate_rules.specs.Rules.{Contradicts, HasBadLow, HasLoop, IsBadClass, IsBadlyComposed, MapsHangul, MapsMark}
 use Rattle.collate_rules.proofs.lists.LowLemmas.{HasBadLow-none, HasBadLow-same}
 use Rattle.collate_rules.proofs.offenders.BreachLemmas.{none_together}
 use Rattle.collate_rules.specs.Accepted.{AreAccepted, IsSaid}
-use Rattle.collate_records.specs.Files.{IsAccepted, OffendsIn}
-use Rattle.collate_records.proofs.reading.ReadingAcceptedLemmas.{accepted_compose, accepted_decompose, accepted_lines, said_scalars}
+use Rattle.collate_records.specs.Files.{IsAcceptedWithin, OffendsIn}
+use Rattle.collate_records.proofs.reading.ReadingAcceptedLemmas.{accepted_compose, accepted_decompose, kept_limits, kept_within, lines_within, said_scalars}
 use Rattle.collate_records.proofs.reading.ReadingFaultLemmas.{as_many}
 use Rattle.collate_records.proofs.reordering.CanonicalMovedLemmas.{lists_moved, loopless, loops_moved, same, starters_moved, unmarked}
 use Rattle.collate_records.proofs.reordering.FewerLineLemmas.{loops_last}
-use Rattle.collate_records.proofs.reordering.LimitMovedLemmas.{limit_moved}
+use Rattle.collate_records.proofs.reordering.LimitMovedLemmas.{limit_moved, limits_moved}
 use Rattle.collate_records.proofs.reordering.ReorderedRuleLemmas.{each_moved, jamo_moved, pairs_moved, repeats_moved, shorter_moved}
 use Rattle.collate_records.proofs.reordering.LowRuleLemmas.{low_kept}
 use Rattle.collate_records.proofs.reordering.MovedListLemmas.{filter_moved}
@@ -68,7 +69,7 @@ module _ (a b : List Record) (moved : IsPermutation a b) (accepted : AreAccepted
   rules_moved : (rule : Rule) → NoneOffends rule b
   rules_moved Grammar = λ i lt offends. offends
   rules_moved V14 = repeats_moved a b moved (keep V14)
-  rules_moved Limit = limit_moved a b moved (keep Limit)
+  rules_moved Limit = limit_moved a b moved (keep V14) (keep Limit)
   rules_moved C1 = starters_moved a b moved accepted.in_grammar (keep V14) (keep C5) (keep C1) (keep C2)
   rules_moved C2 = loops_moved a b moved accepted.in_grammar (keep V14) (keep C5) (keep C1) (keep C2)
   rules_moved C3 = each_moved a b moved (λ r. IsBadClass r → ⊥) (keep C3)
@@ -105,7 +106,7 @@ pub records_moved : (a b : List ℕ) → IsPermutation (lines_of a) (lines_of b)
 records_moved a b lines =
     filter_moved says_something (records_in (lines_of a)) (records_in (lines_of b)) (IsPermutation-map read_line (lines_of a) (lines_of b) lines)
 
-module _ (a b : List ℕ) (accepted : IsAccepted a) (lines : IsPermutation (lines_of a) (lines_of b)) (short : length b ≤ size_limit) where
+module _ (limits : Limits) (a b : List ℕ) (accepted : IsAcceptedWithin limits a) (lines : IsPermutation (lines_of a) (lines_of b)) (short : length b ≤ limits.bytes) where
   InGrammar : List ℕ → Type 0
   InGrammar line = record_of line ≡ None → ⊥
 
@@ -123,13 +124,18 @@ module _ (a b : List ℕ) (accepted : IsAccepted a) (lines : IsPermutation (line
       (λ (past : length (lines_of b) ≤ i). none-some nothing (sym none ∙ ap record_of (get_or_past (lines_of b) i [] past)))
       (cases_lt i (length (lines_of b)))
 
-  offends_none : (rule : Rule) (i : ℕ) → OffendsIn rule b i → ⊥
+  rules_kept : (rule : Rule) → NoneOffendsWithin limits rule (records_of b)
+  rules_kept Limit =
+      limits_moved (records_of a) (records_of b) (records_moved a b lines) (kept_within limits a accepted V14) limits (kept_limits limits a accepted Limit)
+  rules_kept rule =
+      let kept = accepted_moved (records_of a) (records_of b) (records_moved a b lines) (lines_within limits a accepted) in kept.keep_rules rule
+
+  offends_none : (rule : Rule) (i : ℕ) → OffendsIn limits rule b i → ⊥
   offends_none rule i offends =
-      let kept = accepted_moved (records_of a) (records_of b) (records_moved a b lines) (accepted_lines a accepted) in
-      kept.keep_rules rule offends.0 (omega (arith, as_many b, slice_get_within (numbers_of b) offends.0 i offends.1)) offends.2
+      rules_kept rule offends.0 (omega (arith, as_many b, slice_get_within (numbers_of b) offends.0 i offends.1)) offends.2
 
   -- a file that has the lines of an accepted one in another order is accepted
-  pub file_accepted : IsAccepted b
+  pub file_accepted : IsAcceptedWithin limits b
   file_accepted Grammar i breaks =
       ⊎_elim (λ outside. line_in_grammar i outside) (λ past. let long = past.0 in omega (arith, long, short)) breaks
   file_accepted V14 i breaks = offends_none V14 i breaks.1

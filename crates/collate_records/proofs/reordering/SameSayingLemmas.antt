@@ -1,23 +1,27 @@
 -- The same lines in another order say the same, as functions of what they are asked.
-use Rattle.std.proofs.Common.{◌≡◌, ℕ, cond, List, Option, refl, ap, ◌∙◌}
+use Rattle.std.proofs.Common.{◌≡◌, ℕ, cond, List, [], Option, refl, ap, ◌∙◌}
 use Rattle.std.specs.List.Sorted.{IsPermutation}
 use Rattle.std.specs.Option.{is_some, unwrap_or}
 use Rattle.std.proofs.Math.Path.{fun_ext}
 use Rattle.std.proofs.lemmas.List.Sorted.{list_any-IsPermutation}
-use Rattle.icu_normalizer_core.specs.BuiltIn.{built_in_class, built_in_step, is_built_in}
+use Rattle.icu_normalizer_core.specs.BuiltIn.{built_in_class, built_in_compatibility_step, built_in_step, is_built_in}
 use Rattle.icu_normalizer_core.specs.Canonical.{Canonical}
 use Rattle.icu_collator_types.specs.declared.elements.Element.{Element}
 use Rattle.icu_collator_core.specs.ContextRules.{is_recorded_in}
 use Rattle.collate_lines.specs.declared.rule.Rule.TheVariants.{C5, V14}
 use Rattle.collate_lines.specs.Record.{Record, Layer, root, tailoring}
 use Rattle.collate_rules.specs.CanonicalParts.{SaysSame}
-use Rattle.collate_rules.specs.Meaning.{canonical_of, class_in, class_of, compatibility_in, composed_in, digit_in, elements_in, expanded, first_found, mapping_in, pair_of, step_of, weights_of}
+use Rattle.collate_rules.specs.Meaning.{any_step, canonical_of, class_in, class_of, compatibility_in, compatibility_of, composed_in, digit_in, elements_in, else_mapped, expanded, first_found, mapping_in, pair_of, step_of, weights_of}
 use Rattle.collate_rules.specs.Offenders.{NoneOffends}
 use Rattle.collate_rules.specs.RecordRules.{digit_of, has_mapping, is_replaced, is_to_some}
 use Rattle.collate_rules.specs.Rules.{is_same_pair, pair_in}
 use Rattle.collate_rules.proofs.mappings.CanonicalPartLemmas.{class_of-same, pair_of-same, step_of-same}
 use Rattle.collate_records.proofs.comparing.LineOrderLemmas.{pair_second, recorded_alike, said_alike}
 use Rattle.collate_records.proofs.comparing.OneLineLemmas.{class_second, compatibility_second, digit_second, found_alike, mapping_second, says_once}
+
+-- the mappings of either kind, by those of each
+abbrev either_step : (ℕ → List ℕ) → (ℕ → List ℕ) → ℕ → List ℕ
+either_step canonical compatible c = unwrap_or (built_in_compatibility_step c) (else_mapped (canonical c) (compatible c))
 
 -- canonical data by classes, mappings and pairs
 abbrev data_by : (ℕ → ℕ) → (ℕ → List ℕ) → (ℕ → ℕ → Option ℕ) → Canonical
@@ -49,6 +53,18 @@ module _ (a b : List Record) (moved : IsPermutation a b) (once : NoneOffends V14
       ap (λ class. data_by class (step_of a) (pair_of a)) (fun_ext (λ c. class_of-same a b c same))
       ∙ ap (λ step. data_by (class_of b) step (pair_of a)) (fun_ext (λ c. step_of-same a b c same))
       ∙ ap (λ pair. data_by (class_of b) (step_of b) pair) (fun_ext (λ x. fun_ext (λ y. pair_of-same a b x y same)))
+
+  pub steps_same : step_of a ≡ step_of b
+  steps_same =
+      fun_ext (λ c. ap (λ (o : Option (List ℕ)). cond (is_built_in c) (unwrap_or (built_in_step c) []) (unwrap_or o [])) (mapping_alike c))
+
+  compatibilities_same : compatibility_of a ≡ compatibility_of b
+  compatibilities_same =
+      fun_ext (λ c. ap (λ (o : Option (List ℕ)). cond (is_built_in c) [] (unwrap_or o [])) (said_alike a b moved once (compatibility_in c) (compatibility_second c)))
+
+  pub any_steps_same : any_step a ≡ any_step b
+  any_steps_same =
+      ap (λ (step : ℕ → List ℕ). either_step step (compatibility_of a)) steps_same ∙ ap (either_step (step_of b)) compatibilities_same
 
   pub mapped_same : has_mapping a ≡ has_mapping b
   mapped_same =

@@ -6,10 +6,11 @@ ghost use Rattle.std.specs.List.Sorted.{IsPermutation};
 ghost use Rattle.icu_normalizer_core.specs.Sameness.{AreSameComposing};
 ghost use Rattle.icu_collator_core.specs.SameSettings.{AreSameWithOptions};
 ghost use Rattle.icu_collator_core.specs.Sameness.{AreSameWeights};
-ghost use Rattle.collate_lines.specs.Lines.{lines_of, records_of, size_limit};
+ghost use Rattle.collate_lines.specs.declared.limits.Limits.{Limits};
+ghost use Rattle.collate_lines.specs.Lines.{lines_of, records_of};
 ghost use Rattle.collate_lines.specs.Record.{Record};
 ghost use Rattle.collate_rules.specs.Accepted.{AreAccepted};
-ghost use Rattle.collate_records.specs.Files.{IsAccepted};
+ghost use Rattle.collate_records.specs.Files.{IsAcceptedWithin};
 ghost use Rattle.collate_rules.specs.Meaning.{canonical_of, collation_of, weights_of};
 
 /// Accepted lines are accepted in every order (docs/RECORDS.md).
@@ -17,19 +18,20 @@ pub fn accepted_lines_are_accepted_in_another_order()
     ensures { (a b : List Record) → IsPermutation a b → AreAccepted a → AreAccepted b }
 {}
 
-/// A file that has the lines of an accepted file in another order, and is no longer than a file may be, is accepted
-/// (docs/RECORDS.md).
+/// A file that has the lines of a file that is accepted within some limits in another order, and is no longer than they let
+/// it be, is accepted within them (docs/RECORDS.md).
 pub fn files_in_another_order_are_accepted()
-    ensures { (a b : List ℕ) → IsAccepted a → IsPermutation (lines_of a) (lines_of b) → length b ≤ size_limit → IsAccepted b }
+    ensures { (limits : Limits) (a b : List ℕ) → IsAcceptedWithin limits a → IsPermutation (lines_of a) (lines_of b)
+        → length b ≤ limits.bytes → IsAcceptedWithin limits b }
 {}
 
 /// It means the same: both files give each character one class, one full list and one digit, compose alike, record the same
 /// texts with the same elements, and make the same settings (docs/RECORDS.md).
 pub fn files_in_another_order_mean_the_same()
-    ensures canonical { (a b : List ℕ) → IsAccepted a → IsPermutation (lines_of a) (lines_of b)
+    ensures canonical { (limits : Limits) (a b : List ℕ) → IsAcceptedWithin limits a → IsPermutation (lines_of a) (lines_of b)
         → AreSameComposing (canonical_of (records_of a)) (canonical_of (records_of b)) }
-    ensures weights { (a b : List ℕ) → IsAccepted a → IsPermutation (lines_of a) (lines_of b)
+    ensures weights { (limits : Limits) (a b : List ℕ) → IsAcceptedWithin limits a → IsPermutation (lines_of a) (lines_of b)
         → AreSameWeights (weights_of (records_of a)) (weights_of (records_of b)) }
-    ensures settings { (a b : List ℕ) → IsAccepted a → IsPermutation (lines_of a) (lines_of b)
+    ensures settings { (limits : Limits) (a b : List ℕ) → IsAcceptedWithin limits a → IsPermutation (lines_of a) (lines_of b)
         → AreSameWithOptions (collation_of (records_of a)) (collation_of (records_of b)) }
 {}

@@ -1,5 +1,6 @@
 -- A breach that the lines up to line i make together: line i is the first that offends, or no line up to it offends.
-use Rattle.std.proofs.Common.{◌≡◌, ℕ, ◌+◌, ◌<◌, ◌≤◌, List, [], ◌∷◌, ◌++◌, length, get_or, map, take, sym, ap, ◌∙◌, subst, arith, below_more, append-nil, take_all}
+use Rattle.std.proofs.Common.{◌≡◌, ℕ, ◌+◌, ◌<◌, ◌≤◌, List, [], ◌∷◌, ◌++◌, length, get_or, map, take, sym, ap, ◌∙◌, subst, arith, below_more, append-nil, take_all, ⊎_elim}
+use Rattle.std.proofs.lemmas.Bool.{cases_lt}
 use Rattle.std.proofs.lemmas.List.{take-map, map_more, length-map}
 use Rattle.collate_lines.specs.declared.record.Record.{Record as Line}
 use Rattle.collate_lines.specs.Record.{Record, said}
@@ -36,6 +37,12 @@ none_at_end P lines i before past k h = before k (omega (arith, length-map lines
 pub none_together : (P : List Record → Type 0) → (P [] → ⊥) → (records : List Record) → ((i : ℕ) → i < length records → P (take (i + 1) records) → ⊥) → P records → ⊥
 none_together P none [] keeps = none
 none_together P none (s ∷ ss) keeps = subst (λ lines. P lines → ⊥) (take_all (length ss + 1) (s ∷ ss) (omega arith)) (keeps (length ss) (omega arith))
+
+-- where no lines up to a last one count more than so many, all lines count no more
+pub none_over_together : (count : List Record → ℕ) (limit : ℕ) → count [] ≤ limit → (records : List Record) → ((i : ℕ) → i < length records → limit < count (take (i + 1) records) → ⊥) → count records ≤ limit
+none_over_together count limit none records keeps =
+    ⊎_elim (λ (past : limit < count records). absurd (none_together (λ lines. limit < count lines) (λ more. omega arith) records keeps past))
+    (λ (within : count records ≤ limit). within) (cases_lt limit (count records))
 
 -- parts that say what the lines up to line i say
 pub same_up_to : (parts more : List Record) (lines : List Line) (i : ℕ) (x : Line) → i < length lines → x ≡ get_or lines i x

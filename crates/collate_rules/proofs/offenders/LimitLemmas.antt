@@ -1,29 +1,32 @@
 -- The limits, line by line.
-use Rattle.std.proofs.Common.{◌≡◌, ℕ, ◌+◌, ◌<◌, ◌≤◌, ◌⊎◌, Bool, true, false, cond, List, [], ◌∷◌, ◌++◌, length, map, take, get_or, refl, sym, ap, ◌∙◌, subst, arith, below_more, append-nil, inl, inr, ⊎_elim, zero-add}
-use Rattle.std.specs.Prelude.{flat_map, filter, count_by}
+use Rattle.std.proofs.Common.{◌≡◌, ℕ, ◌+◌, ◌*◌, ◌<◌, ◌≤◌, ◌⊎◌, Bool, true, false, cond, List, [], ◌∷◌, ◌++◌, length, map, take, get_or, refl, sym, ap, ◌∙◌, subst, arith, below_more, append-nil, inl, inr, ⊎_elim, zero-add, length-append}
+use Rattle.std.specs.Prelude.{flat_map, filter, count_by, sum_by}
 use mir.Val.{bool_byte}
 use Rattle.std.proofs.lemmas.Bool.{cases_lt}
-use Rattle.std.specs.Ordering.{nat_cmp}
-use Rattle.std.specs.BTreeSet.{BTreeSet, contains, btree_set_len}
-use Rattle.std.proofs.lemmas.List.{get_or-map, take_more, length-map, length-append}
+use Rattle.std.specs.BTreeSet.{btree_set_len}
+use Rattle.std.proofs.lemmas.List.{get_or-map, take_more, length-map, length-take}
 use Rattle.std.proofs.lemmas.List.Elements.{filter-append}
-use Rattle.std.proofs.lemmas.List.Sums.{sum_by-append}
+use Rattle.std.proofs.lemmas.List.Sums.{count_by-le-length, length-filter, sum_by_push}
 use Rattle.std.proofs.lemmas.Grind.{flat_map-append}
 use Rattle.std.proofs.lemmas.Option.{unwrap_or-slice_get}
 use Rattle.collate_lines.specs.declared.record.Record.{Record as Line}
+use Rattle.collate_lines.specs.declared.limits.Limits.{Limits}
 use Rattle.collate_lines.specs.Record.{Record, nothing, said}
 use Rattle.collate_lines.specs.Repeats.{record_at, says_something}
-use Rattle.collate_rules.specs.Rules.{named, IsLong, is_range, names_in, different, IsOverLimit}
-use Rattle.collate_rules.specs.Limits.{Holds}
+use Rattle.collate_rules.specs.declared.counts.Counts.{Counts}
+use Rattle.collate_rules.specs.declared.names.Names.{Names}
+use Rattle.collate_rules.specs.Rules.{named, IsLong, IsOverLimit, LackRoom, blocks_in, canonical_room, different, element_room, is_beside, is_range, mapping_room, names_in}
+use Rattle.collate_rules.specs.Limits.{AreCounted, AreNamed, AreSmall, Holds, PassLimits, PassRoom}
 
 -- the first i lines are within the limits
-pub record AreWithin (records : List Record) (i : ℕ) (names : BTreeSet ℕ) (range_count record_count : ℕ) : Type 0 where
-  pub holds : Holds names (flat_map named (take i records))
-  pub ranges : range_count ≡ count_by is_range (take i records)
-  pub few_names : btree_set_len names + range_count ≤ 150
-  pub counts : record_count ≡ length (filter says_something (take i records))
-  pub few : record_count ≤ 1000
-  pub before : (k : ℕ) → k < i → IsOverLimit records k → ⊥
+pub record AreWithin (limits : Limits) (records : List Record) (i : ℕ) (counts : Counts) : Type 0 where
+  pub counted : AreCounted records (take i records) counts
+  pub ranges : counts.ranges ≤ 11000
+  pub elements : counts.elements ≤ 520000
+  pub beside : counts.beside ≤ 2600
+  pub canonical : counts.canonical ≤ 16000
+  pub mappings : counts.mappings ≤ 16000
+  pub before : (k : ℕ) → k < i → IsOverLimit limits records k → ⊥
 
 -- line i
 pub said_of : (lines : List Line) (i : ℕ) (x : Line) → i < length lines → x ≡ get_or lines i x → get_or (map said lines) i nothing ≡ said x
@@ -43,23 +46,34 @@ given_to {A} give lines i x h e =
     ∙ ap (λ (cs : List A). flat_map give (take i (map said lines)) ++ cs) (append-nil (give (said x)))
 
 -- no line yet
-pub within_none : (records : List Record) (names : BTreeSet ℕ) → names.keys ≡ [] → AreWithin records 0 names 0 0
-unfolding different
-within_none records names empty = record {
-  holds = record {
-    same = λ n. ap (λ (ks : List ℕ). contains nat_cmp (record { keys = ks }) n) empty;
-    count = ap length empty;
-  };
-  ranges = refl;
-  few_names = omega (arith, ap length empty);
-  counts = refl;
-  few = omega arith;
+pub within_none : (limits : Limits) (records : List Record) (counts : Counts) → AreCounted records [] counts → AreWithin limits records 0 counts
+within_none limits records counts none = record {
+  counted = none;
+  ranges = omega (arith, none.ranges);
+  elements = omega (arith, none.elements);
+  beside = omega (arith, none.beside);
+  canonical = omega (arith, none.canonical);
+  mappings = omega (arith, none.mappings);
   before = λ k h over. absurd (omega arith);
 }
 
--- what the lines up to line i name
-pub names_to : (lines : List Line) (i : ℕ) (x : Line) → i < length lines → x ≡ get_or lines i x → flat_map named (take (i + 1) (map said lines)) ≡ flat_map named (take i (map said lines)) ++ named (said x)
-names_to = given_to named
+-- one line more can be counted
+pub small_at : (limits : Limits) (lines : List Line) (i : ℕ) (counts : Counts) → i < length lines → length lines < 0x10000000000000000 → AreWithin limits (map said lines) i counts → AreSmall counts
+small_at limits lines i counts h fits within = record {
+  ranges = omega (arith, within.ranges);
+  records = let some = take i (map said lines) in
+      omega (arith, within.counted.records, length-filter says_something some, count_by-le-length says_something some, length-take i (map said lines), length-map lines said);
+  elements = within.elements;
+  beside = within.beside;
+  canonical = within.canonical;
+  mappings = within.mappings;
+}
+
+-- ---- What is counted of one line more
+
+byte_is : (n : ℕ) (t u : Bool) → n ≡ bool_byte t → t ≡ u → n ≡ cond u 1 0
+byte_is n t true e f = e ∙ ap bool_byte f
+byte_is n t false e f = e ∙ ap bool_byte f
 
 one_kept : (s : Record) (b : Bool) → says_something s ≡ b → length (filter says_something (s ∷ [])) ≡ cond b 1 0
 one_kept s b e = ap (λ (t : Bool). length (cond t (s ∷ []) [])) e ∙ kept b
@@ -68,93 +82,90 @@ one_kept s b e = ap (λ (t : Bool). length (cond t (s ∷ []) [])) e ∙ kept b
     kept true = refl
     kept false = refl
 
--- how many of them say something
-pub count_to : (lines : List Line) (i : ℕ) (x : Line) → i < length lines → x ≡ get_or lines i x → length (filter says_something (take (i + 1) (map said lines))) ≡ length (filter says_something (take i (map said lines))) + cond (says_something (said x)) 1 0
-count_to lines i x h e =
-    ap (λ (ss : List Record). length (filter says_something ss)) (lines_to lines i x h e)
-    ∙ ap length (filter-append says_something (take i (map said lines)) (said x ∷ []))
-    ∙ length-append (filter says_something (take i (map said lines))) (filter says_something (said x ∷ []))
-    ∙ ap (λ (n : ℕ). length (filter says_something (take i (map said lines))) + n) (one_kept (said x) _ refl)
+-- names of one line more
+pub named_more : (names : Names) (lines : List Record) (s : Record) → AreNamed names (flat_map named lines ++ named s) → AreNamed names (flat_map named (lines ++ s ∷ []))
+named_more names lines s has =
+    subst (AreNamed names)
+    (sym (flat_map-append named lines (s ∷ []) ∙ ap (λ (cs : List ℕ). flat_map named lines ++ cs) (append-nil (named s))))
+    has
 
--- one of the limits is passed: by the number of names, of lines that say something, or of what a line lists
-abbrev pub IsOver : ℕ → ℕ → Record → Type 0
-IsOver names record_count s = (150 < names) ⊎ ((1000 < record_count) ⊎ IsLong s)
+-- a sum with one line more
+pub sum_more : (f : Record → ℕ) (lines : List Record) (s : Record) (n more : ℕ) → n ≡ sum_by f lines → more ≡ f s → n + more ≡ sum_by f (lines ++ s ∷ [])
+sum_more f lines s n more e h = omega (arith, sum_by_push f lines s, e, h)
 
-is_over_along : (a b c d : ℕ) (s t : Record) → a ≡ b → c ≡ d → s ≡ t → IsOver a c s → IsOver b d t
-is_over_along a b c d s t p q r over =
-    subst (λ (u : Record). IsOver b d u) r (subst (λ (n : ℕ). IsOver b n s) q (subst (λ (n : ℕ). IsOver n c s) p over))
+-- a count with one line more
+pub count_more : (p : Record → Bool) (lines : List Record) (s : Record) (n more : ℕ) (t : Bool) → n ≡ count_by p lines → more ≡ bool_byte t → t ≡ p s → n + more ≡ count_by p (lines ++ s ∷ [])
+count_more p lines s n more t e h same = sum_more (λ r. cond (p r) 1 0) lines s n more e (byte_is more t (p s) h same)
 
-range_kept : (s : Record) → count_by is_range (s ∷ []) ≡ cond (is_range s) 1 0
-range_kept s = zero-add (cond (is_range s) 1 0)
+-- the lines that say something, with one line more
+pub records_more : (lines : List Record) (s : Record) (n more : ℕ) (t : Bool) → n ≡ length (filter says_something lines) → more ≡ bool_byte t → t ≡ says_something s → n + more ≡ length (filter says_something (lines ++ s ∷ []))
+records_more lines s n more t e h same =
+    let one = one_kept s (says_something s) refl in
+    let byte = byte_is more t (says_something s) h same in
+    let both = ap length (filter-append says_something lines (s ∷ [])) ∙ length-append (filter says_something lines) (filter says_something (s ∷ [])) in
+    omega (arith, one, byte, both, e)
 
--- how many of them are ranges
-pub ranges_to : (lines : List Line) (i : ℕ) (x : Line) → i < length lines → x ≡ get_or lines i x → count_by is_range (take (i + 1) (map said lines)) ≡ count_by is_range (take i (map said lines)) + cond (is_range (said x)) 1 0
-ranges_to lines i x h e =
-    ap (count_by is_range) (lines_to lines i x h e)
-    ∙ sum_by-append (λ s. cond (is_range s) 1 0) (take i (map said lines)) (said x ∷ [])
-    ∙ ap (λ (n : ℕ). count_by is_range (take i (map said lines)) + n) (range_kept (said x))
+-- ---- Whether a limit is passed
 
--- what is counted up to line i
-pub record AreCounted (lines : List Line) (i : ℕ) (x : Line) (names : BTreeSet ℕ) (range_count record_count : ℕ) : Type 0 where
-  pub holds : Holds names (flat_map named (take (i + 1) (map said lines)))
-  pub ranges : range_count ≡ count_by is_range (take (i + 1) (map said lines))
-  pub counts : record_count ≡ length (filter says_something (take (i + 1) (map said lines)))
-  pub says : said x ≡ record_at (map said lines) i
+either : {A B C D : Type 0} → (A → C) → (B → D) → A ⊎ B → C ⊎ D
+either f g w = ⊎_elim (λ a. inl (f a)) (λ b. inr (g b)) w
 
-one_more : (n m b : ℕ) (t u : Bool) → b ≡ bool_byte t → t ≡ u → n ≡ m → n + b ≡ m + cond u 1 0
-one_more n m b t u e f g = ap (λ (k : ℕ). k + b) g ∙ ap (λ (k : ℕ). m + k) (e ∙ ap bool_byte f ∙ byte_is u)
-  where
-    byte_is : (v : Bool) → bool_byte v ≡ cond v 1 0
-    byte_is true = refl
-    byte_is false = refl
+more_than : (n a b : ℕ) → a ≡ b → n < a → n < b
+more_than n a b e h = omega (arith, e, h)
 
--- a test of line i, as a number: 1 if it passes
-pub record IsCounted (more : ℕ) (passes : Bool) : Type 0 where
-  pub test : Bool
-  pub byte : more ≡ bool_byte test
-  pub same : test ≡ passes
+module _ (records lines : List Record) (counts : Counts) (counted : AreCounted records lines counts) where
+  wide_same : btree_set_len counts.names.wide + 3 * counts.ranges ≡ blocks_in 512 lines
+  wide_same = omega (arith, counted.names.wide.count, counted.ranges)
 
-pub counted_at : (lines : List Line) (i : ℕ) (x : Line) (names after : BTreeSet ℕ) (range_count record_count range more : ℕ) → i < length lines → x ≡ get_or lines i x → AreWithin (map said lines) i names range_count record_count → ((list : List ℕ) → Holds names list → Holds after (list ++ named (said x)))
-    → IsCounted range (is_range (said x)) → IsCounted more (says_something (said x)) → AreCounted lines i x after (range_count + range) (record_count + more)
-counted_at lines i x names after range_count record_count range more h e within named_more is_range_more is_more = record {
-  holds = subst (λ (cs : List ℕ). Holds after cs) (sym (names_to lines i x h e)) (named_more _ within.holds);
-  ranges = one_more range_count _ range is_range_more.test _ is_range_more.byte is_range_more.same within.ranges ∙ sym (ranges_to lines i x h e);
-  counts = one_more record_count _ more is_more.test _ is_more.byte is_more.same within.counts ∙ sym (count_to lines i x h e);
-  says = sym (unwrap_or-slice_get (map said lines) i nothing ∙ said_of lines i x h e);
-}
+  narrow_same : btree_set_len counts.names.narrow + 3 * counts.ranges ≡ blocks_in 16 lines
+  narrow_same = omega (arith, counted.names.narrow.count, counted.ranges)
 
--- the names up to line i
-names_same : (lines : List Line) (i : ℕ) (x : Line) (names : BTreeSet ℕ) (range_count record_count : ℕ) → AreCounted lines i x names range_count record_count → btree_set_len names + range_count ≡ names_in (take (i + 1) (map said lines))
-names_same lines i x names range_count record_count counted = omega (arith, counted.holds.count, counted.ranges)
+  names_same : btree_set_len counts.names.characters + counts.ranges ≡ names_in lines
+  names_same = omega (arith, counted.names.characters.count, counted.ranges)
 
--- line i passes a limit
-pub over_at : (lines : List Line) (i : ℕ) (x : Line) (names : BTreeSet ℕ) (range_count record_count : ℕ) → AreCounted lines i x names range_count record_count → IsOver (btree_set_len names + range_count) record_count (said x) → IsOverLimit (map said lines) i
-over_at lines i x names range_count record_count counted over = is_over_along _ _ _ _ _ _ (names_same lines i x names range_count record_count counted) counted.counts counted.says over
+  room_lacks : PassRoom counts → LackRoom records lines
+  room_lacks = either (more_than 700 _ _ wide_same)
+      (either (more_than 11000 _ _ narrow_same)
+      (either (more_than 520000 _ _ counted.elements)
+      (either (more_than 2600 _ _ counted.beside)
+      (either (more_than 16000 _ _ counted.canonical) (more_than 16000 _ _ counted.mappings)))))
 
--- no line up to line i passes one
-pub within_more : (lines : List Line) (i : ℕ) (x : Line) (names before : BTreeSet ℕ) (range_count record_count ranges some : ℕ) → AreWithin (map said lines) i before ranges some → AreCounted lines i x names range_count record_count → (IsOver (btree_set_len names + range_count) record_count (said x) → ⊥) → AreWithin (map said lines) (i + 1) names range_count record_count
-within_more lines i x names before range_count record_count ranges some within counted not_over = record {
-  holds = counted.holds;
-  ranges = counted.ranges;
-  few_names = ⊎_elim (λ (past : 150 < btree_set_len names + range_count). absurd (not_over (inl past))) (λ (few : btree_set_len names + range_count ≤ 150). few) (cases_lt 150 (btree_set_len names + range_count));
-  counts = counted.counts;
-  few = few_enough record_count not_over;
-  before = below_more (λ k. IsOverLimit (map said lines) k → ⊥) i within.before
-      (λ over. not_over (is_over_along _ _ _ _ _ _ (sym (names_same lines i x names range_count record_count counted)) (sym counted.counts) (sym counted.says) over));
-}
-  where
-    few_enough : (n : ℕ) → (IsOver (btree_set_len names + range_count) n (said x) → ⊥) → n ≤ 1000
-    few_enough n h = ⊎_elim (λ (past : 1000 < n). absurd (h (inr (inl past)))) (λ (few : n ≤ 1000). few) (cases_lt 1000 n)
+  room_passed : LackRoom records lines → PassRoom counts
+  room_passed = either (more_than 700 _ _ (sym wide_same))
+      (either (more_than 11000 _ _ (sym narrow_same))
+      (either (more_than 520000 _ _ (sym counted.elements))
+      (either (more_than 2600 _ _ (sym counted.beside))
+      (either (more_than 16000 _ _ (sym counted.canonical)) (more_than 16000 _ _ (sym counted.mappings))))))
 
--- the same, where the names were counted apart
-along_names : (n m ranges records : ℕ) (s : Record) → n ≡ m → IsOver (n + ranges) records s → IsOver (m + ranges) records s
-along_names n m ranges records s e over = subst (λ (k : ℕ). IsOver (k + ranges) records s) e over
+module _ (limits : Limits) (lines : List Line) (i : ℕ) (x : Line) (h : i < length lines) (is : x ≡ get_or lines i x) (counts : Counts)
+    (counted : AreCounted (map said lines) (take i (map said lines) ++ said x ∷ []) counts) where
+  says : said x ≡ record_at (map said lines) i
+  says = sym (unwrap_or-slice_get (map said lines) i nothing ∙ said_of lines i x h is)
 
-pub over_with : (lines : List Line) (i : ℕ) (x : Line) (names : BTreeSet ℕ) (range_count record_count n : ℕ) → AreCounted lines i x names range_count record_count → n ≡ btree_set_len names → IsOver (n + range_count) record_count (said x) → IsOverLimit (map said lines) i
-over_with lines i x names range_count record_count n counted e over =
-    over_at lines i x names range_count record_count counted (along_names n (btree_set_len names) range_count record_count (said x) e over)
+  here : AreCounted (map said lines) (take (i + 1) (map said lines)) counts
+  here = subst (λ (some : List Record). AreCounted (map said lines) some counts) (sym (lines_to lines i x h is)) counted
 
-pub within_with : (lines : List Line) (i : ℕ) (x : Line) (names before : BTreeSet ℕ) (range_count record_count ranges some n : ℕ) → AreWithin (map said lines) i before ranges some → AreCounted lines i x names range_count record_count → n ≡ btree_set_len names → (IsOver (n + range_count) record_count (said x) → ⊥) → AreWithin (map said lines) (i + 1) names range_count record_count
-within_with lines i x names before range_count record_count ranges some n within counted e not_over =
-    within_more lines i x names before range_count record_count ranges some within counted
-    (λ over. not_over (along_names (btree_set_len names) n range_count record_count (said x) (sym e) over))
+  -- line i passes a limit
+  pub over_at : PassLimits limits counts (said x) → IsOverLimit limits (map said lines) i
+  over_at = either (more_than limits.code_points _ _ (names_same _ _ counts here))
+      (either (more_than limits.records _ _ here.records) (either (room_lacks _ _ counts here) (subst IsLong says)))
+
+  passed_at : IsOverLimit limits (map said lines) i → PassLimits limits counts (said x)
+  passed_at = either (more_than limits.code_points _ _ (sym (names_same _ _ counts here)))
+      (either (more_than limits.records _ _ (sym here.records)) (either (room_passed _ _ counts here) (subst IsLong (sym says))))
+
+  -- no line up to line i passes one
+  pub within_more : (old : Counts) → AreWithin limits (map said lines) i old → (PassLimits limits counts (said x) → ⊥) → AreWithin limits (map said lines) (i + 1) counts
+  within_more old within unpassed =
+      let room : PassRoom counts → ⊥ = λ room. unpassed (inr (inr (inl room))) in record {
+        counted = here;
+        ranges = at_most 11000 counts.ranges (λ past. room (inr (inl (omega (arith, past)))));
+        elements = at_most 520000 counts.elements (λ past. room (inr (inr (inl past))));
+        beside = at_most 2600 counts.beside (λ past. room (inr (inr (inr (inl past)))));
+        canonical = at_most 16000 counts.canonical (λ past. room (inr (inr (inr (inr (inl past))))));
+        mappings = at_most 16000 counts.mappings (λ past. room (inr (inr (inr (inr (inr past))))));
+        before = below_more (λ k. IsOverLimit limits (map said lines) k → ⊥) i within.before (λ over. unpassed (passed_at over));
+      }
+    where
+      at_most : (n m : ℕ) → (n < m → ⊥) → m ≤ n
+      at_most n m h = ⊎_elim (λ (past : n < m). absurd (h past)) (λ (few : m ≤ n). few) (cases_lt n m)

@@ -1,9 +1,10 @@
 -- Different numbers: a set of them, and how many there are.
-use Rattle.std.proofs.Common.{◌≡◌, ℕ, ◌+◌, Bool, true, false, cond, ◌||◌, not, eqb, List, [], ◌∷◌, ◌++◌, refl, sym, ap, ◌∙◌, arith, if◌then◌else◌}
+use Rattle.std.proofs.Common.{◌≡◌, ℕ, ◌+◌, Bool, true, false, cond, ◌||◌, not, eqb, List, [], ◌∷◌, ◌++◌, length, refl, sym, ap, ◌∙◌, arith, if◌then◌else◌, map, subst}
 use Rattle.std.specs.Ordering.{nat_cmp}
 use Rattle.std.specs.BTreeSet.{BTreeSet, contains, btree_set_len, Updates}
 use Rattle.std.specs.BTreeMap.{is_at}
 use Rattle.std.specs.List.{list_any}
+use Rattle.std.proofs.lemmas.List.{map-append}
 use Rattle.std.proofs.lemmas.List.Folds.{list_any-append}
 use Rattle.std.proofs.lemmas.Bool.Decides.{nat_tests}
 use Rattle.std.proofs.Math.Bool.{or-false, or-true}
@@ -64,3 +65,16 @@ holds_more names after c added list has is_new updates len = record {
   count = counted (list_any (λ d. eqb c d) list) _ _ (different list) has.count (len ∙ ap (λ (b : Bool). btree_set_len names + (if b then 1 else 0)) (is_new ∙ ap not (has.same c)))
       ∙ sym (different-push c list);
 }
+
+-- a set of none
+pub holds_none : (names : BTreeSet ℕ) → names.keys ≡ [] → Holds names []
+unfolding different
+holds_none names empty = record {
+  same = λ n. ap (λ (ks : List ℕ). contains nat_cmp (record { keys = ks }) n) empty;
+  count = ap length empty;
+}
+
+-- a set of what is taken from numbers, with one number more
+pub holds_taken_more : (f : ℕ → ℕ) (names after : BTreeSet ℕ) (c : ℕ) (added : Bool) (list : List ℕ) → Holds names (map f list) → added ≡ not (contains nat_cmp names (f c)) → Updates nat_cmp names after (f c) true → btree_set_len after ≡ btree_set_len names + (if added then 1 else 0) → Holds after (map f (list ++ c ∷ []))
+holds_taken_more f names after c added list has is_new updates len =
+    subst (Holds after) (sym (map-append f list (c ∷ []))) (holds_more names after (f c) added (map f list) has is_new updates len)

@@ -22,4 +22,4 @@ short_line (setting v) h = tt
 
 -- within the limits no compatibility mapping has over eight characters
 pub short_within : (records : List Record) → NoneOffends Limit records → All IsShort records
-short_within records keep = each_line IsShort records (λ i lt. short_line (record_at records i) (λ long. keep i lt (inr (inr long))))
+short_within records keep = each_line IsShort records (λ i lt. short_line (record_at records i) (λ long. keep i lt (inr long)))

@@ -1,6 +1,6 @@
 -- What is noted of lines says what they say.
 use Rattle.std.proofs.Common.{◌≡◌, ℕ, Bool, true, false, cond, ◌==◌, ◌||◌, List, [], ◌∷◌, ◌++◌, Option, Some, None, refl, sym, ◌∙◌, ap}
-use Rattle.std.specs.Prelude.{is_some}
+use Rattle.std.specs.Prelude.{is_some, length, option_map}
 use Rattle.std.specs.Ordering.{nat_cmp}
 use Rattle.std.specs.BTreeMap.{BTreeMap, get}
 use Rattle.std.specs.BTreeSet.{BTreeSet, contains}
@@ -8,10 +8,15 @@ use Rattle.std.specs.List.{list_any}
 use Rattle.std.specs.Option.{option_or}
 use Rattle.std.proofs.lemmas.List.Folds.{list_any-append}
 use Rattle.std.proofs.Math.Bool.{or-false}
-use Rattle.collate_lines.specs.Record.{Record, class, mapping, weights, digit}
+use Rattle.collate_lines.specs.Record.{Record, class, mapping, compatibility, weights, digit}
 use Rattle.collate_rules.specs.Meaning.{class_in, digit_in, first_found, mapping_in}
+use Rattle.collate_rules.specs.MappedLines.{HasCompatibilities, HasMappings, compatibility_length, compatibility_line, mapping_length, mapping_line}
 use Rattle.collate_rules.specs.NotedLines.{HasAlone, HasClasses, HasDigits, HasMapped, class_line, digit_line, lone_character, mapped_character, records_alone}
 use Rattle.collate_rules.proofs.lookups.RuleLookupLemmas.{first_found-push, first_found-skip}
+
+length_cond : (b : Bool) (ds : List ℕ) → option_map length (cond b (Some ds) None) ≡ cond b (Some (length ds)) None
+length_cond true ds = refl
+length_cond false ds = refl
 
 -- ---- Classes and digits
 
@@ -131,3 +136,28 @@ alone_noted = one_noted is_alone lone_character alone_push
 
 pub alone_past : (alone : BTreeSet ℕ) (lines : List Record) (line : Record) → None ≡ lone_character line → HasAlone alone lines → HasAlone alone (lines ++ line ∷ [])
 alone_past = none_noted is_alone lone_character alone_push
+
+-- ---- To how many characters lines map
+
+mapping_length_by_line : (c : ℕ) (line : Record) → mapping_length c line ≡ value_of c (mapping_line line)
+mapping_length_by_line c (mapping d ds x) = length_cond (c == d) ds
+mapping_length_by_line c line = refl
+
+pub mapping_length_noted : (old new : BTreeMap ℕ ℕ) (lines : List Record) (line : Record) (d k : ℕ) → Some (d, k) ≡ mapping_line line → HasMappings old lines
+    → ((c : ℕ) → get nat_cmp new c ≡ option_or (get nat_cmp old c) (cond (c == d) (Some k) None)) → HasMappings new (lines ++ line ∷ [])
+mapping_length_noted = value_noted mapping_length mapping_line mapping_length_by_line
+
+pub mapping_length_past : (lengths : BTreeMap ℕ ℕ) (lines : List Record) (line : Record) → None ≡ mapping_line line → HasMappings lengths lines → HasMappings lengths (lines ++ line ∷ [])
+mapping_length_past = value_past mapping_length mapping_line mapping_length_by_line
+
+compatibility_length_by_line : (c : ℕ) (line : Record) → compatibility_length c line ≡ value_of c (compatibility_line line)
+compatibility_length_by_line c (compatibility d ds) = length_cond (c == d) ds
+compatibility_length_by_line c line = refl
+
+pub compatibility_length_noted : (old new : BTreeMap ℕ ℕ) (lines : List Record) (line : Record) (d k : ℕ) → Some (d, k) ≡ compatibility_line line → HasCompatibilities old lines
+    → ((c : ℕ) → get nat_cmp new c ≡ option_or (get nat_cmp old c) (cond (c == d) (Some k) None)) → HasCompatibilities new (lines ++ line ∷ [])
+compatibility_length_noted = value_noted compatibility_length compatibility_line compatibility_length_by_line
+
+pub compatibility_length_past : (lengths : BTreeMap ℕ ℕ) (lines : List Record) (line : Record) → None ≡ compatibility_line line → HasCompatibilities lengths lines
+    → HasCompatibilities lengths (lines ++ line ∷ [])
+compatibility_length_past = value_past compatibility_length compatibility_line compatibility_length_by_line

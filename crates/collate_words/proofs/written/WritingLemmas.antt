@@ -1,11 +1,12 @@
 -- Lists that grow step by step, and words that are written one after another.
-use Rattle.std.proofs.Common.{◌≡◌, ◌≢◌, ℕ, suc, zero, ◌+◌, ◌==◌, ◌/◌, ◌%◌, ◌^◌, ◌<◌, Bool, true, false, List, [], ◌∷◌, ◌++◌, length, map, take, get_or, drop, Option, Some, None, refl, ap, sym, subst, ◌∙◌, arith, append_assoc, length-append}
+use Rattle.std.proofs.Common.{◌≡◌, ◌≢◌, ℕ, suc, zero, ◌+◌, ◌==◌, ◌/◌, ◌%◌, ◌^◌, ◌<◌, ◌≤◌, Bool, true, false, List, [], ◌∷◌, ◌++◌, length, map, take, get_or, drop, Option, Some, None, refl, ap, sym, subst, ◌∙◌, arith, append_assoc, length-append}
 use Rattle.std.specs.Prelude.{All, IfSome, flat_map, slice_index}
 use Rattle.std.specs.Option.{option_copied}
 use Rattle.std.specs.List.{AllZip}
 use Rattle.std.proofs.lemmas.Bool.{eqb-true, true≢false}
-use Rattle.std.proofs.lemmas.List.{drop_at, get_or-append-add, get_or-map, length-map, length_push, map_more, map_push}
+use Rattle.std.proofs.lemmas.List.{drop_at, get_or-append-add, get_or-map, length-map, length_push, map_more, map_push, take-map}
 use Rattle.std.proofs.lemmas.List.Elements.{All-push}
+use Rattle.std.proofs.lemmas.List.Sums.{sum_by-take-le, sum_by_push}
 use Rattle.icu_char16trie.specs.Cursors.{units_of}
 use Rattle.icu_collator_types.specs.declared.elements.Element.{Element}
 use Rattle.icu_collator_core.specs.Pools.{Pools, index_of, trie_of}
@@ -15,11 +16,11 @@ use Rattle.collate_words.specs.declared.entry.Entry.{Entry}
 use Rattle.collate_words.specs.declared.entry.SuffixFlags.{SuffixFlags}
 use Rattle.collate_words.specs.ContextKeys.{AreKeysOf, FitsContext, HasFields, HasKeys, IsContext, IsKeyOf, key_text, pair_of}
 use Rattle.collate_words.specs.Entries.{said_beside, saying_of}
-use Rattle.collate_words.specs.Fits.{AreBeside, IsBeside, IsDigitAlone}
+use Rattle.collate_words.specs.Fits.{AreBeside, HasRoom, IsBeside, IsDigitAlone}
 use Rattle.collate_words.specs.Growth.{Grows, GrowsFor}
 use Rattle.collate_words.specs.OwnWords.{IsOwnWord}
 use Rattle.collate_words.specs.PartSayings.{saying_before, saying_behind}
-use Rattle.collate_words.specs.Sayings.{SaidBeside, Saying}
+use Rattle.collate_words.specs.Sayings.{SaidBeside, Saying, element_count, element_sum, own_count, own_room, text_count}
 use Rattle.collate_words.specs.Written.{SaysOf}
 use Rattle.collate_words.proofs.growth.OwnGrowthLemmas.{IsOwnWord-larger}
 use Rattle.collate_words.proofs.written.WrittenKeyLemmas.{key_short, key_some, zip_weaker}
@@ -29,16 +30,64 @@ use Rattle.collate_words.proofs.written.SayingLemmas.{contraction_says, own_says
 
 -- ---- Growth
 
-pub grows_for_along : (m n : ℕ) (pools larger largest : Pools) → GrowsFor m pools larger → GrowsFor n larger largest
-    → GrowsFor (m + n) pools largest
-grows_for_along m n pools larger largest first second =
+pub grows_for_along : (m n all : ℕ) (pools larger largest : Pools) → GrowsFor m 0 pools larger
+    → GrowsFor n 0 larger largest → m + n ≡ all → GrowsFor all 0 pools largest
+grows_for_along m n all pools larger largest first second is =
     let a = first.ces in
     let b = second.ces in
     let c = first.ce32s in
     let d = second.ce32s in
     let e = first.contexts in
     let f = second.contexts in
-    record { ces = omega (arith, a, b); ce32s = omega (arith, c, d); contexts = omega (arith, e, f) }
+    record { ces = omega (arith, a, b, is); ce32s = omega (arith, c, d, is); contexts = omega (arith, e, f) }
+
+-- the room that is left for the elements of one beside a character
+pub room_beside : (all texts done more : ℕ) (pools larger : Pools) → HasRoom pools all texts → GrowsFor done 0 pools larger
+    → done + more ≤ all → HasRoom larger more 0
+room_beside all texts done more pools larger room grown within =
+    let a = room.ces in
+    let b = grown.ces in
+    let c = room.ce32s in
+    let d = grown.ce32s in
+    let e = room.contexts in
+    let f = grown.contexts in
+    record {
+      ces = omega (arith, a, b, within);
+      ce32s = omega (arith, c, d, within);
+      contexts = omega (arith, e, f);
+    }
+
+module _ (besides : List Beside) (place : ℕ) (d : Beside) (inside : place < length besides) where
+  -- the elements of what stands beside a character, one further
+  pub elements_more : element_sum (map said_beside (take place besides)) + length (get_or besides place d).elements.now
+      ≡ element_sum (map said_beside (take (place + 1) besides))
+  elements_more =
+      let more = ap element_sum (map_more said_beside besides place d inside)
+      ∙ sum_by_push (λ (said : SaidBeside). length said.elements) (map said_beside (take place besides))
+      (said_beside (get_or besides place d)) in
+      omega (arith, more)
+
+  pub elements_within : element_sum (map said_beside (take place besides)) + length (get_or besides place d).elements.now
+      ≤ element_sum (map said_beside besides)
+  elements_within =
+      let more = elements_more in
+      let part = sum_by-take-le (λ (said : SaidBeside). length said.elements) (map said_beside besides) (place + 1) in
+      let same = ap element_sum (take-map said_beside (place + 1) besides) in
+      omega (arith, more, part, same)
+
+  -- after one more of them the lists have grown for no more than all
+  pub grown_within : (pools larger largest : Pools) → GrowsFor (element_sum (map said_beside (take place besides))) 0 pools larger
+      → GrowsFor (length (get_or besides place d).elements.now) 0 larger largest
+      → GrowsFor (element_sum (map said_beside besides)) 0 pools largest
+  grown_within pools larger largest first second =
+      let a = first.ces in
+      let b = second.ces in
+      let c = first.ce32s in
+      let e = second.ce32s in
+      let f = first.contexts in
+      let g = second.contexts in
+      let few = elements_within in
+      record { ces = omega (arith, a, b, few); ce32s = omega (arith, c, e, few); contexts = omega (arith, f, g) }
 
 -- ---- Keys
 
@@ -220,6 +269,62 @@ some_counted zero b is other = absurd (true≢false (sym is ∙ other))
 some_counted (suc n) b is other = omega arith
 
 -- ---- Whole entries
+
+own_few : (own : Option (List Element)) → own_room own ≤ 1 + own_count own
+own_few None = omega arith
+own_few (Some es) = omega arith
+
+-- the room that is left for suffixes behind what a character has alone
+pub room_behind : (saying : Saying) (suffixes : List Beside) (pools larger : Pools)
+    → HasRoom pools (element_count saying) (text_count saying) → GrowsFor (own_room saying.own) 0 pools larger
+    → map said_beside suffixes ≡ saying.suffixes
+    → HasRoom larger (element_sum (map said_beside suffixes)) (length suffixes)
+room_behind saying suffixes pools larger room grown are =
+    let a = room.ces in
+    let b = grown.ces in
+    let c = room.ce32s in
+    let d = grown.ce32s in
+    let e = room.contexts in
+    let f = grown.contexts in
+    let own = own_few saying.own in
+    let sum = ap element_sum are in
+    let count = ap length are in
+    let mapped = length-map suffixes said_beside in
+    record {
+      ces = omega (arith, a, b, own, sum);
+      ce32s = omega (arith, c, d, own, sum);
+      contexts = omega (arith, e, f, count, mapped);
+    }
+
+-- what is written of a character, of its suffixes and of its prefixes, is no more than all
+pub grown_entry : (saying : Saying) (suffixes prefixes : List Beside) (start own behind end : Pools)
+    → GrowsFor (own_room saying.own) 0 start own
+    → GrowsFor (element_sum (map said_beside suffixes)) (length suffixes) own behind
+    → GrowsFor (element_sum (map said_beside prefixes)) (length prefixes) behind end
+    → map said_beside suffixes ≡ saying.suffixes → map said_beside prefixes ≡ saying.prefixes
+    → GrowsFor (element_count saying) (text_count saying) start end
+grown_entry saying suffixes prefixes start own behind end first second third are_suffixes are_prefixes =
+    let a = first.ces in
+    let b = second.ces in
+    let c = third.ces in
+    let d = first.ce32s in
+    let e = second.ce32s in
+    let f = third.ce32s in
+    let g = first.contexts in
+    let h = second.contexts in
+    let i = third.contexts in
+    let few = own_few saying.own in
+    let sum = ap element_sum are_suffixes in
+    let other = ap element_sum are_prefixes in
+    let count = ap length are_suffixes in
+    let mapped = length-map suffixes said_beside in
+    let more = ap length are_prefixes in
+    let as_many = length-map prefixes said_beside in
+    record {
+      ces = omega (arith, a, b, c, few, sum, other);
+      ce32s = omega (arith, d, e, f, few, sum, other);
+      contexts = omega (arith, g, h, i, count, mapped, more, as_many);
+    }
 
 pub digit_alone : (saying : Saying) (value : ℕ) → saying.digit ≡ Some value
     → IfSome saying.digit (IsDigitAlone saying) → IsDigitAlone saying value

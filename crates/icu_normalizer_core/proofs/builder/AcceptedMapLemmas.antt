@@ -9,7 +9,7 @@ use Rattle.icu_normalizer_core.specs.BuiltMaps.{AreBuiltOf}
 use Rattle.icu_normalizer_core.specs.Canonical.{Leaves, IsFree}
 use Rattle.icu_normalizer_core.specs.CanonicalFaults.{NoneOffends, OffendsValue, OffendsList, begins_with_mark, AllEnd}
 use Rattle.icu_normalizer_core.specs.CanonicalLists.{CanonicalLists, canonical_of, step_in}
-use Rattle.icu_normalizer_core.specs.CanonicalMaps.{CanonicalMaps, AreMeaning, KeepRules, step_of, given_step}
+use Rattle.icu_normalizer_core.specs.CanonicalMaps.{CanonicalMaps, AreMeaning, KeepCanonicalRules, step_of, given_step}
 use Rattle.icu_normalizer_core.specs.CanonicalWords.{is_word, states_list}
 use Rattle.icu_normalizer_core.proofs.decomposed_lists.DecomposedLemmas.{left_one}
 use Rattle.icu_normalizer_core.proofs.settling.LeftLemmas.{left_alone, left_scalars}
@@ -23,7 +23,7 @@ cases_empty : (xs : List ℕ) → (xs ≡ []) ⊎ (xs ≢ [])
 cases_empty [] = inl refl
 cases_empty (x ∷ xs) = inr (λ e. absurd cc)
 
-module _ (maps : CanonicalMaps) (lists : CanonicalLists) (built : AreBuiltOf maps lists) (rules : KeepRules maps) where
+module _ (maps : CanonicalMaps) (lists : CanonicalLists) (built : AreBuiltOf maps lists) (rules : KeepCanonicalRules maps) where
   means : AreMeaning maps (canonical_of lists)
   means = built_meaning maps lists built
 

@@ -1,11 +1,10 @@
 -- Tables that are built of maps which keep the rules contradict nothing that is built in, and compose what they map.
-use Rattle.std.proofs.Common.{◌≡◌, ◌≢◌, ℕ, ◌+◌, ◌*◌, ◌/◌, ◌^◌, ◌<◌, ◌≤◌, inl, inr, ⊎_elim, Bool, true, false, cond, not, ◌==◌, ◌&&◌, ◌||◌, List, [], ◌∷◌, length, map, slice_index, Option, Some, None, nat_eq, refl, sym, ap, subst, ◌∙◌, arith}
-use Rattle.std.specs.List.{All, AllByRecursion, Contains, find, list_any, IsDistinct}
+use Rattle.std.proofs.Common.{◌≡◌, ℕ, ◌+◌, ◌*◌, ◌/◌, ◌^◌, ◌<◌, ◌≤◌, inl, inr, ⊎_elim, Bool, true, false, cond, not, ◌==◌, ◌&&◌, ◌||◌, List, [], ◌∷◌, length, slice_index, Option, Some, None, refl, sym, ap, subst, ◌∙◌, arith}
+use Rattle.std.specs.List.{All, Contains, find, list_any}
 use Rattle.std.specs.Char.{IsScalar}
 use Rattle.std.specs.Option.{is_some, unwrap_or}
 use Rattle.std.specs.Str.{bytes_eq}
-use Rattle.std.proofs.lemmas.Bool.{cases_Bool, cond-true, cond-false, eq-eqb, ne_eqb, eqb-true, and_parts, or_parts, false≢true}
-use Rattle.std.proofs.lemmas.Bool.Decides.{nat_tests}
+use Rattle.std.proofs.lemmas.Bool.{cases_Bool, eqb-true, and_parts, or_parts, false≢true}
 use Rattle.std.proofs.lemmas.List.Elements.{All-cons, All-nil, All-contains}
 use Rattle.std.proofs.lemmas.Option.{none-some, same_Some}
 use Rattle.std.proofs.lemmas.Slice.Eq.{bytes_eq-Decides}
@@ -15,7 +14,7 @@ use Rattle.icu_normalizer_core.specs.BuiltMaps.{AreBuiltOf}
 use Rattle.icu_normalizer_core.specs.Canonical.{IsFree}
 use Rattle.icu_normalizer_core.specs.CanonicalFaults.{NoneOffends, IsAccepted, OffendsBuiltIn, OffendsPair, IsBadPair}
 use Rattle.icu_normalizer_core.specs.CanonicalLists.{CanonicalLists, canonical_of, pair_first, pair_second, pair_composed}
-use Rattle.icu_normalizer_core.specs.CanonicalMaps.{CanonicalMaps, AreMeaning, KeepRules, given_class, given_step, given_pair, composes, first_mapping, mapping_given, is_built_in_mapping}
+use Rattle.icu_normalizer_core.specs.CanonicalMaps.{CanonicalMaps, AreMeaning, KeepCanonicalRules, given_class, given_step, given_pair, composes, first_mapping, mapping_given, is_built_in_mapping}
 use Rattle.icu_normalizer_core.proofs.composed.PairLemmas.{listed_pair_of}
 use Rattle.icu_normalizer_core.proofs.accepted.TableMeanings.{full_is}
 use Rattle.icu_normalizer_core.proofs.builder.AcceptedMapLemmas.{good_values, good_lists, all_end}
@@ -47,7 +46,7 @@ pub unbuilt : (g : GivenMapping) → built_in_step g.character ≡ None → is_b
 unbuilt g e =
     ap (λ (o : Option (List ℕ)). elim o [ Some ds ↦ bytes_eq (mapping_given g) ds && cond (is_syllable g.character) g.is_composed (not g.is_composed) | None ↦ false ]) e
 
-module _ (maps : CanonicalMaps) (lists : CanonicalLists) (built : AreBuiltOf maps lists) (rules : KeepRules maps) where
+module _ (maps : CanonicalMaps) (lists : CanonicalLists) (built : AreBuiltOf maps lists) (rules : KeepCanonicalRules maps) where
   means : AreMeaning maps (canonical_of lists)
   means = built_meaning maps lists built
 

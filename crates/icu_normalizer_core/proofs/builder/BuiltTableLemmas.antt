@@ -17,9 +17,9 @@ use Rattle.icu_normalizer_core.specs.CanonicalLists.{CanonicalLists}
 use Rattle.icu_normalizer_core.specs.CanonicalMeaning.{lists_of}
 use Rattle.icu_normalizer_core.specs.CanonicalWords.{plain_word}
 use Rattle.icu_normalizer_core.specs.CharacterWords.{class_with, IsWordOf, HasNamed, HasRightWords, HasWords, AreStarters, unnamed_word}
-use Rattle.icu_normalizer_core.specs.CanonicalMaps.{CanonicalMaps, KeepRules}
+use Rattle.icu_normalizer_core.specs.CanonicalMaps.{CanonicalMaps, KeepCanonicalRules}
 use Rattle.icu_normalizer_core.proofs.builder.AcceptedMappingLemmas.{built_accepted}
-use Rattle.icu_normalizer_core.proofs.builder.CoveredLemmas.{covered}
+use Rattle.icu_normalizer_core.proofs.builder.CoveredLemmas.{among_or_not, covered}
 use Rattle.icu_normalizer_core.proofs.decoded.ScalarLemmas.{scalar_below}
 
 pub scalar_bound : (c : ℕ) → IsScalar c → c ≤ 0x10_FFFF
@@ -51,7 +51,10 @@ pub plain_read : (IsRight : ℕ → ℕ → Type 0) (list : List ℕ) (words : C
     → HasRightWords IsRight list words → IsTrieOf words trie → HasPlainWords trie
 plain_read IsRight list words trie fits has is c bound =
     let small : mapped words c < 2 ^ 30 =
-    ⊎_elim (λ right. fits c (mapped words c) right) (λ first. subst (λ (w : ℕ). w < 2 ^ 30) (sym first) (unnamed_small c)) (has.others c bound) in
+    ⊎_elim
+    (λ yes. fits c (mapped words c) (has.among c bound yes))
+    (λ no. subst (λ (w : ℕ). w < 2 ^ 30) (sym (has.others c bound no)) (unnamed_small c))
+    (among_or_not list c) in
     subst (λ (o : Option ℕ). IsSomeAnd o (λ word. word < 2 ^ 30)) (sym (is.within c bound)) small
 
 pub put_together : (classes : List GivenClass) (mappings : List GivenMapping) (tables : CanonicalTables)
@@ -77,5 +80,5 @@ fault_refutes lists (BuiltIn c) (n, m, e, (s, o, l)) a = a.built_ins c s o
 fault_refutes lists (BadPair c) (n, m, e, b, (s, o, l)) a = a.composing c s o
 
 -- so maps of which the tables are built break the rules
-pub fault_breaks : (maps : CanonicalMaps) (lists : CanonicalLists) (fault : CanonicalFault) → AreBuiltOf maps lists → IsFirstFault lists fault → KeepRules maps → ⊥
+pub fault_breaks : (maps : CanonicalMaps) (lists : CanonicalLists) (fault : CanonicalFault) → AreBuiltOf maps lists → IsFirstFault lists fault → KeepCanonicalRules maps → ⊥
 fault_breaks maps lists fault built first rules = fault_refutes lists fault first (built_accepted maps lists built rules)

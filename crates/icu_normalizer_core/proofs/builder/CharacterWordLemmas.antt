@@ -1,24 +1,20 @@
 -- The word of each character says what it means.
 use Rattle.std.proofs.Common.{◌≡◌, ℕ, ◌+◌, ◌<◌, ⊎_elim, Bool, true, false, ◌==◌, ◌&&◌, ◌||◌, List, [], ◌∷◌, zero, suc, length, slice_index, slice_index_or, Option, Some, None, refl, sym, ap, subst, ◌∙◌, arith}
-use Rattle.std.specs.List.{All, find}
 use Rattle.std.specs.Option.{is_some, unwrap_or, IfSome}
 use Rattle.std.proofs.lemmas.Bool.{cases_Bool, cond-true, cond-false}
 use Rattle.std.proofs.lemmas.Bool.Decides.{nat_tests}
 use Rattle.std.proofs.lemmas.Option.{none-some}
-use Rattle.icu_normalizer_core.specs.declared.canonical.builder.GivenClass.{GivenClass}
 use Rattle.icu_normalizer_core.specs.BuiltIn.{is_syllable, is_jamo, singled_out, syllable_step, built_in_class}
 use Rattle.icu_normalizer_core.specs.Canonical.{Leaves, IsFree}
 use Rattle.icu_normalizer_core.specs.CanonicalLists.{step_in}
 use Rattle.icu_normalizer_core.specs.CanonicalWords.{is_word, class_of_word, full_of_word, built_in_full, is_list_word, is_pair_word, is_one_word, is_mark_word, is_singled_word, states_list, syllable_letters}
-use Rattle.icu_normalizer_core.specs.CanonicalMaps.{given_class}
-use Rattle.icu_normalizer_core.specs.CharacterWords.{IsWordOf, IsListWord, class_with}
+use Rattle.icu_normalizer_core.specs.CharacterWords.{IsWordOf, IsListWord}
 use Rattle.icu_normalizer_core.specs.Triples.{IsUnlisted}
-use Rattle.icu_normalizer_core.proofs.built.BuiltInFacts.{all_singled_out, free_full, syllable_mapped, singled_mapped, small_class}
-use Rattle.icu_normalizer_core.proofs.settling.LeftLemmas.{left_alone}
+use Rattle.icu_normalizer_core.proofs.built.BuiltInFacts.{all_singled_out, free_full, syllable_mapped, singled_mapped}
+use Rattle.icu_normalizer_core.proofs.settling.LeftLemmas.{left_alone, left_one}
 use Rattle.icu_normalizer_core.proofs.accepted.TableMeanings.{step_in_free, zero_form}
 use Rattle.icu_normalizer_core.proofs.settling.TripleLemmas.{listed_none}
 use Rattle.icu_normalizer_core.proofs.builder.ListWordLemmas.{inside_apart}
-use Rattle.icu_normalizer_core.proofs.builder.MapNumberLemmas.{found_all}
 
 -- ---- Syllables
 
@@ -252,7 +248,29 @@ mark_word class steps s24 c l h f single unmapped = record {
 pub unlisted_step : (steps : List ℕ) (c : ℕ) → IsUnlisted steps c → IsFree c → step_in steps c ≡ []
 unlisted_step steps c none free = step_in_free steps c free ∙ listed_none steps c none
 
+-- the word of an unmapped character says so over more triples too
+pub unlisted_as : (k : ℕ) (steps s24 : List ℕ) (c word : ℕ) → IsUnlisted steps c → IsWordOf k [] s24 c word → IsWordOf k steps s24 c word
+unlisted_as k steps s24 c word none w = record {
+  fits = w.fits;
+  form = w.form;
+  inside = w.inside;
+  class = w.class;
+  full = λ free.
+      let is : full_of_word [] s24 c word ≡ c ∷ [] =
+      left_one (step_in []) (c ∷ []) (full_of_word [] s24 c word) (c ∷ []) (w.full free) (left_alone (step_in []) c (unlisted_step [] c (λ i h. absurd (omega arith)) free)) in
+      left_unlisted steps c (full_of_word [] s24 c word) (unlisted_step steps c none free) is;
+  built_in = w.built_in;
+}
+
+-- a character of which nothing is built in is no syllable
+pub free_unsyllable : (c : ℕ) → IsFree c → is_syllable c ≡ false
+free_unsyllable c free = ⊎_elim (λ t. absurd (none-some (syllable_step c) (sym free ∙ syllable_mapped c t))) (λ f. f) (cases_Bool (is_syllable c))
+
 -- ---- Classes
+
+pub class_twice : (o : Option ℕ) (given : ℕ) → unwrap_or o (unwrap_or o given) ≡ unwrap_or o given
+class_twice None given = refl
+class_twice (Some k) given = refl
 
 pub not_singled : (c : ℕ) (b : Bool) → b ≡ is_some (singled_out c) → b ≡ false → singled_out c ≡ None
 not_singled c b is off = by (singled_out c) (sym is ∙ off)

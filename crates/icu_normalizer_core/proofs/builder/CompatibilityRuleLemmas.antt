@@ -17,7 +17,7 @@ use Rattle.icu_normalizer_core.specs.CanonicalMaps.{CanonicalMaps, AreMeaning, g
 use Rattle.icu_normalizer_core.specs.CanonicalMeaning.{lists_of, meaning}
 use Rattle.icu_normalizer_core.specs.CanonicalWords.{full_of_word, is_inside, is_word}
 use Rattle.icu_normalizer_core.specs.CompatibilityFaults.{AreAcceptedWords, OffendsFixed, OffendsWord, OffendsWordList}
-use Rattle.icu_normalizer_core.specs.CompatibilityMaps.{AllMaps, AreMeaningOf, KeepAllRules, all_steps_of, compatibility_step, else_mapped}
+use Rattle.icu_normalizer_core.specs.CompatibilityMaps.{AllMaps, AreMeaningOf, KeepEachRule, all_steps_of, compatibility_step, else_mapped}
 use Rattle.icu_normalizer_core.specs.SettledMappings.{AreFullWords, HasBadLeft, IsSound, steps_in}
 use Rattle.icu_normalizer_core.specs.Words.{WordLists, class_in, full_in}
 use Rattle.icu_normalizer_core.proofs.built.BuiltInFacts.{built_in_left, free_full}
@@ -68,10 +68,10 @@ module _ (canonical_maps : CanonicalMaps) (over : Mappings) (sound : IsSound ove
   alone : (c : ℕ) → IsScalar c → AreCharacters (c ∷ [])
   alone c s = All-cons IsScalar c [] s (All-nil IsScalar)
 
-  step_scalars : (c : ℕ) → IsScalar c → AreCharacters (steps c)
+  pub step_scalars : (c : ℕ) → IsScalar c → AreCharacters (steps c)
   step_scalars = all_scalars base (decomposing over sound) over.given.now sound.given sound.starters
 
-  same_step : (c : ℕ) → IsScalar c → steps c ≡ all_steps_of maps c
+  pub same_step : (c : ℕ) → IsScalar c → steps c ≡ all_steps_of maps c
   same_step c s = ap (λ (xs : List ℕ). else_mapped xs (compatibility_step over.given.now c)) (means.step c s)
 
   pub to_maps : (c : ℕ) (list : List ℕ) → IsScalar c → Leaves steps (c ∷ []) list → Leaves (all_steps_of maps) (c ∷ []) list
@@ -86,8 +86,8 @@ module _ (canonical_maps : CanonicalMaps) (over : Mappings) (sound : IsSound ove
 
   -- ---- Rules
 
-  module _ (rules : KeepAllRules maps) where
-    fixed_unmapped : (c : ℕ) (ds : List ℕ) → IsScalar c → built_in_compatibility_step c ≡ Some ds → base.step c ≡ []
+  module _ (rules : KeepEachRule maps) where
+    pub fixed_unmapped : (c : ℕ) (ds : List ℕ) → IsScalar c → built_in_compatibility_step c ≡ Some ds → base.step c ≡ []
     fixed_unmapped c ds s e =
         let free = (compatible c ds e).free in
         means.step c s ∙ ap (λ (o : Option (List ℕ)). unwrap_or o (given_step canonical_maps.mappings c)) free ∙ by free (find (λ g. g.character == c) canonical_maps.mappings) refl
@@ -137,7 +137,7 @@ module _ (canonical_maps : CanonicalMaps) (over : Mappings) (sound : IsSound ove
         all_second base.step over.given.now c (means.step c s ∙ rules.0.unmapped c (omega arith)) ∙ rules.1.unmapped c low
 
   -- steps that don't end, or leave too much, break the rules
-  pub bad_left_breaks : HasBadLeft steps → KeepAllRules maps → ⊥
+  pub bad_left_breaks : HasBadLeft steps → KeepEachRule maps → ⊥
   bad_left_breaks w rules =
       let end = rules.1.ends w.0 w.1 in
       let leaves = from_maps w.0 end.0 w.1 end.1 in
@@ -179,7 +179,7 @@ module _ (canonical_maps : CanonicalMaps) (over : Mappings) (sound : IsSound ove
     item_own : (c d : ℕ) → IsScalar c → IsScalar d → steps d ≡ [] → full_in words d ≡ d ∷ []
     item_own c d s t none = unmapped_list d (full_in words d) none (full_left d t)
 
-    module _ (rules : KeepAllRules maps) where
+    module _ (rules : KeepEachRule maps) where
       good_lists : NoneOffends (OffendsWordList lists words)
       good_lists c s (inl outside) =
           false≢true (sym outside ∙ ap (λ (s16 : List ℕ). is_inside s16 words.scalars24 (words.word c)) built.scalars16 ∙ (built.each c s).inside)

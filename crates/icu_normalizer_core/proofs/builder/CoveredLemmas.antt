@@ -108,9 +108,8 @@ pub covered : (classes : List GivenClass) (mappings : List GivenMapping) (steps 
     → (c : ℕ) → c ≤ 0x10_FFFF → IsWordOf (class_with classes c) steps s24 c (mapped words c)
 covered classes mappings steps s24 list words has named listed c h =
     ⊎_elim
-    (λ right. right)
-    (λ first. ⊎_elim
-    (λ yes. has.among c h (named c yes))
-    (λ no. subst (λ (w : ℕ). IsWordOf (class_with classes c) steps s24 c w) (sym first) (unnamed_right classes mappings steps s24 c listed no))
-    (among_or_not ((built_in_named ++ map (λ g. g.character) classes) ++ map (λ g. g.character) mappings) c))
-    (has.others c h)
+    (λ yes. has.among c h yes)
+    (λ no.
+    subst (λ (w : ℕ). IsWordOf (class_with classes c) steps s24 c w) (sym (has.others c h no))
+    (unnamed_right classes mappings steps s24 c listed (λ there. no (named c there))))
+    (among_or_not list c)

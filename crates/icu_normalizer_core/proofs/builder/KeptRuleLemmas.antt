@@ -4,19 +4,22 @@ use Rattle.std.specs.Char.{IsScalar}
 use Rattle.std.specs.List.{All}
 use Rattle.std.specs.Option.{is_some, unwrap_or}
 use Rattle.std.proofs.lemmas.List.Elements.{All-cons, All-nil}
+use Rattle.std.proofs.lemmas.List.Sums.{sum_by-le-sum_by}
 use Rattle.icu_normalizer_core.specs.declared.canonical.builder.GivenClass.{GivenClass}
 use Rattle.icu_normalizer_core.specs.BuiltIn.{built_in_class, built_in_step}
 use Rattle.icu_normalizer_core.specs.CanonicalLists.{AreTriples, listed_step, step_in}
-use Rattle.icu_normalizer_core.specs.CanonicalMaps.{CanonicalMaps, KeepRules, IsMapped, first_class, given_class, step_of, given_step}
-use Rattle.icu_normalizer_core.specs.CharacterWords.{AreStarters, HasBadEnd, class_with}
+use Rattle.icu_normalizer_core.specs.CanonicalMaps.{CanonicalMaps, KeepCanonicalRules, IsMapped, first_class, given_class, named, step_of, given_step}
+use Rattle.icu_normalizer_core.specs.CharacterWords.{AreStarters, HasBadEnd, HasLongLists, class_with, keys_below}
+use Rattle.icu_normalizer_core.specs.ListRoom.{HasRoom, list_room}
 use Rattle.icu_normalizer_core.specs.Settled.{key_at}
 use Rattle.icu_normalizer_core.proofs.built.BuiltInFacts.{small_class}
 use Rattle.icu_normalizer_core.proofs.settling.TripleLemmas.{listed_of}
 use Rattle.icu_normalizer_core.proofs.builder.BuiltMapLemmas.{leaves_along, steps_same}
+use Rattle.icu_normalizer_core.proofs.builder.ListRoomLemmas.{all_keys, keys_distinct, room_alike}
 use Rattle.icu_normalizer_core.proofs.builder.MapNumberLemmas.{mapping_some, keys_free}
 
 -- classes are below 255
-pub kept_class : (maps : CanonicalMaps) → KeepRules maps → (c : ℕ) → class_with maps.classes c < 255
+pub kept_class : (maps : CanonicalMaps) → KeepCanonicalRules maps → (c : ℕ) → class_with maps.classes c < 255
 kept_class maps rules c = by (built_in_class c) refl
   where
     given : (o : Option GivenClass) → first_class maps.classes c ≡ o → elim o [ Some g ↦ g.class | None ↦ 0 ] < 255
@@ -27,12 +30,12 @@ kept_class maps rules c = by (built_in_class c) refl
     by (Some k) e = small_class c k e
     by None e = given (first_class maps.classes c) refl
 
-pub kept_classes : (maps : CanonicalMaps) → KeepRules maps → (list : List ℕ) → All (λ c. class_with maps.classes c < 255) list
+pub kept_classes : (maps : CanonicalMaps) → KeepCanonicalRules maps → (list : List ℕ) → All (λ c. class_with maps.classes c < 255) list
 kept_classes maps rules [] = All-nil (λ c. class_with maps.classes c < 255)
 kept_classes maps rules (c ∷ cs) = All-cons (λ d. class_with maps.classes d < 255) c cs (kept_class maps rules c) (kept_classes maps rules cs)
 
 module _ (maps : CanonicalMaps) (steps : List ℕ) (t : AreTriples steps)
-    (listed : (c : ℕ) → listed_step steps c ≡ cond (is_some (built_in_step c)) [] (given_step maps.mappings c)) (rules : KeepRules maps) where
+    (listed : (c : ℕ) → listed_step steps c ≡ cond (is_some (built_in_step c)) [] (given_step maps.mappings c)) (rules : KeepCanonicalRules maps) where
   key_mapped : (place : ℕ) → place < length steps / 3 → IsMapped maps (key_at steps place)
   key_mapped place h =
       let free = keys_free maps.mappings steps t listed place h in
@@ -56,3 +59,18 @@ module _ (maps : CanonicalMaps) (steps : List ℕ) (t : AreTriples steps)
       let long = w.2 end.0 (leaves_along (step_of maps) (step_in steps) (c ∷ []) end.0 (λ d. sym (steps_same maps steps listed d)) end.1) in
       let few = (rules.full_lists c end.0 (key_scalar w.0 w.1) (key_mapped w.0 w.1) end.1).0 in
       omega (arith, long, few)
+
+  -- and there is room for their lists
+  pub kept_room : HasRoom (step_of maps) (IsMapped maps) (named maps) → HasLongLists steps → ⊥
+  kept_room room long =
+      let keys : List ℕ = keys_below steps (length steps / 3) in
+      let same : (c : ℕ) → list_room (step_in steps) (step_in steps c) ≡ list_room (step_of maps) (step_of maps c) =
+      λ c. ap (list_room (step_in steps)) (steps_same maps steps listed c)
+      ∙ room_alike (step_in steps) (step_of maps) (step_of maps c) (λ k d h. steps_same maps steps listed _) in
+      let all : All (IsMapped maps) keys = all_keys steps t (IsMapped maps) (length steps / 3) (omega arith) key_mapped in
+      omega (
+        arith,
+        long,
+        sum_by-le-sum_by (λ c. list_room (step_in steps) (step_in steps c)) (λ c. list_room (step_of maps) (step_of maps c)) keys (λ c. omega (arith, same c)),
+        room.lists keys (keys_distinct steps t (length steps / 3) (omega arith)) all,
+      )

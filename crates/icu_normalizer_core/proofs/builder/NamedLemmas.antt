@@ -3,16 +3,16 @@ use Rattle.std.proofs.Common.{◌≡◌, ℕ, suc, ◌+◌, ◌/◌, ◌^◌, �
 use Rattle.std.specs.Char.{IsScalar}
 use Rattle.std.specs.Prelude.{nat_eq, slice_index_or}
 use lib.Utf8.{low_scalar}
-use Rattle.std.specs.List.{All, AllByRecursion, IsDistinct, list_any}
+use Rattle.std.specs.List.{All, AllByRecursion, IsDistinct}
 use Rattle.std.specs.Option.{is_some}
 use Rattle.std.specs.Set.{distinct_count, is_member, unique_keys}
-use Rattle.std.proofs.lemmas.Bool.{cases_Bool, cond-false, cond-true, or_left, or_parts, or_right}
+use Rattle.std.proofs.lemmas.Bool.{or_left, or_parts, or_right}
 use Rattle.std.proofs.lemmas.Bool.Decides.{nat_tests}
 use Rattle.std.proofs.lemmas.Cmp.{nat_eq_equiv}
-use Rattle.std.proofs.lemmas.List.{take-append-drop, take_more}
+use Rattle.std.proofs.lemmas.List.{length-map, take-append-drop, take_more}
 use Rattle.std.proofs.lemmas.List.Elements.{All-cons, All-head, All-nil, All-tail}
 use Rattle.std.proofs.lemmas.List.Folds.{list_any-append}
-use Rattle.std.proofs.lemmas.Map.Made.{length-from_keys}
+use Rattle.std.proofs.lemmas.Map.Made.{distinct_count-le, length-from_keys}
 use Rattle.std.proofs.lemmas.Map.Steps.{list_any_congr}
 use Rattle.icu_normalizer_core.specs.declared.canonical.builder.GivenClass.{GivenClass}
 use Rattle.icu_normalizer_core.specs.declared.canonical.builder.GivenCompatibility.{GivenCompatibility}
@@ -24,13 +24,14 @@ use Rattle.icu_normalizer_core.specs.CompatibilityMaps.{all_named}
 use Rattle.icu_normalizer_core.specs.GivenMaps.{IsOfScalars}
 use Rattle.icu_normalizer_core.specs.InOrder.{AreFirstsInOrder, Rise, first_of}
 use Rattle.icu_normalizer_core.specs.MapNumbers.{mapping_number, mapping_numbers}
-use Rattle.icu_normalizer_core.specs.Named.{AreDistinctOf, with_new}
+use Rattle.icu_normalizer_core.specs.Named.{AreDistinctOf, AreInFewBlocks, block_count, with_new}
 use Rattle.icu_normalizer_core.specs.Settled.{IsAmong}
 use Rattle.icu_normalizer_core.specs.SettledMappings.{HasAllNamed}
 use Rattle.icu_normalizer_core.proofs.built.BuiltInFacts.{high_scalar}
 use Rattle.icu_normalizer_core.proofs.builder.AcceptedMapsLimitLemmas.{behind_named, distinct_among, front_named, keys_named, members_kept}
 use Rattle.icu_normalizer_core.proofs.builder.CharacterWordLemmas.{index_got}
 use Rattle.icu_normalizer_core.proofs.builder.MapNumberLemmas.{mapping_parts}
+use Rattle.icu_normalizer_core.proofs.builder.MoreBlockLemmas.{count_joined}
 
 -- ---- One character more
 
@@ -102,6 +103,16 @@ named_count all list of = length-from_keys nat_eq_equiv list all of.distinct of.
 
 -- ---- Counts of different characters
 
+same_is : (a b : ℕ) → a ≡ b → nat_eq a b ≡ true
+same_is a b e = grind (arith, nat_tests)
+
+equal_is : (q x : ℕ) → nat_eq q x ≡ true → x ≡ q
+equal_is q x e = grind (arith, nat_tests)
+
+map_joined : (f : ℕ → ℕ) (xs ys : List ℕ) → map f (xs ++ ys) ≡ map f xs ++ map f ys
+map_joined f [] ys = refl
+map_joined f (x ∷ xs) ys = ap (λ (t : List ℕ). f x ∷ t) (map_joined f xs ys)
+
 uniques_distinct : (xs : List ℕ) → IsDistinct nat_eq (unique_keys nat_eq xs)
 unfolding IsDistinct
 uniques_distinct [] = tt
@@ -111,7 +122,7 @@ uniques_distinct (x ∷ xs) = by (is_member nat_eq xs x) refl (uniques_distinct 
     by true m rest = rest
     by false m rest = (absent x (unique_keys nat_eq xs) (members_kept xs x ∙ m), rest)
 
-count_among : (xs ys : List ℕ) → ((q : ℕ) → is_member nat_eq xs q ≡ true → is_member nat_eq ys q ≡ true) → distinct_count nat_eq xs ≤ distinct_count nat_eq ys
+pub count_among : (xs ys : List ℕ) → ((q : ℕ) → is_member nat_eq xs q ≡ true → is_member nat_eq ys q ≡ true) → distinct_count nat_eq xs ≤ distinct_count nat_eq ys
 count_among xs ys among = distinct_among (unique_keys nat_eq xs) ys (uniques_distinct xs) (λ q m. among q (sym (members_kept xs q) ∙ m))
 
 -- mapped characters are among those that are named
@@ -120,6 +131,56 @@ pub mapped_count : (classes : List GivenClass) (mappings : List GivenMapping)
 mapped_count classes mappings =
     count_among (map (λ g. g.character) mappings) (named (record { classes = classes; mappings = mappings }))
     (λ q m. behind_named (map (λ g. g.character) classes) (flat_map (λ g. g.character ∷ mapping_given g) mappings) q (keys_named (λ g. g.character) mapping_given mappings q m))
+
+-- ---- Blocks of characters
+
+image_from : (f : ℕ → ℕ) (xs : List ℕ) (q : ℕ) → is_member nat_eq (map f xs) q ≡ true → (c : ℕ) × (is_member nat_eq xs c ≡ true) × (f c ≡ q)
+image_from f [] q e = absurd cc
+image_from f (x ∷ xs) q e = by (nat_eq q (f x)) refl (image_from f xs q) e
+  where
+    by : (b : Bool) → nat_eq q (f x) ≡ b → (is_member nat_eq (map f xs) q ≡ true → (c : ℕ) × (is_member nat_eq xs c ≡ true) × (f c ≡ q)) → (b || is_member nat_eq (map f xs) q) ≡ true
+        → (c : ℕ) × ((nat_eq c x || is_member nat_eq xs c) ≡ true) × (f c ≡ q)
+    by true t later h = (x, or_left (nat_eq x x) (is_member nat_eq xs x) (same_is x x refl), equal_is q (f x) t)
+    by false t later h = let w = later h in (w.0, or_right (nat_eq w.0 x) (is_member nat_eq xs w.0) w.1, w.2)
+
+image_to : (f : ℕ → ℕ) (xs : List ℕ) (c : ℕ) → is_member nat_eq xs c ≡ true → is_member nat_eq (map f xs) (f c) ≡ true
+image_to f [] c e = absurd cc
+image_to f (x ∷ xs) c e = by (nat_eq c x) refl (image_to f xs c) e
+  where
+    by : (b : Bool) → nat_eq c x ≡ b → (is_member nat_eq xs c ≡ true → is_member nat_eq (map f xs) (f c) ≡ true) → (b || is_member nat_eq xs c) ≡ true
+        → (nat_eq (f c) (f x) || is_member nat_eq (map f xs) (f c)) ≡ true
+    by true t later h = or_left (nat_eq (f c) (f x)) (is_member nat_eq (map f xs) (f c)) (same_is (f c) (f x) (ap f (sym (equal_is c x t))))
+    by false t later h = or_right (nat_eq (f c) (f x)) (is_member nat_eq (map f xs) (f c)) (later h)
+
+-- what is among others has no more images than they
+count_images : (f : ℕ → ℕ) (xs ys : List ℕ) → ((q : ℕ) → is_member nat_eq xs q ≡ true → is_member nat_eq ys q ≡ true)
+    → distinct_count nat_eq (map f xs) ≤ distinct_count nat_eq (map f ys)
+count_images f xs ys among =
+    count_among (map f xs) (map f ys)
+    (λ q m. let w = image_from f xs q m in subst (λ (n : ℕ). is_member nat_eq (map f ys) n ≡ true) w.2 (image_to f ys w.0 (among w.0 w.1)))
+
+-- and no more than there are of them
+pub count_image : (f : ℕ → ℕ) (xs : List ℕ) → distinct_count nat_eq (map f xs) ≤ distinct_count nat_eq xs
+count_image f xs =
+    omega (
+      arith,
+      count_images f xs (unique_keys nat_eq xs) (λ q m. members_kept xs q ∙ m),
+      distinct_count-le nat_eq (map f (unique_keys nat_eq xs)),
+      length-map (unique_keys nat_eq xs) f,
+    )
+
+-- characters, each once, stand in few blocks where all do
+pub few_blocks : (all list : List ℕ) → AreDistinctOf all list → AreInFewBlocks all → AreInFewBlocks list
+few_blocks all list of few = record {
+  wide = omega (arith, few.wide, count_images (λ c. c / 512) list all (λ q m. sym (of.same q) ∙ m));
+  narrow = omega (arith, few.narrow, count_images (λ c. c / 16) list all (λ q m. sym (of.same q) ∙ m));
+}
+
+-- each character in front of a list stands in one block more at most
+pub blocks_joined : (width : ℕ) (xs ys : List ℕ) → block_count width (xs ++ ys) ≤ length xs + block_count width ys
+blocks_joined width xs ys =
+    let split : map (λ c. c / width) (xs ++ ys) ≡ map (λ c. c / width) xs ++ map (λ c. c / width) ys = map_joined (λ c. c / width) xs ys in
+    omega (arith, count_joined nat_eq (map (λ c. c / width) xs) (map (λ c. c / width) ys), ap (distinct_count nat_eq) split, length-map xs (λ c. c / width))
 
 -- ---- What a list has
 

@@ -1,13 +1,10 @@
 -- The words of characters that neither what is built in nor what is given names.
-use Rattle.std.proofs.Common.{◌≡◌, ◌≢◌, ℕ, ◌<◌, ◌≤◌, inl, inr, ⊎_elim, false, ◌==◌, List, [], ◌∷◌, ◌++◌, length, map, Option, Some, None, refl, sym, ap, subst, ◌∙◌, arith}
-use Rattle.std.specs.List.{All, AllByRecursion}
+use Rattle.std.proofs.Common.{◌≡◌, ◌≢◌, ℕ, inl, inr, ⊎_elim, false, ◌==◌, List, [], ◌∷◌, ◌++◌, map, Option, Some, None, refl, sym, ap, subst, ◌∙◌, arith}
+use Rattle.std.specs.List.{All}
 use Rattle.std.specs.Option.{unwrap_or}
 use Rattle.std.specs.Char.{IsScalar}
-use lib.Utf8.{low_scalar}
 use Rattle.std.proofs.lemmas.Bool.{cases_Bool, cond-true, cond-false, false≢true, ne_eqb}
 use Rattle.std.proofs.lemmas.Bool.Decides.{nat_tests}
-use Rattle.std.proofs.lemmas.List.{length-append, length-map}
-use Rattle.std.proofs.lemmas.List.Elements.{All-append, All-cons, All-head, All-nil, All-tail}
 use Rattle.std.proofs.lemmas.Option.{none-some}
 use Rattle.icu_normalizer_core.specs.declared.canonical.builder.GivenClass.{GivenClass}
 use Rattle.icu_normalizer_core.specs.declared.canonical.builder.GivenCompatibility.{GivenCompatibility}
@@ -18,12 +15,11 @@ use Rattle.icu_normalizer_core.specs.Canonical.{Canonical, IsFree, Leaves}
 use Rattle.icu_normalizer_core.specs.CanonicalMaps.{AreMeaning, given_class, given_step, mapping_given}
 use Rattle.icu_normalizer_core.specs.CanonicalMeaning.{meaning}
 use Rattle.icu_normalizer_core.specs.CharacterWords.{built_in_named, unnamed_word}
-use Rattle.icu_normalizer_core.specs.CompatibilityMaps.{AllMaps, KeepAllRules, first_given}
+use Rattle.icu_normalizer_core.specs.CompatibilityMaps.{AllMaps, KeepEachRule, first_given}
 use Rattle.icu_normalizer_core.specs.GivenCompatibilities.{IsOfCharacters}
-use Rattle.icu_normalizer_core.specs.GivenMaps.{IsOfScalars}
 use Rattle.icu_normalizer_core.specs.Settled.{IsAmong}
 use Rattle.icu_normalizer_core.specs.SettledMappings.{AreOnStarters, AreOthersUnnamed, IsFullWord, IsSound, named_with, steps_in}
-use Rattle.icu_normalizer_core.proofs.built.BuiltInFacts.{built_in_cases, high_scalar, syllable_left}
+use Rattle.icu_normalizer_core.proofs.built.BuiltInFacts.{built_in_cases, syllable_left}
 use Rattle.icu_normalizer_core.proofs.settling.LeftLemmas.{left_alone}
 use Rattle.icu_normalizer_core.proofs.accepted.TableMeanings.{zero_form}
 use Rattle.icu_normalizer_core.proofs.builder.AllStepLemmas.{all_second, cases_step, given_is, step_given}
@@ -130,6 +126,6 @@ pub others_among : (step : ℕ → List ℕ) (class : ℕ → ℕ) (named list :
 others_among step class named list among others s24 c s none = others s24 c s (λ h. none (among c h))
 
 -- within the rules each mapping stands on a starter of the tables
-pub kept_on_starters : (maps : AllMaps) (canonical : Canonical) → AreMeaning maps.canonical canonical → All IsOfCharacters maps.compatibilities → KeepAllRules maps
+pub kept_on_starters : (maps : AllMaps) (canonical : Canonical) → AreMeaning maps.canonical canonical → All IsOfCharacters maps.compatibilities → KeepEachRule maps
     → AreOnStarters canonical.class maps.compatibilities
 kept_on_starters maps canonical means of_given rules k d h free = means.class _ (of_given k d h).character ∙ rules.1.starters k d h free

@@ -1,5 +1,5 @@
 -- The words of characters in a map: one word more, and a map in which none is set.
-use Rattle.std.proofs.Common.{◌≡◌, ◌≢◌, ℕ, ◌+◌, ◌*◌, ◌<◌, ◌≤◌, ◌⊎◌, inl, inr, ⊎_elim, Bool, true, false, cond, not, ◌==◌, ◌&&◌, List, [], ◌∷◌, ◌++◌, length, map, slice_index, Result, Ok, Err, refl, sym, ap, subst, ◌∙◌, arith, length-append}
+use Rattle.std.proofs.Common.{◌≡◌, ◌≢◌, ℕ, ◌+◌, ◌*◌, ◌<◌, ◌≤◌, ◌⊎◌, inl, inr, ⊎_elim, Bool, true, false, cond, not, ◌==◌, ◌&&◌, List, [], ◌∷◌, ◌++◌, length, map, slice_index, Result, Ok, Err, refl, sym, ap, subst, ◌∙◌, arith}
 use Rattle.std.specs.Prelude.{MatchResult, slice_index_or}
 use Rattle.std.specs.declared.ops.RangeInclusive.{RangeInclusive}
 use Rattle.std.specs.Range.{range_inclusive_start, range_inclusive_end, range_inclusive_exhausted}
@@ -13,6 +13,7 @@ use Rattle.icu_codepointtrie.proofs.built.BlockLemmas.{same_block}
 use Rattle.icu_normalizer_core.specs.BuiltIn.{is_syllable}
 use Rattle.icu_normalizer_core.specs.CharacterWords.{AreUnnamed, HasRightWords, unnamed_word}
 use Rattle.icu_normalizer_core.specs.Settled.{IsAmong}
+use Rattle.icu_normalizer_core.proofs.builder.CoveredLemmas.{among_or_not, not_behind, not_front}
 
 -- ---- One word more
 
@@ -36,10 +37,12 @@ test_zero c word default none zero =
 module _ (IsRight : ℕ → ℕ → Type 0) (done : List ℕ) (old new : CodePointMap ℕ) (c word : ℕ)
     (before : HasRightWords IsRight done old) (inside : c ≤ 0x10_FFFF)
     (written : IsWritten (λ n. n) old (λ x. x == c) word new)
-    (blocks : (width : ℕ) → different_blocks (λ n. n) width new.values ≤ different_blocks (λ n. n) width old.values + 1)
     (says : IsRight c word) (syllable : word ≡ 0 → is_syllable c ≡ false) where
   elsewhere : (x : ℕ) → x ≤ 0x10_FFFF → x ≢ c → mapped new x ≡ mapped old x
   elsewhere x h ne = written.values x h ∙ cond-false _ _ _ (test_other x c word old.default ne)
+
+  before_it : IsRight c (mapped old c) ⊎ (mapped old c ≡ unnamed_word c)
+  before_it = ⊎_elim (λ named. inl (before.among c inside named)) (λ none. inr (before.others c inside none)) (among_or_not done c)
 
   here : IsRight c (mapped new c)
   here =
@@ -51,7 +54,7 @@ module _ (IsRight : ℕ → ℕ → Type 0) (done : List ℕ) (old new : CodePoi
       (λ first.
       let at : mapped new c ≡ word = same ∙ first ∙ cond-false (is_syllable c) 1 0 (syllable zero) ∙ sym zero in
       subst (IsRight c) (sym at) says)
-      (before.others c inside))
+      before_it)
       (λ (some : word ≢ 0).
       let at : mapped new c ≡ word = written.values c inside ∙ cond-true _ _ _ (test_here c word old.default before.default some) in
       subst (IsRight c) (sym at) says)
@@ -72,27 +75,11 @@ module _ (IsRight : ℕ → ℕ → Type 0) (done : List ℕ) (old new : CodePoi
         (λ e. absurd (other (sym e)))
         (among_last done c x is))
         (cases_eq x c);
-    others = λ x h. ⊎_elim
-        (λ (same : x ≡ c). inl (subst Right (sym same) here))
-        (λ (other : x ≢ c).
-        ⊎_elim
-        (λ right. inl (subst (IsRight x) (sym (elsewhere x h other)) right))
-        (λ first. inr (elsewhere x h other ∙ first))
-        (before.others x h))
-        (cases_eq x c);
-    wide = omega (arith, blocks 512, before.wide, length-append done (c ∷ []));
-    narrow = omega (arith, blocks 16, before.narrow, length-append done (c ∷ []));
+    others = λ x h none. elsewhere x h (λ e. not_behind done (c ∷ []) x none (inl (sym e))) ∙ before.others x h (not_front done (c ∷ []) x none);
+    all = written.all ∙ before.all;
+    none_set = before.none_set;
+    unnamed = before.unnamed;
   }
-
-pub words_past : (IsRight : ℕ → ℕ → Type 0) (done : List ℕ) (words : CodePointMap ℕ) (c : ℕ) → HasRightWords IsRight done words → 0x10_FFFF < c
-    → HasRightWords IsRight (done ++ c ∷ []) words
-words_past IsRight done words c before past = record {
-  default = before.default;
-  among = λ x h is. ⊎_elim (λ old_one. before.among x h old_one) (λ e. absurd (omega arith)) (among_last done c x is);
-  others = before.others;
-  wide = omega (arith, before.wide, length-append done (c ∷ []));
-  narrow = omega (arith, before.narrow, length-append done (c ∷ []));
-}
 
 -- what is right in one way is right in another
 pub words_along : (IsRight IsOther : ℕ → ℕ → Type 0) (named : List ℕ) (words : CodePointMap ℕ) → ((c word : ℕ) → IsRight c word → IsOther c word)
@@ -100,9 +87,10 @@ pub words_along : (IsRight IsOther : ℕ → ℕ → Type 0) (named : List ℕ) 
 words_along IsRight IsOther named words along has = record {
   default = has.default;
   among = λ c h is. along c (mapped words c) (has.among c h is);
-  others = λ c h. ⊎_elim (λ right. inl (along c (mapped words c) right)) (λ first. inr first) (has.others c h);
-  wide = has.wide;
-  narrow = has.narrow;
+  others = has.others;
+  all = has.all;
+  none_set = has.none_set;
+  unnamed = has.unnamed;
 }
 
 -- ---- No word is set
@@ -196,6 +184,7 @@ pub words_unnamed : (old new : CodePointMap ℕ) (range : RangeInclusive ℕ) �
 words_unnamed old new range all none default written first last fresh =
     let is = unnamed old new range none default written first last fresh in
     record {
+      all = written.all ∙ all;
       default = written.default ∙ default;
       each = is;
       wide = few_wide new (written.all ∙ all) is;
@@ -206,7 +195,8 @@ pub words_none : (IsRight : ℕ → ℕ → Type 0) (words : CodePointMap ℕ) �
 words_none IsRight words is = record {
   default = is.default;
   among = λ x h bad. absurd bad;
-  others = λ x h. inr (is.each x h);
-  wide = is.wide;
-  narrow = is.narrow;
+  others = λ x h none. is.each x h;
+  all = is.all;
+  none_set = words;
+  unnamed = is;
 }

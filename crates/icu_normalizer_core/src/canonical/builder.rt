@@ -7,9 +7,9 @@ ghost use Rattle.std.specs.Set.{distinct_count};
 ghost use Rattle.icu_normalizer_core.specs.declared.canonical.builder.CanonicalDataBuildError.TheVariants.{Rules, Memory};
 ghost use Rattle.icu_normalizer_core.specs.BuiltMaps.{AreStepsOf, HasPlainWords};
 ghost use Rattle.icu_normalizer_core.specs.CanonicalFaults.{IsAccepted};
-ghost use Rattle.icu_normalizer_core.specs.CanonicalMaps.{AreMeaning, HaveOneMapping, KeepRules, named};
+ghost use Rattle.icu_normalizer_core.specs.CanonicalMaps.{AreMeaning, HaveOneMapping, KeepRulesWithin, named};
 ghost use Rattle.icu_normalizer_core.specs.CanonicalMeaning.{lists_of, meaning};
-ghost use Rattle.icu_normalizer_core.specs.CompatibilityMaps.{AllMaps, AreAcceptedOver, AreApart, AreMeaningOf, HaveOneCompatibility, IsGivenTo, KeepAllRules, all_named};
+ghost use Rattle.icu_normalizer_core.specs.CompatibilityMaps.{AreAcceptedOver, AreApart, AreMeaningOf, BuilderMaps, HaveOneCompatibility, IsGivenTo, KeepAllRulesWithin, all_named, maps_in};
 ghost use Rattle.icu_normalizer_core.specs.CompatibilityMeaning.{nfkd_lists};
 ghost use Rattle.icu_normalizer_core.specs.Plain.{Tells};
 
@@ -45,7 +45,7 @@ use thiserror::Error;
 #[derive(Clone, Copy, Debug, PartialEq, Eq, Error)]
 pub enum CanonicalDataBuildError {
     /// The maps break a rule of canonical data (docs/RECORDS.md, C1 to C9), of which C1 asks that no character has two
-    /// mappings that differ, or name more than 150 different characters.
+    /// mappings that differ, name more different characters than the builder takes, or lack room in tables.
     #[error("a rule of canonical data is broken")]
     Rules,
     /// Memory was refused.
@@ -87,10 +87,15 @@ pub struct GivenCompatibility {
     mapping: Vec<char>,
 }
 
-/// Tables in the making, seen as the classes and mappings that were given. The builder keeps its allocator.
+/// How many different characters a builder takes that is told no other limit.
+const STANDARD_LIMIT: usize = 150;
+
+/// Tables in the making, seen as the classes and mappings that were given, and how many different characters they may
+/// name. The builder keeps its allocator.
 #[derive(Debug)]
 pub struct CanonicalDataBuilder {
     alloc: Global,
+    limit: usize,
     classes: Vec<GivenClass>,
     mappings: Vec<GivenMapping>,
     compatibilities: Vec<GivenCompatibility>,
@@ -101,6 +106,7 @@ impl Drop for CanonicalDataBuilder {
     fn drop(self) {
         let CanonicalDataBuilder {
             alloc: _,
+            limit: _,
             classes: _,
             mappings: _,
             compatibilities: _,
@@ -110,26 +116,38 @@ impl Drop for CanonicalDataBuilder {
 
 impl Model for CanonicalDataBuilder {
     ghost use Rattle.std.specs.Prelude.{All};
-    ghost use Rattle.icu_normalizer_core.specs.CompatibilityMaps.{AllMaps};
+    ghost use Rattle.icu_normalizer_core.specs.CompatibilityMaps.{BuilderMaps};
     ghost use Rattle.icu_normalizer_core.specs.GivenCompatibilities.{IsOfCharacters};
     ghost use Rattle.icu_normalizer_core.specs.GivenMaps.{AreOfScalars};
 
-    ghost Value = { AllMaps };
+    ghost Value = { BuilderMaps };
 
-    ghost view = { λ inside. record { canonical = record { classes = inside.classes.items; mappings = inside.mappings.items }; compatibilities = inside.compatibilities.items } };
+    ghost view = { λ inside. record { limit = inside.limit; canonical = record { classes = inside.classes.items; mappings = inside.mappings.items }; compatibilities = inside.compatibilities.items } };
 
     ghost invariant = { λ inside. AreOfScalars (record { classes = inside.classes.items; mappings = inside.mappings.items }) × All IsOfCharacters inside.compatibilities.items };
 }
 
 impl CanonicalDataBuilder {
-    /// Nothing is given yet.
+    /// Nothing is given yet. The builder takes at most 150 different characters.
     pub fn new(alloc: Global) -> CanonicalDataBuilder
+        ensures limit { result.limit ≡ 150 }
+        ensures classes { result.canonical.classes ≡ [] }
+        ensures mappings { result.canonical.mappings ≡ [] }
+        ensures compatibilities { result.compatibilities ≡ [] }
+    {
+        CanonicalDataBuilder::new_within(alloc, STANDARD_LIMIT)
+    }
+
+    /// Nothing is given yet. The builder takes at most so many different characters.
+    pub fn new_within(alloc: Global, limit: usize) -> CanonicalDataBuilder
+        ensures limit { result.limit ≡ limit }
         ensures classes { result.canonical.classes ≡ [] }
         ensures mappings { result.canonical.mappings ≡ [] }
         ensures compatibilities { result.compatibilities ≡ [] }
     {
         CanonicalDataBuilder {
             alloc,
+            limit,
             classes: Vec::new(alloc),
             mappings: Vec::new(alloc),
             compatibilities: Vec::new(alloc),
@@ -142,6 +160,7 @@ impl CanonicalDataBuilder {
         ensures classes { OnOk result (self.new.canonical.classes ≡ self.old.canonical.classes ++ record { character = c; class = class } ∷ []) }
         ensures mappings { self.new.canonical.mappings ≡ self.old.canonical.mappings }
         ensures compatibilities { self.new.compatibilities ≡ self.old.compatibilities }
+        ensures limit { self.new.limit ≡ self.old.limit }
         ensures refused { OnErr result (self.new ≡ self.old) }
     {
         self.classes.push(GivenClass {
@@ -164,6 +183,7 @@ impl CanonicalDataBuilder {
         ensures mappings { OnOk result (self.new.canonical.mappings ≡ self.old.canonical.mappings ++ record { character = c; first = first; second = second; is_composed = is_composed && is_some second } ∷ []) }
         ensures classes { self.new.canonical.classes ≡ self.old.canonical.classes }
         ensures compatibilities { self.new.compatibilities ≡ self.old.compatibilities }
+        ensures limit { self.new.limit ≡ self.old.limit }
         ensures refused { OnErr result (self.new ≡ self.old) }
     {
         self.mappings.push(GivenMapping {
@@ -181,6 +201,7 @@ impl CanonicalDataBuilder {
     pub fn kmap(&mut self, c: char, first: char, others: &[char]) -> Result<(), AllocError>
         ensures compatibilities { OnOk result (IsGivenTo self.old.compatibilities c (first ∷ others.now) self.new.compatibilities) }
         ensures canonical { self.new.canonical ≡ self.old.canonical }
+        ensures limit { self.new.limit ≡ self.old.limit }
         ensures refused { OnErr result (self.new ≡ self.old) }
     {
         let mapping = listed(self.alloc, first, others)?;
@@ -193,17 +214,17 @@ impl CanonicalDataBuilder {
 
     /// The tables of what was given, with what is built in; the builder stays as it is. The two uppermost bits of each
     /// word are 0, and the mappings of the tables are those that were given but the built-in ones. `Rules` comes only
-    /// where what was given breaks a rule (docs/RECORDS.md, C1 to C9) or names more than 150 different characters; what is
-    /// given again as it was counts once, and of several classes of a character the first is asked alone. Want of memory
-    /// can come with anything that was given.
+    /// where what was given breaks a rule (docs/RECORDS.md, C1 to C9), names more different characters than the builder
+    /// takes, or lacks room in tables, as 150 characters never do; what is given again as it was counts once, and of
+    /// several classes of a character the first is asked alone. Want of memory can come with anything that was given.
     pub fn build(&self) -> Result<CanonicalTables<'static>, CanonicalDataBuildError>
         ensures means { IfOk result (λ tables. AreMeaning self.now.canonical (meaning tables)) }
         ensures accepted { IfOk result (λ tables. IsAccepted (lists_of tables)) }
         ensures plain { IfOk result (λ tables. HasPlainWords tables.trie) }
         ensures steps { IfOk result (λ tables. AreStepsOf self.now.canonical.mappings tables.steps) }
-        ensures few { OnOk result (distinct_count nat_eq (named self.now.canonical) ≤ 150) }
+        ensures few { OnOk result (distinct_count nat_eq (named self.now.canonical) ≤ self.now.limit) }
         ensures one_mapping { OnOk result (HaveOneMapping self.now.canonical.mappings) }
-        ensures refused { IfErr result (λ e. (e ≡ Memory) ⊎ ((e ≡ Rules) × (KeepRules self.now.canonical → ⊥))) }
+        ensures refused { IfErr result (λ e. (e ≡ Memory) ⊎ ((e ≡ Rules) × (KeepRulesWithin self.now.limit self.now.canonical → ⊥))) }
     {
         match self.build_told() {
             Ok((tables, _)) => Ok(tables),
@@ -219,12 +240,13 @@ impl CanonicalDataBuilder {
         ensures tells { IfOk result (λ made. Tells (lists_of made.0) made.1.items) }
         ensures plain { IfOk result (λ made. HasPlainWords made.0.trie) }
         ensures steps { IfOk result (λ made. AreStepsOf self.now.canonical.mappings made.0.steps) }
-        ensures few { OnOk result (distinct_count nat_eq (named self.now.canonical) ≤ 150) }
+        ensures few { OnOk result (distinct_count nat_eq (named self.now.canonical) ≤ self.now.limit) }
         ensures one_mapping { OnOk result (HaveOneMapping self.now.canonical.mappings) }
-        ensures refused { IfErr result (λ e. (e ≡ Memory) ⊎ ((e ≡ Rules) × (KeepRules self.now.canonical → ⊥))) }
+        ensures refused { IfErr result (λ e. (e ≡ Memory) ⊎ ((e ≡ Rules) × (KeepRulesWithin self.now.limit self.now.canonical → ⊥))) }
     {
         let tables = match tables(
             self.alloc,
+            self.limit,
             self.classes.as_slice(),
             self.mappings.as_slice(),
         ) {
@@ -244,9 +266,9 @@ impl CanonicalDataBuilder {
         ensures accepted { IfOk result (λ made. IsAccepted (lists_of made)) }
         ensures plain { IfOk result (λ made. HasPlainWords made.trie) }
         ensures steps { IfOk result (λ made. AreStepsOf self.now.canonical.mappings made.steps) }
-        ensures few { OnOk result (distinct_count nat_eq (named self.now.canonical) ≤ 150) }
+        ensures few { OnOk result (distinct_count nat_eq (named self.now.canonical) ≤ self.now.limit) }
         ensures one_mapping { OnOk result (HaveOneMapping self.now.canonical.mappings) }
-        ensures refused { IfErr result (λ e. (e ≡ Memory) ⊎ ((e ≡ Rules) × (KeepRules self.now.canonical → ⊥))) }
+        ensures refused { IfErr result (λ e. (e ≡ Memory) ⊎ ((e ≡ Rules) × (KeepRulesWithin self.now.limit self.now.canonical → ⊥))) }
     {
         match self.build_told() {
             Ok((tables, told)) => Ok(CanonicalData::of_accepted(self.alloc, tables, &told)?),
@@ -256,17 +278,17 @@ impl CanonicalDataBuilder {
 
     /// The compatibility tables of what was given, with what is built in; the builder stays as it is. Over canonical
     /// tables that mean what was given they pass every check (`CompatibilityData::try_new`). The two uppermost bits of
-    /// each word are 0. `Rules` comes only where what was given breaks a rule (docs/RECORDS.md, C1 to C9) or names more
-    /// than 150 different characters; what is given again as it was counts once. Want of memory can come with anything
-    /// that was given.
+    /// each word are 0. `Rules` comes only where what was given breaks a rule (docs/RECORDS.md, C1 to C9), names more
+    /// different characters than the builder takes, or lacks room in tables, as 150 characters never do; what is given
+    /// again as it was counts once. Want of memory can come with anything that was given.
     pub fn build_nfkd(&self) -> Result<NfkdTables<'static>, CanonicalDataBuildError>
-        ensures means { IfOk result (λ made. AreMeaningOf self.now (nfkd_lists made)) }
+        ensures means { IfOk result (λ made. AreMeaningOf (maps_in self.now) (nfkd_lists made)) }
         ensures accepted { IfOk result (λ made. AreAcceptedOver self.now.canonical (nfkd_lists made)) }
         ensures plain { IfOk result (λ made. HasPlainWords made.trie) }
-        ensures few { OnOk result (distinct_count nat_eq (all_named self.now) ≤ 150) }
+        ensures few { OnOk result (distinct_count nat_eq (all_named (maps_in self.now)) ≤ self.now.limit) }
         ensures one_mapping { OnOk result (HaveOneCompatibility self.now.compatibilities) }
-        ensures apart { OnOk result (AreApart self.now) }
-        ensures refused { IfErr result (λ e. (e ≡ Memory) ⊎ ((e ≡ Rules) × (KeepAllRules self.now → ⊥))) }
+        ensures apart { OnOk result (AreApart (maps_in self.now)) }
+        ensures refused { IfErr result (λ e. (e ≡ Memory) ⊎ ((e ≡ Rules) × (KeepAllRulesWithin self.now.limit (maps_in self.now) → ⊥))) }
     {
         let tables = match self.build() {
             Ok(tables) => tables,
@@ -274,6 +296,7 @@ impl CanonicalDataBuilder {
         };
         compatibility_tables(
             self.alloc,
+            self.limit,
             self.classes.as_slice(),
             self.mappings.as_slice(),
             self.compatibilities.as_slice(),

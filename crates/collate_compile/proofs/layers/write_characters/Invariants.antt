@@ -1,14 +1,15 @@
 use Rattle.std.proofs.Common.{◌+◌, [], map, take}
 use Rattle.std.specs.Prelude.{sum_by}
 use Rattle.collate_lines.specs.Record.{Layer, said}
-use Rattle.collate_compile.specs.Beginnings.{lines_of}
-use Rattle.collate_compile.specs.LayerBuilds.{AreWritten, GrowsBy}
+use Rattle.collate_compile.specs.Beginnings.{elements_begun, texts_begun}
+use Rattle.collate_compile.specs.LayerBuilds.{AreWritten, KeepsOthers}
 use Rattle.collate_compile.proofs.layers.write_characters.Given as goal
 
 abbrev pub invariant-loop-character : goal.invariant-loop-character
 invariant-loop-character l = record {
   written : (which : Layer) → AreWritten which (map said l.lines) [] l.initial.layer
       → AreWritten which (map said l.lines) (take l.character-index l.characters) l.layer;
-  size : GrowsBy (sum_by (λ c. 1 + lines_of (map said l.lines) c) (take l.character-index l.characters))
-      l.character-index l.initial.layer l.layer;
+  size : KeepsOthers (sum_by (λ c. 1 + elements_begun (map said l.lines) c) (take l.character-index l.characters))
+      (sum_by (texts_begun (map said l.lines)) (take l.character-index l.characters))
+      (take l.character-index l.characters) l.initial.layer l.layer;
 }

@@ -24,15 +24,15 @@ write_range-requires c =
     let i = c.loop-i.i in
     let x = c.index-lines-lines.result in
     let within : i < length lines = omega arith in
-    room_left (count_by is_range (map said lines)) (count_by is_range (drop (length lines - i) (map said lines)))
-    (cond (is_range (said x)) 1 0) c.args.layer.now.pools c.loop-i.layer.pools
+    room_left (count_by is_range (map said lines)) 0 (count_by is_range (drop (length lines - i) (map said lines))) 0
+    (cond (is_range (said x)) 1 0) 0 c.args.layer.now.pools c.loop-i.layer.pools
     c.requires.room c.loop-i.invariant.size.pools
     (omega (
       arith,
       ranges_from lines i x within c.index-lines-lines.is,
       ranges_few (map said lines)
           (length lines - (i + 1)),
-    ))
+    )) (omega arith)
 
 pub loop-i-preserved : goal.loop-i-preserved
 loop-i-preserved c =

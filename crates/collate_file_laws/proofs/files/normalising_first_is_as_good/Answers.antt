@@ -3,6 +3,6 @@ use Rattle.collate_file_laws.proofs.files.normalising_first_is_as_good.Goals as 
 
 pub returns : goal.returns
 returns c = record {
-  decomposed = λ file options preferences text accepted scalars. decomposed_good file options preferences accepted text scalars;
-  composed = λ file options preferences text accepted scalars. composed_good file options preferences accepted text scalars;
+  decomposed = λ limits file options preferences text accepted scalars. decomposed_good file options preferences limits accepted text scalars;
+  composed = λ limits file options preferences text accepted scalars. composed_good file options preferences limits accepted text scalars;
 }

@@ -6,9 +6,9 @@ use Rattle.collate_hashes.proofs.chains.push.Goals as goal
 
 pub put_in-requires-clause-linked : goal.put_in-requires-clause-linked
 put_in-requires-clause-linked c =
-    let heads : List ℕ = c.make_buckets.new.heads.items in
-    let links : List Link = c.make_buckets.new.links.items in
-    let place : c.len-place.result ≡ length links = c.len-place.ensures ∙ c.make_buckets.new.links.ok.0 in
-    subst (IsLinkedTo heads c.push.new.self.items) (sym place)
-    (subst (λ (ls : List Link). IsLinkedTo heads ls (length links)) (sym c.in_ok-push.ensures.items)
-    (linked_push heads links (record { hash = c.args.hash; before = 0 }) c.make_buckets.ensures.linked.all))
+    let heads : List ℕ = c.args.heads.now.items in
+    let links : List Link = c.args.links.now.items in
+    let place : c.len-place.result ≡ length links = c.len-place.ensures ∙ c.args.links.now.ok.0 in
+    subst (IsLinkedTo heads c.push_reserved.new.self.items) (sym place)
+    (subst (λ (ls : List Link). IsLinkedTo heads ls (length links)) (sym c.push_reserved.ensures.items)
+    (linked_push heads links (record { hash = c.args.hash; before = 0 }) c.requires.linked.all))

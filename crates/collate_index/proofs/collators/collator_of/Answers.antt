@@ -14,7 +14,7 @@ returns c =
     c.in_ok-tables.ensures
     ∙ ap (λ (canonical : CanonicalTables). record { canonical = canonical; tables = c.into_tables-canonical.result.1 }) (c.in_ok-canonical.ensures ∙ c.into_tables-canonical.ensures.canonical)
     ∙ ap (λ (tables : CollationTables). record { canonical = provided.canonical; tables = tables }) c.into_tables-canonical.ensures.collation in
-    collator_of_compiled c.args.records.now provided c.args.options c.args.preferences c.from_tables.result c.keep_rules.ensures.accepted c.in_ok-compile.ensures
+    collator_of_compiled c.args.records.now.lines provided c.args.options c.args.preferences c.from_tables.result c.keep_rules.ensures.accepted c.in_ok-compile.ensures.compiled
     (c.from_tables.ensures.source ∙ checked)
     (c.from_tables.ensures.resolved
     ∙ ap (λ (source : CollationSource). resolved_options c.args.options c.args.preferences (settings_of source.tables.metadata)) checked)

@@ -7,7 +7,7 @@ abbrev pub invariant-loop-left : goal.invariant-loop-left
 invariant-loop-left l = record {
   left : drop l.number (lines_of l.fn.bytes) ≡ lines_left l.left;
   read : IsReadTo l.fn.bytes l.number l.reading;
-  sound : AreSound l.fn.bytes l.number;
+  sound : AreSound l.fn.limits l.fn.bytes l.number;
 }
 
 abbrev pub decreases-loop-left : goal.decreases-loop-left

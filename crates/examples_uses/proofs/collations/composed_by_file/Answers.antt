@@ -1,8 +1,7 @@
 use Rattle.std.proofs.Common.{◌≡◌, List, ap, ◌∙◌, string_bytes}
 use Rattle.icu_normalizer.specs.TextForms.{composed_text}
 use Rattle.collate_lines.specs.Lines.{records_of}
-use Rattle.collate_lines.specs.Record.{Record}
-use Rattle.collate_records.specs.Files.{IsAccepted}
+use Rattle.collate_records.specs.Files.{FileRecords, IsAccepted}
 use Rattle.collate_rules.specs.Meaning.{canonical_of}
 use Rattle.examples_uses.proofs.UseAnswerLemmas.{of_any, of_some}
 use Rattle.examples_uses.proofs.UseFileLemmas.{records_read}
@@ -16,9 +15,9 @@ returns-clause-accepted c =
 pub returns-clause-form : goal.returns-clause-form
 returns-clause-form c =
     of_some
-    (λ form. string_bytes form ≡ composed_text (canonical_of c.in_ok-records.records) c.args.text.now)
+    (λ form. string_bytes form ≡ composed_text (canonical_of c.in_ok-records.records.lines) c.args.text.now)
     (λ form. string_bytes form ≡ composed_text (canonical_of (records_of c.args.file.now)) c.args.text.now)
     c.composed_by_records.result c.composed_by_records.ensures
     (λ form said. said
-    ∙ ap (λ (lines : List Record). composed_text (canonical_of lines) c.args.text.now)
+    ∙ ap (λ (said : FileRecords). composed_text (canonical_of said.lines) c.args.text.now)
     (records_read c.args.file.now c.read.result c.in_ok-records.records c.in_ok-records.ensures.value c.read.ensures).1)

@@ -6,9 +6,8 @@ use Rattle.icu_collator.specs.Collators.{borrowed_collation, borrowed_options}
 use Rattle.icu_collator.specs.Order.{collation_order}
 use Rattle.icu_collator.specs.declared.comparison.error.CollatorError.TheVariants.{Memory}
 use Rattle.collate_lines.specs.Lines.{records_of}
-use Rattle.collate_lines.specs.Record.{Record}
 use Rattle.collate_records.specs.CompiledOf.{IsCompiledOf}
-use Rattle.collate_records.specs.Files.{IsAccepted, IsReadFrom}
+use Rattle.collate_records.specs.Files.{FileRecords, IsAccepted, IsReadFrom}
 use Rattle.collate_rules.specs.Meaning.{collation_of, settings_of}
 use Rattle.collate_laws.specs.OverRecords.{IsCollatorOf}
 use Rattle.examples_uses.proofs.UseAnswerLemmas.{of_any, of_ok, ok_gives}
@@ -24,10 +23,10 @@ pub returns-clause-order : goal.returns-clause-order
 returns-clause-order c =
     let records = c.in_ok-records.records in
     let read = subst (IsReadFrom c.args.file.now) (ok_gives c.read.result records c.in_ok-records.ensures.value) c.read.ensures in
-    let compiled = subst (λ r. IfOk r (IsCompiledOf records)) (ok_gives c.compile.result c.in_ok-provider.provider c.in_ok-provider.ensures.value) c.compile.ensures in
-    let made = c.compiled_tables_make_collators.ensures records c.in_ok-provider.provider c.args.options c.args.preferences c.try_new_unstable.result
+    let compiled = subst (λ r. IfOk r (IsCompiledOf records.lines)) (ok_gives c.compile.result c.in_ok-provider.provider c.in_ok-provider.ensures.value) c.compile.ensures.compiled in
+    let made = c.compiled_tables_make_collators.ensures records.lines c.in_ok-provider.provider c.args.options c.args.preferences c.try_new_unstable.result
     c.keep_rules.ensures.accepted compiled c.try_new_unstable.ensures in
-    let is = subst (λ r. MatchResult r (IsCollatorOf records c.args.options c.args.preferences) (λ error. error ≡ Memory))
+    let is = subst (λ r. MatchResult r (IsCollatorOf records.lines c.args.options c.args.preferences) (λ error. error ≡ Memory))
     (ok_gives c.try_new_unstable.result c.in_ok-collator.collator c.in_ok-collator.ensures.value) made in
     of_ok
     (λ answer. answer ≡ collation_order (borrowed_collation c.as_borrowed.result) (borrowed_options c.as_borrowed.result) (utf8_chars c.args.left.now) (utf8_chars c.args.right.now))
@@ -35,6 +34,6 @@ returns-clause-order c =
     c.compare.result c.ok-4.result c.ok-4.ensures.value c.compare.ensures
     (λ answer said.
     said
-    ∙ order_by_records records c.args.options c.args.preferences c.in_ok-collator.collator c.as_borrowed.result c.keep_rules.ensures.accepted is
+    ∙ order_by_records records.lines c.args.options c.args.preferences c.in_ok-collator.collator c.as_borrowed.result c.keep_rules.ensures.accepted is
     c.as_borrowed.ensures.source c.as_borrowed.ensures.options c.args.left.now c.args.right.now
-    ∙ ap (λ (lines : List Record). collation_order (collation_of lines) (resolved_options c.args.options c.args.preferences (settings_of lines)) (utf8_chars c.args.left.now) (utf8_chars c.args.right.now)) read.1)
+    ∙ ap (λ (said : FileRecords). collation_order (collation_of said.lines) (resolved_options c.args.options c.args.preferences (settings_of said.lines)) (utf8_chars c.args.left.now) (utf8_chars c.args.right.now)) read.1)

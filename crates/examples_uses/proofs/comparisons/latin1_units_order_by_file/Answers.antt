@@ -2,6 +2,7 @@ use Rattle.std.proofs.Common.{◌≡◌, ◌<◌, ◌^◌, ◌∙◌}
 use Rattle.std.proofs.lemmas.List.Elements.{All-from_get_or}
 use Rattle.icu_normalizer_core.specs.Decoding.{latin1_chars, utf16_chars}
 use Rattle.icu_collator.specs.CollatorAnswers.{order_by}
+use Rattle.collate_lines.specs.Limits.{standard}
 use Rattle.examples_uses.proofs.UseAnswerLemmas.{of_given}
 use Rattle.examples_uses.proofs.comparisons.latin1_units_order_by_file.Goals as goal
 
@@ -12,7 +13,7 @@ pub returns-clause-order : goal.returns-clause-order
 returns-clause-order c =
     of_given (λ order. order ≡ order_by c.as_borrowed.result (latin1_chars c.args.left.now) (utf16_chars c.args.right.now))
     c.compare_latin1_utf16.result c.in_ok-order.order c.in_ok-order.ensures.value c.compare_latin1_utf16.ensures
-    ∙ c.collators_answer_as_the_file_says.ensures.order c.args.file.now c.args.options c.args.preferences
+    ∙ c.collators_answer_as_the_file_says.ensures.order standard c.args.file.now c.args.options c.args.preferences
     c.in_ok-collator.collator c.as_borrowed.result (latin1_chars c.args.left.now) (utf16_chars c.args.right.now)
     c.in_ok-collator.ensures.accepted c.in_ok-collator.ensures.collator c.as_borrowed.ensures.source c.as_borrowed.ensures.options
     (c.characters_are_scalars.ensures.latin1 c.args.left.now (All-from_get_or (λ byte. byte < 2 ^ 8) c.args.left.now 0 (λ k h. (c.type_inv.left k).fits)))

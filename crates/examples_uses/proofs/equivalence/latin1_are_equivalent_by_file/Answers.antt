@@ -3,6 +3,7 @@ use Rattle.std.proofs.lemmas.List.Elements.{All-from_get_or}
 use Rattle.icu_normalizer_core.specs.Decoding.{latin1_chars}
 use Rattle.icu_normalizer.specs.Equivalence.{IsEquivalent}
 use Rattle.icu_collator_types.specs.declared.options.CollatorOptions.{CollatorOptions}
+use Rattle.collate_lines.specs.Limits.{standard}
 use Rattle.collate_file_laws.specs.Files.{file_canonical, file_options, file_order}
 use Rattle.examples_uses.proofs.UseAnswerLemmas.{tells_equal}
 use Rattle.examples_uses.proofs.equivalence.latin1_are_equivalent_by_file.Goals as goal
@@ -17,7 +18,7 @@ returns-clause-equivalent c =
     let options = c.at_identical-options.result in
     tells_equal c.in_ok-order.order (file_order c.args.file.now options c.args.preferences left right) c.is_eq.result
     (IsEquivalent (file_canonical c.args.file.now) left right) c.is_eq.ensures c.in_ok-order.ensures.order
-    (c.equal_by_a_file_is_equivalence.ensures.identical c.args.file.now options c.args.preferences left right
+    (c.equal_by_a_file_is_equivalence.ensures.identical standard c.args.file.now options c.args.preferences left right
     c.in_ok-order.ensures.accepted
     (ap (λ (o : CollatorOptions). (file_options c.args.file.now o c.args.preferences).strength) c.at_identical-options.ensures)
     (c.characters_are_scalars.ensures.latin1 c.args.left.now (All-from_get_or (λ byte. byte < 2 ^ 8) c.args.left.now 0 (λ k h. (c.type_inv.left k).fits)))

@@ -1,8 +1,7 @@
 use Rattle.std.proofs.Common.{◌≡◌, List, ap, ◌∙◌}
-use Rattle.collate_lines.specs.Lines.{records_of}
-use Rattle.collate_lines.specs.Record.{Record}
-use Rattle.collate_records.specs.Files.{IsAccepted}
-use Rattle.collate_index.specs.Catalogue.{opened}
+use Rattle.collate_lines.specs.Limits.{standard}
+use Rattle.collate_records.specs.Files.{FileRecords, IsAccepted}
+use Rattle.collate_index.specs.Catalogue.{opened, opened_by}
 use Rattle.examples_uses.proofs.UseAnswerLemmas.{of_any, of_ok}
 use Rattle.examples_uses.proofs.UseFileLemmas.{records_read}
 use Rattle.examples_uses.proofs.names.index_by_file.Goals as goal
@@ -16,8 +15,8 @@ pub returns-clause-opened : goal.returns-clause-opened
 returns-clause-opened c =
     of_ok
     (λ index. index ≡ opened c.in_ok-records.records c.args.preferences.now c.args.options.now)
-    (λ index. index ≡ opened (records_of c.args.file.now) c.args.preferences.now c.args.options.now)
+    (λ index. index ≡ opened_by standard c.args.file.now c.args.preferences.now c.args.options.now)
     c.new.result c.ok-2.result c.ok-2.ensures.value c.new.ensures
     (λ index is. is
-    ∙ ap (λ (lines : List Record). opened lines c.args.preferences.now c.args.options.now)
+    ∙ ap (λ (said : FileRecords). opened said c.args.preferences.now c.args.options.now)
     (records_read c.args.file.now c.read.result c.in_ok-records.records c.in_ok-records.ensures.value c.read.ensures).1)

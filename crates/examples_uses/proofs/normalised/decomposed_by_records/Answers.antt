@@ -13,8 +13,8 @@ use Rattle.examples_uses.proofs.normalised.decomposed_by_records.Goals as goal
 
 pub returns : goal.returns
 returns c =
-    let records = c.args.records.now in
-    let compiled = of_given (IsCompiledOf records) c.compile.result c.in_ok-provider.provider c.in_ok-provider.ensures.value c.compile.ensures in
+    let records = c.args.records.now.lines in
+    let compiled = of_given (IsCompiledOf records) c.compile.result c.in_ok-provider.provider c.in_ok-provider.ensures.value c.compile.ensures.compiled in
     let made = c.compiled_tables_make_canonical_normalizers.ensures records c.in_ok-provider.provider c.try_new_nfd_unstable.result
     c.keep_rules.ensures.accepted compiled c.try_new_nfd_unstable.ensures in
     let is = subst (λ r. MatchResult r (IsCanonicalNormalizerOf records) (λ error. error ≡ Memory))

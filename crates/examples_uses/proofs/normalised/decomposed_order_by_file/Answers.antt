@@ -3,7 +3,8 @@ use Rattle.icu_normalizer_core.specs.Decoding.{utf8_chars}
 use Rattle.icu_normalizer.specs.TextForms.{decomposed_text}
 use Rattle.icu_collator_types.specs.Options.{resolved_options}
 use Rattle.icu_collator.specs.Order.{collation_order}
-use Rattle.collate_lines.specs.Record.{Record}
+use Rattle.collate_lines.specs.Limits.{standard}
+use Rattle.collate_records.specs.Files.{FileRecords}
 use Rattle.collate_rules.specs.Meaning.{canonical_of, collation_of, settings_of}
 use Rattle.examples_uses.proofs.UseFileLemmas.{decomposed_good, good_order_alike, records_read}
 use Rattle.examples_uses.proofs.normalised.decomposed_order_by_file.Goals as goal
@@ -19,10 +20,10 @@ returns-clause-order c =
     let right = c.args.right.now in
     let read = records_read file c.read.result c.in_ok-records.records c.in_ok-records.ensures.value c.read.ensures in
     c.in_ok-order.ensures
-    ∙ ap (λ (lines : List Record). collation_order (collation_of lines) (resolved_options c.args.options c.args.preferences (settings_of lines))
-    (utf8_chars (decomposed_text (canonical_of lines) left)) (utf8_chars (decomposed_text (canonical_of lines) right))) read.1
+    ∙ ap (λ (said : FileRecords). collation_order (collation_of said.lines) (resolved_options c.args.options c.args.preferences (settings_of said.lines))
+    (utf8_chars (decomposed_text (canonical_of said.lines) left)) (utf8_chars (decomposed_text (canonical_of said.lines) right))) read.1
     ∙ good_order_alike file c.args.options c.args.preferences _ _ (utf8_chars left) (utf8_chars right)
     (decomposed_good file c.args.options c.args.preferences read.0 left c.utf8.left
-    (c.normalising_first_is_as_good.ensures.decomposed file c.args.options c.args.preferences (utf8_chars left) read.0 (c.characters_are_scalars.ensures.utf8 left)))
+    (c.normalising_first_is_as_good.ensures.decomposed standard file c.args.options c.args.preferences (utf8_chars left) read.0 (c.characters_are_scalars.ensures.utf8 left)))
     (decomposed_good file c.args.options c.args.preferences read.0 right c.utf8.right
-    (c.normalising_first_is_as_good.ensures.decomposed file c.args.options c.args.preferences (utf8_chars right) read.0 (c.characters_are_scalars.ensures.utf8 right)))
+    (c.normalising_first_is_as_good.ensures.decomposed standard file c.args.options c.args.preferences (utf8_chars right) read.0 (c.characters_are_scalars.ensures.utf8 right)))

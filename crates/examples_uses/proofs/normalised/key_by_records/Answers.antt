@@ -12,6 +12,6 @@ returns c =
     of_given (λ _. c.write_sort_key_to.new.sink.items ≡ c.new-key.result.items ++ key)
     c.write_sort_key_to.result c.in_ok-ok.field-0 c.in_ok-ok.ensures.value c.write_sort_key_to.ensures.written
     ∙ ap (λ (front : List ℕ). front ++ key) c.new-key.ensures.items
-    ∙ key_by_records c.args.records.now c.args.options c.args.preferences c.in_ok-collator.collator c.as_borrowed.result c.keep_rules.ensures.accepted
-    (of_given (IsCollatorOf c.args.records.now c.args.options c.args.preferences) c.collator_of.result c.in_ok-collator.collator c.in_ok-collator.ensures.value c.collator_of.ensures)
+    ∙ key_by_records c.args.records.now.lines c.args.options c.args.preferences c.in_ok-collator.collator c.as_borrowed.result c.keep_rules.ensures.accepted
+    (of_given (IsCollatorOf c.args.records.now.lines c.args.options c.args.preferences) c.collator_of.result c.in_ok-collator.collator c.in_ok-collator.ensures.value c.collator_of.ensures)
     c.as_borrowed.ensures.source c.as_borrowed.ensures.options c.args.text.now

@@ -9,7 +9,7 @@ use Rattle.examples_uses.proofs.normalised.order_of_decomposed.Goals as goal
 
 pub returns : goal.returns
 returns c =
-    let records = c.args.records.now in
+    let records = c.args.records.now.lines in
     of_same (λ left right order. order ≡ collation_order (collation_of records) (resolved_options c.args.options c.args.preferences (settings_of records)) (utf8_chars left) (utf8_chars right))
     c.order_by_records.result c.as_str.result.now c.as_str-2.result.now
     (decomposed_text (canonical_of records) c.args.left.now) (decomposed_text (canonical_of records) c.args.right.now)

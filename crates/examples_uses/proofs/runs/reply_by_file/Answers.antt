@@ -1,7 +1,6 @@
 use Rattle.std.proofs.Common.{List, ℕ, ap}
 use denote.Bor.{Bor}
-use Rattle.collate_lines.specs.Record.{Record}
-use Rattle.collate_records.specs.Files.{IsAccepted}
+use Rattle.collate_records.specs.Files.{FileRecords, IsAccepted}
 use Rattle.collate_index.specs.Catalogue.{opened}
 use Rattle.examples_uses.proofs.UseAnswerLemmas.{of_any}
 use Rattle.examples_uses.proofs.UseFileLemmas.{records_read}
@@ -16,6 +15,6 @@ returns-clause-accepted g c =
 pub returns-clause-replies : goal.returns-clause-replies
 returns-clause-replies g c =
     replied _ _ c.run.result c.ok-2.result _ _ _ _ _
-    (ap (λ (lines : List Record). opened lines c.args.preferences.now c.args.options.now)
+    (ap (λ (said : FileRecords). opened said c.args.preferences.now c.args.options.now)
     (records_read c.args.file.now c.read.result c.in_ok-records.records c.in_ok-records.ensures.value c.read.ensures).1)
     c.ok-2.ensures.value (ap (λ (r : Bor (List ℕ)). r.now) c.new-reader.ensures.inner) c.run.ensures.ran

@@ -1,7 +1,8 @@
 //! The word of each character.
 
-ghost use Rattle.std.specs.Prelude.{◌≡◌, ◌↔◌, ◌*◌, ◌+◌, ◌/◌, ◌<◌, ◌^◌, false, IsTrue, length, All};
-ghost use Rattle.icu_normalizer_core.specs.BuiltIn.{is_syllable};
+ghost use Rattle.std.specs.Prelude.{◌≡◌, ◌↔◌, ◌*◌, ◌+◌, ◌/◌, ◌<◌, ◌^◌, ℕ, List, [], false, IsTrue, length, All};
+ghost use Rattle.std.specs.Option.{unwrap_or};
+ghost use Rattle.icu_normalizer_core.specs.BuiltIn.{built_in_class, is_syllable};
 ghost use Rattle.icu_normalizer_core.specs.CanonicalLists.{AreTriples};
 ghost use Rattle.icu_normalizer_core.specs.CanonicalMaps.{given_class};
 ghost use Rattle.icu_normalizer_core.specs.CharacterWords.{class_with, AreListWords, AreStarters, IsWordOf};
@@ -58,6 +59,25 @@ pub(super) fn are_starters(classes: &[GivenClass], steps: &PackedVec<'_, u32>) -
     true
 }
 
+/// The word of a character of a class that no list stands for: its mapping is built in, or it has none.
+pub(super) fn unlisted_word(c: u32, class: u8) -> u32
+    requires bound { class < 255 }
+    requires class { unwrap_or (built_in_class c) class ≡ class }
+    ensures says { (scalars24 : List ℕ) → IsWordOf class [] scalars24 c result }
+    ensures syllable { result ≡ 0 → is_syllable c ≡ false }
+{
+    let class = class as u32;
+    if is_syllable(c) {
+        1
+    } else if is_singled_out(c) {
+        0xd900 + class
+    } else if class == 0 {
+        0
+    } else {
+        0xd800 + class
+    }
+}
+
 /// The word of a character.
 pub(super) fn word_of(
     classes: &[GivenClass],
@@ -72,16 +92,8 @@ pub(super) fn word_of(
     ensures says { IsWordOf (class_with classes.now c) steps.now lists.now.scalars24.items c result }
     ensures syllable { result ≡ 0 → is_syllable c ≡ false }
 {
-    let class = class_with(classes, c) as u32;
-    if is_syllable(c) {
-        1
-    } else if is_singled_out(c) {
-        0xd900 + class
-    } else if let Some(place) = triple_of(steps, c) {
-        lists.words[place]
-    } else if class == 0 {
-        0
-    } else {
-        0xd800 + class
+    match triple_of(steps, c) {
+        Some(place) => lists.words[place],
+        None => unlisted_word(c, class_with(classes, c)),
     }
 }

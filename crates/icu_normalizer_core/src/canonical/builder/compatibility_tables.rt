@@ -1,6 +1,6 @@
 //! The compatibility tables of what is given, over canonical tables.
 
-ghost use Rattle.std.specs.Prelude.{◌≡◌, ◌≤◌, ◌⊎◌, [], length, nat_eq, IfOk, IfErr, OnOk, All};
+ghost use Rattle.std.specs.Prelude.{◌≡◌, ◌≤◌, ◌⊎◌, [], nat_eq, IfOk, IfErr, OnOk, All};
 ghost use Rattle.std.specs.Char.{IsScalar};
 ghost use Rattle.std.specs.Set.{distinct_count};
 ghost use Rattle.icu_codepointtrie.specs.Blocks.{different_blocks};
@@ -10,11 +10,12 @@ ghost use Rattle.icu_normalizer_core.specs.BuiltMaps.{HasPlainWords};
 ghost use Rattle.icu_normalizer_core.specs.CanonicalFaults.{IsAccepted};
 ghost use Rattle.icu_normalizer_core.specs.CanonicalMaps.{AreMeaning};
 ghost use Rattle.icu_normalizer_core.specs.CanonicalMeaning.{lists_of, meaning};
-ghost use Rattle.icu_normalizer_core.specs.CompatibilityMaps.{AreAcceptedOver, AreApart, AreMeaningOf, HaveOneCompatibility, KeepAllRules, all_named};
+ghost use Rattle.icu_normalizer_core.specs.CompatibilityMaps.{AreAcceptedOver, AreApart, AreMeaningOf, HaveOneCompatibility, KeepAllRulesWithin, all_named};
 ghost use Rattle.icu_normalizer_core.specs.CompatibilityMeaning.{nfkd_lists};
 ghost use Rattle.icu_normalizer_core.specs.GivenCompatibilities.{IsOfCharacters};
 ghost use Rattle.icu_normalizer_core.specs.GivenMaps.{IsOfScalars};
-ghost use Rattle.icu_normalizer_core.specs.SettledMappings.{AreFullWords, AreOthersUnnamed, HasBadLeft, IsSound, steps_in};
+ghost use Rattle.icu_normalizer_core.specs.Named.{block_count};
+ghost use Rattle.icu_normalizer_core.specs.SettledMappings.{AreFullWords, AreOthersUnnamed, IsSound, LacksWords, steps_in};
 
 use super::compatibility_words::CompatibilityWords;
 use super::mappings::{Mappings, are_on_starters};
@@ -46,7 +47,8 @@ fn packed(alloc: Global, made: &CompatibilityWords) -> Result<NfkdTables<'static
     })
 }
 
-/// The tables of the words of characters. `Rules` where steps from one don't end or leave more than eight characters.
+/// The tables of the words of characters. `Rules` where steps from one don't end or leave more than eight characters, or
+/// what they leave takes more places than words name.
 fn word_tables(
     alloc: Global,
     over: Mappings<'_>,
@@ -54,11 +56,12 @@ fn word_tables(
 ) -> Result<NfkdTables<'static>, CanonicalDataBuildError>
     requires sound { IsSound over }
     requires scalars { All IsScalar named.now }
-    requires few { length named.now ≤ 169 }
+    requires wide { block_count 512 named.now ≤ 719 }
+    requires narrow { block_count 16 named.now ≤ 11019 }
     requires others { AreOthersUnnamed (steps_in over) (meaning over.tables.now).class named.now }
     ensures built { IfOk result (λ made. AreFullWords (steps_in over.entry) (meaning over.entry.tables.now).class (nfkd_lists made)) }
     ensures plain { IfOk result (λ made. HasPlainWords made.trie) }
-    ensures refused { IfErr result (λ e. (e ≡ Memory) ⊎ ((e ≡ Rules) × HasBadLeft (steps_in over.entry))) }
+    ensures refused { IfErr result (λ e. (e ≡ Memory) ⊎ ((e ≡ Rules) × LacksWords (steps_in over.entry) named.entry.now)) }
 {
     let settled = over.settle(alloc)?;
     let made = match over.full_words(alloc, settled.as_slice(), named) {
@@ -73,6 +76,7 @@ fn word_tables(
 /// where the maps break the rules.
 pub(super) fn compatibility_tables(
     alloc: Global,
+    limit: usize,
     classes: &[GivenClass],
     mappings: &[GivenMapping],
     given: &[GivenCompatibility],
@@ -86,12 +90,12 @@ pub(super) fn compatibility_tables(
     ensures means { IfOk result (λ made. AreMeaningOf (record { canonical = record { classes = classes.now; mappings = mappings.now }; compatibilities = given.now }) (nfkd_lists made)) }
     ensures accepted { IfOk result (λ made. AreAcceptedOver (record { classes = classes.now; mappings = mappings.now }) (nfkd_lists made)) }
     ensures plain { IfOk result (λ made. HasPlainWords made.trie) }
-    ensures few { OnOk result (distinct_count nat_eq (all_named (record { canonical = record { classes = classes.now; mappings = mappings.now }; compatibilities = given.now })) ≤ 150) }
+    ensures few { OnOk result (distinct_count nat_eq (all_named (record { canonical = record { classes = classes.now; mappings = mappings.now }; compatibilities = given.now })) ≤ limit) }
     ensures one_mapping { OnOk result (HaveOneCompatibility given.now) }
     ensures apart { OnOk result (AreApart (record { canonical = record { classes = classes.now; mappings = mappings.now }; compatibilities = given.now })) }
-    ensures refused { IfErr result (λ e. (e ≡ Memory) ⊎ ((e ≡ Rules) × (KeepAllRules (record { canonical = record { classes = classes.now; mappings = mappings.now }; compatibilities = given.now }) → ⊥))) }
+    ensures refused { IfErr result (λ e. (e ≡ Memory) ⊎ ((e ≡ Rules) × (KeepAllRulesWithin limit (record { canonical = record { classes = classes.now; mappings = mappings.now }; compatibilities = given.now }) → ⊥))) }
 {
-    let characters = match all_characters_of(alloc, classes, mappings, given) {
+    let characters = match all_characters_of(alloc, limit, classes, mappings, given) {
         Ok(characters) => characters,
         Err(error) => return Err(error),
     };

@@ -1,16 +1,20 @@
 //! The words of full lists, and the characters of lists that stand apart from their words.
 
-ghost use Rattle.std.specs.Prelude.{◌≡◌, ◌++◌, ◌+◌, ℕ, ◌^◌, ◌-◌, ◌<◌, ◌≤◌, List, length, OnOk, IfOk, IfSome, All};
+ghost use Rattle.std.specs.Prelude.{◌≡◌, ◌++◌, ◌+◌, ℕ, ◌^◌, ◌-◌, ◌<◌, ◌≤◌, List, length, false, MatchOption, OnOk, IfOk, All};
 ghost use Rattle.std.specs.Char.{IsScalar};
-ghost use Rattle.icu_normalizer_core.specs.ListWords.{StatesList, KeepsStating};
+ghost use Rattle.icu_normalizer_core.specs.ListRoom.{is_stated};
+ghost use Rattle.icu_normalizer_core.specs.ListWords.{KeepsStating, StatesList, places_of};
 
 use std::alloc::AllocError;
+
+/// A word names a place below this.
+pub(super) const PLACE_LIMIT: usize = 0x3fff;
 
 /// The word of a list that it states by itself, of one character or of two; `None` where the characters have to stand
 /// apart.
 fn stated_word(list: &[u32]) -> Option<u32>
     requires { All IsScalar list.now }
-    ensures { IfSome result (λ word. (scalars16 scalars24 : List ℕ) → StatesList scalars16 scalars24 word list.now) }
+    ensures { MatchOption result (is_stated list.now ≡ false) (λ word. (scalars16 scalars24 : List ℕ) → StatesList scalars16 scalars24 word list.now) }
 {
     match list {
         [a] if 2 <= *a && *a < 0x1_0000 => Some(*a),
@@ -56,7 +60,7 @@ pub(super) fn list_word(
     requires some { 0 < length list.now }
     requires few { length list.now ≤ 8 }
     requires room { base + length scalars24.old.items < 2 ^ 14 - 1 }
-    ensures grows { OnOk result ((more : List ℕ) × (scalars24.new.items ≡ scalars24.old.items ++ more) × (length more ≤ 8)) }
+    ensures grows { OnOk result ((more : List ℕ) × (scalars24.new.items ≡ scalars24.old.items ++ more) × (length more ≤ places_of list.now)) }
     ensures states { IfOk result (λ word. (scalars16 : List ℕ) → length scalars16 ≡ base → KeepsStating scalars16 scalars24.new.items word list.now) }
 {
     if let Some(word) = stated_word(list) {

@@ -1,10 +1,10 @@
 //! The full lists of mapped characters, as words.
 
-ghost use Rattle.std.specs.Prelude.{◌≡◌, ◌/◌, ◌<◌, ◌≤◌, ◌⊎◌, ℕ, length, IfOk, IfErr};
+ghost use Rattle.std.specs.Prelude.{◌≡◌, ◌/◌, ◌<◌, ◌⊎◌, ℕ, length, IfOk, IfErr};
 ghost use Rattle.icu_normalizer_core.specs.declared.canonical.builder.CanonicalDataBuildError.TheVariants.{Rules, Memory};
 ghost use Rattle.icu_normalizer_core.specs.Canonical.{IsFree};
 ghost use Rattle.icu_normalizer_core.specs.CanonicalLists.{AreTriples};
-ghost use Rattle.icu_normalizer_core.specs.CharacterWords.{AreListWords, HasBadEnd};
+ghost use Rattle.icu_normalizer_core.specs.CharacterWords.{AreListWords, HasBadEnd, HasLongLists};
 ghost use Rattle.icu_normalizer_core.specs.Settled.{key_at};
 
 use super::CanonicalDataBuildError;
@@ -14,16 +14,15 @@ use icu_packed_vector::PackedVec;
 use std::alloc::Global;
 
 /// The words of what mapping steps leave of mapped characters. `Rules` where steps don't end or leave more than eight
-/// characters.
+/// characters, or the lists take more places than words name.
 pub(super) fn full_lists(
     alloc: Global,
     steps: &PackedVec<'_, u32>,
 ) -> Result<ListWords, CanonicalDataBuildError>
     requires triples { AreTriples steps.now }
     requires free { (place : ℕ) → place < length steps.now / 3 → IsFree (key_at steps.now place) }
-    requires few { length steps.now ≤ 450 }
     ensures words { IfOk result (AreListWords steps.now) }
-    ensures refused { IfErr result (λ e. (e ≡ Memory) ⊎ ((e ≡ Rules) × HasBadEnd steps.now)) }
+    ensures refused { IfErr result (λ e. (e ≡ Memory) ⊎ ((e ≡ Rules) × (HasBadEnd steps.now ⊎ HasLongLists steps.now))) }
 {
     let settled = settle(alloc, steps)?;
     match list_words(alloc, settled.as_slice()) {

@@ -1,11 +1,11 @@
 //! The words of the full lists of mapped characters.
 
-ghost use Rattle.std.specs.Prelude.{◌≡◌, ◌≤◌, ◌⊎◌, length, IfOk, IfErr};
+ghost use Rattle.std.specs.Prelude.{◌≡◌, ◌⊎◌, length, IfOk, IfErr};
 ghost use Rattle.icu_normalizer_core.specs.declared.canonical.builder.CanonicalDataBuildError.TheVariants.{Rules, Memory};
-ghost use Rattle.icu_normalizer_core.specs.ListWords.{StateSettled, AreLists, HasUnsettled};
+ghost use Rattle.icu_normalizer_core.specs.ListWords.{AreLists, HasUnstated, StateSettled};
 
 use super::CanonicalDataBuildError;
-use super::full_list_words::list_word;
+use super::full_list_words::{PLACE_LIMIT, list_word};
 use crate::canonical::check::left::Left;
 use std::alloc::Global;
 
@@ -16,15 +16,15 @@ pub(super) struct ListWords {
     pub(super) words: Vec<u32>,
 }
 
-/// The words of the lists that are settled. `Rules` where one isn't settled or has over eight characters.
+/// The words of the lists that are settled. `Rules` where one isn't settled or has over eight characters, or they take
+/// more places than words name.
 pub(super) fn list_words(
     alloc: Global,
     settled: &[Option<Left>],
 ) -> Result<ListWords, CanonicalDataBuildError>
-    requires lists { AreLists settled.now }
-    requires few { length settled.now ≤ 150 }
+    requires { AreLists settled.now }
     ensures states { IfOk result (λ lists. StateSettled lists.scalars24.items settled.now lists.words.items (length settled.now)) }
-    ensures refused { IfErr result (λ e. (e ≡ Memory) ⊎ ((e ≡ Rules) × HasUnsettled settled.now)) }
+    ensures refused { IfErr result (λ e. (e ≡ Memory) ⊎ ((e ≡ Rules) × HasUnstated settled.now)) }
 {
     let mut scalars24 = Vec::new(alloc);
     let mut words = Vec::new(alloc);
@@ -34,6 +34,9 @@ pub(super) fn list_words(
         };
         let list = &left.characters[..left.count];
         if list.len() > 8 {
+            return Err(CanonicalDataBuildError::Rules);
+        }
+        if scalars24.len() >= PLACE_LIMIT {
             return Err(CanonicalDataBuildError::Rules);
         }
         let word = list_word(&mut scalars24, 0, list)?;

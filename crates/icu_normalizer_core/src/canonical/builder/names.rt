@@ -1,17 +1,20 @@
 //! The characters that are named by what is given.
 
-ghost use Rattle.std.specs.Prelude.{◌≡◌, ◌++◌, ◌∷◌, ◌<◌, ◌≤◌, ◌⊎◌, [], map, flat_map, length, nat_eq, IfOk, IfErr, OnOk, All};
+ghost use Rattle.std.specs.Prelude.{◌≡◌, ◌↔◌, ◌++◌, ◌∷◌, ◌/◌, ◌<◌, ◌≤◌, ◌⊎◌, [], map, flat_map, length, nat_eq, IfOk, IfErr, IsTrue, OnOk, All};
+ghost use Rattle.std.specs.BTreeSet.{IsFromIterResult};
 ghost use Rattle.std.specs.Char.{IsScalar};
+ghost use Rattle.std.specs.Ordering.{nat_cmp};
 ghost use Rattle.std.specs.Set.{distinct_count};
 ghost use Rattle.icu_normalizer_core.specs.declared.canonical.builder.CanonicalDataBuildError.TheVariants.{Rules, Memory};
 ghost use Rattle.icu_normalizer_core.specs.CanonicalMaps.{mapping_given, named};
 ghost use Rattle.icu_normalizer_core.specs.CharacterWords.{HasNamed, built_in_named};
 ghost use Rattle.icu_normalizer_core.specs.CompatibilityMaps.{all_named};
-ghost use Rattle.icu_normalizer_core.specs.Named.{AreDistinctOf, with_new};
-ghost use Rattle.icu_normalizer_core.specs.SettledMappings.{HasAllNamed};
+ghost use Rattle.icu_normalizer_core.specs.Named.{AreDistinctOf, AreInFewBlocks, AreMany, block_count, with_new};
+ghost use Rattle.icu_normalizer_core.specs.SettledMappings.{HasAllNamed, IsBehindBuiltIn};
 
 use super::{CanonicalDataBuildError, GivenClass, GivenCompatibility, GivenMapping};
 use std::alloc::{AllocError, Global};
+use std::collections::BTreeSet;
 
 /// The characters with a built-in class other than 0, and those with a built-in mapping but Hangul.
 const BUILT_IN_NAMED: [char; 17] = [
@@ -23,8 +26,11 @@ const BUILT_IN_NAMED: [char; 17] = [
 /// The characters with a built-in compatibility mapping.
 const BUILT_IN_COMPATIBLE: [char; 2] = ['\u{ff9e}', '\u{ff9f}'];
 
-/// At most so many characters are named by what is given.
-const LIMIT: usize = 150;
+/// In at most so many aligned blocks of 512 and of 16 are characters that what is given names: tries have room for 800
+/// and 12,000 different ones.
+const WIDE_LIMIT: usize = 700;
+
+const NARROW_LIMIT: usize = 11_000;
 
 /// Adds the characters that classes name. The only error is want of memory.
 fn add_classed(list: &mut Vec<char>, classes: &[GivenClass]) -> Result<(), AllocError>
@@ -110,19 +116,88 @@ fn add_new(list: &mut Vec<char>, c: char) -> Result<(), AllocError>
     Ok(())
 }
 
-/// The characters of a list, each once. `Rules` where there are more than 150.
-fn distinct(alloc: Global, all: &[char]) -> Result<Vec<char>, CanonicalDataBuildError>
+/// The characters of a list, each once. `Rules` where there are more than the limit.
+fn distinct(alloc: Global, limit: usize, all: &[char]) -> Result<Vec<char>, CanonicalDataBuildError>
     ensures distinct { IfOk result (λ list. AreDistinctOf all.now list.items) }
     ensures scalars { IfOk result (λ list. All IsScalar list.items) }
-    ensures few { IfOk result (λ list. length list.items ≤ 150) }
-    ensures refused { IfErr result (λ e. (e ≡ Memory) ⊎ ((e ≡ Rules) × (150 < distinct_count nat_eq all.now))) }
+    ensures few { IfOk result (λ list. length list.items ≤ limit) }
+    ensures refused { IfErr result (λ e. (e ≡ Memory) ⊎ ((e ≡ Rules) × (limit < distinct_count nat_eq all.now))) }
 {
     let mut list = Vec::new(alloc);
     for c in all {
         add_new(&mut list, *c)?;
-        if list.len() > LIMIT {
+        if list.len() > limit {
             return Err(CanonicalDataBuildError::Rules);
         }
+    }
+    Ok(list)
+}
+
+/// The number of the aligned block of a width in which each character stands. The only error is want of memory.
+fn block_numbers(alloc: Global, characters: &[char], width: u32) -> Result<Vec<u32>, AllocError>
+    requires { 0 < width }
+    ensures { IfOk result (λ numbers. numbers.items ≡ map (λ c. c / width) characters.now) }
+{
+    let mut numbers = Vec::new(alloc);
+    for c in characters {
+        numbers.push(*c as u32 / width)?;
+    }
+    Ok(numbers)
+}
+
+/// The different numbers. The only error is want of memory.
+fn different(alloc: Global, numbers: &[u32]) -> Result<BTreeSet<u32>, AllocError>
+    ensures { IfOk result (IsFromIterResult nat_cmp numbers.now) }
+{
+    numbers.iter().copied().collect(alloc)
+}
+
+/// How many different numbers there are. The only error is want of memory.
+fn different_count(alloc: Global, numbers: &[u32]) -> Result<usize, AllocError>
+    ensures { IfOk result (λ count. count ≡ distinct_count nat_eq numbers.now) }
+{
+    let different = different(alloc, numbers)?;
+    Ok(different.len())
+}
+
+/// In how many aligned blocks of a width characters stand. The only error is want of memory.
+fn block_count(alloc: Global, characters: &[char], width: u32) -> Result<usize, AllocError>
+    requires { 0 < width }
+    ensures { IfOk result (λ count. count ≡ block_count width characters.now) }
+{
+    let numbers = block_numbers(alloc, characters, width)?;
+    let count = different_count(alloc, numbers.as_slice())?;
+    Ok(count)
+}
+
+/// Whether characters stand in no more blocks than tries have room for. The only error is want of memory.
+fn are_in_few_blocks(alloc: Global, characters: &[char]) -> Result<bool, AllocError>
+    ensures { IfOk result (λ few. IsTrue few ↔ AreInFewBlocks characters.now) }
+{
+    let wide = block_count(alloc, characters, 512)?;
+    let narrow = block_count(alloc, characters, 16)?;
+    Ok(wide <= WIDE_LIMIT && narrow <= NARROW_LIMIT)
+}
+
+/// The characters of a list, each once. `Rules` where there are more than the limit, or they stand in more blocks than
+/// tries have room for.
+fn distinct_few(
+    alloc: Global,
+    limit: usize,
+    all: &[char],
+) -> Result<Vec<char>, CanonicalDataBuildError>
+    ensures distinct { IfOk result (λ list. AreDistinctOf all.now list.items) }
+    ensures scalars { IfOk result (λ list. All IsScalar list.items) }
+    ensures few { IfOk result (λ list. length list.items ≤ limit) }
+    ensures blocks { IfOk result (λ list. AreInFewBlocks list.items) }
+    ensures refused { IfErr result (λ e. (e ≡ Memory) ⊎ ((e ≡ Rules) × AreMany limit all.now)) }
+{
+    let list = match distinct(alloc, limit, all) {
+        Ok(list) => list,
+        Err(error) => return Err(error),
+    };
+    if !are_in_few_blocks(alloc, list.as_slice())? {
+        return Err(CanonicalDataBuildError::Rules);
     }
     Ok(list)
 }
@@ -146,20 +221,22 @@ fn with_compatible(alloc: Global, others: &[char]) -> Result<Vec<char>, AllocErr
 }
 
 /// The characters with a word of their own: those that are named by what is built in, but syllables, and those that are
-/// given, each once. `Rules` where over 150 are given.
+/// given, each once. `Rules` where more than the limit are given, or in more blocks than tries have room for.
 pub(super) fn characters_of(
     alloc: Global,
+    limit: usize,
     classes: &[GivenClass],
     mappings: &[GivenMapping],
 ) -> Result<Vec<char>, CanonicalDataBuildError>
     ensures named { IfOk result (λ list. HasNamed classes.now mappings.now list.items) }
     ensures scalars { IfOk result (λ list. All IsScalar list.items) }
-    ensures few { IfOk result (λ list. length list.items ≤ 167) }
-    ensures within { OnOk result (distinct_count nat_eq (named (record { classes = classes.now; mappings = mappings.now })) ≤ 150) }
-    ensures refused { IfErr result (λ e. (e ≡ Memory) ⊎ ((e ≡ Rules) × (150 < distinct_count nat_eq (named (record { classes = classes.now; mappings = mappings.now }))))) }
+    ensures wide { IfOk result (λ list. block_count 512 list.items ≤ 717) }
+    ensures narrow { IfOk result (λ list. block_count 16 list.items ≤ 11017) }
+    ensures within { OnOk result (distinct_count nat_eq (named (record { classes = classes.now; mappings = mappings.now })) ≤ limit) }
+    ensures refused { IfErr result (λ e. (e ≡ Memory) ⊎ ((e ≡ Rules) × AreMany limit (named (record { classes = classes.now; mappings = mappings.now })))) }
 {
     let all = named(alloc, classes, mappings)?;
-    let given = match distinct(alloc, all.as_slice()) {
+    let given = match distinct_few(alloc, limit, all.as_slice()) {
         Ok(given) => given,
         Err(error) => return Err(error),
     };
@@ -168,21 +245,24 @@ pub(super) fn characters_of(
 }
 
 /// The characters with a compatibility word of their own: those, and those that compatibility mappings name or that have
-/// a built-in one. `Rules` where over 150 are given.
+/// a built-in one. `Rules` where more than the limit are given, or in more blocks than tries have room for.
 pub(super) fn all_characters_of(
     alloc: Global,
+    limit: usize,
     classes: &[GivenClass],
     mappings: &[GivenMapping],
     given: &[GivenCompatibility],
 ) -> Result<Vec<char>, CanonicalDataBuildError>
     ensures named { IfOk result (λ list. HasAllNamed classes.now mappings.now given.now list.items) }
     ensures scalars { IfOk result (λ list. All IsScalar list.items) }
-    ensures few { IfOk result (λ list. length list.items ≤ 169) }
-    ensures within { OnOk result (distinct_count nat_eq (all_named (record { canonical = record { classes = classes.now; mappings = mappings.now }; compatibilities = given.now })) ≤ 150) }
-    ensures refused { IfErr result (λ e. (e ≡ Memory) ⊎ ((e ≡ Rules) × (150 < distinct_count nat_eq (all_named (record { canonical = record { classes = classes.now; mappings = mappings.now }; compatibilities = given.now }))))) }
+    ensures listed { IfOk result (λ list. IsBehindBuiltIn list.items) }
+    ensures wide { IfOk result (λ list. block_count 512 list.items ≤ 719) }
+    ensures narrow { IfOk result (λ list. block_count 16 list.items ≤ 11019) }
+    ensures within { OnOk result (distinct_count nat_eq (all_named (record { canonical = record { classes = classes.now; mappings = mappings.now }; compatibilities = given.now })) ≤ limit) }
+    ensures refused { IfErr result (λ e. (e ≡ Memory) ⊎ ((e ≡ Rules) × AreMany limit (all_named (record { canonical = record { classes = classes.now; mappings = mappings.now }; compatibilities = given.now })))) }
 {
     let all = all_named(alloc, classes, mappings, given)?;
-    let named = match distinct(alloc, all.as_slice()) {
+    let named = match distinct_few(alloc, limit, all.as_slice()) {
         Ok(named) => named,
         Err(error) => return Err(error),
     };

@@ -13,7 +13,7 @@ use crate::canonical::steps::NO_SECOND;
 use std::alloc::{AllocError, Global};
 
 /// Whether a mapping of the character, or that it has none, is built in.
-fn is_fixed(c: char) -> bool
+pub(super) fn is_fixed(c: char) -> bool
     ensures { result ≡ is_some (built_in_step c) }
 {
     built_in_step(c as u32).is_some()

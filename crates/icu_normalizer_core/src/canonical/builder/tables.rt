@@ -1,14 +1,15 @@
 //! The tables of what is given.
 
-ghost use Rattle.std.specs.Prelude.{◌≡◌, ◌≤◌, ◌<◌, ◌⊎◌, map, length, nat_eq, IfOk, IfErr, OnOk, All};
+ghost use Rattle.std.specs.Prelude.{◌≡◌, ◌≤◌, ◌<◌, ◌⊎◌, nat_eq, IfOk, IfErr, OnOk, All};
 ghost use Rattle.std.specs.Char.{IsScalar};
 ghost use Rattle.std.specs.Set.{distinct_count};
 ghost use Rattle.icu_normalizer_core.specs.declared.canonical.builder.CanonicalDataBuildError.TheVariants.{Rules, Memory};
 ghost use Rattle.icu_normalizer_core.specs.BuiltMaps.{AreBuiltOf, AreStepsOf, ArePairsOf, HasPlainWords, IsWordTrieOf};
-ghost use Rattle.icu_normalizer_core.specs.CanonicalMaps.{HaveOneMapping, KeepRules, named};
+ghost use Rattle.icu_normalizer_core.specs.CanonicalMaps.{HaveOneMapping, KeepRulesWithin, named};
 ghost use Rattle.icu_normalizer_core.specs.CanonicalMeaning.{lists_of};
 ghost use Rattle.icu_normalizer_core.specs.CharacterWords.{AreListWords, AreStarters, HasNamed, class_with};
 ghost use Rattle.icu_normalizer_core.specs.GivenMaps.{IsOfScalars};
+ghost use Rattle.icu_normalizer_core.specs.Named.{block_count};
 
 use super::built_words::{are_classes, are_starters};
 use super::full_lists::full_lists;
@@ -29,8 +30,7 @@ fn packed_steps(
     alloc: Global,
     mappings: &[GivenMapping],
 ) -> Result<PackedVec<'static, u32>, AllocError>
-    requires scalars { All IsOfScalars mappings.now }
-    requires few { distinct_count nat_eq (map (λ g. g.character) mappings.now) ≤ 150 }
+    requires { All IsOfScalars mappings.now }
     ensures { IfOk result (AreStepsOf mappings.now) }
 {
     let triples = steps(alloc, mappings)?;
@@ -62,7 +62,8 @@ fn word_trie(
 ) -> Result<CodePointTrie<'static, u32>, AllocError>
     requires scalars { All IsScalar characters.now }
     requires named { HasNamed classes.now mappings.now characters.now }
-    requires few { length characters.now ≤ 167 }
+    requires wide { block_count 512 characters.now ≤ 717 }
+    requires narrow { block_count 16 characters.now ≤ 11017 }
     requires bound { All (λ c. class_with classes.now c < 255) characters.now }
     requires steps { AreStepsOf mappings.now steps.now }
     requires starters { AreStarters classes.now steps.now }
@@ -88,7 +89,8 @@ fn packed_tables(
     requires mappings { All IsOfScalars mappings.now }
     requires scalars { All IsScalar characters.now }
     requires named { HasNamed classes.now mappings.now characters.now }
-    requires few { length characters.now ≤ 167 }
+    requires wide { block_count 512 characters.now ≤ 717 }
+    requires narrow { block_count 16 characters.now ≤ 11017 }
     requires bound { All (λ c. class_with classes.now c < 255) characters.now }
     requires steps { AreStepsOf mappings.now steps }
     requires starters { AreStarters classes.now steps }
@@ -113,6 +115,7 @@ fn packed_tables(
 /// The tables of classes and mappings, not yet checked. `Rules` only where they break the rules.
 pub(super) fn tables(
     alloc: Global,
+    limit: usize,
     classes: &[GivenClass],
     mappings: &[GivenMapping],
 ) -> Result<CanonicalTables<'static>, CanonicalDataBuildError>
@@ -120,11 +123,11 @@ pub(super) fn tables(
     ensures built { IfOk result (λ tables. AreBuiltOf (record { classes = classes.now; mappings = mappings.now }) (lists_of tables)) }
     ensures plain { IfOk result (λ tables. HasPlainWords tables.trie) }
     ensures steps { IfOk result (λ tables. AreStepsOf mappings.now tables.steps) }
-    ensures few { OnOk result (distinct_count nat_eq (named (record { classes = classes.now; mappings = mappings.now })) ≤ 150) }
+    ensures few { OnOk result (distinct_count nat_eq (named (record { classes = classes.now; mappings = mappings.now })) ≤ limit) }
     ensures one_mapping { OnOk result (HaveOneMapping mappings.now) }
-    ensures refused { IfErr result (λ e. (e ≡ Memory) ⊎ ((e ≡ Rules) × (KeepRules (record { classes = classes.now; mappings = mappings.now }) → ⊥))) }
+    ensures refused { IfErr result (λ e. (e ≡ Memory) ⊎ ((e ≡ Rules) × (KeepRulesWithin limit (record { classes = classes.now; mappings = mappings.now }) → ⊥))) }
 {
-    let characters = match characters_of(alloc, classes, mappings) {
+    let characters = match characters_of(alloc, limit, classes, mappings) {
         Ok(characters) => characters,
         Err(error) => return Err(error),
     };

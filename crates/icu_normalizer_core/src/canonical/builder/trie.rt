@@ -1,6 +1,6 @@
 //! The trie of the words of characters.
 
-ghost use Rattle.std.specs.Prelude.{◌≡◌, ◌+◌, ◌≤◌, ◌<◌, ◌==◌, ℕ, IfOk, All};
+ghost use Rattle.std.specs.Prelude.{◌≡◌, ◌≤◌, ◌<◌, ◌==◌, IfOk, All};
 ghost use Rattle.std.specs.Char.{IsScalar};
 ghost use Rattle.icu_codepointtrie.specs.Blocks.{different_blocks};
 ghost use Rattle.icu_codepointtrie.specs.BuiltTries.{IsTrieOf};
@@ -18,8 +18,7 @@ use std::alloc::{AllocError, Global};
 /// Sets the word of a character, unless it is 0.
 pub(super) fn set_word(words: &mut CodePointTrieBuilder<u32>, c: u32, word: u32)
     requires { c ≤ 0x10_FFFF }
-    ensures written { IsWritten (λ n. n) words.old (λ x. x == c) word words.new }
-    ensures blocks { (width : ℕ) → different_blocks (λ n. n) width words.new.values ≤ different_blocks (λ n. n) width words.old.values + 1 }
+    ensures { IsWritten (λ n. n) words.old (λ x. x == c) word words.new }
 {
     words.set_value(c, word).unwrap();
 }

@@ -1,32 +1,5 @@
-use Rattle.std.proofs.Common.{◌≡◌, ℕ, ◌<◌, ◌≤◌, ◌^◌, length, true, false, arith, sym, ◌∙◌, subst}
-use Rattle.collate_names.specs.Search.{IsPlaceOf}
-use Rattle.collate_names.proofs.NameSearchLemmas.{ends_ordered, equal_part}
-use Rattle.collate_name_list.specs.StoredNames.{sorted}
-use Rattle.collate_index.specs.Catalogue.{order_of, sorted_names}
-use Rattle.collate_index.proofs.search.IndexLemmas.{length_listed, placed}
+use Rattle.collate_index.proofs.search.IndexLemmas.{key_stored}
 use Rattle.collate_index.proofs.index.Index.find.Goals as goal
 
-pub returns-clause-bound : goal.returns-clause-bound
-returns-clause-bound c = (
-  c.range_between-names.ensures.range,
-  omega (arith, c.range_between-names.ensures.bound, c.place-end.ensures.bound, length_listed c.self.inside c.self.invariant c.args.self.now c.self.view_is),
-)
-
-pub returns-clause-names : goal.returns-clause-names
-returns-clause-names c =
-    let many : length (sorted c.self.inside.names) ≡ length (sorted_names c.args.self.now) = length_listed c.self.inside c.self.invariant c.args.self.now c.self.view_is in
-    let first : IsPlaceOf (λ other. order_of c.args.self.now other c.args.name.now) false (sorted_names c.args.self.now) c.place-start.result =
-    placed c.self.inside c.self.invariant c.args.self.now c.self.view_is c.args.name.now c.in_ok-key.key c.in_ok-key.ensures false c.place-start.result c.place-start.ensures.bound c.place-start.ensures.place in
-    let past : IsPlaceOf (λ other. order_of c.args.self.now other c.args.name.now) true (sorted_names c.args.self.now) c.place-end.result =
-    placed c.self.inside c.self.invariant c.args.self.now c.self.view_is c.args.name.now c.in_ok-key.key c.in_ok-key.ensures true c.place-end.result c.place-end.ensures.bound c.place-end.ensures.place in
-    let ordered : c.place-start.result ≤ c.place-end.result =
-    ends_ordered (λ other. order_of c.args.self.now other c.args.name.now) (sorted_names c.args.self.now) c.place-start.result c.place-end.result (omega (arith, c.place-start.ensures.bound, many)) first past in
-    c.range_between-names.ensures.same (sorted_names c.args.self.now) ordered
-    ∙ equal_part (λ other. order_of c.args.self.now other c.args.name.now) (sorted_names c.args.self.now) c.place-start.result c.place-end.result ordered
-    (omega (arith, c.place-end.ensures.bound, many)) first past
-
-pub returns-clause-few : goal.returns-clause-few
-returns-clause-few c digits h =
-    let less : length (sorted c.self.inside.names) < 2 ^ digits =
-    subst (λ n. n < 2 ^ digits) (sym (length_listed c.self.inside c.self.invariant c.args.self.now c.self.view_is)) h in
-    omega (arith, c.place-start.ensures.few digits less, c.place-end.ensures.few digits less)
+pub found-requires : goal.found-requires
+found-requires c = key_stored c.self.inside c.self.invariant c.args.self.now c.self.view_is c.args.name.now c.in-Some.key.now c.in-Some.ensures.stored

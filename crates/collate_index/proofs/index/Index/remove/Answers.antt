@@ -3,7 +3,8 @@ use Rattle.std.specs.Prelude.{bytes_eq}
 use Rattle.std.proofs.lemmas.List.Elements.{All-filter, All-same}
 use Rattle.collate_name_list.specs.StoredNames.{StoredName, names_of, without}
 use Rattle.collate_index.specs.Catalogue.{Catalogue, meaning_in, without_name}
-use Rattle.collate_index.specs.Index.{IsKeyed, catalogue_of}
+use Rattle.collate_index.specs.Index.{catalogue_of}
+use Rattle.collate_index.specs.Keys.{IsKeyed}
 use Rattle.collate_index.proofs.search.IndexLemmas.{kept_names, names_without}
 use Rattle.collate_index.proofs.index.Index.remove.Goals as goal
 

@@ -1,6 +1,6 @@
 use Rattle.std.proofs.Common.{◌≡◌, ◌+◌, ◌<◌, All, length, drop, remove, sym, ap, ◌∙◌, subst, arith}
 use Rattle.std.proofs.lemmas.List.Edits.{length-remove}
-use Rattle.collate_places.specs.Lists.{joined, lowered, rank_of, starts_of}
+use Rattle.collate_places.specs.Lists.{joined, lowered, rank_of}
 use Rattle.collate_places.proofs.Rows.{length-starts_from}
 use Rattle.collate_places.proofs.Places.{lower_ready}
 use Rattle.collate_places.proofs.parts.Parts.remove.Goals as goal
@@ -14,25 +14,16 @@ lower-requires-clause-space c =
     subst (λ xs. All (λ start. 0 < start) (drop (part + 1) xs)) (sym c.requires.sound.starts)
     (lower_ready c.args.self.now.lists.items part c.find-part.ensures.place.within (omega (arith, c.find-part.ensures.inside c.requires.rank)))
 
-pub remove-requires : goal.remove-requires
-remove-requires c =
-    let lists = c.take_out-value.new.lists.items in
-    let part = c.find-part.result.0 in
-    let starts : c.lower.new.starts.items ≡ starts_of lists = c.lower.ensures ∙ ap (λ xs. lowered (part + 1) xs) c.requires.sound.starts ∙ sym c.take_out-value.ensures.starts in
-    omega (arith, ap length starts, length-starts_from 0 lists, c.find-part.ensures.place.within, c.take_out-value.ensures.count)
-
-pub returns-then-is_empty-clause-sound : goal.returns-then-is_empty-clause-sound
-returns-then-is_empty-clause-sound c =
+pub tidy-requires-clause-sound : goal.tidy-requires-clause-sound
+tidy-requires-clause-sound c =
     let part = c.find-part.result.0 in
     let rank = rank_of c.args.self.now.lists.items part c.find-part.result.1 in
     let before = joined c.args.self.now.lists.items in
-    let starts : c.lower.new.starts.items ≡ starts_of c.take_out-value.new.lists.items =
-    c.lower.ensures ∙ ap (λ xs. lowered (part + 1) xs) c.requires.sound.starts ∙ sym c.take_out-value.ensures.starts in
-    let values : joined c.let_go.new.lists.items ≡ remove before rank = c.let_go.ensures.values ∙ c.take_out-value.ensures.values in
-    let fewer : length (remove before rank) + 1 ≡ length before = length-remove before rank (omega (arith, c.find-part.ensures.place.ranked, c.requires.sound.count)) in
+    let fewer : length (remove before rank) + 1 ≡ length before = length-remove before rank (omega (arith, c.find-part.ensures.place.ranked, c.requires.sound.count, c.requires.rank)) in
     record {
-      starts = c.remove.ensures.items ∙ ap (λ xs. remove xs part) starts ∙ sym c.let_go.ensures.starts;
-      count = omega (arith, ap length values, c.requires.sound.count);
-      room = c.let_go.ensures.room;
+      starts = c.lower.ensures.ranks ∙ ap (λ xs. lowered (part + 1) xs) c.requires.sound.starts ∙ sym c.take_out-value.ensures.starts;
+      based = c.lower.ensures.based;
+      count = omega (arith, ap length c.take_out-value.ensures.values, fewer, c.requires.sound.count);
+      room = c.take_out-value.ensures.room;
       spare = c.requires.sound.spare;
     }

@@ -16,5 +16,5 @@ pub returns : goal.returns
 returns c =
     let alike = c.are_said_alike.result in
     let first = subst (λ (lines : List Record). IsTrue alike ↔ IsSaidAlike lines (map said c.lines-2.result.now) c.args.c) c.lines.ensures.same c.are_said_alike.ensures in
-    decided alike c.args.self.now c.args.other.now c.args.c (search rules) (search rules)
-    (subst (λ (lines : List Record). IsTrue alike ↔ IsSaidAlike c.args.self.now lines c.args.c) c.lines-2.ensures.same first)
+    decided alike c.args.self.now.lines c.args.other.now.lines c.args.c (search rules) (search rules)
+    (subst (λ (lines : List Record). IsTrue alike ↔ IsSaidAlike c.args.self.now.lines lines c.args.c) c.lines-2.ensures.same first)

@@ -14,7 +14,7 @@ loop-c-init g c = All-nil _
 
 pub loop-c-preserved : goal.loop-c-preserved
 loop-c-preserved g c =
-    all_push (λ (x : ℕ). All (λ (d : ℕ). goal.F-post g c.args.is_one d false) (brought_within (step_of c.args.self.now) 0x110000 x)) c.loop-c.yielded c.in-Some.c c.loop-c.invariant
+    all_push (λ (x : ℕ). All (λ (d : ℕ). goal.F-post g c.args.is_one d false) (brought_within (step_of c.args.self.now.lines) 0x110000 x)) c.loop-c.yielded c.in-Some.c c.loop-c.invariant
     (MatchBool-at_false _ _ c.if-reaches_within.false c.reaches_within.ensures.none)
 
 pub returns-then-reaches_within : goal.returns-then-reaches_within
@@ -22,12 +22,12 @@ returns-then-reaches_within g c =
     let Answers : ℕ → Bool → Type 0 = goal.F-post g c.args.is_one
     in let text = utf8_chars c.args.text.now
     in let turn = YieldsList-turn (YieldsList-from_first (λ (x : ℕ). x) (λ (rest : List ℕ). rest) text (c.into_iter-c-iterator.ensures.into_iter_gives ∙ c.decode_utf8-c-items.ensures.chars)) c.loop-c.yielded _ c.loop-c.yielded_by _ _ c.in-Some.c c.in-Some.is c.next.ensures.steps
-    in one_of_text (step_of c.args.self.now) Answers text c.in-Some.c (length c.loop-c.yielded, turn.0, sym turn.1) (OnTrue_at c.if-reaches_within.true c.reaches_within.ensures.one)
+    in one_of_text (step_of c.args.self.now.lines) Answers text c.in-Some.c (length c.loop-c.yielded, turn.0, sym turn.1) (OnTrue_at c.if-reaches_within.true c.reaches_within.ensures.one)
 
 pub returns : goal.returns
 returns g c =
     let Fails : ℕ → Type 0 = λ d. goal.F-post g c.args.is_one d false
     in let text = utf8_chars c.args.text.now
-    in let Each : ℕ → Type 0 = λ x. All Fails (brought_within (step_of c.args.self.now) 0x110000 x)
+    in let Each : ℕ → Type 0 = λ x. All Fails (brought_within (step_of c.args.self.now.lines) 0x110000 x)
     in let ended = YieldsList-end (YieldsList-from_first (λ (x : ℕ). x) (λ (rest : List ℕ). rest) text (c.into_iter-c-iterator.ensures.into_iter_gives ∙ c.decode_utf8-c-items.ensures.chars)) c.loop-c.yielded _ c.loop-c.yielded_by _ _ c.in-None.is c.next.ensures.steps
-    in none_of_text c.args.self.now Fails text c.keep_rules.ensures.canonical (utf8_scalars c.args.text.now) (subst (All Each) ended.0 (All-map Each (λ (x : ℕ). x) c.loop-c.yielded c.loop-c.invariant))
+    in none_of_text c.args.self.now.lines Fails text c.keep_rules.ensures.canonical (utf8_scalars c.args.text.now) (subst (All Each) ended.0 (All-map Each (λ (x : ℕ). x) c.loop-c.yielded c.loop-c.invariant))

@@ -1,4 +1,4 @@
-use Rattle.std.proofs.Common.{◌≡◌, [], None, map, refl}
+use Rattle.std.proofs.Common.{◌≡◌, [], None, map, refl, ap}
 use Rattle.std.specs.Option.{option_copied}
 use Rattle.std.proofs.lemmas.Result.{IfOk-weaker}
 use Rattle.collate_words.specs.DigitWords.{IsDigitOver}
@@ -8,7 +8,7 @@ use Rattle.collate_words.specs.Sayings.{Saying}
 use Rattle.collate_words.specs.Written.{SaysOf}
 use Rattle.collate_words.proofs.growth.OwnGrowthLemmas.{IsOwnWord-larger}
 use Rattle.collate_words.proofs.written.SayingLemmas.{digit_says}
-use Rattle.collate_words.proofs.written.WritingLemmas.{digit_alone, entry_said}
+use Rattle.collate_words.proofs.written.WritingLemmas.{digit_alone, entry_said, grown_entry, room_behind}
 use Rattle.collate_words.proofs.pools.Pools.write_entry.Goals as goal
 
 pub returns-in-Some-clause-says : goal.returns-in-Some-clause-says
@@ -41,3 +41,15 @@ returns-in_ok-behind-in-None-clause-says c =
     c.as_slice-prefixes.ensures.value
     c.in-None.is (told behind says refl refl))
     c.write_prefixes.ensures.says
+
+pub write_suffixes-requires-clause-room : goal.write_suffixes-requires-clause-room
+write_suffixes-requires-clause-room c =
+    room_behind (saying_of c.args.entry.now) c.as_slice-suffixes.result.now c.args.self.now c.write_own.new.self
+    c.requires.room c.write_own.ensures.size (ap (map said_beside) c.as_slice-suffixes.ensures.value)
+
+pub returns-in_ok-behind-in-None-clause-size : goal.returns-in_ok-behind-in-None-clause-size
+returns-in_ok-behind-in-None-clause-size c =
+    grown_entry (saying_of c.args.entry.now) c.as_slice-suffixes.result.now c.as_slice-prefixes.result.now
+    c.args.self.now c.write_own.new.self c.write_suffixes.new.self c.write_prefixes.new.self
+    c.write_own.ensures.size c.write_suffixes.ensures.size c.write_prefixes.ensures.size
+    (ap (map said_beside) c.as_slice-suffixes.ensures.value) (ap (map said_beside) c.as_slice-prefixes.ensures.value)

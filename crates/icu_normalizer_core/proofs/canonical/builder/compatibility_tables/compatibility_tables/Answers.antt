@@ -1,4 +1,5 @@
-use Rattle.std.proofs.Common.{ℕ, List, inl, inr, ⊎_elim, refl, sym, subst, ◌∙◌, arith}
+use Rattle.std.proofs.Common.{ℕ, ◌-◌, ◌^◌, ◌≤◌, List, inl, inr, ⊎_elim, refl, sym, subst, ◌∙◌, arith}
+use Rattle.std.specs.Prelude.{sum_by}
 use Rattle.std.specs.List.{All}
 use Rattle.std.specs.Char.{IsScalar}
 use Rattle.std.proofs.lemmas.Bool.{false≢true}
@@ -9,9 +10,10 @@ use Rattle.icu_normalizer_core.specs.CompatibilityFaults.{AreAcceptedWords, IsFi
 use Rattle.icu_normalizer_core.specs.CompatibilityMaps.{AllMaps}
 use Rattle.icu_normalizer_core.specs.CompatibilityMeaning.{nfkd_lists}
 use Rattle.icu_normalizer_core.specs.Settled.{IsAmong}
-use Rattle.icu_normalizer_core.specs.SettledMappings.{IsSound, named_with, steps_in}
+use Rattle.icu_normalizer_core.specs.SettledMappings.{IsSound, full_room, named_with, steps_in}
 use Rattle.icu_normalizer_core.specs.Words.{WordLists}
 use Rattle.icu_normalizer_core.proofs.builder.CompatibilityTableLemmas.{accepted_over, word_fault_refutes}
+use Rattle.icu_normalizer_core.proofs.builder.CompatibilityRoomLemmas.{room_breaks}
 use Rattle.icu_normalizer_core.proofs.builder.CompatibilityRuleLemmas.{bad_left_breaks, built_means, built_words_accepted}
 use Rattle.icu_normalizer_core.proofs.builder.UnnamedWordLemmas.{kept_on_starters, others_among, others_right}
 use Rattle.icu_normalizer_core.proofs.canonical.builder.compatibility_tables.compatibility_tables.Goals as goal
@@ -23,12 +25,17 @@ returns-then-not-are_on_starters-clause-refused c =
       refl,
       λ rules.
           absurd (false≢true (sym c.if-not-are_on_starters.true
-          ∙ c.are_on_starters.ensures.1 (kept_on_starters maps (meaning c.args.tables.now) c.requires.means c.requires.given rules))),
+          ∙ c.are_on_starters.ensures.1 (kept_on_starters maps (meaning c.args.tables.now) c.requires.means c.requires.given (rules.0.rules, rules.1.rules)))),
     )
 
 pub returns-in-Err-clause-refused : goal.returns-in-Err-clause-refused
 returns-in-Err-clause-refused c =
-    ⊎_elim (λ memory. inl memory) (λ w. inr (w.0, λ rules. let few = rules.1.few in let many = w.1 in omega (arith, few, many))) c.in-Err.ensures.refused
+    ⊎_elim (λ memory. inl memory) (λ w. inr (
+      w.0,
+      λ rules.
+          ⊎_elim (λ many. let few = rules.1.few in omega (arith, few, many)) (λ wide. wide (record { wide = rules.1.room.wide; narrow = rules.1.room.narrow })) w.1,
+    ))
+    c.in-Err.ensures.refused
 
 pub word_tables-requires-clause-scalars : goal.word_tables-requires-clause-scalars
 word_tables-requires-clause-scalars c = subst (All IsScalar) (sym c.as_slice.ensures.value) c.in-Ok.ensures.scalars
@@ -46,7 +53,20 @@ returns-in-Err-word_tables-clause-refused c =
     let over : Mappings = record { tables = c.args.tables; given = c.args.given } in
     let sound : IsSound over = record { accepted = c.requires.accepted; given = c.requires.given; starters = c.are_on_starters.ensures.0 c.if-not-are_on_starters.false } in
     let canonical : CanonicalMaps = record { classes = c.args.classes.now; mappings = c.args.mappings.now } in
-    ⊎_elim (λ memory. inl memory) (λ w. inr (w.0, λ rules. bad_left_breaks canonical over sound c.requires.means w.1 rules)) c.in-Err-word_tables.ensures.refused
+    ⊎_elim
+    (λ memory. inl memory)
+    (λ w. inr (
+      w.0,
+      λ rules.
+          ⊎_elim
+          (λ bad. bad_left_breaks canonical over sound c.requires.means bad (rules.0.rules, rules.1.rules))
+          (λ many.
+          let listed = c.in-Ok.ensures.listed in
+          room_breaks canonical over sound c.requires.means (rules.0.rules, rules.1.rules) rules.1.room listed.named listed.distinct listed.scalars
+          (subst (λ (xs : List ℕ). 2 ^ 14 - 1 ≤ sum_by (full_room (steps_in over)) xs) (c.as_slice.ensures.value ∙ listed.is) many))
+          w.1,
+    ))
+    c.in-Err-word_tables.ensures.refused
 
 pub returns-in-None-clause-means : goal.returns-in-None-clause-means
 returns-in-None-clause-means c =
@@ -71,5 +91,5 @@ returns-clause-refused c =
       λ rules.
           word_fault_refutes (lists_of c.args.tables.now) (nfkd_lists c.in-Ok-word_tables.made) c.in-Some.field-0
           (subst (λ (words : WordLists). IsFirstWordFault (lists_of c.args.tables.now) words c.in-Some.field-0) c.words.ensures c.in-Some.ensures)
-          (built_words_accepted canonical over sound c.requires.means (nfkd_lists c.in-Ok-word_tables.made) c.in-Ok-word_tables.ensures.built rules),
+          (built_words_accepted canonical over sound c.requires.means (nfkd_lists c.in-Ok-word_tables.made) c.in-Ok-word_tables.ensures.built (rules.0.rules, rules.1.rules)),
     )

@@ -1,11 +1,12 @@
-use Rattle.std.proofs.Common.{List, Option, inl, inr, ⊎_elim, sym, subst}
+use Rattle.std.proofs.Common.{◌-◌, ◌^◌, List, Option, inl, inr, ⊎_elim, sym, subst}
 use Rattle.icu_normalizer_core.specs.declared.canonical.check.left.Left.{Left}
 use Rattle.icu_normalizer_core.specs.Settled.{AreStarts, IsDone}
 use Rattle.icu_normalizer_core.proofs.builder.FullListWordLemmas.{settled_lists, settled_words, unsettled_end}
+use Rattle.icu_normalizer_core.proofs.builder.ListRoomLemmas.{long_lists}
 use Rattle.icu_normalizer_core.proofs.canonical.builder.full_lists.full_lists.Goals as goal
 
-pub list_words-requires-clause-lists : goal.list_words-requires-clause-lists
-list_words-requires-clause-lists c =
+pub list_words-requires : goal.list_words-requires
+list_words-requires c =
     settled_lists c.args.steps.now c.as_slice.result.now c.requires.triples c.requires.free
     (subst (λ (xs : List (Option Left)). AreStarts c.args.steps.now xs) (sym c.as_slice.ensures.value) c.in_ok-settled.ensures.starts)
 
@@ -19,10 +20,14 @@ pub returns-clause-refused : goal.returns-clause-refused
 returns-clause-refused c =
     ⊎_elim
     (λ memory. inl memory)
-    (λ w. inr (
+    (λ w.
+    let starts : AreStarts c.args.steps.now c.as_slice.result.now = subst (λ (xs : List (Option Left)). AreStarts c.args.steps.now xs) (sym c.as_slice.ensures.value) c.in_ok-settled.ensures.starts in
+    inr (
       w.0,
-      unsettled_end c.args.steps.now c.as_slice.result.now c.requires.triples c.requires.free
-          (subst (λ (xs : List (Option Left)). AreStarts c.args.steps.now xs) (sym c.as_slice.ensures.value) c.in_ok-settled.ensures.starts)
-          (subst (λ (xs : List (Option Left)). IsDone c.args.steps.now xs) (sym c.as_slice.ensures.value) c.in_ok-settled.ensures.done) w.1,
+      ⊎_elim
+          (λ unsettled. inl (unsettled_end c.args.steps.now c.as_slice.result.now c.requires.triples c.requires.free starts
+          (subst (λ (xs : List (Option Left)). IsDone c.args.steps.now xs) (sym c.as_slice.ensures.value) c.in_ok-settled.ensures.done) unsettled))
+          (λ many. inr (long_lists c.args.steps.now c.requires.triples c.as_slice.result.now c.requires.free starts (2 ^ 14 - 1) many))
+          w.1,
     ))
     c.in-Err.ensures.refused

@@ -1,4 +1,6 @@
-use Rattle.std.proofs.Common.{◌<◌, ◌≤◌, [], refl, inr, length, slice_get, arith}
+use Rattle.std.proofs.Common.{◌<◌, ◌≤◌, [], refl, inl, inr, length, slice_get, arith}
+use Rattle.std.proofs.lemmas.List.Sums.{sum_by-take-le}
+use Rattle.icu_normalizer_core.specs.ListWords.{settled_places}
 use Rattle.icu_normalizer_core.specs.Settled.{left_items}
 use Rattle.icu_normalizer_core.proofs.builder.SettledWordLemmas.{got_here, over_eight, more_settled}
 use Rattle.icu_normalizer_core.proofs.canonical.builder.list_words.list_words.Goals as goal
@@ -7,15 +9,20 @@ pub returns-then-list-gt8-clause-refused : goal.returns-then-list-gt8-clause-ref
 returns-then-list-gt8-clause-refused c =
     let found = got_here c.args.settled.now c.loop-place.place _ _ c.loop-place-test.true c.in-Some.is in
     let long : 8 < length (left_items c.in-Some.left) = let h = c.if-list-gt8.true in omega arith in
-    inr (refl, (c.loop-place.place, c.loop-place-test.true, over_eight (slice_get c.args.settled.now c.loop-place.place) c.in-Some.left found long))
+    inr (refl, inl (c.loop-place.place, c.loop-place-test.true, over_eight (slice_get c.args.settled.now c.loop-place.place) c.in-Some.left found long))
+
+pub returns-then-len-ge-PLACE_LIMIT-clause-refused : goal.returns-then-len-ge-PLACE_LIMIT-clause-refused
+returns-then-len-ge-PLACE_LIMIT-clause-refused c =
+    let full = c.if-len-ge-PLACE_LIMIT.true in
+    inr (refl, inr (omega (arith, full, c.loop-place.invariant.size, sum_by-take-le settled_places c.args.settled.now c.loop-place.place)))
 
 pub list_word-requires-clause-scalars : goal.list_word-requires-clause-scalars
 list_word-requires-clause-scalars c =
-    (c.requires.lists c.loop-place.place c.in-Some.left (got_here c.args.settled.now c.loop-place.place _ _ c.loop-place-test.true c.in-Some.is)).0
+    (c.requires c.loop-place.place c.in-Some.left (got_here c.args.settled.now c.loop-place.place _ _ c.loop-place-test.true c.in-Some.is)).0
 
 pub list_word-requires-clause-some : goal.list_word-requires-clause-some
 list_word-requires-clause-some c =
-    (c.requires.lists c.loop-place.place c.in-Some.left (got_here c.args.settled.now c.loop-place.place _ _ c.loop-place-test.true c.in-Some.is)).1
+    (c.requires c.loop-place.place c.in-Some.left (got_here c.args.settled.now c.loop-place.place _ _ c.loop-place-test.true c.in-Some.is)).1
 
 pub loop-place-preserved : goal.loop-place-preserved
 loop-place-preserved c =

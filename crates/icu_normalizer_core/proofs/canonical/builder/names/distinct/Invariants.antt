@@ -4,4 +4,4 @@ use Rattle.icu_normalizer_core.specs.Named.{AreDistinctOf}
 use Rattle.icu_normalizer_core.proofs.canonical.builder.names.distinct.Given as goal
 
 abbrev pub invariant-loop-c : goal.invariant-loop-c
-invariant-loop-c l = AreDistinctOf (take l.c-index l.all) l.list.items × (length l.list.items ≤ 150) × All IsScalar l.list.items
+invariant-loop-c l = AreDistinctOf (take l.c-index l.all) l.list.items × (length l.list.items ≤ l.limit) × All IsScalar l.list.items

@@ -19,4 +19,4 @@ loop-c-preserved c =
     subst (λ (ns : List ℕ). HasWords c.args.classes.now c.args.steps.now c.args.lists.now.scalars24.items ns c.set_word.new.words)
     (sym (take_more c.args.characters.now c.loop-c.c-index 0 c.loop-c-test.true ∙ ap (λ (x : ℕ). done ++ x ∷ []) (sym (index_got c.args.characters.now c.loop-c.c-index c.c-item.result c.loop-c-test.true c.c-item.is))))
     (words_more IsRight done c.loop-c.words c.set_word.new.words c.c-item.result c.word_of-word.result
-    c.loop-c.invariant bound c.set_word.ensures.written c.set_word.ensures.blocks c.word_of-word.ensures.says c.word_of-word.ensures.syllable)
+    c.loop-c.invariant bound c.set_word.ensures c.word_of-word.ensures.says c.word_of-word.ensures.syllable)

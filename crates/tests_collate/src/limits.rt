@@ -1,0 +1,192 @@
+//! Limits: how a file at them and one past them are answered, by `Records`, by an index and by the program.
+
+use crate::commands::words_of;
+use crate::names::{LETTERS, PREFERENCES, PRIMARY};
+use crate::reloads::joined;
+use collate_index::index::{Index, ReloadError};
+use collate_records::records::Records;
+use collate_records::rule::{RecordFault, RecordsError, Rule};
+use collate_run::program::serve_words;
+use collate_run::setup::{Limits, Setup};
+use collate_run::watched::Watched;
+use std::alloc::{AllocError, Global};
+use std::io;
+use std::test::Fail;
+
+/// Lines of records, each of a text of its own: of one character, or of two of few characters.
+fn lines(alloc: Global, count: u16, width: u16) -> Result<Vec<u8>, AllocError> {
+    let mut text = Vec::new(alloc);
+    for place in 0..count {
+        let line = if width < 2 {
+            let text = 0x4E00 + u32::from(place);
+            format!(in alloc; "w {text:04X} ;\n")?
+        } else {
+            let first = 0x4E00 + u32::from(place / width);
+            let second = 0x4E00 + u32::from(place % width);
+            format!(in alloc; "w {first:04X} {second:04X} ;\n")?
+        };
+        text.extend_from_slice(line.as_bytes())?;
+    }
+    Ok(text)
+}
+
+/// How a file is refused within limits; `None` where it is accepted.
+fn refusal(alloc: Global, file: &[u8], limits: Limits) -> Option<RecordsError> {
+    Records::read_within(alloc, file, limits).err()
+}
+
+/// The refusal for a rule at a line.
+fn fault(line: usize, rule: Rule) -> Option<RecordsError> {
+    Some(RecordsError::Fault(RecordFault { line, rule }))
+}
+
+#[test]
+fn a_code_point_more(rt: HostRuntime) -> Result<(), Fail> {
+    let alloc = rt.alloc();
+    let most = lines(alloc, 150, 1)?;
+    let more = lines(alloc, 151, 1)?;
+    assert_eq!(rt; refusal(alloc, &most, Limits::STANDARD), None);
+    assert_eq!(rt;
+        refusal(alloc, &more, Limits::STANDARD),
+        fault(151, Rule::Limit)
+    );
+    assert_eq!(rt; refusal(alloc, &more, Limits::UNICODE), None);
+    assert_eq!(rt; Records::read(alloc, &more).err(), fault(151, Rule::Limit));
+    Ok(())
+}
+
+#[test]
+fn a_record_more(rt: HostRuntime) -> Result<(), Fail> {
+    let alloc = rt.alloc();
+    let most = lines(alloc, 1000, 25)?;
+    let more = lines(alloc, 1001, 25)?;
+    assert_eq!(rt; refusal(alloc, &most, Limits::STANDARD), None);
+    assert_eq!(rt;
+        refusal(alloc, &more, Limits::STANDARD),
+        fault(1001, Rule::Limit)
+    );
+    assert_eq!(rt; refusal(alloc, &more, Limits::UNICODE), None);
+    Ok(())
+}
+
+#[test]
+fn a_byte_more(rt: HostRuntime) -> Result<(), Fail> {
+    let alloc = rt.alloc();
+    let limits = Limits {
+        bytes: 11,
+        code_points: 1,
+        records: 1,
+    };
+    assert_eq!(rt; refusal(alloc, b"w 4E00 ;\n\n\n", limits), None);
+    assert_eq!(rt;
+        refusal(alloc, b"w 4E00 ;\n\n\n\n", limits),
+        fault(4, Rule::Grammar)
+    );
+    assert_eq!(rt;
+        refusal(alloc, b"\nw 4E00 ; \n", limits),
+        fault(2, Rule::Grammar)
+    );
+    assert_eq!(rt;
+        refusal(
+            alloc,
+            b"w 4E00 4E01 ;\n",
+            Limits {
+                bytes: 14,
+                ..limits
+            }
+        ),
+        fault(1, Rule::Limit)
+    );
+    assert_eq!(rt;
+        refusal(alloc, b"w 61 ;\n", Limits { bytes: 0, ..limits }),
+        fault(1, Rule::Grammar)
+    );
+    assert_eq!(rt; refusal(alloc, b"", Limits { bytes: 0, ..limits }), None);
+    Ok(())
+}
+
+#[test]
+fn a_reload_goes_by_the_limits_of_its_index(rt: HostRuntime) -> Result<(), Fail> {
+    let alloc = rt.alloc();
+    let more = lines(alloc, 151, 1)?;
+    let large = joined(alloc, &[LETTERS, more.as_slice()])?;
+    let records = Records::read(alloc, LETTERS)?;
+    assert_eq!(rt; records.limits(), Limits::STANDARD);
+    let mut index = Index::new(alloc, records, &PREFERENCES, &PRIMARY)?;
+    assert!(rt;
+        matches!(
+            index.reload(&large),
+            Err(ReloadError::Record(RecordFault {
+                rule: Rule::Limit,
+                ..
+            }))
+        )
+    );
+    let records = Records::read_within(alloc, LETTERS, Limits::UNICODE)?;
+    assert_eq!(rt; records.limits(), Limits::UNICODE);
+    let mut index = Index::new(alloc, records, &PREFERENCES, &PRIMARY)?;
+    assert_eq!(rt; index.reload(&large), Ok(0));
+    assert_eq!(rt; index.reload(&large), Ok(0));
+    Ok(())
+}
+
+/// What the program answers for FILE and commands: its status, and what it writes and tells.
+fn served(
+    alloc: Global,
+    limits: Limits,
+    file: io::Result<&[u8]>,
+    has_input: bool,
+) -> Result<(u8, Vec<u8>, Vec<u8>), Fail> {
+    let words = words_of(alloc, &["a.records"])?;
+    let (mut written, mut told) = (Vec::new(alloc), Vec::new(alloc));
+    let mut reader = Watched::new(b"add a\nlist\n".as_slice());
+    let mut writer = Watched::new(&mut written);
+    let status = serve_words(
+        alloc,
+        Setup { limits },
+        &words,
+        |_: &str| file,
+        has_input,
+        &mut reader,
+        &mut writer,
+        &mut told,
+    );
+    Ok((status, written, told))
+}
+
+#[test]
+fn the_program_reads_one_byte_past_the_limit(rt: HostRuntime) -> Result<(), Fail> {
+    let alloc = rt.alloc();
+    let limits = Limits {
+        bytes: 11,
+        code_points: 1,
+        records: 1,
+    };
+    let rows: [(&[u8], u8, &[u8]); 3] = [
+        (b"w 4E00 ;\n\n\n", 0, b""),
+        (b"w 4E00 ;\n\n\n\n", 1, b"collate: refused 4 grammar\n"),
+        (b"w 4E00 ;\n\n\n\nx\n", 1, b"collate: refused 4 grammar\n"),
+    ];
+    for (file, status, text) in rows {
+        let answer = served(alloc, limits, Ok(file), true)?;
+        assert_eq!(rt; answer.0, status);
+        assert_eq!(rt; answer.2.as_slice(), text);
+    }
+    Ok(())
+}
+
+#[test]
+fn want_of_an_input_is_told_behind_faults_of_the_file(rt: HostRuntime) -> Result<(), Fail> {
+    let alloc = rt.alloc();
+    let memory = served(alloc, Limits::STANDARD, Ok(LETTERS), false)?;
+    assert_eq!(rt; memory.0, 1);
+    assert_eq!(rt; memory.2.as_slice(), b"collate: memory\n".as_slice());
+    let lacking = io::Error::from(io::ErrorKind::NotFound);
+    let unreadable = served(alloc, Limits::STANDARD, Err(lacking), false)?;
+    assert_eq!(rt; unreadable.0, 1);
+    assert_eq!(rt;
+        unreadable.2.as_slice(),
+        b"collate: cannot read a.records\n".as_slice()
+    );
+    Ok(())
+}
