@@ -1,4 +1,4 @@
-"""The alphabets of crates/examples_alphabets/data, as tools/make_records.py makes them: characters, rules and a header for each.
+"""The small files of `records`, as tools/make_records.py makes them: characters, rules and a header for each.
 
 `locale` is the collator of ICU4C that orders the same names (tools/sort_alphabets.py). Characters in `whole` are not decomposed.
 """
@@ -9,6 +9,8 @@ Alphabet = collections.namedtuple('Alphabet', 'locale characters rules header wh
 
 BETWEEN = '0-9 \'\u2019.U+002D'
 LATIN = 'a-zA-Z' + BETWEEN
+# what else stands in names and addresses, for files that have room: "Last, First"
+FURTHER = ',()/&_;:!?"'
 HIRAGANA = ''.join(map(chr, range(0x3041, 0x3097)))
 KATAKANA = ''.join(map(chr, range(0x30A1, 0x30FB)))
 VOICE = '\u3099'

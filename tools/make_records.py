@@ -4,9 +4,10 @@
   make_records.py LANGUAGE               an alphabet of tools/alphabets.py, with the rules of its language
   make_records.py CHARACTERS [RULES]     these characters, with rules as CLDR writes them (tools/tailoring.py)
 
-CHARACTERS is a text: a-z is a range, U+0061 or U+0061-U+007A a character or a range by code points; anything else, and a
-hyphen at either end, stands for itself. What a character decomposes to is taken with it. A file names at most 150
-characters; a run of Han characters counts as one, and a Hangul syllable as its jamo.
+A word of three letters a to z or more is taken for a LANGUAGE, and where none has the name the status is 2. CHARACTERS is a
+text: a-z is a range, U+0061 or U+0061-U+007A a character or a range by code points; anything else, and a hyphen at either
+end, stands for itself. What a character decomposes to is taken with it. A file names at most 150 characters; a run of Han
+characters counts as one, and a Hangul syllable as its jamo.
 
 The order is that of the default table (allkeys.txt) but for the rules; the weights are new ones, in bytes. What is left out
 is named on standard error.
@@ -218,23 +219,37 @@ class File:
         return [f'kmap {character:04X} {" ".join(f"{part:04X}" for part in parts)}']
 
 
+def unknown(choice):
+    """What the head of an alphabet says of characters that the file does not name."""
+    absent = ' '.join(character for character in alphabets.FURTHER if ord(character) not in choice.named)
+    among = f'\nAmong these are {absent}, for which there is no room.' if absent else ''
+    return f'\nA character that no line names sorts behind all that lines name, by its code point.{among}'
+
+
 def main(words):
     if len(words) not in (1, 2) or words[0] in ('-h', '--help'):
         sys.exit(__doc__)
     alphabet = alphabets.ALPHABETS.get(words[0])
+    if len(words) == 1 and re.fullmatch('[a-z_]{3,}', words[0]) and not alphabet:
+        print(f'make_records.py: no language of tools/alphabets.py: {words[0]}', file=sys.stderr)
+        sys.exit(2)
     if alphabet and len(words) == 1:
-        whole, characters, rules, header = alphabet.whole, alphabet.characters, alphabet.rules, alphabet.header
+        whole, rules, header = alphabet.whole, alphabet.rules, alphabet.header
+        characters = alphabet.characters + alphabets.FURTHER
     else:
         whole, characters, rules = '', words[0], words[1] if len(words) == 2 else ''
         header = 'Characters that were chosen, in the order of the default table' + (', with rules' if rules else '') + '.'
     header += f'\nMade by tools/make_records.py{" " + words[0] if alphabet else ""}.'
     try:
         tables = Tables(chosen(whole))
-        file = File(tables, Choice(tables, chosen(characters)), rules)
+        choice = Choice(tables, chosen(characters))
+        file = File(tables, choice, rules)
     except OSError as error:
         sys.exit(f'make_records.py: {error} (Debian has it in the package unicode-data)')
     except ValueError as error:
         sys.exit(f'make_records.py: {error}')
+    if alphabet:
+        header += unknown(choice)
     lines = [*(f'# {line}' for line in header.split('\n')), '', *file.lines()]
     try:
         print('\n'.join(lines), flush=True)

@@ -5,7 +5,7 @@
   sort_alphabets.py --check    says where those that stand there are others
 
 LANGUAGE.sorted has the names of LANGUAGE.names in the order of ICU4C's collator for the language (Debian's python3-icu), equal
-ones as they stood. tools/make_records.py writes the records.
+ones as they stood; LANGUAGE.records is the file of the same name in `records`, which tools/make_records.py writes.
 """
 import os
 import sys
@@ -17,7 +17,8 @@ except ImportError as error:
 
 from alphabets import ALPHABETS
 
-FOLDER = os.path.join(os.path.dirname(os.path.dirname(os.path.realpath(__file__))), 'crates/examples_alphabets')
+ROOT = os.path.dirname(os.path.dirname(os.path.realpath(__file__)))
+FOLDER = os.path.join(ROOT, 'crates/examples_alphabets')
 
 
 def collator_of(alphabet):
@@ -39,13 +40,14 @@ def main(is_check):
     for language, alphabet in ALPHABETS.items():
         names = sorted_names(language, alphabet)
         texts[f'data/{language}.sorted'] = names
+        texts[f'data/{language}.records'] = open(f'{ROOT}/records/{language}.records', encoding='utf-8').read()
         texts['stdout'] += f'{language}: in order\n{names}\n'
     for name, text in texts.items():
         path = f'{FOLDER}/{name}'
         if not is_check:
             open(path, 'w', encoding='utf-8').write(text)
         elif not os.path.exists(path) or open(path, encoding='utf-8').read() != text:
-            print(f'{path}: not what ICU4C says')
+            print(f'{path}: not what ICU4C says' if name[-7:] != 'records' else f'{path}: not as in records')
             is_check = 'failed'
     sys.exit(is_check == 'failed')
 
