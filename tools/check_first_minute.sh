@@ -1,0 +1,442 @@
+#!/usr/bin/env bash
+# Walks what a new user does, in a bare checkout, and looks at each message:
+#     tools/check_first_minute.sh [--quick | --part PART] [EXECUTABLE]
+# EXECUTABLE stands for the proved program; left out, it is the one in crates/collate/out, proved or not. First there is
+# no `rt` on the path, then a stand-in that proves nothing, and at the end, without --quick, the real one, which builds
+# the unproved program and the programs of README.md and docs/CALLING.md. PART is one of the functions walk_PART, in a
+# checkout without proofs but for with_rt. A line for each thing that isn't as it should be; the status is 0 only where
+# there is none, else 1, and 2 where it could not be walked. EDIT='FILE SED-COMMAND' changes the checkout first, as
+# tools/wrong_first_minutes.sh does.
+set -u
+here=$(cd "$(dirname "$(readlink -f "${BASH_SOURCE[0]}")")/.." && pwd) || exit 1
+parts='without_executable foreign_executable with_executable faults broken_records installed with_stand_in pages'
+parts+=' with_rt'
+left_out='^$' # nothing
+case ${1:-} in
+--quick)
+    parts=${parts% with_rt}
+    shift
+    ;;
+--part)
+    parts=$2
+    [ "$2" = with_rt ] || left_out='^crates/[a-z0-9_]*/(proofs|specs|must-fail|wrong-bodies)/|^bench/'
+    shift 2
+    ;;
+esac
+executable=${1:-}
+for file in "$here/crates/collate/out/collate" "$here/crates/collate/out/collate.unproved"; do
+    [ -n "$executable" ] || [ ! -x "$file" ] || executable=$file
+done
+if [ ! -x "$executable" ]; then
+    echo "no EXECUTABLE: tools/build_unproved.sh collate crates/collate/out/collate.unproved" >&2
+    exit 2
+fi
+executable=$(readlink -f "$executable")
+real_path=$PATH
+rt_folder=$(dirname "$(command -v rt || echo /)")
+export PATH=/usr/bin:/bin LC_ALL=C.UTF-8
+! command -v rt >/dev/null || { echo "rt lies in /usr/bin or /bin: this can't be walked without it" >&2; exit 2; }
+work=$(mktemp -d)
+trap 'rm -rf "$work"' EXIT
+top=$work/checkout
+mkdir "$top"
+(cd "$here" && git ls-files --cached --others --exclude-standard | grep -vE "$left_out" |
+    tar -cf - --no-recursion -T - | tar -xf - -C "$top") || exit 2
+cd "$top" || exit 2
+if [ -n "${EDIT:-}" ]; then
+    cp "${EDIT%% *}" "$work/before"
+    sed -i "${EDIT#* }" "${EDIT%% *}" && ! cmp -s "$work/before" "${EDIT%% *}" || exit 2
+fi
+out=crates/collate/out
+status=0 looks=0
+
+complain() {
+    echo "$1"
+    [ -z "${2:-}" ] || sed 's/^/    /' <<<"$2"
+    status=1
+}
+
+# Runs the command behind -- and looks whether its status is $1 and whether what it says, on both outputs, has each
+# TEXT: $1 TEXT.. -- COMMAND..; a TEXT that begins with ! may not stand there, and a single = asks for silence.
+says() {
+    local wanted=$1 texts=() text said got=0
+    shift
+    while [ "$1" != -- ]; do
+        texts+=("$1")
+        shift
+    done
+    shift
+    said=$("$@" 2>&1 </dev/null | tr -d '\0'; exit "${PIPESTATUS[0]}") || got=$?
+    looks=$((looks + 1))
+    [ "$got" = "$wanted" ] || complain "status $got, not $wanted: $*" "$said"
+    for text in "${texts[@]}"; do
+        case $text in
+        =) [ -z "$said" ] || complain "not silent: $*" "$said" ;;
+        '!'*) [[ $said != *"${text#!}"* ]] || complain "says '${text#!}': $*" "$said" ;;
+        *) [[ $said == *"$text"* ]] || complain "doesn't say '$text': $*" "$said" ;;
+        esac
+    done
+}
+
+# The text $1 as standard input of the command behind.
+given() {
+    local input=$1
+    shift
+    printf '%b' "$input" | "$@"
+}
+
+# Puts the executable where a build would leave it, $1, with a note of the sources as they are.
+put() {
+    mkdir -p "$out"
+    cp "$executable" "$1"
+    (
+        script=put
+        . tools/launcher.sh
+        [[ $1 != *.unproved ]] || unproved=unproved
+        below=$(tools/below.sh collate)
+        : >"$work/began"
+        note_sources "$1" "$(sum_of_sources)" "$work/began"
+    )
+}
+
+nothing='NOTHING is proved of this run'
+latin=examples/latin.records
+swedish='Öberg\nZetterlund\nÅkesson\n'
+
+walk_without_executable() {
+    says 1 "collate: no 'rt' on the path" "make dist" -- ./collate $latin
+    says 1 "sort_names: no 'rt' on the path" -- ./sort_names $latin
+    says 1 "collate: unproved: $nothing" "collate: no 'rt' on the path" -- ./collate --unproved $latin
+    says 1 "sort_names: unproved: $nothing" -- ./sort_names --unproved $latin
+    says 1 "the program collate_unicode is not there yet" -- ./collate --unicode $latin
+    says 1 "the program collate_unicode is not there yet" -- ./sort_names --unicode $latin
+    says 0 "collate $(cat VERSION)" -- ./collate --version
+    says 0 "sort_names $(cat VERSION)" -- ./sort_names --version
+    for word in -h --help; do
+        says 0 "--unproved" "strength=primary" "$top/docs/RECORDS.md" "!'rt'" -- ./collate $word
+        says 0 "--merge" "--unproved" "$top/records" -- ./sort_names $word
+    done
+    says 2 "usage: collate FILE" "no FILE is given" -- ./collate
+    says 2 "usage: sort_names" "no RECORDS is given" -- ./sort_names
+    says 2 "usage: sort_names" "not understood: --sorted" -- ./sort_names --sorted $latin
+    says 2 "usage: sort_names" "no file is given that --keys wrote" -- ./sort_names --merge
+    says 1 "cannot read nothing" "there is no such file" "!'rt'" -- ./collate nothing
+    says 2 "no 'rt' on the path" -- make install PREFIX="$work/none"
+    [ ! -e "$work/none" ] || complain "something was installed without a program"
+}
+
+# An executable that nobody vouches for is taken for no proved one, and none for the unproved one.
+walk_foreign_executable() {
+    mkdir -p $out
+    cp "$executable" $out/collate
+    says 1 "no 'rt' on the path" -- ./collate $latin
+    rm $out/collate
+    put $out/collate.unproved
+    says 1 "no 'rt' on the path" -- ./collate $latin
+    cp $out/collate.unproved $out/collate
+    cp $out/collate.unproved.sources $out/collate.sources
+    says 1 "no 'rt' on the path" -- ./collate $latin
+    rm $out/collate $out/collate.sources
+    put $out/collate
+    says 0 = -- ./collate $latin
+    echo >>$out/collate
+    says 1 "no 'rt' on the path" -- ./collate $latin
+    rm $out/collate $out/collate.sources
+    says 0 "collate: unproved: $nothing" "names 1" -- given 'add a\nlist\n' ./collate --unproved $latin
+    says 0 "sort_names: unproved: $nothing" $'a\nb' -- given 'b\na\n' ./sort_names --unproved $latin
+    echo '// one more line' >>crates/collate_names/src/lib.rt
+    says 1 "$nothing" "no 'rt' on the path" -- ./collate --unproved $latin
+    sed -i '$d' crates/collate_names/src/lib.rt
+    says 0 "$nothing" "added" -- given 'add a\n' ./collate --unproved $latin
+    rm -r $out
+}
+
+walk_with_executable() {
+    put $out/collate
+    says 0 $'names 2\na\nb' "!$nothing" -- given 'add b\nadd a\nlist\n' ./collate $latin
+    says 0 $'Zetterlund\nÅkesson\nÖberg' '!:' -- given "$swedish" ./sort_names records/swedish.records
+    # times alone change nothing, nor does a crate of one's own
+    find crates -name '*.rt' -exec touch {} +
+    says 0 added -- given 'add a\n' ./collate $latin
+    mkdir -p crates/own/src
+    echo 'fn main(rt: HostRuntime) {}' >crates/own/src/main.rt
+    echo 'own: collate_index' >>crates.txt
+    says 0 added -- given 'add a\n' ./collate $latin
+    echo '// one more line' >>crates/collate_names/src/lib.rt
+    says 1 "no 'rt' on the path" -- ./collate $latin
+    sed -i '$d' crates/collate_names/src/lib.rt
+    sed -i '$d' crates.txt
+    rm -r crates/own
+    says 0 added -- given 'add a\n' ./collate $latin
+    (cd "$work" && says 0 added -- given 'add a\n' checkout/collate checkout/$latin; exit $status) || status=1
+    ln -s "$top/collate" "$work/link"
+    says 0 added -- given 'add a\n' "$work/link" $latin
+}
+
+walk_faults() {
+    local word
+    put $out/collate
+    says 2 "usage: collate FILE" "not understood: strenght=on" "options: strength" -- ./collate $latin strenght=on
+    says 2 "usage: collate FILE" "not understood: strength=on" "values of strength: primary" -- \
+        ./collate $latin strength=on
+    says 2 "usage: collate FILE" "given twice: numeric" -- ./collate $latin numeric=on numeric=off
+    says 2 "usage: sort_names" "not understood: strength" "values of strength: primary" -- ./sort_names $latin strength
+    says 2 "not understood: examples" -- ./collate strength=primary $latin
+    for word in ./collate ./sort_names; do
+        says 1 "cannot read nothing" "there is no such file" -- $word nothing
+        says 1 "cannot read swedish" "there is no such file; there is $top/records/swedish.records" -- $word swedish
+        says 1 "cannot read $work/no/file" "there is no folder $work/no" -- $word "$work/no/file"
+        says 1 "cannot read docs" "it is a folder" -- $word docs
+        ln -sf nowhere "$work/nowhere"
+        ln -sf nothing "$work/nowhere"
+        says 1 "cannot read $work/nowhere" "it is a link that leads nowhere" -- $word "$work/nowhere"
+        if [ "$(id -u)" != 0 ]; then
+            cp $latin "$work/closed" && chmod 0 "$work/closed"
+            says 1 "cannot read $work/closed" "it may not be read by" -- $word "$work/closed"
+        fi
+    done
+    says 1 "cannot read nothing, or it is no file" "there is no such file" -- ./sort_names --merge nothing
+    head -c 70000 /dev/zero | tr '\0' a >"$work/long"
+    says 1 "line 1: longer than 65532 bytes" -- given "$(cat "$work/long")\n" ./sort_names $latin
+    says 1 "collate: line too long" "at most 65,536 bytes" -- given "add $(cat "$work/long")\n" ./collate $latin
+    says 1 "collate: reload cut" "standard input ended before" -- given 'reload 2\n\n' ./collate $latin
+    says 0 "refused 1 grammar" '!  ' -- given 'reload 1\nw 61 ;\n' ./collate $latin
+    says 1 "collate: write" -- full_disk
+    says 0 = -- reader_away ./collate 'add a'
+    says 0 = -- reader_away ./sort_names a
+}
+
+full_disk() {
+    yes 'add a' | head -n 100000 | ./collate $latin >/dev/full
+    return "${PIPESTATUS[2]}"
+}
+
+reader_away() {
+    yes "$2" | head -n 100000 | "$1" $latin | head -n 1 >/dev/null
+}
+
+# The file of the broken ones: eight lines.
+small() {
+    printf 'class %s\n' '0302 230' '0323 220'
+    echo 'map 00E1 0061 0301'
+    printf 'w %s.0500.0.0500.0]\n' '0061 ; [2A100000' '0062 ; [2A200000'
+    printf 'w %s.0.0500.0]\n' '0301 ; [0.8800' '0302 ; [0.8A00' '0323 ; [0.8C00'
+}
+
+walk_broken_records() {
+    local add fault texts text command count=0 broken=$work/my.records
+    put $out/collate
+    small >"$work/small.records"
+    says 0 = -- ./collate "$work/small.records"
+    while IFS=$'\t' read -r add fault texts; do
+        [ -n "$fault" ] || continue
+        {
+            case $add in
+            ^*) printf '%b' "${add#^}" && small ;;
+            =*) printf '%b' "${add#=}" ;;
+            *) small && printf '%b' "$add" ;;
+            esac
+        } >"$broken"
+        count=$((count + 1))
+        text=()
+        while [ -n "$texts" ]; do
+            text+=("${texts%% & *}")
+            [[ $texts == *' & '* ]] || break
+            texts=${texts#* & }
+        done
+        # sort_names says it by the same function
+        command=./collate
+        [ $((count % 8)) != 0 ] || command=./sort_names
+        says 1 "collate: refused $fault"$'\n' "  $broken, line ${fault% *}: " "  ${fault#* }: " "${text[@]}" -- \
+            "$command" "$broken"
+    done <tools/broken_records.tsv
+    [ "$count" -ge 60 ] || complain "only $count broken files"
+    seq -f 'class %05.0f 230' 10001 10151 >"$broken"
+    says 1 "refused 151 limit" "these are 151 code points, each range counted as one, and 150 may be" -- \
+        ./collate "$broken"
+    { small && seq -f 'set numeric %02.0f' 11 11 && yes 'range 4E00 4E00 E0020200 1' | head -n 1000; } >"$broken"
+    says 1 "refused 154 limit" "these are 151 code points" -- ./collate "$broken"
+    { small && for count in $(seq 1000); do echo "w$(combination "$count") ;"; done; } >"$broken"
+    says 1 "refused 1001 limit" "these are 1001 lines that say something, and 1000 may be" -- ./collate "$broken"
+    { echo -n '# ' && head -c 1024 /dev/zero | tr '\0' a; } >"$broken"
+    says 1 "refused 1 grammar" "it has 1026 bytes; a line has at most 1024" -- ./collate "$broken"
+    yes '# a line of a comment, 32 bytes' | head -n 32769 >"$broken"
+    says 1 "refused 32769 grammar" "here the file passes 1048576 bytes" -- ./collate "$broken"
+    printf '# \033[31m\n%s\n' x >"$broken"
+    says 1 "refused 2 grammar" '!\x1B' -- ./collate "$broken"
+    printf '\033[31m\n' >"$broken"
+    says 1 "refused 1 grammar" '\x1B[31m' -- ./collate "$broken"
+}
+
+# Five letters of a to d, by the digits of a number: texts that differ.
+combination() {
+    local power
+    for power in 1 4 16 64 256; do printf ' 006%d' $((1 + ($1 / power) % 4)); done
+}
+
+walk_installed() {
+    local prefix=$work/usr name
+    put $out/collate
+    says 0 -- make
+    says 0 -- make install PREFIX="$prefix"
+    says 0 $'a\nb' "!'rt'" -- given 'b\na\n' "$prefix/bin/sort_names" "$prefix/share/leekclamp/records/latin.records"
+    says 0 "names 1" -- given 'add b\nlist\n' "$prefix/bin/collate" "$prefix/share/leekclamp/records/latin.records"
+    says 0 "$prefix/share/leekclamp/records" "$prefix/share/doc/leekclamp/RECORDS.md" -- "$prefix/bin/collate" -h
+    says 0 "$(cat VERSION)" -- "$prefix/bin/sort_names" --version
+    says 1 "there is $prefix/share/leekclamp/records/greek.records" -- "$prefix/bin/sort_names" greek
+    says 1 "the program collate_unicode is not installed here" -- "$prefix/bin/collate" --unicode $latin
+    says 0 "for a repository" "added" -- given 'add a\n' "$prefix/bin/collate" --unproved $latin
+    # what can be read once is told by its rule alone
+    says 1 "refused 1 grammar" "each line has one of the forms" -- "$prefix/bin/collate" <(echo x)
+    { small; echo 'w 0063 ; [2A200200.0500.0.0500.0]'; } >"$work/my.records"
+    says 1 "refused 9 V5" "no weight's bytes" "begins 2A2002" -- "$prefix/bin/collate" "$work/my.records"
+    for name in collate sort_names; do
+        [ -s "$prefix/share/man/man1/$name.1" ] || complain "no manual page of $name"
+        command -v man >/dev/null && says 0 "SYNOPSIS" -- man -l "$prefix/share/man/man1/$name.1"
+    done
+    says 0 -- make uninstall PREFIX="$prefix"
+    [ -z "$(find "$prefix" ! -type d)" ] || complain "left by uninstall:" "$(find "$prefix" ! -type d)"
+    says 0 -- make install PREFIX=/usr DESTDIR="$work/staged"
+    says 0 $'a\nb' -- given 'b\na\n' "$work/staged/usr/bin/sort_names" $latin
+    says 0 "packed dist/leekclamp-$(cat VERSION)-" -- make dist
+    mkdir "$work/unpacked"
+    (cd dist && sha256sum --check --quiet ./*.sha256) || complain "the checksum is another"
+    tar -C "$work/unpacked" -xzf dist/*.tar.gz
+    name=$work/unpacked/leekclamp-$(cat VERSION)-$(uname -m)-linux
+    mv "$top" "$top.away" # nothing of the repository is needed
+    cd "$work" || exit 2
+    says 0 $'a\nb' -- given 'b\na\n' "$name/bin/sort_names" "$name/share/leekclamp/records/latin.records"
+    for file in LICENSE LICENSE-UNICODE.txt NOTICE.md; do
+        [ -s "$name/$file" ] && [ -s "$name/share/doc/leekclamp/$file" ] || complain "$file isn't packed"
+    done
+    mv "$top.away" "$top"
+    cd "$top" || exit 2
+}
+
+# A stand-in for rt, which proves nothing: `run` leaves behind what a build does, slowly.
+make_stand_in() {
+    mkdir -p "$work/fake"
+    cat >"$work/fake/rt" <<TEXT
+#!/usr/bin/env bash
+[ "\$1" = run ] || exit 1
+[ ! -e "$work/fails" ] || { echo "error: not proved"; exit 1; }
+for name in \$("$top/tools/below.sh" collate | sed 's/:.*//'); do
+    [ \$name != collate ] || continue
+    mkdir -p "$top/crates/\$name/out/rlib"
+    [ -e "$top/crates/\$name/out/rlib/stamp" ] || { sleep 0.1; echo >"$top/crates/\$name/out/rlib/stamp"; }
+done
+[ ! -e "$work/edits" ] || echo '// while it is built' >>"$top/crates/collate_names/src/lib.rt"
+cp "$executable" "$top/$out/collate"
+TEXT
+    chmod +x "$work/fake/rt"
+    PATH=$work/fake:$PATH
+}
+
+walk_with_stand_in() {
+    local count
+    rm -rf crates/*/out
+    make_stand_in
+    count=$(($(tools/below.sh collate | wc -l) - 1))
+    says 1 "cannot read nothing" "there is no such file" '!building' -- ./collate nothing
+    : >"$work/fails"
+    says 1 "building, see $out/build.log" "error: not proved" '!all is proved' -- ./collate $latin
+    rm "$work/fails"
+    : >"$work/edits"
+    says 0 "collate: $count libraries to prove, and the program" "icu_packed_vector is proved, $((count - 1)) left" \
+        "collate_run is proved, 0 left" "all is proved, and built" added -- given 'add a\n' ./collate $latin
+    rm "$work/edits"
+    touch crates/*/out/rlib/stamp
+    says 0 "building, see" added -- given 'add a\n' ./collate $latin
+    says 0 '!building' added -- given 'add a\n' ./collate $latin
+    echo '// one more' >>crates/tests_collate_words/src/lib.rt
+    says 0 '!building' added -- given 'add a\n' ./collate $latin
+    # the unproved one, whose builder is a stand-in here
+    cp tools/build_unproved.sh "$work/builder"
+    printf '#!/bin/sh\ncp "%s" "$2"\n' "$executable" >tools/build_unproved.sh
+    says 0 "$nothing" "in a minute or two" "kept as $out/collate.unproved" added -- \
+        given 'add a\n' ./collate --unproved $latin
+    says 0 "$nothing" '!in a minute' added -- given 'add a\n' ./collate --unproved $latin
+    says 0 "$nothing" '!in a minute' $'a\nb' -- given 'b\na\n' ./sort_names --unproved $latin
+    echo '// one more' >>crates/collate_names/src/lib.rt
+    says 0 "$nothing" "in a minute or two" added -- given 'add a\n' ./collate --unproved $latin
+    cp "$work/builder" tools/build_unproved.sh
+    PATH=/usr/bin:/bin
+}
+
+# The commands of a page, behind `$ ` in its indented blocks, answer what stands below them.
+walk_page() {
+    local command='' wanted='' given=''
+    while IFS= read -r line || [ -n "$line" ]; do
+        if [[ $line == '    '* ]]; then line=${line#    }; else line=''; fi
+        if [ -n "$command" ] && [ -z "$given" ] && [[ $line == '    '* ]]; then
+            command+=$'\n'$line
+        elif [ -n "$command" ] && [[ -z $line || $line == '$ '* ]]; then
+            run_of_page "$1" "$command" "$wanted"
+            command='' wanted='' given=''
+        fi
+        if [[ $line == '$ '* ]]; then
+            command=${line#\$ }
+        elif [ -n "$command" ] && [[ $line != '    '* ]]; then
+            wanted+=$line$'\n'
+            given=yes
+        fi
+    done < <(cat "$1"; echo)
+}
+
+run_of_page() {
+    local said
+    looks=$((looks + 1))
+    said=$(bash -c "$2" 2>&1 </dev/null)
+    [ "$said" = "${3%$'\n'}" ] || complain "$1: another answer: $2" "$said"
+}
+
+walk_pages() {
+    put $out/collate
+    walk_page README.md
+    walk_page docs/RECORDS.md
+    walk_page docs/CALLING.md
+}
+
+# The first program of a page, in a crate of another repository that has the crates below it, as docs/CALLING.md says:
+# PAGE CRATE.
+make_elsewhere() {
+    local other=$work/other line
+    line=$(cat README.md docs/CALLING.md | tr '\n' ' ' | grep -oE "$2: [a-z0-9_ ]+" | head -n 1)
+    if [ ! -d "$other" ]; then
+        mkdir "$other"
+        git -C "$other" init -q
+        git -C "$here" archive HEAD $(tools/below.sh collate_index | sed 's#^#crates/#; s/:.*//') | tar -x -C "$other"
+        tools/below.sh collate_index >"$other/crates.txt"
+    fi
+    mkdir -p "$other/crates/$2/src"
+    awk '/^```rust$/ { inside = 1; next } inside && /^```$/ { exit } inside' "$1" >"$other/crates/$2/src/main.rt"
+    echo "$line" >>"$other/crates.txt"
+    cd "$other/crates/$2" || exit 2
+}
+
+# With the real rt: an unproved build, and the programs of the pages, which are compiled and run.
+walk_with_rt() {
+    local began
+    [ "$rt_folder" != / ] || return
+    PATH=$rt_folder:$real_path
+    rm -rf crates/*/out
+    says 0 "collate: unproved: $nothing" "in a minute or two" $'names 1\na' -- \
+        given 'add a\nlist\n' ./collate --unproved $latin
+    began=$(date +%s%N)
+    says 0 "collate: unproved: $nothing" '!in a minute' added -- given 'add a\n' ./collate --unproved $latin
+    [ $(($(date +%s%N) - began)) -lt 5000000000 ] || complain "the kept program took over five seconds"
+    make_elsewhere "$top/README.md" sorted_names
+    says 0 $'Zetterlund\nÅkesson\nÖberg' "status=0" -- \
+        given "$swedish" rt try --data "swedish.records=$top/records/swedish.records"
+    cd "$top" || exit 2
+    make_elsewhere "$top/docs/CALLING.md" compared
+    says 0 Zetterlund "status=0" -- rt try --data "swedish.records=$top/records/swedish.records"
+    cd "$top" || exit 2
+}
+
+for part in $parts; do
+    [ "$(type -t "walk_$part")" = function ] || { echo "no part $part" >&2; exit 2; }
+    "walk_$part"
+done
+echo "$looks looked at, $([ "$status" = 0 ] && echo "all as it should be" || echo "some not as they should be")"
+exit "$status"

@@ -1,0 +1,78 @@
+#!/usr/bin/env bash
+# Builds and installs the programs, or takes them away again; the Makefile calls it:
+#     tools/install.sh --build
+#     tools/install.sh PREFIX        to ${DESTDIR}PREFIX, proved executables alone
+#     tools/install.sh --remove PREFIX
+#     tools/install.sh --pack FOLDER     a release for machines without rt, and its checksum, into FOLDER
+# Executables that are missing, or of other sources than these, are proved and built first, by rt.
+set -eu
+top=$(cd "$(dirname "$(readlink -f "${BASH_SOURCE[0]}")")/.." && pwd)
+script=install
+. "$top/tools/launcher.sh"
+cd "$top"
+
+copy() {
+    local mode=$1 folder=$2
+    install -d "$folder"
+    install -m "$mode" "${@:3}" "$folder"
+}
+
+# Builds each program of the table that is there, and copies it to the folder $1, if that is given.
+build_programs() {
+    local name rest
+    while read -r _ name rest; do
+        if [ -n "$name" ] && [ -d "crates/$name" ]; then
+            crate=$name
+            prepare /dev/null
+            [ $# = 0 ] || copy 755 "$1" "$program"
+        fi
+    done <<<"$programs"
+}
+
+install_all() {
+    local prefix=${DESTDIR:-}$1 home name folder
+    home=$prefix/lib/leekclamp
+    build_programs "$home/programs"
+    copy 755 "$home" collate sort_names
+    copy 644 "$home" VERSION
+    copy 644 "$home/tools" tools/launcher.sh tools/explain.awk
+    copy 644 "$home/docs" docs/rules.tsv
+    install -d "$prefix/bin"
+    for name in collate sort_names; do
+        ln -sf "../lib/leekclamp/$name" "$prefix/bin/$name"
+    done
+    folder=$(records_folder)
+    while IFS= read -r name; do
+        copy 644 "$prefix/share/leekclamp/records/$(dirname "$name")" "$folder/$name"
+    done < <(cd "$folder" && find . -name '*.records')
+    copy 644 "$prefix/share/man/man1" docs/collate.1 docs/sort_names.1
+    copy 644 "$prefix/share/doc/leekclamp" README.md CHANGELOG.md LICENSE LICENSE-UNICODE.txt NOTICE.md \
+        docs/RECORDS.md docs/ALPHABETS.md docs/DATABASES.md
+}
+
+remove_all() {
+    local prefix=${DESTDIR:-}$1
+    rm -f "$prefix"/bin/{collate,sort_names} "$prefix"/share/man/man1/{collate,sort_names}.1
+    rm -rf "$prefix/lib/leekclamp" "$prefix/share/leekclamp" "$prefix/share/doc/leekclamp"
+}
+
+pack() {
+    local name
+    name=leekclamp-$(cat VERSION)-$(uname -m)-linux
+    room=$(mktemp -d)
+    trap 'rm -rf "$room"' EXIT
+    DESTDIR=$room install_all "/$name"
+    copy 644 "$room/$name" README.md LICENSE LICENSE-UNICODE.txt NOTICE.md
+    mkdir -p "$1"
+    tar -C "$room" --sort=name --owner=0 --group=0 --numeric-owner --mtime=@0 -cf - "$name" | gzip -n >"$1/$name.tar.gz"
+    (cd "$1" && sha256sum "$name.tar.gz" >"$name.tar.gz.sha256")
+    say "packed $1/$name.tar.gz and its checksum; unpacked, bin/collate and bin/sort_names run where they lie"
+}
+
+case ${1:-} in
+--build) build_programs ;;
+--remove) remove_all "$2" ;;
+--pack) pack "$2" ;;
+/*) install_all "$1" ;;
+*) fail "PREFIX is no path from the root: ${1:-}" ;;
+esac
