@@ -3,7 +3,10 @@
 #   a name that exists nowhere in the crates (what stands in backquotes and is one word of code), a path or link that leads nowhere
 #   a module of a crate's lib.rt that the crate's README doesn't name, and a crate without README
 #   a line of over 120 columns, and a cell of a table of over 30 words
-#   a page that code, a tool or the manual page names and that isn't there
+#   a page that code, a tool or a manual page names and that isn't there
+#   a table of rules in docs/RECORDS.md that isn't docs/rules.tsv, a picture that isn't that of its figures
+#   a word of ./collate or ./sort_names that its manual page leaves out, a version that CHANGELOG.md or README.md lacks
+#   a call that docs/PROMISES.md doesn't list with what it asks of callers, or lists otherwise (tools/asked_of_callers.py)
 set -eu
 cd "$(dirname "$(readlink -f "${BASH_SOURCE[0]}")")/.."
 mapfile -t documents < <(git ls-files '*.md')
@@ -15,7 +18,7 @@ trap 'rm -f "$words"' EXIT
     git grep -hoE '[A-Za-z_][A-Za-z0-9_-]*' -- '*.rt' '*.antt' '*.edit' '*.py' '*.sh' '*.cpp' collate sort_names crates.txt .ci
 } | sort -u >"$words"
 # names of the kit and of ICU4X, of wrong bodies that tests refuse, and how tests are named
-others=" always_memory compile_gives_up_on_large run_stops_at_first_line rattle-kit-13b rattle-kit-13f VarZeroVec ZeroVec Cow Write16 utf8_iter utf16_iter DataProvider non_exhaustive yoke zerofrom icu_normalizer icu_collections harfbuzz CanonicalCombiningClass RangeBounds ok_ "
+others=" always_memory compile_gives_up_on_large run_stops_at_first_line rattle-kit-13b rattle-kit-13f VarZeroVec ZeroVec Cow serde Write16 utf8_iter utf16_iter DataProvider non_exhaustive yoke zerofrom icu_normalizer icu_collections harfbuzz CanonicalCombiningClass RangeBounds ok_ "
 status=0
 complain() {
     echo "$1"
@@ -37,7 +40,7 @@ check_names() {
     local name word
     while IFS= read -r name; do
         case $name in
-        */*.* | crates/* | docs/* | tools/* | bench/* | examples/* | *.md | *.sh | *.py | *.txt | *.rt | *.antt | *.svg | NAME.* | ./* | .ci/*) check_path "$name" "$1" ;;
+        */*.* | crates/* | records/* | docs/* | tools/* | bench/* | examples/* | *.md | *.sh | *.py | *.txt | *.rt | *.antt | *.svg | NAME.* | ./* | .ci/*) check_path "$name" "$1" ;;
         *)
             word=${name##*[:.]}
             [[ $name == *\** || $name == *.. || $others == *" $word "* ]] || grep -qxF -- "$word" "$words" || complain "$1: no such name: $name"
@@ -73,7 +76,46 @@ check_pages_named() {
     local found
     while IFS= read -r found; do
         [ -e "${found#*:}" ] || complain "${found%%:*}: no page ${found#*:}"
-    done < <(git grep -oE '\bdocs/[A-Za-z]+\.(md|1)\b|\bCONTRIBUTING\.md\b' -- ':!*.md' | sort -u)
+    done < <(git grep -oE '\bdocs/[A-Za-z_]+\.(md|1|tsv)\b|\bCONTRIBUTING\.md\b' -- ':!*.md' | sort -u)
+}
+# The table of rules in the page, as docs/rules.tsv has it: a rule and a sentence, the rule again where a row has none.
+rules_of_page() {
+    awk -F ' *[|] *' '
+        /^## / { inside = $0 == "## Rules" }
+        inside && /^\| / && $2 != "Rule" { gsub(/`/, "", $2); if ($2 != "") rule = $2; print rule "\t" $3 }' docs/RECORDS.md
+}
+check_rules() {
+    local found
+    found=$(diff <(rules_of_page) docs/rules.tsv | sed -n 's#^< #docs/RECORDS.md, not docs/rules.tsv: #p; s#^> #docs/rules.tsv, not docs/RECORDS.md: #p')
+    [ -z "$found" ] || complain "$found"
+}
+check_pictures() {
+    local tool found
+    for tool in tools/draw_crates.py tools/draw_ratios.py; do
+        found=$("$tool" --check 2>&1) || complain "$found"
+    done
+}
+# The words of a script are those that its help begins a line with.
+check_words() {
+    local script word
+    for script in collate sort_names; do
+        while IFS= read -r word; do
+            sed 's/\\-/-/g' "docs/$script.1" | grep -qwF -e "$word" || complain "docs/$script.1: the word $word is not there"
+        done < <("./$script" --help | grep -oE '^(collate|    |sort_names) *(--[a-z]+)|, (-h)\b' | grep -oE -e '-?-[a-z]+' | sort -u)
+    done
+}
+# The limits that ./collate tells of a file are those of the page.
+check_limits() {
+    local bytes points lines number
+    read -r bytes points lines < <(sed -n 's/^- *collate *\([0-9]\)/\1/p' tools/launcher.sh)
+    for number in "$bytes bytes" "$points different code points" "$lines lines"; do
+        number=$(sed -E ':again; s/([0-9])([0-9]{3})\b/\1,\2/; t again' <<<"$number")
+        grep -qF "at most $number" docs/RECORDS.md || complain "docs/RECORDS.md: not at most $number, as tools/launcher.sh has it"
+    done
+}
+check_version() {
+    grep -q "^## $(cat VERSION)," CHANGELOG.md || complain "CHANGELOG.md: no heading of version $(cat VERSION)"
+    grep -qF "Version $(cat VERSION) " README.md || complain "README.md: not version $(cat VERSION)"
 }
 for document in "${documents[@]}"; do
     check_names "$document"
@@ -84,4 +126,10 @@ for folder in crates/*/; do
     check_modules "$(basename "$folder")"
 done
 check_pages_named
+check_rules
+check_pictures
+check_words
+check_limits
+check_version
+tools/asked_of_callers.py --check || status=1
 exit "$status"

@@ -1,5 +1,5 @@
 #!/usr/bin/python3
-"""Compares the order by the records of crates/examples_alphabets/data with ICU4C's collators of the same languages, by hand.
+"""Compares the order by the files of `records` with ICU4C's collators of the same languages, by hand.
 
   compare_icu.py [NAMES [SEED [LANGUAGE..]]]
 
@@ -26,7 +26,7 @@ def is_alike(language, count, seed):
         characters += SYLLABLES
     names = [name for name in random_names(characters, count, seed) if name.strip(' ') == name]
     collator = collator_of(alphabet)
-    with open(f'{ROOT}/crates/examples_alphabets/data/{language}.records') as file:
+    with open(f'{ROOT}/records/{language}.records') as file:
         ours = keys_by_program(file.read(), names)
     return are_alike(language, names, ours, [collator.getSortKey(name) for name in names])
 
