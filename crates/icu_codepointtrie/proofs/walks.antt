@@ -1,3 +1,4 @@
 pub mod MappedRangeLemmas
 pub mod SharedBlockLemmas
 pub mod MaximalRangeLemmas
+pub mod CellRunLemmas

@@ -3,6 +3,7 @@ pub mod TrieValueLaws
 pub mod Places
 pub mod Ranges
 pub mod SharedBlocks
+pub mod CellRuns
 pub mod RangeIterators
 pub mod CodePointMaps
 pub mod TomlTables

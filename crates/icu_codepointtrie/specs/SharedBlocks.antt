@@ -1,6 +1,6 @@
 -- Aligned blocks of a trie that are found through one cell of the index have the same values.
-use Rattle.std.specs.Prelude.{◌≡◌, ℕ, ◌+◌, ◌-◌, ◌/◌, ◌%◌, ◌^◌, ◌<◌, ◌≤◌, ◌≢◌, nat_lt, List, length, Option, Some, slice_get, if◌then◌else◌}
-use Rattle.icu_codepointtrie.specs.Places.{TrieTables, found, data_offset, place_or_last, has_cell, value_at}
+use Rattle.std.specs.Prelude.{◌≡◌, ℕ, ◌+◌, ◌-◌, ◌/◌, ◌%◌, ◌^◌, ◌<◌, ◌≤◌, ◌≢◌, Bool, nat_lt, List, length, Option, Some, slice_get, if◌then◌else◌}
+use Rattle.icu_codepointtrie.specs.Places.{TrieTables, found, data_offset, is_inside, place_or_last, has_cell, value_at}
 use Rattle.icu_codepointtrie.specs.Ranges.{IsConstant}
 
 -- a block's key is its index cell where it is one of 64 below the fast limit, and 10000 (hex) more
@@ -18,10 +18,15 @@ key_place index key r =
 abbrev pub key_value : {T : Type 0} → TrieTables T → ℕ → ℕ → Option T
 key_value t key r = slice_get t.cells (place_or_last (key_place t.index key r) (length t.cells))
 
+-- whether there is a cell
+abbrev pub key_has_cell : {T : Type 0} → TrieTables T → ℕ → ℕ → Bool
+key_has_cell t key r = is_inside (key_place t.index key r) (length t.cells)
+
 -- the block that begins at the code point has the key
 pub record IsKey {T : Type 0} (t : TrieTables T) (c key : ℕ) : Type 0 where
   pub inside : c + key_width key ≤ 0x11_0000
   pub values : (r : ℕ) → r < key_width key → value_at t (c + r) ≡ key_value t key r
+  pub cells : (r : ℕ) → r < key_width key → has_cell t (c + r) ≡ key_has_cell t key r
 
 -- a block with the key has this value throughout
 abbrev pub IsUniform : {T : Type 0} → TrieTables T → T → ℕ → Type 0

@@ -4,6 +4,7 @@
 #![tactic(auto)]
 
 mod builder;
+mod cell_runs;
 mod iterators;
 pub mod laws;
 pub mod planes;

@@ -8,3 +8,4 @@ pub mod decomposed_lists
 pub mod faults
 pub mod full_lists
 pub mod settling
+pub mod steps

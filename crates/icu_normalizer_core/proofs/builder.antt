@@ -12,6 +12,8 @@ pub mod SettledWordLemmas
 pub mod CharacterWordLemmas
 pub mod WordMapLemmas
 pub mod MoreBlockLemmas
+pub mod FirstMappingLemmas
+pub mod FirstClassLemmas
 pub mod FullListWordLemmas
 pub mod BuiltMapLemmas
 pub mod AcceptedMapLemmas
@@ -27,3 +29,4 @@ pub mod UnnamedWordLemmas
 pub mod NamedLemmas
 pub mod GivenLemmas
 pub mod StandardLimitLemmas
+pub mod SeenNameLemmas

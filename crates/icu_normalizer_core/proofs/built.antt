@@ -1,2 +1,3 @@
 -- what is built in
 pub mod BuiltInFacts
+pub mod GapFacts

@@ -3,3 +3,4 @@ pub mod CompatibilityWalkLemmas
 pub mod CompatibleLemmas
 pub mod FixedListLemmas
 pub mod SteadyCompatibilityLemmas
+pub mod HarmlessLemmas

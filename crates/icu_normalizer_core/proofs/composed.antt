@@ -3,3 +3,4 @@ pub mod CompositionLemmas
 pub mod PairLemmas
 pub mod SteadyLemmas
 pub mod ReadingLemmas
+pub mod SyllableLemmas

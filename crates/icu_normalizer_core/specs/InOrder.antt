@@ -1,17 +1,16 @@
 -- Numbers in the order of their keys, where a number's key is its quotient by a divisor.
-use Rattle.std.specs.Prelude.{◌≡◌, ℕ, suc, ◌/◌, ◌<◌, ◌≤◌, ◌==◌, cond, ltb, List, [], ◌∷◌, length, slice_index, Option, Some, None}
+use Rattle.std.specs.Prelude.{◌≡◌, ℕ, suc, ◌/◌, ◌<◌, ◌≤◌, ◌==◌, List, length, slice_index, Option, Some}
+use Rattle.std.specs.BTreeMap.{BTreeMap, get}
 use Rattle.std.specs.List.{find}
+use Rattle.std.specs.Ordering.{nat_cmp}
 
 -- the first number of a key
 abbrev pub first_of : ℕ → List ℕ → ℕ → Option ℕ
 first_of divisor numbers key = find (λ n. (n / divisor) == key) numbers
 
--- the number is the first of its key, which is the least from a bound on; or there is none from there on
-abbrev pub IsLeastFrom : ℕ → List ℕ → ℕ → Option ℕ → Type 0
-IsLeastFrom divisor numbers from None = (key : ℕ) → from ≤ key → first_of divisor numbers key ≡ None
-IsLeastFrom divisor numbers from (Some n) =
-    (from ≤ n / divisor) × (first_of divisor numbers (n / divisor) ≡ Some n)
-    × ((key : ℕ) → from ≤ key → key < n / divisor → first_of divisor numbers key ≡ None)
+-- a map has the first number of each key
+abbrev pub HasFirsts : ℕ → List ℕ → BTreeMap ℕ ℕ → Type 0
+HasFirsts divisor numbers firsts = (key : ℕ) → get nat_cmp firsts key ≡ first_of divisor numbers key
 
 -- keys rise
 abbrev pub Rise : ℕ → List ℕ → Type 0
@@ -23,19 +22,3 @@ pub record AreFirstsInOrder (divisor : ℕ) (numbers sorted : List ℕ) : Type 0
   pub firsts : (key : ℕ) → first_of divisor sorted key ≡ first_of divisor numbers key
   pub kept : (i : ℕ) → i < length sorted → first_of divisor numbers (slice_index sorted i / divisor) ≡ Some (slice_index sorted i)
   pub few : length sorted ≤ length numbers
-
--- how many numbers have a key below a bound
-unfoldable pub count_below : ℕ → ℕ → List ℕ → ℕ
-count_below divisor bound [] = 0
-count_below divisor bound (n ∷ rest) =
-    let others = count_below divisor bound rest
-    in cond (ltb (n / divisor) bound) (suc others) others
-
--- this, up to a bound
-pub record AreFirstsBelow (divisor : ℕ) (numbers : List ℕ) (bound : ℕ) (sorted : List ℕ) : Type 0 where
-  pub rise : Rise divisor sorted
-  pub below : (i : ℕ) → i < length sorted → slice_index sorted i / divisor < bound
-  pub firsts : (key : ℕ) → key < bound → first_of divisor sorted key ≡ first_of divisor numbers key
-  pub none : (key : ℕ) → bound ≤ key → first_of divisor sorted key ≡ None
-  pub kept : (i : ℕ) → i < length sorted → first_of divisor numbers (slice_index sorted i / divisor) ≡ Some (slice_index sorted i)
-  pub few : length sorted ≤ count_below divisor bound numbers

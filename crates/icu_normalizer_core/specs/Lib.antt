@@ -22,6 +22,8 @@ pub mod CompatibilityWalks
 pub mod DataErrors
 pub mod Decoding
 pub mod Decompositions
+pub mod FirstClasses
+pub mod FirstMappings
 pub mod FormData
 pub mod Forming
 pub mod FullLists
@@ -46,5 +48,7 @@ pub mod Sameness
 pub mod Settled
 pub mod SettledMappings
 pub mod SteadyAnswers
+pub mod StepOrder
+pub mod StepVisits
 pub mod Triples
 pub mod Words

@@ -1,11 +1,17 @@
 -- Characters that are named, each once.
 use Rattle.std.specs.Prelude.{◌≡◌, ℕ, ◌≤◌, ◌<◌, ◌/◌, ◌⊎◌, cond, List, [], ◌∷◌, ◌++◌, map, nat_eq}
 use Rattle.std.specs.List.{IsDistinct}
+use Rattle.std.specs.BTreeSet.{BTreeSet, contains}
+use Rattle.std.specs.Ordering.{nat_cmp}
 use Rattle.std.specs.Set.{distinct_count, is_member}
 
 -- a list with a character, which is put behind the others where it isn't there
 abbrev pub with_new : List ℕ → ℕ → List ℕ
 with_new named c = cond (is_member nat_eq named c) named (named ++ c ∷ [])
+
+-- the set has the characters of the list
+abbrev pub HasThese : BTreeSet ℕ → List ℕ → Type 0
+HasThese seen named = (c : ℕ) → contains nat_cmp seen c ≡ is_member nat_eq named c
 
 -- in how many aligned blocks of a width characters stand
 abbrev pub block_count : ℕ → List ℕ → ℕ

@@ -11,3 +11,4 @@ pub mod decomposition;
 pub mod laws;
 pub mod properties;
 pub mod provider;
+pub mod step_order;

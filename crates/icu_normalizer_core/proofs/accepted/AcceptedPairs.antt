@@ -115,3 +115,7 @@ module _ (lists : CanonicalLists) (a : IsAccepted lists) where
 
   pub canonical : IsCanonical (canonical_of lists)
   canonical = record { decomposing = decomposing lists a; composing = composing }
+
+  -- what a listed pair composes to has no built-in mapping
+  pub listed_free : (x y z : ℕ) → (canonical_of lists).pair x y ≡ Some z → syllable_of x y ≡ None → built_in_step z ≡ None
+  listed_free x y z e none = (listed_good x y z e none).free

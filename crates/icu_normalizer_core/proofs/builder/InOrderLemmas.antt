@@ -1,21 +1,22 @@
--- Numbers in the order of their keys: one number more.
-use Rattle.std.proofs.Common.{◌≡◌, ◌≢◌, ℕ, zero, suc, ◌+◌, ◌/◌, ◌<◌, ◌≤◌, ⊎_elim, Bool, true, false, List, [], ◌∷◌, ◌++◌, length, slice_index, Option, Some, None, ◌==◌, refl, sym, ap, subst, ◌∙◌, arith, length-append, cond, ltb}
-use Rattle.std.specs.List.{find}
-use Rattle.std.proofs.lemmas.Bool.{cases_lt, cases_eq, cases_Bool, eq-eqb, ne_eqb, lt-ltb, le-ltb}
+-- Numbers in the order of their keys: a map of the first of each key, and its values.
+use Rattle.std.proofs.Common.{◌≡◌, ℕ, zero, suc, ◌+◌, ◌/◌, ◌<◌, ◌≤◌, ⊎_elim, Bool, true, false, List, [], ◌∷◌, ◌++◌, length, slice_index, take, get_or, Option, Some, None, ◌==◌, refl, sym, ap, subst, ◌∙◌, arith, cond}
+use Rattle.std.specs.BTreeMap.{BTreeMap, btree_map_len, get, values, is_at, IsOrdered}
+use Rattle.std.specs.List.{AllByRecursion, find}
+use Rattle.std.specs.Map.{keys_of, values_of, lookup}
+use Rattle.std.specs.Option.{option_or}
+use Rattle.std.specs.Ordering.{nat_cmp}
+use Rattle.std.proofs.lemmas.Bool.{cases_Bool, eqb-true}
+use Rattle.std.proofs.lemmas.Bool.Decides.{nat_tests}
+use Rattle.std.proofs.lemmas.Cmp.{nat_cmp_total}
+use Rattle.std.proofs.lemmas.List.{take_more}
+use Rattle.std.proofs.lemmas.List.Elements.{recursion_from_All}
 use Rattle.std.proofs.lemmas.List.Folds.{find-append}
-use Rattle.icu_normalizer_core.specs.InOrder.{first_of, count_below, IsLeastFrom, Rise, AreFirstsInOrder, AreFirstsBelow}
+use Rattle.std.proofs.lemmas.Map.Entries.{btree_map_get_place, length-keys_of, length-values_of}
+use Rattle.std.proofs.lemmas.Map.Keys.{below_from_sorted}
+use Rattle.std.proofs.lemmas.Option.{slice_get-get_or}
+use Rattle.icu_normalizer_core.specs.InOrder.{first_of, HasFirsts, AreFirstsInOrder}
 
 -- ---- One element more
-
-pub find_same : {X : Type 0} (p : X → Bool) (xs : List X) (y : X) → p y ≡ false → find p (xs ++ y ∷ []) ≡ find p xs
-find_same p [] y e = rw e refl
-find_same p (x ∷ xs) y e = ap (λ (o : Option _). cond (p x) (Some x) o) (find_same p xs y e)
-
-pub find_before : {X : Type 0} (p : X → Bool) (xs : List X) (x y : X) → find p xs ≡ Some x → find p (xs ++ y ∷ []) ≡ Some x
-find_before p xs x y e = find-append p xs (y ∷ []) ∙ rw e refl
-
-pub find_last : {X : Type 0} (p : X → Bool) (xs : List X) (y : X) → find p xs ≡ None → p y ≡ true → find p (xs ++ y ∷ []) ≡ Some y
-find_last p xs y e t = find-append p xs (y ∷ []) ∙ rw e (rw t refl)
 
 pub index_before : (xs ys : List ℕ) (i : ℕ) → i < length xs → slice_index (xs ++ ys) i ≡ slice_index xs i
 index_before [] ys i h = absurd (omega arith)
@@ -26,154 +27,88 @@ pub index_last : (xs : List ℕ) (y : ℕ) → slice_index (xs ++ y ∷ []) (len
 index_last [] y = refl
 index_last (x ∷ xs) y = index_last xs y
 
-key_same : (n key divisor : ℕ) → n / divisor ≡ key → ((n / divisor) == key) ≡ true
-key_same n key divisor e = eq-eqb (n / divisor) key e
+-- one more number is noted
+pub firsts_noted : (divisor : ℕ) (numbers : List ℕ) (i n : ℕ) (old new : BTreeMap ℕ ℕ) → i < length numbers → slice_index numbers i ≡ n → HasFirsts divisor (take i numbers) old
+    → ((key : ℕ) → get nat_cmp new key ≡ option_or (get nat_cmp old key) (cond (n / divisor == key) (Some n) None)) → HasFirsts divisor (take (i + 1) numbers) new
+firsts_noted divisor numbers i n old new h is has noted key =
+    noted key ∙ ap (λ (o : Option ℕ). option_or o (cond (n / divisor == key) (Some n) None)) (has key)
+    ∙ sym (find-append (λ m. m / divisor == key) (take i numbers) (n ∷ []))
+    ∙ ap (λ (xs : List ℕ). first_of divisor xs key) (sym (subst (λ (m : ℕ). take (i + 1) numbers ≡ take i numbers ++ m ∷ []) is (take_more numbers i 0 h)))
 
-key_other : (n key divisor : ℕ) → n / divisor ≢ key → ((n / divisor) == key) ≡ false
-key_other n key divisor e = ne_eqb (n / divisor) key e
+-- of which there are at most as many as numbers
+pub few_more : (count more i : ℕ) → more ≤ count + 1 → count ≤ i → more ≤ i + 1
+few_more count more i step few = omega arith
 
-pub first_same : (divisor : ℕ) (numbers : List ℕ) (n key : ℕ) → n / divisor ≢ key → first_of divisor (numbers ++ n ∷ []) key ≡ first_of divisor numbers key
-first_same divisor numbers n key e = find_same (λ m. (m / divisor) == key) numbers n (key_other n key divisor e)
+-- ---- The values of a map in the order of its keys, where each value has its key
 
-first_before : (divisor : ℕ) (numbers : List ℕ) (m n key : ℕ) → first_of divisor numbers key ≡ Some m → first_of divisor (numbers ++ n ∷ []) key ≡ Some m
-first_before divisor numbers m n key e = find_before (λ m. (m / divisor) == key) numbers m n e
+is_at_key : (key k : ℕ) → is_at (nat_cmp key) k ≡ (k == key)
+is_at_key key k = grind (arith, nat_tests)
 
-pub first_last : (divisor : ℕ) (numbers : List ℕ) (n key : ℕ) → first_of divisor numbers key ≡ None → n / divisor ≡ key → first_of divisor (numbers ++ n ∷ []) key ≡ Some n
-first_last divisor numbers n key none e = find_last (λ m. (m / divisor) == key) numbers n none (key_same n key divisor e)
+abbrev Keyed : ℕ → List (ℕ × ℕ) → Type 0
+Keyed divisor es = AllByRecursion (λ e. e.1 / divisor ≡ e.0) es
 
--- ---- The least so far
+first_listed : (divisor key : ℕ) (es : List (ℕ × ℕ)) → Keyed divisor es → first_of divisor (values_of es) key ≡ lookup (is_at (nat_cmp key)) es
+first_listed divisor key [] keyed = refl
+first_listed divisor key (e ∷ es) keyed =
+    ap (λ (b : Bool). cond b (Some e.1) (first_of divisor (values_of es) key)) (ap (λ (k : ℕ). k == key) keyed.0 ∙ sym (is_at_key key e.0))
+    ∙ ap (λ (o : Option ℕ). cond (is_at (nat_cmp key) e.0) (Some e.1) o) (first_listed divisor key es keyed.1)
 
--- a number whose key is below the bound
-pub least_past : (divisor : ℕ) (numbers : List ℕ) (n from : ℕ) (least : Option ℕ) → n / divisor < from
-    → IsLeastFrom divisor numbers from least → IsLeastFrom divisor (numbers ++ n ∷ []) from least
-least_past divisor numbers n from None below is =
-    λ key h. first_same divisor numbers n key (λ e. omega arith) ∙ is key h
-least_past divisor numbers n from (Some m) below is = (
-  is.0,
-  first_before divisor numbers m n (m / divisor) is.1,
-  λ key h lt. first_same divisor numbers n key (λ e. omega arith) ∙ is.2 key h lt,
-)
+key_at : (divisor : ℕ) (es : List (ℕ × ℕ)) → Keyed divisor es → (i : ℕ) → i < length es → slice_index (values_of es) i / divisor ≡ slice_index (keys_of es) i
+key_at divisor [] keyed i h = absurd (omega arith)
+key_at divisor (e ∷ es) keyed zero h = keyed.0
+key_at divisor (e ∷ es) keyed (suc i) h = key_at divisor es keyed.1 i (omega arith)
 
--- the first from the bound on
-pub least_first : (divisor : ℕ) (numbers : List ℕ) (n from : ℕ) → from ≤ n / divisor
-    → IsLeastFrom divisor numbers from None → IsLeastFrom divisor (numbers ++ n ∷ []) from (Some n)
-least_first divisor numbers n from h is = (
-  h,
-  first_last divisor numbers n (n / divisor) (is (n / divisor) h) refl,
-  λ key above lt. first_same divisor numbers n key (λ e. omega arith) ∙ is key above,
-)
-
--- one below the least so far
-pub least_below : (divisor : ℕ) (numbers : List ℕ) (m n from : ℕ) → from ≤ n / divisor → n / divisor < m / divisor
-    → IsLeastFrom divisor numbers from (Some m) → IsLeastFrom divisor (numbers ++ n ∷ []) from (Some n)
-least_below divisor numbers m n from h lt is = (
-  h,
-  first_last divisor numbers n (n / divisor) (is.2 (n / divisor) h lt) refl,
-  λ key above before. first_same divisor numbers n key (λ e. omega arith) ∙ is.2 key above (omega arith),
-)
-
--- one that isn't
-pub least_stays : (divisor : ℕ) (numbers : List ℕ) (m n from : ℕ) → m / divisor ≤ n / divisor
-    → IsLeastFrom divisor numbers from (Some m) → IsLeastFrom divisor (numbers ++ n ∷ []) from (Some m)
-least_stays divisor numbers m n from h is = (
-  is.0,
-  first_before divisor numbers m n (m / divisor) is.1,
-  λ key above lt. first_same divisor numbers n key (λ e. omega arith) ∙ is.2 key above lt,
-)
-
--- ---- The next in order
-
-rise_more : (divisor : ℕ) (sorted : List ℕ) (n : ℕ) → Rise divisor sorted → ((i : ℕ) → i < length sorted → slice_index sorted i / divisor < n / divisor)
-    → Rise divisor (sorted ++ n ∷ [])
-rise_more divisor sorted n rise below i h =
-    let within : i < length sorted = omega (arith, length-append sorted (n ∷ [])) in
+found_passes : {X : Type 0} (p : X → Bool) (xs : List X) (x : X) → find p xs ≡ Some x → p x ≡ true
+found_passes p [] x e = absurd cc
+found_passes {X} p (y ∷ ys) x e =
     ⊎_elim
-    (λ (lt : suc i < length sorted). rw (index_before sorted (n ∷ []) i within, index_before sorted (n ∷ []) (suc i) lt) (rise i lt))
-    (λ (ge : length sorted ≤ suc i).
-    let last : suc i ≡ length sorted = omega arith in
-    rw (index_before sorted (n ∷ []) i within, last, index_last sorted n) (below i within))
-    (cases_lt (suc i) (length sorted))
+    (λ (t : p y ≡ true).
+    let same : Some y ≡ Some x = sym (ap (λ (b : Bool). cond b (Some y) (find p ys)) t) ∙ e in
+    let here : y ≡ x = cc in
+    subst (λ (z : X). p z ≡ true) here t)
+    (λ (f : p y ≡ false). found_passes p ys x (sym (ap (λ (b : Bool). cond b (Some y) (find p ys)) f) ∙ e))
+    (cases_Bool (p y))
 
--- ---- How many there are
+-- each entry is the first of its key
+abbrev AreOf : ℕ → List ℕ → List (ℕ × ℕ) → Type 0
+AreOf divisor numbers es = AllByRecursion (λ e. first_of divisor numbers e.0 ≡ Some e.1) es
 
-count_most : (divisor bound : ℕ) (xs : List ℕ) → count_below divisor bound xs ≤ length xs
-unfolding count_below
-count_most divisor bound [] = omega arith
-count_most divisor bound (x ∷ xs) = let h = count_most divisor bound xs in ⊎_elim (λ t. rw t (omega arith)) (λ f. rw f (omega arith)) (cases_Bool (ltb (x / divisor) bound))
+entries_of : (divisor : ℕ) (numbers : List ℕ) (firsts : BTreeMap ℕ ℕ) → HasFirsts divisor numbers firsts → IsOrdered nat_cmp firsts → AreOf divisor numbers firsts.entries
+entries_of divisor numbers firsts has ordered =
+    recursion_from_All (λ (e : ℕ × ℕ). first_of divisor numbers e.0 ≡ Some e.1) firsts.entries
+    (λ i d h.
+    let e : ℕ × ℕ = get_or firsts.entries i d in
+    sym (has e.0) ∙ btree_map_get_place nat_cmp_total firsts i e.0 e.1 ordered (slice_get-get_or firsts.entries i d h))
 
-count_wider : (divisor low high : ℕ) (xs : List ℕ) → low ≤ high → count_below divisor low xs ≤ count_below divisor high xs
-unfolding count_below
-count_wider divisor low high [] h = omega arith
-count_wider divisor low high (x ∷ xs) h =
-    let later = count_wider divisor low high xs h in
-    ⊎_elim
-    (λ (below : x / divisor < low). rw (lt-ltb (x / divisor) low below, lt-ltb (x / divisor) high (omega arith)) (omega arith))
-    (λ (past : low ≤ x / divisor). rw (le-ltb (x / divisor) low past) (⊎_elim (λ t. rw t (omega arith)) (λ f. rw f (omega arith)) (cases_Bool (ltb (x / divisor) high))))
-    (cases_lt (x / divisor) low)
+with_key : (divisor : ℕ) (numbers : List ℕ) (e : ℕ × ℕ) → first_of divisor numbers e.0 ≡ Some e.1 → e.1 / divisor ≡ e.0
+with_key divisor numbers e is = eqb-true (e.1 / divisor) e.0 (found_passes (λ n. n / divisor == e.0) numbers e.1 is)
 
--- one more has a key below the next bound
-count_more : (divisor low n : ℕ) (xs : List ℕ) → low ≤ n / divisor → first_of divisor xs (n / divisor) ≡ Some n
-    → count_below divisor low xs < count_below divisor (n / divisor + 1) xs
-unfolding count_below
-count_more divisor low n [] h e = absurd cc
-count_more divisor low n (x ∷ xs) h e =
-    ⊎_elim
-    (λ (same : x / divisor ≡ n / divisor).
-    let wider = count_wider divisor low (n / divisor + 1) xs (omega arith) in
-    rw (le-ltb (x / divisor) low (omega arith), lt-ltb (x / divisor) (n / divisor + 1) (omega arith)) (omega arith))
-    (λ (other : x / divisor ≢ n / divisor).
-    let rest : first_of divisor xs (n / divisor) ≡ Some n = sym (ap (λ (b : Bool). cond b (Some x) (first_of divisor xs (n / divisor))) (key_other x (n / divisor) divisor other)) ∙ e in
-    let later = count_more divisor low n xs h rest in
-    ⊎_elim
-    (λ (below : x / divisor < low). rw (lt-ltb (x / divisor) low below, lt-ltb (x / divisor) (n / divisor + 1) (omega arith)) (omega arith))
-    (λ (past : low ≤ x / divisor). rw (le-ltb (x / divisor) low past) (⊎_elim (λ t. rw t (omega arith)) (λ f. rw f (omega arith)) (cases_Bool (ltb (x / divisor) (n / divisor + 1)))))
-    (cases_lt (x / divisor) low))
-    (cases_eq (x / divisor) (n / divisor))
+with_keys : (divisor : ℕ) (numbers : List ℕ) (es : List (ℕ × ℕ)) → AreOf divisor numbers es → Keyed divisor es
+with_keys divisor numbers [] all = tt
+with_keys divisor numbers (e ∷ es) all = (with_key divisor numbers e all.0, with_keys divisor numbers es all.1)
 
-pub firsts_more : (divisor : ℕ) (numbers sorted : List ℕ) (n from : ℕ) → AreFirstsBelow divisor numbers from sorted
-    → IsLeastFrom divisor numbers from (Some n) → AreFirstsBelow divisor numbers (n / divisor + 1) (sorted ++ n ∷ [])
-firsts_more divisor numbers sorted n from so_far is =
-    let each : (Q : ℕ → Type 0) → ((i : ℕ) → i < length sorted → Q (slice_index sorted i)) → Q n → (i : ℕ) → i < length (sorted ++ n ∷ []) → Q (slice_index (sorted ++ n ∷ []) i) =
-    λ Q before last i h. ⊎_elim
-    (λ (lt : i < length sorted). subst Q (sym (index_before sorted (n ∷ []) i lt)) (before i lt))
-    (λ (ge : length sorted ≤ i).
-    let at : i ≡ length sorted = omega (arith, length-append sorted (n ∷ [])) in
-    rw (at, index_last sorted n) last)
-    (cases_lt i (length sorted)) in
-    record {
-      rise = rise_more divisor sorted n so_far.rise (λ i h. omega (arith, so_far.below i h, is.0));
-      below = each (λ m. m / divisor < n / divisor + 1) (λ i h. omega (arith, so_far.below i h, is.0)) (omega arith);
-      firsts = λ key h. ⊎_elim
-          (λ (lt : key < n / divisor).
-          first_same divisor sorted n key (λ e. omega arith) ∙ ⊎_elim
-          (λ (low : key < from). so_far.firsts key low)
-          (λ (high : from ≤ key). so_far.none key high ∙ sym (is.2 key high lt))
-          (cases_lt key from))
-          (λ (ge : n / divisor ≤ key).
-          let at : n / divisor ≡ key = omega arith in
-          first_last divisor sorted n key (so_far.none key (omega (arith, is.0))) at
-          ∙ sym (subst (λ (k : ℕ). first_of divisor numbers k ≡ Some n) at is.1))
-          (cases_lt key (n / divisor));
-      none = λ key h. first_same divisor sorted n key (λ e. omega arith) ∙ so_far.none key (omega (arith, is.0));
-      kept = each (λ m. first_of divisor numbers (m / divisor) ≡ Some m) so_far.kept is.1;
-      few = omega (arith, so_far.few, count_more divisor from n numbers is.0 is.1, length-append sorted (n ∷ []));
-    }
+kept_at : (divisor : ℕ) (numbers : List ℕ) (es : List (ℕ × ℕ)) → AreOf divisor numbers es → (i : ℕ) → i < length es
+    → first_of divisor numbers (slice_index (values_of es) i / divisor) ≡ Some (slice_index (values_of es) i)
+kept_at divisor numbers [] all i h = absurd (omega arith)
+kept_at divisor numbers (e ∷ es) all zero h = subst (λ (k : ℕ). first_of divisor numbers k ≡ Some e.1) (sym (with_key divisor numbers e all.0)) all.0
+kept_at divisor numbers (e ∷ es) all (suc i) h = kept_at divisor numbers es all.1 i (omega arith)
 
-pub firsts_none : (divisor : ℕ) (numbers : List ℕ) → AreFirstsBelow divisor numbers 0 []
-firsts_none divisor numbers = record {
-  rise = λ i h. absurd (omega arith);
-  below = λ i h. absurd (omega arith);
-  firsts = λ key h. absurd (omega arith);
-  none = λ key h. refl;
-  kept = λ i h. absurd (omega arith);
-  few = omega arith;
-}
-
-pub firsts_all : (divisor : ℕ) (numbers sorted : List ℕ) (from : ℕ) → AreFirstsBelow divisor numbers from sorted
-    → IsLeastFrom divisor numbers from None → AreFirstsInOrder divisor numbers sorted
-firsts_all divisor numbers sorted from so_far is = record {
-  rise = so_far.rise;
-  firsts = λ key. ⊎_elim (λ (low : key < from). so_far.firsts key low) (λ (high : from ≤ key). so_far.none key high ∙ sym (is key high)) (cases_lt key from);
-  kept = so_far.kept;
-  few = omega (arith, so_far.few, count_most divisor from numbers);
-}
+-- the numbers of a map of firsts are the firsts in order
+pub firsts_in_order : (divisor : ℕ) (numbers sorted : List ℕ) (firsts : BTreeMap ℕ ℕ) → HasFirsts divisor numbers firsts → btree_map_len firsts ≤ length numbers
+    → IsOrdered nat_cmp firsts → sorted ≡ values firsts → AreFirstsInOrder divisor numbers sorted
+firsts_in_order divisor numbers sorted firsts has few ordered is =
+    let of : AreOf divisor numbers firsts.entries = entries_of divisor numbers firsts has ordered in
+    let keyed : Keyed divisor firsts.entries = with_keys divisor numbers firsts.entries of in
+    let many : length (values_of firsts.entries) ≡ length firsts.entries = length-values_of firsts.entries in
+    subst (AreFirstsInOrder divisor numbers) (sym is) (record {
+      rise = λ i h.
+          let within : suc i < length firsts.entries = subst (λ (n : ℕ). suc i < n) many h in
+          let here : slice_index (values_of firsts.entries) i / divisor ≡ slice_index (keys_of firsts.entries) i = key_at divisor firsts.entries keyed i (omega arith) in
+          let next : slice_index (values_of firsts.entries) (suc i) / divisor ≡ slice_index (keys_of firsts.entries) (suc i) = key_at divisor firsts.entries keyed (suc i) within in
+          let up : slice_index (keys_of firsts.entries) i < slice_index (keys_of firsts.entries) (suc i) =
+          below_from_sorted (keys_of firsts.entries) i (suc i) 0 ordered (omega arith) (subst (λ (n : ℕ). suc i < n) (sym (length-keys_of firsts.entries)) within) in
+          omega arith;
+      firsts = λ key. first_listed divisor key firsts.entries keyed ∙ has key;
+      kept = λ i h. kept_at divisor numbers firsts.entries of i (subst (λ (n : ℕ). i < n) many h);
+      few = subst (λ (n : ℕ). n ≤ length numbers) (sym many) few;
+    })

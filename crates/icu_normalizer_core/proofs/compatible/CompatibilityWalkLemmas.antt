@@ -1,21 +1,16 @@
 -- What a walk over the code points finds of compatibility words that are at fault.
-use Rattle.std.proofs.Common.{◌≡◌, ℕ, ◌+◌, ◌<◌, ◌≤◌, ⊎_elim, Bool, true, false, ◌&&◌, ◌==◌, Option, None, Some, refl, sym, ap, subst, ◌∙◌, arith}
-use Rattle.std.specs.Option.{unwrap_or}
+use Rattle.std.proofs.Common.{◌≡◌, ℕ, ◌+◌, ◌<◌, ◌≤◌, inl, inr, ⊎_elim, Bool, true, false, ◌&&◌, ◌==◌, Option, None, Some, refl, sym, ap, subst, ◌∙◌, arith}
 use Rattle.std.specs.Char.{IsScalar}
 use Rattle.std.proofs.lemmas.Bool.{and_from, both_ways, cases_lt, eq-eqb}
 use Rattle.std.proofs.lemmas.Option.{none-some}
-use Rattle.icu_codepointtrie.specs.SharedBlocks.{IsTail, IsCellTail}
-use Rattle.icu_normalizer_core.specs.declared.canonical.tables.CanonicalTables.{CanonicalTables}
-use Rattle.icu_normalizer_core.specs.declared.canonical.canonical_words.Words.{Words}
 use Rattle.icu_normalizer_core.specs.declared.compatibility.check.walk.Faults.{Faults}
 use Rattle.icu_normalizer_core.specs.CanonicalFaults.{NoneOffends, IsLeastOffender}
 use Rattle.icu_normalizer_core.specs.CanonicalLists.{CanonicalLists, canonical_of}
-use Rattle.icu_normalizer_core.specs.CanonicalMeaning.{lists_of}
-use Rattle.icu_normalizer_core.specs.CanonicalWords.{is_word, class_of_word, plain_word}
+use Rattle.icu_normalizer_core.specs.CanonicalWords.{is_word, class_of_word}
 use Rattle.icu_normalizer_core.specs.CompatibilityFaults.{OffendsWord, OffendsWordList, OffendsFixed}
-use Rattle.icu_normalizer_core.specs.CompatibilityWalks.{SaysNothing, NoneOffendsBelow, IsLeastBelow, AreFaultsBelow}
-use Rattle.icu_normalizer_core.specs.Words.{WordLists, class_in, word_lists}
-use Rattle.icu_normalizer_core.proofs.compatible.FixedListLemmas.{fixed_past}
+use Rattle.icu_normalizer_core.specs.CompatibilityWalks.{SaysNothing, NoneOffendsBelow, IsLeastBelow, AreFaultsBelow, IsHarmless, AreHarmless}
+use Rattle.icu_normalizer_core.specs.Words.{WordLists, class_in}
+use Rattle.icu_normalizer_core.proofs.compatible.HarmlessLemmas.{syllable_fixed, syllable_list, syllable_word}
 use Rattle.icu_normalizer_core.proofs.decoded.ScalarLemmas.{scalar_below}
 use Rattle.icu_normalizer_core.proofs.accepted.TableMeanings.{class_is, zero_form}
 use Rattle.icu_normalizer_core.proofs.full_lists.WordListLemmas.{plain_good}
@@ -39,21 +34,18 @@ module _ (lists : CanonicalLists) (words : WordLists) (c : ℕ) (silent : SaysNo
   pub silent_fixed : OffendsFixed words c → ⊥
   silent_fixed bad = none-some bad.0 (sym silent.3 ∙ bad.1)
 
--- where tries have one word from a limit on, and those of U+10FFFF say nothing
-pub silent_tail : (tables : CanonicalTables) (words : Words) (low high start : ℕ) → IsTail tables.trie low → IsTail words.trie.now high → IsCellTail words.trie.now high
-    → SaysNothing (lists_of tables) (word_lists words) 0x10FFFF → low ≤ start → high ≤ start → 0x10000 ≤ start
-    → (c : ℕ) → start ≤ c → c < 0x110000 → SaysNothing (lists_of tables) (word_lists words) c
-silent_tail tables words low high start tail others cells last from_low from_high past c ge lt =
-    let within : c ≤ 0x10FFFF = omega (arith, lt) in
-    let reached : low ≤ c = omega (arith, from_low, ge) in
-    let limited : low ≤ 0x10FFFF = omega (arith, reached, within) in
-    let attained : high ≤ c = omega (arith, from_high, ge) in
-    let bounded : high ≤ 0x10FFFF = omega (arith, attained, within) in (
-      cells c 0x10FFFF attained within bounded (omega arith) ∙ last.0,
-      ap (λ v. plain_word (unwrap_or v 0)) (others c 0x10FFFF attained within bounded (omega arith)) ∙ last.1,
-      ap (λ v. plain_word (unwrap_or v 0)) (tail c 0x10FFFF reached within limited (omega arith)) ∙ last.2,
-      fixed_past c (omega (arith, past, ge)),
-    )
+-- nor is a syllable with the word of syllables
+harmless_word : (lists : CanonicalLists) (words : WordLists) (c : ℕ) → IsHarmless lists words c → OffendsWord lists words c → ⊥
+harmless_word lists words c (inl silent) = silent_word lists words c silent
+harmless_word lists words c (inr syllable) = syllable_word lists words c syllable
+
+harmless_list : (lists : CanonicalLists) (words : WordLists) (c : ℕ) → IsHarmless lists words c → IsScalar c → OffendsWordList lists words c → ⊥
+harmless_list lists words c (inl silent) scalar = silent_list lists words c silent scalar
+harmless_list lists words c (inr syllable) scalar = syllable_list lists words c syllable
+
+harmless_fixed : (lists : CanonicalLists) (words : WordLists) (c : ℕ) → IsHarmless lists words c → OffendsFixed words c → ⊥
+harmless_fixed lists words c (inl silent) = silent_fixed lists words c silent
+harmless_fixed lists words c (inr syllable) = syllable_fixed lists words c syllable
 
 -- ---- One code point more
 
@@ -82,18 +74,27 @@ least_next Offends code None next true none scalar sound faulty is =
 least_next Offends code None next false none scalar sound faulty is = subst (IsLeastBelow Offends (code + 1)) (sym (is.some refl refl)) (scalar, faulty refl, none)
 
 -- none is found of all
-all_of_none : (Offends : ℕ → Type 0) (code : ℕ) (found : Option ℕ) → found ≡ None → IsLeastBelow Offends code found
-    → ((c : ℕ) → code ≤ c → IsScalar c → Offends c → ⊥) → NoneOffends Offends
-all_of_none Offends code None e none past c scalar bad = ⊎_elim (λ lt. none c scalar lt bad) (λ ge. past c ge scalar bad) (cases_lt c code)
-all_of_none Offends code (Some d) e least past c scalar bad = none-some d (sym e)
+all_of_none : (Offends : ℕ → Type 0) (found : Option ℕ) → found ≡ None → IsLeastBelow Offends 0x110000 found → NoneOffends Offends
+all_of_none Offends None e none c scalar bad = none c scalar (scalar_below c scalar) bad
+all_of_none Offends (Some d) e least c scalar bad = none-some d (sym e)
+
+-- further code points that don't offend
+none_further : (Offends : ℕ → Type 0) (code end : ℕ) → NoneOffendsBelow Offends code → ((d : ℕ) → code ≤ d → d < end → IsScalar d → Offends d → ⊥) → NoneOffendsBelow Offends end
+none_further Offends code end none more d scalar lt bad =
+    ⊎_elim (λ before. none d scalar before bad) (λ ge. more d ge lt scalar bad) (cases_lt d code)
+
+least_further : (Offends : ℕ → Type 0) (code end : ℕ) (found : Option ℕ) → IsLeastBelow Offends code found
+    → ((d : ℕ) → code ≤ d → d < end → IsScalar d → Offends d → ⊥) → IsLeastBelow Offends end found
+least_further Offends code end None none more = none_further Offends code end none more
+least_further Offends code end (Some d) least more = least
 
 module _ (lists : CanonicalLists) (words : WordLists) (code : ℕ) (faults : Faults) (below : AreFaultsBelow lists words code faults) where
-  -- a code point that is no character, or one that says nothing
-  pub faults_same : (IsScalar code → SaysNothing lists words code) → AreFaultsBelow lists words (code + 1) faults
-  faults_same silent = record {
-    values = none_more (OffendsWord lists words) code below.values (λ scalar. silent_word lists words code (silent scalar));
-    full_lists = least_same (OffendsWordList lists words) code faults.full_list below.full_lists (λ scalar. silent_list lists words code (silent scalar) scalar);
-    built_ins = least_same (OffendsFixed words) code faults.built_in below.built_ins (λ scalar. silent_fixed lists words code (silent scalar));
+  -- a code point that is no character
+  pub faults_same : (IsScalar code → ⊥) → AreFaultsBelow lists words (code + 1) faults
+  faults_same other = record {
+    values = none_more (OffendsWord lists words) code below.values (λ scalar. absurd (other scalar));
+    full_lists = least_same (OffendsWordList lists words) code faults.full_list below.full_lists (λ scalar. absurd (other scalar));
+    built_ins = least_same (OffendsFixed words) code faults.built_in below.built_ins (λ scalar. absurd (other scalar));
   }
 
   -- one that is looked at, whose word is good
@@ -107,19 +108,24 @@ module _ (lists : CanonicalLists) (words : WordLists) (code : ℕ) (faults : Fau
     built_ins = least_next (OffendsFixed words) code faults.built_in next.built_in fixed below.built_ins scalar kept broken built_in;
   }
 
-  -- the faults of the whole walk, where the others say nothing
-  pub all_values : ((c : ℕ) → code ≤ c → c < 0x110000 → SaysNothing lists words c) → NoneOffends (OffendsWord lists words)
-  all_values silent c scalar bad =
-      ⊎_elim (λ lt. below.values c scalar lt bad) (λ ge. silent_word lists words c (silent c ge (scalar_below c scalar)) bad) (cases_lt c code)
+  -- code points one after another with which nothing is wrong
+  pub faults_further : (end : ℕ) → AreHarmless lists words code end → AreFaultsBelow lists words end faults
+  faults_further end harmless = record {
+    values = none_further (OffendsWord lists words) code end below.values (λ d ge lt scalar. harmless_word lists words d (harmless d ge lt));
+    full_lists = least_further (OffendsWordList lists words) code end faults.full_list below.full_lists (λ d ge lt scalar. harmless_list lists words d (harmless d ge lt) scalar);
+    built_ins = least_further (OffendsFixed words) code end faults.built_in below.built_ins (λ d ge lt scalar. harmless_fixed lists words d (harmless d ge lt));
+  }
 
-  pub all_full_lists : faults.full_list ≡ None → ((c : ℕ) → code ≤ c → c < 0x110000 → SaysNothing lists words c) → NoneOffends (OffendsWordList lists words)
-  all_full_lists e silent =
-      all_of_none (OffendsWordList lists words) code faults.full_list e below.full_lists
-      (λ c ge scalar. silent_list lists words c (silent c ge (scalar_below c scalar)) scalar)
+-- the faults of all code points
+module _ (lists : CanonicalLists) (words : WordLists) (faults : Faults) (below : AreFaultsBelow lists words 0x110000 faults) where
+  pub all_values : NoneOffends (OffendsWord lists words)
+  all_values c scalar = below.values c scalar (scalar_below c scalar)
 
-  pub all_built_ins : faults.built_in ≡ None → ((c : ℕ) → code ≤ c → c < 0x110000 → SaysNothing lists words c) → NoneOffends (OffendsFixed words)
-  all_built_ins e silent =
-      all_of_none (OffendsFixed words) code faults.built_in e below.built_ins (λ c ge scalar. silent_fixed lists words c (silent c ge (scalar_below c scalar)))
+  pub all_full_lists : faults.full_list ≡ None → NoneOffends (OffendsWordList lists words)
+  all_full_lists e = all_of_none (OffendsWordList lists words) faults.full_list e below.full_lists
+
+  pub all_built_ins : faults.built_in ≡ None → NoneOffends (OffendsFixed words)
+  all_built_ins e = all_of_none (OffendsFixed words) faults.built_in e below.built_ins
 
 -- one is found
 pub least_of_some : (Offends : ℕ → Type 0) (code d : ℕ) (found : Option ℕ) → found ≡ Some d → IsLeastBelow Offends code found → IsLeastOffender Offends d

@@ -1,25 +1,29 @@
--- Lists of the code points that are not plain, collected one by one; a plain character is at fault for nothing.
-use Rattle.std.proofs.Common.{◌≡◌, ◌≢◌, ℕ, ◌+◌, ◌*◌, ◌-◌, ◌<◌, ◌≤◌, ◌⊎◌, inl, inr, ⊎_elim, List, [], ◌∷◌, ◌++◌, length, slice_index, Option, Some, None, sym, ap, subst, ◌∙◌, arith, length-append}
+-- Lists of the code points of which there is something to be told, collected one by one; any other is at fault for nothing.
+use Rattle.std.proofs.Common.{◌≡◌, ◌≢◌, ℕ, ◌+◌, ◌*◌, ◌-◌, ◌<◌, ◌≤◌, ◌⊎◌, inl, inr, ⊎_elim, Bool, true, false, ◌&&◌, ◌||◌, leb, List, [], ◌∷◌, ◌++◌, length, slice_index, Option, Some, None, refl, sym, ap, subst, ◌∙◌, arith, length-append}
 use Rattle.std.specs.Option.{MatchOption}
 use Rattle.std.specs.List.{Contains}
 use Rattle.std.specs.Char.{IsScalar}
-use Rattle.std.proofs.lemmas.Bool.{and_from, cases_lt, both_ways}
-use Rattle.std.proofs.lemmas.Option.{none-some}
-use Rattle.std.specs.Option.{unwrap_or}
-use Rattle.icu_codepointtrie.specs.SharedBlocks.{IsTail, IsCellTail}
+use Rattle.std.proofs.lemmas.Bool.{and_from, and_parts, cases_lt, both_ways, cond-true, leb-true}
+use Rattle.std.proofs.lemmas.Bool.Decides.{nat_tests}
+use Rattle.std.proofs.lemmas.Option.{none-some, same_Some}
+use Rattle.std.specs.Option.{is_some, unwrap_or}
+use Rattle.icu_codepointtrie.specs.Places.{has_cell}
+use Rattle.icu_codepointtrie.specs.CellRuns.{IsEndOfCells}
+use Rattle.icu_normalizer_core.specs.BuiltIn.{built_in_class, is_syllable, singled_out}
+use Rattle.icu_normalizer_core.specs.Canonical.{IsFree}
 use Rattle.icu_normalizer_core.specs.declared.canonical.tables.CanonicalTables.{CanonicalTables}
 use Rattle.icu_normalizer_core.specs.CanonicalFaults.{OffendsValue, OffendsList, OffendsBuiltIn}
 use Rattle.icu_normalizer_core.specs.CanonicalLists.{CanonicalLists, AreTriples, canonical_of}
 use Rattle.icu_normalizer_core.specs.CanonicalMeaning.{lists_of}
-use Rattle.icu_normalizer_core.specs.CanonicalWords.{is_word, plain_word}
-use Rattle.icu_normalizer_core.specs.Plain.{IsPlain, IsIn, Rises, Tells, ArePlainFrom, IsCursor, TellsBelow}
+use Rattle.icu_normalizer_core.specs.CanonicalWords.{built_in_full, class_of_word, full_of_word, is_inside, is_mark_word, is_singled_word, is_word, plain_word, states_list, syllable_letters}
+use Rattle.icu_normalizer_core.specs.Plain.{AreSilent, AreUntold, IsCursor, IsIn, IsNothingBuiltIn, IsPlain, IsPlainSyllable, IsRun, IsSilent, IsUntold, Rises, Tells, TellsBelow}
 use Rattle.icu_normalizer_core.specs.Triples.{IsUnlisted}
-use Rattle.icu_normalizer_core.proofs.built.BuiltInFacts.{free_full, no_class_past, free_past}
+use Rattle.icu_normalizer_core.proofs.built.BuiltInFacts.{free_full, syllable_mapped}
 use Rattle.icu_normalizer_core.proofs.builder.InOrderLemmas.{index_before, index_last}
 use Rattle.icu_normalizer_core.proofs.faults.FaultLemmas.{own_good}
 use Rattle.icu_normalizer_core.proofs.faults.OffenderLemmas.{IsLeastIn}
 use Rattle.icu_normalizer_core.proofs.decoded.ScalarLemmas.{scalar_below}
-use Rattle.icu_normalizer_core.proofs.accepted.TableMeanings.{step_free, zero_form}
+use Rattle.icu_normalizer_core.proofs.accepted.TableMeanings.{class_is, full_is, step_free, zero_form}
 use Rattle.icu_normalizer_core.proofs.settling.TripleLemmas.{keys_rise, unlisted_between, listed_none}
 
 -- ---- A list with one more
@@ -72,13 +76,6 @@ cursor_on steps code place t at inside key = record {
   above = λ h. let up = keys_rise steps t place (place + 1) (omega arith) h in omega (arith, up, key);
 }
 
-cursor_unlisted : (steps : List ℕ) (code place : ℕ) → AreTriples steps → IsCursor steps code place
-    → (3 * place + 2 < length steps → slice_index steps (3 * place) ≢ code) → IsUnlisted steps code
-cursor_unlisted steps code place t at other =
-    unlisted_between steps code place t at.below
-    (λ h. let key = at.above h in let whole = t.whole in let ne = other (omega (arith, h, whole)) in omega (arith, key, ne))
-    at.within
-
 -- ---- What is collected of the code points below one
 
 pub tells_none : (lists : CanonicalLists) → TellsBelow lists [] 0 0
@@ -99,17 +96,12 @@ each_more told code Q before c h =
     (λ ge. let at : c ≡ code = omega arith in inl (subst (λ (d : ℕ). IsIn (told ++ code ∷ []) d) (sym at) (in_last told code)))
     (cases_lt c code)
 
-each_past : (told : List ℕ) (code : ℕ) (Q : ℕ → Type 0) → ((c : ℕ) → c < code → IsIn told c ⊎ Q c) → Q code
-    → (c : ℕ) → c < code + 1 → IsIn told c ⊎ Q c
-each_past told code Q before here c h =
-    ⊎_elim (λ lt. before c lt) (λ ge. let at : c ≡ code = omega arith in inr (subst Q (sym at) here)) (cases_lt c code)
-
 module _ (lists : CanonicalLists) (told : List ℕ) (code place : ℕ) (so_far : TellsBelow lists told code place) where
   pub tells_listed : 3 * place + 2 < length lists.steps → slice_index lists.steps (3 * place) ≡ code → TellsBelow lists (told ++ code ∷ []) (code + 1) (place + 1)
   tells_listed inside key = record {
     rises = rises_more told code so_far.rises so_far.below;
     below = below_more told code so_far.below;
-    words = each_more told code (IsPlain lists) so_far.words;
+    words = each_more told code (IsUntold lists) so_far.words;
     cursor = λ t. cursor_on lists.steps code place t (so_far.cursor t) inside key;
     triples = λ t. each_more told code (IsUnlisted lists.steps) (so_far.triples t);
   }
@@ -118,29 +110,20 @@ module _ (lists : CanonicalLists) (told : List ℕ) (code place : ℕ) (so_far :
   tells_told other = record {
     rises = rises_more told code so_far.rises so_far.below;
     below = below_more told code so_far.below;
-    words = each_more told code (IsPlain lists) so_far.words;
+    words = each_more told code (IsUntold lists) so_far.words;
     cursor = λ t. cursor_past lists.steps code place t (so_far.cursor t) other;
     triples = λ t. each_more told code (IsUnlisted lists.steps) (so_far.triples t);
   }
 
-  pub tells_past : (3 * place + 2 < length lists.steps → slice_index lists.steps (3 * place) ≢ code) → IsPlain lists code → TellsBelow lists told (code + 1) place
-  tells_past other plain = record {
-    rises = so_far.rises;
-    below = λ i h. let lt = so_far.below i h in omega (arith, lt);
-    words = each_past told code (IsPlain lists) so_far.words plain;
-    cursor = λ t. cursor_past lists.steps code place t (so_far.cursor t) other;
-    triples = λ t. each_past told code (IsUnlisted lists.steps) (so_far.triples t) (cursor_unlisted lists.steps code place t (so_far.cursor t) other);
-  }
-
--- no triple has its key from the code point to before one further up, and each of these is plain
+-- no triple has its key from the code point to before one further up, and there is nothing to be told of these
 module _ (lists : CanonicalLists) (told : List ℕ) (code place further : ℕ) (so_far : TellsBelow lists told code place) where
-  pub tells_further : code ≤ further → ((c : ℕ) → code ≤ c → c < further → IsPlain lists c)
+  pub tells_further : code ≤ further → AreUntold lists code further
       → (AreTriples lists.steps → 3 * place < length lists.steps → further ≤ slice_index lists.steps (3 * place))
       → TellsBelow lists told further place
-  tells_further up plain above = record {
+  tells_further up untold above = record {
     rises = so_far.rises;
     below = λ i h. let lt = so_far.below i h in omega (arith, lt, up);
-    words = λ c h. ⊎_elim (λ lt. so_far.words c lt) (λ ge. inr (plain c ge h)) (cases_lt c code);
+    words = λ c h. ⊎_elim (λ lt. so_far.words c lt) (λ ge. inr (untold c ge h)) (cases_lt c code);
     cursor = λ t. record {
       within = (so_far.cursor t).within;
       below = λ some. let key = (so_far.cursor t).below some in omega (arith, key, up);
@@ -155,43 +138,60 @@ module _ (lists : CanonicalLists) (told : List ℕ) (code place further : ℕ) (
         (cases_lt c code);
   }
 
--- a triple's key from the code point on, where all are plain
-pub tells_triple : (lists : CanonicalLists) (told : List ℕ) (code place start key : ℕ) → TellsBelow lists told code place
-    → ArePlainFrom lists start → start ≤ code → code ≤ key → key < 0x110000
-    → 3 * place + 2 < length lists.steps → slice_index lists.steps (3 * place) ≡ key → TellsBelow lists (told ++ key ∷ []) (key + 1) (place + 1)
-tells_triple lists told code place start key so_far plain from up to inside same =
-    tells_listed lists told key place
-    (tells_further lists told code place key so_far up (λ c ge lt. plain c (omega (arith, from, ge)) (omega (arith, lt, to))) (λ t h. omega (arith, same)))
-    inside same
+-- of triples that rise none has its key from the code point to before one that was passed
+pub key_behind : (lists : CanonicalLists) (told : List ℕ) (code place reached passed : ℕ) → TellsBelow lists told code place
+    → (3 * place + 2 < length lists.steps → slice_index lists.steps (3 * place) ≢ code)
+    → (3 * place + 2 < length lists.steps → code < slice_index lists.steps (3 * place) → reached ≤ slice_index lists.steps (3 * place))
+    → passed ≤ reached → AreTriples lists.steps → 3 * place < length lists.steps → passed ≤ slice_index lists.steps (3 * place)
+key_behind lists told code place reached passed so_far other behind up t h =
+    let whole = t.whole in
+    let inside : 3 * place + 2 < length lists.steps = omega arith in
+    let key = (so_far.cursor t).above h in
+    let ne = other inside in
+    let further = behind inside (omega (arith, key, ne)) in
+    omega (arith, further, up)
 
--- no triple is left that has its key below 110000, and from the code point on all are plain
-pub tells_all : (lists : CanonicalLists) (told : List ℕ) (code place start : ℕ) → TellsBelow lists told code place
-    → ArePlainFrom lists start → start ≤ code → code ≤ 0x110000
-    → (AreTriples lists.steps → 3 * place < length lists.steps → 0x110000 ≤ slice_index lists.steps (3 * place))
-    → Tells lists told
-tells_all lists told code place start so_far plain from to none_left =
-    let all = tells_further lists told code place 0x110000 so_far to (λ c ge lt. plain c (omega (arith, from, ge)) lt) none_left in
-    record {
-      rises = all.rises;
-      words = all.words;
-      triples = all.triples;
-    }
+pub tells_all : (lists : CanonicalLists) (told : List ℕ) (code place : ℕ) → TellsBelow lists told code place → 0x110000 ≤ code → Tells lists told
+tells_all lists told code place so_far past = record {
+  rises = so_far.rises;
+  words = λ c h. so_far.words c (omega (arith, past, h));
+  triples = λ t c h. so_far.triples t c (omega (arith, past, h));
+}
 
--- ---- Where a trie has one word from a limit on, and that of U+10FFFF is plain
+-- ---- Runs of one word
 
-pub plain_tail : (tables : CanonicalTables) (limit start : ℕ) → IsTail tables.trie limit → IsCellTail tables.trie limit
-    → IsPlain (lists_of tables) 0x10FFFF → limit ≤ start → 0x10000 ≤ start → ArePlainFrom (lists_of tables) start
-plain_tail tables limit start tail cells last from high c ge lt =
-    let past : 0x10000 ≤ c = omega (arith, high, ge) in
-    let reached : limit ≤ c = omega (arith, from, ge) in
-    let within : c ≤ 0x10FFFF = omega (arith, lt) in
-    let limited : limit ≤ 0x10FFFF = omega (arith, reached, within) in (
-      cells c 0x10FFFF reached within limited (omega arith) ∙ last.0,
-      ap (λ v. plain_word (unwrap_or v 0)) (tail c 0x10FFFF reached within limited (omega arith)) ∙ last.1,
-      omega (arith, past),
-      no_class_past c past,
-      free_past c past,
-    )
+pub run_from : (tables : CanonicalTables) (start end code stop : ℕ) → IsRun tables start end → start ≤ code → code < stop → stop ≤ end → IsRun tables code stop
+run_from tables start end code stop run from some to = record {
+  words = λ c low high. run.words c (omega (arith, from, low)) (omega (arith, high, to)) ∙ sym (run.words code from (omega (arith, some, to)));
+  cells = λ c low high. run.cells c (omega (arith, from, low)) (omega (arith, high, to)) ∙ sym (run.cells code from (omega (arith, some, to)));
+}
+
+pub end_is_run : (tables : CanonicalTables) (start end : ℕ) → IsEndOfCells tables.trie start end → IsRun tables start end
+end_is_run tables start end is = record { words = is.values; cells = is.cells }
+
+untold_of : (lists : CanonicalLists) (c : ℕ) → lists.has_word c ≡ true → IsSilent (lists.word c) c → IsUntold lists c
+untold_of lists c has (inl w) = inl (has, w.0, w.1.0, w.1.1, w.1.2)
+untold_of lists c has (inr w) = inr (has, w.0, w.1)
+
+pub silent_nothing : (word code stop : ℕ) → word ≡ 0 → ((c : ℕ) → code ≤ c → c < stop → IsNothingBuiltIn c) → AreSilent word code stop
+silent_nothing word code stop zero nothing c low high = inl (zero, nothing c low high)
+
+pub silent_syllables : (word code stop : ℕ) → word ≡ 1 → ((c : ℕ) → code ≤ c → c < stop → is_syllable c ≡ true) → AreSilent word code stop
+silent_syllables word code stop one syllables c low high = inr (one, syllables c low high)
+
+pub silent_none : (word code : ℕ) → AreSilent word code code
+silent_none word code c low high = absurd (omega (arith, low, high))
+
+pub untold_none : (lists : CanonicalLists) (code : ℕ) → AreUntold lists code code
+untold_none lists code c low high = absurd (omega (arith, low, high))
+
+-- what the word of a run says nothing of
+pub untold_run : (tables : CanonicalTables) (code end silence stop : ℕ) → IsRun tables code end → has_cell tables.trie code ≡ true
+    → AreSilent ((lists_of tables).word code) code silence → stop ≤ silence → stop ≤ end → AreUntold (lists_of tables) code stop
+untold_run tables code end silence stop run has silent within to c low high =
+    let word : (lists_of tables).word c ≡ (lists_of tables).word code = ap (λ v. plain_word (unwrap_or v 0)) (run.words c low (omega (arith, high, to))) in
+    untold_of (lists_of tables) c (run.cells c low (omega (arith, high, to)) ∙ has)
+    (subst (λ (w : ℕ). IsSilent w c) (sym word) (silent c low (omega (arith, high, within))))
 
 -- ---- A plain character is at fault for nothing
 
@@ -216,25 +216,100 @@ module _ (lists : CanonicalLists) (c : ℕ) (plain : IsPlain lists c) where
   plain_built_in unlisted (inr (inr (inr (inr (inr w))))) =
       none_in ((canonical_of lists).step c) w.1.0 (step_free lists c w.0 ∙ listed_none lists.steps c unlisted) w.1.1
 
+-- ---- A syllable with its word is at fault for nothing
+
+pub one_form : (c : ℕ) → is_syllable c ≡ true → is_word c 1 ≡ true
+unfolding is_word
+one_form c e = ap (λ (b : Bool). false || (true && b) || is_mark_word 1 || (is_singled_word 1 && is_some (singled_out c)) || states_list 1) e
+
+pub one_class : (c : ℕ) → class_of_word c 1 ≡ 0
+unfolding class_of_word
+one_class c = refl
+
+pub one_inside : (scalars16 scalars24 : List ℕ) → is_inside scalars16 scalars24 1 ≡ true
+unfolding is_inside
+one_inside scalars16 scalars24 = refl
+
+pub one_letters : (scalars16 scalars24 : List ℕ) (c : ℕ) → full_of_word scalars16 scalars24 c 1 ≡ syllable_letters c
+unfolding full_of_word
+one_letters scalars16 scalars24 c = refl
+
+class_built_in : (c : ℕ) → 0xac00 ≤ c → c ≤ 0xd7a3 → built_in_class c ≡ Some 0
+unfolding built_in_class
+class_built_in c h k = grind (arith, nat_tests)
+
+pub full_built_in : (c : ℕ) → is_syllable c ≡ true → built_in_full c ≡ Some (syllable_letters c)
+unfolding built_in_full
+full_built_in c e = cond-true (is_syllable c) _ _ e
+
+module _ (lists : CanonicalLists) (c : ℕ) (plain : IsPlainSyllable lists c) where
+  from : 0xac00 ≤ c
+  from = leb-true 0xac00 c (and_parts (leb 0xac00 c) (leb c 0xd7a3) plain.2).0
+
+  to : c ≤ 0xd7a3
+  to = leb-true c 0xd7a3 (and_parts (leb 0xac00 c) (leb c 0xd7a3) plain.2).1
+
+  bound : IsFree c → ⊥
+  bound free = none-some _ (sym free ∙ syllable_mapped c plain.2)
+
+  full_same : (canonical_of lists).full c ≡ syllable_letters c
+  full_same = full_is lists c ∙ ap (full_of_word lists.scalars16 lists.scalars24 c) plain.1 ∙ one_letters lists.scalars16 lists.scalars24 c
+
+  syllable_value : OffendsValue lists c → ⊥
+  syllable_value bad = both_ways _ bad (and_from (lists.has_word c) (is_word c (lists.word c)) plain.0 (ap (is_word c) plain.1 ∙ one_form c plain.2))
+
+  syllable_list : AreTriples lists.steps → IsUnlisted lists.steps c → OffendsList lists c → ⊥
+  syllable_list t unlisted (inl zero) = zero.1 t
+  syllable_list t unlisted (inr bad) = bound bad.0
+
+  syllable_built_in : IsUnlisted lists.steps c → OffendsBuiltIn lists c → ⊥
+  syllable_built_in unlisted (inl w) =
+      w.2 (class_is lists c ∙ ap (class_of_word c) plain.1 ∙ one_class c ∙ same_Some 0 w.0 (sym (class_built_in c from to) ∙ w.1))
+  syllable_built_in unlisted (inr (inl w)) = w.2 (listed_none lists.steps c unlisted)
+  syllable_built_in unlisted (inr (inr (inl w))) =
+      let letters : syllable_letters c ≡ w.0 = same_Some (syllable_letters c) w.0 (sym (full_built_in c plain.2) ∙ w.1) in
+      ⊎_elim
+      (λ outside. both_ways _ outside (ap (is_inside lists.scalars16 lists.scalars24) plain.1 ∙ one_inside lists.scalars16 lists.scalars24))
+      (λ other. other (full_same ∙ letters))
+      w.2
+  syllable_built_in unlisted (inr (inr (inr (inl low)))) = let h = from in let k = low.0 in omega (arith, h, k)
+  syllable_built_in unlisted (inr (inr (inr (inr (inl low))))) = let h = from in let k = low.0 in omega (arith, h, k)
+  syllable_built_in unlisted (inr (inr (inr (inr (inr w))))) = bound w.0
+
+-- ---- What isn't told is at fault for nothing
+
+module _ (lists : CanonicalLists) (c : ℕ) where
+  untold_value : IsUntold lists c → OffendsValue lists c → ⊥
+  untold_value (inl plain) = plain_value lists c plain
+  untold_value (inr plain) = syllable_value lists c plain
+
+  untold_list : AreTriples lists.steps → IsUntold lists c → IsUnlisted lists.steps c → OffendsList lists c → ⊥
+  untold_list t (inl plain) = plain_list lists c plain t
+  untold_list t (inr plain) = syllable_list lists c plain t
+
+  untold_built_in : IsUntold lists c → IsUnlisted lists.steps c → OffendsBuiltIn lists c → ⊥
+  untold_built_in (inl plain) = plain_built_in lists c plain
+  untold_built_in (inr plain) = syllable_built_in lists c plain
+
 -- each character is told, or does not offend
 abbrev pub IsKept : (ℕ → Type 0) → List ℕ → Type 0
 IsKept Offends told = (c : ℕ) → IsScalar c → IsIn told c ⊎ (Offends c → ⊥)
 
 module _ (lists : CanonicalLists) (told : List ℕ) (tells : Tells lists told) where
   pub kept_values : IsKept (OffendsValue lists) told
-  kept_values c s = ⊎_elim (λ w. inl w) (λ plain. inr (plain_value lists c plain)) (tells.words c (scalar_below c s))
+  kept_values c s = ⊎_elim (λ w. inl w) (λ untold. inr (untold_value lists c untold)) (tells.words c (scalar_below c s))
 
-  kept : AreTriples lists.steps → (Offends : ℕ → Type 0) → ((c : ℕ) → IsPlain lists c → IsUnlisted lists.steps c → Offends c → ⊥) → IsKept Offends told
+  kept : AreTriples lists.steps → (Offends : ℕ → Type 0) → ((c : ℕ) → IsUntold lists c → IsUnlisted lists.steps c → Offends c → ⊥) → IsKept Offends told
   kept t Offends harmless c s =
       ⊎_elim (λ w. inl w)
-      (λ plain. ⊎_elim (λ w. inl w) (λ unlisted. inr (harmless c plain unlisted)) (tells.triples t c (scalar_below c s)))
+      (λ untold. ⊎_elim (λ w. inl w) (λ unlisted. inr (harmless c untold unlisted)) (tells.triples t c (scalar_below c s)))
       (tells.words c (scalar_below c s))
 
   pub kept_lists : AreTriples lists.steps → IsKept (OffendsList lists) told
-  kept_lists t = kept t (OffendsList lists) (λ c plain unlisted. plain_list lists c plain t unlisted)
+  kept_lists t = kept t (OffendsList lists) (λ c untold unlisted. untold_list lists c t untold unlisted)
 
   pub kept_built_ins : AreTriples lists.steps → IsKept (OffendsBuiltIn lists) told
-  kept_built_ins t = kept t (OffendsBuiltIn lists) (λ c plain unlisted. plain_built_in lists c plain unlisted)
+  kept_built_ins t = kept t (OffendsBuiltIn lists) (λ c untold unlisted. untold_built_in lists c untold unlisted)
 
 -- the least offender of those that are told is the least of all
 pub least_told : (Offends : ℕ → Type 0) (told : List ℕ) → IsKept Offends told → (r : Option ℕ)

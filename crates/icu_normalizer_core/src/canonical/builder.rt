@@ -14,6 +14,7 @@ ghost use Rattle.icu_normalizer_core.specs.CompatibilityMeaning.{nfkd_lists};
 ghost use Rattle.icu_normalizer_core.specs.Plain.{Tells};
 
 mod built_words;
+mod classes;
 mod compatibility_tables;
 mod compatibility_words;
 mod full_list_words;

@@ -10,7 +10,7 @@ use icu_codepointtrie::CodePointTrie;
 use icu_packed_vector::PackedVec;
 
 /// All bits of a word but the two uppermost, which say nothing here.
-pub(super) const PLAIN_WORD: u32 = 0x3fff_ffff;
+pub(crate) const PLAIN_WORD: u32 = 0x3fff_ffff;
 
 /// The words of code points, with the lists that they name places in.
 #[derive(Clone, Copy, Debug)]

@@ -17,7 +17,7 @@ mod own;
 mod pairs;
 pub(super) mod settle;
 pub(super) mod steady;
-pub(super) mod told;
+pub(crate) mod told;
 mod values;
 
 use super::tables::{CanonicalFault, CanonicalTables};

@@ -14,23 +14,17 @@ mod walk;
 
 use crate::canonical::canonical_words::Words;
 use crate::canonical::{CanonicalFault, CanonicalTables};
-use walk::{Faults, silent_from, with_code};
+use walk::faults_of;
 
 /// What the words are to be refused for, `None` where they pass every check.
 pub(crate) fn first_fault(tables: &CanonicalTables<'_>, words: Words<'_>) -> Option<CanonicalFault>
     requires { IsAccepted (lists_of tables.now) }
     ensures { MatchOption result (AreAcceptedWords (lists_of tables.now) (word_lists words.entry)) (IsFirstWordFault (lists_of tables.now) (word_lists words.entry)) }
 {
-    let mut faults = Faults {
-        full_list: None,
-        built_in: None,
+    let faults = match faults_of(tables, words) {
+        Ok(faults) => faults,
+        Err(c) => return Some(CanonicalFault::BadValue(c)),
     };
-    for code in 0..silent_from(tables, words) {
-        match with_code(tables, words, code, faults) {
-            Ok(further) => faults = further,
-            Err(c) => return Some(CanonicalFault::BadValue(c)),
-        }
-    }
     match faults.full_list {
         Some(c) => Some(CanonicalFault::BadList(c)),
         None => match faults.built_in {

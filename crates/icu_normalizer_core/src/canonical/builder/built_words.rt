@@ -4,43 +4,20 @@ ghost use Rattle.std.specs.Prelude.{◌≡◌, ◌↔◌, ◌*◌, ◌+◌, ◌/
 ghost use Rattle.std.specs.Option.{unwrap_or};
 ghost use Rattle.icu_normalizer_core.specs.BuiltIn.{built_in_class, is_syllable};
 ghost use Rattle.icu_normalizer_core.specs.CanonicalLists.{AreTriples};
-ghost use Rattle.icu_normalizer_core.specs.CanonicalMaps.{given_class};
 ghost use Rattle.icu_normalizer_core.specs.CharacterWords.{class_with, AreListWords, AreStarters, IsWordOf};
 
-use super::GivenClass;
+use super::classes::Classes;
 use super::list_words::ListWords;
-use crate::built_in::{built_in_class, is_singled_out, is_syllable};
+use crate::built_in::{is_singled_out, is_syllable};
 use crate::canonical::steps::triple_of;
 use icu_packed_vector::PackedVec;
 
-/// The class that is given for a character, 0 without one.
-fn given_class(classes: &[GivenClass], c: u32) -> u8
-    ensures { result ≡ given_class classes.now c }
-{
-    for given in classes {
-        if given.character as u32 == c {
-            return given.class;
-        }
-    }
-    0
-}
-
-/// The class of a character.
-fn class_with(classes: &[GivenClass], c: u32) -> u8
-    ensures { result ≡ class_with classes.now c }
-{
-    match built_in_class(c) {
-        Some(class) => class,
-        None => given_class(classes, c),
-    }
-}
-
 /// Whether the classes of characters are below 255.
-pub(super) fn are_classes(classes: &[GivenClass], characters: &[char]) -> bool
-    ensures { IsTrue result ↔ All (λ c. class_with classes.now c < 255) characters.now }
+pub(super) fn are_classes(classes: &Classes<'_>, characters: &[char]) -> bool
+    ensures { IsTrue result ↔ All (λ c. class_with classes.now.given.now c < 255) characters.now }
 {
     for c in characters {
-        if class_with(classes, *c as u32) >= 255 {
+        if classes.class_with(*c as u32) >= 255 {
             return false;
         }
     }
@@ -48,11 +25,11 @@ pub(super) fn are_classes(classes: &[GivenClass], characters: &[char]) -> bool
 }
 
 /// Whether each mapped character is a starter.
-pub(super) fn are_starters(classes: &[GivenClass], steps: &PackedVec<'_, u32>) -> bool
-    ensures { IsTrue result ↔ AreStarters classes.now steps.now }
+pub(super) fn are_starters(classes: &Classes<'_>, steps: &PackedVec<'_, u32>) -> bool
+    ensures { IsTrue result ↔ AreStarters classes.now.given.now steps.now }
 {
     for place in 0..steps.len() / 3 {
-        if class_with(classes, steps.at(3 * place)) != 0 {
+        if classes.class_with(steps.at(3 * place)) != 0 {
             return false;
         }
     }
@@ -80,20 +57,20 @@ pub(super) fn unlisted_word(c: u32, class: u8) -> u32
 
 /// The word of a character.
 pub(super) fn word_of(
-    classes: &[GivenClass],
+    classes: &Classes<'_>,
     steps: &PackedVec<'_, u32>,
     lists: &ListWords,
     c: u32,
 ) -> u32
-    requires class { class_with classes.now c < 255 }
+    requires class { class_with classes.now.given.now c < 255 }
     requires triples { AreTriples steps.now }
-    requires starters { AreStarters classes.now steps.now }
+    requires starters { AreStarters classes.now.given.now steps.now }
     requires lists { AreListWords steps.now lists.now }
-    ensures says { IsWordOf (class_with classes.now c) steps.now lists.now.scalars24.items c result }
+    ensures says { IsWordOf (class_with classes.now.given.now c) steps.now lists.now.scalars24.items c result }
     ensures syllable { result ≡ 0 → is_syllable c ≡ false }
 {
     match triple_of(steps, c) {
         Some(place) => lists.words[place],
-        None => unlisted_word(c, class_with(classes, c)),
+        None => unlisted_word(c, classes.class_with(c)),
     }
 }

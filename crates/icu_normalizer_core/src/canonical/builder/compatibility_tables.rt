@@ -99,10 +99,10 @@ pub(super) fn compatibility_tables(
         Ok(characters) => characters,
         Err(error) => return Err(error),
     };
-    if !have_one_compatibility(given) {
+    if !have_one_compatibility(alloc, given)? {
         return Err(CanonicalDataBuildError::Rules);
     }
-    if !are_apart(mappings, given) {
+    if !are_apart(alloc, mappings, given)? {
         return Err(CanonicalDataBuildError::Rules);
     }
     if !are_on_starters(tables, given) {

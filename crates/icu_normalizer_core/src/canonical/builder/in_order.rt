@@ -1,41 +1,50 @@
 //! Numbers in the order of their keys, the first of each key.
 
-ghost use Rattle.std.specs.Prelude.{◌≡◌, ◌++◌, ◌∷◌, [], ℕ, ◌<◌, ◌≤◌, List, IfOk};
-ghost use Rattle.icu_normalizer_core.specs.InOrder.{IsLeastFrom, AreFirstsInOrder};
+ghost use Rattle.std.specs.Prelude.{◌≡◌, ◌+◌, ◌/◌, ◌<◌, ◌≤◌, ◌==◌, ℕ, Some, None, cond, length, IfOk, OnOk};
+ghost use Rattle.std.specs.BTreeMap.{btree_map_len, get, values, IsOrdered};
+ghost use Rattle.std.specs.Option.{option_or};
+ghost use Rattle.std.specs.Ordering.{nat_cmp};
+ghost use Rattle.icu_normalizer_core.specs.InOrder.{AreFirstsInOrder, HasFirsts};
 
 use std::alloc::{AllocError, Global};
+use std::collections::BTreeMap;
 
-/// Of two numbers the one of the lesser key, the first where keys are equal; a key below the bound doesn't count.
-fn lesser(least: Option<u64>, n: u64, divisor: u64, from: u64) -> Option<u64>
+/// Notes a number as the first of its key, unless another one is. The only error is want of memory.
+fn note_first(firsts: &mut BTreeMap<u64, u64>, n: u64, divisor: u64) -> Result<(), AllocError>
     requires { 0 < divisor }
-    ensures { (numbers : List ℕ) → IsLeastFrom divisor numbers from least → IsLeastFrom divisor (numbers ++ n ∷ []) from result }
+    ensures noted { OnOk result ((key : ℕ) → get nat_cmp firsts.new key ≡ option_or (get nat_cmp firsts.old key) (cond (n / divisor == key) (Some n) None)) }
+    ensures few { OnOk result (btree_map_len firsts.new ≤ btree_map_len firsts.old + 1) }
 {
     let key = n / divisor;
-    if key < from {
-        return least;
+    if firsts.get(&key).is_none() {
+        firsts.insert(key, n)?;
     }
-    match least {
-        None => Some(n),
-        Some(other) => {
-            if key < other / divisor {
-                Some(n)
-            } else {
-                least
-            }
-        }
-    }
+    Ok(())
 }
 
-/// The first number of the least key from a bound on.
-fn least_from(numbers: &[u64], divisor: u64, from: u64) -> Option<u64>
+/// The first number of each key. The only error is want of memory.
+fn first_numbers(
+    alloc: Global,
+    numbers: &[u64],
+    divisor: u64,
+) -> Result<BTreeMap<u64, u64>, AllocError>
     requires { 0 < divisor }
-    ensures { IsLeastFrom divisor numbers.now from result }
+    ensures firsts { IfOk result (HasFirsts divisor numbers.now) }
+    ensures few { IfOk result (λ firsts. btree_map_len firsts ≤ length numbers.now) }
 {
-    let mut least = None;
+    let mut firsts = BTreeMap::new(alloc);
     for n in numbers {
-        least = lesser(least, *n, divisor, from);
+        note_first(&mut firsts, *n, divisor)?;
     }
-    least
+    Ok(firsts)
+}
+
+/// The values of a map, in the order of their keys. The only error is want of memory.
+fn values_of(alloc: Global, map: &BTreeMap<u64, u64>) -> Result<Vec<u64>, AllocError>
+    ensures values { IfOk result (λ list. list.items ≡ values map.now) }
+    ensures ordered { IsOrdered nat_cmp map.now }
+{
+    map.values().copied().collect(alloc)
 }
 
 /// The first number of each key, in the order of the keys. The only error is want of memory.
@@ -43,11 +52,7 @@ pub(super) fn in_order(alloc: Global, numbers: &[u64], divisor: u64) -> Result<V
     requires { 1 < divisor }
     ensures { IfOk result (λ sorted. AreFirstsInOrder divisor numbers.now sorted.items) }
 {
-    let mut sorted = Vec::new(alloc);
-    let mut from = 0;
-    while let Some(n) = least_from(numbers, divisor, from) {
-        sorted.push(n)?;
-        from = n / divisor + 1;
-    }
+    let firsts = first_numbers(alloc, numbers, divisor)?;
+    let sorted = values_of(alloc, &firsts)?;
     Ok(sorted)
 }

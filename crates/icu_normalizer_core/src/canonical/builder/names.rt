@@ -9,7 +9,7 @@ ghost use Rattle.icu_normalizer_core.specs.declared.canonical.builder.CanonicalD
 ghost use Rattle.icu_normalizer_core.specs.CanonicalMaps.{mapping_given, named};
 ghost use Rattle.icu_normalizer_core.specs.CharacterWords.{HasNamed, built_in_named};
 ghost use Rattle.icu_normalizer_core.specs.CompatibilityMaps.{all_named};
-ghost use Rattle.icu_normalizer_core.specs.Named.{AreDistinctOf, AreInFewBlocks, AreMany, block_count, with_new};
+ghost use Rattle.icu_normalizer_core.specs.Named.{AreDistinctOf, AreInFewBlocks, AreMany, HasThese, block_count, with_new};
 ghost use Rattle.icu_normalizer_core.specs.SettledMappings.{HasAllNamed, IsBehindBuiltIn};
 
 use super::{CanonicalDataBuildError, GivenClass, GivenCompatibility, GivenMapping};
@@ -103,13 +103,16 @@ fn all_named(
     Ok(list)
 }
 
-/// Adds a character that isn't there yet. The only error is want of memory.
-fn add_new(list: &mut Vec<char>, c: char) -> Result<(), AllocError>
-    requires { All IsScalar list.old.items }
+/// Adds a character that isn't among those that were seen, which are the list's. The only error is want of memory.
+fn add_new(list: &mut Vec<char>, seen: &mut BTreeSet<char>, c: char) -> Result<(), AllocError>
+    requires scalars { All IsScalar list.old.items }
+    requires seen { HasThese seen.old list.old.items }
     ensures added { OnOk result (list.new.items ≡ with_new list.old.items c) }
     ensures scalars { OnOk result (All IsScalar list.new.items) }
+    ensures seen { OnOk result (HasThese seen.new list.new.items) }
 {
-    if list.as_slice().contains(&c) {
+    let is_new = seen.insert(c)?;
+    if !is_new {
         return Ok(());
     }
     list.push(c)?;
@@ -124,8 +127,9 @@ fn distinct(alloc: Global, limit: usize, all: &[char]) -> Result<Vec<char>, Cano
     ensures refused { IfErr result (λ e. (e ≡ Memory) ⊎ ((e ≡ Rules) × (limit < distinct_count nat_eq all.now))) }
 {
     let mut list = Vec::new(alloc);
+    let mut seen = BTreeSet::new(alloc);
     for c in all {
-        add_new(&mut list, *c)?;
+        add_new(&mut list, &mut seen, *c)?;
         if list.len() > limit {
             return Err(CanonicalDataBuildError::Rules);
         }

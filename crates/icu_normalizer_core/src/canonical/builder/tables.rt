@@ -12,6 +12,7 @@ ghost use Rattle.icu_normalizer_core.specs.GivenMaps.{IsOfScalars};
 ghost use Rattle.icu_normalizer_core.specs.Named.{block_count};
 
 use super::built_words::{are_classes, are_starters};
+use super::classes::Classes;
 use super::full_lists::full_lists;
 use super::list_words::ListWords;
 use super::names::characters_of;
@@ -54,21 +55,21 @@ fn packed_pairs(
 /// The trie of the words of characters. The only error is want of memory.
 fn word_trie(
     alloc: Global,
-    classes: &[GivenClass],
+    classes: &Classes<'_>,
     mappings: &[GivenMapping],
     steps: &PackedVec<'_, u32>,
     lists: &ListWords,
     characters: &[char],
 ) -> Result<CodePointTrie<'static, u32>, AllocError>
     requires scalars { All IsScalar characters.now }
-    requires named { HasNamed classes.now mappings.now characters.now }
+    requires named { HasNamed classes.now.given.now mappings.now characters.now }
     requires wide { block_count 512 characters.now ≤ 717 }
     requires narrow { block_count 16 characters.now ≤ 11017 }
-    requires bound { All (λ c. class_with classes.now c < 255) characters.now }
+    requires bound { All (λ c. class_with classes.now.given.now c < 255) characters.now }
     requires steps { AreStepsOf mappings.now steps.now }
-    requires starters { AreStarters classes.now steps.now }
+    requires starters { AreStarters classes.now.given.now steps.now }
     requires lists { AreListWords steps.now lists.now }
-    ensures words { IfOk result (IsWordTrieOf classes.now steps.now lists.now.scalars24.items) }
+    ensures words { IfOk result (IsWordTrieOf classes.now.given.now steps.now lists.now.scalars24.items) }
     ensures plain { IfOk result HasPlainWords }
 {
     let words = words_of(alloc, classes, steps, lists, characters)?;
@@ -80,7 +81,7 @@ fn word_trie(
 #[tactic(auto, using(crate::proofs::builder::BuiltTableLemmas::put_together))]
 fn packed_tables(
     alloc: Global,
-    classes: &[GivenClass],
+    classes: &Classes<'_>,
     mappings: &[GivenMapping],
     steps: PackedVec<'static, u32>,
     lists: &ListWords,
@@ -88,14 +89,14 @@ fn packed_tables(
 ) -> Result<CanonicalTables<'static>, AllocError>
     requires mappings { All IsOfScalars mappings.now }
     requires scalars { All IsScalar characters.now }
-    requires named { HasNamed classes.now mappings.now characters.now }
+    requires named { HasNamed classes.now.given.now mappings.now characters.now }
     requires wide { block_count 512 characters.now ≤ 717 }
     requires narrow { block_count 16 characters.now ≤ 11017 }
-    requires bound { All (λ c. class_with classes.now c < 255) characters.now }
+    requires bound { All (λ c. class_with classes.now.given.now c < 255) characters.now }
     requires steps { AreStepsOf mappings.now steps }
-    requires starters { AreStarters classes.now steps }
+    requires starters { AreStarters classes.now.given.now steps }
     requires lists { AreListWords steps lists.now }
-    ensures built { IfOk result (λ tables. AreBuiltOf (record { classes = classes.now; mappings = mappings.now }) (lists_of tables)) }
+    ensures built { IfOk result (λ tables. AreBuiltOf (record { classes = classes.now.given.now; mappings = mappings.now }) (lists_of tables)) }
     ensures plain { IfOk result (λ tables. HasPlainWords tables.trie) }
     ensures steps { IfOk result (λ tables. AreStepsOf mappings.now tables.steps) }
 {
@@ -112,29 +113,30 @@ fn packed_tables(
     })
 }
 
-/// The tables of classes and mappings, not yet checked. `Rules` only where they break the rules.
-pub(super) fn tables(
+/// The tables of classes, which are to be looked up, and mappings, not yet checked. `Rules` only where they break the
+/// rules.
+fn tables_over(
     alloc: Global,
     limit: usize,
-    classes: &[GivenClass],
+    classes: &Classes<'_>,
     mappings: &[GivenMapping],
 ) -> Result<CanonicalTables<'static>, CanonicalDataBuildError>
     requires { All IsOfScalars mappings.now }
-    ensures built { IfOk result (λ tables. AreBuiltOf (record { classes = classes.now; mappings = mappings.now }) (lists_of tables)) }
+    ensures built { IfOk result (λ tables. AreBuiltOf (record { classes = classes.now.given.now; mappings = mappings.now }) (lists_of tables)) }
     ensures plain { IfOk result (λ tables. HasPlainWords tables.trie) }
     ensures steps { IfOk result (λ tables. AreStepsOf mappings.now tables.steps) }
-    ensures few { OnOk result (distinct_count nat_eq (named (record { classes = classes.now; mappings = mappings.now })) ≤ limit) }
+    ensures few { OnOk result (distinct_count nat_eq (named (record { classes = classes.now.given.now; mappings = mappings.now })) ≤ limit) }
     ensures one_mapping { OnOk result (HaveOneMapping mappings.now) }
-    ensures refused { IfErr result (λ e. (e ≡ Memory) ⊎ ((e ≡ Rules) × (KeepRulesWithin limit (record { classes = classes.now; mappings = mappings.now }) → ⊥))) }
+    ensures refused { IfErr result (λ e. (e ≡ Memory) ⊎ ((e ≡ Rules) × (KeepRulesWithin limit (record { classes = classes.now.given.now; mappings = mappings.now }) → ⊥))) }
 {
-    let characters = match characters_of(alloc, limit, classes, mappings) {
+    let characters = match characters_of(alloc, limit, classes.given, mappings) {
         Ok(characters) => characters,
         Err(error) => return Err(error),
     };
     if !are_classes(classes, characters.as_slice()) {
         return Err(CanonicalDataBuildError::Rules);
     }
-    if !have_one_mapping(mappings) {
+    if !have_one_mapping(alloc, mappings)? {
         return Err(CanonicalDataBuildError::Rules);
     }
     let steps = packed_steps(alloc, mappings)?;
@@ -154,4 +156,23 @@ pub(super) fn tables(
         characters.as_slice(),
     )?;
     Ok(tables)
+}
+
+/// The tables of classes and mappings, not yet checked. `Rules` only where they break the rules.
+pub(super) fn tables(
+    alloc: Global,
+    limit: usize,
+    classes: &[GivenClass],
+    mappings: &[GivenMapping],
+) -> Result<CanonicalTables<'static>, CanonicalDataBuildError>
+    requires { All IsOfScalars mappings.now }
+    ensures built { IfOk result (λ tables. AreBuiltOf (record { classes = classes.now; mappings = mappings.now }) (lists_of tables)) }
+    ensures plain { IfOk result (λ tables. HasPlainWords tables.trie) }
+    ensures steps { IfOk result (λ tables. AreStepsOf mappings.now tables.steps) }
+    ensures few { OnOk result (distinct_count nat_eq (named (record { classes = classes.now; mappings = mappings.now })) ≤ limit) }
+    ensures one_mapping { OnOk result (HaveOneMapping mappings.now) }
+    ensures refused { IfErr result (λ e. (e ≡ Memory) ⊎ ((e ≡ Rules) × (KeepRulesWithin limit (record { classes = classes.now; mappings = mappings.now }) → ⊥))) }
+{
+    let classes = Classes::new(alloc, classes)?;
+    tables_over(alloc, limit, &classes, mappings)
 }

@@ -8,8 +8,8 @@ ghost use Rattle.icu_codepointtrie.specs.CodePointMaps.{IsWritten};
 ghost use Rattle.icu_normalizer_core.specs.CanonicalLists.{AreTriples};
 ghost use Rattle.icu_normalizer_core.specs.CharacterWords.{AreListWords, AreStarters, AreUnnamed, HasWords, class_with};
 
-use super::GivenClass;
 use super::built_words::word_of;
+use super::classes::Classes;
 use super::list_words::ListWords;
 use icu_codepointtrie::{CodePointTrie, CodePointTrieBuildError, CodePointTrieBuilder, TrieType};
 use icu_packed_vector::PackedVec;
@@ -35,17 +35,17 @@ pub(super) fn unnamed_words(alloc: Global) -> Result<CodePointTrieBuilder<u32>, 
 /// The words of characters. The only error is want of memory.
 pub(super) fn words_of(
     alloc: Global,
-    classes: &[GivenClass],
+    classes: &Classes<'_>,
     steps: &PackedVec<'_, u32>,
     lists: &ListWords,
     characters: &[char],
 ) -> Result<CodePointTrieBuilder<u32>, AllocError>
-    requires classes { All (λ c. class_with classes.now c < 255) characters.now }
+    requires classes { All (λ c. class_with classes.now.given.now c < 255) characters.now }
     requires triples { AreTriples steps.now }
-    requires starters { AreStarters classes.now steps.now }
+    requires starters { AreStarters classes.now.given.now steps.now }
     requires lists { AreListWords steps.now lists.now }
     requires scalars { All IsScalar characters.now }
-    ensures { IfOk result (HasWords classes.now steps.now lists.now.scalars24.items characters.now) }
+    ensures { IfOk result (HasWords classes.now.given.now steps.now lists.now.scalars24.items characters.now) }
 {
     let mut words = unnamed_words(alloc)?;
     for c in characters {

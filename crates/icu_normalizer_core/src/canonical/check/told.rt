@@ -1,35 +1,87 @@
 //! The code points of which tables say something or something is built in: no other can be at fault.
 
 ghost use Rattle.std.specs.Prelude.{◌≡◌, ◌≢◌, ◌+◌, ◌*◌, ◌^◌, ◌<◌, ◌≤◌, ℕ, true, false, length, slice_index, None, MatchOption, IfOk};
-ghost use Rattle.icu_normalizer_core.specs.BuiltIn.{built_in_class};
-ghost use Rattle.icu_normalizer_core.specs.Canonical.{IsFree};
+ghost use Rattle.icu_normalizer_core.specs.BuiltIn.{is_syllable};
 ghost use Rattle.std.specs.Char.{IsScalar};
 ghost use Rattle.icu_normalizer_core.specs.CanonicalMeaning.{lists_of};
-ghost use Rattle.icu_normalizer_core.specs.Plain.{IsPlain, IsIn, Rises, Tells, ArePlainFrom, TellsBelow};
+ghost use Rattle.icu_normalizer_core.specs.Plain.{IsNothingBuiltIn, IsIn, IsRun, Rises, Tells, AreSilent, AreUntold, TellsBelow};
 
-use crate::built_in::{built_in_class, built_in_step};
 use crate::canonical::canonical_words::PLAIN_WORD;
 use crate::canonical::tables::CanonicalTables;
 use icu_packed_vector::PackedVec;
 use std::alloc::{AllocError, Global};
 
-/// Whether nothing is built in of a code point.
-fn is_nothing_built_in(code: u32) -> bool
-    ensures class { result ≡ true → built_in_class code ≡ None }
-    ensures free { result ≡ true → IsFree code }
+/// The end of the code points from this one on of which nothing is built in, all from U+0300 on, as far as these are
+/// known; the code point itself where it is none of them.
+#[tactic(auto, using(crate::proofs::built::GapFacts::nothing_none))]
+fn end_of_nothing(code: u32) -> u32
+    requires { code < 0x110000 }
+    ensures from { code ≤ result }
+    ensures to { result ≤ 0x110000 }
+    ensures nothing { (c : ℕ) → code ≤ c → c < result → IsNothingBuiltIn c }
 {
-    // What is built in is below U+10000.
-    code >= 0x1_0000 || (built_in_class(code).is_none() && built_in_step(code).is_none())
+    match code {
+        0x345..=0xf70 => 0xf71,
+        0xf82..=0x10ff => 0x1100,
+        0x1200..=0x3098 => 0x3099,
+        0x309b..=0xabff => 0xac00,
+        0xd7a4..=0xff9d => 0xff9e,
+        0x1_0000..=0x10_ffff => 0x11_0000,
+        _ => code,
+    }
 }
 
-/// Whether a code point has a word that says nothing, and nothing is built in of it.
-fn is_plain(tables: &CanonicalTables<'_>, code: u32) -> bool
-    ensures { result ≡ true → IsPlain (lists_of tables.now) code }
+/// The end of the Hangul syllables from this code point on; the code point itself where it is none.
+#[tactic(auto, using(crate::proofs::built::GapFacts::syllable_within, crate::proofs::built::GapFacts::syllable_none))]
+fn end_of_syllables(code: u32) -> u32
+    ensures from { code ≤ result }
+    ensures syllables { (c : ℕ) → code ≤ c → c < result → is_syllable c ≡ true }
 {
-    code >= 0x300
-        && tables.trie.has_cell(code)
-        && tables.trie.get32(code) & PLAIN_WORD == 0
-        && is_nothing_built_in(code)
+    match code {
+        0xac00..=0xd7a3 => 0xd7a4,
+        _ => code,
+    }
+}
+
+/// The end of the code points from this one on that have nothing to be told where their word is this one; the code
+/// point itself where it has something.
+#[tactic(auto, using(crate::proofs::faults::ToldLemmas::silent_nothing, crate::proofs::faults::ToldLemmas::silent_syllables, crate::proofs::faults::ToldLemmas::silent_none))]
+pub(crate) fn end_of_silence(word: u32, code: u32) -> u32
+    requires { code < 0x110000 }
+    ensures from { code ≤ result }
+    ensures silent { AreSilent word code result }
+{
+    if word == 0 {
+        end_of_nothing(code)
+    } else if word == 1 {
+        end_of_syllables(code)
+    } else {
+        code
+    }
+}
+
+/// The word of a code point, without its two uppermost bits.
+fn plain_word(tables: &CanonicalTables<'_>, code: u32) -> u32
+    ensures { result ≡ (lists_of tables.now).word code }
+{
+    tables.trie.get32(code) & PLAIN_WORD
+}
+
+/// The end of the code points of a run from this one on that have nothing to be told; the code point itself where it
+/// has something.
+#[tactic(auto, using(crate::proofs::faults::ToldLemmas::untold_none))]
+fn untold_end(tables: &CanonicalTables<'_>, code: u32, end: u32) -> u32
+    requires order { code < end }
+    requires bound { end ≤ 0x110000 }
+    requires run { IsRun tables.now code end }
+    ensures from { code ≤ result }
+    ensures to { result ≤ end }
+    ensures untold { AreUntold (lists_of tables.now) code result }
+{
+    if !tables.trie.has_cell(code) {
+        return code;
+    }
+    end_of_silence(plain_word(tables, code), code).min(end)
 }
 
 /// Whether the triple at a place is a code point's.
@@ -42,59 +94,100 @@ fn is_listed(steps: &PackedVec<'_, u32>, place: usize, code: u32) -> bool
     place < steps.len() / 3 && steps.at(3 * place) == code
 }
 
-/// From here on all code points are plain: the trie has one word for them, or there are none (110000, hex).
-fn plain_from(tables: &CanonicalTables<'_>) -> u32
-    ensures bound { result ≤ 0x110000 }
-    ensures plain { ArePlainFrom (lists_of tables.now) result }
+/// The key of the triple at a place, or the end where that comes first, where there is no triple or its key isn't
+/// behind the code point.
+fn next_key(steps: &PackedVec<'_, u32>, place: usize, code: u32, end: u32) -> u32
+    requires { code < end }
+    ensures after { code < result }
+    ensures to { result ≤ end }
+    ensures key { 3 * place + 2 < length steps.now → code < slice_index steps.now (3 * place) → result ≤ slice_index steps.now (3 * place) }
 {
-    if !is_plain(tables, 0x10_ffff) {
-        return 0x11_0000;
+    if place >= steps.len() / 3 {
+        return end;
     }
-    tables.trie.tail_start().max(0x1_0000)
+    let key = steps.at(3 * place);
+    if code < key && key < end { key } else { end }
 }
 
-/// The list of the code points below `start`, and the triples' from there on as long as these rise. The only error is
-/// want of memory.
-fn with_triples(
-    tables: &CanonicalTables<'_>,
+/// How far was told: to before a code point, and to before the triple at a place.
+#[derive(Clone, Copy)]
+struct Reached {
+    code: u32,
     place: usize,
-    start: u32,
-    told: Vec<u32>,
-) -> Result<Vec<u32>, AllocError>
-    requires bound { start ≤ 0x110000 }
-    requires plain { ArePlainFrom (lists_of tables.now) start }
-    requires below { TellsBelow (lists_of tables.now) told.items start place }
-    ensures { IfOk result (λ told. Tells (lists_of tables.now) told.items) }
-{
-    let mut told = told;
-    let mut code = start;
-    for triple in place..tables.steps.len() / 3 {
-        let key = tables.steps.at(3 * triple);
-        if key < code || key >= 0x11_0000 {
-            return Ok(told);
-        }
-        told.push(key)?;
-        code = key + 1;
-    }
-    Ok(told)
 }
 
-/// The code points that aren't plain, and those of the triples where these rise. The only error is want of memory.
+/// Tells of the next code point of a run, where there is something to be told of it; passes those of which there is
+/// nothing. The only error is want of memory.
+fn tell_next(
+    tables: &CanonicalTables<'_>,
+    told: &mut Vec<u32>,
+    reached: Reached,
+    end: u32,
+) -> Result<Reached, AllocError>
+    requires order { reached.code < end }
+    requires bound { end ≤ 0x110000 }
+    requires run { IsRun tables.now reached.code end }
+    requires below { TellsBelow (lists_of tables.now) told.old.items reached.code reached.place }
+    ensures after { IfOk result (λ further. reached.code < further.code) }
+    ensures to { IfOk result (λ further. further.code ≤ end) }
+    ensures below { IfOk result (λ further. TellsBelow (lists_of tables.now) told.new.items further.code further.place) }
+{
+    let Reached { code, place } = reached;
+    if is_listed(&tables.steps, place, code) {
+        told.push(code)?;
+        return Ok(Reached {
+            code: code + 1,
+            place: place + 1,
+        });
+    }
+    let passed = untold_end(tables, code, next_key(&tables.steps, place, code, end));
+    if passed == code {
+        told.push(code)?;
+        return Ok(Reached {
+            code: code + 1,
+            place,
+        });
+    }
+    Ok(Reached {
+        code: passed,
+        place,
+    })
+}
+
+/// Tells of the code points of a run. The only error is want of memory.
+fn tell_run(
+    tables: &CanonicalTables<'_>,
+    told: &mut Vec<u32>,
+    reached: Reached,
+    end: u32,
+) -> Result<Reached, AllocError>
+    requires order { reached.code < end }
+    requires bound { end ≤ 0x110000 }
+    requires run { IsRun tables.now reached.code end }
+    requires below { TellsBelow (lists_of tables.now) told.old.items reached.code reached.place }
+    ensures to { IfOk result (λ further. further.code ≡ end) }
+    ensures below { IfOk result (λ further. TellsBelow (lists_of tables.now) told.new.items further.code further.place) }
+{
+    let mut next = reached;
+    while next.code < end {
+        next = tell_next(tables, told, next, end)?;
+    }
+    Ok(next)
+}
+
+/// The code points of which there is something to be told, and those of the triples where these rise. Runs of code
+/// points of one word are asked as one. The only error is want of memory.
+#[tactic(auto, using(crate::proofs::faults::ToldLemmas::tells_none, crate::proofs::faults::ToldLemmas::end_is_run))]
 pub(crate) fn told(alloc: Global, tables: &CanonicalTables<'_>) -> Result<Vec<u32>, AllocError>
     ensures { IfOk result (λ told. Tells (lists_of tables.now) told.items) }
 {
-    let start = plain_from(tables);
-    let mut place = 0;
     let mut told = Vec::new(alloc);
-    for code in 0..start {
-        if is_listed(&tables.steps, place, code) {
-            place += 1;
-            told.push(code)?;
-        } else if !is_plain(tables, code) {
-            told.push(code)?;
-        }
+    let mut reached = Reached { code: 0, place: 0 };
+    while reached.code < 0x11_0000 {
+        let end = tables.trie.cells_end(reached.code);
+        reached = tell_run(tables, &mut told, reached, end)?;
     }
-    with_triples(tables, place, start, told)
+    Ok(told)
 }
 
 /// The least character of a rising list of which the test says no, `None` where it says yes of each.

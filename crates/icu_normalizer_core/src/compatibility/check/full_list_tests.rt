@@ -8,6 +8,7 @@ ghost use Rattle.icu_normalizer_core.specs.CanonicalWords.{states_list};
 ghost use Rattle.icu_normalizer_core.specs.CanonicalMeaning.{lists_of, meaning};
 ghost use Rattle.icu_normalizer_core.specs.Compatibility.{IsUnbound};
 ghost use Rattle.icu_normalizer_core.specs.CompatibilityFaults.{OffendsWordList, IsOwnItem, HasOtherItem};
+ghost use Rattle.icu_normalizer_core.specs.CompatibilityWalks.{AreLettersOwn};
 ghost use Rattle.icu_normalizer_core.specs.Settled.{left_items};
 ghost use Rattle.icu_normalizer_core.specs.Words.{word_lists, full_in};
 
@@ -26,6 +27,18 @@ fn is_own_item(words: Words<'_>, item: u32) -> bool
         Some(c) => words.full_start(c).is(&Left::one(item)),
         None => false,
     }
+}
+
+/// Whether each jamo is its own full list.
+pub(super) fn are_letters_own(words: Words<'_>) -> bool
+    ensures { result ≡ true → AreLettersOwn (word_lists words.entry) }
+{
+    for code in 0x1100..0x1200u32 {
+        if !is_own_item(words, code) {
+            return false;
+        }
+    }
+    true
 }
 
 /// Whether each number is a character that is its own full list.

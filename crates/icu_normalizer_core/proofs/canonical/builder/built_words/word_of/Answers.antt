@@ -13,11 +13,11 @@ returns-in-Some-clause-says c =
     let at = c.in-Some.ensures.place in
     let inside : c.in-Some.place < length c.args.steps.now / 3 = let h = at.0 in omega arith in
     let key : key_at c.args.steps.now c.in-Some.place ≡ c.args.c = at.1 in
-    let none : class_with c.args.classes.now c.args.c ≡ 0 = subst (λ (d : ℕ). class_with c.args.classes.now d ≡ 0) key (c.requires.starters c.in-Some.place inside) in
+    let none : class_with c.args.classes.now.given.now c.args.c ≡ 0 = subst (λ (d : ℕ). class_with c.args.classes.now.given.now d ≡ 0) key (c.requires.starters c.in-Some.place inside) in
     let word : c.index.result.now ≡ slice_index c.args.lists.now.words.items c.in-Some.place =
     index_got c.args.lists.now.words.items c.in-Some.place c.index.result.now (omega (arith, c.requires.lists.count)) c.index.ensures in
-    subst (λ (w : ℕ). IsWordOf (class_with c.args.classes.now c.args.c) c.args.steps.now c.args.lists.now.scalars24.items c.args.c w) (sym word)
-    (mapped_word (class_with c.args.classes.now c.args.c) c.args.steps.now c.args.lists.now.scalars24.items c.args.c (slice_index c.args.lists.now.words.items c.in-Some.place) none
+    subst (λ (w : ℕ). IsWordOf (class_with c.args.classes.now.given.now c.args.c) c.args.steps.now c.args.lists.now.scalars24.items c.args.c w) (sym word)
+    (mapped_word (class_with c.args.classes.now.given.now c.args.c) c.args.steps.now c.args.lists.now.scalars24.items c.args.c (slice_index c.args.lists.now.words.items c.in-Some.place) none
     (subst (λ (d : ℕ). IsFree d) key (c.requires.lists.free c.in-Some.place inside))
     (subst (λ (d : ℕ). IsListWord c.args.steps.now c.args.lists.now.scalars24.items d (slice_index c.args.lists.now.words.items c.in-Some.place)) key (c.requires.lists.each c.in-Some.place inside)))
 
@@ -29,9 +29,9 @@ returns-in-Some-clause-syllable c = λ zero.
 
 pub returns-in-None-clause-says : goal.returns-in-None-clause-says
 returns-in-None-clause-says c =
-    unlisted_as (class_with c.args.classes.now c.args.c) c.args.steps.now c.args.lists.now.scalars24.items c.args.c c.unlisted_word.result c.in-None.ensures.place
+    unlisted_as (class_with c.args.classes.now.given.now c.args.c) c.args.steps.now c.args.lists.now.scalars24.items c.args.c c.unlisted_word.result c.in-None.ensures.place
     (subst (λ (k : ℕ). IsWordOf k [] c.args.lists.now.scalars24.items c.args.c c.unlisted_word.result) c.class_with.ensures (c.unlisted_word.ensures.says c.args.lists.now.scalars24.items))
 
 pub unlisted_word-requires-clause-class : goal.unlisted_word-requires-clause-class
 unlisted_word-requires-clause-class c =
-    subst (λ (k : ℕ). unwrap_or (built_in_class c.args.c) k ≡ k) (sym c.class_with.ensures) (class_twice (built_in_class c.args.c) (given_class c.args.classes.now c.args.c))
+    subst (λ (k : ℕ). unwrap_or (built_in_class c.args.c) k ≡ k) (sym c.class_with.ensures) (class_twice (built_in_class c.args.c) (given_class c.args.classes.now.given.now c.args.c))

@@ -1,50 +1,26 @@
-use Rattle.std.proofs.Common.{◌≡◌, true, false, ⊎_elim, inl, inr, refl, arith}
-use Rattle.std.proofs.lemmas.Bool.{false≢true}
-use Rattle.icu_normalizer_core.specs.CanonicalMaps.{CanonicalMaps}
-use Rattle.icu_normalizer_core.proofs.builder.KeptRuleLemmas.{kept_classes, kept_ends, kept_room, kept_starters}
+use Rattle.std.proofs.Common.{◌≡◌, ◌≤◌, ◌⊎◌, List, subst}
+use Rattle.std.specs.Prelude.{IfErr, IfOk, OnOk, nat_eq}
+use Rattle.std.specs.Set.{distinct_count}
+use Rattle.icu_normalizer_core.specs.declared.canonical.builder.CanonicalDataBuildError.TheVariants.{Memory, Rules}
+use Rattle.icu_normalizer_core.specs.declared.canonical.builder.GivenClass.{GivenClass}
+use Rattle.icu_normalizer_core.specs.BuiltMaps.{AreBuiltOf}
+use Rattle.icu_normalizer_core.specs.CanonicalMaps.{KeepRulesWithin, named}
+use Rattle.icu_normalizer_core.specs.CanonicalMeaning.{lists_of}
 use Rattle.icu_normalizer_core.proofs.canonical.builder.tables.tables.Goals as goal
 
-pub returns-then-not-are_classes-clause-refused : goal.returns-then-not-are_classes-clause-refused
-returns-then-not-are_classes-clause-refused c =
-    inr (
-      refl,
-      λ rules.
-          let yes : c.are_classes.result ≡ true = c.are_classes.ensures.1 (kept_classes (record { classes = c.args.classes.now; mappings = c.args.mappings.now }) rules.rules c.as_slice.result.now) in
-          let no = c.if-not-are_classes.true in
-          absurd (false≢true (let e : false ≡ true = cc in e)),
-    )
+pub returns-clause-built : goal.returns-clause-built
+returns-clause-built c =
+    subst (λ (cs : List GivenClass). IfOk c.tables_over.result (λ tables. AreBuiltOf (record { classes = cs; mappings = c.args.mappings.now }) (lists_of tables))) c.in_ok-classes.ensures
+    c.tables_over.ensures.built
 
-pub returns-in-Err-clause-refused : goal.returns-in-Err-clause-refused
-returns-in-Err-clause-refused c =
-    ⊎_elim (λ memory. inl memory)
-    (λ w. inr (
-      w.0,
-      λ rules.
-          ⊎_elim (λ many. let few = rules.few in omega (arith, few, many)) (λ wide. wide (record { wide = rules.room.wide; narrow = rules.room.narrow })) w.1,
-    ))
-    c.in-Err.ensures.refused
+pub returns-clause-few : goal.returns-clause-few
+returns-clause-few c =
+    subst (λ (cs : List GivenClass). OnOk c.tables_over.result (distinct_count nat_eq (named (record { classes = cs; mappings = c.args.mappings.now })) ≤ c.args.limit)) c.in_ok-classes.ensures
+    c.tables_over.ensures.few
 
-pub returns-then-not-are_starters-clause-refused : goal.returns-then-not-are_starters-clause-refused
-returns-then-not-are_starters-clause-refused c =
-    inr (
-      refl,
-      λ rules.
-          let yes : c.are_starters.result ≡ true = c.are_starters.ensures.1
-          (kept_starters (record { classes = c.args.classes.now; mappings = c.args.mappings.now }) c.in_ok-steps.steps c.in_ok-steps.ensures.triples c.in_ok-steps.ensures.listed rules.rules) in
-          let no = c.if-not-are_starters.true in
-          absurd (false≢true (let e : false ≡ true = cc in e)),
-    )
-
-pub returns-in-Err-full_lists-clause-refused : goal.returns-in-Err-full_lists-clause-refused
-returns-in-Err-full_lists-clause-refused c =
-    ⊎_elim (λ memory. inl memory)
-    (λ w. inr (
-      w.0,
-      λ rules.
-          let maps : CanonicalMaps = record { classes = c.args.classes.now; mappings = c.args.mappings.now } in
-          ⊎_elim
-          (λ bad. kept_ends maps c.in_ok-steps.steps c.in_ok-steps.ensures.triples c.in_ok-steps.ensures.listed rules.rules bad)
-          (λ long. kept_room maps c.in_ok-steps.steps c.in_ok-steps.ensures.triples c.in_ok-steps.ensures.listed rules.rules rules.room long)
-          w.1,
-    ))
-    c.in-Err-full_lists.ensures.refused
+pub returns-clause-refused : goal.returns-clause-refused
+returns-clause-refused c =
+    subst
+    (λ (cs : List GivenClass).
+    IfErr c.tables_over.result (λ e. (e ≡ Memory) ⊎ ((e ≡ Rules) × (KeepRulesWithin c.args.limit (record { classes = cs; mappings = c.args.mappings.now }) → ⊥))))
+    c.in_ok-classes.ensures c.tables_over.ensures.refused

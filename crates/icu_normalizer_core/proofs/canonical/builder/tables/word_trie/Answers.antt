@@ -6,12 +6,12 @@ use Rattle.icu_normalizer_core.proofs.canonical.builder.tables.word_trie.Goals a
 
 pub returns-clause-words : goal.returns-clause-words
 returns-clause-words c =
-    word_read c.args.classes.now c.args.mappings.now c.args.steps.now c.args.lists.now.scalars24.items c.args.characters.now c.in_ok-words.words c.in_ok-trie.trie
+    word_read c.args.classes.now.given.now c.args.mappings.now c.args.steps.now c.args.lists.now.scalars24.items c.args.characters.now c.in_ok-words.words c.in_ok-trie.trie
     c.in_ok-words.ensures c.requires.named c.requires.steps c.in_ok-trie.ensures
 
 pub returns-clause-plain : goal.returns-clause-plain
 returns-clause-plain c =
-    plain_read (λ x word. IsWordOf (class_with c.args.classes.now x) c.args.steps.now c.args.lists.now.scalars24.items x word) c.args.characters.now c.in_ok-words.words c.in_ok-trie.trie
+    plain_read (λ x word. IsWordOf (class_with c.args.classes.now.given.now x) c.args.steps.now c.args.lists.now.scalars24.items x word) c.args.characters.now c.in_ok-words.words c.in_ok-trie.trie
     (λ x word right. right.fits) c.in_ok-words.ensures c.in_ok-trie.ensures
 
 pub trie_of-requires-clause-wide : goal.trie_of-requires-clause-wide

@@ -8,6 +8,7 @@ use Rattle.icu_normalizer_core.proofs.accepted.AcceptedForms.{accepted_pairs}
 use Rattle.icu_normalizer_core.proofs.accepted.AcceptedTables.{full_bounded}
 use Rattle.icu_normalizer_core.proofs.decoded.ScalarLemmas.{scalar_below}
 use Rattle.icu_normalizer_core.proofs.composed.SteadyLemmas.{plain_steady}
+use Rattle.icu_normalizer_core.proofs.composed.SyllableLemmas.{syllable_steady}
 use Rattle.icu_normalizer_core.proofs.canonical.check.steady.refuse_told.Goals as goal
 use Rattle.icu_normalizer_core.proofs.canonical.check.steady.refuse_told.Goals.{in-Some, in_default}
 
@@ -50,5 +51,8 @@ pub returns : goal.returns
 returns c = λ d scalar yes.
     ⊎_elim
     (λ told. c.loop-code.invariant.steady told.0 d (let lt = told.1 in let end = c.loop-code-test.false in search rules) scalar told.2 yes)
+    (λ untold. ⊎_elim
     (λ plain. plain_steady (lists_of c.args.tables.now) d plain (λ a. c.requires.seconds d a (c.loop-code.invariant.among d yes)))
+    (λ syllable. syllable_steady (lists_of c.args.tables.now) c.requires.accepted d syllable)
+    untold)
     (c.requires.tells.words d (scalar_below d scalar))

@@ -3,7 +3,7 @@ use Rattle.std.specs.Char.{IsScalar}
 use Rattle.std.proofs.lemmas.Bool.{false≢true}
 use Rattle.icu_normalizer_core.specs.declared.compatibility.check.walk.Faults.{Faults}
 use Rattle.icu_normalizer_core.specs.CanonicalMeaning.{lists_of}
-use Rattle.icu_normalizer_core.specs.CompatibilityWalks.{SaysNothing, AreFaultsBelow}
+use Rattle.icu_normalizer_core.specs.CompatibilityWalks.{AreFaultsBelow}
 use Rattle.icu_normalizer_core.specs.Words.{word_lists}
 use Rattle.icu_normalizer_core.proofs.accepted.AcceptedTables.{full_scalars}
 use Rattle.icu_normalizer_core.proofs.compatible.CompatibilityWalkLemmas.{faults_same, faults_next}
@@ -11,14 +11,7 @@ use Rattle.icu_normalizer_core.proofs.compatibility.check.walk.with_code.Goals a
 
 pub returns-in_default : goal.returns-in_default
 returns-in_default c =
-    faults_same (lists_of c.args.tables.now) (word_lists c.args.words) c.args.code c.args.faults c.requires.below (λ scalar. absurd (c.in_default.ensures.value scalar))
-
-pub returns-then-says_nothing : goal.returns-then-says_nothing
-returns-then-says_nothing c =
-    let lists = lists_of c.args.tables.now in
-    let words = word_lists c.args.words in
-    let at : c.in-Some.c ≡ c.args.code = c.in-Some.ensures.value.1 in
-    faults_same lists words c.args.code c.args.faults c.requires.below (λ scalar. subst (SaysNothing lists words) at (c.says_nothing.ensures c.if-says_nothing.true))
+    faults_same (lists_of c.args.tables.now) (word_lists c.args.words) c.args.code c.args.faults c.requires.below (λ scalar. c.in_default.ensures.value scalar)
 
 pub has_good_list-requires : goal.has_good_list-requires
 has_good_list-requires c =
