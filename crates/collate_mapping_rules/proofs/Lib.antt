@@ -1,1 +1,2 @@
 pub mod mappings
+pub mod lists

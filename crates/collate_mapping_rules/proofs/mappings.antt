@@ -1,4 +1,8 @@
--- what mapping steps reach, and marks put in order
-pub mod ExploringLemmas
+-- what mapping steps leave as more parts say them, their loops, marks put in order, and pairs that compose
+pub mod BeginningLemmas
+pub mod ComposedPairLemmas
+pub mod GrowingStepLemmas
+pub mod LowChainLemmas
 pub mod MappingOrderLemmas
-pub mod MappingReachedLemmas
+pub mod NamedLoopLemmas
+pub mod WaitingLemmas

@@ -3,8 +3,10 @@
 #![tactic(auto)]
 
 pub mod below_marks;
+mod fronts;
 pub mod full_lists;
 pub mod lines;
 pub mod loops;
 pub mod marks;
 pub mod pairs;
+mod part_steps;

@@ -1,19 +1,23 @@
 //! The rule that mapping steps lead in no loop (C2).
 
-ghost use Rattle.std.specs.Prelude.{All, ◌≡◌, ℕ, ◌↔◌, ◌∷◌, ◌++◌, [], map, true, IsTrue, IfOk, OnOk, MatchOption};
+ghost use Rattle.std.specs.Prelude.{All, ℕ, List, map, Contains, IfOk, MatchOption, MatchBool};
 ghost use Rattle.icu_normalizer_core.specs.Canonical.{Reaches};
+ghost use Rattle.icu_normalizer_core.specs.StepOrder.{IsWalk};
 ghost use Rattle.collate_rules.specs.Meaning.{any_step};
 ghost use Rattle.collate_lines.specs.Record.{said};
-ghost use Rattle.collate_rules.specs.CanonicalParts.{in_full, IsShort, step_items};
-ghost use Rattle.collate_rules.specs.Breaches.{AnswersBreach};
+ghost use Rattle.collate_rules.specs.CanonicalParts.{in_full, IsShort};
+ghost use Rattle.collate_rules.specs.Breaches.{AnswersBreach, AnswersClear};
 ghost use Rattle.collate_rules.specs.Offenders.{NoneOffends, IsFirstOffender};
-ghost use Rattle.collate_rules.specs.Reached.{with_one, with_all, AreSmall};
+ghost use Rattle.collate_rules.specs.Rules.{HasLoop};
 
+use crate::marks::map_any_mark;
+use crate::part_steps::{PartSteps, subjects};
 use collate_lines::record::Record;
 use collate_lines::rule::Rule;
-use collate_rules::canonical_part::{CanonicalPart, any_step};
+use collate_rules::canonical_parts::CanonicalParts;
+use collate_rules::full_list::Mappings;
 use collate_rules::parts::first_breach;
-use collate_rules::step::Step;
+use icu_normalizer_core::step_order::{Walk, walk_steps};
 use std::alloc::{AllocError, Global};
 
 /// The first line that closes a loop of mapping steps, canonical or compatibility, built-in ones
@@ -27,72 +31,56 @@ pub fn first_loop(alloc: Global, records: &[Record]) -> Result<Option<usize>, Al
     first_breach(
         alloc,
         records,
-        |parts: &[CanonicalPart]|
-            ensures { AnswersBreach Rule.C2 parts.now result }
-        { ends_in_loop(alloc, parts) },
+        |parts: &CanonicalParts|
+            ensures { AnswersClear Rule.C2 parts.now.list.items result }
+        { never_loop(alloc, parts) },
+        |parts: &CanonicalParts|
+            ensures { AnswersBreach Rule.C2 parts.now.list.items result }
+        { end_in_loop(alloc, parts) },
     )
 }
 
-/// Whether the last part closes a loop of mapping steps, where those before it have none.
-fn ends_in_loop(alloc: Global, parts: &[CanonicalPart]) -> Result<bool, AllocError>
-    ensures { AnswersBreach Rule.C2 parts.now result }
+/// Whether it can be told of parts that map no mark that no beginning of them has a loop of steps: each part only adds steps
+/// from a character that had none.
+fn never_loop(alloc: Global, parts: &CanonicalParts) -> Result<bool, AllocError>
+    ensures { AnswersClear Rule.C2 parts.now.list.items result }
 {
-    match parts.split_last() {
-        Some((part, _)) => returns_to(alloc, parts, part.character()),
+    if map_any_mark(parts) {
+        return Ok(false);
+    }
+    let subjects = subjects(alloc, parts)?;
+    let has_loop = lead_in_loop(alloc, parts, &subjects)?;
+    Ok(!has_loop)
+}
+
+/// Whether the last part closes a loop of steps, where those before it have none.
+fn end_in_loop(alloc: Global, parts: &CanonicalParts) -> Result<bool, AllocError>
+    ensures { AnswersBreach Rule.C2 parts.now.list.items result }
+{
+    match parts.as_slice().split_last() {
+        Some((part, _)) => lead_in_loop(alloc, parts, &[part.character()]),
         None => Ok(false),
     }
 }
 
-/// Whether mapping steps lead from a character to itself.
-fn returns_to(alloc: Global, parts: &[CanonicalPart], c: u32) -> Result<bool, AllocError>
-    ensures { IfOk result (λ b. IsTrue b ↔ Reaches (any_step (map in_full parts.now)) (any_step (map in_full parts.now) c) c) }
+/// Whether a loop is met where steps are followed from these characters on; else they lead from none of them back to itself.
+fn lead_in_loop(alloc: Global, parts: &CanonicalParts, starts: &[char]) -> Result<bool, AllocError>
+    ensures { IfOk result (λ b. MatchBool b (HasLoop (map in_full parts.now.list.items)) ((c : ℕ) → Contains starts.now c → Reaches (any_step (map in_full parts.now.list.items)) (any_step (map in_full parts.now.list.items) c) c → ⊥)) }
 {
-    reaches(alloc, parts, any_step(parts, c), c)
+    let steps = PartSteps {
+        parts,
+        mappings: Mappings::All,
+    };
+    let walk = walk_steps(alloc, &steps, starts)?;
+    Ok(is_loop(&walk))
 }
 
-/// Whether mapping steps, none included, lead from the characters of a mapping to a character.
-fn reaches(
-    alloc: Global,
-    parts: &[CanonicalPart],
-    start: Step,
-    target: u32,
-) -> Result<bool, AllocError>
-    ensures { IfOk result (λ b. IsTrue b ↔ Reaches (any_step (map in_full parts.now)) (step_items start) target) }
+/// Whether a walk met a loop; else steps lead from no character where it began back to itself.
+fn is_loop(walk: &Walk) -> bool
+    ensures { (step : ℕ → List ℕ) (starts : List ℕ) → IsWalk step starts walk.now → MatchBool result ((c : ℕ) × Reaches step (step c) c) ((c : ℕ) → Contains starts c → Reaches step (step c) c → ⊥) }
 {
-    let mut list = Vec::new(alloc);
-    add_all(&mut list, start)?;
-    let mut next = 0;
-    while next < list.len() {
-        let c = list[next];
-        if c == target {
-            return Ok(true);
-        }
-        let step = any_step(parts, c);
-        add_all(&mut list, step)?;
-        next += 1;
+    match walk {
+        Walk::Loop(_) => true,
+        Walk::InOrder(_) => false,
     }
-    Ok(false)
-}
-
-/// Adds those characters of a mapping to a list that it doesn't have yet.
-fn add_all(list: &mut Vec<u32>, step: Step) -> Result<(), AllocError>
-    ensures value { OnOk result (list.new.items ≡ with_all list.old.items (step_items step)) }
-    ensures small { AreSmall list.old.items → OnOk result (AreSmall list.new.items) }
-{
-    let characters = step.characters();
-    for c in characters {
-        add_one(list, *c as u32)?;
-    }
-    Ok(())
-}
-
-/// Adds a character to a list, unless it has it already.
-fn add_one(list: &mut Vec<u32>, c: u32) -> Result<(), AllocError>
-    ensures value { OnOk result (list.new.items ≡ with_one list.old.items c) }
-    ensures small { AreSmall list.old.items → OnOk result (AreSmall list.new.items) }
-{
-    if !list.contains(&c) {
-        list.push(c)?;
-    }
-    Ok(())
 }

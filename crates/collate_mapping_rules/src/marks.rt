@@ -4,12 +4,12 @@ ghost use Rattle.std.specs.Prelude.{All, ◌≡◌, ℕ, ◌↔◌, map, true, I
 ghost use Rattle.collate_lines.specs.Record.{said};
 ghost use Rattle.collate_rules.specs.CanonicalParts.{in_full, IsShort};
 ghost use Rattle.collate_rules.specs.Rules.{IsMappedMark, MapsMark};
-ghost use Rattle.collate_rules.specs.Breaches.{AnswersBreach, earlier};
+ghost use Rattle.collate_rules.specs.Breaches.{AnswersBreach, AnswersClear, earlier};
 ghost use Rattle.collate_rules.specs.Offenders.{NoneOffends, IsFirstOffender};
 
 use collate_lines::record::Record;
 use collate_lines::rule::Rule;
-use collate_rules::canonical_part::{CanonicalPart, class_of, is_mapped, is_mapped_twice};
+use collate_rules::canonical_parts::CanonicalParts;
 use collate_rules::parts::first_breach;
 use icu_normalizer_core::built_in::is_built_in;
 use std::alloc::{AllocError, Global};
@@ -25,25 +25,42 @@ pub fn first_mapped_mark(alloc: Global, records: &[Record]) -> Result<Option<usi
     first_breach(
         alloc,
         records,
-        |parts: &[CanonicalPart]|
-            ensures { AnswersBreach Rule.C1 parts.now result }
+        |parts: &CanonicalParts|
+            ensures { AnswersClear Rule.C1 parts.now.list.items result }
+        { Ok(false) },
+        |parts: &CanonicalParts|
+            ensures { AnswersBreach Rule.C1 parts.now.list.items result }
         { Ok(maps_mark(parts)) },
     )
 }
 
 /// Whether parts map a mark, where those before the last map none.
-fn maps_mark(parts: &[CanonicalPart]) -> bool
-    ensures { (MapsMark (map in_full (earlier parts.now)) → ⊥) → IsTrue result ↔ MapsMark (map in_full parts.now) }
+fn maps_mark(parts: &CanonicalParts) -> bool
+    ensures { (MapsMark (map in_full (earlier parts.now.list.items)) → ⊥) → IsTrue result ↔ MapsMark (map in_full parts.now.list.items) }
 {
-    match parts.split_last() {
+    match parts.as_slice().split_last() {
         Some((part, _)) => is_mapped_mark(parts, part.character()),
         None => false,
     }
 }
 
 /// Whether a character that isn't built in has a mapping, and another one or a class other than 0.
-fn is_mapped_mark(parts: &[CanonicalPart], c: u32) -> bool
-    ensures { IsTrue result ↔ IsMappedMark (map in_full parts.now) c }
+fn is_mapped_mark(parts: &CanonicalParts, c: char) -> bool
+    ensures { IsTrue result ↔ IsMappedMark (map in_full parts.now.list.items) c }
 {
-    is_mapped(parts, c) && !is_built_in(c) && (class_of(parts, c) != 0 || is_mapped_twice(parts, c))
+    parts.is_mapped(c)
+        && !is_built_in(c as u32)
+        && (parts.class_of(c) != 0 || parts.is_mapped_twice(c))
+}
+
+/// Whether parts map a mark.
+pub(crate) fn map_any_mark(parts: &CanonicalParts) -> bool
+    ensures { IsTrue result ↔ MapsMark (map in_full parts.now.list.items) }
+{
+    for part in &parts.list {
+        if is_mapped_mark(parts, part.character()) {
+            return true;
+        }
+    }
+    false
 }

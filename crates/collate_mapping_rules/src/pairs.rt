@@ -1,28 +1,35 @@
 //! The rules on composed pairs: no two lines compose the same two characters (C5), and the second of the two is from
 //! U+0300 on, and no vowel or final consonant of Hangul (C6).
 
-ghost use Rattle.std.specs.Prelude.{◌≡◌, ◌<◌, ◌⊎◌, ◌↔◌, map, true, IsTrue, Some, MatchOption};
+ghost use Rattle.std.specs.Prelude.{◌≡◌, ◌<◌, ◌⊎◌, ◌↔◌, ◌∷◌, ◌++◌, [], List, map, true, IsTrue, IfOk, OnOk, MatchOption};
 ghost use Rattle.std.specs.List.{list_any};
 ghost use Rattle.icu_normalizer_core.specs.BuiltIn.{is_within};
-ghost use Rattle.collate_lines.specs.Record.{said};
+ghost use Rattle.collate_lines.specs.Record.{Record as PlainRecord, said};
+ghost use Rattle.collate_rules.specs.PartMaps.{HasComposed};
 ghost use Rattle.collate_rules.specs.Rules.{IsBadlyComposed, is_same_pair, pair_in};
 ghost use Rattle.collate_rules.specs.Offenders.{NoneOffends, IsFirstOffender};
 
 use collate_lines::record::Record;
 use collate_lines::rule::Rule;
 use icu_normalizer_core::built_in::is_built_in;
+use std::alloc::{AllocError, Global};
+use std::collections::BTreeSet;
 
 /// The first line that composes two characters which an earlier line composes (rule C5, docs/RECORDS.md). Lines count
 /// from 0; `None` where no line offends.
-pub fn first_repeated_pair(records: &[Record]) -> Option<usize>
-    ensures { MatchOption result (NoneOffends Rule.C5 (map said records.now)) (λ i. IsFirstOffender Rule.C5 (map said records.now) i) }
+///
+/// Errors: `AllocError` where memory is refused.
+pub fn first_repeated_pair(alloc: Global, records: &[Record]) -> Result<Option<usize>, AllocError>
+    ensures { IfOk result (λ found. MatchOption found (NoneOffends Rule.C5 (map said records.now)) (λ i. IsFirstOffender Rule.C5 (map said records.now) i)) }
 {
+    let mut pairs = BTreeSet::new(alloc);
     for i in 0..records.len() {
-        if repeats_pair(&records[..i], &records[i]) {
-            return Some(i);
+        let is_repeated = repeats_pair(&mut pairs, &records[i])?;
+        if is_repeated {
+            return Ok(Some(i));
         }
     }
-    None
+    Ok(None)
 }
 
 /// The first line that composes two characters of which the second is below U+0300, or a vowel or final consonant of
@@ -33,28 +40,17 @@ pub fn first_bad_second(records: &[Record]) -> Option<usize>
     records.iter().position(is_badly_composed)
 }
 
-/// Whether one of the lines before a line composes the same two characters.
-fn repeats_pair(before: &[Record], given: &Record) -> bool
-    ensures { result ≡ list_any (λ s. is_same_pair (pair_in s) (pair_in (said given.now))) (map said before.now) }
+/// Whether a line composes two characters of which it is noted that a line composes them; notes them.
+fn repeats_pair(pairs: &mut BTreeSet<(char, char)>, given: &Record) -> Result<bool, AllocError>
+    ensures told { (lines : List PlainRecord) → HasComposed pairs.old lines → IfOk result (λ yes. yes ≡ list_any (λ s. is_same_pair (pair_in s) (pair_in (said given.now))) lines) }
+    ensures noted { (lines : List PlainRecord) → HasComposed pairs.old lines → OnOk result (HasComposed pairs.new (lines ++ said given.now ∷ [])) }
 {
-    let Some((first, second)) = composed_pair(given) else {
-        return false;
-    };
-    for line in before {
-        if composes(line, first, second) {
-            return true;
+    match composed_pair(given) {
+        Some(pair) => {
+            let is_new = pairs.insert(pair)?;
+            Ok(!is_new)
         }
-    }
-    false
-}
-
-/// Whether a line composes these two characters.
-fn composes(line: &Record, first: char, second: char) -> bool
-    ensures { result ≡ is_same_pair (pair_in (said line.now)) (Some (first, second)) }
-{
-    match composed_pair(line) {
-        Some((other, further)) => other == first && further == second,
-        None => false,
+        None => Ok(false),
     }
 }
 

@@ -9,3 +9,5 @@ pub mod RecordSettingLemmas
 pub mod ShorterLemmas
 pub mod SoundSettingLemmas
 pub mod UnlikeDecomposedLemmas
+pub mod LineTestLemmas
+pub mod DigitLemmas

@@ -4,6 +4,7 @@
 
 pub mod decomposed;
 pub mod digits;
+mod further;
 pub mod laws;
 pub mod named;
 pub mod prefixes;

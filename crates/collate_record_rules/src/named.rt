@@ -1,28 +1,36 @@
 //! The rules that look at one record, with what others replace: what jamo have (V12), and that FFFD, FFFE and FFFF stand
 //! nowhere (V13).
 
-ghost use Rattle.std.specs.Prelude.{◌≡◌, ◌==◌, ◌%◌, ◌^◌, ◌&&◌, ◌||◌, not, List, [], ◌∷◌, map, MatchOption};
+ghost use Rattle.std.specs.Prelude.{◌≡◌, ◌==◌, ◌%◌, ◌^◌, ◌&&◌, ◌||◌, List, [], ◌∷◌, map, IfOk, MatchOption};
 ghost use Rattle.std.specs.List.{list_any};
 ghost use Rattle.icu_normalizer_core.specs.BuiltIn.{is_jamo, is_within};
-ghost use Rattle.collate_lines.specs.Record.{said};
+ghost use Rattle.collate_lines.specs.Record.{layer_of, said};
 ghost use Rattle.collate_rules.specs.Offenders.{NoneOffends, IsFirstOffender};
-ghost use Rattle.collate_rules.specs.RecordRules.{fits_word, is_bad_jamo_record, is_one_word, is_special, names_special};
+ghost use Rattle.collate_rules.specs.RecordRules.{fits_word, is_alone, is_bad_jamo_record, is_one_word, is_replaced, is_special, names_special};
 
-use collate_lines::record::{Range, Record};
+use collate_lines::record::{Layer, Range, Record};
 use collate_lines::rule::Rule;
-use collate_rules::recorded::{is_alone, is_replaced};
+use collate_rules::recorded::{Recorded, is_alone};
 use icu_collator_types::elements::Element;
 use icu_normalizer_core::built_in::is_jamo;
+use std::alloc::{AllocError, Global};
 
 /// The first line with a jamo in its text that is no record of the jamo alone, or gives it other than one element that fits
 /// one word (rule V12, docs/RECORDS.md); what a record of the tailoring replaces may be of any elements. Lines count from 0;
 /// `None` where no line offends.
-pub fn first_bad_jamo(records: &[Record]) -> Option<usize>
-    ensures { MatchOption result (NoneOffends Rule.V12 (map said records.now)) (λ i. IsFirstOffender Rule.V12 (map said records.now) i) }
+///
+/// Errors: `AllocError` where memory is refused.
+pub fn first_bad_jamo(alloc: Global, records: &[Record]) -> Result<Option<usize>, AllocError>
+    ensures { IfOk result (λ found. MatchOption found (NoneOffends Rule.V12 (map said records.now)) (λ i. IsFirstOffender Rule.V12 (map said records.now) i)) }
 {
-    records
-        .iter()
-        .position(|line| is_bad_jamo_record(records, line))
+    let recorded = Recorded::new(alloc, records)?;
+    for (i, line) in records.iter().enumerate() {
+        let is_bad = is_bad_jamo_record(&recorded, line)?;
+        if is_bad {
+            return Ok(Some(i));
+        }
+    }
+    Ok(None)
 }
 
 /// The first line whose record, digit or range has U+FFFD, U+FFFE or U+FFFF in it (rule V13, docs/RECORDS.md). Lines count
@@ -34,8 +42,8 @@ pub fn first_special(records: &[Record]) -> Option<usize>
 }
 
 /// Whether a line has a jamo in its text, and isn't what a jamo may have.
-fn is_bad_jamo_record(records: &[Record], line: &Record) -> bool
-    ensures { result ≡ is_bad_jamo_record (map said records.now) (said line.now) }
+fn is_bad_jamo_record(recorded: &Recorded<'_>, line: &Record) -> Result<bool, AllocError>
+    ensures { IfOk result (λ is_bad. is_bad ≡ is_bad_jamo_record (map said recorded.now.lines.now) (said line.now)) }
 {
     match line {
         Record::Weights {
@@ -44,12 +52,34 @@ fn is_bad_jamo_record(records: &[Record], line: &Record) -> bool
             text,
             elements,
         } => {
-            let is_good = is_alone(prefix, text)
-                && (is_replaced(records, *layer, prefix, text) || is_one_word(elements));
-            has_jamo(text) && !is_good
+            if !has_jamo(text) {
+                return Ok(false);
+            }
+            let is_good = may_be_of_jamo(recorded, *layer, prefix, text, elements)?;
+            Ok(!is_good)
         }
-        _ => false,
+        _ => Ok(false),
     }
+}
+
+/// Whether a text stands alone, and is replaced or has elements that fit one word.
+fn may_be_of_jamo(
+    recorded: &Recorded<'_>,
+    layer: Layer,
+    prefix: &[char],
+    text: &[char],
+    elements: &[Element],
+) -> Result<bool, AllocError>
+    ensures { IfOk result (λ may. may ≡ (is_alone prefix.now text.now && (is_replaced (map said recorded.now.lines.now) (layer_of layer) prefix.now text.now || is_one_word elements.now))) }
+{
+    if !is_alone(prefix, text) {
+        return Ok(false);
+    }
+    if is_one_word(elements) {
+        return Ok(true);
+    }
+    let is_replaced = recorded.is_replaced(layer, prefix, text)?;
+    Ok(is_replaced)
 }
 
 /// Whether a jamo stands in a text.

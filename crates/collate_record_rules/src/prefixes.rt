@@ -23,14 +23,15 @@ use std::alloc::{AllocError, Global};
 pub fn first_bad_prefix(alloc: Global, records: &[Record]) -> Result<Option<usize>, AllocError>
     ensures { IfOk result (λ found. MatchOption found (NoneOffends Rule.V10 (map said records.now)) (λ i. IsFirstOffender Rule.V10 (map said records.now) i)) }
 {
-    let found = first_to_break(alloc, records, &PrefixTest { records })?;
+    let all = Characters::new(alloc, records)?;
+    let found = first_to_break(alloc, records, &PrefixTest { all })?;
     Ok(found)
 }
 
 /// The test of prefixes.
 #[derive(Drop)]
 struct PrefixTest<'r> {
-    records: &'r [Record],
+    all: Characters<'r>,
 }
 
 impl<'r> LinesTest for PrefixTest<'r> {
@@ -38,12 +39,11 @@ impl<'r> LinesTest for PrefixTest<'r> {
     ghost use Rattle.collate_lines.specs.Record.{said};
     ghost use Rattle.collate_rules.specs.RecordRules.{breaks_prefixes};
 
-    ghost breach = { λ test. breaks_prefixes (map said test.records.now) };
+    ghost breach = { λ test. breaks_prefixes (map said test.all.lines.now) };
 
     fn breaks(&self, alloc: Global, lines: &[Record]) -> Result<bool, AllocError> {
-        let all = Characters::new(alloc, self.records)?;
         let given = Characters::new(alloc, lines)?;
-        Ok(breaks_prefixes(&all, &given, lines))
+        Ok(breaks_prefixes(&self.all, &given, lines))
     }
 }
 

@@ -11,7 +11,7 @@ use collate_lines::record::Record;
 use collate_lines::rule::Rule;
 use collate_rules::breaks::{LinesTest, first_to_break};
 use collate_rules::noted::Characters;
-use collate_rules::recorded::is_recorded;
+use collate_rules::recorded::Recorded;
 use std::alloc::{AllocError, Global};
 
 /// The first line with which a text has a starter behind a mark (rule V8, docs/RECORDS.md). Lines count from 0; `None` where
@@ -21,7 +21,8 @@ use std::alloc::{AllocError, Global};
 pub fn first_late_starter(alloc: Global, records: &[Record]) -> Result<Option<usize>, AllocError>
     ensures { IfOk result (λ found. MatchOption found (NoneOffends Rule.V8 (map said records.now)) (λ i. IsFirstOffender Rule.V8 (map said records.now) i)) }
 {
-    let found = first_to_break(alloc, records, &MarksLastTest { records })?;
+    let all = Characters::new(alloc, records)?;
+    let found = first_to_break(alloc, records, &MarksLastTest { all })?;
     Ok(found)
 }
 
@@ -33,34 +34,61 @@ pub fn first_lacking_shorter(alloc: Global, records: &[Record]) -> Result<Option
     ensures { IfOk result (λ found. MatchOption found (NoneOffends Rule.V9 (map said records.now)) (λ i. IsFirstOffender Rule.V9 (map said records.now) i)) }
 {
     let all = Characters::new(alloc, records)?;
-    let found = records.iter().position(|line| lacks_shorter(&all, line));
-    Ok(found)
+    let recorded = Recorded::new(alloc, records)?;
+    for (i, line) in records.iter().enumerate() {
+        let lacks = lacks_shorter(&all, &recorded, line)?;
+        if lacks {
+            return Ok(Some(i));
+        }
+    }
+    Ok(None)
 }
 
 /// Whether the text of a line ends in a mark, and isn't recorded without it.
-fn lacks_shorter(all: &Characters<'_>, line: &Record) -> bool
-    ensures { result ≡ lacks_shorter (map said all.now.lines.now) (said line.now) }
+fn lacks_shorter(
+    all: &Characters<'_>,
+    recorded: &Recorded<'_>,
+    line: &Record,
+) -> Result<bool, AllocError>
+    requires { recorded.now.lines.now ≡ all.now.lines.now }
+    ensures { IfOk result (λ lacks. lacks ≡ lacks_shorter (map said all.now.lines.now) (said line.now)) }
 {
     match line {
         Record::Weights { text, .. } => match text.split_last() {
-            Some((last, shorter)) => lacks_record(all, shorter, *last),
-            None => false,
+            Some((last, shorter)) => {
+                let lacks = lacks_record(all, recorded, shorter, *last)?;
+                Ok(lacks)
+            }
+            None => Ok(false),
         },
-        _ => false,
+        _ => Ok(false),
     }
 }
 
 /// Whether a text of two characters or more isn't recorded by itself, where a mark stands behind it.
-fn lacks_record(all: &Characters<'_>, shorter: &[char], last: char) -> bool
-    ensures { result ≡ lacks_record (map said all.now.lines.now) shorter.now last }
+fn lacks_record(
+    all: &Characters<'_>,
+    recorded: &Recorded<'_>,
+    shorter: &[char],
+    last: char,
+) -> Result<bool, AllocError>
+    requires { recorded.now.lines.now ≡ all.now.lines.now }
+    ensures { IfOk result (λ lacks. lacks ≡ lacks_record (map said all.now.lines.now) shorter.now last) }
 {
-    1 < shorter.len() && (all.is_mark(last) && !is_recorded(all.lines, &[], shorter))
+    if shorter.len() <= 1 {
+        return Ok(false);
+    }
+    if !all.is_mark(last) {
+        return Ok(false);
+    }
+    let is_recorded = recorded.is_recorded(&[], shorter)?;
+    Ok(!is_recorded)
 }
 
 /// The test of texts for starters behind marks.
 #[derive(Drop)]
 struct MarksLastTest<'r> {
-    records: &'r [Record],
+    all: Characters<'r>,
 }
 
 impl<'r> LinesTest for MarksLastTest<'r> {
@@ -68,12 +96,11 @@ impl<'r> LinesTest for MarksLastTest<'r> {
     ghost use Rattle.collate_lines.specs.Record.{said};
     ghost use Rattle.collate_rules.specs.RecordRules.{breaks_marks_last};
 
-    ghost breach = { λ test. breaks_marks_last (map said test.records.now) };
+    ghost breach = { λ test. breaks_marks_last (map said test.all.lines.now) };
 
     fn breaks(&self, alloc: Global, lines: &[Record]) -> Result<bool, AllocError> {
-        let all = Characters::new(alloc, self.records)?;
         let given = Characters::new(alloc, lines)?;
-        Ok(breaks_marks_last(&all, &given, lines))
+        Ok(breaks_marks_last(&self.all, &given, lines))
     }
 }
 

@@ -4,4 +4,6 @@ pub mod CanonicalPartLemmas
 pub mod MappingEndingLemmas
 pub mod LoopLemmas
 pub mod LoopPartLemmas
+pub mod PartMapLemmas
+pub mod PartsOfLinesLemmas
 pub mod SoonEndedLemmas

@@ -3,3 +3,4 @@ pub mod BreakLemmas
 pub mod MappedLemmas
 pub mod RecordNotedLemmas
 pub mod RecordedLemmas
+pub mod RecordedTextLemmas

@@ -1,5 +1,5 @@
 -- What lines say of canonical data, as it is kept apart from what else they say.
-use Rattle.std.specs.Prelude.{◌≡◌, ℕ, ◌≤◌, List, length, take}
+use Rattle.std.specs.Prelude.{◌≡◌, ℕ, ◌≤◌, List, length, map, take}
 use Rattle.icu_normalizer_core.specs.Properties.{mapped_to}
 use Rattle.collate_rules.specs.declared.canonical_part.CanonicalPart.{CanonicalPart}
 use Rattle.collate_rules.specs.declared.canonical_part.CanonicalPart.TheVariants.{Class, Map, Kmap}
@@ -23,6 +23,11 @@ pub record SaysSame (lines others : List Record) : Type 0 where
   pub mappings : (c : ℕ) → first_found (mapping_in c) lines ≡ first_found (mapping_in c) others
   pub compatibilities : (c : ℕ) → first_found (compatibility_in c) lines ≡ first_found (compatibility_in c) others
   pub pairs : (a b : ℕ) → first_found (composed_in a b) lines ≡ first_found (composed_in a b) others
+
+-- parts that say what lines say, and a beginning of them what each beginning of the lines says
+pub record AreOf (parts : List CanonicalPart) (lines : List Record) : Type 0 where
+  pub whole : SaysSame (map in_full parts) lines
+  pub beginnings : (k : ℕ) → (j : ℕ) × (j ≤ length parts) × SaysSame (map in_full (take j parts)) (take k lines)
 
 -- the compatibility mapping of a line, if it gives one, has at most eight characters
 abbrev pub IsShort : Record → Type 0

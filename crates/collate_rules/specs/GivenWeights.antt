@@ -1,6 +1,6 @@
 -- The rules on the weights that lines give, V1 to V6: which lines break them. They ask every line, also a w line that a t line
 -- replaces.
-use Rattle.std.specs.Prelude.{◌≡◌, ℕ, Bool, true, false, cond, ◌==◌, ◌&&◌, ◌||◌, leb, List, [], ◌∷◌, flat_map}
+use Rattle.std.specs.Prelude.{◌≡◌, ℕ, ◌/◌, ◌^◌, Bool, true, false, cond, ◌==◌, ◌&&◌, ◌||◌, leb, List, [], ◌∷◌, flat_map}
 use Rattle.std.specs.Option.{is_some}
 use Rattle.std.specs.List.{list_all}
 use Rattle.icu_collator_types.specs.declared.elements.Element.{Element}
@@ -74,6 +74,10 @@ BreakApart lines = are_all_apart (given_elements lines) ≡ false
 abbrev pub are_all_disjoint : List Range → Bool
 are_all_disjoint [] = true
 are_all_disjoint (r ∷ rs) = list_all (are_disjoint r) rs && are_all_disjoint rs
+
+-- whether a range has this lead
+abbrev pub has_lead : ℕ → Range → Bool
+has_lead lead r = lead == r.primary / 2 ^ 24
 
 -- whether each range is sound, no two share a character, and no element has the lead of one
 abbrev pub are_sound_ranges : Weights → List Range → List Element → Bool

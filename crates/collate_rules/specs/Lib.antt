@@ -17,3 +17,6 @@ pub mod SettingLines
 pub mod Breaks
 pub mod NotedLines
 pub mod MappedLines
+pub mod PartMaps
+pub mod LowParts
+pub mod RecordedTexts

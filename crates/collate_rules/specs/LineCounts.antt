@@ -1,5 +1,5 @@
 -- How many things a line of the grammar lists, where the rules rely on it.
-use Rattle.std.specs.Prelude.{◌≡◌, ℕ, ◌≤◌, length}
+use Rattle.std.specs.Prelude.{◌≡◌, ◌≤◌, length}
 use Rattle.collate_lines.specs.Record.{Record, mapping, setting, groups}
 
 -- a mapping is to one character at least, and groups are four

@@ -4,7 +4,7 @@ ghost use Rattle.std.specs.Prelude.{◌≡◌, ℕ, ◌∷◌, ◌++◌, List, [
 ghost use Rattle.collate_rules.specs.CanonicalParts.{in_full, step_items};
 ghost use Rattle.collate_rules.specs.Lists.{steps_by, IsFront};
 
-use crate::canonical_part::{CanonicalPart, any_step, step_of};
+use crate::canonical_parts::CanonicalParts;
 use crate::step::Step;
 
 /// The mappings whose steps make a full list.
@@ -20,26 +20,26 @@ pub enum Mappings {
 #[derive(Clone, Copy)]
 pub struct Front {
     /// The first character, if there is one.
-    pub first: Option<u32>,
+    pub first: Option<char>,
     /// How many there are, at most nine.
     pub count: u8,
 }
 
 impl Mappings {
     /// The mapping of a character.
-    pub fn step(self, parts: &[CanonicalPart], c: u32) -> Step
-        ensures { step_items result ≡ steps_by self (map in_full parts.now) c }
+    pub fn step(self, parts: &CanonicalParts, c: char) -> Step
+        ensures { step_items result ≡ steps_by self (map in_full parts.now.list.items) c }
     {
         match self {
-            Mappings::Canonical => Step::of(step_of(parts, c)),
-            Mappings::All => any_step(parts, c),
+            Mappings::Canonical => Step::of(parts.step_of(c)),
+            Mappings::All => parts.any_step(c),
         }
     }
 }
 
 impl Front {
     /// The list with one character more.
-    pub fn with(self, c: u32) -> Front
+    pub fn with(self, c: char) -> Front
         ensures { (list : List ℕ) → IsFront self list → IsFront result (list ++ c ∷ []) }
     {
         Front {

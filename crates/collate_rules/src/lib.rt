@@ -4,6 +4,7 @@
 
 pub mod breaks;
 pub mod canonical_part;
+pub mod canonical_parts;
 mod counts;
 pub mod full_list;
 pub mod laws;
@@ -16,3 +17,4 @@ pub mod places;
 pub mod recorded;
 pub mod step;
 mod steps;
+mod texts;

@@ -237,8 +237,8 @@ fn note_alone(alone: &mut BTreeSet<char>, line: &Record) -> Result<(), AllocErro
     }
 }
 
-/// Notes a character.
-fn put(noted: &mut BTreeSet<char>, character: char) -> Result<(), AllocError>
+/// Notes a character. Fails only when out of memory.
+pub(crate) fn put(noted: &mut BTreeSet<char>, character: char) -> Result<(), AllocError>
     ensures { OnOk result ((c : ℕ) → contains nat_cmp noted.new c ≡ (contains nat_cmp noted.old c || (c == character))) }
 {
     noted.insert(character)?;

@@ -1,37 +1,89 @@
 //! The rules that classes and mappings break together: the line with which they first do.
 
-ghost use Rattle.std.specs.Prelude.{All, map, IfOk, MatchOption};
+ghost use Rattle.std.specs.Prelude.{ℕ, ◌+◌, ◌<◌, ◌≤◌, All, length, map, take, IfOk, MatchOption};
 ghost use Rattle.std.specs.Fn.{FnReturnsAt};
 ghost use Rattle.collate_lines.specs.Record.{said};
 ghost use Rattle.collate_rules.specs.CanonicalParts.{IsShort};
-ghost use Rattle.collate_rules.specs.Breaches.{IsFirstToBreak, NoneBreaks, TellsBreach};
+ghost use Rattle.collate_rules.specs.Breaches.{AsksForSaid, Breach, IsFirstToBreak, NoneBreaks, TellsBreach, TellsClear};
 
-use crate::canonical_part::{CanonicalPart, canonical_part};
+use crate::canonical_part::canonical_part;
+use crate::canonical_parts::CanonicalParts;
 use collate_lines::record::Record;
 use collate_lines::rule::Rule;
 use std::alloc::{AllocError, Global};
 
-/// The first line with which the classes and mappings so far break a rule. `breaks` is asked of them after each line that
-/// adds one, which then stands last. Lines count from 0; `None` where they never break it.
+/// The first line with which the classes and mappings so far break a rule. Lines count from 0; `None` where they never do.
+///
+/// `clears` may tell of classes and mappings that no beginning of them breaks the rule. As far as it tells so of the lines' own,
+/// found by halving, the lines aren't asked one by one. `breaks` is asked from there on, after each line that adds a class or a
+/// mapping, which then stands last.
 ///
 /// Errors: `AllocError` where memory is refused.
-pub fn first_breach<F: Fn(&[CanonicalPart]) -> Result<bool, AllocError>>(
+pub fn first_breach<
+    C: Fn(&CanonicalParts) -> Result<bool, AllocError>,
+    B: Fn(&CanonicalParts) -> Result<bool, AllocError>,
+>(alloc: Global, records: &[Record], clears: C, breaks: B) -> Result<Option<usize>, AllocError>
+    requires clears_callable { C.IsAlwaysCallable clears }
+    requires breaks_callable { B.IsAlwaysCallable breaks }
+    requires canonical { All IsShort (map said records.now) }
+    ensures { IfOk result (λ found. (rule : Rule) → TellsClear rule (FnReturnsAt C.Fn clears) → TellsBreach rule (FnReturnsAt B.Fn breaks) → MatchOption found (NoneBreaks rule (map said records.now)) (IsFirstToBreak rule (map said records.now))) }
+{
+    let count = lines_cleared(alloc, records, clears)?;
+    first_breach_from(alloc, records, count, breaks)
+}
+
+/// How many lines are cleared of a rule: all, or some that are cleared before one with which they aren't.
+fn lines_cleared<C: Fn(&CanonicalParts) -> Result<bool, AllocError>>(
     alloc: Global,
     records: &[Record],
-    breaks: F,
-) -> Result<Option<usize>, AllocError>
-    requires callable { F.IsAlwaysCallable breaks }
+    clears: C,
+) -> Result<usize, AllocError>
+    requires callable { C.IsAlwaysCallable clears }
     requires canonical { All IsShort (map said records.now) }
-    ensures { IfOk result (λ found. (rule : Rule) → TellsBreach rule (FnReturnsAt F.Fn breaks) → MatchOption found (NoneBreaks rule (map said records.now)) (IsFirstToBreak rule (map said records.now))) }
+    ensures within { IfOk result (λ count. count ≤ length records.now) }
+    ensures clear { IfOk result (λ count. (rule : Rule) → AsksForSaid rule → TellsClear rule (FnReturnsAt C.Fn clears) → (k : ℕ) → k < count → Breach rule (take (k + 1) (map said records.now)) → ⊥) }
 {
-    let mut parts = Vec::new(alloc);
-    for (i, given) in records.iter().enumerate() {
-        if let Some(part) = canonical_part(given) {
-            parts.push(part)?;
-            let is_broken = breaks(&parts)?;
+    let parts = CanonicalParts::of_lines(alloc, records)?;
+    let is_clear = clears(&parts)?;
+    if is_clear {
+        return Ok(records.len());
+    }
+    let mut low = 0;
+    let mut high = records.len();
+    'halving: while low + 1 < high {
+        let middle = low + (high - low) / 2;
+        let front = CanonicalParts::of_lines(alloc, &records[..middle])?;
+        let is_front_clear = clears(&front)?;
+        if is_front_clear {
+            low = middle;
+        } else {
+            high = middle;
+        }
+    }
+    Ok(low)
+}
+
+/// The first line with which the classes and mappings so far break a rule, where those of `count` lines don't.
+fn first_breach_from<B: Fn(&CanonicalParts) -> Result<bool, AllocError>>(
+    alloc: Global,
+    records: &[Record],
+    count: usize,
+    breaks: B,
+) -> Result<Option<usize>, AllocError>
+    requires callable { B.IsAlwaysCallable breaks }
+    requires canonical { All IsShort (map said records.now) }
+    requires within { count ≤ length records.now }
+    ensures { IfOk result (λ found. (rule : Rule) → ((k : ℕ) → k < count → Breach rule (take (k + 1) (map said records.now)) → ⊥) → TellsBreach rule (FnReturnsAt B.Fn breaks) → MatchOption found (NoneBreaks rule (map said records.now)) (IsFirstToBreak rule (map said records.now))) }
+{
+    let mut parts = CanonicalParts::of_lines(alloc, &records[..count])?;
+    for i in count..records.len() {
+        if let Some(part) = canonical_part(&records[i]) {
+            let more = parts.with(part)?;
+            let is_broken = breaks(&more)?;
             if is_broken {
                 return Ok(Some(i));
             }
+            parts = more;
         }
     }
     Ok(None)

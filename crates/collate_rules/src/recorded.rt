@@ -1,69 +1,89 @@
 //! What lines record: for a text after a prefix, and which of them count.
 
-ghost use Rattle.std.specs.Prelude.{◌≡◌, ◌==◌, ◌%◌, ◌^◌, List, [], ◌∷◌, map, is_some};
-ghost use Rattle.collate_lines.specs.Record.{is_same_layer, layer_of, said};
+ghost use Rattle.std.specs.Prelude.{◌≡◌, map, IfOk};
 ghost use Rattle.icu_collator_core.specs.ContextRules.{is_recorded_in};
-ghost use Rattle.collate_rules.specs.Meaning.{class_in, class_of, elements_in, first_found, weights_of};
+ghost use Rattle.collate_lines.specs.Record.{layer_of, said, root as of_root, tailoring as of_tailoring};
+ghost use Rattle.collate_rules.specs.Meaning.{weights_of};
+ghost use Rattle.collate_rules.specs.RecordedTexts.{HasTexts};
 ghost use Rattle.collate_rules.specs.RecordRules.{begins_with, is_alone, is_given, is_replaced};
 
+use crate::texts::Texts;
 use collate_lines::record::{Layer, Record};
-use icu_normalizer_core::built_in::built_in_class;
+use std::alloc::{AllocError, Global};
 
-/// Whether two layers are the same.
-fn is_same_layer(a: Layer, b: Layer) -> bool
-    ensures { result ≡ is_same_layer (layer_of a) (layer_of b) }
-{
-    match (a, b) {
-        (Layer::Root, Layer::Root) => true,
-        (Layer::Tailoring, Layer::Tailoring) => true,
-        _ => false,
+/// The texts that lines record, each after its prefix, noted to be looked up.
+pub struct Recorded<'r> {
+    pub lines: &'r [Record],
+    alloc: Global,
+    root: Texts,
+    tailoring: Texts,
+    ghost has_root: { HasTexts of_root root (map said lines.now) },
+    ghost has_tailoring: { HasTexts of_tailoring tailoring (map said lines.now) },
+}
+
+// (let go of as one, and not part by part, so that what owns one is proved sooner)
+impl Drop for Recorded<'_> {
+    fn drop(self) {
+        let Recorded {
+            lines: _,
+            alloc: _,
+            root: _,
+            tailoring: _,
+        } = self;
     }
 }
 
-/// Whether a line of a layer records a text after a prefix.
-fn gives(line: &Record, layer: Layer, prefix: &[char], text: &[char]) -> bool
-    ensures { result ≡ is_some (elements_in (layer_of layer) prefix.now text.now (said line.now)) }
-{
-    match line {
-        Record::Weights {
-            layer: other,
-            prefix: before,
-            text: key,
-            ..
-        } => is_same_layer(layer, *other) && prefix == before.as_slice() && text == key.as_slice(),
-        _ => false,
+impl<'r> Recorded<'r> {
+    /// What these lines record. Fails only when out of memory.
+    pub fn new(alloc: Global, lines: &'r [Record]) -> Result<Recorded<'r>, AllocError>
+        ensures { IfOk result (λ noted. noted.lines.now ≡ lines.now) }
+    {
+        let root = Texts::of_layer(alloc, Layer::Root, lines)?;
+        let tailoring = Texts::of_layer(alloc, Layer::Tailoring, lines)?;
+        Ok(Recorded {
+            lines,
+            alloc,
+            root,
+            tailoring,
+        })
     }
-}
 
-/// Whether lines of a layer record a text after a prefix.
-fn is_given(records: &[Record], layer: Layer, prefix: &[char], text: &[char]) -> bool
-    ensures { result ≡ is_given (layer_of layer) prefix.now text.now (map said records.now) }
-{
-    for line in records {
-        if gives(line, layer, prefix, text) {
-            return true;
+    /// Whether lines of a layer record a text after a prefix. Fails only when out of memory.
+    fn is_given(&self, layer: Layer, prefix: &[char], text: &[char]) -> Result<bool, AllocError>
+        ensures { IfOk result (λ yes. yes ≡ is_given (layer_of layer) prefix.now text.now (map said self.now.lines.now)) }
+    {
+        let yes = match layer {
+            Layer::Root => self.root.contains(self.alloc, prefix, text)?,
+            Layer::Tailoring => self.tailoring.contains(self.alloc, prefix, text)?,
+        };
+        Ok(yes)
+    }
+
+    /// Whether lines record a text after a prefix, in either layer. Fails only when out of memory.
+    pub fn is_recorded(&self, prefix: &[char], text: &[char]) -> Result<bool, AllocError>
+        ensures { IfOk result (λ yes. yes ≡ is_recorded_in (weights_of (map said self.now.lines.now)) prefix.now text.now) }
+    {
+        let is_tailored = self.is_given(Layer::Tailoring, prefix, text)?;
+        if is_tailored {
+            return Ok(true);
         }
+        let is_of_root = self.is_given(Layer::Root, prefix, text)?;
+        Ok(is_of_root)
     }
-    false
-}
 
-/// Whether lines record a text after a prefix, in either layer.
-pub fn is_recorded(records: &[Record], prefix: &[char], text: &[char]) -> bool
-    ensures { result ≡ is_recorded_in (weights_of (map said records.now)) prefix.now text.now }
-{
-    if is_given(records, Layer::Tailoring, prefix, text) {
-        return true;
-    }
-    is_given(records, Layer::Root, prefix, text)
-}
-
-/// Whether a record of the tailoring replaces that of a line of a layer.
-pub fn is_replaced(records: &[Record], layer: Layer, prefix: &[char], text: &[char]) -> bool
-    ensures { result ≡ is_replaced (map said records.now) (layer_of layer) prefix.now text.now }
-{
-    match layer {
-        Layer::Root => is_given(records, Layer::Tailoring, prefix, text),
-        Layer::Tailoring => false,
+    /// Whether a record of the tailoring replaces that of a line of a layer. Fails only when out of memory.
+    pub fn is_replaced(
+        &self,
+        layer: Layer,
+        prefix: &[char],
+        text: &[char],
+    ) -> Result<bool, AllocError>
+        ensures { IfOk result (λ yes. yes ≡ is_replaced (map said self.now.lines.now) (layer_of layer) prefix.now text.now) }
+    {
+        match layer {
+            Layer::Root => self.is_given(Layer::Tailoring, prefix, text),
+            Layer::Tailoring => Ok(false),
+        }
     }
 }
 
@@ -81,37 +101,5 @@ pub fn begins_with(c: char, text: &[char]) -> bool
     match text.first() {
         Some(first) => c == *first,
         None => false,
-    }
-}
-
-/// The class that a line gives to a character, if it does.
-fn class_in(line: &Record, c: char) -> Option<u16>
-    ensures { result ≡ class_in c (said line.now) }
-{
-    match line {
-        Record::Class { character, class } if c == *character => Some(*class),
-        _ => None,
-    }
-}
-
-/// The class that the first line on it gives to a character.
-fn said_class(lines: &[Record], c: char) -> Option<u16>
-    ensures { result ≡ first_found (class_in c) (map said lines.now) }
-{
-    for line in lines {
-        if let Some(class) = class_in(line, c) {
-            return Some(class);
-        }
-    }
-    None
-}
-
-/// The class of a character: what is built in, else what a line gives, else 0.
-pub fn class_of(lines: &[Record], c: char) -> u16
-    ensures { result ≡ class_of (map said lines.now) c }
-{
-    match built_in_class(c as u32) {
-        Some(class) => u16::from(class),
-        None => said_class(lines, c).unwrap_or(0),
     }
 }

@@ -5,3 +5,5 @@ pub mod WeightRuleRangeLemmas
 pub mod WeightRuleSaidLemmas
 pub mod StayLemmas
 mod WeightExamples
+pub mod RangeLeadLemmas
+pub mod RangeOrderLemmas

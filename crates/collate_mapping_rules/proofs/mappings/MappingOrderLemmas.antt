@@ -15,11 +15,11 @@ module _ (class : ℕ → ℕ) where
   unfolding put_in_order
   put_past c d ds e = cond-true _ _ _ e
 
-  put_here : (c d : ℕ) (ds : List ℕ) → passes c d ≡ false → put_in_order class c (d ∷ ds) ≡ c ∷ d ∷ ds
+  pub put_here : (c d : ℕ) (ds : List ℕ) → passes c d ≡ false → put_in_order class c (d ∷ ds) ≡ c ∷ d ∷ ds
   unfolding put_in_order
   put_here c d ds e = cond-false _ _ _ e
 
-  put_last : (c : ℕ) → put_in_order class c [] ≡ c ∷ []
+  pub put_last : (c : ℕ) → put_in_order class c [] ≡ c ∷ []
   unfolding put_in_order
   put_last c = refl
 

@@ -1,5 +1,5 @@
 -- The limits, line by line.
-use Rattle.std.proofs.Common.{◌≡◌, ℕ, ◌+◌, ◌*◌, ◌<◌, ◌≤◌, ◌⊎◌, Bool, true, false, cond, List, [], ◌∷◌, ◌++◌, length, map, take, get_or, refl, sym, ap, ◌∙◌, subst, arith, below_more, append-nil, inl, inr, ⊎_elim, zero-add, length-append}
+use Rattle.std.proofs.Common.{◌≡◌, ℕ, ◌+◌, ◌*◌, ◌<◌, ◌≤◌, ◌⊎◌, Bool, true, false, cond, List, [], ◌∷◌, ◌++◌, length, map, take, get_or, refl, sym, ap, ◌∙◌, subst, arith, below_more, append-nil, inl, inr, ⊎_elim, length-append}
 use Rattle.std.specs.Prelude.{flat_map, filter, count_by, sum_by}
 use mir.Val.{bool_byte}
 use Rattle.std.proofs.lemmas.Bool.{cases_lt}
@@ -15,8 +15,8 @@ use Rattle.collate_lines.specs.Record.{Record, nothing, said}
 use Rattle.collate_lines.specs.Repeats.{record_at, says_something}
 use Rattle.collate_rules.specs.declared.counts.Counts.{Counts}
 use Rattle.collate_rules.specs.declared.names.Names.{Names}
-use Rattle.collate_rules.specs.Rules.{named, IsLong, IsOverLimit, LackRoom, blocks_in, canonical_room, different, element_room, is_beside, is_range, mapping_room, names_in}
-use Rattle.collate_rules.specs.Limits.{AreCounted, AreNamed, AreSmall, Holds, PassLimits, PassRoom}
+use Rattle.collate_rules.specs.Rules.{named, IsLong, IsOverLimit, LackRoom, blocks_in, names_in}
+use Rattle.collate_rules.specs.Limits.{AreCounted, AreNamed, AreSmall, PassLimits, PassRoom}
 
 -- the first i lines are within the limits
 pub record AreWithin (limits : Limits) (records : List Record) (i : ℕ) (counts : Counts) : Type 0 where

@@ -1,5 +1,5 @@
 -- Lines for which tables have room.
-use Rattle.std.proofs.Common.{◌≡◌, ℕ, ◌+◌, ◌<◌, ◌≤◌, ⊎_elim, List, [], length, inl, inr, take, arith}
+use Rattle.std.proofs.Common.{ℕ, ◌<◌, ◌≤◌, ⊎_elim, List, [], inl, inr, arith}
 use Rattle.std.specs.Prelude.{count_by, sum_by}
 use Rattle.collate_lines.specs.declared.rule.Rule.TheVariants.{Limit}
 use Rattle.collate_lines.specs.Record.{Record}

@@ -1,5 +1,5 @@
 -- To how many characters lines map a character, and whether steps lead on from it.
-use Rattle.std.proofs.Common.{◌≡◌, ℕ, Bool, true, false, cond, ◌==◌, ◌||◌, List, [], ◌∷◌, length, Option, Some, None, ◌<◌, ◌≤◌, ◌+◌, take, take_all, get_or, subst, refl, sym, ap, ◌∙◌, arith}
+use Rattle.std.proofs.Common.{◌≡◌, ℕ, Bool, true, false, cond, ◌==◌, ◌||◌, List, [], ◌∷◌, length, Option, Some, None, ◌<◌, ◌≤◌, ◌+◌, take, take_all, get_or, refl, sym, ap, ◌∙◌, arith}
 use Rattle.std.specs.Prelude.{ltb, option_map}
 use Rattle.std.specs.Option.{unwrap_or}
 use Rattle.std.specs.List.{list_any}

@@ -1,5 +1,5 @@
 -- What is noted of lines says what they say.
-use Rattle.std.proofs.Common.{◌≡◌, ℕ, Bool, true, false, cond, ◌==◌, ◌||◌, List, [], ◌∷◌, ◌++◌, Option, Some, None, refl, sym, ◌∙◌, ap}
+use Rattle.std.proofs.Common.{◌≡◌, ℕ, Bool, true, false, cond, not, ◌==◌, ◌&&◌, ◌||◌, List, [], ◌∷◌, ◌++◌, Option, Some, None, refl, sym, ◌∙◌, ap}
 use Rattle.std.specs.Prelude.{is_some, length, option_map}
 use Rattle.std.specs.Ordering.{nat_cmp}
 use Rattle.std.specs.BTreeMap.{BTreeMap, get}
@@ -11,7 +11,8 @@ use Rattle.std.proofs.Math.Bool.{or-false}
 use Rattle.collate_lines.specs.Record.{Record, class, mapping, compatibility, weights, digit}
 use Rattle.collate_rules.specs.Meaning.{class_in, digit_in, first_found, mapping_in}
 use Rattle.collate_rules.specs.MappedLines.{HasCompatibilities, HasMappings, compatibility_length, compatibility_line, mapping_length, mapping_line}
-use Rattle.collate_rules.specs.NotedLines.{HasAlone, HasClasses, HasDigits, HasMapped, class_line, digit_line, lone_character, mapped_character, records_alone}
+use Rattle.collate_rules.specs.NotedLines.{HasAlone, HasClasses, HasDigits, HasFurther, HasMapped, HasOdd, class_line, digit_line, further_character, is_it, lone_character, mapped_character, odd_character, records_alone}
+use Rattle.collate_rules.specs.RecordRules.{is_alone as is_alone_text, is_common_secondary, is_further, is_other_mark, is_replaced}
 use Rattle.collate_rules.proofs.lookups.RuleLookupLemmas.{first_found-push, first_found-skip}
 
 length_cond : (b : Bool) (ds : List ℕ) → option_map length (cond b (Some ds) None) ≡ cond b (Some (length ds)) None
@@ -70,10 +71,6 @@ digit_past = value_past digit_in digit_line digit_by_line
 some_cond : {B : Type 0} (b : Bool) (x : B) → is_some (cond b (Some x) None) ≡ b
 some_cond true x = refl
 some_cond false x = refl
-
--- whether a character is one that may be there
-abbrev is_it : ℕ → Option ℕ → Bool
-is_it c o = elim o [ Some d ↦ c == d | None ↦ false ]
 
 -- what lines say, told by the one character of which each line says it
 module _ (is_said : ℕ → List Record → Bool) (said_by : Record → Option ℕ)
@@ -136,6 +133,65 @@ alone_noted = one_noted is_alone lone_character alone_push
 
 pub alone_past : (alone : BTreeSet ℕ) (lines : List Record) (line : Record) → None ≡ lone_character line → HasAlone alone lines → HasAlone alone (lines ++ line ∷ [])
 alone_past = none_noted is_alone lone_character alone_push
+
+-- ---- Characters that are recorded otherwise
+
+not_alone : (x alone replaced : Bool) (c d : ℕ) → x ≡ (c == d) → ((x && not alone) && not replaced) ≡ is_it c (cond (alone || replaced) None (Some d))
+not_alone true true replaced c d e = refl
+not_alone false true replaced c d e = refl
+not_alone true false true c d e = refl
+not_alone false false true c d e = refl
+not_alone true false false c d e = e
+not_alone false false false c d e = e
+
+further_by_line : (records : List Record) (c : ℕ) (line : Record) → is_further records c line ≡ is_it c (further_character records line)
+further_by_line records c (weights layer prefix [] es) = refl
+further_by_line records c (weights layer prefix (d ∷ ds) es) = not_alone (c == d) (is_alone_text prefix (d ∷ ds)) (is_replaced records layer prefix (d ∷ ds)) c d refl
+further_by_line records c line = refl
+
+odd_parts : (x alone replaced common : Bool) (c d : ℕ) → x ≡ (c == d)
+    → (((x && not alone) && not replaced) || (((alone && x) && not replaced) && not common)) ≡ is_it c (cond ((alone && common) || replaced) None (Some d))
+odd_parts true true true true c d e = refl
+odd_parts true true true false c d e = refl
+odd_parts true true false true c d e = refl
+odd_parts true true false false c d e = e
+odd_parts false true true true c d e = refl
+odd_parts false true true false c d e = refl
+odd_parts false true false true c d e = refl
+odd_parts false true false false c d e = e
+odd_parts true false true common c d e = refl
+odd_parts false false true common c d e = refl
+odd_parts true false false common c d e = e
+odd_parts false false false common c d e = e
+
+abbrev is_odd : List Record → ℕ → Record → Bool
+is_odd records c line = is_further records c line || is_other_mark records c line
+
+odd_by_line : (records : List Record) (c : ℕ) (line : Record) → is_odd records c line ≡ is_it c (odd_character records line)
+odd_by_line records c (weights layer [] [] es) = refl
+odd_by_line records c (weights layer (b ∷ bs) [] es) = refl
+odd_by_line records c (weights layer prefix (d ∷ ds) es) =
+    odd_parts (c == d) (is_alone_text prefix (d ∷ ds)) (is_replaced records layer prefix (d ∷ ds)) (is_common_secondary es) c d refl
+odd_by_line records c line = refl
+
+-- what is noted of a line, by the one character of which the line says it
+module _ (is_said : ℕ → Record → Bool) (said_by : Record → Option ℕ) (by_line : (c : ℕ) (line : Record) → is_said c line ≡ is_it c (said_by line)) where
+  line_noted : (old new : BTreeSet ℕ) (lines : List Record) (line : Record) (o : Option ℕ) → o ≡ said_by line
+      → ((c : ℕ) → contains nat_cmp old c ≡ list_any (is_said c) lines)
+      → ((c : ℕ) → contains nat_cmp new c ≡ (contains nat_cmp old c || is_it c o))
+      → (c : ℕ) → contains nat_cmp new c ≡ list_any (is_said c) (lines ++ line ∷ [])
+  line_noted old new lines line o is has put c =
+      put c ∙ ap (λ (b : Bool). b || is_it c o) (has c) ∙ ap (λ (p : Option ℕ). list_any (is_said c) lines || is_it c p) is
+      ∙ ap (λ (b : Bool). list_any (is_said c) lines || b) (sym (by_line c line) ∙ sym (or-false (is_said c line)))
+      ∙ sym (list_any-append (is_said c) lines (line ∷ []))
+
+pub further_noted : (records : List Record) (old new : BTreeSet ℕ) (lines : List Record) (line : Record) (o : Option ℕ) → o ≡ further_character records line
+    → HasFurther records old lines → ((c : ℕ) → contains nat_cmp new c ≡ (contains nat_cmp old c || is_it c o)) → HasFurther records new (lines ++ line ∷ [])
+further_noted records = line_noted (is_further records) (further_character records) (further_by_line records)
+
+pub odd_noted : (records : List Record) (old new : BTreeSet ℕ) (lines : List Record) (line : Record) (o : Option ℕ) → o ≡ odd_character records line
+    → HasOdd records old lines → ((c : ℕ) → contains nat_cmp new c ≡ (contains nat_cmp old c || is_it c o)) → HasOdd records new (lines ++ line ∷ [])
+odd_noted records = line_noted (is_odd records) (odd_character records) (odd_by_line records)
 
 -- ---- To how many characters lines map
 

@@ -6,5 +6,5 @@ use Rattle.collate_mapping_rules.proofs.below_marks.composes_to.Given as goal
 
 abbrev pub invariant-loop-next : goal.invariant-loop-next
 invariant-loop-next l =
-    composing (canonical_of (map in_full l.parts)) l.composed [] (drop l.next-index l.rest)
-    ≡ composing (canonical_of (map in_full l.parts)) l.fn.starter [] l.rest
+    composing (canonical_of (map in_full l.parts.list.items)) l.composed [] (drop l.next-index l.rest)
+    ≡ composing (canonical_of (map in_full l.parts.list.items)) l.fn.starter [] l.rest

@@ -5,4 +5,4 @@ use Rattle.collate_rules.specs.Rules.{IsBadlyLow}
 use Rattle.collate_mapping_rules.proofs.below_marks.has_bad_low.Given as goal
 
 abbrev pub invariant-loop-part : goal.invariant-loop-part
-invariant-loop-part l = All (λ part. IsBadlyLow (map in_full l.parts) (subject_of part) → ⊥) (take l.part-index l.parts)
+invariant-loop-part l = All (λ part. IsBadlyLow (map in_full l.parts.list.items) (subject_of part) → ⊥) (take l.part-index l.part-items)

@@ -18,6 +18,6 @@ returns-then-class_of-ne0 c =
 
 pub returns : goal.returns
 returns c =
-    let class : class_of (map in_full c.args.parts.now) c.args.c ≡ 0 = sym c.class_of.ensures ∙ c.if-class_of-ne0.false in
-    low_own c.args.parts.now c.args.c c.in_ok-is_own.is_own (omega arith) class
+    let class : class_of (map in_full c.args.parts.now.list.items) c.args.c ≡ 0 = sym c.class_of.ensures ∙ c.if-class_of-ne0.false in
+    low_own c.args.parts.now.list.items c.args.c c.in_ok-is_own.is_own (omega arith) class
     (λ mapped. false≢true (sym c.if-is_mapped_too_low.false ∙ c.is_mapped_too_low.ensures.1 mapped)) c.in_ok-is_own.ensures

@@ -7,7 +7,7 @@ use Rattle.collate_mapping_rules.proofs.below_marks.place_in_order.Given as goal
 abbrev pub invariant-loop-place : goal.invariant-loop-place
 invariant-loop-place l =
     (l.place ≤ length l.list)
-    × (take l.place l.list ++ put_in_order (class_of (map in_full l.parts)) l.c (drop l.place l.list) ≡ put_in_order (class_of (map in_full l.parts)) l.c l.list)
+    × (take l.place l.list ++ put_in_order (class_of (map in_full l.parts.list.items)) l.fn.c (drop l.place l.list) ≡ put_in_order (class_of (map in_full l.parts.list.items)) l.fn.c l.list)
 
 abbrev pub decreases-loop-place : goal.decreases-loop-place
 decreases-loop-place l = length l.list - l.place

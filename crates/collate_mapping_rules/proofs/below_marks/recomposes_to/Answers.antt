@@ -10,14 +10,14 @@ use Rattle.collate_mapping_rules.proofs.below_marks.recomposes_to.Goals as goal
 
 pub returns-then-class_of-eq0 : goal.returns-then-class_of-eq0
 returns-then-class_of-eq0 c =
-    let canonical = canonical_of (map in_full c.args.parts.now) in
+    let canonical = canonical_of (map in_full c.args.parts.now.list.items) in
     let same = ap (recomposed canonical) c.in-Some.ensures.cases.0
     ∙ recomposed_starter canonical c.in-Some.first.now c.in-Some.rest.now (sym c.class_of.ensures ∙ c.if-class_of-eq0.true) in
     (λ t. same ∙ c.composes_to.ensures.0 t, λ e. c.composes_to.ensures.1 (sym same ∙ e))
 
 pub returns-then-first-c : goal.returns-then-first-c
 returns-then-first-c c =
-    let canonical = canonical_of (map in_full c.args.parts.now) in
+    let canonical = canonical_of (map in_full c.args.parts.now.list.items) in
     let mark : canonical.class c.in-Some.first.now ≢ 0 = λ zero. c.if-class_of-eq0.false (c.class_of.ensures ∙ zero) in
     let same = ap (recomposed canonical) c.in-Some.ensures.cases.0 in (
       λ h. same
@@ -29,7 +29,7 @@ returns-then-first-c c =
 
 pub returns-else-first-c : goal.returns-else-first-c
 returns-else-first-c c =
-    let canonical = canonical_of (map in_full c.args.parts.now) in
+    let canonical = canonical_of (map in_full c.args.parts.now.list.items) in
     let mark : canonical.class c.in-Some.first.now ≢ 0 = λ zero. c.if-class_of-eq0.false (c.class_of.ensures ∙ zero) in (
       λ h. absurd (c.if-first-c.false ((Decides-eqb c.in-Some.first.now c.args.c).0 h)),
       λ e. absurd (c.if-first-c.false (mark_first canonical c.in-Some.first.now c.args.c c.in-Some.rest.now mark (sym (ap (recomposed canonical) c.in-Some.ensures.cases.0) ∙ e)).1),
@@ -38,5 +38,5 @@ returns-else-first-c c =
 pub returns-in-None : goal.returns-in-None
 returns-in-None c = (
   λ e. absurd (false≢true e),
-  λ single. absurd (none_of_nothing (canonical_of (map in_full c.args.parts.now)) c.args.list.now c.args.c c.in-None.ensures.cases single),
+  λ single. absurd (none_of_nothing (canonical_of (map in_full c.args.parts.now.list.items)) c.args.list.now c.args.c c.in-None.ensures.cases single),
 )

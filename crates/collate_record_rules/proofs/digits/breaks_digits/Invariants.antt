@@ -6,5 +6,5 @@ use Rattle.collate_record_rules.proofs.digits.breaks_digits.Given as goal
 
 abbrev pub invariant-loop-line : goal.invariant-loop-line
 invariant-loop-line l =
-    list_any (is_bad_digit (map said l.records) (map said l.lines)) (map said (drop l.line-index l.lines))
-    ≡ list_any (is_bad_digit (map said l.records) (map said l.lines)) (map said l.lines)
+    list_any (is_bad_digit (map said l.all.lines.now) (map said l.lines)) (map said (drop l.line-index l.lines))
+    ≡ list_any (is_bad_digit (map said l.all.lines.now) (map said l.lines)) (map said l.lines)

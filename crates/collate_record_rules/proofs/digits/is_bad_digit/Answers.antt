@@ -7,4 +7,4 @@ use Rattle.collate_record_rules.proofs.digits.is_bad_digit.Goals as goal
 pub returns-in-Digit : goal.returns-in-Digit
 returns-in-Digit c =
     c.may_not_be_digit.ensures
-    ∙ ap (λ (line : Line). is_bad_digit (map said c.args.records.now) (map said c.args.lines.now) (said line)) (sym c.in-Digit.is)
+    ∙ ap (λ (line : Line). is_bad_digit (map said c.args.all.now.lines.now) (map said c.args.given.now.lines.now) (said line)) (sym c.in-Digit.is)

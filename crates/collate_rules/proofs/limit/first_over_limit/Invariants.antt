@@ -1,4 +1,4 @@
-use Rattle.std.proofs.Common.{◌≡◌, map}
+use Rattle.std.proofs.Common.{map}
 use Rattle.collate_lines.specs.Record.{said}
 use Rattle.collate_rules.proofs.offenders.LimitLemmas.{AreWithin}
 use Rattle.collate_rules.proofs.limit.first_over_limit.Given as goal

@@ -1,4 +1,4 @@
-use Rattle.std.proofs.Common.{ℕ, Bool, false, ◌||◌, length, map, sym, ap, ◌∙◌, arith, refl}
+use Rattle.std.proofs.Common.{ℕ, length, map, sym, ◌∙◌, arith, refl}
 use Rattle.std.specs.Prelude.{ltb}
 use Rattle.collate_lines.specs.Record.{said}
 use Rattle.collate_rules.specs.Lists.{steps_by}

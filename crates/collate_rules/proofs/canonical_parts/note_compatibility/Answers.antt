@@ -1,0 +1,8 @@
+use Rattle.collate_rules.proofs.mappings.PartMapLemmas.{compatibility_push, compatibility_skip}
+use Rattle.collate_rules.proofs.canonical_parts.note_compatibility.Goals as goal
+
+pub returns-in_ok-put_first-in-Some : goal.returns-in_ok-put_first-in-Some
+returns-in_ok-put_first-in-Some c = λ lines has. compatibility_push c.args.compatibilities.now c.put_first.new.noted lines c.args.part c.in-Some.character c.in-Some.step c.in-Some.ensures has c.in_ok-put_first-in-Some.ensures
+
+pub returns-in-None : goal.returns-in-None
+returns-in-None c = λ lines has. compatibility_skip c.args.compatibilities.now lines c.args.part c.in-None.ensures has
