@@ -7,3 +7,5 @@ pub mod GatheringEntryLemmas
 pub mod GatheringBeginningLemmas
 pub mod NameLemmas
 pub mod JamoLineLemmas
+pub mod OwnLineLemmas
+pub mod TextLemmas

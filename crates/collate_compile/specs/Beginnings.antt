@@ -1,6 +1,8 @@
 -- The characters that begin records of a layer, and what the lines take that begin with each.
 use Rattle.std.specs.Prelude.{◌≡◌, ℕ, ◌+◌, ◌≤◌, Bool, true, cond, not, ◌==◌, ◌&&◌, List, [], ◌∷◌, ◌++◌, Option, Some, None, count_by, flat_map, length, nat_eq, sum_by}
+use Rattle.std.specs.BTreeSet.{BTreeSet, contains}
 use Rattle.std.specs.List.{IsDistinct, list_any}
+use Rattle.std.specs.Ordering.{nat_cmp}
 use Rattle.collate_lines.specs.Record.{Layer, Record, root, tailoring, weights}
 use Rattle.collate_rules.specs.GivenWeights.{elements_of}
 use Rattle.collate_rules.specs.Rules.{is_beside, is_range, named}
@@ -55,3 +57,7 @@ with_character passes cs (Some c) = cond (passes c && not (list_any (λ d. c == 
 abbrev pub begun_by : (ℕ → Bool) → List Record → List ℕ → List ℕ
 begun_by passes [] cs = cs
 begun_by passes (line ∷ lines) cs = begun_by passes lines (with_character passes cs (first_of line))
+
+-- of the characters that were asked of, those that pass are there
+abbrev pub AreAsked : (ℕ → Bool) → BTreeSet ℕ → List ℕ → Type 0
+AreAsked passes asked cs = (c : ℕ) → list_any (λ d. c == d) cs ≡ (contains nat_cmp asked c && passes c)

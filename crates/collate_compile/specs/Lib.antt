@@ -4,4 +4,5 @@ pub mod Compiled
 pub mod LayerBuilds
 pub mod Layers
 pub mod LineSayings
+pub mod NotedLines
 pub mod SettingBits

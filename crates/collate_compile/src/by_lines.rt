@@ -9,14 +9,14 @@ use collate_lines::record::{Layer, Range, Record, Setting};
 use icu_collator_types::elements::Element;
 
 /// Whether two texts are the same.
-pub(crate) fn is_same_text(a: &[char], b: &[char]) -> bool
+fn is_same_text(a: &[char], b: &[char]) -> bool
     ensures { result ≡ bytes_eq a.now b.now }
 {
     a == b
 }
 
 /// The elements that a line of a layer gives to a text after a prefix, if it does.
-fn elements_in<'a>(
+pub(crate) fn elements_in<'a>(
     line: &'a Record,
     of_layer: Layer,
     prefix: &[char],
@@ -88,7 +88,7 @@ pub fn range_of(records: &[Record], c: char) -> Option<Range>
 }
 
 /// The value that a line gives to a digit, if it does.
-fn digit_in(line: &Record, c: char) -> Option<u8>
+pub(crate) fn digit_in(line: &Record, c: char) -> Option<u8>
     ensures { result ≡ digit_in c (said line.now) }
 {
     match line {

@@ -1,15 +1,16 @@
-//! What lines record of a character with others beside it, gathered line by line.
+//! What the lines of a character record of it with others beside it, gathered line by line.
 
 ghost use Rattle.std.specs.Prelude.{◌≡◌, map, option_map, IfOk, OnOk};
 ghost use Rattle.collate_lines.specs.Record.{layer_of, said};
 ghost use Rattle.collate_words.specs.Entries.{said_beside};
-ghost use Rattle.collate_compile.specs.BesideLines.{gathered, has_beside, prefix_in, prefix_of, prefixes_in, suffix_in, suffix_of, suffixes_in, with_beside, with_found};
+ghost use Rattle.collate_compile.specs.BesideLines.{HasTexts, gathered, prefix_in, prefix_of, prefixes_in, suffix_in, suffix_of, suffixes_in, with_beside, with_found};
+ghost use Rattle.collate_compile.specs.NotedLines.{said_by};
 
-use crate::by_lines::is_same_text;
 use collate_lines::record::{Layer, Record};
 use collate_words::entry::Beside;
 use icu_collator_types::elements::Element;
 use std::alloc::{AllocError, Global};
+use std::collections::HashSet;
 
 /// What a key and its elements say of a character with others behind it.
 fn suffix_of<'a>(
@@ -83,26 +84,20 @@ fn prefix_in<'a>(line: &'a Record, of_layer: Layer, c: char) -> Option<Beside<'a
     }
 }
 
-/// Whether something is said with these characters.
-fn has_beside(besides: &[Beside<'_>], characters: &[char]) -> bool
-    ensures { result ≡ has_beside (map said_beside besides.now) characters.now }
-{
-    for beside in besides {
-        if is_same_text(beside.characters, characters) {
-            return true;
-        }
-    }
-    false
-}
-
-/// Adds what is said with characters with which nothing has been said.
+/// Adds what is said with characters with which nothing has been said; the texts are those with which something has.
 ///
 /// Errors: `AllocError` where memory is refused.
-fn add_beside<'a>(besides: &mut Vec<Beside<'a>>, beside: Beside<'a>) -> Result<(), AllocError>
-    ensures { OnOk result (map said_beside besides.new.items
+fn add_beside<'a>(
+    texts: &mut HashSet<&'a [char]>,
+    besides: &mut Vec<Beside<'a>>,
+    beside: Beside<'a>,
+) -> Result<(), AllocError>
+    requires { HasTexts texts.old (map said_beside besides.old.items) }
+    ensures texts { OnOk result (HasTexts texts.new (map said_beside besides.new.items)) }
+    ensures besides { OnOk result (map said_beside besides.new.items
         ≡ with_beside (map said_beside besides.old.items) (said_beside beside.entry)) }
 {
-    if has_beside(besides, beside.characters) {
+    if !texts.insert(beside.characters)? {
         return Ok(());
     }
     besides.push(beside)?;
@@ -112,12 +107,18 @@ fn add_beside<'a>(besides: &mut Vec<Beside<'a>>, beside: Beside<'a>) -> Result<(
 /// Adds what was found, if something was.
 ///
 /// Errors: `AllocError` where memory is refused.
-fn add_found<'a>(besides: &mut Vec<Beside<'a>>, found: Option<Beside<'a>>) -> Result<(), AllocError>
-    ensures { OnOk result (map said_beside besides.new.items
+fn add_found<'a>(
+    texts: &mut HashSet<&'a [char]>,
+    besides: &mut Vec<Beside<'a>>,
+    found: Option<Beside<'a>>,
+) -> Result<(), AllocError>
+    requires { HasTexts texts.old (map said_beside besides.old.items) }
+    ensures texts { OnOk result (HasTexts texts.new (map said_beside besides.new.items)) }
+    ensures besides { OnOk result (map said_beside besides.new.items
         ≡ with_found (map said_beside besides.old.items) (option_map said_beside found.entry)) }
 {
     match found {
-        Some(beside) => add_beside(besides, beside),
+        Some(beside) => add_beside(texts, besides, beside),
         None => Ok(()),
     }
 }
@@ -126,16 +127,19 @@ fn add_found<'a>(besides: &mut Vec<Beside<'a>>, found: Option<Beside<'a>>) -> Re
 ///
 /// Errors: `AllocError` where memory is refused.
 fn add_suffixes<'a>(
-    lines: &'a [Record],
+    own: &[&'a Record],
     layer: Layer,
     c: char,
+    texts: &mut HashSet<&'a [char]>,
     suffixes: &mut Vec<Beside<'a>>,
 ) -> Result<(), AllocError>
-    ensures { OnOk result (map said_beside suffixes.new.items
-        ≡ gathered (suffix_in (layer_of layer) c) (map said lines.now) (map said_beside suffixes.old.items)) }
+    requires { HasTexts texts.old (map said_beside suffixes.old.items) }
+    ensures texts { OnOk result (HasTexts texts.new (map said_beside suffixes.new.items)) }
+    ensures suffixes { OnOk result (map said_beside suffixes.new.items
+        ≡ gathered (suffix_in (layer_of layer) c) (map said_by own.now) (map said_beside suffixes.old.items)) }
 {
-    for line in lines {
-        add_found(suffixes, suffix_in(line, layer, c))?;
+    for line in own {
+        add_found(texts, suffixes, suffix_in(line, layer, c))?;
     }
     Ok(())
 }
@@ -144,16 +148,19 @@ fn add_suffixes<'a>(
 ///
 /// Errors: `AllocError` where memory is refused.
 fn add_prefixes<'a>(
-    lines: &'a [Record],
+    own: &[&'a Record],
     layer: Layer,
     c: char,
+    texts: &mut HashSet<&'a [char]>,
     prefixes: &mut Vec<Beside<'a>>,
 ) -> Result<(), AllocError>
-    ensures { OnOk result (map said_beside prefixes.new.items
-        ≡ gathered (prefix_in (layer_of layer) c) (map said lines.now) (map said_beside prefixes.old.items)) }
+    requires { HasTexts texts.old (map said_beside prefixes.old.items) }
+    ensures texts { OnOk result (HasTexts texts.new (map said_beside prefixes.new.items)) }
+    ensures prefixes { OnOk result (map said_beside prefixes.new.items
+        ≡ gathered (prefix_in (layer_of layer) c) (map said_by own.now) (map said_beside prefixes.old.items)) }
 {
-    for line in lines {
-        add_found(prefixes, prefix_in(line, layer, c))?;
+    for line in own {
+        add_found(texts, prefixes, prefix_in(line, layer, c))?;
     }
     Ok(())
 }
@@ -163,14 +170,15 @@ fn add_prefixes<'a>(
 /// Errors: `AllocError` where memory is refused.
 pub(crate) fn suffixes_in<'a>(
     alloc: Global,
-    lines: &'a [Record],
+    own: &[&'a Record],
     c: char,
 ) -> Result<Vec<Beside<'a>>, AllocError>
-    ensures { IfOk result (λ suffixes. map said_beside suffixes.items ≡ suffixes_in (map said lines.now) c) }
+    ensures { IfOk result (λ suffixes. map said_beside suffixes.items ≡ suffixes_in (map said_by own.now) c) }
 {
+    let mut texts = HashSet::new(alloc);
     let mut suffixes = Vec::new(alloc);
-    add_suffixes(lines, Layer::Tailoring, c, &mut suffixes)?;
-    add_suffixes(lines, Layer::Root, c, &mut suffixes)?;
+    add_suffixes(own, Layer::Tailoring, c, &mut texts, &mut suffixes)?;
+    add_suffixes(own, Layer::Root, c, &mut texts, &mut suffixes)?;
     Ok(suffixes)
 }
 
@@ -179,13 +187,14 @@ pub(crate) fn suffixes_in<'a>(
 /// Errors: `AllocError` where memory is refused.
 pub(crate) fn prefixes_in<'a>(
     alloc: Global,
-    lines: &'a [Record],
+    own: &[&'a Record],
     c: char,
 ) -> Result<Vec<Beside<'a>>, AllocError>
-    ensures { IfOk result (λ prefixes. map said_beside prefixes.items ≡ prefixes_in (map said lines.now) c) }
+    ensures { IfOk result (λ prefixes. map said_beside prefixes.items ≡ prefixes_in (map said_by own.now) c) }
 {
+    let mut texts = HashSet::new(alloc);
     let mut prefixes = Vec::new(alloc);
-    add_prefixes(lines, Layer::Tailoring, c, &mut prefixes)?;
-    add_prefixes(lines, Layer::Root, c, &mut prefixes)?;
+    add_prefixes(own, Layer::Tailoring, c, &mut texts, &mut prefixes)?;
+    add_prefixes(own, Layer::Root, c, &mut texts, &mut prefixes)?;
     Ok(prefixes)
 }

@@ -8,8 +8,7 @@ ghost use Rattle.collate_rules.specs.RecordRules.{is_one_word};
 ghost use Rattle.collate_words.specs.Fits.{AreFit};
 ghost use Rattle.collate_compile.specs.Compiled.{AreJamoOf, IsJamoWord, StatesAlone};
 
-use crate::by_lines::recorded;
-use collate_lines::record::Record;
+use crate::noted_lines::NotedLines;
 use collate_words::own_words::short_word;
 use icu_collator_core::elements::unranged_primary;
 use icu_collator_types::elements::Element;
@@ -29,12 +28,12 @@ fn lone_word(elements: &[Element]) -> u32
 }
 
 /// The word of a jamo: that of its record, else that of the primary that it has by itself.
-fn jamo_word(lines: &[Record], c: char) -> u32
-    requires accepted { AreAccepted (map said lines.now) }
+fn jamo_word(noted: &NotedLines<'_>, c: char) -> u32
+    requires accepted { AreAccepted (map said noted.now.lines.now) }
     requires jamo { is_jamo c ≡ true }
-    ensures { IsJamoWord (map said lines.now) c result }
+    ensures { IsJamoWord (map said noted.now.lines.now) c result }
 {
-    match recorded(lines, &[], &[c]) {
+    match noted.alone(c) {
         Some(elements) => lone_word(elements),
         None => unranged_primary(c as u32) + LONG_PRIMARY,
     }
@@ -43,14 +42,14 @@ fn jamo_word(lines: &[Record], c: char) -> u32
 /// The words of all jamo.
 pub(crate) fn jamo_words(
     alloc: Global,
-    lines: &[Record],
+    noted: &NotedLines<'_>,
 ) -> Result<PackedVec<'static, u32>, AllocError>
-    requires { AreAccepted (map said lines.now) }
-    ensures { IfOk result (AreJamoOf (map said lines.now)) }
+    requires { AreAccepted (map said noted.now.lines.now) }
+    ensures { IfOk result (AreJamoOf (map said noted.now.lines.now)) }
 {
     let mut words = Vec::new(alloc);
     for code in 0x1100..0x1200 {
-        words.push(jamo_word(lines, char::from_u32(code).unwrap()))?;
+        words.push(jamo_word(noted, char::from_u32(code).unwrap()))?;
     }
     PackedVec::from_slice(alloc, words.as_slice())
 }

@@ -19,6 +19,7 @@ ghost use Rattle.collate_compile.specs.LineSayings.{IsSayingOf, is_tailored, ran
 use crate::beginnings::beginnings;
 use crate::entries::{entry_of, offset_bits};
 use crate::layer_builder::LayerBuilder;
+use crate::noted_lines::NotedLines;
 use collate_lines::record::{Layer, Record};
 use collate_words::entry::{Entry, SuffixFlags};
 use collate_words::write_entry::words_say_the_same_in_longer_lists;
@@ -57,20 +58,20 @@ fn ranged_entry<'a>(alloc: Global, bits: u64) -> Entry<'a>
 /// Errors: `AllocError` where memory is refused.
 fn write_range(
     alloc: Global,
-    lines: &[Record],
+    noted: &NotedLines<'_>,
     line: &Record,
     layer: &mut LayerBuilder,
 ) -> Result<(), AllocError>
     requires { HasRoom layer.old.pools (cond (is_range (said line.now)) 1 0) 0 }
-    ensures written { (some : List PlainRecord) → AreRangesWritten (map said lines.now) some layer.old
-        → OnOk result (AreRangesWritten (map said lines.now) (said line.now ∷ some) layer.new) }
+    ensures written { (some : List PlainRecord) → AreRangesWritten (map said noted.now.lines.now) some layer.old
+        → OnOk result (AreRangesWritten (map said noted.now.lines.now) (said line.now ∷ some) layer.new) }
     ensures size { let count = cond (is_range (said line.now)) 1 0
         in OnOk result (GrowsBy count (3 * count) layer.old layer.new) }
 {
     match line {
         Record::Range(range) => {
             words_say_the_same_in_longer_lists();
-            let entry = ranged_entry(alloc, offset_bits(lines, *range));
+            let entry = ranged_entry(alloc, offset_bits(noted, *range));
             layer.write_range(alloc, range.first, range.last, &entry)
         }
         _ => Ok(()),
@@ -80,16 +81,21 @@ fn write_range(
 /// Writes all ranges, from the last line on: of those that share a character the first counts.
 ///
 /// Errors: `AllocError` where memory is refused.
-fn write_ranges(alloc: Global, lines: &[Record], layer: &mut LayerBuilder) -> Result<(), AllocError>
-    requires room { HasRoom layer.old.pools (count_by is_range (map said lines.now)) 0 }
-    requires none { AreRangesWritten (map said lines.now) [] layer.old }
-    ensures written { OnOk result (AreRangesWritten (map said lines.now) (map said lines.now) layer.new) }
-    ensures size { let count = count_by is_range (map said lines.now)
+fn write_ranges(
+    alloc: Global,
+    noted: &NotedLines<'_>,
+    layer: &mut LayerBuilder,
+) -> Result<(), AllocError>
+    requires room { HasRoom layer.old.pools (count_by is_range (map said noted.now.lines.now)) 0 }
+    requires none { AreRangesWritten (map said noted.now.lines.now) [] layer.old }
+    ensures written { OnOk result (AreRangesWritten (map said noted.now.lines.now) (map said noted.now.lines.now) layer.new) }
+    ensures size { let count = count_by is_range (map said noted.now.lines.now)
         in OnOk result (GrowsBy count (3 * count) layer.old layer.new) }
 {
+    let lines = noted.lines;
     for i in 0..lines.len() {
         let line = &lines[lines.len() - 1 - i];
-        write_range(alloc, lines, line, layer)?;
+        write_range(alloc, noted, line, layer)?;
     }
     Ok(())
 }
@@ -99,21 +105,21 @@ fn write_ranges(alloc: Global, lines: &[Record], layer: &mut LayerBuilder) -> Re
 /// Errors: `AllocError` where memory is refused.
 fn write_character(
     alloc: Global,
-    lines: &[Record],
+    noted: &NotedLines<'_>,
     canonical: &CanonicalBorrowed<'_>,
     character: char,
     layer: &mut LayerBuilder,
 ) -> Result<(), AllocError>
-    requires accepted { AreAccepted (map said lines.now) }
-    requires canonical { AreSameCanonical (borrowed_meaning canonical.now) (canonical_of (map said lines.now)) }
-    requires room { HasRoom layer.old.pools (1 + elements_begun (map said lines.now) character)
-        (texts_begun (map said lines.now) character) }
-    ensures written { OnOk result ((saying : Saying) × IsSayingOf (map said lines.now) character saying
+    requires accepted { AreAccepted (map said noted.now.lines.now) }
+    requires canonical { AreSameCanonical (borrowed_meaning canonical.now) (canonical_of (map said noted.now.lines.now)) }
+    requires room { HasRoom layer.old.pools (1 + elements_begun (map said noted.now.lines.now) character)
+        (texts_begun (map said noted.now.lines.now) character) }
+    ensures written { OnOk result ((saying : Saying) × IsSayingOf (map said noted.now.lines.now) character saying
         × GivesWord layer.old layer.new (λ c. c == character) saying) }
-    ensures size { OnOk result (GrowsFor (1 + elements_begun (map said lines.now) character)
-        (texts_begun (map said lines.now) character) layer.old.pools layer.new.pools) }
+    ensures size { OnOk result (GrowsFor (1 + elements_begun (map said noted.now.lines.now) character)
+        (texts_begun (map said noted.now.lines.now) character) layer.old.pools layer.new.pools) }
 {
-    let entry = entry_of(alloc, lines, character, canonical)?;
+    let entry = entry_of(alloc, noted, character, canonical)?;
     layer.write_character(alloc, character, &entry)?;
     Ok(())
 }
@@ -123,23 +129,23 @@ fn write_character(
 /// Errors: `AllocError` where memory is refused.
 fn write_characters(
     alloc: Global,
-    lines: &[Record],
+    noted: &NotedLines<'_>,
     canonical: &CanonicalBorrowed<'_>,
     characters: &[char],
     layer: &mut LayerBuilder,
 ) -> Result<(), AllocError>
-    requires accepted { AreAccepted (map said lines.now) }
-    requires canonical { AreSameCanonical (borrowed_meaning canonical.now) (canonical_of (map said lines.now)) }
-    requires room { HasRoom layer.old.pools (sum_by (λ c. 1 + elements_begun (map said lines.now) c) characters.now)
-        (sum_by (texts_begun (map said lines.now)) characters.now) }
-    ensures written { (which : PlainLayer) → AreWritten which (map said lines.now) [] layer.old
-        → OnOk result (AreWritten which (map said lines.now) characters.now layer.new) }
-    ensures size { OnOk result (KeepsOthers (sum_by (λ c. 1 + elements_begun (map said lines.now) c) characters.now)
-        (sum_by (texts_begun (map said lines.now)) characters.now) characters.now layer.old layer.new) }
+    requires accepted { AreAccepted (map said noted.now.lines.now) }
+    requires canonical { AreSameCanonical (borrowed_meaning canonical.now) (canonical_of (map said noted.now.lines.now)) }
+    requires room { HasRoom layer.old.pools (sum_by (λ c. 1 + elements_begun (map said noted.now.lines.now) c) characters.now)
+        (sum_by (texts_begun (map said noted.now.lines.now)) characters.now) }
+    ensures written { (which : PlainLayer) → AreWritten which (map said noted.now.lines.now) [] layer.old
+        → OnOk result (AreWritten which (map said noted.now.lines.now) characters.now layer.new) }
+    ensures size { OnOk result (KeepsOthers (sum_by (λ c. 1 + elements_begun (map said noted.now.lines.now) c) characters.now)
+        (sum_by (texts_begun (map said noted.now.lines.now)) characters.now) characters.now layer.old layer.new) }
 {
     words_say_the_same_in_longer_lists();
     for character in characters {
-        write_character(alloc, lines, canonical, *character, layer)?;
+        write_character(alloc, noted, canonical, *character, layer)?;
     }
     Ok(())
 }
@@ -149,19 +155,19 @@ fn write_characters(
 /// Errors: `AllocError` where memory is refused.
 pub(crate) fn write_root(
     alloc: Global,
-    lines: &[Record],
+    noted: &NotedLines<'_>,
     canonical: &CanonicalBorrowed<'_>,
     trie_type: TrieType,
 ) -> Result<CollationData<'static>, AllocError>
-    requires accepted { AreAccepted (map said lines.now) }
-    requires canonical { AreSameCanonical (borrowed_meaning canonical.now) (canonical_of (map said lines.now)) }
-    ensures root { IfOk result (IsRootOf (map said lines.now)) }
+    requires accepted { AreAccepted (map said noted.now.lines.now) }
+    requires canonical { AreSameCanonical (borrowed_meaning canonical.now) (canonical_of (map said noted.now.lines.now)) }
+    ensures root { IfOk result (IsRootOf (map said noted.now.lines.now)) }
     ensures trie_type { IfOk result (HasTrieType trie_type) }
 {
-    let characters = beginnings(alloc, lines, Layer::Root)?;
+    let characters = beginnings(alloc, noted, Layer::Root)?;
     let mut layer = LayerBuilder::new(alloc, IMPLICIT, trie_type)?;
-    write_ranges(alloc, lines, &mut layer)?;
-    write_characters(alloc, lines, canonical, characters.as_slice(), &mut layer)?;
+    write_ranges(alloc, noted, &mut layer)?;
+    write_characters(alloc, noted, canonical, characters.as_slice(), &mut layer)?;
     let root = layer.build(alloc)?;
     Ok(root)
 }
@@ -171,23 +177,23 @@ pub(crate) fn write_root(
 /// Errors: `AllocError` where memory is refused.
 pub(crate) fn write_tailoring(
     alloc: Global,
-    lines: &[Record],
+    noted: &NotedLines<'_>,
     canonical: &CanonicalBorrowed<'_>,
     trie_type: TrieType,
 ) -> Result<Option<CollationData<'static>>, AllocError>
-    requires accepted { AreAccepted (map said lines.now) }
-    requires canonical { AreSameCanonical (borrowed_meaning canonical.now) (canonical_of (map said lines.now)) }
+    requires accepted { AreAccepted (map said noted.now.lines.now) }
+    requires canonical { AreSameCanonical (borrowed_meaning canonical.now) (canonical_of (map said noted.now.lines.now)) }
     ensures tailoring { IfOk result (λ tailoring. MatchOption tailoring
-        ((c : ℕ) → is_tailored (map said lines.now) c ≡ false)
-        (IsTailoringOf (map said lines.now))) }
+        ((c : ℕ) → is_tailored (map said noted.now.lines.now) c ≡ false)
+        (IsTailoringOf (map said noted.now.lines.now))) }
     ensures trie_type { IfOk result (λ tailoring. IfSome tailoring (HasTrieType trie_type)) }
 {
-    let characters = beginnings(alloc, lines, Layer::Tailoring)?;
+    let characters = beginnings(alloc, noted, Layer::Tailoring)?;
     if characters.is_empty() {
         return Ok(None);
     }
     let mut layer = LayerBuilder::new(alloc, FALLBACK, trie_type)?;
-    write_characters(alloc, lines, canonical, characters.as_slice(), &mut layer)?;
+    write_characters(alloc, noted, canonical, characters.as_slice(), &mut layer)?;
     let tailoring = layer.build(alloc)?;
     Ok(Some(tailoring))
 }

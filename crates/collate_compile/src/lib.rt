@@ -10,6 +10,7 @@ mod jamo;
 pub mod laws;
 mod layer_builder;
 mod layers;
+mod noted_lines;
 mod reordering;
 pub mod set_lines;
 mod settings;

@@ -11,6 +11,7 @@ ghost use Rattle.collate_compile.specs.Compiled.{AreCompiledFrom, HaveTrieType};
 
 use crate::jamo::jamo_words;
 use crate::layers::{write_root, write_tailoring};
+use crate::noted_lines::NotedLines;
 use crate::reordering::reordering;
 use crate::settings::metadata;
 use crate::special_primaries::special_primaries;
@@ -37,10 +38,11 @@ pub fn compile_tables(
     ensures compiled { IfOk result (AreCompiledFrom (map said lines.now)) }
     ensures trie_type { IfOk result (HaveTrieType trie_type) }
 {
-    let root = write_root(alloc, lines, canonical, trie_type)?;
-    let tailoring = write_tailoring(alloc, lines, canonical, trie_type)?;
+    let noted = NotedLines::new(alloc, lines)?;
+    let root = write_root(alloc, &noted, canonical, trie_type)?;
+    let tailoring = write_tailoring(alloc, &noted, canonical, trie_type)?;
     let jamo = CollationJamo {
-        ce32s: jamo_words(alloc, lines)?,
+        ce32s: jamo_words(alloc, &noted)?,
     };
     let reordering = reordering(alloc, lines)?;
     let special_primaries = special_primaries(alloc, lines)?;

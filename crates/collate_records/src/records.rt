@@ -217,25 +217,31 @@ impl Records {
         false
     }
 
-    /// Whether at most so many steps, one after another, bring such a character in for a character.
+    /// Whether at most so many steps, one after another, bring such a character in for a character. It calls itself only where
+    /// a step brings in two characters, and so no deeper than a full list is long.
     fn reaches_within<F: Fn(char) -> bool>(&self, c: char, steps: u32, is_one: &F) -> bool
         requires { F.IsAlwaysCallable is_one.now }
         ensures one { OnTrue result (ReachesOne (step_of self.now.lines) (F.post is_one.now) (c ∷ [])) }
         ensures none { OnFalse result (All (λ d. F.post is_one.now d false) (brought_within (step_of self.now.lines) steps c)) }
     {
-        if is_one(c) {
-            return true;
-        }
-        if steps == 0 {
-            return false;
-        }
-        match self.mapping(c) {
-            Decomposed::Default => false,
-            Decomposed::Singleton(d) => self.reaches_within(d, steps - 1, is_one),
-            Decomposed::Expansion(d, e) => {
-                self.reaches_within(d, steps - 1, is_one)
-                    || self.reaches_within(e, steps - 1, is_one)
+        let mut c = c;
+        let mut steps = steps;
+        while !is_one(c) {
+            if steps == 0 {
+                return false;
+            }
+            match self.mapping(c) {
+                Decomposed::Default => return false,
+                Decomposed::Singleton(d) => {
+                    c = d;
+                    steps -= 1;
+                }
+                Decomposed::Expansion(d, e) => {
+                    return self.reaches_within(d, steps - 1, is_one)
+                        || self.reaches_within(e, steps - 1, is_one);
+                }
             }
         }
+        true
     }
 }

@@ -1,6 +1,8 @@
-//! What the provider of a compiled file gives, and that a file that is as large as may be is compiled.
+//! What the provider of a compiled file gives, and that a file that is as large as may be is compiled, within the limits that
+//! count where none are named and past them.
 
 use collate_records::compile::compile;
+use collate_records::limits::Limits;
 use collate_records::provider::Provider;
 use collate_records::records::Records;
 use icu_codepointtrie::TrieType;
@@ -11,6 +13,7 @@ use icu_collator_core::tables::CollationData;
 use icu_normalizer_core::canonical::CanonicalData;
 use icu_normalizer_core::provider::{DataError, NormalizerProvider, TableName};
 use std::alloc::Global;
+use std::cmp::Ordering;
 use std::process::Abort;
 use std::test::Fail;
 
@@ -241,5 +244,79 @@ fn last_texts_are_read(rt: &impl Abort, alloc: Global, tables: &CheckedTables<'_
             first, behind, behind, behind, behind, behind, behind, behind,
         ];
         assert_eq!(rt; last_primary(alloc, tables, &text), Some(primary));
+    }
+}
+
+/// A line more than `Limits::STANDARD` lets a file have: each gives its character a primary below that of the line before.
+fn falling_file(alloc: Global) -> Option<String> {
+    let mut file = String::new(alloc);
+    for i in 0..1001u32 {
+        let (second, third) = (8 - i / 250, 253 - i % 250);
+        write!(file, "w {:04X}", 0x4e00 + i).ok()?;
+        write!(file, " ; [60{second:02X}{third:02X}00.0500.0.0500.0]\n").ok()?;
+    }
+    Some(file)
+}
+
+/// The tables of a file within the limits that large files ask for, checked.
+fn checked_within_unicode(
+    alloc: Global,
+    file: &[u8],
+    trie_type: TrieType,
+) -> Option<CheckedTables<'static>> {
+    match Records::read_within(alloc, file, Limits::UNICODE) {
+        Ok(records) => checked(alloc, compile(alloc, &records, trie_type).ok()?),
+        Err(_) => None,
+    }
+}
+
+/// The primaries of a text whose characters have one element each.
+fn primaries(alloc: Global, tables: &CheckedTables<'_>, text: &[char]) -> Option<Vec<u32>> {
+    let mut elements = CollationElements::new(alloc, text.iter().copied(), tables, None);
+    elements.init().ok()?;
+    let mut primaries = Vec::new(alloc);
+    for _ in text {
+        primaries.push(elements.next().ok()?.primary()).ok()?;
+    }
+    Some(primaries)
+}
+
+/// The order of two such texts by their primaries.
+fn order(
+    alloc: Global,
+    tables: &CheckedTables<'_>,
+    left: &[char],
+    right: &[char],
+) -> Option<Ordering> {
+    let left = primaries(alloc, tables, left)?;
+    let right = primaries(alloc, tables, right)?;
+    Some(left.as_slice().cmp(right.as_slice()))
+}
+
+#[test]
+fn a_file_past_the_standard_limits_is_compiled(rt: HostRuntime) -> Result<(), Fail> {
+    let alloc = rt.alloc();
+    let file = falling_file(alloc).ok_or("no memory")?;
+    assert!(rt; Records::read(alloc, file.as_bytes()).is_err());
+    for trie_type in [TrieType::Fast, TrieType::Small] {
+        let tables = checked_within_unicode(alloc, file.as_bytes(), trie_type).ok_or(
+            "not compiled",
+        )?;
+        falling_texts_are_ordered(&rt, alloc, &tables);
+    }
+    Ok(())
+}
+
+fn falling_texts_are_ordered(rt: &impl Abort, alloc: Global, tables: &CheckedTables<'_>) {
+    let (first, second, last) = ('\u{4e00}', '\u{4e01}', '\u{51e8}');
+    let rows: [(&[char], &[char], Ordering); 5] = [
+        (&[first], &[second], Ordering::Greater),
+        (&[last], &[first], Ordering::Less),
+        (&[last], &[last], Ordering::Equal),
+        (&[second, first], &[second, last], Ordering::Greater),
+        (&[last, first], &[second, last], Ordering::Less),
+    ];
+    for (left, right, expected) in rows {
+        assert_eq!(rt; order(alloc, tables, left, right), Some(expected));
     }
 }

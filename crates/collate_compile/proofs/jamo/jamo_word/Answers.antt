@@ -15,11 +15,11 @@ small_primary c jamo = let last = leb-true c 0x11ff (and_parts (leb 0x1100 c) (l
 
 pub lone_word-requires-clause-fit : goal.lone_word-requires-clause-fit
 lone_word-requires-clause-fit c =
-    record_fits (map said c.args.lines.now) c.requires.accepted [] (c.args.c ∷ []) c.in-Some.elements.now (sym c.in-Some.ensures)
+    record_fits (map said c.args.noted.now.lines.now) c.requires.accepted [] (c.args.c ∷ []) c.in-Some.elements.now (sym c.in-Some.ensures)
 
 pub lone_word-requires-clause-one : goal.lone_word-requires-clause-one
 lone_word-requires-clause-one c =
-    jamo_one (map said c.args.lines.now) c.args.c c.requires.jamo c.requires.accepted c.in-Some.elements.now (sym c.in-Some.ensures)
+    jamo_one (map said c.args.noted.now.lines.now) c.args.c c.requires.jamo c.requires.accepted c.in-Some.elements.now (sym c.in-Some.ensures)
 
 pub overflow_add-result : goal.overflow_add-result
 overflow_add-result c =

@@ -13,4 +13,4 @@ table records words (Err e) count each same = tt
 
 pub returns : goal.returns
 returns c =
-    table (map said c.args.lines.now) c.as_slice.result.now c.from_slice.result (omega arith) (search rules) c.from_slice.ensures
+    table (map said c.args.noted.now.lines.now) c.as_slice.result.now c.from_slice.result (omega arith) (search rules) c.from_slice.ensures

@@ -6,4 +6,4 @@ use Rattle.collate_compile.proofs.jamo.jamo_words.Given as goal
 
 abbrev pub invariant-loop-code : goal.invariant-loop-code
 invariant-loop-code l =
-    (length l.words.items + 0x1100 ≡ l.code) × ((i : ℕ) → i < length l.words.items → IsJamoWord (map said l.lines) (0x1100 + i) (slice_index l.words.items i))
+    (length l.words.items + 0x1100 ≡ l.code) × ((i : ℕ) → i < length l.words.items → IsJamoWord (map said l.noted.lines.now) (0x1100 + i) (slice_index l.words.items i))

@@ -14,8 +14,8 @@ pub write_character-requires-clause-room : goal.write_character-requires-clause-
 write_character-requires-clause-room c =
     let cs = c.args.characters.now in
     let i = c.loop-character.character-index in
-    let f : ℕ → ℕ = λ q. 1 + elements_begun (map said c.args.lines.now) q in
-    let g : ℕ → ℕ = texts_begun (map said c.args.lines.now) in
+    let f : ℕ → ℕ = λ q. 1 + elements_begun (map said c.args.noted.now.lines.now) q in
+    let g : ℕ → ℕ = texts_begun (map said c.args.noted.now.lines.now) in
     room_left (sum_by f cs) (sum_by g cs) (sum_by f (take i cs)) (sum_by g (take i cs)) (f c.character-item.result)
     (g c.character-item.result) c.args.layer.now.pools
     c.loop-character.layer.pools c.requires.room c.loop-character.invariant.size.pools
@@ -24,17 +24,17 @@ write_character-requires-clause-room c =
 
 pub loop-character-preserved : goal.loop-character-preserved
 loop-character-preserved c =
-    let lines = map said c.args.lines.now in
+    let lines = map said c.args.noted.now.lines.now in
     let cs = c.args.characters.now in
     let i = c.loop-character.character-index in
     let x = c.character-item.result in
-    let f : ℕ → ℕ = λ q. 1 + elements_begun (map said c.args.lines.now) q in
-    let g : ℕ → ℕ = texts_begun (map said c.args.lines.now) in
+    let f : ℕ → ℕ = λ q. 1 + elements_begun (map said c.args.noted.now.lines.now) q in
+    let g : ℕ → ℕ = texts_begun (map said c.args.noted.now.lines.now) in
     let old = c.loop-character.layer in
     let new = c.write_character.new.layer in
     let done = c.in_ok-write_character.ensures.written in
     record {
-      written = λ which none. subst (λ (ds : List ℕ). AreWritten which (map said c.args.lines.now) ds
+      written = λ which none. subst (λ (ds : List ℕ). AreWritten which (map said c.args.noted.now.lines.now) ds
           c.write_character.new.layer) (next_taken f cs i x c.loop-character-test.true c.character-item.is)
           (characters_more c.words_say_the_same_in_longer_lists.ensures which lines (take i cs) old new x done.0
           done.1 (c.loop-character.invariant.written which none) done.2);
@@ -48,7 +48,7 @@ pub returns-clause-written : goal.returns-clause-written
 returns-clause-written c = λ which none.
     let cs = c.args.characters.now in
     let past : length cs ≤ c.loop-character.character-index = omega arith in
-    subst (λ (ds : List ℕ). AreWritten which (map said c.args.lines.now) ds c.loop-character.layer)
+    subst (λ (ds : List ℕ). AreWritten which (map said c.args.noted.now.lines.now) ds c.loop-character.layer)
     (take_all c.loop-character.character-index cs past) (c.loop-character.invariant.written which none)
 
 pub returns-clause-size : goal.returns-clause-size
@@ -56,7 +56,7 @@ returns-clause-size c =
     let cs = c.args.characters.now in
     let i = c.loop-character.character-index in
     let past : length cs ≤ i = omega arith in
-    let f : ℕ → ℕ = λ q. 1 + elements_begun (map said c.args.lines.now) q in
-    let g : ℕ → ℕ = texts_begun (map said c.args.lines.now) in
+    let f : ℕ → ℕ = λ q. 1 + elements_begun (map said c.args.noted.now.lines.now) q in
+    let g : ℕ → ℕ = texts_begun (map said c.args.noted.now.lines.now) in
     subst (λ (ds : List ℕ). KeepsOthers (sum_by f ds) (sum_by g ds) ds c.args.layer.now c.loop-character.layer)
     (take_all i cs past) c.loop-character.invariant.size

@@ -10,9 +10,9 @@ use Rattle.collate_compile.proofs.layers.write_ranges.Goals as goal
 pub loop-i-init : goal.loop-i-init
 loop-i-init c =
     let layer = c.args.layer.now in
-    let none = lines_none c.args.lines.now in
+    let none = lines_none c.args.noted.now.lines.now in
     record {
-      written = subst (λ (ls : List Record). AreRangesWritten (map said c.args.lines.now) ls layer) (sym none)
+      written = subst (λ (ls : List Record). AreRangesWritten (map said c.args.noted.now.lines.now) ls layer) (sym none)
           c.requires.none;
       size = subst (λ (ls : List Record). GrowsBy (count_by is_range ls) (3 * count_by is_range ls) layer layer)
           (sym none) (grown_none layer);
@@ -20,7 +20,7 @@ loop-i-init c =
 
 pub write_range-requires : goal.write_range-requires
 write_range-requires c =
-    let lines = c.args.lines.now in
+    let lines = c.args.noted.now.lines.now in
     let i = c.loop-i.i in
     let x = c.index-lines-lines.result in
     let within : i < length lines = omega arith in
@@ -36,7 +36,7 @@ write_range-requires c =
 
 pub loop-i-preserved : goal.loop-i-preserved
 loop-i-preserved c =
-    let lines = c.args.lines.now in
+    let lines = c.args.noted.now.lines.now in
     let i = c.loop-i.i in
     let x = c.index-lines-lines.result in
     let within : i < length lines = omega arith in
@@ -51,14 +51,14 @@ loop-i-preserved c =
 
 pub returns-clause-written : goal.returns-clause-written
 returns-clause-written c =
-    let lines = c.args.lines.now in
+    let lines = c.args.noted.now.lines.now in
     let past : length lines ≤ c.loop-i.i = omega arith in
     subst (λ (ls : List Record). AreRangesWritten (map said lines) ls c.loop-i.layer)
     (lines_all lines c.loop-i.i past) c.loop-i.invariant.written
 
 pub returns-clause-size : goal.returns-clause-size
 returns-clause-size c =
-    let lines = c.args.lines.now in
+    let lines = c.args.noted.now.lines.now in
     let past : length lines ≤ c.loop-i.i = omega arith in
     subst (λ (ls : List Record). GrowsBy (count_by is_range ls) (3 * count_by is_range ls) c.args.layer.now
     c.loop-i.layer) (lines_all lines c.loop-i.i past) c.loop-i.invariant.size

@@ -13,12 +13,12 @@ use Rattle.collate_compile.proofs.layers.write_root.Goals as goal
 pub write_ranges-requires-clause-room : goal.write_ranges-requires-clause-room
 write_ranges-requires-clause-room c =
     let few = c.in_ok-characters.ensures.few.elements in
-    room_at_first c.in_ok-layer.layer.pools (count_by is_range (map said c.args.lines.now)) 0
+    room_at_first c.in_ok-layer.layer.pools (count_by is_range (map said c.args.noted.now.lines.now)) 0
     c.in_ok-layer.ensures.pools (omega (arith, few)) (omega arith)
 
 pub write_characters-requires-clause-room : goal.write_characters-requires-clause-room
 write_characters-requires-clause-room c =
-    let lines = map said c.args.lines.now in
+    let lines = map said c.args.noted.now.lines.now in
     let few = subst (λ (cs : List ℕ). AreFew lines cs) (sym c.as_slice.ensures.value) c.in_ok-characters.ensures.few in
     let f : ℕ → ℕ = λ q. 1 + elements_begun lines q in
     let cs = c.as_slice.result.now in
@@ -29,7 +29,7 @@ write_characters-requires-clause-room c =
 
 pub build-requires-clause-wide : goal.build-requires-clause-wide
 build-requires-clause-wide c =
-    let lines = map said c.args.lines.now in
+    let lines = map said c.args.noted.now.lines.now in
     let few = subst (λ (cs : List ℕ). AreFew lines cs) (sym c.as_slice.ensures.value) c.in_ok-characters.ensures.few in
     let ranged = c.in_ok-write_ranges.ensures.size in
     built_wide lines c.requires.accepted c.as_slice.result.now few _ _ c.write_ranges.new.layer
@@ -39,7 +39,7 @@ build-requires-clause-wide c =
 
 pub build-requires-clause-narrow : goal.build-requires-clause-narrow
 build-requires-clause-narrow c =
-    let lines = map said c.args.lines.now in
+    let lines = map said c.args.noted.now.lines.now in
     let few = subst (λ (cs : List ℕ). AreFew lines cs) (sym c.as_slice.ensures.value) c.in_ok-characters.ensures.few in
     let ranged = c.in_ok-write_ranges.ensures.size in
     built_narrow lines c.requires.accepted c.as_slice.result.now few _ _ c.write_ranges.new.layer
@@ -49,7 +49,7 @@ build-requires-clause-narrow c =
 
 pub returns-clause-root : goal.returns-clause-root
 returns-clause-root c =
-    let lines = map said c.args.lines.now in
+    let lines = map said c.args.noted.now.lines.now in
     let layer = c.write_characters.new.layer in
     let written = c.in_ok-write_characters.ensures.written root
     (ranged_alone lines c.write_ranges.new.layer c.in_ok-write_ranges.ensures.written) in

@@ -10,13 +10,13 @@ use Rattle.collate_compile.proofs.layers.write_tailoring.Goals as goal
 
 pub write_characters-requires-clause-room : goal.write_characters-requires-clause-room
 write_characters-requires-clause-room c =
-    let lines = map said c.args.lines.now in
+    let lines = map said c.args.noted.now.lines.now in
     let few = subst (λ (cs : List ℕ). AreFew lines cs) (sym c.as_slice.ensures.value) c.in_ok-characters.ensures.few in
     room_at_first c.in_ok-layer.layer.pools _ _ c.in_ok-layer.ensures.pools (omega (arith, few.elements)) few.texts
 
 pub build-requires-clause-wide : goal.build-requires-clause-wide
 build-requires-clause-wide c =
-    let lines = map said c.args.lines.now in
+    let lines = map said c.args.noted.now.lines.now in
     let few = subst (λ (cs : List ℕ). AreFew lines cs) (sym c.as_slice.ensures.value) c.in_ok-characters.ensures.few in
     let one = c.in_ok-layer.ensures.blocks in
     built_wide lines c.requires.accepted c.as_slice.result.now few _ _ c.in_ok-layer.layer
@@ -25,7 +25,7 @@ build-requires-clause-wide c =
 
 pub build-requires-clause-narrow : goal.build-requires-clause-narrow
 build-requires-clause-narrow c =
-    let lines = map said c.args.lines.now in
+    let lines = map said c.args.noted.now.lines.now in
     let few = subst (λ (cs : List ℕ). AreFew lines cs) (sym c.as_slice.ensures.value) c.in_ok-characters.ensures.few in
     let one = c.in_ok-layer.ensures.blocks in
     built_narrow lines c.requires.accepted c.as_slice.result.now few _ _ c.in_ok-layer.layer
@@ -34,7 +34,7 @@ build-requires-clause-narrow c =
 
 pub returns-clause-tailoring : goal.returns-clause-tailoring
 returns-clause-tailoring c =
-    let lines = map said c.args.lines.now in
+    let lines = map said c.args.noted.now.lines.now in
     let layer = c.write_characters.new.layer in
     let written = c.in_ok-write_characters.ensures.written tailoring
     (none_tailored lines c.in_ok-layer.layer c.in_ok-layer.ensures.unwritten c.in_ok-layer.ensures.words) in

@@ -14,3 +14,6 @@ returns-in-C7 c = rw c.in-C7.is c.first_bad_low.ensures
 
 pub returns-in-V9 : goal.returns-in-V9
 returns-in-V9 c = rw c.in-V9.is c.first_lacking_shorter.ensures
+
+pub returns-in-V12 : goal.returns-in-V12
+returns-in-V12 c = rw c.in-V12.is c.first_bad_jamo.ensures

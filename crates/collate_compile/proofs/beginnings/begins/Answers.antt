@@ -1,0 +1,11 @@
+use Rattle.std.proofs.Common.{map, ap, ◌∙◌}
+use Rattle.std.specs.List.{list_any}
+use Rattle.collate_lines.specs.Record.{said}
+use Rattle.collate_compile.specs.LineSayings.{begins_line}
+use Rattle.collate_compile.proofs.gathering.OwnLineLemmas.{begun_own}
+use Rattle.collate_compile.proofs.beginnings.begins.Goals as goal
+
+pub returns : goal.returns
+returns c =
+    c.begins_one.ensures ∙ ap (list_any (begins_line c.args.c)) c.own.ensures
+    ∙ begun_own c.args.c (map said c.args.noted.now.lines.now)

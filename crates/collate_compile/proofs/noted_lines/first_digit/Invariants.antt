@@ -1,0 +1,8 @@
+use Rattle.std.proofs.Common.{◌≡◌, map, drop}
+use Rattle.collate_rules.specs.Meaning.{digit_in, first_found}
+use Rattle.collate_compile.specs.NotedLines.{said_by}
+use Rattle.collate_compile.proofs.noted_lines.first_digit.Given as goal
+
+abbrev pub invariant-loop-line : goal.invariant-loop-line
+invariant-loop-line l =
+    first_found (digit_in l.c) (map said_by (drop l.line-index l.own)) ≡ first_found (digit_in l.c) (map said_by l.own)
