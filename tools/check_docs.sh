@@ -113,6 +113,13 @@ check_limits() {
         grep -qF "at most $number" docs/RECORDS.md || complain "docs/RECORDS.md: not at most $number, as tools/launcher.sh has it"
     done
 }
+# The records files that the gate runs are those of records/.
+check_copies() {
+    local file
+    for file in crates/examples_alphabets/data/*.records crates/tests_root/data/*.records; do
+        cmp -s "$file" "records/${file##*/}" || complain "$file: not the file of records/"
+    done
+}
 check_version() {
     grep -q "^## $(cat VERSION)," CHANGELOG.md || complain "CHANGELOG.md: no heading of version $(cat VERSION)"
     grep -qF "Version $(cat VERSION) " README.md || complain "README.md: not version $(cat VERSION)"
@@ -130,6 +137,7 @@ check_rules
 check_pictures
 check_words
 check_limits
+check_copies
 check_version
 tools/asked_of_callers.py --check || status=1
 exit "$status"
