@@ -1,20 +1,20 @@
 #!/usr/bin/env bash
 # Walks what a new user does, in a bare checkout, and looks at each message:
-#     tools/check_first_minute.sh [--quick | --part PART] [EXECUTABLE]
-# EXECUTABLE stands for the proved program; left out, it is the one in crates/collate/out, proved or not. First there is
-# no `rt` on the path, then a stand-in that proves nothing, and at the end, without --quick, the real one, which builds
-# the unproved program and the programs of README.md and docs/CALLING.md. PART is one of the functions walk_PART, in a
-# checkout without proofs but for with_rt. A line for each thing that isn't as it should be; the status is 0 only where
-# there is none, else 1, and 2 where it could not be walked. EDIT='FILE SED-COMMAND' changes the checkout first, as
-# tools/wrong_first_minutes.sh does.
+#     tools/check_first_minute.sh [--quick | --part PART] [EXECUTABLE [UNICODE]]
+# EXECUTABLE stands for the proved program `collate`, UNICODE for `collate_unicode`; left out, they are those in out of
+# their crates, proved or not. First there is no `rt` on the path, then a stand-in that proves nothing, and at the end,
+# without --quick, the real one, which builds the unproved programs and those of README.md and docs/CALLING.md. PART is
+# one of the functions walk_PART, in a checkout without proofs but for with_rt. A line for each thing that isn't as it
+# should be; the status is 0 only where there is none, else 1, and 2 where it could not be walked. EDIT='FILE
+# SED-COMMAND' changes the checkout first, as tools/wrong_first_minutes.sh does.
 set -u
 here=$(cd "$(dirname "$(readlink -f "${BASH_SOURCE[0]}")")/.." && pwd) || exit 1
-parts='without_executable foreign_executable with_executable faults broken_records installed with_stand_in pages'
-parts+=' with_rt'
+parts='without_executable foreign_executable with_executable faults broken_records room installed with_stand_in'
+parts+=' pages with_rt programs'
 left_out='^$' # nothing
 case ${1:-} in
 --quick)
-    parts=${parts% with_rt}
+    parts=${parts% with_rt programs}
     shift
     ;;
 --part)
@@ -23,15 +23,18 @@ case ${1:-} in
     shift 2
     ;;
 esac
-executable=${1:-}
-for file in "$here/crates/collate/out/collate" "$here/crates/collate/out/collate.unproved"; do
-    [ -n "$executable" ] || [ ! -x "$file" ] || executable=$file
-done
-if [ ! -x "$executable" ]; then
-    echo "no EXECUTABLE: tools/build_unproved.sh collate crates/collate/out/collate.unproved" >&2
-    exit 2
-fi
-executable=$(readlink -f "$executable")
+# The executable of the crate $1: $2, or what a build left.
+find_executable() {
+    local file
+    for file in "${2:-$here/crates/$1/out/$1}" "$here/crates/$1/out/$1.unproved"; do
+        [ ! -f "$file" ] || [ ! -x "$file" ] || { readlink -f "$file" && return; }
+    done
+    echo "no executable of $1: tools/build_unproved.sh $1 crates/$1/out/$1.unproved" >&2
+    return 1
+}
+declare -A executable
+executable[collate]=$(find_executable collate "${1:-}") || exit 2
+executable[collate_unicode]=$(find_executable collate_unicode "${2:-}") || exit 2
 real_path=$PATH
 rt_folder=$(dirname "$(command -v rt || echo /)")
 export PATH=/usr/bin:/bin LC_ALL=C.UTF-8
@@ -47,7 +50,7 @@ if [ -n "${EDIT:-}" ]; then
     cp "${EDIT%% *}" "$work/before"
     sed -i "${EDIT#* }" "${EDIT%% *}" && ! cmp -s "$work/before" "${EDIT%% *}" || exit 2
 fi
-out=crates/collate/out
+out=crates/collate/out large=crates/collate_unicode/out
 status=0 looks=0
 
 complain() {
@@ -85,18 +88,22 @@ given() {
     printf '%b' "$input" | "$@"
 }
 
-# Puts the executable where a build would leave it, $1, with a note of the sources as they are.
+# Puts executables where builds would leave them, $1 and so on, with notes of the sources as they are.
 put() {
-    mkdir -p "$out"
-    cp "$executable" "$1"
-    (
-        script=put
-        . tools/launcher.sh
-        [[ $1 != *.unproved ]] || unproved=unproved
-        below=$(tools/below.sh collate)
-        : >"$work/began"
-        note_sources "$1" "$(sum_of_sources)" "$work/began"
-    )
+    local file
+    for file in "$@"; do
+        (
+            script=put
+            . tools/launcher.sh
+            [[ $file != *.unproved ]] || unproved=unproved
+            crate=$(basename "$file" .unproved)
+            mkdir -p "$(dirname "$file")"
+            cp "${executable[$crate]}" "$file"
+            below=$(tools/below.sh "$crate")
+            : >"$work/began"
+            note_sources "$file" "$(sum_of_sources)" "$work/began"
+        )
+    done
 }
 
 nothing='NOTHING is proved of this run'
@@ -104,33 +111,48 @@ latin=examples/latin.records
 swedish='Öberg\nZetterlund\nÅkesson\n'
 
 walk_without_executable() {
-    says 1 "collate: no 'rt' on the path" "make dist" -- ./collate $latin
-    says 1 "sort_names: no 'rt' on the path" -- ./sort_names $latin
-    says 1 "collate: unproved: $nothing" "collate: no 'rt' on the path" -- ./collate --unproved $latin
-    says 1 "sort_names: unproved: $nothing" -- ./sort_names --unproved $latin
-    says 1 "the program collate_unicode is not there yet" -- ./collate --unicode $latin
-    says 1 "the program collate_unicode is not there yet" -- ./sort_names --unicode $latin
-    says 0 "collate $(cat VERSION)" -- ./collate --version
-    says 0 "sort_names $(cat VERSION)" -- ./sort_names --version
-    for word in -h --help; do
-        says 0 "--unproved" "strength=primary" "$top/docs/RECORDS.md" "!'rt'" -- ./collate $word
-        says 0 "--merge" "--unproved" "$top/records" -- ./sort_names $word
+    local word name
+    for word in '' '--unicode'; do
+        name=collate${word:+_unicode}
+        says 1 "collate: no 'rt' on the path to build $name with" "make dist" -- ./collate $word $latin
+        says 1 "sort_names: no 'rt' on the path to build $name with" -- ./sort_names $word $latin
+        says 1 "collate: unproved: $nothing" "to build $name with" -- ./collate --unproved $word $latin
+        says 1 "sort_names: unproved: $nothing" "to build $name with" -- ./sort_names $word --unproved $latin
+        says 0 "collate $(cat VERSION)" -- ./collate $word --version
+        says 0 "sort_names $(cat VERSION)" -- ./sort_names $word --version
+        says 0 "collate FILE" -- ./collate $word -h
     done
+    for word in -h --help; do
+        says 0 "--unproved" "--unicode" "proved and built" "strength=primary" "$top/docs/RECORDS.md" "!'rt'" -- \
+            ./collate $word
+        says 0 "--merge" "--unproved" "--unicode" "proved and built" "$top/records" -- ./sort_names $word
+    done
+    mv crates/collate_unicode "$work"
+    says 1 "the program collate_unicode is not there yet" -- ./collate --unicode $latin
+    mv "$work/collate_unicode" crates
     says 2 "usage: collate FILE" "no FILE is given" -- ./collate
     says 2 "usage: sort_names" "no RECORDS is given" -- ./sort_names
     says 2 "usage: sort_names" "not understood: --sorted" -- ./sort_names --sorted $latin
     says 2 "usage: sort_names" "no file is given that --keys wrote" -- ./sort_names --merge
     says 1 "cannot read nothing" "there is no such file" "!'rt'" -- ./collate nothing
-    says 2 "no 'rt' on the path" -- make install PREFIX="$work/none"
+    says 2 "no 'rt' on the path to build collate with" -- make install PREFIX="$work/none"
+    put $out/collate
+    says 2 "no 'rt' on the path to build collate_unicode with" -- make install PREFIX="$work/none"
     [ ! -e "$work/none" ] || complain "something was installed without a program"
+    rm -r $out
 }
 
 # An executable that nobody vouches for is taken for no proved one, and none for the unproved one.
 walk_foreign_executable() {
     mkdir -p $out
-    cp "$executable" $out/collate
+    cp "${executable[collate]}" $out/collate
     says 1 "no 'rt' on the path" -- ./collate $latin
     rm $out/collate
+    put $large/collate_unicode.unproved
+    says 0 "collate: unproved: $nothing" added -- given 'add a\n' ./collate --unicode --unproved $latin
+    says 1 "no 'rt' on the path to build collate_unicode" -- ./collate --unicode $latin
+    says 1 "no 'rt' on the path to build collate with" -- ./collate --unproved $latin
+    rm -r $large
     put $out/collate.unproved
     says 1 "no 'rt' on the path" -- ./collate $latin
     cp $out/collate.unproved $out/collate
@@ -152,7 +174,7 @@ walk_foreign_executable() {
 }
 
 walk_with_executable() {
-    put $out/collate
+    put $out/collate $large/collate_unicode
     says 0 $'names 2\na\nb' "!$nothing" -- given 'add b\nadd a\nlist\n' ./collate $latin
     says 0 $'Zetterlund\nÅkesson\nÖberg' '!:' -- given "$swedish" ./sort_names records/swedish.records
     # times alone change nothing, nor does a crate of one's own
@@ -171,6 +193,17 @@ walk_with_executable() {
     (cd "$work" && says 0 added -- given 'add a\n' checkout/collate checkout/$latin; exit $status) || status=1
     ln -s "$top/collate" "$work/link"
     says 0 added -- given 'add a\n' "$work/link" $latin
+    # a file of 206 code points
+    { small && seq -f 'w %.0f ;' 3001 3200; } >"$work/more.records"
+    says 1 "refused 153 limit" "these are 151 code points" "150 may be (1114112 with --unicode)" -- \
+        ./collate "$work/more.records"
+    says 0 $'names 2\na\nb' "!$nothing" -- given 'add b\nadd a\nlist\n' ./collate --unicode "$work/more.records"
+    says 0 $'a\nb' '!:' -- given 'b\na\n' ./sort_names --unicode "$work/more.records"
+    ln -s "$top/collate" "$work/collate_unicode"
+    says 0 added -- given 'add a\n' "$work/collate_unicode" "$work/more.records"
+    says 0 "collate_unicode $(cat VERSION)" -- "$work/collate_unicode" --version
+    says 0 "--unicode" -- "$work/collate_unicode" -h
+    says 2 "usage: collate_unicode FILE" "no FILE is given" -- "$work/collate_unicode"
 }
 
 walk_faults() {
@@ -182,6 +215,8 @@ walk_faults() {
     says 2 "usage: collate FILE" "given twice: numeric" -- ./collate $latin numeric=on numeric=off
     says 2 "usage: sort_names" "not understood: strength" "values of strength: primary" -- ./sort_names $latin strength
     says 2 "not understood: examples" -- ./collate strength=primary $latin
+    says 2 "not understood: --numeric; before FILE stand --unproved, --unicode," -- ./collate --numeric $latin
+    says 1 "cannot read --numeric" "no such file; before FILE stand --unproved, --unicode," -- ./collate --numeric
     for word in ./collate ./sort_names; do
         says 1 "cannot read nothing" "there is no such file" -- $word nothing
         says 1 "cannot read swedish" "there is no such file; there is $top/records/swedish.records" -- $word swedish
@@ -190,8 +225,8 @@ walk_faults() {
         ln -sf nowhere "$work/nowhere"
         ln -sf nothing "$work/nowhere"
         says 1 "cannot read $work/nowhere" "it is a link that leads nowhere" -- $word "$work/nowhere"
-        if [ "$(id -u)" != 0 ]; then
-            cp $latin "$work/closed" && chmod 0 "$work/closed"
+        if [ "$(id -u)" != 0 ]; then # root reads all
+            cp -f $latin "$work/closed" && chmod 0 "$work/closed"
             says 1 "cannot read $work/closed" "it may not be read by" -- $word "$work/closed"
         fi
     done
@@ -215,82 +250,36 @@ reader_away() {
     yes "$2" | head -n 100000 | "$1" $latin | head -n 1 >/dev/null
 }
 
-# The file of the broken ones: eight lines.
-small() {
-    printf 'class %s\n' '0302 230' '0323 220'
-    echo 'map 00E1 0061 0301'
-    printf 'w %s.0500.0.0500.0]\n' '0061 ; [2A100000' '0062 ; [2A200000'
-    printf 'w %s.0.0500.0]\n' '0301 ; [0.8800' '0302 ; [0.8A00' '0323 ; [0.8C00'
-}
-
-walk_broken_records() {
-    local add fault texts text command count=0 broken=$work/my.records
-    put $out/collate
-    small >"$work/small.records"
-    says 0 = -- ./collate "$work/small.records"
-    while IFS=$'\t' read -r add fault texts; do
-        [ -n "$fault" ] || continue
-        {
-            case $add in
-            ^*) printf '%b' "${add#^}" && small ;;
-            =*) printf '%b' "${add#=}" ;;
-            *) small && printf '%b' "$add" ;;
-            esac
-        } >"$broken"
-        count=$((count + 1))
-        text=()
-        while [ -n "$texts" ]; do
-            text+=("${texts%% & *}")
-            [[ $texts == *' & '* ]] || break
-            texts=${texts#* & }
-        done
-        # sort_names says it by the same function
-        command=./collate
-        [ $((count % 8)) != 0 ] || command=./sort_names
-        says 1 "collate: refused $fault"$'\n' "  $broken, line ${fault% *}: " "  ${fault#* }: " "${text[@]}" -- \
-            "$command" "$broken"
-    done <tools/broken_records.tsv
-    [ "$count" -ge 60 ] || complain "only $count broken files"
-    seq -f 'class %05.0f 230' 10001 10151 >"$broken"
-    says 1 "refused 151 limit" "these are 151 code points, each range counted as one, and 150 may be" -- \
-        ./collate "$broken"
-    { small && seq -f 'set numeric %02.0f' 11 11 && yes 'range 4E00 4E00 E0020200 1' | head -n 1000; } >"$broken"
-    says 1 "refused 154 limit" "these are 151 code points" -- ./collate "$broken"
-    { small && for count in $(seq 1000); do echo "w$(combination "$count") ;"; done; } >"$broken"
-    says 1 "refused 1001 limit" "these are 1001 lines that say something, and 1000 may be" -- ./collate "$broken"
-    { echo -n '# ' && head -c 1024 /dev/zero | tr '\0' a; } >"$broken"
-    says 1 "refused 1 grammar" "it has 1026 bytes; a line has at most 1024" -- ./collate "$broken"
-    yes '# a line of a comment, 32 bytes' | head -n 32769 >"$broken"
-    says 1 "refused 32769 grammar" "here the file passes 1048576 bytes" -- ./collate "$broken"
-    printf '# \033[31m\n%s\n' x >"$broken"
-    says 1 "refused 2 grammar" '!\x1B' -- ./collate "$broken"
-    printf '\033[31m\n' >"$broken"
-    says 1 "refused 1 grammar" '\x1B[31m' -- ./collate "$broken"
-}
-
-# Five letters of a to d, by the digits of a number: texts that differ.
-combination() {
-    local power
-    for power in 1 4 16 64 256; do printf ' 006%d' $((1 + ($1 / power) % 4)); done
-}
+. "$here/tools/walk_broken_records.sh"
 
 walk_installed() {
     local prefix=$work/usr name
-    put $out/collate
+    put $out/collate $large/collate_unicode
+    { small && seq -f 'w %.0f ;' 3001 3200; } >"$work/more.records"
     says 0 -- make
     says 0 -- make install PREFIX="$prefix"
     says 0 $'a\nb' "!'rt'" -- given 'b\na\n' "$prefix/bin/sort_names" "$prefix/share/leekclamp/records/latin.records"
     says 0 "names 1" -- given 'add b\nlist\n' "$prefix/bin/collate" "$prefix/share/leekclamp/records/latin.records"
-    says 0 "$prefix/share/leekclamp/records" "$prefix/share/doc/leekclamp/RECORDS.md" -- "$prefix/bin/collate" -h
+    says 0 "$prefix/share/leekclamp/records" "$prefix/share/doc/leekclamp/RECORDS.md" "!proved and built" -- \
+        "$prefix/bin/collate" -h
+    says 0 "$prefix/share/leekclamp/records" "!proved and built" "!--unproved" -- "$prefix/bin/sort_names" -h
+    says 0 "names 1" -- given 'add b\nlist\n' "$prefix/bin/collate" --unicode "$work/more.records"
+    says 0 "names 1" -- given 'add b\nlist\n' "$prefix/bin/collate_unicode" "$work/more.records"
+    says 0 $'a\nb' -- given 'b\na\n' "$prefix/bin/sort_names" --unicode "$work/more.records"
+    says 0 "collate_unicode $(cat VERSION)" -- "$prefix/bin/collate_unicode" --version
+    says 1 "refused 153 limit" "150 may be (1114112 with --unicode)" -- "$prefix/bin/collate" "$work/more.records"
+    look_at_languages "$prefix"
     says 0 "$(cat VERSION)" -- "$prefix/bin/sort_names" --version
     says 1 "there is $prefix/share/leekclamp/records/greek.records" -- "$prefix/bin/sort_names" greek
+    mv "$prefix/lib/leekclamp/programs/collate_unicode" "$work"
     says 1 "the program collate_unicode is not installed here" -- "$prefix/bin/collate" --unicode $latin
+    mv "$work/collate_unicode" "$prefix/lib/leekclamp/programs"
     says 0 "for a repository" "added" -- given 'add a\n' "$prefix/bin/collate" --unproved $latin
     # what can be read once is told by its rule alone
     says 1 "refused 1 grammar" "each line has one of the forms" -- "$prefix/bin/collate" <(echo x)
     { small; echo 'w 0063 ; [2A200200.0500.0.0500.0]'; } >"$work/my.records"
     says 1 "refused 9 V5" "no weight's bytes" "begins 2A2002" -- "$prefix/bin/collate" "$work/my.records"
-    for name in collate sort_names; do
+    for name in collate collate_unicode sort_names; do
         [ -s "$prefix/share/man/man1/$name.1" ] || complain "no manual page of $name"
         command -v man >/dev/null && says 0 "SYNOPSIS" -- man -l "$prefix/share/man/man1/$name.1"
     done
@@ -306,11 +295,21 @@ walk_installed() {
     mv "$top" "$top.away" # nothing of the repository is needed
     cd "$work" || exit 2
     says 0 $'a\nb' -- given 'b\na\n' "$name/bin/sort_names" "$name/share/leekclamp/records/latin.records"
+    says 0 "names 1" -- given 'add b\nlist\n' "$name/bin/collate" --unicode "$work/more.records"
+    look_at_languages "$name"
     for file in LICENSE LICENSE-UNICODE.txt NOTICE.md; do
         [ -s "$name/$file" ] && [ -s "$name/share/doc/leekclamp/$file" ] || complain "$file isn't packed"
     done
     mv "$top.away" "$top"
     cd "$top" || exit 2
+}
+
+# The root and what languages put over it lie in the prefix $1, and are joined there.
+look_at_languages() {
+    local folder=$1/share/leekclamp/records
+    [ -s "$folder/languages/README.md" ] || complain "no list of languages"
+    says 0 = -- bash -c '"$1/bin/join_records" "$2/languages/sv.records" >"$3"' - "$1" "$folder" "$work/joined.records"
+    [ "$(grep -vc '^#' "$work/joined.records")" -gt 60000 ] || complain "the languages are not joined to the root"
 }
 
 # A stand-in for rt, which proves nothing: `run` leaves behind what a build does, slowly.
@@ -320,13 +319,17 @@ make_stand_in() {
 #!/usr/bin/env bash
 [ "\$1" = run ] || exit 1
 [ ! -e "$work/fails" ] || { echo "error: not proved"; exit 1; }
-for name in \$("$top/tools/below.sh" collate | sed 's/:.*//'); do
-    [ \$name != collate ] || continue
+crate=\$(basename "\$PWD")
+for name in \$("$top/tools/below.sh" "\$crate" | sed 's/:.*//'); do
+    [ "\$name" != "\$crate" ] || continue
     mkdir -p "$top/crates/\$name/out/rlib"
     [ -e "$top/crates/\$name/out/rlib/stamp" ] || { sleep 0.1; echo >"$top/crates/\$name/out/rlib/stamp"; }
 done
 [ ! -e "$work/edits" ] || echo '// while it is built' >>"$top/crates/collate_names/src/lib.rt"
-cp "$executable" "$top/$out/collate"
+case \$crate in
+collate) cp "${executable[collate]}" out ;;
+collate_unicode) cp "${executable[collate_unicode]}" out ;;
+esac
 TEXT
     chmod +x "$work/fake/rt"
     PATH=$work/fake:$PATH
@@ -350,9 +353,13 @@ walk_with_stand_in() {
     says 0 '!building' added -- given 'add a\n' ./collate $latin
     echo '// one more' >>crates/tests_collate_words/src/lib.rt
     says 0 '!building' added -- given 'add a\n' ./collate $latin
+    says 0 "collate: 0 libraries to prove, and the program" "see $large/build.log" "all is proved" added -- \
+        given 'add a\n' ./collate --unicode $latin
+    says 0 '!building' added -- given 'add a\n' ./collate --unicode $latin
+    says 0 '!building' -- make
     # the unproved one, whose builder is a stand-in here
     cp tools/build_unproved.sh "$work/builder"
-    printf '#!/bin/sh\ncp "%s" "$2"\n' "$executable" >tools/build_unproved.sh
+    printf '#!/bin/sh\ncp "%s" "$2"\n' "${executable[collate]}" >tools/build_unproved.sh
     says 0 "$nothing" "in a minute or two" "kept as $out/collate.unproved" added -- \
         given 'add a\n' ./collate --unproved $latin
     says 0 "$nothing" '!in a minute' added -- given 'add a\n' ./collate --unproved $latin
@@ -414,17 +421,29 @@ make_elsewhere() {
     cd "$other/crates/$2" || exit 2
 }
 
-# With the real rt: an unproved build, and the programs of the pages, which are compiled and run.
+# The real rt comes to the path.
+need_rt() {
+    [ "$rt_folder" != / ] || { echo "no rt to walk with: --quick" >&2; exit 2; }
+    PATH=$rt_folder:$real_path
+}
+
+# With it: unproved builds.
 walk_with_rt() {
     local began
-    [ "$rt_folder" != / ] || return
-    PATH=$rt_folder:$real_path
+    need_rt
     rm -rf crates/*/out
     says 0 "collate: unproved: $nothing" "in a minute or two" $'names 1\na' -- \
         given 'add a\nlist\n' ./collate --unproved $latin
     began=$(date +%s%N)
     says 0 "collate: unproved: $nothing" '!in a minute' added -- given 'add a\n' ./collate --unproved $latin
     [ $(($(date +%s%N) - began)) -lt 5000000000 ] || complain "the kept program took over five seconds"
+    says 0 "sort_names: unproved: $nothing" "kept as $large/collate_unicode.unproved" $'a\nb' -- \
+        given 'b\na\n' ./sort_names --unproved --unicode $latin
+}
+
+# With it: the programs of the pages, which are compiled and run.
+walk_programs() {
+    need_rt
     make_elsewhere "$top/README.md" sorted_names
     says 0 $'Zetterlund\nÅkesson\nÖberg' "status=0" -- \
         given "$swedish" rt try --data "swedish.records=$top/records/swedish.records"
@@ -434,9 +453,12 @@ walk_with_rt() {
     cd "$top" || exit 2
 }
 
-for part in $parts; do
-    [ "$(type -t "walk_$part")" = function ] || { echo "no part $part" >&2; exit 2; }
-    "walk_$part"
-done
-echo "$looks looked at, $([ "$status" = 0 ] && echo "all as it should be" || echo "some not as they should be")"
-exit "$status"
+# in braces, so that an edit of this file during a walk changes nothing
+{
+    for part in $parts; do
+        [ "$(type -t "walk_$part")" = function ] || { echo "no part $part" >&2; exit 2; }
+        "walk_$part"
+    done
+    echo "$looks looked at, $([ "$status" = 0 ] && echo "all as it should be" || echo "some not as they should be")"
+    exit "$status"
+}

@@ -1,17 +1,21 @@
 # Says more of a fault of a records file:
-#     LINE=163 RULE=V5 SHOWN=name LIMITS='1048576 150 1000' awk -f tools/explain.awk docs/rules.tsv FILE
+#     LINE=163 RULE=V5 SHOWN=name LIMITS='1048576 150 1000' \
+#         awk -f tools/explain_limit.awk -f tools/explain.awk docs/rules.tsv FILE
 # It prints the line, what the rule says (docs/rules.tsv), the line that it clashes with, and what helps. The program
-# judges; this only looks for what it may have meant, so it prints less where it finds nothing.
+# judges; this only looks for what it may have meant, so it prints less where it finds nothing. LIMITS are the bytes,
+# code points and lines that the program takes; LARGER='WORD BYTES ..' is a word that chooses one of larger limits.
 
 BEGIN {
     FS = "\t"
     line = ENVIRON["LINE"] + 0
     rule = ENVIRON["RULE"]
     split(ENVIRON["LIMITS"], limits, " ")
+    split(ENVIRON["LARGER"], larger, " ")
     hex = "0123456789ABCDEF"
     for (place = 0; place < 16; place++) digit_value[substr(hex, place + 1, 1)] = place
     for (place = 1; place < 256; place++) byte_value[sprintf("%c", place)] = place
-    is_whole = rule == "V9" || rule == "V10" || rule == "V11" # what these want recorded may stand behind the line
+    # what these want recorded, or maps what a line maps to, may stand behind the line
+    is_whole = rule == "V9" || rule == "V10" || rule == "V11" || rule == "limit"
     split("class map kmap w t range digit set", words, " ")
     form["class"] = "class CP N"
     form["map"] = "map CP CP [CP] [x]"
@@ -117,7 +121,7 @@ function explain_grammar(it,    found) {
 }
 
 function fault_of_bytes(it,    place, one, code) {
-    if (size > limits[1] && size - 1 > limits[1]) return "here the file passes " limits[1] " bytes"
+    if (size > limits[1] && size - 1 > limits[1]) return "here the file passes " limits[1] " bytes" with_larger(1)
     if (substr(it, 1, 3) == "\357\273\277")
         return "a byte order mark stands at its beginning: save the file without one"
     if (index(it, "\000") || substr(it, 1, 2) == "\377\376" || substr(it, 1, 2) == "\376\377")
@@ -317,30 +321,6 @@ function explain_mapped(    at) {
 # C5
 function explain_pairs(    at) {
     for (at = 1; at < line; at++) if (says[at] == "map" && rest[at] == rest[line]) show_line(at)
-}
-
-# limit: the number that is passed
-function explain_limit(    at, place, parts, part, named, saying, chars) {
-    for (at = 1; at <= line; at++) {
-        if (says[at] == "") continue
-        saying++
-        if (says[at] == "range") { named++; continue }
-        if (says[at] == "set") continue
-        parts = split(text[at], part, " ")
-        for (place = 2; place <= parts && part[place] != ";"; place++) {
-            if (part[place] ~ /^[0-9A-F]+$/ && length(part[place]) >= 4 && !(part[place] in is_named)) {
-                is_named[part[place]]
-                named++
-            }
-        }
-    }
-    if (saying > limits[3]) print "  these are " saying " lines that say something, and " limits[3] " may be"
-    if (named > limits[2])
-        print "  these are " named " code points, each range counted as one, and " limits[2] " may be"
-    chars = says[line] == "kmap" ? split(rest[line], part, " ") : split(own[line], part, " ")
-    if (chars > 8) print "  it has " chars " characters, and 8 may be"
-    parts = split(elements[line], part, " ")
-    if (parts > 8) print "  it has " parts " elements, and 8 may be"
 }
 
 # ## Weights

@@ -45,6 +45,19 @@ limits() {
     done <<<"$programs"
 }
 
+# The word that chooses a program whose files may be larger, and its limits; nothing where none is.
+larger_limits() {
+    local word name rest size own
+    read -r own _ < <(limits)
+    while read -r word name rest; do
+        size=${rest%% *}
+        if [ -n "$name" ] && [ "$size" -gt "$own" ]; then
+            echo "$word $rest"
+            return
+        fi
+    done <<<"$programs"
+}
+
 version() {
     echo "$script $(cat "$top/VERSION")"
 }
@@ -76,7 +89,7 @@ page() {
 # Whether `rt` is there.
 has_rt() {
     command -v rt >/dev/null && return
-    say "no 'rt' on the path to build it with: it is Rattle's; a release that 'make dist' packed needs none"
+    say "no 'rt' on the path to build $crate with: it is Rattle's; a release that 'make dist' packed needs none"
     return 1
 }
 
@@ -263,7 +276,7 @@ why_unreadable() {
     elif [ ! -d "$folder" ]; then
         echo "there is no folder $(shown "$folder")"
     elif [ ! -e "$1" ]; then
-        echo "there is no such file$(similar_to "$name")"
+        echo "there is no such file$(meant_by "$name")"
     elif [ -d "$1" ]; then
         echo "it is a folder"
     elif [ ! -r "$1" ]; then
@@ -273,11 +286,14 @@ why_unreadable() {
     fi
 }
 
-# A records file that is called like $1.
-similar_to() {
+# What $1 may mean where no file is called so: a records file, or a word of the script.
+meant_by() {
     local file
     file=$(records_folder)/${1%.records}.records
-    [ ! -e "$file" ] || echo "; there is $file"
+    case $1 in
+    -*) echo "; before FILE stand --unproved, --unicode, --help or --version, and options behind it, as numeric=on" ;;
+    *) [ ! -e "$file" ] || echo "; there is $file" ;;
+    esac
 }
 
 # Whether the file $1 can be read; says so else, as the program does, and why.
@@ -305,6 +321,9 @@ explain_words() {
     if [ $# = 0 ]; then
         echo "  no FILE is given: a records file, as $(records_folder)/swedish.records" >&2
         return
+    elif [[ $1 == -* && ! -e $1 ]]; then
+        echo "  not understood: $1$(meant_by "$1")" >&2
+        return
     fi
     shift
     for word in "$@"; do
@@ -331,8 +350,9 @@ explain() {
     case $said in
     'collate: refused '*)
         read -r line rule <<<"${said#collate: refused }"
-        LC_ALL=C LINE=$line RULE=$rule SHOWN=$1 LIMITS=$(limits) \
-            awk -f "$top/tools/explain.awk" "$top/docs/rules.tsv" "${file_read:-$1}" >&2
+        LC_ALL=C LINE=$line RULE=$rule SHOWN=$1 LIMITS=$(limits) LARGER=$(larger_limits) \
+            awk -f "$top/tools/explain_limit.awk" -f "$top/tools/explain.awk" \
+            "$top/docs/rules.tsv" "${file_read:-$1}" >&2
         ;;
     'usage: '*) explain_words "$@" ;;
     'collate: cannot read '*) echo "  $(why_unreadable "$1")" >&2 ;;
