@@ -1,7 +1,8 @@
 """The sets of names that bench/collator.py measures: the names of each, the same each time, and its records.
 
 A set's names are random ones over its own letters, as long as names of its language are, with its contractions, marks and
-prefixes among them. The records of Latin names are made here; those of other scripts are crates/examples_alphabets/data/*.records.
+prefixes among them. The records of Latin names are made here; those of other scripts are crates/examples_alphabets/data/*.records,
+and those of the sets `root SCRIPT` are records/root.records.
 """
 import os
 import random
@@ -24,6 +25,15 @@ KANA = ['か', 'が', 'き', 'ぎ', 'く', 'ぐ', 'こ', 'ご', 'さ', 'ざ', '�
         'ど', 'な', 'に', 'の', 'は', 'ば', 'ぱ', 'ひ', 'び', 'ふ', 'ぶ', 'ほ', 'ま', 'み', 'む', 'め', 'も', 'や', 'ゆ', 'よ', 'ら', 'り',
         'る', 'れ', 'ろ', 'わ', 'ん', 'ん', 'あ', 'い', 'う', 'え', 'お', 'きょ', 'しゃ', 'じゅ', 'ちょ', 'りょ', 'っか', 'って', 'っと']
 BEFORE, BEHIND = ['', '', '', 'เ', 'แ', 'โ', 'ใ', 'ไ'], ['', '', 'า', 'า', 'ะ', 'ิ', 'ี', 'ึ', 'ื', 'ุ', 'ู']
+ARABIC = 'اااااابتثجحخدذررسسشصضطظعغفقكلللممنننههووويييةىءأإ'
+HEBREW = 'אאבגדההווווזחטייייככלללמממנןסעפצקררששתתםץ'
+GEORGIAN = 'ააააააბგდეეეეევზთიიიიიიკლლმნოოოპჟრრრსსტუფქღყშჩცძწჭხჯჰ'
+ARMENIAN = 'աաաաաաբգդեեեզէըթժիիիլխծկկհձղճմյննննշոոչպջռսսսվտտրրրցւփքօֆ'
+ETHIOPIC = [chr(c) for c in range(0x1200, 0x1357) if unicodedata.category(chr(c)) == 'Lo']
+# Of each Indic script its consonants, vowel signs, and what joins two consonants.
+DEVANAGARI = ('कखगघचछजझटठडढणतथदधनपफबभमयरलवशषसह', 'ािीुूेैोौ', '्')
+BENGALI = ('কখগঘচছজঝটঠডঢণতথদধনপফবভমযরলশষসহ', 'ািীুূেৈোৌ', '্')
+TAMIL = ('கஙசஜஞடணதநனபமயரறலளழவஷஸஹ', 'ாிீுூெேைொோௌ', '்')
 TONES, FINALS = ['', '', '', '่', '้'], ['', '', '', *'กงดนบมยว']
 
 
@@ -153,6 +163,26 @@ def han(count):
     return [''.join(source.choices(characters, k=source.randint(2, 4))) for _ in range(count)]
 
 
+def indic(script, seed):
+    """Two to six syllables: a consonant or two that are joined, and in two of three a vowel sign."""
+    consonants, vowels, joiner = script
+
+    def syllable(source):
+        begin = source.choice(consonants) + (joiner + source.choice(consonants) if source.random() < 0.2 else '')
+        return begin + (source.choice(vowels) if source.random() < 0.67 else '')
+
+    def make(count):
+        source = random.Random(seed)
+        return [''.join(syllable(source) for _ in range(source.randint(2, 6))) for _ in range(count)]
+    return make
+
+
+def root_records():
+    """The records of all of Unicode."""
+    with open(os.path.join(ROOT, 'records/root.records'), encoding='ascii') as file:
+        return file.read().split('\n')
+
+
 class Set:
     """Names with their records, the options that they are compared with, the locale of ICU4C, and the task."""
 
@@ -164,6 +194,15 @@ class Set:
 def alphabet(title, names, locale, left_out=()):
     return Set(title, names, lambda: records_of(title, left_out), locale)
 
+
+# The names of each script, over the records of all of Unicode.
+SCRIPTS = {
+    'Latin': latin, 'Greek': words(GREEK, 4, 13, 13), 'Russian': words(RUSSIAN, 4, 12, 14),
+    'Arabic': words(ARABIC, 3, 9, 21), 'Hebrew': words(HEBREW, 3, 8, 22), 'Devanagari': indic(DEVANAGARI, 23),
+    'Bengali': indic(BENGALI, 24), 'Tamil': indic(TAMIL, 25), 'Georgian': words(GEORGIAN, 4, 11, 26),
+    'Armenian': words(ARMENIAN, 4, 11, 27), 'Ethiopic': words(ETHIOPIC, 3, 7, 28), 'Thai': thai, 'hiragana': hiragana,
+    'Hangul': korean, 'Han': han,
+}
 
 SETS = [
     Set('latin', latin),
@@ -189,4 +228,4 @@ SETS = [
     Set('upper', latin, options=['casefirst=upper']),
     Set('backward', latin, backward_records, peer_options=['backward=on']),
     Set('numeric', latin, digit_records, options=['numeric=on']),
-]
+] + [Set(f'root {script}', names, root_records) for script, names in SCRIPTS.items()]
