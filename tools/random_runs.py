@@ -126,9 +126,20 @@ def random_reload(source, records):
     return records, reload_lines(records, count)
 
 
+def removals_in_bulk(source, names):
+    """Many names that are added, of which most are removed, and some more added then."""
+    many = [*{source.choice(names) + source.choice(names) + b'%d' % place for place in range(source.choice([40, 150, 400]))}]
+    gone = source.sample(many, len(many) * source.choice([8, 9, 10]) // 10)
+    if source.random() < 0.5:
+        gone.sort()
+    return [*(b'add ' + name for name in many), *(b'remove ' + name for name in gone), *(b'add ' + name for name in gone[:5]), b'list']
+
+
 def random_lines(source, names, records):
     """Commands, each a line, or a reload with its record lines, by a file's lines."""
     lines = [b'add ' + name for name in names if source.random() < 0.5]
+    if source.random() < 0.1:
+        lines += removals_in_bulk(source, names)
     for _ in range(source.randint(0, 24)):
         if source.random() < 0.93:
             lines.append(random_command(source, names))

@@ -149,7 +149,7 @@ pub fn run_program_within(rt: &HostRuntime, setup: Setup) -> ExitCode {
     }
 }
 
-/// The program `collate`: as `run_program_within` does within the standard limits.
+/// The program `collate`: as `run_program_within` does within the standard limits, by a seed of the system's where it gives one.
 pub fn run_program(rt: &HostRuntime) -> ExitCode {
-    run_program_within(rt, Setup::STANDARD)
+    run_program_within(rt, Setup::STANDARD.seeded(rt))
 }

@@ -5,7 +5,7 @@ ghost use Rattle.collate_run.specs.Sending.{Sends};
 ghost use Rattle.collate_run.specs.Served.{Serves, ServesWithin, Tells, records_line, run_line};
 ghost use Rattle.collate_run.specs.Watched.{watched_failed, watched_inner};
 
-use crate::run::{RunFault, run};
+use crate::run::{RunFault, run_with_seed};
 use crate::setup::Setup;
 use crate::watched::Watched;
 use collate_choice::Choice;
@@ -156,11 +156,12 @@ pub fn serve_within<R: Read, W: Write, E: Write>(
             return 1;
         }
     };
-    match run(
+    match run_with_seed(
         alloc,
         records,
         &choice.prefs,
         &choice.options,
+        setup.seed,
         reader,
         writer,
     ) {

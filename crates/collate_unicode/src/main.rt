@@ -6,5 +6,5 @@ use collate_run::setup::Setup;
 use std::process::ExitCode;
 
 fn main(rt: HostRuntime) -> ExitCode {
-    run_program_within(&rt, Setup::UNICODE)
+    run_program_within(&rt, Setup::UNICODE.seeded(&rt))
 }

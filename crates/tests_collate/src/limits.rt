@@ -143,7 +143,10 @@ fn served(
     let mut writer = Watched::new(&mut written);
     let status = serve_words(
         alloc,
-        Setup { limits },
+        Setup {
+            limits,
+            ..Setup::STANDARD
+        },
         &words,
         |_: &str| file,
         has_input,

@@ -5,7 +5,7 @@ use Rattle.collate_index.specs.Catalogue.{asked_of, meaning_in, preferences_of}
 use Rattle.collate_index.specs.Keys.{IsKeyed}
 use Rattle.collate_index.specs.declared.asked.Asked.{Asked}
 use Rattle.collate_index.proofs.making.IndexMadeLemmas.{as_asked}
-use Rattle.collate_index.proofs.index.Index.new.Goals as goal
+use Rattle.collate_index.proofs.index.Index.with_seed.Goals as goal
 
 pub invariant_of-result : goal.invariant_of-result
 invariant_of-result c =
