@@ -3,11 +3,11 @@
 
   worst_cases.py PROGRAM [ATTACK..]
 
-Each attack is two runs of PROGRAM, an executable of crates/collate, and the second weighs at most twice what the first does. Printed are
-what both cost and how many times the first the second costs; past 2.4 the attack has succeeded, and the status is then 1. A run
-costs the instructions that it takes (callgrind), less those of the same run without its names: in millions. The last attack
-costs memory: the most that is resident, less that of a run over nothing, in KB. With no ATTACK all are tried; a name without the
-right word lists them.
+Each attack is two runs of PROGRAM, an executable of crates/collate, and the second weighs at most twice what the first does.
+Printed are what both cost and how many times the first the second costs; past 2.4 the attack has succeeded, and the status is
+then 1. A run costs the instructions that it takes (callgrind), less those of the same run without its names: in millions. The
+last attack costs memory, and its second run may need no more than its first: the most that is held, in KB. With no ATTACK all
+are tried; a wrong word lists them.
 """
 import os
 import re
@@ -221,9 +221,9 @@ def all_touched(scale):
 
 
 def long_file(scale):
-    """A reload of more lines than a file may have: at the limit, and at four times that."""
+    """A reload of as many bytes as a file may have, and of forty times as many."""
     line = '#' * (LINE_LIMIT - 1)
-    return records(), [], [reload([line] * (FILE_LIMIT // LINE_LIMIT * (1 if scale == 1 else 4)))]
+    return records(), [], [reload([line] * (FILE_LIMIT // LINE_LIMIT * (1 if scale == 1 else 40)))]
 
 
 ATTACKS = [one_hash, one_fnv_hash, equal_keys, shared_beginnings, classes_of_marks, digits, from_the_front, as_they_arrived, expansions, full_lists,
@@ -251,18 +251,22 @@ class Trial:
             run = subprocess.run(line, stdin=given, stdout=subprocess.DEVNULL, stderr=subprocess.PIPE, check=True)
         return int(re.search(rb'Collected : (\d+)', run.stderr).group(1)) / 1e6
 
-    def resident(self, lines, words, commands):
-        line = self.line(lines, words, commands)
-        with open(self.commands, 'rb') as given, subprocess.Popen(line, stdin=given, stdout=subprocess.DEVNULL) as run:
-            status, used = os.wait4(run.pid, 0)[1:]
-            run.returncode = status
-        assert status == 0, f'{self.program} ended with {status}'
-        return used.ru_maxrss
+    def most_memory(self, lines, words, commands):
+        """The most bytes, in KB, that a run requests and hasn't freed (tools/count_memory.c)."""
+        library, counted = self.counts + '.so', self.counts + '.held'
+        source = os.path.join(ROOT, 'tools/count_memory.c')
+        subprocess.run(['cc', '-O2', '-Wall', '-shared', '-fPIC', '-o', library, source], check=True)
+        line = self.line(lines, words, [*commands, '?'])
+        with open(self.commands, 'rb') as given:
+            environment = {**os.environ, 'LD_PRELOAD': library, 'COUNTED': counted}
+            subprocess.run(line, stdin=given, stdout=subprocess.DEVNULL, env=environment, check=True)
+        with open(counted, encoding='ascii') as counts:
+            return int(counts.read().split()[-1]) / 1e3
 
     def cost(self, attack, scale):
         lines, words, commands = attack(scale)
         if attack is long_file:
-            return self.resident(lines, words, commands) - self.resident(lines, words, [])
+            return self.most_memory(lines, words, commands)
         bare = [command for command in commands if not command.encode().startswith(NAMED)]
         return self.instructions(lines, words, commands) - self.instructions(lines, words, bare)
 
