@@ -23,7 +23,7 @@ use crate::asked::Asked;
 use crate::collators::collator_of;
 use crate::names::Names;
 pub use crate::reload::ReloadError;
-use crate::reload::keys_by;
+use crate::reload::{keys_by, renew};
 use collate_keys::IndexKey;
 use collate_lines::limits::Limits;
 pub use collate_name_list::errors::AddError;
@@ -178,10 +178,7 @@ impl Index {
             &collator,
             &mut made,
         )?;
-        if made > 0 {
-            let mut comparisons = 0;
-            self.names.rekey(keys, &mut comparisons)?;
-        }
+        renew(&mut self.names, keys, made)?;
         self.records = records;
         self.collator = collator;
         Ok(made)

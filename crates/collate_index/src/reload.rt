@@ -1,7 +1,7 @@
 //! What a reload of records asks of each name: whether its key is made anew, and the key.
 
 ghost use Rattle.std.specs.Bool.{OnFalse, OnTrue};
-ghost use Rattle.std.specs.Prelude.{◌≡◌, ◌+◌, ◌<◌, All, IfOk, IsTrue, MatchBool, None, OnOk, Some, if◌then◌else◌, length};
+ghost use Rattle.std.specs.Prelude.{◌≡◌, ◌+◌, ◌<◌, All, IfOk, IsTrue, MatchBool, None, OnErr, OnOk, Some, if◌then◌else◌, length};
 ghost use Rattle.icu_normalizer_core.specs.Decoding.{utf8_chars};
 ghost use Rattle.icu_collator.specs.CollatorAnswers.{key_by};
 ghost use Rattle.collate_laws.specs.OverRecords.{IsCollatorOf};
@@ -101,6 +101,25 @@ fn renewed(
     } else {
         Ok(None)
     }
+}
+
+/// Gives names their new keys, if any was made: else their order is left as it is. An error if memory is refused; the names
+/// then have their old keys.
+pub(crate) fn renew(
+    names: &mut NameList,
+    keys: Vec<Option<IndexKey>>,
+    made: usize,
+) -> Result<(), AllocError>
+    requires count { length keys.items ≡ length names.old }
+    requires kept { made ≡ 0 → rekeyed keys.items names.old ≡ names.old }
+    ensures rekeyed { OnOk result (names.new ≡ rekeyed keys.items names.old) }
+    ensures unchanged { OnErr result (names.new ≡ names.old) }
+{
+    if made == 0 {
+        return Ok(());
+    }
+    let mut comparisons = 0;
+    names.rekey(keys, &mut comparisons)
 }
 
 /// The new keys of names by other records and a collator of these, as the names arrived; none for a name whose key stays.

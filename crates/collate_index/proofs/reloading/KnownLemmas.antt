@@ -54,8 +54,8 @@ module _ (step : ℕ → List ℕ) (Q : ℕ → Type 0) where
 
   -- so does what a text reaches, if that does which each of its characters reaches
   pub text_passes : (text : List ℕ) → All Passes text → (d : ℕ) → Reaches step text d → Q d
-  text_passes text each d (stands t c h) = All-contains Passes t each c h c (stands (c ∷ []) c (Contains-first c []))
-  text_passes text each d (steps t c e h r) = All-contains Passes t each c h e (steps (c ∷ []) c e (Contains-first c []) r)
+  text_passes text each d (stands t c h) = All-contains Passes t c each h c (stands (c ∷ []) c (Contains-first c []))
+  text_passes text each d (steps t c e h r) = All-contains Passes t c each h e (steps (c ∷ []) c e (Contains-first c []) r)
 
   -- and what a character reaches that passes itself, if that does which its mapping reaches
   pub character_passes : (c : ℕ) → Q c → All Passes (step c) → Passes c
