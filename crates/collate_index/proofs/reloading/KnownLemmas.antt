@@ -1,7 +1,8 @@
 -- What is known of characters stays right as more is found out, and what a character reaches by what its mapping brings in.
 use Rattle.std.proofs.Common.{◌≡◌, ℕ, ◌<◌, ◌≤◌, Bool, true, false, List, [], ◌∷◌, ◌++◌, Option, None, Some, length, get_or, set, refl, sym, ap, ◌∙◌, subst, arith, ⊎_elim}
 use Rattle.std.specs.List.{All, Contains}
-use Rattle.std.specs.Prelude.{IfSome, MatchBool}
+use Rattle.std.specs.Option.{ok_or}
+use Rattle.std.specs.Prelude.{IfOk, IfSome, MatchBool, Result}
 use Rattle.std.proofs.lemmas.Bool.{cases_eq, cases_lt}
 use Rattle.std.proofs.lemmas.List.{get_or-set_other, get_or-set_same, get_or_past}
 use Rattle.std.proofs.lemmas.List.Elements.{All-contains, Contains-append_left, Contains-push, Contains-push_cases}
@@ -38,6 +39,11 @@ module _ (Tell : ℕ → Bool → Type 0) where
   pub known_tells : (known : List (Option Bool)) (c : ℕ) (found : Option Bool) → AreKnown known → found ≡ get_or known c None → IfSome found (Tell c)
   known_tells known c None kept is = tt
   known_tells known c (Some b) kept is = kept c b (sym is)
+
+-- what is found, or an error where nothing is
+pub told_ok : {E : Type 0} (Tell : Bool → Type 0) (found : Option Bool) (error : E) (answer : Result Bool E) → answer ≡ ok_or found error → IfSome found Tell → IfOk answer Tell
+told_ok {E} Tell None error answer is tells = subst (λ (r : Result Bool E). IfOk r Tell) (sym is) tt
+told_ok {E} Tell (Some b) error answer is tells = subst (λ (r : Result Bool E). IfOk r Tell) (sym is) tells
 
 -- ---- what is reached, by what a mapping brings in
 

@@ -40,8 +40,8 @@ kept_more (k ∷ keys) key (first ∷ all) later stored left same kept =
 -- no key was made
 pub none_made : (due : Bool) (key : Option (List ℕ)) (new : List ℕ) (stored : StoredName) (count now : ℕ) → key ≡ (if due then Some new else None)
     → now ≡ (if due then count + 1 else count) → now ≡ 0 → (count ≡ 0) × (with_key stored key ≡ stored)
-none_made true key new stored count now is counted zero = absurd (omega (arith, counted, zero))
-none_made false key new stored count now is counted zero = (sym counted ∙ zero, ap (with_key stored) is)
+none_made true key new stored count now is counted nothing = absurd (omega (arith, counted, nothing))
+none_made false key new stored count now is counted nothing = (sym counted ∙ nothing, ap (with_key stored) is)
 
 -- the key that is due, or the old one
 pub with_due : (due : Bool) (key : List ℕ) (stored : StoredName) → with_key stored (if due then Some key else None) ≡ record { key = if due then key else stored.key; name = stored.name }

@@ -44,7 +44,7 @@ loop-name-init c =
           (All-same (IsKeyed (meaning_in old)) c.into_iter-name-iterator.result all left c.requires.keyed);
       left = left ∙ sym (ap (λ (ks : List (Option (List ℕ))). drop (length ks) all) none);
       upto = omega (arith, ap length none);
-      kept = λ zero. let P : List (Option (List ℕ)) → Type 0 = λ ks. rekeyed ks (take (length ks) all) ≡ take (length ks) all in subst P (sym none) refl;
+      kept = λ nothing. let P : List (Option (List ℕ)) → Type 0 = λ ks. rekeyed ks (take (length ks) all) ≡ take (length ks) all in subst P (sym none) refl;
       changes = c.in_ok-changes.ensures;
     }
 
@@ -92,8 +92,8 @@ loop-name-preserved c =
           refl c.in_ok-key.ensures.made);
       left = sym (ap (λ (ks : List (Option (List ℕ))). drop (length ks) all) pushed ∙ more.1);
       upto = omega (arith, ap length pushed, ap length dropped, length-drop (length keys) all, c.loop-name.invariant.upto);
-      kept = λ zero.
-          let here = none_made due c.in_ok-key.key (key_by c.as_borrowed-lent.result text) stored c.loop-name.made c.renewed.new.made c.in_ok-key.ensures.key c.in_ok-key.ensures.made zero in
+      kept = λ nothing.
+          let here = none_made due c.in_ok-key.key (key_by c.as_borrowed-lent.result text) stored c.loop-name.made c.renewed.new.made c.in_ok-key.ensures.key c.in_ok-key.ensures.made nothing in
           let P : List (Option (List ℕ)) → Type 0 = λ ks. rekeyed ks (take (length ks) all) ≡ take (length ks) all in
           subst P (sym pushed) (kept_more keys c.in_ok-key.key all later stored dropped here.1 (c.loop-name.invariant.kept here.0));
       changes = c.is_due.ensures.same ∙ c.loop-name.invariant.changes;
