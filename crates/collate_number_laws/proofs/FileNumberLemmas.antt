@@ -23,11 +23,12 @@ use Rattle.collate_laws.specs.Alike.{key_of, order_of}
 use Rattle.collate_laws.specs.OverRecords.{IsCollatorOf}
 use Rattle.collate_laws.proofs.LawAnswerLemmas.{order_here}
 use Rattle.collate_laws.proofs.LawKeyLemmas.{keys_equal, keys_order}
-use Rattle.collate_number_laws.specs.NumbersApart.{HaveNumbersApart}
-use Rattle.collate_number_laws.proofs.NumberLawApartLemmas.{digit_scalar, digits_apart, numbers_together}
+use Rattle.collate_number_laws.specs.NumbersApart.{HaveNumbersApart, JoinNoDigits}
+use Rattle.collate_number_laws.proofs.NumberLawApartLemmas.{digit_scalar, digits_alone, digits_apart, numbers_together}
+use Rattle.collate_number_laws.proofs.DotAboveLemmas.{dots_light}
 
 module _ (records : List Record) (options : CollatorOptions) (preferences : CollatorPreferences) (collator : CollatorParts)
-    (accepted : AreAccepted records) (apart : HaveNumbersApart records) (is : IsCollatorOf records options preferences collator)
+    (accepted : AreAccepted records) (is : IsCollatorOf records options preferences collator)
     (numeric : is_numeric collator.options.numeric ≡ true) where
   run_scalars : (run : List ℕ) → list_all (is_digit (weights_of records)) run ≡ true → All IsScalar run
   run_scalars [] h = All-nil IsScalar
@@ -41,37 +42,37 @@ module _ (records : List Record) (options : CollatorOptions) (preferences : Coll
     text_scalars run number =
         All-append IsScalar x (run ++ y) before (All-append IsScalar run y (run_scalars run number.number.digits) behind)
 
-    pub lower : no_number_is_variable (collation_of records) collator.options ≡ true
+    pub lower : JoinNoDigits records → no_number_is_variable (collation_of records) collator.options ≡ true
         → run_value (weights_of records) r < run_value (weights_of records) s → order_of collator (x ++ (r ++ y)) (x ++ (s ++ y)) ≡ Less
-    lower none below =
+    lower alone none below =
         order_here records options preferences collator accepted is (x ++ (r ++ y)) (x ++ (s ++ y)) (text_scalars r first) (text_scalars s second)
-        ∙ lower_first (collation_of records) collator.options x r s y (accepted_decompose records accepted) (digits_apart records accepted apart)
-        (numbers_together records accepted) numeric none first second below
+        ∙ lower_first (collation_of records) collator.options x r s y (accepted_decompose records accepted) (digits_alone records accepted alone)
+        (dots_light records accepted) (numbers_together records accepted) numeric none first second below
 
-    pub higher : no_number_is_variable (collation_of records) collator.options ≡ true
+    pub higher : JoinNoDigits records → no_number_is_variable (collation_of records) collator.options ≡ true
         → run_value (weights_of records) s < run_value (weights_of records) r → order_of collator (x ++ (r ++ y)) (x ++ (s ++ y)) ≡ Greater
-    higher none below =
+    higher alone none below =
         order_here records options preferences collator accepted is (x ++ (r ++ y)) (x ++ (s ++ y)) (text_scalars r first) (text_scalars s second)
-        ∙ higher_behind (collation_of records) collator.options x r s y (accepted_decompose records accepted) (digits_apart records accepted apart)
-        (numbers_together records accepted) numeric none first second below
+        ∙ higher_behind (collation_of records) collator.options x r s y (accepted_decompose records accepted) (digits_alone records accepted alone)
+        (dots_light records accepted) (numbers_together records accepted) numeric none first second below
 
-    pub equal : is_at_least collator.options.strength Identical ≡ false
+    pub equal : HaveNumbersApart records → is_at_least collator.options.strength Identical ≡ false
         → run_value (weights_of records) r ≡ run_value (weights_of records) s → order_of collator (x ++ (r ++ y)) (x ++ (s ++ y)) ≡ Equal
-    equal below same =
+    equal apart below same =
         order_here records options preferences collator accepted is (x ++ (r ++ y)) (x ++ (s ++ y)) (text_scalars r first) (text_scalars s second)
         ∙ equal_runs (collation_of records) collator.options x r s y (accepted_decompose records accepted) (digits_apart records accepted apart)
         numeric below first second same
 
     module _ (plain : has_plain_leads (collation_of records) collator.options ≡ true) where
-      pub lower_key : no_number_is_variable (collation_of records) collator.options ≡ true
+      pub lower_key : JoinNoDigits records → no_number_is_variable (collation_of records) collator.options ≡ true
           → run_value (weights_of records) r < run_value (weights_of records) s
           → slice_cmp nat_cmp (key_of collator (x ++ (r ++ y))) (key_of collator (x ++ (s ++ y))) ≡ Less
-      lower_key none below =
+      lower_key alone none below =
           keys_order records options preferences collator accepted is plain (x ++ (r ++ y)) (x ++ (s ++ y)) (text_scalars r first) (text_scalars s second)
-          ∙ lower none below
+          ∙ lower alone none below
 
-      pub equal_key : is_at_least collator.options.strength Identical ≡ false
+      pub equal_key : HaveNumbersApart records → is_at_least collator.options.strength Identical ≡ false
           → run_value (weights_of records) r ≡ run_value (weights_of records) s → key_of collator (x ++ (r ++ y)) ≡ key_of collator (x ++ (s ++ y))
-      equal_key below same =
+      equal_key apart below same =
           (keys_equal records options preferences collator accepted is plain (x ++ (r ++ y)) (x ++ (s ++ y)) (text_scalars r first) (text_scalars s second)).1
-          (equal below same)
+          (equal apart below same)

@@ -1,2 +1,3 @@
 pub mod NumberLawApartLemmas
+pub mod DotAboveLemmas
 pub mod FileNumberLemmas

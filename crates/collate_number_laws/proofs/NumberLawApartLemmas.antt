@@ -14,7 +14,7 @@ use Rattle.icu_normalizer_core.proofs.decomposed_lists.DecomposedLemmas.{AreUnma
 use Rattle.icu_collator_types.specs.declared.elements.Element.{Element}
 use Rattle.icu_collator_core.specs.ContextRules.{is_prefix_character, is_recorded_in, may_be_digit}
 use Rattle.icu_collator_core.specs.Defaults.{special_primary}
-use Rattle.icu_collator.specs.NumbersInTexts.{AreDigitsApart, AreNumbersTogether, holds_digit, is_digit}
+use Rattle.icu_collator.specs.NumbersInTexts.{AreDigitsAlone, AreDigitsApart, AreNumbersTogether, holds_digit, is_digit}
 use Rattle.collate_lines.specs.declared.rule.Rule.TheVariants.{V7, V13}
 use Rattle.collate_lines.specs.Record.{Record, weights}
 use Rattle.collate_rules.specs.Accepted.{AreAccepted}
@@ -26,9 +26,9 @@ use Rattle.collate_compile.proofs.laws.CompiledLineLemmas.{IsLine, any_at, none_
 use Rattle.collate_compile.proofs.laws.RuleLemmas.{digit_may_be, recorded_characters, recorded_prefix}
 use Rattle.collate_records.proofs.reading.ReadingAcceptedLemmas.{accepted_decompose}
 use Rattle.collate_laws.proofs.LawSoundLemmas.{accepted_sound}
-use Rattle.collate_number_laws.specs.NumbersApart.{HaveNumbersApart, joins_digit}
+use Rattle.collate_number_laws.specs.NumbersApart.{HaveNumbersApart, JoinNoDigits, joins_digit}
 
-some_of : {A : Type 0} (o : Option A) → is_some o ≡ true → (x : A) × (o ≡ Some x)
+pub some_of : {A : Type 0} (o : Option A) → is_some o ≡ true → (x : A) × (o ≡ Some x)
 some_of (Some x) h = (x, refl)
 some_of None h = absurd (false≢true h)
 
@@ -109,9 +109,9 @@ module _ (records : List Record) (accepted : AreAccepted records) where
       at (Some es) is =
           absurd (true≢false (sym h ∙ no_digit canonical (digit_of records) (b ∷ bs) (recorded_prefix records accepted b bs text es is)))
 
-  unjoined : HaveNumbersApart records → (prefix text : List ℕ) → 1 < length text → holds_digit (weights_of records) text ≡ true
+  unjoined : JoinNoDigits records → (prefix text : List ℕ) → 1 < length text → holds_digit (weights_of records) text ≡ true
       → recorded_in records prefix text ≡ None
-  unjoined apart prefix text long h = at (recorded_in records prefix text) refl
+  unjoined none prefix text long h = at (recorded_in records prefix text) refl
     where
       at : (o : Option (List Element)) → recorded_in records prefix text ≡ o → o ≡ None
       at None is = refl
@@ -119,10 +119,10 @@ module _ (records : List Record) (accepted : AreAccepted records) where
           let l = recorded_line records prefix text es is in
           let joins : joins_digit records (weights l.layer prefix text es) ≡ true =
           and_from (ltb 1 (length text)) (holds_digit (weights_of records) text) (grind (arith, nat_tests)) h in
-          absurd (true≢false (sym (any_at (joins_digit records) records l.place l.inside (ap (joins_digit records) l.says ∙ joins)) ∙ apart.alone))
+          absurd (true≢false (sym (any_at (joins_digit records) records l.place l.inside (ap (joins_digit records) l.says ∙ joins)) ∙ none))
 
-  pub digits_apart : HaveNumbersApart records → AreDigitsApart (collation_of records)
-  digits_apart apart =
+  pub digits_alone : JoinNoDigits records → AreDigitsAlone (collation_of records)
+  digits_alone none =
       let sound = accepted_sound records accepted in
       record {
         lead = sound.settings.numeric_lead;
@@ -130,10 +130,12 @@ module _ (records : List Record) (accepted : AreAccepted records) where
         starters = starter;
         own = own;
         plain = plain;
-        alone = unjoined apart;
+        alone = unjoined none;
         prefixes = unprefixed;
-        accents = not_both _ _ apart.accents;
       }
+
+  pub digits_apart : HaveNumbersApart records → AreDigitsApart (collation_of records)
+  digits_apart apart = record { digits = digits_alone apart.alone; accents = not_both _ _ apart.accents }
 
   pub numbers_together : AreNumbersTogether (collation_of records)
   numbers_together p in_lead = (accepted_sound records accepted).settings.rest p

@@ -10,8 +10,12 @@ abbrev pub joins_digit : List Record → Record → Bool
 joins_digit records (weights layer prefix text es) = ltb 1 (length text) && holds_digit (weights_of records) text
 joins_digit records _ = false
 
--- Recorded texts of several characters hold no digit. And where a dot above is dropped before accents, a tilde (U+0303) is
--- no digit: otherwise a dot above would be dropped before a number that begins with it, and stay before one that doesn't.
+-- recorded texts of several characters hold no digit
+abbrev pub JoinNoDigits : List Record → Type 0
+JoinNoDigits records = list_any (joins_digit records) records ≡ false
+
+-- The same. And where a dot above is dropped before accents, a tilde (U+0303) is no digit: otherwise a dot above would be
+-- dropped before a number that begins with it, and stay before one of the same value that doesn't.
 pub record HaveNumbersApart (records : List Record) : Type 0 where
-  pub alone : list_any (joins_digit records) records ≡ false
+  pub alone : JoinNoDigits records
   pub accents : (set_to dot_above_in false records && is_digit (weights_of records) 0x303) ≡ false

@@ -1,6 +1,6 @@
 -- The digits of the written tables keep what the law of numbers asks, and some numbers in texts of these.
 use Rattle.std.proofs.Common.{◌≡◌, ℕ, ◌<◌, ◌≤◌, true, leb, List, [], ◌∷◌, refl, subst, arith, Option, Some, None}
-use Rattle.std.proofs.lemmas.Bool.{and_parts, leb-true}
+use Rattle.std.proofs.lemmas.Bool.{and_parts, false≢true, leb-true}
 use Rattle.std.proofs.lemmas.Bool.Decides.{nat_tests}
 use Rattle.std.proofs.lemmas.List.Elements.{recursion_from_All}
 use Rattle.std.proofs.lemmas.List.Sums.{AllPass-from_list_all}
@@ -8,7 +8,7 @@ use Rattle.std.specs.Prelude.{◌&&◌, IfSome}
 use Rattle.std.specs.Option.{is_some}
 use Rattle.icu_collator_core.specs.Defaults.{special_primary}
 use Rattle.examples_icu_collator.specs.Letters.{digits_collation, digits_table}
-use Rattle.icu_collator.specs.NumbersInTexts.{AreDigitsApart, IsNumberBetween, holds_digit, run_value}
+use Rattle.icu_collator.specs.NumbersInTexts.{AreDigitsAlone, AreDigitsApart, AreDotsLight, IsNumberBetween, holds_digit, run_value}
 use Rattle.examples_icu_collator.specs.Tables.{Digit, recorded_of}
 use Rattle.examples_icu_collator.proofs.Computing.{computing}
 use Rattle.examples_icu_collator.proofs.ExampleFoundLemmas.{by_character, longer_unrecorded}
@@ -42,8 +42,8 @@ unfolding recorded_of
 behind_unrecorded [] text h = cc
 behind_unrecorded (p ∷ ps) text h = refl
 
-pub letters_digits_apart : AreDigitsApart digits_collation
-letters_digits_apart =
+pub letters_digits_alone : AreDigitsAlone digits_collation
+letters_digits_alone =
     record {
       lead = refl;
       values = digit_values;
@@ -52,8 +52,14 @@ letters_digits_apart =
       plain = λ c h. low_plain c (digit_high c h);
       alone = λ before text l h. longer_unrecorded digits_table.records before text refl l;
       prefixes = behind_unrecorded;
-      accents = refl;
     }
+
+pub letters_digits_apart : AreDigitsApart digits_collation
+letters_digits_apart = record { digits = letters_digits_alone; accents = refl }
+
+-- no dot above is dropped
+pub letters_dots_light : AreDotsLight digits_collation.weights
+letters_dots_light h = absurd (false≢true h)
 
 -- after "a" and before nothing
 pub two_behind_a : IsNumberBetween digits_collation (0x61 ∷ []) (0x32 ∷ []) []

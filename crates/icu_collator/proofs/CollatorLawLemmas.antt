@@ -169,15 +169,15 @@ module _ (collator : CollatorBorrowed) (accepted : IsAccepted (meaning (borrowed
       → (x r s y : List ℕ) → DifferInNumber collator x r s y → value_by collator r < value_by collator s
       → order_by collator (x ++ (r ++ y)) (x ++ (s ++ y)) ≡ Less
   lower_number orders moves x r s y differ below =
-      lower_first (borrowed_collation collator) (borrowed_options collator) x r s y canonical.decomposing orders.reads.apart (numbers_together moves)
-      orders.reads.numeric orders.none_is_variable differ.first differ.second below
+      lower_first (borrowed_collation collator) (borrowed_options collator) x r s y canonical.decomposing orders.digits orders.dots (numbers_together moves)
+      orders.numeric orders.none_is_variable differ.first differ.second below
 
   pub higher_number : OrdersNumbers collator → ReordersWholeLeads (borrowed_source collator).tables
       → (x r s y : List ℕ) → DifferInNumber collator x r s y → value_by collator s < value_by collator r
       → order_by collator (x ++ (r ++ y)) (x ++ (s ++ y)) ≡ Greater
   higher_number orders moves x r s y differ below =
-      higher_behind (borrowed_collation collator) (borrowed_options collator) x r s y canonical.decomposing orders.reads.apart (numbers_together moves)
-      orders.reads.numeric orders.none_is_variable differ.first differ.second below
+      higher_behind (borrowed_collation collator) (borrowed_options collator) x r s y canonical.decomposing orders.digits orders.dots (numbers_together moves)
+      orders.numeric orders.none_is_variable differ.first differ.second below
 
   pub equal_numbers : ReadsNumbers collator → is_at_least (borrowed_options collator).strength Identical ≡ false
       → (x r s y : List ℕ) → DifferInNumber collator x r s y → value_by collator r ≡ value_by collator s
@@ -192,7 +192,7 @@ module _ (collator : CollatorBorrowed) (accepted : IsAccepted (meaning (borrowed
       → slice_cmp nat_cmp (key_by collator (x ++ (r ++ y))) (key_by collator (x ++ (s ++ y))) ≡ Less
   lower_number_key orders keys x r s y differ first second below =
       lower_key_first (borrowed_collation collator) (borrowed_options collator) x r s y canonical.decomposing (sound keys) keys.plain
-      orders.reads.apart orders.reads.numeric orders.none_is_variable differ.first differ.second first second below
+      orders.digits orders.dots orders.numeric orders.none_is_variable differ.first differ.second first second below
 
   pub equal_number_keys : ReadsNumbers collator → HasKeysInOrder collator → is_at_least (borrowed_options collator).strength Identical ≡ false
       → (x r s y : List ℕ) → DifferInNumber collator x r s y → All IsScalar (x ++ (r ++ y)) → All IsScalar (x ++ (s ++ y))

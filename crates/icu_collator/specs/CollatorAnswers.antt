@@ -7,7 +7,7 @@ use Rattle.icu_collator_types.specs.Options.{is_at_least, is_numeric}
 use Rattle.icu_collator_types.specs.declared.options.CaseLevel.TheVariants.{Off}
 use Rattle.icu_collator.specs.Collators.{borrowed_collation, borrowed_options, borrowed_source}
 use Rattle.icu_collator.specs.KeyBytes.{key_of_text}
-use Rattle.icu_collator.specs.NumbersInTexts.{AreDigitsApart, IsNumberBetween, no_number_is_variable, run_value}
+use Rattle.icu_collator.specs.NumbersInTexts.{AreDigitsAlone, AreDigitsApart, AreDotsLight, IsNumberBetween, no_number_is_variable, run_value}
 use Rattle.icu_collator.specs.Order.{collation_order}
 use Rattle.icu_collator.specs.Settings.{has_plain_leads}
 use Rattle.icu_collator.specs.Strengths.{at_strength}
@@ -36,9 +36,12 @@ pub record ReadsNumbers (collator : CollatorBorrowed) : Type 0 where
   pub numeric : is_numeric (borrowed_options collator).numeric ≡ true
   pub apart : AreDigitsApart (borrowed_collation collator)
 
--- the same where no number is variable
+-- a collator that orders texts by numbers: none is variable, and a dot above may be dropped before one if it has no primary
+-- weight
 pub record OrdersNumbers (collator : CollatorBorrowed) : Type 0 where
-  pub reads : ReadsNumbers collator
+  pub numeric : is_numeric (borrowed_options collator).numeric ≡ true
+  pub digits : AreDigitsAlone (borrowed_collation collator)
+  pub dots : AreDotsLight (borrowed_collation collator).weights
   pub none_is_variable : no_number_is_variable (borrowed_collation collator) (borrowed_options collator) ≡ true
 
 -- texts that differ in a run of digits alone, between the same texts

@@ -1,8 +1,9 @@
 -- Runs of digits in a text: when they are read as numbers, and what their values are.
-use Rattle.std.specs.Prelude.{◌≡◌, ℕ, ◌*◌, ◌/◌, ◌^◌, ◌<◌, ◌≤◌, Bool, true, false, not, ◌||◌, leb, get_or, List, [], ◌∷◌, length, filter_map, Some, None}
+use Rattle.std.specs.Prelude.{◌≡◌, ℕ, ◌*◌, ◌/◌, ◌^◌, ◌<◌, ◌≤◌, Bool, true, false, not, ◌==◌, ◌&&◌, ◌||◌, leb, get_or, List, [], ◌∷◌, length, filter_map, Some, None}
 use Rattle.std.specs.List.{list_all, list_any}
 use Rattle.std.specs.Option.{is_some}
 use Rattle.icu_normalizer_core.specs.Canonical.{decomposed}
+use Rattle.icu_collator_types.specs.declared.elements.Element.{Element}
 use Rattle.icu_collator_types.specs.declared.options.ResolvedCollatorOptions.{ResolvedCollatorOptions}
 use Rattle.icu_collator_types.specs.Options.{is_shifted, group_index}
 use Rattle.icu_collator_core.specs.Collation.{Collation, with_lead, reordered_lead}
@@ -59,8 +60,8 @@ AreNumbersTogether collation =
     (p : ℕ) → p / 2 ^ 24 ≡ collation.weights.numeric_lead → collation.reordered p ≡ with_lead (reordered_lead collation) p
 
 -- What collation data must keep for a digit to be read as part of a number wherever it stands, and to change nothing
--- that is read before or after the number.
-pub record AreDigitsApart (collation : Collation) : Type 0 where
+-- that is read before or after the number, but for a dot above directly before it.
+pub record AreDigitsAlone (collation : Collation) : Type 0 where
   pub lead : is_letter_lead collation.weights.numeric_lead ≡ true
   pub values : (c d : ℕ) → collation.weights.digit c ≡ Some d → leb d 9 ≡ true
   -- a digit is a starter, unmapped, and not special
@@ -72,5 +73,23 @@ pub record AreDigitsApart (collation : Collation) : Type 0 where
       → collation.weights.recorded prefix text ≡ None
   pub prefixes : (prefix text : List ℕ) → holds_digit collation.weights prefix ≡ true
       → collation.weights.recorded prefix text ≡ None
-  -- a dot above directly before a number is not dropped: a grave and an acute are marks, a tilde may be a digit
+
+-- the same where no dot above directly before a number is dropped: a grave and an acute are marks, a tilde may be a digit
+pub record AreDigitsApart (collation : Collation) : Type 0 where
+  pub digits : AreDigitsAlone collation
   pub accents : (not collation.weights.dot_above || not (is_digit collation.weights 0x303)) ≡ true
+
+-- elements without a primary weight
+abbrev pub are_light : List Element → Bool
+are_light es = list_all (λ e. e.primary == 0) es
+
+-- a dot above is recorded alone and behind no prefix, and without a primary weight
+pub record IsDotLight (weights : Weights) : Type 0 where
+  pub elements : List Element
+  pub is : weights.recorded [] (0x307 ∷ []) ≡ Some elements
+  pub light : are_light elements ≡ true
+  pub unprefixed : (c : ℕ) (cs : List ℕ) → weights.recorded (c ∷ cs) (0x307 ∷ []) ≡ None
+
+-- a dot above that may be dropped before a digit has no primary weight
+abbrev pub AreDotsLight : Weights → Type 0
+AreDotsLight weights = (weights.dot_above && is_digit weights 0x303) ≡ true → IsDotLight weights

@@ -7,10 +7,10 @@ use Rattle.std.proofs.lemmas.List.Concat.{flat_map-append}
 use Rattle.icu_normalizer_core.specs.Canonical.{decomposed, marks_in_order}
 use Rattle.icu_normalizer_core.proofs.decomposed_lists.DecomposedLemmas.{order_before, put_starter}
 use Rattle.icu_collator_core.specs.Collation.{Collation}
-use Rattle.icu_collator.specs.NumbersInTexts.{AreDigitsApart, is_digit}
+use Rattle.icu_collator.specs.NumbersInTexts.{AreDigitsAlone, is_digit}
 
 -- a run of digits before a text
-order_run : (collation : Collation) (run ms : List ℕ) → AreDigitsApart collation → list_all (is_digit collation.weights) run ≡ true
+order_run : (collation : Collation) (run ms : List ℕ) → AreDigitsAlone collation → list_all (is_digit collation.weights) run ≡ true
     → marks_in_order collation.canonical.class (run ++ ms) ≡ run ++ marks_in_order collation.canonical.class ms
 unfolding marks_in_order
 order_run collation [] ms p h = refl
@@ -19,14 +19,14 @@ order_run collation (d ∷ run) ms p h =
     in put_starter collation.canonical.class d (marks_in_order collation.canonical.class (run ++ ms)) (p.starters d both.0)
     ∙ ap (λ (w : List ℕ). d ∷ w) (order_run collation run ms p both.1)
 
-full_run : (collation : Collation) (run ys : List ℕ) → AreDigitsApart collation → list_all (is_digit collation.weights) run ≡ true
+full_run : (collation : Collation) (run ys : List ℕ) → AreDigitsAlone collation → list_all (is_digit collation.weights) run ≡ true
     → flat_map collation.canonical.full (run ++ ys) ≡ run ++ flat_map collation.canonical.full ys
 full_run collation [] ys p h = refl
 full_run collation (d ∷ run) ys p h =
     let both = and_parts (is_digit collation.weights d) (list_all (is_digit collation.weights) run) h
     in cc (p.own d both.0, full_run collation run ys p both.1)
 
-pub decomposed_run : (collation : Collation) (x y : List ℕ) (d : ℕ) (run : List ℕ) → AreDigitsApart collation
+pub decomposed_run : (collation : Collation) (x y : List ℕ) (d : ℕ) (run : List ℕ) → AreDigitsAlone collation
     → list_all (is_digit collation.weights) (d ∷ run) ≡ true
     → decomposed collation.canonical (x ++ ((d ∷ run) ++ y))
     ≡ decomposed collation.canonical x ++ ((d ∷ run) ++ decomposed collation.canonical y)

@@ -10,7 +10,7 @@ use Rattle.icu_collator_types.specs.declared.options.Strength.TheVariants.{Ident
 use Rattle.icu_collator_types.specs.Options.{is_at_least, is_numeric}
 use Rattle.icu_collator_core.specs.Collation.{Collation}
 use Rattle.icu_collator.specs.KeyBytes.{key_of_text}
-use Rattle.icu_collator.specs.NumbersInTexts.{AreDigitsApart, IsNumberBetween, no_number_is_variable, run_value}
+use Rattle.icu_collator.specs.NumbersInTexts.{AreDigitsAlone, AreDigitsApart, AreDotsLight, IsNumberBetween, no_number_is_variable, run_value}
 use Rattle.icu_collator.specs.Settings.{has_plain_leads}
 use Rattle.icu_collator.specs.SoundCollation.{IsSoundCollation}
 use Rattle.icu_collator.proofs.numbers.NumbersInTextsLemmas.{equal_runs, lower_first}
@@ -18,13 +18,13 @@ use Rattle.icu_collator.proofs.keys.TextKeyLemmas.{equal_text_keys, text_keys_or
 
 pub lower_key_first : (collation : Collation) (options : ResolvedCollatorOptions) (x r s y : List ℕ)
     → IsDecomposing collation.canonical → IsSoundCollation collation → has_plain_leads collation options ≡ true
-    → AreDigitsApart collation → is_numeric options.numeric ≡ true → no_number_is_variable collation options ≡ true
+    → AreDigitsAlone collation → AreDotsLight collation.weights → is_numeric options.numeric ≡ true → no_number_is_variable collation options ≡ true
     → IsNumberBetween collation x r y → IsNumberBetween collation x s y → All IsScalar (x ++ (r ++ y)) → All IsScalar (x ++ (s ++ y))
     → run_value collation.weights r < run_value collation.weights s
     → slice_cmp nat_cmp (key_of_text collation options (x ++ (r ++ y))) (key_of_text collation options (x ++ (s ++ y))) ≡ Less
-lower_key_first collation options x r s y d sound plain apart numeric count hr hs first second below =
+lower_key_first collation options x r s y d sound plain apart dots numeric count hr hs first second below =
     text_keys_order collation options (x ++ (r ++ y)) (x ++ (s ++ y)) d sound plain first second
-    ∙ lower_first collation options x r s y d apart (λ p _. sound.settings.rest p) numeric count hr hs below
+    ∙ lower_first collation options x r s y d apart dots (λ p _. sound.settings.rest p) numeric count hr hs below
 
 pub equal_value_keys : (collation : Collation) (options : ResolvedCollatorOptions) (x r s y : List ℕ)
     → IsDecomposing collation.canonical → IsSoundCollation collation → has_plain_leads collation options ≡ true

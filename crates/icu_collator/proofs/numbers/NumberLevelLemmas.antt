@@ -1,6 +1,7 @@
 -- Two lists of elements that differ in a number alone: their levels compare as the values of the numbers do.
-use Rattle.std.proofs.Common.{◌≡◌, ℕ, ◌+◌, ◌*◌, ◌/◌, ◌%◌, ◌^◌, ◌<◌, ◌≤◌, ◌==◌, Bool, true, false, cond, not, ◌&&◌, ◌||◌, leb, ltb, get_or, List, [], ◌∷◌, ◌++◌, map, refl, sym, ap, subst, ◌∙◌, arith, filter_map}
+use Rattle.std.proofs.Common.{◌≡◌, ℕ, ◌+◌, ◌*◌, ◌/◌, ◌%◌, ◌^◌, ◌<◌, ◌≤◌, ◌==◌, Bool, true, false, cond, not, ◌&&◌, ◌||◌, leb, ltb, get_or, List, [], ◌∷◌, ◌++◌, map, refl, sym, ap, subst, ◌∙◌, arith, append-nil, filter_map}
 use Rattle.std.specs.Prelude.{◌≢◌}
+use Rattle.std.proofs.lemmas.Bool.{and_parts}
 use Rattle.std.proofs.lemmas.Bool.Decides.{nat_tests}
 use Rattle.std.proofs.lemmas.Cmp.{tied_itself}
 use Rattle.std.proofs.lemmas.List.Elements.{filter_map-append}
@@ -22,7 +23,7 @@ use Rattle.icu_collator_core.proofs.numbers.NumberOrderLemmas.{whole_elements, c
 use Rattle.icu_collator.specs.Shifted.{Counted, is_variable, counted_behind, counted}
 use Rattle.icu_collator.specs.Levels.{Levels, primary_at, levels_of}
 use Rattle.icu_collator.specs.Order.{levels_order, list_order}
-use Rattle.icu_collator.specs.NumbersInTexts.{AreNumbersTogether, no_number_is_variable}
+use Rattle.icu_collator.specs.NumbersInTexts.{AreNumbersTogether, are_light, no_number_is_variable}
 use Rattle.icu_collator.proofs.orders.TotalOrderLemmas.{levels_total}
 
 -- elements of one lead byte
@@ -154,6 +155,33 @@ primaries_split collation options xs es ys list h l n =
     ∙ filter_map-append (primary_at collation) (counted collation options xs) (counted_behind collation options b (es ++ ys))
     ∙ ap (λ (w : List ℕ). filter_map (primary_at collation) (counted collation options xs) ++ w) (number_counted collation options lead b es ys h low n)
 
+-- elements without a primary change no primaries
+light_fixed : (s : Bool) (p group : ℕ) → (p == 0) ≡ true → (s && ltb 0x02000000 p && ltb p (group * 2 ^ 16)) ≡ false
+light_fixed false p group h = refl
+light_fixed true p group h = grind (arith, nat_tests)
+
+light_counted : (collation : Collation) (options : ResolvedCollatorOptions) (b : Bool) (es : List Element) → are_light es ≡ true
+    → filter_map (primary_at collation) (counted_behind collation options b es) ≡ []
+unfolding counted_behind
+light_counted collation options b [] h = refl
+light_counted collation options true (e ∷ es) h =
+    let both = and_parts (e.primary == 0) (are_light es) h
+    in let fixed : is_variable collation options e ≡ false = light_fixed (is_shifted options.alternate_handling) e.primary (get_or collation.groups (group_index options.max_variable) 0) both.0
+    in rw (fixed, both.0) (light_counted collation options true es both.1)
+light_counted collation options false (e ∷ es) h =
+    let both = and_parts (e.primary == 0) (are_light es) h
+    in let fixed : is_variable collation options e ≡ false = light_fixed (is_shifted options.alternate_handling) e.primary (get_or collation.groups (group_index options.max_variable) 0) both.0
+    in rw (fixed, both.0) (light_counted collation options false es both.1)
+
+pub light_behind : (collation : Collation) (options : ResolvedCollatorOptions) (xs es : List Element) → are_light es ≡ true
+    → filter_map (primary_at collation) (counted collation options (xs ++ es)) ≡ filter_map (primary_at collation) (counted collation options xs)
+light_behind collation options xs es h =
+    ap (filter_map (primary_at collation)) (counted_append collation options false xs es)
+    ∙ filter_map-append (primary_at collation) (counted collation options xs) (counted_behind collation options (behind_after collation options false xs) es)
+    ∙ ap (λ (w : List ℕ). filter_map (primary_at collation) (counted collation options xs) ++ w)
+    (light_counted collation options (behind_after collation options false xs) es h)
+    ∙ append-nil (filter_map (primary_at collation) (counted collation options xs))
+
 unequal_values : (m n : ℕ) → m ≢ n → nat_cmp m n ≢ Equal
 unequal_values m n h = λ e. h (grind (arith, nat_tests))
 
@@ -162,22 +190,24 @@ decided Less p n = refl
 decided Equal p n = absurd (n refl)
 decided Greater p n = refl
 
--- where two lists of elements differ in a number, the values of the numbers decide, whatever stands after
-pub different_numbers : (collation : Collation) (options : ResolvedCollatorOptions) (xs ys zs : List Element) (ds es list other : List ℕ)
+-- where two lists of elements have the same primaries before different numbers, the values of the numbers decide, whatever
+-- stands after
+pub different_numbers : (collation : Collation) (options : ResolvedCollatorOptions) (xs us ys zs : List Element) (ds es list other : List ℕ)
     → is_letter_lead collation.weights.numeric_lead ≡ true → no_number_is_variable collation options ≡ true → AreNumbersTogether collation
+    → filter_map (primary_at collation) (counted collation options xs) ≡ filter_map (primary_at collation) (counted collation options us)
     → IsWholeNumber ds → IsWholeNumber es → value_of ds ≢ value_of es
     → levels_order options
     (levels_of collation options (xs ++ (number_elements collation.weights.numeric_lead ds ++ ys)) list)
-    (levels_of collation options (xs ++ (number_elements collation.weights.numeric_lead es ++ zs)) other)
+    (levels_of collation options (us ++ (number_elements collation.weights.numeric_lead es ++ zs)) other)
     ≡ nat_cmp (value_of ds) (value_of es)
-different_numbers collation options xs ys zs ds es list other l n t h g ne =
+different_numbers collation options xs us ys zs ds es list other l n t same h g ne =
     let lead = collation.weights.numeric_lead
     in let moved = reordered_lead collation lead
     in let unequal = unequal_values (value_of ds) (value_of es) ne
-    in let front = filter_map (primary_at collation) (counted collation options xs)
+    in let front = filter_map (primary_at collation) (counted collation options us)
     in let first = primaries_split collation options xs (number_elements lead ds) ys list (number_of_lead lead ds h) l n
-    in let second = primaries_split collation options xs (number_elements lead es) zs other (number_of_lead lead es g) l n
-    in first_decides options _ _ _ (rw (first, second, moved_number collation lead ds t h, moved_number collation lead es t g)
+    in let second = primaries_split collation options us (number_elements lead es) zs other (number_of_lead lead es g) l n
+    in first_decides options _ _ _ (rw (first, second, same, moved_number collation lead ds t h, moved_number collation lead es t g)
     (same_front front _ _ ∙ numbers_order moved ds es _ _ h g ∙ decided (nat_cmp (value_of ds) (value_of es)) _ unequal)) unequal
 
 -- the characters count at Identical alone

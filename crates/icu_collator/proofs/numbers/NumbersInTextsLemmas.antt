@@ -1,5 +1,5 @@
 -- Texts that differ in a number alone compare as the values of the numbers do.
-use Rattle.std.proofs.Common.{◌≡◌, ℕ, suc, ◌+◌, ◌<◌, true, false, leb, List, [], ◌∷◌, ◌++◌, length, take, drop, refl, sym, ap, ◌∙◌, inl, arith, Option, Some, None, filter_map, length-append}
+use Rattle.std.proofs.Common.{◌≡◌, ℕ, suc, ◌+◌, ◌<◌, true, false, not, ◌||◌, leb, List, [], ◌∷◌, ◌++◌, length, take, drop, refl, sym, ap, ◌∙◌, inl, arith, Option, Some, None, filter_map, append-nil, length-append}
 use Rattle.std.specs.Prelude.{◌≢◌}
 use Rattle.std.specs.List.{list_all, prefix_len, cons_option, AllByRecursion}
 use Rattle.std.specs.Option.{is_some}
@@ -21,15 +21,16 @@ use Rattle.icu_collator_core.specs.Numbers.{number_elements}
 use Rattle.icu_collator_core.specs.WholeNumbers.{IsWholeNumber}
 use Rattle.icu_collator_core.specs.Elements.{Placed, Reading, placed_behind, characters_of, digit_count, number_reading, reading, elements_within, elements_of_list}
 use Rattle.icu_collator_core.proofs.numbers.NumberOrderLemmas.{equal_numbers}
-use Rattle.icu_collator.specs.Levels.{levels_of, elements_of_text, levels_of_text}
+use Rattle.icu_collator.specs.Levels.{levels_of, elements_of_text, levels_of_text, primary_at}
+use Rattle.icu_collator.specs.Shifted.{counted}
 use Rattle.icu_collator.specs.Order.{levels_order, collation_order}
 use Rattle.icu_collator_core.proofs.lookups.PlacedLemmas.{characters_placed, length_placed, placed_append}
-use Rattle.icu_collator.specs.NumbersInTexts.{AreNumbersTogether, AreDigitsApart, IsRunOfDigits, IsNumberBetween, is_digit, begins_with_digit, ends_with_digit, digits_of, run_value, no_number_is_variable}
+use Rattle.icu_collator.specs.NumbersInTexts.{AreNumbersTogether, AreDigitsAlone, AreDigitsApart, AreDotsLight, IsRunOfDigits, IsNumberBetween, is_digit, begins_with_digit, ends_with_digit, digits_of, run_value, no_number_is_variable}
 use Rattle.icu_collator.proofs.numbers.DecomposedDigitsLemmas.{decomposed_run}
-use Rattle.icu_collator.proofs.numbers.NumberLevelLemmas.{different_numbers, same_elements}
+use Rattle.icu_collator.proofs.numbers.NumberLevelLemmas.{different_numbers, light_behind, same_elements}
 use Rattle.icu_collator.proofs.readings.BeforeDigitLemmas.{EndsPlain}
 use Rattle.icu_collator_core.proofs.readings.CountLemmas.{any_count}
-use Rattle.icu_collator.proofs.readings.SplitAtDigitLemmas.{split_at_digit}
+use Rattle.icu_collator.proofs.readings.SplitAtDigitLemmas.{SplitsAtDigit, split_at_digit, splits_along}
 use Rattle.icu_collator.proofs.readings.AfterNumberLemmas.{AgreeToDigit, placed_alike}
 use Rattle.icu_collator_core.proofs.readings.AlikeLemmas.{reading_is, count_of, taken_of, elements_alike}
 
@@ -76,7 +77,7 @@ digit_reading : (canonical : Canonical) (weights : Weights) (p : Placed) (ps : L
     → reading canonical weights true p ps ≡ number_reading weights (p ∷ ps)
 digit_reading canonical weights p ps e h = reading_is canonical weights true p ps ∙ rw (e, h) refl
 
-number_within : (collation : Collation) (n : ℕ) (before run ys : List ℕ) (d : ℕ) → AreDigitsApart collation
+number_within : (collation : Collation) (n : ℕ) (before run ys : List ℕ) (d : ℕ) → AreDigitsAlone collation
     → list_all (is_digit collation.weights) (d ∷ run) ≡ true → begins_with_digit collation.weights ys ≡ false
     → elements_within (suc n) collation.canonical collation.weights true (placed_behind before ((d ∷ run) ++ ys))
     ≡ number_elements collation.weights.numeric_lead (digits_of collation.weights (d ∷ run))
@@ -95,11 +96,12 @@ unfoldable behind_number : Collation → List ℕ → List ℕ → List ℕ → 
 behind_number collation xs run ys =
     elements_within (length ys) collation.canonical collation.weights true (placed_behind (after (after [] xs) run) ys)
 
-list_split : (collation : Collation) (xs run ys : List ℕ) (d : ℕ) → AreDigitsApart collation → IsDecomposing collation.canonical
+list_split : (collation : Collation) (xs run ys : List ℕ) (d : ℕ) → AreDigitsAlone collation → IsDecomposing collation.canonical
     → list_all (is_digit collation.weights) (d ∷ run) ≡ true → ends_with_digit collation.weights xs ≡ false → begins_with_digit collation.weights ys ≡ false
-    → elements_of_list collation.canonical collation.weights true (xs ++ ((d ∷ run) ++ ys))
-    ≡ elements_of_list collation.canonical collation.weights true xs
-    ++ (number_elements collation.weights.numeric_lead (digits_of collation.weights (d ∷ run)) ++ behind_number collation xs (d ∷ run) ys)
+    → SplitsAtDigit collation.weights
+    (elements_of_list collation.canonical collation.weights true (xs ++ ((d ∷ run) ++ ys)))
+    (elements_of_list collation.canonical collation.weights true xs)
+    (number_elements collation.weights.numeric_lead (digits_of collation.weights (d ∷ run)) ++ behind_number collation xs (d ∷ run) ys)
 unfolding placed_behind behind_number
 list_split collation xs run ys d a c h e g =
     let canonical = collation.canonical
@@ -126,9 +128,8 @@ list_split collation xs run ys d a c h e g =
     in let third : elements_within m canonical weights true rest ≡ elements_within (length ys) canonical weights true rest =
     any_count canonical weights true m (length ys) rest (omega arith) (omega arith)
     in let number = number_within collation m before run ys d a h g
-    in ap (elements_within (length whole) canonical weights true) split
-    ∙ split_at_digit collation true (length whole) front q qs a c both.0 plain (omega arith)
-    ∙ cc (first, second, third, number)
+    in splits_along weights _ _ _ _ _ _ (sym (ap (elements_within (length whole) canonical weights true) split)) first (cc (second, third, number))
+    (split_at_digit collation true (length whole) front q qs a c both.0 plain (omega arith))
 
 -- after two runs of digits the same elements stand
 begins_agree : (weights : Weights) (xs ys : List ℕ) → begins_with_digit weights xs ≡ true → begins_with_digit weights ys ≡ true → AgreeToDigit weights xs ys
@@ -142,7 +143,7 @@ after_begins weights before [] d h = (and_parts (is_digit weights d) true h).0
 after_begins weights before (c ∷ run) d h =
     after_begins weights (take 3 (d ∷ before)) run c (and_parts (is_digit weights d) (list_all (is_digit weights) (c ∷ run)) h).1
 
-behind_same : (collation : Collation) (xs run other ys : List ℕ) (d c : ℕ) → AreDigitsApart collation
+behind_same : (collation : Collation) (xs run other ys : List ℕ) (d c : ℕ) → AreDigitsAlone collation
     → list_all (is_digit collation.weights) (d ∷ run) ≡ true → list_all (is_digit collation.weights) (c ∷ other) ≡ true
     → behind_number collation xs (d ∷ run) ys ≡ behind_number collation xs (c ∷ other) ys
 unfolding behind_number
@@ -158,7 +159,7 @@ option_below : (o : Option ℕ) (ds : List ℕ) → ((d : ℕ) → o ≡ Some d 
 option_below None ds h g = g
 option_below (Some d) ds h g = let low = leb-true d 9 (h d refl) in (omega arith, g)
 
-digits_below : (collation : Collation) (run : List ℕ) → AreDigitsApart collation → AllByRecursion (λ d. d < 10) (digits_of collation.weights run)
+digits_below : (collation : Collation) (run : List ℕ) → AreDigitsAlone collation → AllByRecursion (λ d. d < 10) (digits_of collation.weights run)
 digits_below collation [] a = tt
 digits_below collation (c ∷ run) a = option_below (collation.weights.digit c) (digits_of collation.weights run) (a.values c) (digits_below collation run a)
 
@@ -166,7 +167,7 @@ option_filled : (o : Option ℕ) (ds : List ℕ) → is_some o ≡ true → 0 < 
 option_filled None ds h = cc
 option_filled (Some d) ds h = omega arith
 
-whole_number : (collation : Collation) (run : List ℕ) → AreDigitsApart collation → IsRunOfDigits collation.weights run → IsWholeNumber (digits_of collation.weights run)
+whole_number : (collation : Collation) (run : List ℕ) → AreDigitsAlone collation → IsRunOfDigits collation.weights run → IsWholeNumber (digits_of collation.weights run)
 whole_number collation [] a h = let filled = h.filled in absurd (omega arith)
 whole_number collation (d ∷ run) a h =
     record {
@@ -178,51 +179,68 @@ whole_number collation (d ∷ run) a h =
     }
 
 -- the elements of a text with a run of digits in it
-text_split : (collation : Collation) (options : ResolvedCollatorOptions) (x run y : List ℕ) (d : ℕ) → AreDigitsApart collation → IsDecomposing collation.canonical
+text_split : (collation : Collation) (options : ResolvedCollatorOptions) (x run y : List ℕ) (d : ℕ) → AreDigitsAlone collation → IsDecomposing collation.canonical
     → is_numeric options.numeric ≡ true → list_all (is_digit collation.weights) (d ∷ run) ≡ true
     → ends_with_digit collation.weights (decomposed collation.canonical x) ≡ false → begins_with_digit collation.weights (decomposed collation.canonical y) ≡ false
-    → elements_of_text collation options (x ++ ((d ∷ run) ++ y))
-    ≡ elements_of_list collation.canonical collation.weights true (decomposed collation.canonical x)
-    ++ (number_elements collation.weights.numeric_lead (digits_of collation.weights (d ∷ run))
+    → SplitsAtDigit collation.weights
+    (elements_of_text collation options (x ++ ((d ∷ run) ++ y)))
+    (elements_of_list collation.canonical collation.weights true (decomposed collation.canonical x))
+    (number_elements collation.weights.numeric_lead (digits_of collation.weights (d ∷ run))
     ++ behind_number collation (decomposed collation.canonical x) (d ∷ run) (decomposed collation.canonical y))
 text_split collation options x run y d a c n h e g =
     let canonical = collation.canonical
-    in rw (n, decomposed_run collation x y d run a h) (list_split collation (decomposed canonical x) run (decomposed canonical y) d a c h e g)
+    in let whole : elements_of_list canonical collation.weights true (decomposed canonical x ++ ((d ∷ run) ++ decomposed canonical y)) ≡ elements_of_text collation options (x ++ ((d ∷ run) ++ y)) =
+    rw (n, decomposed_run collation x y d run a h) refl
+    in splits_along collation.weights _ _ _ _ _ _ whole refl refl (list_split collation (decomposed canonical x) run (decomposed canonical y) d a c h e g)
 
 -- numbers of different values decide
 different_runs : (collation : Collation) (options : ResolvedCollatorOptions) (x r s y : List ℕ)
-    → IsDecomposing collation.canonical → AreDigitsApart collation → AreNumbersTogether collation
+    → IsDecomposing collation.canonical → AreDigitsAlone collation → AreDotsLight collation.weights → AreNumbersTogether collation
     → is_numeric options.numeric ≡ true → no_number_is_variable collation options ≡ true
     → IsNumberBetween collation x r y → IsNumberBetween collation x s y
     → run_value collation.weights r ≢ run_value collation.weights s
     → collation_order collation options (x ++ (r ++ y)) (x ++ (s ++ y)) ≡ nat_cmp (run_value collation.weights r) (run_value collation.weights s)
-different_runs collation options x [] s y c a t n v hr hs ne = let filled = hr.number.filled in absurd (omega arith)
-different_runs collation options x (d ∷ r) [] y c a t n v hr hs ne = let filled = hs.number.filled in absurd (omega arith)
-different_runs collation options x (d ∷ r) (b ∷ s) y c a t n v hr hs ne =
-    rw (text_split collation options x r y d a c n hr.number.digits hr.before hr.behind, text_split collation options x s y b a c n hs.number.digits hs.before hs.behind)
-    (different_numbers collation options _ _ _ (digits_of collation.weights (d ∷ r)) (digits_of collation.weights (b ∷ s)) _ _ a.lead v t
+different_runs collation options x [] s y c a dots t n v hr hs ne = let filled = hr.number.filled in absurd (omega arith)
+different_runs collation options x (d ∷ r) [] y c a dots t n v hr hs ne = let filled = hs.number.filled in absurd (omega arith)
+different_runs collation options x (d ∷ r) (b ∷ s) y c a dots t n v hr hs ne =
+    let first = text_split collation options x r y d a c n hr.number.digits hr.before hr.behind
+    in let second = text_split collation options x s y b a c n hs.number.digits hs.before hs.behind
+    in let primaries : List Element → List ℕ = λ es. filter_map (primary_at collation) (counted collation options es)
+    in let same : primaries first.kept ≡ primaries second.kept =
+    sym (light_behind collation options first.kept first.dots (first.light dots))
+    ∙ ap primaries (sym first.front_is ∙ second.front_is)
+    ∙ light_behind collation options second.kept second.dots (second.light dots)
+    in rw (first.whole_is, second.whole_is)
+    (different_numbers collation options first.kept second.kept _ _ (digits_of collation.weights (d ∷ r)) (digits_of collation.weights (b ∷ s)) _ _ a.lead v t same
     (whole_number collation (d ∷ r) a hr.number) (whole_number collation (b ∷ s) a hs.number) ne)
 
 -- a number of a lower value comes first, and one of a higher value comes after
 pub lower_first : (collation : Collation) (options : ResolvedCollatorOptions) (x r s y : List ℕ)
-    → IsDecomposing collation.canonical → AreDigitsApart collation → AreNumbersTogether collation
+    → IsDecomposing collation.canonical → AreDigitsAlone collation → AreDotsLight collation.weights → AreNumbersTogether collation
     → is_numeric options.numeric ≡ true → no_number_is_variable collation options ≡ true
     → IsNumberBetween collation x r y → IsNumberBetween collation x s y
     → run_value collation.weights r < run_value collation.weights s
     → collation_order collation options (x ++ (r ++ y)) (x ++ (s ++ y)) ≡ Less
-lower_first collation options x r s y c a t n v hr hs below =
+lower_first collation options x r s y c a dots t n v hr hs below =
     let less : nat_cmp (run_value collation.weights r) (run_value collation.weights s) ≡ Less = grind (arith, nat_tests)
-    in different_runs collation options x r s y c a t n v hr hs (λ e. omega arith) ∙ less
+    in different_runs collation options x r s y c a dots t n v hr hs (λ e. omega arith) ∙ less
 
 pub higher_behind : (collation : Collation) (options : ResolvedCollatorOptions) (x r s y : List ℕ)
-    → IsDecomposing collation.canonical → AreDigitsApart collation → AreNumbersTogether collation
+    → IsDecomposing collation.canonical → AreDigitsAlone collation → AreDotsLight collation.weights → AreNumbersTogether collation
     → is_numeric options.numeric ≡ true → no_number_is_variable collation options ≡ true
     → IsNumberBetween collation x r y → IsNumberBetween collation x s y
     → run_value collation.weights s < run_value collation.weights r
     → collation_order collation options (x ++ (r ++ y)) (x ++ (s ++ y)) ≡ Greater
-higher_behind collation options x r s y c a t n v hr hs below =
+higher_behind collation options x r s y c a dots t n v hr hs below =
     let greater : nat_cmp (run_value collation.weights r) (run_value collation.weights s) ≡ Greater = grind (arith, nat_tests)
-    in different_runs collation options x r s y c a t n v hr hs (λ e. omega arith) ∙ greater
+    in different_runs collation options x r s y c a dots t n v hr hs (λ e. omega arith) ∙ greater
+
+-- where no dot is dropped, what stands before a number is read as it is alone
+kept_is : (weights : Weights) (whole front rest : List Element) → SplitsAtDigit weights whole front rest
+    → (not weights.dot_above || not (is_digit weights 0x303)) ≡ true → whole ≡ front ++ rest
+kept_is weights whole front rest split undropped =
+    let front_is : front ≡ split.kept = split.front_is ∙ ap (λ (w : List Element). split.kept ++ w) (split.none undropped) ∙ append-nil split.kept
+    in split.whole_is ∙ ap (λ (w : List Element). w ++ rest) (sym front_is)
 
 -- numbers of one value are the same below Identical
 pub equal_runs : (collation : Collation) (options : ResolvedCollatorOptions) (x r s y : List ℕ)
@@ -231,12 +249,13 @@ pub equal_runs : (collation : Collation) (options : ResolvedCollatorOptions) (x 
     → IsNumberBetween collation x r y → IsNumberBetween collation x s y
     → run_value collation.weights r ≡ run_value collation.weights s
     → collation_order collation options (x ++ (r ++ y)) (x ++ (s ++ y)) ≡ Equal
-equal_runs collation options x [] s y c a n v hr hs same = let filled = hr.number.filled in absurd (omega arith)
-equal_runs collation options x (d ∷ r) [] y c a n v hr hs same = let filled = hs.number.filled in absurd (omega arith)
-equal_runs collation options x (d ∷ r) (b ∷ s) y c a n v hr hs same =
+equal_runs collation options x [] s y c apart n v hr hs same = let filled = hr.number.filled in absurd (omega arith)
+equal_runs collation options x (d ∷ r) [] y c apart n v hr hs same = let filled = hs.number.filled in absurd (omega arith)
+equal_runs collation options x (d ∷ r) (b ∷ s) y c apart n v hr hs same =
     let weights = collation.weights
-    in let first = text_split collation options x r y d a c n hr.number.digits hr.before hr.behind
-    in let second = text_split collation options x s y b a c n hs.number.digits hs.before hs.behind
+    in let a = apart.digits
+    in let first = kept_is weights _ _ _ (text_split collation options x r y d a c n hr.number.digits hr.before hr.behind) apart.accents
+    in let second = kept_is weights _ _ _ (text_split collation options x s y b a c n hs.number.digits hs.before hs.behind) apart.accents
     in let number =
     equal_numbers weights.numeric_lead (digits_of weights (d ∷ r)) (digits_of weights (b ∷ s))
     (whole_number collation (d ∷ r) a hr.number) (whole_number collation (b ∷ s) a hs.number) same

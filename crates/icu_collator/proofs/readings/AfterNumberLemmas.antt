@@ -10,7 +10,7 @@ use Rattle.icu_collator_core.specs.Elements.{placed_behind, behind_prefix}
 use Rattle.icu_collator_core.specs.AlikeLists.{AreAlike}
 use Rattle.icu_collator_core.proofs.readings.AlikeLemmas.{behind_alike}
 use Rattle.icu_collator_core.proofs.readings.SamenessLemmas.{at_greatest_same}
-use Rattle.icu_collator.specs.NumbersInTexts.{AreDigitsApart, is_digit, holds_digit}
+use Rattle.icu_collator.specs.NumbersInTexts.{AreDigitsAlone, is_digit, holds_digit}
 
 -- two lists that agree up to a digit in both
 abbrev pub AgreeToDigit : Weights → List ℕ → List ℕ → Type 0
@@ -57,7 +57,7 @@ reverse_holds weights (x ∷ xs) h =
       | inr e ↦ or_left (holds_digit weights (reverse xs)) (is_digit weights x || false) (reverse_holds weights xs e)
     ]
 
-digit_behind : (collation : Collation) (c : ℕ) (xs ys : List ℕ) (n : ℕ) → AreDigitsApart collation → AgreeToDigit collation.weights xs ys
+digit_behind : (collation : Collation) (c : ℕ) (xs ys : List ℕ) (n : ℕ) → AreDigitsAlone collation → AgreeToDigit collation.weights xs ys
     → behind_prefix collation.weights (record { character = c; before = xs }) n ≡ behind_prefix collation.weights (record { character = c; before = ys }) n
 digit_behind collation c xs ys n a h =
     let weights = collation.weights
@@ -67,7 +67,7 @@ digit_behind collation c xs ys n a h =
     ])
 
 -- characters after lists that agree up to a digit are alike
-pub placed_alike : (collation : Collation) (xs ys cs : List ℕ) → AreDigitsApart collation → AgreeToDigit collation.weights xs ys
+pub placed_alike : (collation : Collation) (xs ys cs : List ℕ) → AreDigitsAlone collation → AgreeToDigit collation.weights xs ys
     → AreAlike collation.weights (placed_behind xs cs) (placed_behind ys cs)
 unfolding placed_behind
 placed_alike collation xs ys [] a h = tt

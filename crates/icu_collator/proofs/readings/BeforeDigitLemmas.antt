@@ -10,7 +10,7 @@ use Rattle.icu_collator_core.specs.Weights.{Weights}
 use Rattle.icu_collator_core.specs.Elements.{Placed, Joining, characters_of, at_greatest, recorded_length, match_length, joining}
 use Rattle.icu_collator_core.proofs.readings.AlikeLemmas.{two_ways}
 use Rattle.icu_collator_core.proofs.readings.SplitAtBoundaryLemmas.{greatest_below, greatest_same, none_where}
-use Rattle.icu_collator.specs.NumbersInTexts.{AreDigitsApart, is_digit, holds_digit, ends_with_digit}
+use Rattle.icu_collator.specs.NumbersInTexts.{AreDigitsAlone, is_digit, holds_digit, ends_with_digit}
 
 -- characters that don't end in a digit
 abbrev pub EndsPlain : Weights → List Placed → Type 0
@@ -31,13 +31,13 @@ append_plain weights (p ∷ []) [] h g = h
 append_plain weights (p ∷ []) (q ∷ qs) h g = g
 append_plain weights (p ∷ r ∷ rs) qs h g = append_plain weights (r ∷ rs) qs h g
 
-mark_plain : (collation : Collation) (c : ℕ) → AreDigitsApart collation → (collation.canonical.class c == 0) ≡ false
+mark_plain : (collation : Collation) (c : ℕ) → AreDigitsAlone collation → (collation.canonical.class c == 0) ≡ false
     → is_digit collation.weights c ≡ false
 mark_plain collation c d h =
     false_from_ne_true (is_digit collation.weights c)
     (λ e. let zero = eq-eqb (collation.canonical.class c) 0 (d.starters c e) in cc)
 
-pub joining_plain : (collation : Collation) (text : List ℕ) (between ms : List Placed) → AreDigitsApart collation
+pub joining_plain : (collation : Collation) (text : List ℕ) (between ms : List Placed) → AreDigitsAlone collation
     → EndsPlain collation.weights between → EndsPlain collation.weights ms
     → EndsPlain collation.weights (joining collation.canonical collation.weights text between ms).left
 unfolding joining
@@ -66,7 +66,7 @@ taken_long xs ys c d (suc zero) l = absurd (omega arith)
 taken_long [] ys c d (suc (suc n)) l = omega arith
 taken_long (x ∷ xs) ys c d (suc (suc n)) l = omega arith
 
-pub match_kept : (collation : Collation) (c : ℕ) (xs ys : List ℕ) (d : ℕ) → AreDigitsApart collation → is_digit collation.weights d ≡ true
+pub match_kept : (collation : Collation) (c : ℕ) (xs ys : List ℕ) (d : ℕ) → AreDigitsAlone collation → is_digit collation.weights d ≡ true
     → match_length collation.weights ((c ∷ xs) ++ d ∷ ys) ≡ match_length collation.weights (c ∷ xs)
 match_kept collation c xs ys d a h =
     let weights = collation.weights

@@ -14,7 +14,7 @@ ghost use Rattle.icu_collator_core.specs.Collation.{Collation};
 ghost use Rattle.icu_collator.specs.KeyBytes.{key_of_text};
 ghost use Rattle.icu_collator.specs.Settings.{has_plain_leads};
 ghost use Rattle.icu_collator.specs.SoundCollation.{IsSoundCollation};
-ghost use Rattle.icu_collator.specs.NumbersInTexts.{AreDigitsApart, AreNumbersTogether, IsNumberBetween, no_number_is_variable, run_value};
+ghost use Rattle.icu_collator.specs.NumbersInTexts.{AreDigitsAlone, AreDigitsApart, AreDotsLight, AreNumbersTogether, IsNumberBetween, no_number_is_variable, run_value};
 ghost use Rattle.icu_collator.specs.Order.{collation_order};
 
 /// With numeric ordering on, let two texts differ in one run of digits alone. Each run has at most 254
@@ -24,20 +24,20 @@ ghost use Rattle.icu_collator.specs.Order.{collation_order};
 /// texts are equal at every strength but `Identical`, whatever zeros lead the digits, whatever is
 /// variable and whatever is reordered.
 ///
-/// The collation data must keep what `AreDigitsApart` says. Part of it: where a dot above is dropped
-/// before accents, a tilde (U+0303) is no digit. Otherwise a dot above that ends the text before the
-/// number would be dropped before a number that begins with U+0303, but not before the same number with
-/// a zero in front.
+/// The collation data must keep what `AreDigitsAlone` says. Where a dot above is dropped before accents, and a tilde
+/// (U+0303) is a digit, a dot above that ends the text before the number is dropped before a number that begins with
+/// U+0303, but not before the same number with a zero in front. So the first two laws ask that it has no primary weight
+/// then (`AreDotsLight`), and the third that it isn't so (`AreDigitsApart`).
 #[tactic(auto, using(crate::proofs::numbers::NumbersInTextsLemmas::lower_first, crate::proofs::numbers::NumbersInTextsLemmas::higher_behind, crate::proofs::numbers::NumbersInTextsLemmas::equal_runs))]
 pub fn numbers_order_by_value()
     ensures lower { (collation : Collation) (options : ResolvedCollatorOptions) (x r s y : List ℕ)
-        → IsDecomposing collation.canonical → AreDigitsApart collation → AreNumbersTogether collation
+        → IsDecomposing collation.canonical → AreDigitsAlone collation → AreDotsLight collation.weights → AreNumbersTogether collation
         → is_numeric options.numeric ≡ true → no_number_is_variable collation options ≡ true
         → IsNumberBetween collation x r y → IsNumberBetween collation x s y
         → run_value collation.weights r < run_value collation.weights s
         → collation_order collation options (x ++ (r ++ y)) (x ++ (s ++ y)) ≡ Less }
     ensures higher { (collation : Collation) (options : ResolvedCollatorOptions) (x r s y : List ℕ)
-        → IsDecomposing collation.canonical → AreDigitsApart collation → AreNumbersTogether collation
+        → IsDecomposing collation.canonical → AreDigitsAlone collation → AreDotsLight collation.weights → AreNumbersTogether collation
         → is_numeric options.numeric ≡ true → no_number_is_variable collation options ≡ true
         → IsNumberBetween collation x r y → IsNumberBetween collation x s y
         → run_value collation.weights s < run_value collation.weights r
@@ -56,7 +56,8 @@ pub fn numbers_order_by_value()
 pub fn number_keys_order_by_value()
     ensures lower { (collation : Collation) (options : ResolvedCollatorOptions) (x r s y : List ℕ)
         → IsDecomposing collation.canonical → IsSoundCollation collation → has_plain_leads collation options ≡ true
-        → AreDigitsApart collation → is_numeric options.numeric ≡ true → no_number_is_variable collation options ≡ true
+        → AreDigitsAlone collation → AreDotsLight collation.weights
+        → is_numeric options.numeric ≡ true → no_number_is_variable collation options ≡ true
         → IsNumberBetween collation x r y → IsNumberBetween collation x s y → All IsScalar (x ++ (r ++ y)) → All IsScalar (x ++ (s ++ y))
         → run_value collation.weights r < run_value collation.weights s
         → slice_cmp nat_cmp (key_of_text collation options (x ++ (r ++ y))) (key_of_text collation options (x ++ (s ++ y))) ≡ Less }
