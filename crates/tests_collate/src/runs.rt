@@ -188,6 +188,22 @@ fn assert_served(
 }
 
 #[test]
+fn ok_serve(rt: HostRuntime) -> Result<(), Fail> {
+    let alloc = rt.alloc();
+    let words = words_of(alloc, &["a.records"])?;
+    let choice = Choice::read(&words);
+    let (mut written, mut errors) = (Vec::new(alloc), Vec::new(alloc));
+    let mut reader = Watched::new(TEXT);
+    let mut writer = Watched::new(&mut written);
+    let file: Result<&[u8], FileFault> = Ok(b"");
+    let status = serve::serve(alloc, choice.as_ref(), file, &mut reader, &mut writer, &mut errors);
+    assert_eq!(rt; status, 0);
+    assert_eq!(rt; written.as_slice(), REPLIES);
+    assert_eq!(rt; errors.as_slice(), b"".as_slice());
+    Ok(())
+}
+
+#[test]
 fn serve_answers_status_and_text(rt: HostRuntime) -> Result<(), Fail> {
     let alloc = rt.alloc();
     let usage = (2, b"usage: collate FILE [OPTION=VALUE]..\n".as_slice());

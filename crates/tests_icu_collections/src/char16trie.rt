@@ -154,7 +154,7 @@ fn linear_is_copied(alloc: Global) -> bool {
 }
 
 #[test]
-fn tries_are_copied(rt: HostRuntime) {
+fn ok_clone(rt: HostRuntime) {
     assert!(rt; linear_is_copied(rt.alloc()));
 }
 
