@@ -196,7 +196,14 @@ fn ok_serve(rt: HostRuntime) -> Result<(), Fail> {
     let mut reader = Watched::new(TEXT);
     let mut writer = Watched::new(&mut written);
     let file: Result<&[u8], FileFault> = Ok(b"");
-    let status = serve::serve(alloc, choice.as_ref(), file, &mut reader, &mut writer, &mut errors);
+    let status = serve::serve(
+        alloc,
+        choice.as_ref(),
+        file,
+        &mut reader,
+        &mut writer,
+        &mut errors,
+    );
     assert_eq!(rt; status, 0);
     assert_eq!(rt; written.as_slice(), REPLIES);
     assert_eq!(rt; errors.as_slice(), b"".as_slice());

@@ -61,17 +61,22 @@ fn hold_over(
     true
 }
 
-/// Whether they hold over those weights, with these options.
-fn hold(alloc: Global, options: CollatorOptions, relations: &[Relation<'_>]) -> bool {
-    match held_tables(alloc, ROOT_WEIGHTS, TrieType::Fast) {
-        Some(held) => hold_over(alloc, &held, options, relations),
-        None => false,
+/// Whether relations hold over those weights, each group with its options.
+fn hold(alloc: Global, groups: &[(CollatorOptions, &[Relation<'_>])]) -> bool {
+    let Some(held) = held_tables(alloc, ROOT_WEIGHTS, TrieType::Fast) else {
+        return false;
+    };
+    for (options, relations) in groups {
+        if !hold_over(alloc, &held, *options, relations) {
+            return false;
+        }
     }
+    true
 }
 
 #[test]
-fn primary_ignores_accents_and_case(rt: HostRuntime) {
-    let relations = [
+fn strengths_tell_letters_then_accents_then_case(rt: HostRuntime) {
+    let primary: [Relation<'_>; 6] = [
         ("a", "b", Less),
         ("as", "às", Equal),
         ("às", "at", Less),
@@ -79,12 +84,7 @@ fn primary_ignores_accents_and_case(rt: HostRuntime) {
         ("Ao", "aò", Equal),
         ("A", "Ⓐ", Equal),
     ];
-    assert!(rt; hold(rt.alloc(), at_strength(Strength::Primary), &relations));
-}
-
-#[test]
-fn secondary_tells_accents(rt: HostRuntime) {
-    let relations = [
+    let secondary: [Relation<'_>; 6] = [
         ("a", "b", Less),
         ("as", "às", Less),
         ("às", "at", Less),
@@ -92,12 +92,7 @@ fn secondary_tells_accents(rt: HostRuntime) {
         ("Ao", "aò", Less),
         ("A", "Ⓐ", Equal),
     ];
-    assert!(rt; hold(rt.alloc(), at_strength(Strength::Secondary), &relations));
-}
-
-#[test]
-fn tertiary_tells_case_and_circles(rt: HostRuntime) {
-    let relations = [
+    let tertiary: [Relation<'_>; 6] = [
         ("a", "b", Less),
         ("as", "às", Less),
         ("às", "at", Less),
@@ -105,85 +100,70 @@ fn tertiary_tells_case_and_circles(rt: HostRuntime) {
         ("Ao", "aò", Less),
         ("A", "Ⓐ", Less),
     ];
-    assert!(rt; hold(rt.alloc(), at_strength(Strength::Tertiary), &relations));
+    let groups: [(CollatorOptions, &[Relation<'_>]); 3] = [
+        (at_strength(Strength::Primary), &primary),
+        (at_strength(Strength::Secondary), &secondary),
+        (at_strength(Strength::Tertiary), &tertiary),
+    ];
+    assert!(rt; hold(rt.alloc(), &groups));
 }
 
 #[test]
-fn spaces_and_full_stops_count_as_letters(rt: HostRuntime) {
-    let options = with_alternates(Strength::Tertiary, AlternateHandling::NonIgnorable);
-    let relations = [
+fn shifted_tells_spaces_at_the_fourth_level_alone(rt: HostRuntime) {
+    let counted: [Relation<'_>; 4] = [
         ("di Silva", "Di Silva", Less),
         ("Di Silva", "diSilva", Less),
         ("diSilva", "U.S.A.", Less),
         ("U.S.A.", "USA", Less),
     ];
-    assert!(rt; hold(rt.alloc(), options, &relations));
-}
-
-#[test]
-fn shifted_ignores_spaces_and_full_stops(rt: HostRuntime) {
-    let options = with_alternates(Strength::Tertiary, AlternateHandling::Shifted);
-    let relations = [
+    let ignored: [Relation<'_>; 4] = [
         ("di Silva", "diSilva", Equal),
         ("diSilva", "Di Silva", Less),
         ("Di Silva", "U.S.A.", Less),
         ("U.S.A.", "USA", Equal),
     ];
-    assert!(rt; hold(rt.alloc(), options, &relations));
-}
-
-#[test]
-fn shifted_tells_them_at_the_fourth_level(rt: HostRuntime) {
-    let options = with_alternates(Strength::Quaternary, AlternateHandling::Shifted);
-    let relations = [
+    let told: [Relation<'_>; 4] = [
         ("di Silva", "diSilva", Less),
         ("diSilva", "Di Silva", Less),
         ("Di Silva", "U.S.A.", Less),
         ("U.S.A.", "USA", Less),
     ];
-    assert!(rt; hold(rt.alloc(), options, &relations));
+    let plain = with_alternates(Strength::Tertiary, AlternateHandling::NonIgnorable);
+    let shifted = with_alternates(Strength::Tertiary, AlternateHandling::Shifted);
+    let shifted_to_four = with_alternates(Strength::Quaternary, AlternateHandling::Shifted);
+    let groups: [(CollatorOptions, &[Relation<'_>]); 3] = [
+        (plain, &counted),
+        (shifted, &ignored),
+        (shifted_to_four, &told),
+    ];
+    assert!(rt; hold(rt.alloc(), &groups));
 }
 
 #[test]
-fn case_has_no_level_of_its_own(rt: HostRuntime) {
-    let options = with_case_level(Strength::Primary, CaseLevel::Off);
-    let relations = [
+fn the_case_level_tells_case_behind_accents(rt: HostRuntime) {
+    let neither: [Relation<'_>; 3] = [
         ("ⓓⓔⓐⓛ", "DEAL", Equal),
         ("dejavu", "dejAvu", Equal),
         ("dejavu", "déjavu", Equal),
     ];
-    assert!(rt; hold(rt.alloc(), options, &relations));
-}
-
-#[test]
-fn case_level_tells_case_and_no_accents(rt: HostRuntime) {
-    let options = with_case_level(Strength::Primary, CaseLevel::On);
-    let relations = [
+    let case_alone: [Relation<'_>; 3] = [
         ("ⓓⓔⓐⓛ", "DEAL", Less),
         ("dejavu", "dejAvu", Less),
         ("dejavu", "déjavu", Equal),
     ];
-    assert!(rt; hold(rt.alloc(), options, &relations));
-}
-
-#[test]
-fn case_level_stands_behind_accents(rt: HostRuntime) {
-    let options = with_case_level(Strength::Secondary, CaseLevel::On);
-    let relations = [
+    let both: [Relation<'_>; 3] = [
         ("ⓓⓔⓐⓛ", "DEAL", Less),
         ("dejavu", "dejAvu", Less),
         ("dejavu", "déjavu", Less),
     ];
-    assert!(rt; hold(rt.alloc(), options, &relations));
-}
-
-#[test]
-fn tertiary_tells_case_too(rt: HostRuntime) {
-    let options = with_case_level(Strength::Tertiary, CaseLevel::Off);
-    let relations = [
-        ("ⓓⓔⓐⓛ", "DEAL", Less),
-        ("dejavu", "dejAvu", Less),
-        ("dejavu", "déjavu", Less),
+    let groups: [(CollatorOptions, &[Relation<'_>]); 4] = [
+        (with_case_level(Strength::Primary, CaseLevel::Off), &neither),
+        (
+            with_case_level(Strength::Primary, CaseLevel::On),
+            &case_alone,
+        ),
+        (with_case_level(Strength::Secondary, CaseLevel::On), &both),
+        (with_case_level(Strength::Tertiary, CaseLevel::Off), &both),
     ];
-    assert!(rt; hold(rt.alloc(), options, &relations));
+    assert!(rt; hold(rt.alloc(), &groups));
 }

@@ -41,17 +41,11 @@ fn key_over(
     Some(key)
 }
 
-/// The same over those weights.
-fn key_of(alloc: Global, options: CollatorOptions, units: &[u16]) -> Option<Vec<u8>> {
-    let held = held_tables(alloc, ROOT_WEIGHTS, TrieType::Small)?;
-    key_over(alloc, &held, options, units)
-}
-
 /// Whether the key of each text is below that of the next, at the highest strength.
-fn keys_rise(alloc: Global, texts: &[&[u16]]) -> bool {
+fn keys_rise(alloc: Global, held: &HeldCollation<'static>, texts: &[&[u16]]) -> bool {
     let mut last = Vec::new(alloc);
     for units in texts {
-        let Some(key) = key_of(alloc, IDENTICAL, units) else {
+        let Some(key) = key_over(alloc, held, IDENTICAL, units) else {
             return false;
         };
         if last.as_slice() >= key.as_slice() {
@@ -95,10 +89,29 @@ fn sort_key_utf16_slice_too_small(rt: HostRuntime) {
     assert_eq!(rt; length_told(rt.alloc(), &hello), Some(24));
 }
 
+/// The key of the empty text, over those weights.
+fn empty_key(alloc: Global, options: CollatorOptions) -> Option<Vec<u8>> {
+    let held = held_tables(alloc, ROOT_WEIGHTS, TrieType::Small)?;
+    key_over(alloc, &held, options, &[])
+}
+
 #[test]
 fn sort_key_case_level_empty(rt: HostRuntime) {
-    let key = key_of(rt.alloc(), WITH_CASE, &[]);
+    let key = empty_key(rt.alloc(), WITH_CASE);
     assert!(rt; key.is_some_and(|key| key.as_slice() == [1, 1, 1, 1, 1].as_slice()));
+}
+
+/// Whether keys rise in each of some rows of texts, over those weights.
+fn rows_rise(alloc: Global, rows: &[&[&[u16]]]) -> bool {
+    let Some(held) = held_tables(alloc, ROOT_WEIGHTS, TrieType::Small) else {
+        return false;
+    };
+    for texts in rows {
+        if !keys_rise(alloc, &held, texts) {
+            return false;
+        }
+    }
+    true
 }
 
 #[test]
@@ -109,7 +122,7 @@ fn sort_key_fffe_bug_6811(rt: HostRuntime) {
         &[1, 2, 0xfffe, 3],
         &[1, 2, 3, 0xfffe],
     ];
-    assert!(rt; keys_rise(rt.alloc(), &among_three));
     let among_zeros: [&[u16]; 3] = [&[0xfffe, 0, 0], &[0, 0xfffe, 0], &[0, 0, 0xfffe]];
-    assert!(rt; keys_rise(rt.alloc(), &among_zeros));
+    let rows: [&[&[u16]]; 2] = [&among_three, &among_zeros];
+    assert!(rt; rows_rise(rt.alloc(), &rows));
 }
