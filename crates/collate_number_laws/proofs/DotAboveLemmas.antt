@@ -1,9 +1,9 @@
 -- Where an accepted file has the dot above dropped before accents, the dot has no primary weight wherever it stands.
-use Rattle.std.proofs.Common.{◌≡◌, ℕ, ◌<◌, ◌==◌, Bool, true, false, not, ◌&&◌, ◌||◌, List, [], ◌∷◌, length, Option, Some, None, refl, sym, ap, ◌∙◌, arith}
+use Rattle.std.proofs.Common.{◌≡◌, ℕ, ◌==◌, Bool, true, false, not, ◌&&◌, ◌||◌, List, [], ◌∷◌, Option, Some, None, refl, sym, ap, ◌∙◌, arith}
 use Rattle.std.specs.Bool.{IsTrue}
 use Rattle.std.specs.List.{list_any}
 use Rattle.std.specs.Option.{is_some}
-use Rattle.std.proofs.lemmas.Bool.{and_from, and_parts, false_from_ne_true, false≢true, not-false, or_from, or_left, or_parts, or_right, true_from_ne_false, true≢false}
+use Rattle.std.proofs.lemmas.Bool.{and_from, and_parts, false_from_ne_true, false≢true, not-false, or_from, or_parts, true≢false}
 use Rattle.std.proofs.lemmas.List.Folds.{list_any_at}
 use Rattle.std.proofs.lemmas.Option.{none-some}
 use Rattle.icu_collator_types.specs.declared.elements.Element.{Element}
@@ -13,7 +13,7 @@ use Rattle.collate_lines.specs.Record.{Record, weights, Layer, root, tailoring}
 use Rattle.collate_lines.specs.Repeats.{record_at}
 use Rattle.collate_rules.specs.Accepted.{AreAccepted}
 use Rattle.collate_rules.specs.Meaning.{dot_above_in, elements_in, first_found, recorded_in, set_to, weights_of}
-use Rattle.collate_rules.specs.RecordRules.{begins_with, breaks_dot_above, dotted_marks, is_alone, is_bad_dotted, is_common_secondary, is_further, is_given, is_other_mark, is_replaced}
+use Rattle.collate_rules.specs.RecordRules.{breaks_dot_above, dotted_marks, is_bad_dotted, is_common_secondary, is_further, is_other_mark, is_replaced}
 use Rattle.collate_rules.proofs.lookups.FoundLemmas.{found_at}
 use Rattle.collate_rules.proofs.offenders.BreachLemmas.{none_together}
 use Rattle.collate_compile.proofs.laws.CompiledLineLemmas.{elements_line, none_at}

@@ -128,7 +128,9 @@ list_split collation xs run ys d a c h e g =
     in let third : elements_within m canonical weights true rest ≡ elements_within (length ys) canonical weights true rest =
     any_count canonical weights true m (length ys) rest (omega arith) (omega arith)
     in let number = number_within collation m before run ys d a h g
-    in splits_along weights _ _ _ _ _ _ (sym (ap (elements_within (length whole) canonical weights true) split)) first (cc (second, third, number))
+    in let rest_is : elements_within (length whole) canonical weights true (q ∷ qs) ≡ number_elements weights.numeric_lead (digits_of weights (d ∷ run)) ++ behind_number collation xs (d ∷ run) ys =
+    cc (second, third, number)
+    in splits_along weights _ _ _ _ _ _ (sym (ap (elements_within (length whole) canonical weights true) split)) first rest_is
     (split_at_digit collation true (length whole) front q qs a c both.0 plain (omega arith))
 
 -- after two runs of digits the same elements stand

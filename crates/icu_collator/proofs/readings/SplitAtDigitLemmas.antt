@@ -3,7 +3,7 @@ use Rattle.std.proofs.Common.{◌≡◌, ℕ, zero, suc, ◌+◌, ◌≤◌, ◌
 use Rattle.std.specs.Option.{unwrap_or, is_some}
 use Rattle.std.proofs.lemmas.Bool.{and_from, and_parts, and_right, cases_Bool, eqb-true, false_from_ne_true, false≢true, or_from}
 use Rattle.std.proofs.lemmas.Bool.Decides.{nat_tests}
-use Rattle.std.proofs.lemmas.List.{take-append-le, drop-append-le, length-map, reverse-append}
+use Rattle.std.proofs.lemmas.List.{take-append-le, drop-append-le, reverse-append}
 use Rattle.std.proofs.lemmas.List.Sums.{prefix_len-le-length}
 use Rattle.icu_normalizer_core.specs.BuiltIn.{built_in_class}
 use Rattle.icu_normalizer_core.specs.Canonical.{Canonical, IsDecomposing}
@@ -297,18 +297,19 @@ split_dot collation numeric n p q qs plain drops l =
     (and_right numeric (is_some (weights.digit p.character)) plain)
     (and_from (weights.dot_above && is_dot) (is_before_accent (q ∷ qs)) (and_from weights.dot_above is_dot drops.on drops.is_dot) drops.accent)
     in let on_tilde : (weights.dot_above && is_digit weights 0x303) ≡ true = and_from weights.dot_above (is_digit weights 0x303) drops.on drops.tilde
+    in let undropped : (not weights.dot_above || not (is_digit weights 0x303)) ≡ false = rw (drops.on, drops.tilde) refl
     in record {
       kept = [];
       dots = elements_within (suc n) canonical weights numeric (p ∷ []);
       whole_is = ap behind dropped ∙ any_count canonical weights numeric n (suc n) (q ∷ qs) (omega arith) (omega arith);
       front_is = refl;
-      light = λ light.
-          let dot = light on_tilde
+      light = λ are.
+          let dot = are on_tilde
           in ap are_light
           (ap behind (dot_read canonical weights numeric p dot is plain)
           ∙ ap (λ (w : List Element). dot.elements ++ w) (nothing_within canonical weights numeric n) ∙ append-nil dot.elements)
           ∙ dot.light;
-      none = λ h. absurd (false≢true (sym (cc (drops.on, drops.tilde)) ∙ h));
+      none = λ h. absurd (false≢true (sym undropped ∙ h));
     }
 
 pub split_at_digit : (collation : Collation) (numeric : Bool) (n : ℕ) (ps : List Placed) (q : Placed) (qs : List Placed)
