@@ -12,7 +12,7 @@ use Rattle.icu_collator_core.specs.Collation.{Collation}
 use Rattle.icu_collator_core.specs.Weights.{Weights}
 use Rattle.icu_collator_core.specs.Defaults.{special_primary, default_elements}
 use Rattle.icu_collator_core.specs.Numbers.{number_elements}
-use Rattle.icu_collator_core.specs.Elements.{Placed, Joining, Reading, at_greatest, behind_prefix, characters_of, match_length, prefix_match, joining, text_match, text_reading, digit_count, number_reading, is_before_accent, reading, elements_within}
+use Rattle.icu_collator_core.specs.Elements.{Placed, Joining, Reading, at_greatest, behind_prefix, characters_of, match_length, prefix_match, recorded_length, joining, text_match, text_reading, digit_count, number_reading, is_before_accent, reading, elements_within}
 use Rattle.icu_collator_core.proofs.readings.AlikeLemmas.{chosen_alike, reading_is}
 use Rattle.icu_collator_core.proofs.readings.CaseLemmas.{reading_dropped, reading_otherwise}
 use Rattle.icu_collator_core.proofs.readings.SamenessLemmas.{at_greatest_same}
@@ -247,9 +247,15 @@ unfolding at_greatest
 no_prefix weights p none =
     at_greatest_same (behind_prefix weights p) (λ _. None) 3 (λ k. behind_none weights (p.character ∷ []) p.before k none)
 
-alone_length : (weights : Weights) (c : ℕ) (es : List Element) → weights.recorded [] (c ∷ []) ≡ Some es → match_length weights (c ∷ []) ≡ 1
+one_at_most : (weights : Weights) (list : List ℕ) → unwrap_or (at_greatest (recorded_length weights list) 1) 1 ≡ 1
 unfolding at_greatest
-alone_length weights c es h = rw h refl
+one_at_most weights list =
+    elim (is_some (weights.recorded [] (take 1 list)))
+    as (λ b. unwrap_or (elim (cond {A = Option ℕ} (ltb 0 1 && b) (Some 1) None) as (λ _. Option ℕ) [ Some x ↦ Some x | None ↦ None ]) 1 ≡ 1)
+    [ true ↦ refl | false ↦ refl ]
+
+alone_length : (weights : Weights) (c : ℕ) → match_length weights (c ∷ []) ≡ 1
+alone_length weights c = one_at_most weights (c ∷ [])
 
 last_read : (canonical : Canonical) (weights : Weights) (p : Placed) (es : List Element) → weights.recorded [] (p.character ∷ []) ≡ Some es
     → text_reading canonical weights p.character (p ∷ []) ≡ record { elements = es; left = [] }
@@ -258,7 +264,7 @@ last_read canonical weights p es h =
     let match : ℕ → Joining = λ n. joining canonical weights (take n (p.character ∷ [])) [] (drop n (p ∷ []))
     in let of : ℕ → Reading = λ n. record { elements = unwrap_or (weights.recorded [] (match n).text) (default_elements weights p.character); left = (match n).left }
     in let by : Option (List Element) → Reading = λ o. record { elements = unwrap_or o (default_elements weights p.character); left = [] }
-    in ap of (alone_length weights p.character es h) ∙ ap by h
+    in ap of (alone_length weights p.character) ∙ ap by h
 
 ordinary_dot : special_primary 0x307 ≡ None
 unfolding special_primary
