@@ -19,14 +19,18 @@ use Rattle.collate_rules.proofs.offenders.BreachLemmas.{none_together}
 use Rattle.collate_compile.proofs.laws.CompiledLineLemmas.{elements_line, none_at}
 use Rattle.collate_number_laws.proofs.NumberLawApartLemmas.{some_of}
 
-none_found : {B : Type 0} (f : Record → Option B) (lines : List Record) → first_found f lines ≡ None → list_any (λ line. is_some (f line)) lines ≡ false
-none_found f [] e = refl
-none_found {B} f (line ∷ lines) e = at (f line) refl e
-  where
-    at : (o : Option B) → f line ≡ o → (elim o [ Some x ↦ Some x | None ↦ first_found f lines ]) ≡ None
-        → list_any (λ other. is_some (f other)) (line ∷ lines) ≡ false
-    at (Some x) is h = absurd (none-some x (sym h))
-    at None is h = or_from (is_some (f line)) (list_any (λ other. is_some (f other)) lines) (ap (λ o. is_some o) is) (none_found f lines h)
+-- where no line says it, no line passes
+module _ {B : Type 0} (f : Record → Option B) where
+  none_by_head : (line : Record) (lines : List Record) → (first_found f lines ≡ None → list_any (λ other. is_some (f other)) lines ≡ false)
+      → (o : Option B) → f line ≡ o → (elim o [ Some x ↦ Some x | None ↦ first_found f lines ]) ≡ None
+      → list_any (λ other. is_some (f other)) (line ∷ lines) ≡ false
+  none_by_head line lines later (Some x) is h = absurd (none-some x (sym h))
+  none_by_head line lines later None is h =
+      or_from (is_some (f line)) (list_any (λ other. is_some (f other)) lines) (ap (λ o. is_some o) is) (later h)
+
+  none_found : (lines : List Record) → first_found f lines ≡ None → list_any (λ line. is_some (f line)) lines ≡ false
+  none_found [] e = refl
+  none_found (line ∷ lines) e = none_by_head line lines (none_found lines) (f line) refl e
 
 light_mark : (es : List Element) → is_common_secondary es ≡ true → are_light es ≡ true
 light_mark (e ∷ []) h =
