@@ -22,7 +22,7 @@ use Rattle.collate_number_laws.proofs.NumberLawApartLemmas.{some_of}
 -- where no line says it, no line passes
 module _ {B : Type 0} (f : Record → Option B) where
   none_by_head : (line : Record) (lines : List Record) → (first_found f lines ≡ None → list_any (λ other. is_some (f other)) lines ≡ false)
-      → (o : Option B) → f line ≡ o → (elim o [ Some x ↦ Some x | None ↦ first_found f lines ]) ≡ None
+      → (o : Option B) → f line ≡ o → ◌≡◌ {A = Option B} (elim o [ Some x ↦ Some x | None ↦ first_found f lines ]) None
       → list_any (λ other. is_some (f other)) (line ∷ lines) ≡ false
   none_by_head line lines later (Some x) is h = absurd (none-some x (sym h))
   none_by_head line lines later None is h =
