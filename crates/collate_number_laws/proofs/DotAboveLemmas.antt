@@ -77,7 +77,8 @@ module _ (records : List Record) (accepted : AreAccepted records) (on : set_to d
   light : (es : List Element) → recorded_in records [] (0x307 ∷ []) ≡ Some es → are_light es ≡ true
   light es h =
       let line = counted [] (0x307 ∷ []) es h in
-      let other = (or_parts _ (is_other_mark records 0x307 (weights line.0 [] (0x307 ∷ []) es)) (kept line.0 [] (0x307 ∷ []) es line.1)).1 in
+      let given = weights line.0 [] (0x307 ∷ []) es in
+      let other = (or_parts (is_further records 0x307 given) (is_other_mark records 0x307 given) (kept line.0 [] (0x307 ∷ []) es line.1)).1 in
       light_mark es
       (not-false (is_common_secondary es)
       (ap (λ (b : Bool). not b && not (is_common_secondary es)) (sym line.2) ∙ other))
@@ -89,12 +90,15 @@ module _ (records : List Record) (accepted : AreAccepted records) (on : set_to d
       at None is = refl
       at (Some es) is =
           let line = counted (c ∷ cs) (0x307 ∷ []) es is in
-          let further = (or_parts (is_further records 0x307 (weights line.0 (c ∷ cs) (0x307 ∷ []) es)) _ (kept line.0 (c ∷ cs) (0x307 ∷ []) es line.1)).0 in
+          let given = weights line.0 (c ∷ cs) (0x307 ∷ []) es in
+          let further = (or_parts (is_further records 0x307 given) (is_other_mark records 0x307 given) (kept line.0 (c ∷ cs) (0x307 ∷ []) es line.1)).0 in
           absurd (true≢false (ap (λ (b : Bool). not b) (sym line.2) ∙ further))
 
   pub dot_light : IsDotLight (weights_of records)
   dot_light =
-      let recorded = some_of (recorded_in records [] (0x307 ∷ [])) (not-false _ (or_parts _ _ dot_is_good).0) in
+      let is_recorded = is_some (recorded_in records [] (0x307 ∷ [])) in
+      let parts = or_parts (not is_recorded) (list_any (λ line. is_further records 0x307 line || is_other_mark records 0x307 line) records) dot_is_good in
+      let recorded = some_of (recorded_in records [] (0x307 ∷ [])) (not-false is_recorded parts.0) in
       record { elements = recorded.0; is = recorded.1; light = light recorded.0 recorded.1; unprefixed = unprefixed }
 
 pub dots_light : (records : List Record) → AreAccepted records → AreDotsLight (weights_of records)
