@@ -7,7 +7,7 @@ function explain_limit(    at, chars, parts, part) {
     tell_passed(total["lines"], limits[3], "lines that say something", 3)
     tell_passed(total["names"], limits[2], "code points, each range counted as one", 2)
     tell_passed(total["wide"], 700, "blocks of 512 code points, each range counted as three")
-    tell_passed(total["narrow"], 11000, "blocks of 16 code points, each range counted as three")
+    tell_passed(total["narrow"], 11000, "blocks of 16 code points from 10000 on, each range counted as three")
     tell_passed(total["elements"], 520000, "elements, one more for each w, t, range and digit line")
     tell_passed(total["beside"], 2600, "texts of several characters or with a prefix")
     tell_passed(total["map"], 16000, "characters of full lists, by map lines")
@@ -42,7 +42,8 @@ function count_line(at,    place, parts, part, kind) {
     parts = split(prefix[at] " " own[at] " " (kind ~ /map/ ? targets(at) : ""), part, " ")
     for (place = 1; place <= parts; place++) {
         count_once("names", part[place])
-        count_once("narrow", substr(part[place], 1, length(part[place]) - 1))
+        # what is below 10000 counts as 10000 does
+        count_once("narrow", length(part[place]) == 4 ? "1000" : substr(part[place], 1, length(part[place]) - 1))
         count_once("wide", int(value_of(substr(part[place], 1, length(part[place]) - 2)) / 2))
     }
 }

@@ -9,7 +9,7 @@ small() {
 }
 
 walk_broken_records() {
-    local add fault texts text command count=0 broken=$work/my.records
+    local add fault texts text command=() count=0 broken=$work/my.records
     put $out/collate $large/collate_unicode
     small >"$work/small.records"
     says 0 = -- ./collate "$work/small.records"
@@ -29,11 +29,12 @@ walk_broken_records() {
             [[ $texts == *' & '* ]] || break
             texts=${texts#* & }
         done
-        # sort_names says it by the same function
-        command=./collate
-        [ $((count % 8)) != 0 ] || command=./sort_names
+        # sort_names says it by the same function, over names and over none
+        command=(./collate)
+        [ $((count % 8)) != 0 ] || command=(./sort_names)
+        [ $((count % 16)) != 0 ] || command=(given 'b\na\n' ./sort_names)
         says 1 "collate: refused $fault"$'\n' "  $broken, line ${fault% *}: " "  ${fault#* }: " "${text[@]}" -- \
-            "$command" "$broken"
+            "${command[@]}" "$broken"
     done <tools/broken_records.tsv
     [ "$count" -ge 60 ] || complain "only $count broken files"
     seq -f 'class %05.0f 230' 10001 10151 >"$broken"
@@ -62,7 +63,7 @@ walk_room() {
     put $large/collate_unicode
     over_room 701 '703 blocks of 512 code points, each range counted as three, and 700' \
         < <(lines_of 700 512 'w & ;'; echo 'range F0000 F0001 E0020200 1')
-    over_room 11001 '11001 blocks of 16 code points, each range counted as three, and 11000' \
+    over_room 11001 '11001 blocks of 16 code points from 10000 on, each range counted as three, and 11000' \
         < <(lines_of 11001 16 'w & ;')
     over_room 2601 '2601 texts of several characters or with a prefix, and 2600' < <(lines_of 2601 1 'w & & ;')
     over_room 2001 '16008 characters of full lists, by map lines, and 16000' < <(lines_of 2001 1 'map & 0344')

@@ -2,7 +2,7 @@
 
 ghost use Rattle.std.specs.Prelude.{◌≡◌, ℕ, ◌+◌, ◌≤◌, ◌==◌, true, [], length, IfOk, OnOk};
 ghost use Rattle.std.specs.Char.{IsScalar};
-ghost use Rattle.icu_codepointtrie.specs.Blocks.{different_blocks};
+ghost use Rattle.icu_codepointtrie.specs.Blocks.{different_blocks, upper_blocks};
 ghost use Rattle.icu_codepointtrie.specs.BuiltTries.{IsTrieOf};
 ghost use Rattle.icu_codepointtrie.specs.Places.{has_cell};
 ghost use Rattle.icu_normalizer_core.specs.BuiltIn.{is_within};
@@ -99,7 +99,7 @@ impl LayerBuilder {
     /// Errors: `AllocError` where memory is refused.
     pub(crate) fn build(self, alloc: Global) -> Result<CollationData<'static>, AllocError>
         requires wide { different_blocks (λ n. n) 512 self.words.values ≤ 800 }
-        requires narrow { different_blocks (λ n. n) 16 self.words.values ≤ 12000 }
+        requires narrow { upper_blocks (λ n. n) self.words.values ≤ 12000 }
         ensures trie_type { IfOk result (HasTrieType self.words.trie_type) }
         ensures cells { IfOk result (λ source. (c : ℕ) → has_cell source.trie c ≡ true) }
         ensures words { IfOk result (λ source. (c : ℕ) → IsScalar c → word_at source c ≡ word_of self c) }
@@ -120,12 +120,12 @@ impl LayerBuilder {
     }
 }
 
-/// The trie of a map of few different blocks, of 512 code points and of 16.
+/// The trie of a map of few different blocks, of 512 code points, and of 16 from U+10000 on.
 ///
 /// Errors: `AllocError` where memory is refused.
 fn build_trie(words: &CodePointTrieBuilder<u32>) -> Result<CodePointTrie<'static, u32>, AllocError>
     requires wide { different_blocks (λ n. n) 512 words.now.values ≤ 800 }
-    requires narrow { different_blocks (λ n. n) 16 words.now.values ≤ 12000 }
+    requires narrow { upper_blocks (λ n. n) words.now.values ≤ 12000 }
     ensures { IfOk result (IsTrieOf words.now) }
 {
     match words.build() {

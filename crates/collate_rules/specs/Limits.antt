@@ -1,8 +1,9 @@
 -- What is counted of lines, for the limits of a records file.
-use Rattle.std.specs.Prelude.{◌≡◌, ℕ, ◌+◌, ◌*◌, ◌/◌, ◌<◌, ◌≤◌, ◌⊎◌, ◌==◌, List, count_by, filter, flat_map, length, map, sum_by}
+use Rattle.std.specs.Prelude.{◌≡◌, ℕ, ◌+◌, ◌*◌, ◌<◌, ◌≤◌, ◌⊎◌, ◌==◌, List, count_by, filter, flat_map, length, map, sum_by}
 use Rattle.std.specs.List.{list_any}
 use Rattle.std.specs.Ordering.{nat_cmp}
 use Rattle.std.specs.BTreeSet.{BTreeSet, contains, btree_set_len}
+use Rattle.icu_normalizer_core.specs.Named.{narrow_block, wide_block}
 use Rattle.collate_lines.specs.declared.limits.Limits.{Limits}
 use Rattle.collate_lines.specs.Record.{Record}
 use Rattle.collate_lines.specs.Repeats.{says_something}
@@ -18,8 +19,8 @@ pub record Holds (numbers : BTreeSet ℕ) (list : List ℕ) : Type 0 where
 -- sets have the characters of a list, and the blocks in which they lie
 pub record AreNamed (names : Names) (list : List ℕ) : Type 0 where
   pub characters : Holds names.characters list
-  pub wide : Holds names.wide (map (λ c. c / 512) list)
-  pub narrow : Holds names.narrow (map (λ c. c / 16) list)
+  pub wide : Holds names.wide (map wide_block list)
+  pub narrow : Holds names.narrow (map narrow_block list)
 
 -- counts are those of lines, among all
 pub record AreCounted (all lines : List Record) (counts : Counts) : Type 0 where

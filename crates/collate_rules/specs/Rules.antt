@@ -1,10 +1,11 @@
 -- The rules on lines that are in the grammar: which line offends against a rule. Lines count from 0 here.
-use Rattle.std.specs.Prelude.{◌≡◌, ◌≢◌, ℕ, ◌+◌, ◌*◌, ◌/◌, ◌<◌, ◌⊎◌, Bool, true, false, cond, not, ◌==◌, ◌&&◌, ◌||◌, List, [], ◌∷◌, ◌++◌, Option, count_by, flat_map, filter, length, map, sum_by, take, Some, None, IsTrue, bytes_eq}
+use Rattle.std.specs.Prelude.{◌≡◌, ◌≢◌, ℕ, ◌+◌, ◌*◌, ◌<◌, ◌⊎◌, Bool, true, false, cond, not, ◌==◌, ◌&&◌, ◌||◌, List, [], ◌∷◌, ◌++◌, Option, count_by, flat_map, filter, length, map, sum_by, take, Some, None, IsTrue, bytes_eq}
 use Rattle.std.specs.Option.{is_some}
 use Rattle.std.specs.List.{list_any}
 use Rattle.icu_normalizer_core.specs.BuiltIn.{built_in_class, built_in_step, built_in_compatibility_step, is_jamo, is_syllable, is_within, is_built_in}
 use Rattle.icu_normalizer_core.specs.Canonical.{Reaches, composed}
 use Rattle.icu_normalizer_core.specs.ListRoom.{list_room}
+use Rattle.icu_normalizer_core.specs.Named.{narrow_block, wide_block}
 use Rattle.collate_lines.specs.declared.rule.Rule.{Rule}
 use Rattle.collate_lines.specs.declared.rule.Rule.TheVariants.{Grammar, Limit, Set, C1, C2, C3, C4, C5, C6, C7, C8, C9, V1, V2, V3, V4, V5, V6, V7, V8, V9, V10, V11, V12, V13, V14, V15}
 use Rattle.collate_lines.specs.declared.limits.Limits.{Limits}
@@ -44,9 +45,9 @@ IsLong (compatibility c ds) = 8 < length ds
 IsLong (weights layer prefix text es) = (8 < length text) ⊎ (8 < length es)
 IsLong _ = ⊥
 
--- the aligned blocks of so many code points in which lines name one, a range counted as three
-abbrev pub blocks_in : ℕ → List Record → ℕ
-blocks_in width records = different (map (λ c. c / width) (flat_map named records)) + 3 * count_by is_range records
+-- the blocks in which lines name a code point, a range counted as three
+abbrev pub blocks_in : (ℕ → ℕ) → List Record → ℕ
+blocks_in block_of records = different (map block_of (flat_map named records)) + 3 * count_by is_range records
 
 -- a text of several characters, or one behind a prefix
 abbrev pub is_beside : Record → Bool
@@ -74,8 +75,8 @@ mapping_room records _ = 0
 -- What tables have room for, whatever the limits: some lines take more.
 abbrev pub LackRoom : List Record → List Record → Type 0
 LackRoom records lines =
-    (700 < blocks_in 512 lines)
-    ⊎ ((11000 < blocks_in 16 lines)
+    (700 < blocks_in wide_block lines)
+    ⊎ ((11000 < blocks_in narrow_block lines)
     ⊎ ((520000 < sum_by element_room lines)
     ⊎ ((2600 < count_by is_beside lines)
     ⊎ ((16000 < sum_by (canonical_room records) lines)

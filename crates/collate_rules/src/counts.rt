@@ -17,7 +17,7 @@ const LIST_LIMIT: usize = 8;
 /// The most aligned blocks of 512 code points that tables have room for.
 const WIDE_BLOCK_LIMIT: usize = 700;
 
-/// The most aligned blocks of 16 code points.
+/// The most aligned blocks of 16 code points from U+10000 on.
 const NARROW_BLOCK_LIMIT: usize = 11_000;
 
 /// The most elements, with one for each text, range and digit.

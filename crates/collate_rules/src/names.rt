@@ -1,6 +1,7 @@
 //! The characters that lines name, and the aligned blocks of code points in which they lie.
 
-ghost use Rattle.std.specs.Prelude.{ℕ, ◌++◌, ◌∷◌, [], List, OnOk};
+ghost use Rattle.std.specs.Prelude.{◌≡◌, ℕ, ◌++◌, ◌∷◌, [], List, OnOk};
+ghost use Rattle.icu_normalizer_core.specs.Named.{narrow_block};
 ghost use Rattle.collate_rules.specs.Limits.{AreNamed};
 ghost use Rattle.collate_rules.specs.Rules.{named};
 ghost use Rattle.collate_lines.specs.Record.{said};
@@ -9,7 +10,16 @@ use collate_lines::record::Record;
 use std::alloc::{AllocError, Global};
 use std::collections::BTreeSet;
 
-/// The characters that lines name, and the aligned blocks of 512 and of 16 code points in which they lie, each once.
+/// The aligned block of 16 code points in which a character lies, from U+10000 on; a character below counts as U+10000
+/// does.
+fn narrow_block(character: char) -> u32
+    ensures { result ≡ narrow_block character }
+{
+    (character as u32).saturating_sub(0x1_0000) / 16
+}
+
+/// The characters that lines name, and the aligned blocks of 512 code points, and of 16 from U+10000 on, in which they
+/// lie, each once.
 #[derive(Drop)]
 pub(crate) struct Names {
     pub(crate) characters: BTreeSet<char>,
@@ -33,10 +43,9 @@ impl Names {
     fn add(&mut self, character: char) -> Result<(), AllocError>
         ensures { (list : List ℕ) → AreNamed self.old list → OnOk result (AreNamed self.new (list ++ character ∷ [])) }
     {
-        let code = character as u32;
         self.characters.insert(character)?;
-        self.wide.insert(code / 512)?;
-        self.narrow.insert(code / 16)?;
+        self.wide.insert(character as u32 / 512)?;
+        self.narrow.insert(narrow_block(character))?;
         Ok(())
     }
 

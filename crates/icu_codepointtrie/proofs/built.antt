@@ -4,5 +4,6 @@ pub mod IndexBlockLemmas
 pub mod BuiltLayoutLemmas
 pub mod BuiltTrieLemmas
 pub mod BlockCountLemmas
+pub mod UpperBlockLemmas
 pub mod MapBlockLemmas
 pub mod PlaneLemmas

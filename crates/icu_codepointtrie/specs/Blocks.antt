@@ -1,5 +1,5 @@
 -- Aligned blocks of values, told apart by the values' numbers.
-use Rattle.std.specs.Prelude.{◌≡◌, ◌≢◌, ℕ, ◌+◌, ◌-◌, ◌*◌, ◌/◌, ◌<◌, ◌≤◌, Bool, Option, List, length, map, slice_range, slice_index, nat_eq, MatchOption}
+use Rattle.std.specs.Prelude.{◌≡◌, ◌≢◌, ℕ, ◌+◌, ◌-◌, ◌*◌, ◌/◌, ◌<◌, ◌≤◌, Bool, Option, List, drop, length, map, slice_range, slice_index, nat_eq, MatchOption}
 use Rattle.std.specs.List.{range_with_len, IsDistinct}
 use Rattle.std.specs.Set.{distinct_count}
 use Rattle.std.specs.Cmp.Lexicographic.{pointwise}
@@ -17,6 +17,14 @@ blocks width numbers = map (block width numbers) (range_with_len 0 (length numbe
 -- how many different blocks those are, where a block counts once however often it comes
 unfoldable pub different_blocks : {T : Type 0} → (T → ℕ) → ℕ → List T → ℕ
 different_blocks number width values = distinct_count (pointwise nat_eq) (blocks width (map number values))
+
+-- the code point from which on a trie of either type has blocks of 16
+unfoldable pub upper_start : ℕ
+upper_start = 0x1_0000
+
+-- how many different blocks of 16 there are from there on
+abbrev pub upper_blocks : {T : Type 0} → (T → ℕ) → List T → ℕ
+upper_blocks number values = different_blocks number 16 (drop upper_start values)
 
 -- blocks of those between two numbers, no two of them alike
 pub record AreKept (width : ℕ) (values : List ℕ) (first end : ℕ) (kept : List ℕ) : Type 0 where

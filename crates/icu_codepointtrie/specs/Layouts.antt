@@ -45,11 +45,15 @@ pub record IsLayout (values cells : List ℕ) (l : Layout) : Type 0 where
   pub small : (w i : ℕ) (head : List ℕ) → fast_limit l.trie_type / 512 ≤ w → w < l.wide_end → i < 32 → length head ≡ third_start l.trie_type l.wide_end → IsFoundSmall values cells l w i head
   pub run : IsLastRun values l.wide_end
 
+-- how many different blocks of 16 there may be from the fast limit on: 12,000, and all below U+10000
+abbrev pub small_room : TrieType → ℕ
+small_room trie_type = 12000 + (0x1000 - fast_limit trie_type / 16)
+
 -- the cells are no more than different blocks take, and 128
 abbrev pub AreFew : List ℕ → TrieType → ℕ → ℕ → Type 0
 AreFew values trie_type wide_end count = (fast small : ℕ)
-    × TakeFew 64 values 2 (fast_limit trie_type / 64) 1022 fast
-    × TakeFew 16 values (fast_limit trie_type / 16) (32 * wide_end) 12000 small
+    × TakeFew 64 values 2 (fast_limit trie_type / 64) (fast_limit trie_type / 64 - 2) fast
+    × TakeFew 16 values (fast_limit trie_type / 16) (32 * wide_end) (small_room trie_type) small
     × (count ≤ 128 + fast + small)
 
 -- the index cell at a place before the third blocks

@@ -1,8 +1,8 @@
 -- How many characters full lists take, beside the words that state them.
-use Rattle.std.specs.Prelude.{ℕ, ◌≤◌, ◌/◌, Bool, false, cond, ltb, List, [], ◌∷◌, All, length, map, nat_eq, sum_by}
+use Rattle.std.specs.Prelude.{ℕ, ◌≤◌, Bool, false, cond, ltb, List, [], ◌∷◌, All, length, nat_eq, sum_by}
 use Rattle.std.specs.List.{IsDistinct, list_any}
-use Rattle.std.specs.Set.{distinct_count}
 use Rattle.icu_normalizer_core.specs.BuiltIn.{is_within}
+use Rattle.icu_normalizer_core.specs.Named.{block_count, narrow_block, wide_block}
 
 -- one character below U+10000, which needs no list
 abbrev pub is_stated : List ℕ → Bool
@@ -16,6 +16,6 @@ list_room step ds = cond (list_any (λ d. ltb 0 (length (step d))) ds) 8 (cond (
 
 -- What tables have room for: the aligned blocks in which characters are named, and the lists of those that are mapped.
 pub record HasRoom (step : ℕ → List ℕ) (IsMapped : ℕ → Type 0) (names : List ℕ) : Type 0 where
-  pub wide : distinct_count nat_eq (map (λ c. c / 512) names) ≤ 700
-  pub narrow : distinct_count nat_eq (map (λ c. c / 16) names) ≤ 11000
+  pub wide : block_count wide_block names ≤ 700
+  pub narrow : block_count narrow_block names ≤ 11000
   pub lists : (cs : List ℕ) → IsDistinct nat_eq cs → All IsMapped cs → sum_by (λ c. list_room step (step c)) cs ≤ 16000

@@ -110,8 +110,27 @@ fn reads_within_the_standard_limits(rt: HostRuntime) -> Result<(), Fail> {
 #[test]
 fn counts_blocks(rt: HostRuntime) -> Result<(), Fail> {
     assert!(rt; is_most(rt.alloc(), "class", 512, " 0", 699)?);
-    assert!(rt; is_most(rt.alloc(), "class", 16, " 0", 10_999)?);
+    assert!(rt; is_most(rt.alloc(), "class", 16, " 0", 11_000)?);
     assert!(rt; is_most(rt.alloc(), "range", 1, " 10FFFF E0020200 1", 233)?);
+    Ok(())
+}
+
+#[test]
+fn counts_no_block_of_sixteen_below_10000(rt: HostRuntime) -> Result<(), Fail> {
+    let alloc = rt.alloc();
+    let mut file = repeated(alloc, "class", 16, " 0", 11_000)?;
+    for block in 0..0xd80u32 {
+        file.push_str(&format!(in alloc; "class {:04X} 0\n", 16 * block)?)?;
+    }
+    assert_eq!(rt;
+        fault_within(alloc, file.as_bytes(), Limits::UNICODE),
+        at(1, Rule::C1)
+    );
+    file.push_str("class 50000 0\n")?;
+    assert_eq!(rt;
+        fault_within(alloc, file.as_bytes(), Limits::UNICODE),
+        at(14_458, Rule::Limit)
+    );
     Ok(())
 }
 

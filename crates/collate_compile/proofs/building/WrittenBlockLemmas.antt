@@ -1,13 +1,12 @@
 -- A map that differs from another only at some characters: it has at most as many different blocks more as the blocks of
 -- these characters are.
-use Rattle.std.proofs.Common.{◌≡◌, ℕ, ◌+◌, ◌*◌, ◌/◌, ◌<◌, ◌≤◌, ◌==◌, ◌||◌, Bool, true, false, cond, List, [], ◌∷◌, ◌++◌, length, map, get_or, refl, sym, ap, ◌∙◌, subst, arith}
+use Rattle.std.proofs.Common.{◌≡◌, ℕ, ◌+◌, ◌-◌, ◌*◌, ◌/◌, ◌<◌, ◌≤◌, ◌==◌, ◌||◌, Bool, true, false, cond, List, [], ◌∷◌, ◌++◌, length, map, drop, get_or, refl, sym, ap, ◌∙◌, subst, arith}
 use Rattle.std.specs.List.{Contains}
 use Rattle.std.specs.Set.{distinct_count, is_member, unique_keys}
 use Rattle.std.proofs.lemmas.Bool.{eq-eqb, eqb-true, false_from_ne_true, false≢true, or_left, or_right}
-use Rattle.std.proofs.lemmas.List.{get_or-map, length-map}
+use Rattle.std.proofs.lemmas.List.{get_or-drop, get_or-map, length-drop, length-map}
 use Rattle.std.proofs.lemmas.List.Folds.{list_any-append}
 use Rattle.std.proofs.lemmas.Map.Made.{is_member-Decides}
-use Rattle.std.proofs.lemmas.Nat.{div-mul-add}
 use Rattle.std.proofs.lemmas.Slice.Eq.{bytes_eq-Decides}
 use Rattle.icu_codepointtrie.specs.Blocks.{block, blocks, different_blocks}
 use Rattle.icu_codepointtrie.proofs.built.BlockCountLemmas.{Same, among_blocks, block_among, count_below, whole_block}
@@ -77,12 +76,13 @@ some_more f bs (p ∷ ps) = by (is_among p ps) refl (some_more f bs ps)
         )
     by false e few = omega (arith, few, one_more (f p) (map f ps ++ bs))
 
--- ---- Two lists of numbers that are alike but at some places
+-- ---- Two lists of numbers, of the code points from one on, that are alike but at some
 
-module _ (width : ℕ) (xs ys cs : List ℕ) (count : length ys ≡ length xs)
-    (same : (k : ℕ) → k < length xs → is_among k cs ≡ false → get_or ys k 0 ≡ get_or xs k 0) where
+module _ (width start : ℕ) (block_of : ℕ → ℕ) (is_block : (j k : ℕ) → k < width → block_of (start + (j * width + k)) ≡ j)
+    (xs ys cs : List ℕ) (count : length ys ≡ length xs)
+    (same : (k : ℕ) → k < length xs → is_among (start + k) cs ≡ false → get_or ys k 0 ≡ get_or xs k 0) where
   places : List ℕ
-  places = map (λ c. c / width) cs
+  places = map block_of cs
 
   -- a block in which none of the places is
   other_block : (j : ℕ) → is_among j places ≡ false → j * width + width ≤ length xs → block width ys j ≡ block width xs j
@@ -91,13 +91,13 @@ module _ (width : ℕ) (xs ys cs : List ℕ) (count : length ys ≡ length xs)
       sym (same_block width xs ys j j whole (omega (arith, count, whole))
       (λ k h. sym (same (j * width + k) (omega (arith, whole)) (apart k h))))
     where
-      apart : (k : ℕ) → k < width → is_among (j * width + k) cs ≡ false
+      apart : (k : ℕ) → k < width → is_among (start + (j * width + k)) cs ≡ false
       apart k h =
-          false_from_ne_true (is_among (j * width + k) cs)
+          false_from_ne_true (is_among (start + (j * width + k)) cs)
           (λ among.
           false≢true (sym none
-          ∙ ap (λ (i : ℕ). is_among i (map (λ c. c / width) cs)) (sym (div-mul-add j width k h))
-          ∙ among_mapped (λ c. c / width) (j * width + k) cs among))
+          ∙ ap (λ (i : ℕ). is_among i (map block_of cs)) (sym (is_block j k h))
+          ∙ among_mapped block_of (start + (j * width + k)) cs among))
 
   among : (q : List ℕ) → Contains (blocks width ys) q → Contains (map (block width ys) places ++ blocks width xs) q
   among q in_ys =
@@ -118,7 +118,7 @@ module _ (width : ℕ) (xs ys cs : List ℕ) (count : length ys ≡ length xs)
           (sym (other_block j e (whole_block width (length xs) j below)) ∙ is)))
 
   blocks_beside : distinct_count Same (blocks width ys)
-      ≤ distinct_count Same (blocks width xs) + different (map (λ c. c / width) cs)
+      ≤ distinct_count Same (blocks width xs) + different (map block_of cs)
   unfolding places
   blocks_beside =
       omega (
@@ -128,15 +128,22 @@ module _ (width : ℕ) (xs ys cs : List ℕ) (count : length ys ≡ length xs)
       )
 
 -- a map that differs from another only at some code points
-pub different_blocks-beside : {T : Type 0} (number : T → ℕ) (width : ℕ) (old new : List T) (cs : List ℕ) (d e : T)
-    → length new ≡ length old
+pub different_blocks-beside : {T : Type 0} (number : T → ℕ) (width start : ℕ) (block_of : ℕ → ℕ)
+    → ((j k : ℕ) → k < width → block_of (start + (j * width + k)) ≡ j)
+    → (old new : List T) (cs : List ℕ) (d e : T) → length new ≡ length old
     → ((c : ℕ) → c < length old → is_among c cs ≡ false → get_or new c d ≡ get_or old c e)
-    → different_blocks number width new ≤ different_blocks number width old + different (map (λ c. c / width) cs)
+    → different_blocks number width (drop start new)
+    ≤ different_blocks number width (drop start old) + different (map block_of cs)
 unfolding different_blocks
-different_blocks-beside number width old new cs d e count same =
-    blocks_beside width (map number old) (map number new) cs
-    (length-map new number ∙ count ∙ sym (length-map old number))
+different_blocks-beside {T} number width start block_of is_block old new cs d e count same =
+    blocks_beside width start block_of is_block (map number (drop start old)) (map number (drop start new)) cs
+    (length-map (drop start new) number ∙ lengths ∙ sym (length-map (drop start old) number))
     (λ k h other.
-    let inside : k < length old = omega (arith, h, length-map old number) in
-    get_or-map number new k d 0 (omega (arith, inside, count)) ∙ ap number (same k inside other)
-    ∙ sym (get_or-map number old k e 0 inside))
+    let inside : k < length (drop start old) = omega (arith, h, length-map (drop start old) number) in
+    let at : start + k < length old = omega (arith, inside, length-drop start old) in
+    get_or-map number (drop start new) k d 0 (omega (arith, inside, lengths))
+    ∙ ap number (get_or-drop start new k d ∙ same (start + k) at other ∙ sym (get_or-drop start old k e))
+    ∙ sym (get_or-map number (drop start old) k e 0 inside))
+  where
+    lengths : length (drop start new) ≡ length (drop start old)
+    lengths = length-drop start new ∙ ap (λ (n : ℕ). n - start) count ∙ sym (length-drop start old)

@@ -14,6 +14,7 @@ use Rattle.collate_lines.specs.Repeats.{record_at}
 use Rattle.collate_rules.specs.Accepted.{AreAccepted, IsSaid}
 use Rattle.collate_rules.specs.GivenWeights.{KeepsWidths, elements_of, has_sound_tertiary}
 use Rattle.collate_rules.specs.RecordRules.{breaks_digits, breaks_prefixes}
+use Rattle.icu_normalizer_core.specs.Named.{narrow_block, wide_block}
 use Rattle.collate_rules.specs.Rules.{IsLong, blocks_in, different, element_room, is_beside}
 use Rattle.collate_rules.proofs.given.GrammarLemmas.{line_keeps_widths}
 use Rattle.collate_rules.proofs.offenders.LineRuleLemmas.{each_line}
@@ -162,16 +163,16 @@ accepted_texts records accepted =
     within (count_by is_beside) 2600 (omega arith) records
     (λ i lt over. accepted.keep_rules Limit i lt (inl (inr (inr (inr (inl over))))))
 
-no_block : (width : ℕ) → blocks_in width [] ≡ 0
+no_block : (block_of : ℕ → ℕ) → blocks_in block_of [] ≡ 0
 unfolding different
-no_block width = refl
+no_block block_of = refl
 
-pub accepted_wide : (records : List Record) → AreAccepted records → blocks_in 512 records ≤ 700
+pub accepted_wide : (records : List Record) → AreAccepted records → blocks_in wide_block records ≤ 700
 accepted_wide records accepted =
-    within (blocks_in 512) 700 (omega (arith, no_block 512)) records
+    within (blocks_in wide_block) 700 (omega (arith, no_block wide_block)) records
     (λ i lt over. accepted.keep_rules Limit i lt (inl (inl over)))
 
-pub accepted_narrow : (records : List Record) → AreAccepted records → blocks_in 16 records ≤ 11000
+pub accepted_narrow : (records : List Record) → AreAccepted records → blocks_in narrow_block records ≤ 11000
 accepted_narrow records accepted =
-    within (blocks_in 16) 11000 (omega (arith, no_block 16)) records
+    within (blocks_in narrow_block) 11000 (omega (arith, no_block narrow_block)) records
     (λ i lt over. accepted.keep_rules Limit i lt (inl (inr (inl over))))

@@ -10,6 +10,7 @@ use Rattle.icu_normalizer_core.specs.BuiltIn.{built_in_class}
 use Rattle.icu_normalizer_core.specs.Canonical.{Canonical, Leaves, composed}
 use Rattle.icu_normalizer_core.specs.CanonicalMaps.{AreMeaning, KeepRulesWithin, IsMapped, BeginsWithStarter, given_step, named as named_by, step_of as step_of_maps}
 use Rattle.icu_normalizer_core.specs.ListRoom.{HasRoom, list_room}
+use Rattle.icu_normalizer_core.specs.Named.{narrow_block, wide_block}
 use Rattle.icu_normalizer_core.specs.Sameness.{AreSameCanonical}
 use Rattle.icu_normalizer_core.proofs.settling.LeftLemmas.{left_one}
 use Rattle.icu_normalizer_core.proofs.builder.AcceptedMapsSameLemmas.{AreAlike, composed_same, one_meaning}
@@ -120,8 +121,8 @@ module _ (records : List Record) (accepted : AreAccepted records) where
   has_room =
       let fit = all_fit records (accepted.keep_rules Limit) in
       record {
-        wide = maps_few_blocks records 512 700 (omega (arith, fit.wide));
-        narrow = maps_few_blocks records 16 11000 (omega (arith, fit.narrow));
+        wide = maps_few_blocks records wide_block 700 (omega (arith, fit.wide));
+        narrow = maps_few_blocks records narrow_block 11000 (omega (arith, fit.narrow));
         lists = λ cs distinct all.
             let below = rooms_within canonical_key (canonical_room records) records (λ c. list_room (step_of_maps (maps_of records)) (step_of_maps (maps_of records) c)) (IsMapped (maps_of records)) mapped_room cs distinct all in
             omega (arith, below, fit.canonical);

@@ -1,5 +1,5 @@
 -- The maps of both kinds of accepted lines: what they mean, and the rules that they keep.
-use Rattle.std.proofs.Common.{◌≡◌, ℕ, ◌≤◌, inl, inr, ⊎_elim, Bool, true, false, ◌||◌, ◌&&◌, List, [], ◌∷◌, ◌++◌, length, All, Option, Some, None, map, ◌/◌, refl, sym, ap, ◌∙◌, arith, subst}
+use Rattle.std.proofs.Common.{◌≡◌, ℕ, ◌≤◌, inl, inr, ⊎_elim, Bool, true, false, ◌||◌, ◌&&◌, List, [], ◌∷◌, ◌++◌, length, All, Option, Some, None, map, refl, sym, ap, ◌∙◌, arith, subst}
 use Rattle.std.specs.Prelude.{flat_map, nat_eq, sum_by}
 use Rattle.std.proofs.Math.Path.{fun_ext}
 use Rattle.std.specs.Char.{IsScalar}
@@ -16,6 +16,7 @@ use Rattle.icu_normalizer_core.specs.Canonical.{Leaves}
 use Rattle.icu_normalizer_core.specs.CanonicalMaps.{BeginsWithStarter, CanonicalMaps, KeepRulesWithin, class_of as class_of_maps, first_mapping, mapping_given, named as named_by, step_of as step_of_maps}
 use Rattle.icu_normalizer_core.specs.CompatibilityMaps.{AllMaps, AreApart, AreMeaningOf, HaveOneCompatibility, IsMappedAtAll, KeepAllRulesWithin, KeepCompatibleRules, all_named, all_steps_of, compatibility_step, else_mapped, given_compatibility, is_built_in_compatibility}
 use Rattle.icu_normalizer_core.specs.ListRoom.{HasRoom, list_room}
+use Rattle.icu_normalizer_core.specs.Named.{narrow_block, wide_block}
 use Rattle.icu_normalizer_core.specs.Words.{WordLists}
 use Rattle.icu_normalizer_core.proofs.settling.LeftLemmas.{left_one, left_same}
 use Rattle.icu_normalizer_core.proofs.builder.AllStepLemmas.{all_second, cases_step, step_apart, step_fixed, step_given, unbound}
@@ -118,9 +119,9 @@ module _ (records : List Record) (maps : AllMaps) (accepted : AreAccepted record
   few_names : (limit : ℕ) → names_in records ≤ limit → distinct_count nat_eq (all_named maps) ≤ limit
   few_names limit few = subst (λ (names : List ℕ). distinct_count nat_eq names ≤ limit) (sym names_same) (all_maps_few records limit few)
 
-  few_blocks : (width limit : ℕ) → blocks_in width records ≤ limit → distinct_count nat_eq (map (λ c. c / width) (all_named maps)) ≤ limit
-  few_blocks width limit few =
-      subst (λ (names : List ℕ). distinct_count nat_eq (map (λ c. c / width) names) ≤ limit) (sym names_same) (all_maps_few_blocks records width limit few)
+  few_blocks : (block_of : ℕ → ℕ) (limit : ℕ) → blocks_in block_of records ≤ limit → distinct_count nat_eq (map block_of (all_named maps)) ≤ limit
+  few_blocks block_of limit few =
+      subst (λ (names : List ℕ). distinct_count nat_eq (map block_of names) ≤ limit) (sym names_same) (all_maps_few_blocks records block_of limit few)
 
   -- the character that a line maps
   abbrev either_key : Record → Option ℕ
@@ -165,8 +166,8 @@ module _ (records : List Record) (maps : AllMaps) (accepted : AreAccepted record
   has_room =
       let fit = all_fit records (accepted.keep_rules Limit) in
       record {
-        wide = few_blocks 512 700 fit.wide;
-        narrow = few_blocks 16 11000 fit.narrow;
+        wide = few_blocks wide_block 700 fit.wide;
+        narrow = few_blocks narrow_block 11000 fit.narrow;
         lists = λ cs distinct all.
             let below = rooms_within either_key (mapping_room records) records (λ c. list_room (all_steps_of maps) (all_steps_of maps c)) (IsMappedAtAll maps) mapped_room cs distinct all in
             omega (arith, below, fit.mappings);

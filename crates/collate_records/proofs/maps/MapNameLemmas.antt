@@ -1,5 +1,5 @@
 -- The characters that maps of lines name: each class and each mapping has its own, and few are named.
-use Rattle.std.proofs.Common.{◌≡◌, ℕ, ◌≤◌, ◌/◌, ⊎_elim, Bool, true, false, cond, ◌||◌, eqb, List, [], ◌∷◌, ◌++◌, length, map, refl, sym, ap, ◌∙◌, arith, subst, All, ◌<◌}
+use Rattle.std.proofs.Common.{◌≡◌, ℕ, ◌≤◌, ⊎_elim, Bool, true, false, cond, ◌||◌, eqb, List, [], ◌∷◌, ◌++◌, length, map, refl, sym, ap, ◌∙◌, arith, subst, All, ◌<◌}
 use Rattle.std.specs.Prelude.{flat_map}
 use Rattle.std.specs.Cmp.{nat_eq_equiv}
 use Rattle.std.specs.List.{list_any, AllByRecursion, IsDistinct}
@@ -96,15 +96,15 @@ module _ (records : List Record) (names : List ℕ) (within : (q : ℕ) → list
   few_named : (limit : ℕ) → names_in records ≤ limit → distinct_count eqb names ≤ limit
   few_named limit few = few_among names (flat_map named records) limit (omega (arith, few)) within
 
-  few_blocks : (width limit : ℕ) → blocks_in width records ≤ limit → distinct_count eqb (map (λ c. c / width) names) ≤ limit
-  few_blocks width limit few =
-      few_among (map (λ c. c / width) names) (map (λ c. c / width) (flat_map named records)) limit (omega (arith, few))
-      (mapped_within (λ c. c / width) names (flat_map named records) within)
+  few_blocks : (block_of : ℕ → ℕ) (limit : ℕ) → blocks_in block_of records ≤ limit → distinct_count eqb (map block_of names) ≤ limit
+  few_blocks block_of limit few =
+      few_among (map block_of names) (map block_of (flat_map named records)) limit (omega (arith, few))
+      (mapped_within block_of names (flat_map named records) within)
 
 pub maps_few : (records : List Record) (limit : ℕ) → names_in records ≤ limit → distinct_count eqb (named_by (maps_of records)) ≤ limit
 maps_few records = few_named records (named_by (maps_of records)) (λ q is. all_named q records is)
 
-pub maps_few_blocks : (records : List Record) (width limit : ℕ) → blocks_in width records ≤ limit → distinct_count eqb (map (λ c. c / width) (named_by (maps_of records))) ≤ limit
+pub maps_few_blocks : (records : List Record) (block_of : ℕ → ℕ) (limit : ℕ) → blocks_in block_of records ≤ limit → distinct_count eqb (map block_of (named_by (maps_of records))) ≤ limit
 maps_few_blocks records = few_blocks records (named_by (maps_of records)) (λ q is. all_named q records is)
 
 -- ---- With compatibility mappings
@@ -144,5 +144,5 @@ both_within records q is =
 pub all_maps_few : (records : List Record) (limit : ℕ) → names_in records ≤ limit → distinct_count eqb (both_named records) ≤ limit
 all_maps_few records = few_named records (both_named records) (both_within records)
 
-pub all_maps_few_blocks : (records : List Record) (width limit : ℕ) → blocks_in width records ≤ limit → distinct_count eqb (map (λ c. c / width) (both_named records)) ≤ limit
+pub all_maps_few_blocks : (records : List Record) (block_of : ℕ → ℕ) (limit : ℕ) → blocks_in block_of records ≤ limit → distinct_count eqb (map block_of (both_named records)) ≤ limit
 all_maps_few_blocks records = few_blocks records (both_named records) (both_within records)

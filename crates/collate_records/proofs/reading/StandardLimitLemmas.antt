@@ -1,5 +1,5 @@
 -- 150 code points and 1,000 lines never lack room in tables.
-use Rattle.std.proofs.Common.{◌≡◌, ℕ, ◌+◌, ◌*◌, ◌/◌, ◌<◌, ◌≤◌, ◌⊎◌, ◌↔◌, inl, inr, ⊎_elim, Bool, true, false, cond, eqb, List, [], ◌∷◌, length, map, take, get_or, All, refl, sym, ap, ◌∙◌, arith, subst}
+use Rattle.std.proofs.Common.{◌≡◌, ℕ, ◌+◌, ◌*◌, ◌<◌, ◌≤◌, ◌⊎◌, ◌↔◌, inl, inr, ⊎_elim, Bool, true, false, cond, eqb, List, [], ◌∷◌, length, map, take, get_or, All, refl, sym, ap, ◌∙◌, arith, subst}
 use Rattle.std.specs.Prelude.{count_by, flat_map, sum_by}
 use Rattle.std.specs.List.{filter, list_any}
 use Rattle.std.proofs.lemmas.Bool.{cases_Bool, cases_lt, eq-eqb}
@@ -12,6 +12,7 @@ use Rattle.collate_lines.specs.Limits.{standard}
 use Rattle.collate_lines.specs.Record.{Record, nothing, class, mapping, compatibility, weights, range, digit, setting}
 use Rattle.collate_lines.specs.Repeats.{record_at, says_something}
 use Rattle.collate_rules.specs.Accepted.{IsSaid}
+use Rattle.icu_normalizer_core.specs.Named.{narrow_block, wide_block}
 use Rattle.collate_rules.specs.Rules.{IsLong, IsOverLimit, blocks_in, canonical_room, different, element_room, is_beside, is_range, mapping_room, named, names_in}
 use Rattle.collate_rules.proofs.offenders.RoomLemmas.{FitTables, fit_room}
 use Rattle.collate_records.specs.StandardLimits.{PassesStandard}
@@ -35,9 +36,9 @@ fewer_mapped f (c ∷ cs) =
     picked (list_any (λ d. eqb c d) cs) (list_any (λ d. eqb (f c) d) (map f cs)) (different (map f cs)) (different cs) (fewer_mapped f cs)
     (λ is. member_mapped f (f c) c cs (eq-eqb (f c) (f c) refl) is)
 
-few_blocks : (width : ℕ) (lines : List Record) → names_in lines ≤ 150 → blocks_in width lines ≤ 450
-few_blocks width lines few =
-    let fewer = fewer_mapped (λ c. c / width) (flat_map named lines) in omega (arith, fewer, few)
+few_blocks : (block_of : ℕ → ℕ) (lines : List Record) → names_in lines ≤ 150 → blocks_in block_of lines ≤ 450
+few_blocks block_of lines few =
+    let fewer = fewer_mapped block_of (flat_map named lines) in omega (arith, fewer, few)
 
 -- ---- What a line takes
 
@@ -119,8 +120,8 @@ few_taken f each lines small few =
 
 few_fit : (records lines : List Record) → All IsSmall lines → names_in lines ≤ 150 → length (filter says_something lines) ≤ 1000 → FitTables records lines
 few_fit records lines small few_names few = record {
-  wide = omega (arith, few_blocks 512 lines few_names);
-  narrow = omega (arith, few_blocks 16 lines few_names);
+  wide = omega (arith, few_blocks wide_block lines few_names);
+  narrow = omega (arith, few_blocks narrow_block lines few_names);
   elements = omega (arith, few_taken element_room elements_small lines small few);
   beside = omega (arith, sum_by-le-sum_by (λ s. cond (is_beside s) 1 0) (λ s. cond (says_something s) 1 0) lines beside_says, length-filter says_something lines, few);
   canonical = omega (arith, few_taken (canonical_room records) (canonical_small records) lines small few);

@@ -1,5 +1,5 @@
 -- The limits, of the same lines in another order.
-use Rattle.std.proofs.Common.{◌≡◌, ℕ, ◌+◌, ◌/◌, ◌<◌, ◌≤◌, inl, inr, ⊎_elim, Bool, true, false, cond, ◌||◌, eqb, List, [], ◌∷◌, ◌++◌, length, map, take, drop, refl, sym, ap, ◌∙◌, subst, arith}
+use Rattle.std.proofs.Common.{◌≡◌, ℕ, ◌+◌, ◌<◌, ◌≤◌, inl, inr, ⊎_elim, Bool, true, false, cond, ◌||◌, eqb, List, [], ◌∷◌, ◌++◌, length, map, take, drop, refl, sym, ap, ◌∙◌, subst, arith}
 use Rattle.std.specs.Prelude.{count_by, flat_map, sum_by}
 use Rattle.std.specs.Cmp.{nat_eq_equiv}
 use Rattle.std.specs.List.{filter, list_any}
@@ -19,6 +19,7 @@ use Rattle.collate_lines.specs.Record.{Record, nothing, class, mapping, compatib
 use Rattle.collate_lines.specs.Repeats.{says_something}
 use Rattle.collate_rules.specs.Meaning.{any_step, step_of}
 use Rattle.collate_rules.specs.Offenders.{NoneOffends, NoneOffendsWithin}
+use Rattle.icu_normalizer_core.specs.Named.{narrow_block, wide_block}
 use Rattle.collate_rules.specs.Rules.{IsLong, blocks_in, canonical_room, different, element_room, is_beside, is_range, mapping_room, named, names_in}
 use Rattle.collate_rules.proofs.offenders.BreachLemmas.{none_over_together}
 use Rattle.collate_rules.proofs.offenders.RoomLemmas.{FitTables, all_fit, fit_room}
@@ -84,12 +85,11 @@ module _ (a b : List Record) (moved : IsPermutation a b) where
   names_within i =
       omega (arith, different_within (flat_map named (take i b)) (flat_map named a) (given_within named i), summed_within (λ s. cond (is_range s) 1 0) i)
 
-  blocks_within : (width i : ℕ) → blocks_in width (take i b) ≤ blocks_in width a
-  blocks_within width i =
-      let block : ℕ → ℕ = λ c. c / width in
-      let fewer = different_within (flat_map (λ r. map block (named r)) (take i b)) (flat_map (λ r. map block (named r)) a) (given_within (λ r. map block (named r)) i) in
-      let front = ap different (taken_each block named (take i b)) in
-      let whole = ap different (taken_each block named a) in
+  blocks_within : (block_of : ℕ → ℕ) (i : ℕ) → blocks_in block_of (take i b) ≤ blocks_in block_of a
+  blocks_within block_of i =
+      let fewer = different_within (flat_map (λ r. map block_of (named r)) (take i b)) (flat_map (λ r. map block_of (named r)) a) (given_within (λ r. map block_of (named r)) i) in
+      let front = ap different (taken_each block_of named (take i b)) in
+      let whole = ap different (taken_each block_of named a) in
       omega (arith, fewer, front, whole, summed_within (λ s. cond (is_range s) 1 0) i)
 
   records_within : (i : ℕ) → length (filter says_something (take i b)) ≤ length (filter says_something a)
@@ -109,8 +109,8 @@ module _ (a b : List Record) (moved : IsPermutation a b) where
 
     front_fits : (i : ℕ) → FitTables a a → FitTables b (take i b)
     front_fits i fit = record {
-      wide = omega (arith, fit.wide, blocks_within 512 i);
-      narrow = omega (arith, fit.narrow, blocks_within 16 i);
+      wide = omega (arith, fit.wide, blocks_within wide_block i);
+      narrow = omega (arith, fit.narrow, blocks_within narrow_block i);
       elements = omega (arith, fit.elements, summed_within element_room i);
       beside = omega (arith, fit.beside, summed_within (λ s. cond (is_beside s) 1 0) i);
       canonical = omega (arith, fit.canonical, canonical_within i);

@@ -9,6 +9,7 @@ use Rattle.std.proofs.lemmas.List.Elements.{filter-append}
 use Rattle.std.proofs.lemmas.List.Sums.{count_by-le-length, length-filter, sum_by_push}
 use Rattle.std.proofs.lemmas.Grind.{flat_map-append}
 use Rattle.std.proofs.lemmas.Option.{unwrap_or-slice_get}
+use Rattle.icu_normalizer_core.specs.Named.{narrow_block, wide_block}
 use Rattle.collate_lines.specs.declared.record.Record.{Record as Line}
 use Rattle.collate_lines.specs.declared.limits.Limits.{Limits}
 use Rattle.collate_lines.specs.Record.{Record, nothing, said}
@@ -114,10 +115,10 @@ more_than : (n a b : ℕ) → a ≡ b → n < a → n < b
 more_than n a b e h = omega (arith, e, h)
 
 module _ (records lines : List Record) (counts : Counts) (counted : AreCounted records lines counts) where
-  wide_same : btree_set_len counts.names.wide + 3 * counts.ranges ≡ blocks_in 512 lines
+  wide_same : btree_set_len counts.names.wide + 3 * counts.ranges ≡ blocks_in wide_block lines
   wide_same = omega (arith, counted.names.wide.count, counted.ranges)
 
-  narrow_same : btree_set_len counts.names.narrow + 3 * counts.ranges ≡ blocks_in 16 lines
+  narrow_same : btree_set_len counts.names.narrow + 3 * counts.ranges ≡ blocks_in narrow_block lines
   narrow_same = omega (arith, counted.names.narrow.count, counted.ranges)
 
   names_same : btree_set_len counts.names.characters + counts.ranges ≡ names_in lines

@@ -44,7 +44,7 @@ kept_distinct (x ∷ xs) = by (is_member Same xs x) refl (kept_distinct xs) wher
       (recursion_from_All (λ (y : List ℕ). Same x y ≡ false) (unique_keys Same xs) (λ k d h. false_from_ne_true _ (λ t. both_ways _ (members_kept xs x ∙ m) (list_any_at (Same x) (unique_keys Same xs) k d h t))), r)
 
 -- distinct items of a list are at most as many as the list has different ones
-distinct_below : (ns ys : List (List ℕ)) → IsDistinct Same ns → ((q : List ℕ) → Contains ns q → Contains ys q) → length ns ≤ distinct_count Same ys
+pub distinct_below : (ns ys : List (List ℕ)) → IsDistinct Same ns → ((q : List ℕ) → Contains ns q → Contains ys q) → length ns ≤ distinct_count Same ys
 distinct_below ns ys distinct covered =
     length-le_from_is_member nat_list_eq_equiv ns (unique_keys Same ys) distinct
     (λ q m. members_kept ys q ∙ (is_member-Decides bytes_eq-Decides ys q).1 (covered q ((is_member-Decides bytes_eq-Decides ns q).0 m)))
@@ -94,7 +94,7 @@ block_of_take xs limit b inside =
     rw front (take-take (b * 64 + 64 - b * 64) (limit - b * 64) (drop (b * 64) xs) (omega arith))
 
 -- of the numbers of the values from a multiple of 16 on
-block_of_drop : (xs : List ℕ) (first j : ℕ) → block 16 (drop (first * 16) xs) j ≡ block 16 xs (first + j)
+pub block_of_drop : (xs : List ℕ) (first j : ℕ) → block 16 (drop (first * 16) xs) j ≡ block 16 xs (first + j)
 block_of_drop xs first j =
     let start : first * 16 + j * 16 ≡ (first + j) * 16 = omega arith in
     let one : j * 16 + 16 - j * 16 ≡ 16 = omega arith in

@@ -79,16 +79,16 @@ seconds_small small entries kept at thirds start from inside gives i h =
     rw (get_or-map (slice_index entries) at i 0 0 h) ((gives (slice_index at i) (inside i h)).fits)
 
 -- so a layout of these parts has each block
-pub IsLayout-made : (values one two cells : List ℕ) (l : Layout) (limit : ℕ) (small entries kept at : List ℕ) → limit ≡ fast_limit l.trie_type → length values ≡ 0x11_0000 → l.wide_end ≤ 0x880
-    → Stands values 0 one 0 128 → Grows one two 65408 → AllStand 64 values 2 (limit / 64) two l.fast.items → Grows two cells 192000
+pub IsLayout-made : (values one two cells : List ℕ) (most_fast most_small : ℕ) (l : Layout) (limit : ℕ) (small entries kept at : List ℕ) → limit ≡ fast_limit l.trie_type → length values ≡ 0x11_0000 → l.wide_end ≤ 0x880
+    → Stands values 0 one 0 128 → Grows one two most_fast → AllStand 64 values 2 (limit / 64) two l.fast.items → Grows two cells most_small
     → l.seconds.items ≡ map (slice_index entries) at
     → AreKept 512 values (limit / 512) l.wide_end kept → ArePlaces 512 values (limit / 512) l.wide_end at kept → AllStand 16 values (limit / 16) (32 * l.wide_end) cells small
     → ((n : ℕ) → n < length kept → Gives (third_start l.trie_type l.wide_end) l.thirds.items (slice_index entries n) small ((slice_index kept n - limit / 512) * 32))
     → IsLastRun values l.wide_end → IsLayout values cells l
-IsLayout-made values one two cells l limit small entries kept at is count to first more fast most seconds are places stand gives run =
+IsLayout-made values one two cells most_fast most_small l limit small entries kept at is count to first more fast most seconds are places stand gives run =
     let x = type_facts l.trie_type in
     record {
-      fast = fast_stands values one two cells l.fast.items (fast_limit l.trie_type / 64) 65408 192000 first more (subst (λ n. AllStand 64 values 2 (n / 64) two l.fast.items) is fast) most;
+      fast = fast_stands values one two cells l.fast.items (fast_limit l.trie_type / 64) most_fast most_small first more (subst (λ n. AllStand 64 values 2 (n / 64) two l.fast.items) is fast) most;
       small = λ w i head low high inside head_is.
           let from : limit / 512 ≤ w = omega arith in
           let found = small_found values cells small entries kept at l.thirds.items (third_start l.trie_type l.wide_end) (limit / 512) l.wide_end (limit / 16) (omega (arith, x.1, x.2)) (λ b h. omega arith) are places stand gives w i head from high inside head_is in

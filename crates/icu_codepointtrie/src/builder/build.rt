@@ -1,7 +1,7 @@
 //! The trie of a map.
 ghost use Rattle.std.specs.Prelude.{◌≡◌, ◌+◌, ◌*◌, ◌<◌, ◌≤◌, ◌⊎◌, length, map, take, drop, IfOk, IfErr};
 ghost use Rattle.icu_codepointtrie.specs.Places.{fast_limit};
-ghost use Rattle.icu_codepointtrie.specs.Blocks.{different_blocks};
+ghost use Rattle.icu_codepointtrie.specs.Blocks.{different_blocks, upper_blocks};
 ghost use Rattle.icu_codepointtrie.specs.BuiltTries.{IsTrieOf, AreAllCells};
 ghost use Rattle.icu_codepointtrie.specs.declared.builder.compaction.CodePointTrieBuildError.TheVariants.{TooLarge, Memory};
 
@@ -29,12 +29,12 @@ impl<T: TrieValue> CodePointTrieBuilder<T> {
     /// 10FFFF (hex). Equal blocks of 64 code points below the fast limit, but the first two, and of
     /// 16 from there on share their data cells, and blocks overlap where their ends agree. From the
     /// last run of one value on there are no blocks. Refused as `TooLarge` where the map has more
-    /// than 800 different aligned blocks of 512 code points or more than 12,000 of 16, or as
-    /// `Memory`. The map is as before in any case.
+    /// than 800 different aligned blocks of 512 code points, or more than 12,000 of 16 from U+10000
+    /// on, or as `Memory`. The map is as before in any case.
     pub fn build(&self) -> Result<CodePointTrie<'static, T>, CodePointTrieBuildError>
         ensures reads { IfOk result (IsTrieOf self.now) }
         ensures cells { IfOk result (λ trie. length trie.cells ≤ 64 * different_blocks T.number 64 (take (fast_limit self.now.trie_type) self.now.values) + 16 * different_blocks T.number 16 (drop (fast_limit self.now.trie_type) self.now.values) + 160) }
-        ensures refused { IfErr result (λ error. (error ≡ Memory) ⊎ ((error ≡ TooLarge) × ((800 < different_blocks T.number 512 self.now.values) ⊎ (12000 < different_blocks T.number 16 self.now.values)))) }
+        ensures refused { IfErr result (λ error. (error ≡ Memory) ⊎ ((error ≡ TooLarge) × ((800 < different_blocks T.number 512 self.now.values) ⊎ (12000 < upper_blocks T.number self.now.values)))) }
     {
         let alloc = *self.values.allocator();
         let values = self.values.as_slice();

@@ -13,7 +13,7 @@ use thiserror::Error;
 #[derive(Clone, Copy, Debug, PartialEq, Eq, Error)]
 pub enum CodePointTrieBuildError {
     /// The map has more than 800 different aligned blocks of 512 code points, or more than 12,000
-    /// of 16.
+    /// of 16 from U+10000 on.
     #[error("too many different blocks")]
     TooLarge,
     /// Memory was refused.

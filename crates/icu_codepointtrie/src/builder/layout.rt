@@ -3,7 +3,7 @@ ghost use Rattle.std.specs.Prelude.{◌≡◌, ℕ, ◌+◌, ◌-◌, ◌*◌, �
 ghost use Rattle.icu_codepointtrie.specs.Places.{fast_limit};
 ghost use Rattle.icu_codepointtrie.specs.Blocks.{HasMore};
 ghost use Rattle.icu_codepointtrie.specs.DataCells.{Stands};
-ghost use Rattle.icu_codepointtrie.specs.Layouts.{AreBounded, IsLayout, IsLastRun, AreFew, second_start, third_start, index_cell, HasCells, HasIndex};
+ghost use Rattle.icu_codepointtrie.specs.Layouts.{AreBounded, IsLayout, IsLastRun, AreFew, second_start, small_room, third_start, index_cell, HasCells, HasIndex};
 ghost use Rattle.icu_codepointtrie.specs.declared.builder.compaction.CodePointTrieBuildError.TheVariants.{TooLarge, Memory};
 
 use super::super::trie::{CodePointTrieHeader, TrieType};
@@ -81,9 +81,20 @@ fn third_start(trie_type: TrieType, wide_end: usize) -> usize
     second_start(trie_type, wide_end) + (wide_end - trie_type.fast_limit() as usize / 512)
 }
 
+/// How many different blocks of 16 there may be from the fast limit on: 12,000, and all below U+10000.
+fn small_room(trie_type: TrieType) -> usize
+    ensures { result ≡ small_room trie_type }
+{
+    match trie_type {
+        TrieType::Fast => 12_000,
+        TrieType::Small => 15_840,
+    }
+}
+
 impl Layout {
     /// Puts the values of all code points among the cells, equal blocks once. Refused as `TooLarge`
-    /// where more than 800 blocks of 512 or 12,000 of 16 are different, or as `Memory`.
+    /// where more than 800 blocks of 512 are different, or more than 12,000 of 16 from U+10000 on, or
+    /// as `Memory`.
     pub(super) fn new<T: TrieValue>(
         alloc: Global,
         cells: &mut Vec<T>,
@@ -96,14 +107,15 @@ impl Layout {
         ensures bounds { IfOk result AreBounded }
         ensures trie_type { IfOk result (λ layout. layout.trie_type ≡ trie_type) }
         ensures few { IfOk result (λ layout. AreFew (map T.number values.now) trie_type layout.wide_end (length cells.new.items)) }
-        ensures refused { IfErr result (λ e. (e ≡ Memory) ⊎ ((e ≡ TooLarge) × (HasMore 512 (map T.number values.now) (fast_limit trie_type / 512) 0x880 800 ⊎ HasMore 16 (map T.number values.now) (fast_limit trie_type / 16) 0x1_1000 12000))) }
+        ensures refused { IfErr result (λ e. (e ≡ Memory) ⊎ ((e ≡ TooLarge) × (HasMore 512 (map T.number values.now) (fast_limit trie_type / 512) 0x880 800 ⊎ HasMore 16 (map T.number values.now) (fast_limit trie_type / 16) 0x1_1000 (small_room trie_type)))) }
     {
         let limit = trie_type.fast_limit() as usize;
         put_first_blocks(cells, values)?;
-        let fast = places_of(alloc, cells, values, 64, 2, limit / 64, 1022)?;
+        let fast = places_of(alloc, cells, values, 64, 2, limit / 64, limit / 64 - 2)?;
         let wide_end = end_of_blocks(values, limit);
         let wide = Compaction::new(alloc, values, 512, limit / 512, wide_end, 800)?;
-        let small = places_of(alloc, cells, values, 16, limit / 16, 32 * wide_end, 12_000)?;
+        let room = small_room(trie_type);
+        let small = places_of(alloc, cells, values, 16, limit / 16, 32 * wide_end, room)?;
         let start = third_start(trie_type, wide_end);
         let blocks = third_blocks(
             alloc,

@@ -14,6 +14,7 @@ use Rattle.std.proofs.lemmas.List.Elements.{All-cons, All-head, All-nil, All-tai
 use Rattle.std.proofs.lemmas.List.Folds.{list_any-append}
 use Rattle.std.proofs.lemmas.Map.Made.{distinct_count-le, length-from_keys}
 use Rattle.std.proofs.lemmas.Map.Steps.{list_any_congr}
+use Rattle.icu_codepointtrie.proofs.built.UpperBlockLemmas.{count_joined}
 use Rattle.icu_normalizer_core.specs.declared.canonical.builder.GivenClass.{GivenClass}
 use Rattle.icu_normalizer_core.specs.declared.canonical.builder.GivenCompatibility.{GivenCompatibility}
 use Rattle.icu_normalizer_core.specs.declared.canonical.builder.GivenMapping.{GivenMapping}
@@ -24,14 +25,13 @@ use Rattle.icu_normalizer_core.specs.CompatibilityMaps.{all_named}
 use Rattle.icu_normalizer_core.specs.GivenMaps.{IsOfScalars}
 use Rattle.icu_normalizer_core.specs.InOrder.{AreFirstsInOrder, Rise, first_of}
 use Rattle.icu_normalizer_core.specs.MapNumbers.{mapping_number, mapping_numbers}
-use Rattle.icu_normalizer_core.specs.Named.{AreDistinctOf, AreInFewBlocks, block_count, with_new}
+use Rattle.icu_normalizer_core.specs.Named.{AreDistinctOf, AreInFewBlocks, block_count, narrow_block, wide_block, with_new}
 use Rattle.icu_normalizer_core.specs.Settled.{IsAmong}
 use Rattle.icu_normalizer_core.specs.SettledMappings.{HasAllNamed}
 use Rattle.icu_normalizer_core.proofs.built.BuiltInFacts.{high_scalar}
 use Rattle.icu_normalizer_core.proofs.builder.AcceptedMapsLimitLemmas.{behind_named, distinct_among, front_named, keys_named, members_kept}
 use Rattle.icu_normalizer_core.proofs.builder.CharacterWordLemmas.{index_got}
 use Rattle.icu_normalizer_core.proofs.builder.MapNumberLemmas.{mapping_parts}
-use Rattle.icu_normalizer_core.proofs.builder.MoreBlockLemmas.{count_joined}
 
 -- ---- One character more
 
@@ -172,15 +172,15 @@ count_image f xs =
 -- characters, each once, stand in few blocks where all do
 pub few_blocks : (all list : List ℕ) → AreDistinctOf all list → AreInFewBlocks all → AreInFewBlocks list
 few_blocks all list of few = record {
-  wide = omega (arith, few.wide, count_images (λ c. c / 512) list all (λ q m. sym (of.same q) ∙ m));
-  narrow = omega (arith, few.narrow, count_images (λ c. c / 16) list all (λ q m. sym (of.same q) ∙ m));
+  wide = omega (arith, few.wide, count_images wide_block list all (λ q m. sym (of.same q) ∙ m));
+  narrow = omega (arith, few.narrow, count_images narrow_block list all (λ q m. sym (of.same q) ∙ m));
 }
 
 -- each character in front of a list stands in one block more at most
-pub blocks_joined : (width : ℕ) (xs ys : List ℕ) → block_count width (xs ++ ys) ≤ length xs + block_count width ys
-blocks_joined width xs ys =
-    let split : map (λ c. c / width) (xs ++ ys) ≡ map (λ c. c / width) xs ++ map (λ c. c / width) ys = map_joined (λ c. c / width) xs ys in
-    omega (arith, count_joined nat_eq (map (λ c. c / width) xs) (map (λ c. c / width) ys), ap (distinct_count nat_eq) split, length-map xs (λ c. c / width))
+pub blocks_joined : (block_of : ℕ → ℕ) (xs ys : List ℕ) → block_count block_of (xs ++ ys) ≤ length xs + block_count block_of ys
+blocks_joined block_of xs ys =
+    let split : map block_of (xs ++ ys) ≡ map block_of xs ++ map block_of ys = map_joined block_of xs ys in
+    omega (arith, count_joined nat_eq (map block_of xs) (map block_of ys), ap (distinct_count nat_eq) split, length-map xs block_of)
 
 -- ---- What a list has
 

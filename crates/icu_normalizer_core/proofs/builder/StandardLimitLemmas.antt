@@ -1,5 +1,5 @@
 -- Maps of at most 150 characters never lack room.
-use Rattle.std.proofs.Common.{◌≡◌, ◌≢◌, ℕ, ◌/◌, ◌≤◌, ◌==◌, ◌||◌, ⊎_elim, Bool, true, false, cond, ltb, List, [], ◌∷◌, length, map, flat_map, nat_eq, Option, Some, None, refl, sym, ap, subst, ◌∙◌, arith}
+use Rattle.std.proofs.Common.{◌≡◌, ◌≢◌, ℕ, ◌≤◌, ◌==◌, ◌||◌, ⊎_elim, Bool, true, false, cond, ltb, List, [], ◌∷◌, length, map, flat_map, nat_eq, Option, Some, None, refl, sym, ap, subst, ◌∙◌, arith}
 use Rattle.std.specs.Char.{IsScalar}
 use Rattle.std.specs.List.{All, find, list_any}
 use Rattle.std.specs.Option.{is_some, unwrap_or}
@@ -16,6 +16,7 @@ use Rattle.icu_normalizer_core.specs.CanonicalMaps.{CanonicalMaps, IsMapped, Kee
 use Rattle.icu_normalizer_core.specs.CompatibilityMaps.{AllMaps, IsMappedAtAll, KeepAllRules, KeepAllRulesWithin, KeepCompatibilityRulesWithin, all_named, all_steps_of, given_compatibility}
 use Rattle.icu_normalizer_core.specs.ListRoom.{HasRoom, list_room}
 use Rattle.icu_normalizer_core.specs.ListWords.{places_of}
+use Rattle.icu_normalizer_core.specs.Named.{narrow_block, wide_block}
 use Rattle.icu_normalizer_core.proofs.builder.AcceptedMapsLimitLemmas.{behind_named, distinct_among, front_named, keys_named}
 use Rattle.icu_normalizer_core.proofs.builder.AcceptedMappingLemmas.{find_true}
 use Rattle.icu_normalizer_core.proofs.builder.AllStepLemmas.{all_first, all_second, cases_list, cases_step, step_given}
@@ -29,8 +30,8 @@ use Rattle.icu_normalizer_core.proofs.builder.NamedLemmas.{count_image}
 few_names : (step : ℕ → List ℕ) (IsMapped : ℕ → Type 0) (names : List ℕ) → distinct_count nat_eq names ≤ 150
     → ((c : ℕ) → IsMapped c → is_member nat_eq names c ≡ true) → ((c : ℕ) → IsMapped c → list_room step (step c) ≤ 8) → HasRoom step IsMapped names
 few_names step IsMapped names few there short = record {
-  wide = omega (arith, few, count_image (λ c. c / 512) names);
-  narrow = omega (arith, few, count_image (λ c. c / 16) names);
+  wide = omega (arith, few, count_image wide_block names);
+  narrow = omega (arith, few, count_image narrow_block names);
   lists = λ cs distinct mapped.
       let most : length cs ≤ distinct_count nat_eq names = distinct_among cs names distinct (λ q m. there q (one_of cs q mapped m)) in
       omega (arith, few, most, sum_by-le (λ c. list_room step (step c)) 8 cs (each cs mapped));

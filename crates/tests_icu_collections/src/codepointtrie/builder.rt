@@ -111,17 +111,18 @@ fn too_many_blocks(rt: HostRuntime) {
     assert!(rt; is_too_large(rt.alloc(), TrieType::Small));
 }
 
-/// Gives 10000 + 10 * i (hex) the value i + 1, for each i below 11,999; whether all is taken.
+/// Gives 1000 + 10 * i (hex) the value i + 1, for each i below 15,839, of which 11,999 lie from 10000 (hex) on; whether
+/// all is taken.
 fn gives_blocks(map: &mut CodePointTrieBuilder<u32>) -> bool {
-    for number in 0..11_999u32 {
-        if map.set_value(0x1_0000 + 0x10 * number, number + 1).is_err() {
+    for number in 0..15_839u32 {
+        if map.set_value(0x1000 + 0x10 * number, number + 1).is_err() {
             return false;
         }
     }
     true
 }
 
-// the value i + 1 at 10000 + 10 * i (hex) for each i below 11,999, else 0
+// the value i + 1 at 1000 + 10 * i (hex) for each i below 15,839, else 0
 fn row_of_blocks(alloc: Global, trie_type: TrieType) -> Option<CodePointTrie<'static, u32>> {
     let mut map = CodePointTrieBuilder::new(alloc, 0u32, 0, trie_type).ok()?;
     if gives_blocks(&mut map) {
@@ -133,8 +134,8 @@ fn row_of_blocks(alloc: Global, trie_type: TrieType) -> Option<CodePointTrie<'st
 
 /// Whether a trie has these values, and 0 behind each.
 fn has_blocks(trie: &CodePointTrie<'_, u32>) -> bool {
-    for number in 0..11_999u32 {
-        let code_point = 0x1_0000 + 0x10 * number;
+    for number in 0..15_839u32 {
+        let code_point = 0x1000 + 0x10 * number;
         if trie.get32(code_point) != number + 1 || trie.get32(code_point + 1) != 0 {
             return false;
         }

@@ -3,7 +3,7 @@
 ghost use Rattle.std.specs.Prelude.{◌≡◌, ◌≤◌, ◌⊎◌, [], true, false, nat_eq, IfOk, IfErr, OnOk, All};
 ghost use Rattle.std.specs.Char.{IsScalar};
 ghost use Rattle.std.specs.Set.{distinct_count};
-ghost use Rattle.icu_codepointtrie.specs.Blocks.{different_blocks};
+ghost use Rattle.icu_codepointtrie.specs.Blocks.{different_blocks, upper_blocks};
 ghost use Rattle.icu_codepointtrie.specs.BuiltTries.{IsTrieOf};
 ghost use Rattle.icu_normalizer_core.specs.declared.canonical.builder.CanonicalDataBuildError.TheVariants.{Rules, Memory};
 ghost use Rattle.icu_normalizer_core.specs.BuiltMaps.{HasPlainWords};
@@ -14,7 +14,7 @@ ghost use Rattle.icu_normalizer_core.specs.CompatibilityMaps.{AreAcceptedOver, A
 ghost use Rattle.icu_normalizer_core.specs.CompatibilityMeaning.{nfkd_lists};
 ghost use Rattle.icu_normalizer_core.specs.GivenCompatibilities.{IsOfCharacters};
 ghost use Rattle.icu_normalizer_core.specs.GivenMaps.{IsOfScalars};
-ghost use Rattle.icu_normalizer_core.specs.Named.{block_count};
+ghost use Rattle.icu_normalizer_core.specs.Named.{block_count, narrow_block, wide_block};
 ghost use Rattle.icu_normalizer_core.specs.SettledMappings.{AreFullWords, AreOthersUnnamed, IsSound, KeepOneMapping, LacksWords, steps_in};
 
 use super::compatibility_words::CompatibilityWords;
@@ -32,7 +32,7 @@ use std::alloc::{AllocError, Global};
 /// Words as tables. The only error is want of memory.
 fn packed(alloc: Global, made: &CompatibilityWords) -> Result<NfkdTables<'static>, AllocError>
     requires wide { different_blocks (λ n. n) 512 made.now.words.values ≤ 800 }
-    requires narrow { different_blocks (λ n. n) 16 made.now.words.values ≤ 12000 }
+    requires narrow { upper_blocks (λ n. n) made.now.words.values ≤ 12000 }
     ensures trie { IfOk result (λ tables. IsTrieOf made.now.words tables.trie) }
     ensures scalars16 { IfOk result (λ tables. tables.scalars16 ≡ []) }
     ensures scalars24 { IfOk result (λ tables. tables.scalars24 ≡ made.now.scalars24.items) }
@@ -56,8 +56,8 @@ fn word_tables(
 ) -> Result<NfkdTables<'static>, CanonicalDataBuildError>
     requires sound { IsSound over }
     requires scalars { All IsScalar named.now }
-    requires wide { block_count 512 named.now ≤ 719 }
-    requires narrow { block_count 16 named.now ≤ 11019 }
+    requires wide { block_count wide_block named.now ≤ 719 }
+    requires narrow { block_count narrow_block named.now ≤ 11019 }
     requires others { AreOthersUnnamed (steps_in over) (meaning over.tables.now).class named.now }
     ensures built { IfOk result (λ made. AreFullWords (steps_in over.entry) (meaning over.entry.tables.now).class (nfkd_lists made)) }
     ensures plain { IfOk result (λ made. HasPlainWords made.trie) }

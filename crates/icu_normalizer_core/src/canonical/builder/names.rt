@@ -1,6 +1,6 @@
 //! The characters that are named by what is given.
 
-ghost use Rattle.std.specs.Prelude.{◌≡◌, ◌↔◌, ◌++◌, ◌∷◌, ◌/◌, ◌<◌, ◌≤◌, ◌⊎◌, [], map, flat_map, length, nat_eq, IfOk, IfErr, IsTrue, OnOk, All};
+ghost use Rattle.std.specs.Prelude.{◌≡◌, ◌↔◌, ◌++◌, ◌∷◌, ◌<◌, ◌≤◌, ◌⊎◌, [], map, flat_map, length, nat_eq, IfOk, IfErr, IsTrue, OnOk, All};
 ghost use Rattle.std.specs.BTreeSet.{IsFromIterResult};
 ghost use Rattle.std.specs.Char.{IsScalar};
 ghost use Rattle.std.specs.Ordering.{nat_cmp};
@@ -9,7 +9,7 @@ ghost use Rattle.icu_normalizer_core.specs.declared.canonical.builder.CanonicalD
 ghost use Rattle.icu_normalizer_core.specs.CanonicalMaps.{mapping_given, named};
 ghost use Rattle.icu_normalizer_core.specs.CharacterWords.{HasNamed, built_in_named};
 ghost use Rattle.icu_normalizer_core.specs.CompatibilityMaps.{all_named};
-ghost use Rattle.icu_normalizer_core.specs.Named.{AreDistinctOf, AreInFewBlocks, AreMany, HasThese, block_count, with_new};
+ghost use Rattle.icu_normalizer_core.specs.Named.{AreDistinctOf, AreInFewBlocks, AreMany, HasThese, block_count, narrow_block, wide_block, with_new};
 ghost use Rattle.icu_normalizer_core.specs.SettledMappings.{HasAllNamed, IsBehindBuiltIn};
 
 use super::{CanonicalDataBuildError, GivenClass, GivenCompatibility, GivenMapping};
@@ -26,8 +26,8 @@ const BUILT_IN_NAMED: [char; 17] = [
 /// The characters with a built-in compatibility mapping.
 const BUILT_IN_COMPATIBLE: [char; 2] = ['\u{ff9e}', '\u{ff9f}'];
 
-/// In at most so many aligned blocks of 512 and of 16 are characters that what is given names: tries have room for 800
-/// and 12,000 different ones.
+/// In at most so many aligned blocks of 512, and of 16 from U+10000 on, are characters that what is given names: tries
+/// have room for 800 and 12,000 different ones.
 const WIDE_LIMIT: usize = 700;
 
 const NARROW_LIMIT: usize = 11_000;
@@ -137,14 +137,31 @@ fn distinct(alloc: Global, limit: usize, all: &[char]) -> Result<Vec<char>, Cano
     Ok(list)
 }
 
-/// The number of the aligned block of a width in which each character stands. The only error is want of memory.
-fn block_numbers(alloc: Global, characters: &[char], width: u32) -> Result<Vec<u32>, AllocError>
-    requires { 0 < width }
-    ensures { IfOk result (λ numbers. numbers.items ≡ map (λ c. c / width) characters.now) }
+/// The aligned block of 16 in which a character stands, from U+10000 on; a character below counts as U+10000 does.
+fn narrow_block(c: char) -> u32
+    ensures { result ≡ narrow_block c }
+{
+    (c as u32).saturating_sub(0x1_0000) / 16
+}
+
+/// The aligned block of 512 in which each character stands. The only error is want of memory.
+fn wide_blocks(alloc: Global, characters: &[char]) -> Result<Vec<u32>, AllocError>
+    ensures { IfOk result (λ numbers. numbers.items ≡ map wide_block characters.now) }
 {
     let mut numbers = Vec::new(alloc);
     for c in characters {
-        numbers.push(*c as u32 / width)?;
+        numbers.push(*c as u32 / 512)?;
+    }
+    Ok(numbers)
+}
+
+/// The aligned block of 16 in which each character stands, from U+10000 on. The only error is want of memory.
+fn narrow_blocks(alloc: Global, characters: &[char]) -> Result<Vec<u32>, AllocError>
+    ensures { IfOk result (λ numbers. numbers.items ≡ map narrow_block characters.now) }
+{
+    let mut numbers = Vec::new(alloc);
+    for c in characters {
+        numbers.push(narrow_block(*c))?;
     }
     Ok(numbers)
 }
@@ -164,12 +181,20 @@ fn different_count(alloc: Global, numbers: &[u32]) -> Result<usize, AllocError>
     Ok(different.len())
 }
 
-/// In how many aligned blocks of a width characters stand. The only error is want of memory.
-fn block_count(alloc: Global, characters: &[char], width: u32) -> Result<usize, AllocError>
-    requires { 0 < width }
-    ensures { IfOk result (λ count. count ≡ block_count width characters.now) }
+/// In how many aligned blocks of 512 characters stand. The only error is want of memory.
+fn wide_count(alloc: Global, characters: &[char]) -> Result<usize, AllocError>
+    ensures { IfOk result (λ count. count ≡ block_count wide_block characters.now) }
 {
-    let numbers = block_numbers(alloc, characters, width)?;
+    let numbers = wide_blocks(alloc, characters)?;
+    let count = different_count(alloc, numbers.as_slice())?;
+    Ok(count)
+}
+
+/// In how many aligned blocks of 16 they stand from U+10000 on. The only error is want of memory.
+fn narrow_count(alloc: Global, characters: &[char]) -> Result<usize, AllocError>
+    ensures { IfOk result (λ count. count ≡ block_count narrow_block characters.now) }
+{
+    let numbers = narrow_blocks(alloc, characters)?;
     let count = different_count(alloc, numbers.as_slice())?;
     Ok(count)
 }
@@ -178,8 +203,8 @@ fn block_count(alloc: Global, characters: &[char], width: u32) -> Result<usize, 
 fn are_in_few_blocks(alloc: Global, characters: &[char]) -> Result<bool, AllocError>
     ensures { IfOk result (λ few. IsTrue few ↔ AreInFewBlocks characters.now) }
 {
-    let wide = block_count(alloc, characters, 512)?;
-    let narrow = block_count(alloc, characters, 16)?;
+    let wide = wide_count(alloc, characters)?;
+    let narrow = narrow_count(alloc, characters)?;
     Ok(wide <= WIDE_LIMIT && narrow <= NARROW_LIMIT)
 }
 
@@ -234,8 +259,8 @@ pub(super) fn characters_of(
 ) -> Result<Vec<char>, CanonicalDataBuildError>
     ensures named { IfOk result (λ list. HasNamed classes.now mappings.now list.items) }
     ensures scalars { IfOk result (λ list. All IsScalar list.items) }
-    ensures wide { IfOk result (λ list. block_count 512 list.items ≤ 717) }
-    ensures narrow { IfOk result (λ list. block_count 16 list.items ≤ 11017) }
+    ensures wide { IfOk result (λ list. block_count wide_block list.items ≤ 717) }
+    ensures narrow { IfOk result (λ list. block_count narrow_block list.items ≤ 11017) }
     ensures within { OnOk result (distinct_count nat_eq (named (record { classes = classes.now; mappings = mappings.now })) ≤ limit) }
     ensures refused { IfErr result (λ e. (e ≡ Memory) ⊎ ((e ≡ Rules) × AreMany limit (named (record { classes = classes.now; mappings = mappings.now })))) }
 {
@@ -260,8 +285,8 @@ pub(super) fn all_characters_of(
     ensures named { IfOk result (λ list. HasAllNamed classes.now mappings.now given.now list.items) }
     ensures scalars { IfOk result (λ list. All IsScalar list.items) }
     ensures listed { IfOk result (λ list. IsBehindBuiltIn list.items) }
-    ensures wide { IfOk result (λ list. block_count 512 list.items ≤ 719) }
-    ensures narrow { IfOk result (λ list. block_count 16 list.items ≤ 11019) }
+    ensures wide { IfOk result (λ list. block_count wide_block list.items ≤ 719) }
+    ensures narrow { IfOk result (λ list. block_count narrow_block list.items ≤ 11019) }
     ensures within { OnOk result (distinct_count nat_eq (all_named (record { canonical = record { classes = classes.now; mappings = mappings.now }; compatibilities = given.now })) ≤ limit) }
     ensures refused { IfErr result (λ e. (e ≡ Memory) ⊎ ((e ≡ Rules) × AreMany limit (all_named (record { canonical = record { classes = classes.now; mappings = mappings.now }; compatibilities = given.now })))) }
 {

@@ -9,7 +9,7 @@ ghost use Rattle.icu_normalizer_core.specs.CanonicalMaps.{HaveOneMapping, KeepRu
 ghost use Rattle.icu_normalizer_core.specs.CanonicalMeaning.{lists_of};
 ghost use Rattle.icu_normalizer_core.specs.CharacterWords.{AreListWords, AreStarters, HasNamed, class_with};
 ghost use Rattle.icu_normalizer_core.specs.GivenMaps.{IsOfScalars};
-ghost use Rattle.icu_normalizer_core.specs.Named.{block_count};
+ghost use Rattle.icu_normalizer_core.specs.Named.{block_count, narrow_block, wide_block};
 
 use super::built_words::{are_classes, are_starters};
 use super::classes::Classes;
@@ -63,8 +63,8 @@ fn word_trie(
 ) -> Result<CodePointTrie<'static, u32>, AllocError>
     requires scalars { All IsScalar characters.now }
     requires named { HasNamed classes.now.given.now mappings.now characters.now }
-    requires wide { block_count 512 characters.now ≤ 717 }
-    requires narrow { block_count 16 characters.now ≤ 11017 }
+    requires wide { block_count wide_block characters.now ≤ 717 }
+    requires narrow { block_count narrow_block characters.now ≤ 11017 }
     requires bound { All (λ c. class_with classes.now.given.now c < 255) characters.now }
     requires steps { AreStepsOf mappings.now steps.now }
     requires starters { AreStarters classes.now.given.now steps.now }
@@ -90,8 +90,8 @@ fn packed_tables(
     requires mappings { All IsOfScalars mappings.now }
     requires scalars { All IsScalar characters.now }
     requires named { HasNamed classes.now.given.now mappings.now characters.now }
-    requires wide { block_count 512 characters.now ≤ 717 }
-    requires narrow { block_count 16 characters.now ≤ 11017 }
+    requires wide { block_count wide_block characters.now ≤ 717 }
+    requires narrow { block_count narrow_block characters.now ≤ 11017 }
     requires bound { All (λ c. class_with classes.now.given.now c < 255) characters.now }
     requires steps { AreStepsOf mappings.now steps }
     requires starters { AreStarters classes.now.given.now steps }

@@ -2,7 +2,7 @@
 
 ghost use Rattle.std.specs.Prelude.{◌≡◌, ◌≤◌, ◌<◌, ◌==◌, IfOk, All};
 ghost use Rattle.std.specs.Char.{IsScalar};
-ghost use Rattle.icu_codepointtrie.specs.Blocks.{different_blocks};
+ghost use Rattle.icu_codepointtrie.specs.Blocks.{different_blocks, upper_blocks};
 ghost use Rattle.icu_codepointtrie.specs.BuiltTries.{IsTrieOf};
 ghost use Rattle.icu_codepointtrie.specs.CodePointMaps.{IsWritten};
 ghost use Rattle.icu_normalizer_core.specs.CanonicalLists.{AreTriples};
@@ -60,7 +60,7 @@ pub(super) fn trie_of(
     words: &CodePointTrieBuilder<u32>,
 ) -> Result<CodePointTrie<'static, u32>, AllocError>
     requires wide { different_blocks (λ n. n) 512 words.now.values ≤ 800 }
-    requires narrow { different_blocks (λ n. n) 16 words.now.values ≤ 12000 }
+    requires narrow { upper_blocks (λ n. n) words.now.values ≤ 12000 }
     ensures { IfOk result (IsTrieOf words.now) }
 {
     match words.build() {

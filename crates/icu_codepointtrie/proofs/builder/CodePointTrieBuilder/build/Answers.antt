@@ -2,8 +2,9 @@ use Rattle.std.proofs.Common.{◌≡◌, ◌+◌, List, length, map, sym, ap, su
 use Rattle.std.proofs.lemmas.List.{length-append}
 use Rattle.icu_codepointtrie.specs.Layouts.{HasIndex}
 use Rattle.icu_codepointtrie.specs.BuiltTries.{AreAllCells}
-use Rattle.icu_codepointtrie.proofs.built.BuiltTrieLemmas.{IsTrieOf-built, IsTrie-built}
+use Rattle.icu_codepointtrie.proofs.built.BuiltTrieLemmas.{IsTrieOf-built, IsTrie-built, type_facts}
 use Rattle.icu_codepointtrie.proofs.built.BlockCountLemmas.{layout_count, more_different}
+use Rattle.icu_codepointtrie.proofs.built.UpperBlockLemmas.{more_upper}
 use Rattle.icu_codepointtrie.proofs.builder.CodePointTrieBuilder.build.Goals as goal
 
 pub returns-in-Err-clause-refused : goal.returns-in-Err-clause-refused
@@ -12,13 +13,14 @@ returns-in-Err-clause-refused g c =
     let values : List g.row.T.Denot = c.self.inside.values.items in
     let given : c.as_slice-values.result.now ≡ values = c.as_slice-values.ensures.value in
     let all : length values ≡ 0x11_0000 = c.self.invariant.all in
+    let x = type_facts c.self.inside.trie_type in
     rw (← c.self.view_is) (⊎_elim
     (λ memory. inl memory)
     (λ large. inr (
       large.0,
       ⊎_elim
           (λ wide. inl (more_different number 512 _ 0x880 800 values (λ b h. omega arith) (rw given at wide)))
-          (λ small. inr (more_different number 16 _ 0x1_1000 12000 values (λ b h. omega arith) (rw given at small)))
+          (λ small. inr (more_upper number 12000 _ values all (omega (arith, x.1, x.2)) (rw given at small)))
           large.1,
     ))
     c.in-Err.ensures.refused)

@@ -3,7 +3,7 @@ use Rattle.std.specs.Char.{IsScalar}
 use Rattle.std.proofs.lemmas.List.Elements.{All-append}
 use Rattle.icu_normalizer_core.specs.CharacterWords.{built_in_named}
 use Rattle.icu_normalizer_core.specs.CompatibilityMaps.{AllMaps, all_named}
-use Rattle.icu_normalizer_core.specs.Named.{AreDistinctOf, block_count}
+use Rattle.icu_normalizer_core.specs.Named.{AreDistinctOf, block_count, narrow_block, wide_block}
 use Rattle.icu_normalizer_core.specs.SettledMappings.{HasAllNamed}
 use Rattle.icu_normalizer_core.proofs.builder.NamedLemmas.{blocks_joined, built_in_scalars, compatible_scalars, has_all_named, named_count}
 use Rattle.icu_normalizer_core.proofs.canonical.builder.names.all_characters_of.Goals as goal
@@ -41,14 +41,14 @@ returns-clause-wide c =
     let others : c.in_ok-others.others.items ≡ built_in_named ++ c.in-Ok.named.items = c.in_ok-others.ensures ∙ ap (λ (xs : List ℕ). built_in_named ++ xs) c.as_slice-2.ensures.value in
     let is : c.in_ok-list.list.items ≡ (0xff9e ∷ 0xff9f ∷ []) ++ (built_in_named ++ c.in-Ok.named.items) =
     c.in_ok-list.ensures ∙ ap (λ (xs : List ℕ). (0xff9e ∷ 0xff9f ∷ []) ++ xs) (c.as_slice-3.ensures.value ∙ others) in
-    subst (λ (xs : List ℕ). block_count 512 xs ≤ 719) (sym is) (omega (arith, blocks_joined 512 (0xff9e ∷ 0xff9f ∷ built_in_named) c.in-Ok.named.items, c.in-Ok.ensures.blocks.wide))
+    subst (λ (xs : List ℕ). block_count wide_block xs ≤ 719) (sym is) (omega (arith, blocks_joined wide_block (0xff9e ∷ 0xff9f ∷ built_in_named) c.in-Ok.named.items, c.in-Ok.ensures.blocks.wide))
 
 pub returns-clause-narrow : goal.returns-clause-narrow
 returns-clause-narrow c =
     let others : c.in_ok-others.others.items ≡ built_in_named ++ c.in-Ok.named.items = c.in_ok-others.ensures ∙ ap (λ (xs : List ℕ). built_in_named ++ xs) c.as_slice-2.ensures.value in
     let is : c.in_ok-list.list.items ≡ (0xff9e ∷ 0xff9f ∷ []) ++ (built_in_named ++ c.in-Ok.named.items) =
     c.in_ok-list.ensures ∙ ap (λ (xs : List ℕ). (0xff9e ∷ 0xff9f ∷ []) ++ xs) (c.as_slice-3.ensures.value ∙ others) in
-    subst (λ (xs : List ℕ). block_count 16 xs ≤ 11019) (sym is) (omega (arith, blocks_joined 16 (0xff9e ∷ 0xff9f ∷ built_in_named) c.in-Ok.named.items, c.in-Ok.ensures.blocks.narrow))
+    subst (λ (xs : List ℕ). block_count narrow_block xs ≤ 11019) (sym is) (omega (arith, blocks_joined narrow_block (0xff9e ∷ 0xff9f ∷ built_in_named) c.in-Ok.named.items, c.in-Ok.ensures.blocks.narrow))
 
 pub returns-clause-listed : goal.returns-clause-listed
 returns-clause-listed c =

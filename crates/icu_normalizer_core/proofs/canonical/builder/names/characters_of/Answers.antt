@@ -3,7 +3,7 @@ use Rattle.std.specs.Char.{IsScalar}
 use Rattle.std.proofs.lemmas.List.Elements.{All-append}
 use Rattle.icu_normalizer_core.specs.CanonicalMaps.{named}
 use Rattle.icu_normalizer_core.specs.CharacterWords.{HasNamed, built_in_named}
-use Rattle.icu_normalizer_core.specs.Named.{AreDistinctOf, block_count}
+use Rattle.icu_normalizer_core.specs.Named.{AreDistinctOf, block_count, narrow_block, wide_block}
 use Rattle.icu_normalizer_core.proofs.builder.NamedLemmas.{blocks_joined, built_in_scalars, has_named, named_count}
 use Rattle.icu_normalizer_core.proofs.canonical.builder.names.characters_of.Goals as goal
 
@@ -30,9 +30,9 @@ returns-clause-within c =
 pub returns-clause-wide : goal.returns-clause-wide
 returns-clause-wide c =
     let is : c.in_ok-list.list.items ≡ built_in_named ++ c.in-Ok.given.items = c.in_ok-list.ensures ∙ ap (λ (xs : List ℕ). built_in_named ++ xs) c.as_slice-2.ensures.value in
-    subst (λ (xs : List ℕ). block_count 512 xs ≤ 717) (sym is) (omega (arith, blocks_joined 512 built_in_named c.in-Ok.given.items, c.in-Ok.ensures.blocks.wide))
+    subst (λ (xs : List ℕ). block_count wide_block xs ≤ 717) (sym is) (omega (arith, blocks_joined wide_block built_in_named c.in-Ok.given.items, c.in-Ok.ensures.blocks.wide))
 
 pub returns-clause-narrow : goal.returns-clause-narrow
 returns-clause-narrow c =
     let is : c.in_ok-list.list.items ≡ built_in_named ++ c.in-Ok.given.items = c.in_ok-list.ensures ∙ ap (λ (xs : List ℕ). built_in_named ++ xs) c.as_slice-2.ensures.value in
-    subst (λ (xs : List ℕ). block_count 16 xs ≤ 11017) (sym is) (omega (arith, blocks_joined 16 built_in_named c.in-Ok.given.items, c.in-Ok.ensures.blocks.narrow))
+    subst (λ (xs : List ℕ). block_count narrow_block xs ≤ 11017) (sym is) (omega (arith, blocks_joined narrow_block built_in_named c.in-Ok.given.items, c.in-Ok.ensures.blocks.narrow))
