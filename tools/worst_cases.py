@@ -25,6 +25,17 @@ NAMED = (b'add ', b'find ', b'remove ', b'between ', b'key ')
 OTHER_REPLIES = (b'bad', b'duplicate', b'absent', b'memory', b'refused')
 
 
+def other_reply(out):
+    """The first reply of a run that an attack is not to have, or None; the names that are listed behind a count are none."""
+    lines, place = out.split(b'\n'), 0
+    while place < len(lines):
+        word, _, rest = lines[place].partition(b' ')
+        if word in OTHER_REPLIES:
+            return lines[place].decode()
+        place += 1 + (int(rest) if word == b'names' else 0)
+    return None
+
+
 def records(*more):
     """Records of letters, digits and marks of several classes, with further lines."""
     lines = [f'class {c:04X} {n}' for c, n in MARKS.items() if c > 0x301]
@@ -203,6 +214,13 @@ def chain_of_named(scale):
     return lines, [], [*(f'add {name}' for name in names), reload([*lines, CHANGED])]
 
 
+def contractions_of_named(scale):
+    """Names of the letters of contractions, and a reload that leaves one of these out."""
+    texts = [' '.join(f'{ord(c):04X}' for c in spelled(k, LETTERS, 3)) for k in range(450 * scale)]
+    lines = records(*(f'w {text} ; [2A040000.0500.0.0500.0]' for text in texts))
+    return lines, [], [*(f'add {name}' for name in scattered(300 * scale)), reload(lines[:-1])]
+
+
 def unchanged(scale):
     """Reloads of the same records, after the names have arrived; they weigh little beside the names."""
     lines = records()
@@ -229,7 +247,7 @@ def long_file(scale):
 
 
 ATTACKS = [one_hash, one_fnv_hash, equal_keys, shared_beginnings, classes_of_marks, digits, from_the_front, as_they_arrived, expansions, full_lists,
-           over_all, chain, chain_past_the_first_plane, chain_of_named, unchanged, unnamed_changed, all_touched, long_file]
+           over_all, chain, chain_past_the_first_plane, chain_of_named, contractions_of_named, unchanged, unnamed_changed, all_touched, long_file]
 
 
 class NoAttack(Exception):
@@ -258,8 +276,8 @@ class Trial:
             run = subprocess.run(line, stdin=given, stdout=subprocess.PIPE, stderr=subprocess.PIPE, check=False)
         if run.returncode:
             raise NoAttack(run.stderr.decode().splitlines()[-1])
-        if others := [reply for reply in run.stdout.split(b'\n') if reply.startswith(OTHER_REPLIES)]:
-            raise NoAttack(f'the reply {others[0].decode()}')
+        if other := other_reply(run.stdout):
+            raise NoAttack(f'the reply {other}')
         return int(re.search(rb'Collected : (\d+)', run.stderr).group(1)) / 1e6
 
     def most_memory(self, lines, words, commands):
