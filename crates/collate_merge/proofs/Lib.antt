@@ -1,0 +1,15 @@
+pub mod KeyLemmas
+pub mod LeastLemmas
+pub mod LeastSourceLemmas
+pub mod LineLemmas
+pub mod MergedLemmas
+pub mod MergingLemmas
+pub mod OpenLemmas
+pub mod OrderedPartLemmas
+pub mod OutputLemmas
+pub mod ProgressLemmas
+pub mod SendingLemmas
+pub mod SortedPartLemmas
+pub mod SourceLemmas
+pub mod SourceStepLemmas
+pub mod StepLemmas
