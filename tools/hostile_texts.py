@@ -1,11 +1,13 @@
 #!/usr/bin/env python3
 """How what one long name costs grows with its length, by instructions, where an enemy chose the name and the records.
 
-    tools/hostile_texts.py COLLATE [SPEED] [--only SHAPE] [--seconds N]
+    tools/hostile_texts.py COLLATE [SPEED] [--only SHAPE..] [--seconds N]
 
 COLLATE is an executable of `collate`: a name of 16, 32 and 64 KB is asked for its key. SPEED is one of `speed_collator`: two
-such names, alike but for their last character, are compared, and their elements are read. It fails where a name twice as
-long takes more than 2.4 times the instructions, or a run more than N seconds (100) under valgrind. Needs valgrind.
+such names are compared, alike but for their last character (`alike`), and with an ignorable character before one of them, so
+that both are read from there on (`apart`); and the elements of one are read. It fails where a name twice as long takes more
+than 2.4 times the instructions, or a run more than N seconds (100) under valgrind, or answers otherwise than with a key, an
+order or elements. Needs valgrind.
 """
 import argparse
 import os
@@ -17,6 +19,13 @@ import tempfile
 MOST = 2.4
 KILOBYTES = (16, 32, 64)
 ROUNDS = (1, 3)
+IGNORED = 'w 0078 ;'
+# What SPEED is asked: the task, the lines that it does it over, of a name, and how its answer begins.
+TASKS = {
+    'alike': ('random', lambda name: [f'{name}a', f'{name}b'], b'cmp_random '),
+    'apart': ('random', lambda name: [f'{name}a', f'x{name}b'], b'cmp_random '),
+    'elements': ('elements', lambda name: [f'{name}a'], b'elements '),
+}
 MARKS = [chr(c) for c in range(0x1AB0, 0x1AB0 + 128)]
 LETTERS = ['w 0061 ; [2A100000.0500.0.0500.0]', 'w 0062 ; [2A200000.0500.0.0500.0]', 'w 0063 ; [2A300000.0500.0.0500.0]']
 
@@ -100,27 +109,29 @@ class Measured:
             file.write(text)
         return path
 
-    def instructions(self, words, lines=''):
-        """What a run takes; None where it takes too long."""
+    def instructions(self, words, lines, answer):
+        """What a run takes whose answer is of a form; None where it takes too long."""
         try:
             run = subprocess.run(['valgrind', '--tool=callgrind', '--callgrind-out-file=/dev/null', *words],
                                  input=lines.encode(), capture_output=True, timeout=self.given.seconds)
         except subprocess.TimeoutExpired:
             return None
         found = re.search(rb'Collected : (\d+)', run.stderr)
-        if found is None or run.returncode or b'refused' in run.stderr or not run.stdout:
+        if found is None or run.returncode or not re.fullmatch(answer, run.stdout):
             sys.exit(f'hostile_texts: {words}: {run.stdout[:200]} {run.stderr[-400:]}')
         return int(found.group(1))
 
     def key(self, records, name):
-        few = self.instructions([self.given.collate, records], 'key a\n')
-        all = self.instructions([self.given.collate, records], f'key {name}\n')
-        return all and all - few
+        """What the key of a name takes, less that of a name of one character."""
+        asked = [self.instructions([self.given.collate, records], f'key {text}\n', rb'[0-9a-f]+\n') for text in ('a', name)]
+        return None if None in asked else asked[1] - asked[0]
 
-    def task(self, records, name, task):
-        names = self.write('names', f'{name}a\n{name}b\n')
-        few, many = (self.instructions([self.given.speed, records, names, task, str(n)]) for n in ROUNDS)
-        return few and many and (many - few) / (ROUNDS[1] - ROUNDS[0])
+    def task(self, records, name, title):
+        """What one round of a task takes."""
+        task, lines, answer = TASKS[title]
+        names = self.write('names', ''.join(f'{line}\n' for line in lines(name)))
+        asked = [self.instructions([self.given.speed, records, names, task, str(n)], '', answer + rb'.*\n') for n in ROUNDS]
+        return None if None in asked else (asked[1] - asked[0]) / (ROUNDS[1] - ROUNDS[0])
 
     def grows(self, title, ask):
         """Prints what lengths take, and tells whether each is within what it may be."""
@@ -141,9 +152,9 @@ class Measured:
 
     def shape(self, title):
         lines, make = SHAPES[title]
-        records = self.write('records', '\n'.join(lines) + '\n')
+        records = self.write('records', '\n'.join([*lines, IGNORED]) + '\n')
         good = self.grows(f'{title}: key', lambda kilobytes: self.key(records, name_of(make, kilobytes)))
-        for task in ['random', 'elements'] if self.given.speed else []:
+        for task in TASKS if self.given.speed else []:
             good = self.grows(f'{title}: {task}', lambda kilobytes: self.task(records, name_of(make, kilobytes), task)) and good
         return good
 
@@ -152,12 +163,12 @@ def main():
     parser = argparse.ArgumentParser()
     parser.add_argument('collate')
     parser.add_argument('speed', nargs='?')
-    parser.add_argument('--only', choices=SHAPES)
+    parser.add_argument('--only', choices=SHAPES, nargs='+', default=SHAPES, metavar='SHAPE')
     parser.add_argument('--seconds', type=int, default=100)
     given = parser.parse_args()
     with tempfile.TemporaryDirectory() as folder:
         measured = Measured(given, folder)
-        good = [measured.shape(title) for title in SHAPES if given.only in (None, title)]
+        good = [measured.shape(title) for title in given.only]
     sys.exit(0 if all(good) else 1)
 
 

@@ -1,4 +1,4 @@
-//! The tables that are changed: those that the worked rows are over, and more, in which no list is empty.
+//! The tables that are changed: those that the worked rows are over, with groups, and more, in which no list is empty.
 
 use crate::changed_words::with_word;
 use icu_codepointtrie::TrieType;
@@ -9,7 +9,8 @@ use samples_compiled::compiled::held_tables;
 use samples_compiled::held::HeldCollation;
 use std::alloc::Global;
 
-/// The records of the worked rows.
+/// The records of the worked rows, with groups: "a" is of the first, "b" up to the second, "c" and "e" up to the third,
+/// "h" up to the last.
 const LETTERS: &str = "class 0302 230
 class 0323 220
 map 00E1 0061 0301
@@ -25,10 +26,11 @@ w 0074 ; [2B400000.0500.0.0500.0]
 w 0301 ; [0.8800.0.0500.0]
 w 0302 ; [0.8A00.0.0500.0]
 w 0323 ; [0.8C00.0.0500.0]
+set groups 2A18 2A28 2A58 2A88
 ";
 
-/// What stands behind them: further records of the worked rows, and such by which each list of the root, of the tailoring and of
-/// the canonical tables has items.
+/// What stands behind them: further records of the worked rows, and such by which each list of the root, of the
+/// tailoring and of the canonical tables has items.
 const MORE: &str = "class 0300 230
 map 00E2 0061 0302
 map 1EA5 00E2 0301
@@ -57,23 +59,24 @@ t 0072 0061 ; [2A390000.0500.0.0500.0]
 set reorder 2A 2B 2B 2A
 ";
 
-/// The parts of the leads 2C and 2D (hex) that are cut: primaries whose second byte is below 80 change places, others stay.
+/// The parts of the leads 2C and 2D (hex) that are cut: primaries whose second byte is below 80 change places, others
+/// stay.
 const CUTS: [u32; 4] = [0x2c00_0000, 0x2c80_0001, 0x2d00_0000, 0x2d80_00ff];
 
 /// From this primary on others stay.
 const BOUND: u32 = 0x2d80_0000;
 
-/// The secondaries of the marks from U+0300 on, as the records have them: the compiler writes none, and says of each mark what
-/// its record has.
+/// The secondaries of the marks from U+0300 on, as the records have them: the compiler writes none, and says of each
+/// mark what its record has.
 const SECONDARIES: [u16; 3] = [0x8600, 0x8800, 0x8a00];
 
-/// A provider of the tables of the worked rows.
+/// A provider of the tables of the worked rows, with groups.
 pub fn letters(alloc: Global, trie_type: TrieType) -> Option<HeldCollation<'static>> {
     held_tables(alloc, LETTERS, trie_type)
 }
 
-/// The word of a full list of three characters, which is the first one, where it stands in `scalars16`: the builder of tables
-/// has it in `scalars24`.
+/// The word of a full list of three characters, which is the first one, where it stands in `scalars16`: the builder of
+/// tables has it in `scalars24`.
 const FIRST_LIST: (char, u32, usize) = ('\u{1ea5}', 0x1_0001, 3);
 
 /// Leads of which those that stay have no byte.

@@ -1,61 +1,18 @@
-//! What a collator over a provider answers, beside what its tables mean.
+//! What collators over a provider answer, beside what its tables mean.
 
 use crate::answers::{Answer, answered};
+use crate::choices::{COUNT, Choice, choice_at};
+use crate::texts::{ReadText, read_latin1_texts, read_texts};
 use icu_collator::{Collator, CollatorBorrowed, CollatorError};
 use icu_collator_core::checked::CheckedTables;
 use icu_collator_core::tables::CollationTables;
-use icu_collator_types::options::{CollatorOptions, CollatorPreferences, Strength};
 use icu_normalizer_core::canonical::{CanonicalData, CanonicalTables};
 use samples_compiled::held::HeldCollation;
-use samples_compiled::plain::plain_elements;
-use samples_compiled::plain::recorded::Tables;
-use samples_compiled::read::read_elements;
-use samples_plain_forms::canonical::decomposed;
-use samples_plain_forms::encoded_texts::{
-    Encoded, LATIN1_TEXTS, TEXTS, characters, in_each_encoding, latin1_characters,
-};
-use samples_plain_orders::keys::key_of_levels;
-use samples_plain_orders::levels::{Levels, levels_of, order_of_levels};
+use samples_plain_forms::encoded_texts::{Encoded, LATIN1_TEXTS, TEXTS};
+use samples_plain_orders::levels::order_of_levels;
 use samples_plain_orders::unsafe_characters::{Both, is_plainly_unsafe, unsafe_by_records};
 use std::alloc::Global;
 use std::cmp::Ordering;
-
-/// A text, and what the tables mean of it.
-struct Meant {
-    text: Encoded,
-    levels: Levels,
-    key: Vec<u8>,
-}
-
-// (let go of as one, and not part by part, so that what owns one is proved sooner)
-impl Drop for Meant {
-    fn drop(self) {
-        let Meant {
-            text: _,
-            levels: _,
-            key: _,
-        } = self;
-    }
-}
-
-/// What the tables mean of characters.
-fn meaning_of(
-    alloc: Global,
-    canonical: &CanonicalTables<'_>,
-    tables: &CheckedTables<'_>,
-    characters: &[char],
-) -> Option<Meant> {
-    let plain = Tables {
-        canonical: tables.canonical(),
-        tables: tables.tables(),
-    };
-    let elements = plain_elements(alloc, &plain, characters, None)?;
-    let list = decomposed(alloc, canonical, characters)?;
-    let levels = levels_of(alloc, tables.tables(), elements.as_slice(), list.as_slice())?;
-    let key = key_of_levels(alloc, &levels)?;
-    let text = in_each_encoding(alloc, characters)?;
-    Some(Meant { text, levels, key })
-}
 
 /// Whether two texts compare so, in each encoding.
 fn are_ordered(
@@ -93,145 +50,112 @@ fn has_key(alloc: Global, collator: &CollatorBorrowed<'_>, text: &Encoded, key: 
         && of_units.as_slice() == key
 }
 
-/// Whether characters have the elements that the tables mean. With a lead the digits are read as numbers.
-fn have_elements(
-    alloc: Global,
-    tables: &CheckedTables<'_>,
-    characters: &[char],
-    lead: Option<u8>,
-) -> bool {
-    let plain = Tables {
-        canonical: tables.canonical(),
-        tables: tables.tables(),
-    };
-    let slow = plain_elements(alloc, &plain, characters, lead);
-    match (slow, read_elements(alloc, tables, characters, lead)) {
-        (Some(slow), Some(elements)) => slow.as_slice() == elements.as_slice(),
-        _ => false,
-    }
-}
-
-/// Tables of a provider, and a collator over the same.
+/// A collator under the options of a choice, and the tables that it is over.
 #[derive(Clone, Copy)]
 struct Asked<'t> {
     alloc: Global,
-    canonical: &'t CanonicalTables<'t>,
-    tables: &'t CheckedTables<'t>,
+    tables: &'t CollationTables<'t>,
     collator: CollatorBorrowed<'t>,
+    choice: Choice,
 }
 
 impl Asked<'_> {
-    /// The call that is wrong on two texts, if one.
-    fn wrong_on_pair(&self, text: &[char], next: &[char]) -> Option<&'static str> {
+    /// The call that is wrong on a text and the one behind it, if one.
+    fn wrong_on_pair(&self, text: &ReadText, next: &ReadText) -> Option<&'static str> {
         let Asked {
             alloc,
-            canonical,
             tables,
-            ..
+            collator,
+            choice,
         } = *self;
-        let text = meaning_of(alloc, canonical, tables, text);
-        let next = meaning_of(alloc, canonical, tables, next);
-        let Some((text, next)) = text.zip(next) else {
+        let meant = text.meaning(alloc, tables, &choice);
+        let Some((meant, of_next)) = meant.zip(next.meaning(alloc, tables, &choice)) else {
             return Some("memory");
         };
-        let order = order_of_levels(&text.levels, &next.levels);
-        if !are_ordered(alloc, &self.collator, &text.text, &next.text, order)
-            || !are_ordered(
-                alloc,
-                &self.collator,
-                &next.text,
-                &text.text,
-                order.reverse(),
-            )
+        let order = order_of_levels(&meant.levels, &of_next.levels);
+        let reverse = order.reverse();
+        if !are_ordered(alloc, &collator, &text.text, &next.text, order)
+            || !are_ordered(alloc, &collator, &next.text, &text.text, reverse)
         {
             return Some("compare");
         }
-        if !has_key(alloc, &self.collator, &text.text, text.key.as_slice()) {
+        if !has_key(alloc, &collator, &text.text, meant.key.as_slice()) {
             return Some("key");
         }
         None
     }
 
-    /// The call that is wrong on a text, if one, with the next one behind it.
-    fn wrong_on_text(&self, text: &str, next: &str) -> Option<&'static str> {
-        let text = characters(self.alloc, text);
-        let Some((text, next)) = text.zip(characters(self.alloc, next)) else {
-            return Some("memory");
-        };
-        let lead = self.tables.tables().special_primaries.numeric_primary;
-        if !have_elements(self.alloc, self.tables, text.as_slice(), None)
-            || !have_elements(self.alloc, self.tables, text.as_slice(), Some(lead))
-        {
-            return Some("elements");
-        }
-        self.wrong_on_pair(text.as_slice(), next.as_slice())
-    }
-
-    /// Whether two texts in Latin-1 compare as the tables mean, and the first with the second in UTF-16.
-    fn are_latin1_ordered(&self, text: &[u8], next: &[u8]) -> Option<bool> {
+    /// Whether two texts compare as the tables mean, the first in Latin-1, the second in Latin-1 and in UTF-16.
+    fn are_latin1_ordered(
+        &self,
+        latin1: (&[u8], &[u8]),
+        text: &ReadText,
+        next: &ReadText,
+    ) -> Option<bool> {
         let Asked {
             alloc,
-            canonical,
             tables,
-            ..
+            collator,
+            choice,
         } = *self;
-        let left = latin1_characters(alloc, text)?;
-        let right = latin1_characters(alloc, next)?;
-        let left = meaning_of(alloc, canonical, tables, left.as_slice())?;
-        let right = meaning_of(alloc, canonical, tables, right.as_slice())?;
-        let order = Some(order_of_levels(&left.levels, &right.levels));
-        let units = right.text.units.as_slice();
+        let meant = text.meaning(alloc, tables, &choice)?;
+        let of_next = next.meaning(alloc, tables, &choice)?;
+        let order = Some(order_of_levels(&meant.levels, &of_next.levels));
+        let (bytes, others) = latin1;
+        let units = next.text.units.as_slice();
         Some(
-            self.collator.compare_latin1(alloc, text, next).ok() == order
-                && self.collator.compare_latin1_utf16(alloc, text, units).ok() == order,
+            collator.compare_latin1(alloc, bytes, others).ok() == order
+                && collator.compare_latin1_utf16(alloc, bytes, units).ok() == order,
         )
     }
 
-    /// Whether each character is unsafe where it should be.
-    fn are_unsafe(&self, unsafe_characters: &[char], text: &str) -> bool {
-        let both = Both {
-            canonical: self.canonical,
-            collation: self.tables.tables(),
-        };
-        text.chars().all(|c| {
-            is_plainly_unsafe(self.alloc, both, unsafe_characters, c)
-                == Some(self.tables.is_unsafe(c))
-        })
-    }
-
-    /// Whether the characters of each text are.
-    fn all_are_unsafe(&self) -> bool {
-        let both = Both {
-            canonical: self.canonical,
-            collation: self.tables.tables(),
-        };
-        match unsafe_by_records(self.alloc, both) {
-            Some(unsafe_characters) => TEXTS
-                .iter()
-                .all(|text| self.are_unsafe(unsafe_characters.as_slice(), text)),
-            None => false,
+    /// Whether all texts in Latin-1 compare as the tables mean.
+    fn all_latin1_are_ordered(&self, texts: &[ReadText]) -> bool {
+        let bytes = LATIN1_TEXTS.iter().zip(LATIN1_TEXTS.iter().skip(1));
+        let texts = texts.iter().zip(texts.iter().skip(1));
+        for ((one, other), (text, next)) in bytes.zip(texts) {
+            if self.are_latin1_ordered((one, other), text, next) != Some(true) {
+                return false;
+            }
         }
+        true
     }
 
     /// The call that is wrong on one of the texts, if one.
-    fn wrong_call(&self) -> Option<&'static str> {
-        for (text, next) in TEXTS.iter().zip(TEXTS.iter().skip(1)) {
-            let wrong = self.wrong_on_text(text, next);
+    fn wrong_call(&self, texts: &[ReadText], latin1: &[ReadText]) -> Option<&'static str> {
+        for (text, next) in texts.iter().zip(texts.iter().skip(1)) {
+            let wrong = self.wrong_on_pair(text, next);
             if wrong.is_some() {
                 return wrong;
             }
         }
-        for (text, next) in LATIN1_TEXTS.iter().zip(LATIN1_TEXTS.iter().skip(1)) {
-            if self.are_latin1_ordered(text, next) != Some(true) {
-                return Some("compare_latin1");
-            }
-        }
-        if self.all_are_unsafe() {
+        if self.all_latin1_are_ordered(latin1) {
             None
         } else {
-            Some("is_unsafe")
+            Some("compare_latin1")
         }
     }
+}
+
+/// Whether each character of the texts is unsafe where it should be.
+fn all_are_unsafe(
+    alloc: Global,
+    canonical: &CanonicalTables<'_>,
+    tables: &CheckedTables<'_>,
+) -> bool {
+    let both = Both {
+        canonical,
+        collation: tables.tables(),
+    };
+    let Some(unsafe_characters) = unsafe_by_records(alloc, both) else {
+        return false;
+    };
+    TEXTS.iter().all(|text| {
+        text.chars().all(|c| {
+            is_plainly_unsafe(alloc, both, unsafe_characters.as_slice(), c)
+                == Some(tables.is_unsafe(c))
+        })
+    })
 }
 
 /// The canonical data of a provider.
@@ -262,33 +186,73 @@ fn checked_of(alloc: Global, held: &HeldCollation<'static>) -> Option<CheckedTab
     CheckedTables::try_new(alloc, canonical, tables).ok()
 }
 
-/// The call of a collator that is wrong, if one.
-fn wrong_call(
+/// A collator over a provider, under a choice of options.
+fn collator_under<'a>(
+    alloc: Global,
+    held: &'a HeldCollation<'static>,
+    choice: Choice,
+) -> Result<Collator<'a>, CollatorError> {
+    Collator::try_new_unstable(alloc, held, choice.preferences(), choice.given_options())
+}
+
+/// The call of a collator under a choice of options that is wrong on texts, if one.
+fn wrong_under(
     alloc: Global,
     held: &HeldCollation<'static>,
-    collator: CollatorBorrowed<'_>,
+    choice: Choice,
+    texts: &[ReadText],
+    latin1: &[ReadText],
 ) -> Option<&'static str> {
-    match checked_of(alloc, held) {
-        Some(tables) => {
+    match collator_under(alloc, held, choice) {
+        Ok(collator) => {
             let asked = Asked {
                 alloc,
-                canonical: &held.canonical,
-                tables: &tables,
-                collator,
+                tables: &held.tables,
+                collator: collator.as_borrowed(),
+                choice,
             };
-            asked.wrong_call()
+            asked.wrong_call(texts, latin1)
         }
-        None => Some("checked tables"),
+        Err(_) => Some("another refusal"),
     }
 }
 
-/// What a collator over a provider does, at the highest strength.
-pub fn collator_answer(alloc: Global, held: &HeldCollation<'static>) -> Answer<CollatorError> {
-    let preferences = CollatorPreferences::default();
-    let mut options = CollatorOptions::default();
-    options.strength = Some(Strength::Identical);
-    match Collator::try_new_unstable(alloc, held, preferences, options) {
-        Ok(collator) => answered(wrong_call(alloc, held, collator.as_borrowed())),
-        Err(error) => Answer::Refused(error),
+/// The call that is wrong under one of the choices, if one. Of the tables it changes what they say of secondaries.
+fn wrong_call(alloc: Global, held: &mut HeldCollation<'static>) -> Option<&'static str> {
+    let Some(tables) = checked_of(alloc, held) else {
+        return Some("checked tables");
+    };
+    if !all_are_unsafe(alloc, &held.canonical, &tables) {
+        return Some("is_unsafe");
     }
+    let texts = read_texts(alloc, &held.canonical, &tables);
+    let Some((texts, latin1)) = texts.zip(read_latin1_texts(alloc, &held.canonical, &tables)) else {
+        return Some("elements");
+    };
+    for place in 0..COUNT {
+        let Some(choice) = choice_at(place) else {
+            return Some("no choice");
+        };
+        held.tables.metadata = choice.metadata(held.tables.metadata);
+        let wrong = wrong_under(alloc, held, choice, texts.as_slice(), latin1.as_slice());
+        if wrong.is_some() {
+            return wrong;
+        }
+    }
+    None
+}
+
+/// What collators over a provider do, under each choice of options. Whether they are refused isn't for the options to
+/// say.
+pub fn collator_answer(alloc: Global, held: &mut HeldCollation<'static>) -> Answer<CollatorError> {
+    let Some(choice) = choice_at(0) else {
+        return Answer::Misread("no choice");
+    };
+    if let Err(error) = collator_under(alloc, held, choice) {
+        return Answer::Refused(error);
+    }
+    let metadata = held.tables.metadata;
+    let wrong = wrong_call(alloc, held);
+    held.tables.metadata = metadata;
+    answered(wrong)
 }

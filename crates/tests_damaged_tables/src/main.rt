@@ -1,21 +1,27 @@
-//! Changes compiled tables, one thing at a time, and asks normalisers and a collator over a provider of them: each refuses
-//! them, for an error that has a name, or each of its calls answers what the changed tables mean, read slowly by the rules
-//! alone.
+//! Changes compiled tables, one thing at a time, and asks normalisers and collators over a provider of them: each
+//! refuses them, for an error that has a name, or each of its calls answers what the changed tables mean, read slowly
+//! by the rules alone. Collators are asked under so many choices of options that each two values of two options come
+//! together.
 //!
-//! Each list is cut by its last item, in the tables of the worked rows, with fast tries and with small ones, and in fuller
-//! tables, in which none is empty. A line says what becomes of these tables, by the name of the error if they are refused; of
-//! a trie that is cut, only whether it is either, since which cells a trie has is left to its builder.
+//! Each list is cut by its last item, in the tables of the worked rows, with fast tries and with small ones, and in
+//! fuller tables, in which none is empty. A line says what becomes of these tables, by the name of the error if they
+//! are refused; of a trie that is cut, only that it is no trie, refused or answered by, since which cells a trie has is
+//! left to its builder.
 //!
-//! Each bit of the mappings and pairs of the worked rows, and of two words of four characters, is inverted in turn. A line
-//! says how many of these tables were refused, how many answered by, and how many misread; each that was misread has a line.
-//! With any word, as in `tests_damaged_tables all`, each bit of each list of the fuller tables is, which takes long.
+//! Each bit of the mappings and pairs of the worked rows, and of two words of four characters, is inverted in turn. A
+//! line says how many of these tables were refused, how many answered by, and how many misread, and how many bits
+//! couldn't be inverted, since what is left is no list or no trie; each that was misread has a line. With any word, as
+//! in `tests_damaged_tables all`, each bit of each list of the fuller tables is, which takes long.
 #![tactic(auto)]
 
 mod answers;
+mod choices;
 mod collators;
 mod forms;
+mod texts;
 
 use answers::{Answer, Counts};
+use choices::{COUNT, pair_count};
 use collators::collator_answer;
 use forms::normalisers_answer;
 use icu_codepointtrie::TrieType;
@@ -56,20 +62,23 @@ fn print_answer<E: Display>(rt: &HostRuntime, calls: &str, answer: &Answer<E>) -
 }
 
 /// Prints what becomes of the tables of a provider.
-fn print_answers(rt: &HostRuntime, held: &HeldCollation<'static>) -> io::Result<()> {
+fn print_answers(rt: &HostRuntime, held: &mut HeldCollation<'static>) -> io::Result<()> {
     print_answer(rt, "normalisers", &normalisers_answer(rt.alloc(), held))?;
     print!(rt; ";")?;
     print_answer(rt, "collator", &collator_answer(rt.alloc(), held))?;
     println!(rt; "")
 }
 
+/// What is printed of tables whose trie is cut and that aren't misread.
+const KINDS: &str = " no trie, refused or answered";
+
 /// Prints whether the tables of a provider are refused or answered by, without saying which.
-fn print_kinds(rt: &HostRuntime, held: &HeldCollation<'static>) -> io::Result<()> {
+fn print_kinds(rt: &HostRuntime, held: &mut HeldCollation<'static>) -> io::Result<()> {
     let normalisers = normalisers_answer(rt.alloc(), held).kind();
     let collator = collator_answer(rt.alloc(), held).kind();
     match (normalisers, collator) {
         (Answer::Misread(call), _) | (_, Answer::Misread(call)) => println!(rt; " misread, {call}"),
-        _ => println!(rt; " refused or answered"),
+        _ => println!(rt; "{KINDS}"),
     }
 }
 
@@ -80,7 +89,8 @@ fn print_cut(rt: &HostRuntime, held: &mut HeldCollation<'static>, field: Field) 
         Ok(()) => print_answers(rt, held),
         Err(NotChanged::Nothing) => println!(rt; " empty"),
         Err(NotChanged::Memory) => println!(rt; " no memory"),
-        Err(_) => println!(rt; " refused or answered"),
+        Err(_) if field.is_of_trie() => println!(rt; "{KINDS}"),
+        Err(_) => println!(rt; " no list"),
     }
 }
 
@@ -101,6 +111,8 @@ fn cut_all(rt: &HostRuntime, sample: Sample) -> io::Result<()> {
 struct Both {
     normalisers: Counts,
     collator: Counts,
+    /// How many couldn't be changed.
+    unchanged: u32,
 }
 
 /// Prints what is misread with a bit inverted.
@@ -114,7 +126,7 @@ fn print_misread(rt: &HostRuntime, bit: usize, answer: Answer<()>) -> io::Result
 /// Counts what becomes of the tables of a provider with a bit inverted, and prints what is misread.
 fn count(
     rt: &HostRuntime,
-    held: &HeldCollation<'static>,
+    held: &mut HeldCollation<'static>,
     bit: usize,
     both: &mut Both,
 ) -> io::Result<()> {
@@ -142,7 +154,8 @@ fn print_both(rt: &HostRuntime, name: &str, both: Both) -> io::Result<()> {
     print_counts(rt, "normalisers", both.normalisers)?;
     print!(rt; ";")?;
     print_counts(rt, "collator", both.collator)?;
-    println!(rt; "")
+    let unchanged = both.unchanged;
+    println!(rt; "; {unchanged} not inverted")
 }
 
 /// Says that a list couldn't be put back as it was.
@@ -168,7 +181,7 @@ fn invert_list(
             }
             Err(NotChanged::Nothing) => break,
             Err(NotChanged::Memory) => print_misread(rt, bit, Answer::Misread("memory"))?,
-            Err(_) => both.collator.count(Answer::Refused(())),
+            Err(_) => both.unchanged = both.unchanged.wrapping_add(1),
         }
     }
     print_both(rt, name, both)
@@ -253,7 +266,7 @@ fn invert_each(rt: &HostRuntime, held: &mut HeldCollation<'static>) -> io::Resul
 fn show_cuts(rt: &HostRuntime, name: &str, sample: Sample) -> io::Result<()> {
     print!(rt; "{name}:")?;
     match sample.tables(rt.alloc()) {
-        Some(held) => print_answers(rt, &held)?,
+        Some(mut held) => print_answers(rt, &mut held)?,
         None => println!(rt; " no memory")?,
     }
     cut_all(rt, sample)
@@ -278,7 +291,15 @@ fn invert_bits(rt: &HostRuntime, is_whole: bool) -> io::Result<()> {
     }
 }
 
+/// Prints how many choices of options collators are asked under, and how many pairs of values of two options these
+/// have.
+fn show_choices(rt: &HostRuntime) -> io::Result<()> {
+    let pairs = pair_count();
+    println!(rt; "{COUNT} choices of options, {pairs} pairs of values")
+}
+
 fn main(rt: HostRuntime) -> io::Result<()> {
+    show_choices(&rt)?;
     let is_whole = env::args(&rt)?.count() > 1;
     if !is_whole {
         let fast = Sample::Letters(TrieType::Fast);
