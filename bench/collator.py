@@ -5,8 +5,8 @@ Printed is a row for each set of bench/sets.py, or of those that are named: keys
 names that are in UTF-16 already, comparisons of random pairs, and of neighbours. ICU4C's other keys count the conversion
 from UTF-8.
 
-With --instructions: instructions of each, by callgrind over 2,000 names, in the second of two rounds, ours : ICU4C's =
-ICU4C's by ours. Else millions a second of a processor, ours : ICU4C's = ours by ICU4C's, of 200,000 names unless NAMES
+With --instructions: instructions of each, by callgrind over 2,000 names, in the second of two rounds, ours:ICU4C's =
+ICU4C's by ours. Else millions a second of a processor, ours:ICU4C's = ours by ICU4C's, of 200,000 names unless NAMES
 says otherwise (fewer where the set has no more): the program of crates/speed_collator and ICU4C (bench/icu4c.cpp) take
 turns, five times, each with ten rounds over 200,000 names and more over fewer; the best round of a turn counts, since on a
 host with other guests most rounds are slow, and of the turns the median. Above 1 is ahead in both.
@@ -31,10 +31,12 @@ from sets import ROOT, SETS, latin, latin_records, root_records
 FOLDER = os.path.join(ROOT, 'crates/speed_collator')
 PROGRAM = os.environ.get('COLLATOR_SPEED', os.path.join(FOLDER, 'out/speed_collator'))
 TASKS = ['keys', 'cmp_random', 'cmp_near']
-TITLES = ['keys', 'keys, ICU4C from UTF-16', 'random pairs', 'neighbours']
+TITLES = ['keys', 'keys, from UTF-16', 'random pairs', 'neighbours']
 # The functions that are a round of ours and of ICU4C's, and what both call before and after one.
 OUR_ROUNDS, THEIR_ROUNDS = ['*speed::write_keys*', '*speed::compare_pairs*'], ['*work_a_round*']
 CLOCK = '*clock_gettime*'
+# The columns of a row: its name, and a cell for each title.
+WIDTHS = [30, 20, 20, 19, 19]
 TURNS = 5
 ROUNDS_OF_NAMES = 2_000_000
 COUNTED_NAMES = 2000
@@ -120,7 +122,7 @@ def total(dump):
 
 
 def show_row(title, cells):
-    print('| ' + ' | '.join([title, *cells]) + ' |', flush=True)
+    print('    ' + '  '.join(f'{cell:{width}}' for cell, width in zip([title, *cells], WIDTHS)).rstrip(), flush=True)
 
 
 def pairs(ours, peers):
@@ -132,14 +134,14 @@ def pairs(ours, peers):
 def show_times(measured):
     """Prints the rows of the sets' times."""
     for one, found in zip(measured.chosen, measured.timed()):
-        cells = [f'{own:.3g} : {theirs:.3g} = {own / theirs:.2f}' for own, theirs in pairs(*found)]
+        cells = [f'{own:.3g}:{theirs:.3g} = {own / theirs:.2f}' for own, theirs in pairs(*found)]
         show_row(f'{one.title}, {measured.count:,} names', cells)
 
 
 def show_instructions(folder, measured):
     """Prints the rows of the sets' instructions."""
     for one, found in zip(measured.chosen, measured.counted(folder)):
-        cells = [f'{own:,.0f} : {theirs:,.0f} = {theirs / own:.2f}' for own, theirs in pairs(*found)]
+        cells = [f'{own:,.0f}:{theirs:,.0f} = {theirs / own:.2f}' for own, theirs in pairs(*found)]
         show_row(one.told, cells)
 
 
@@ -160,8 +162,7 @@ def measure(folder, counts, chosen, counts_instructions):
     """Prints the table of the chosen sets."""
     peer = os.path.join(folder, 'icu4c')
     subprocess.run(['g++', '-O2', os.path.join(ROOT, 'bench/icu4c.cpp'), '-o', peer, '-licui18n', '-licuuc'], check=True)
-    show_row('names', TITLES)
-    show_row('---', ['---'] * len(TITLES))
+    show_row('Names', TITLES)
     for _, alike in itertools.groupby(chosen, lambda one: one.records if one.records is root_records else one):
         alike = list(alike)
         if counts_instructions:

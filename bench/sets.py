@@ -231,7 +231,7 @@ SCRIPTS = {
 }
 
 SETS = [
-    Set('latin', latin, told='5 to 30 characters, marks'),
+    Set('latin', latin, told='5 to 30 characters'),
     Set('variants', variants, told='in case and marks'),
     Set('long', lambda count: latin(count, 60, 100), told='60 to 100 characters'),
     Set('digits', with_digits, digit_records, told='in two names of three'),

@@ -12,7 +12,7 @@ collate=${COLLATE:-$top/collate}
 records=(--language fr) names=''
 export LC_ALL=C
 case ${1:-} in
---language) records=(--language "$2") names=${3:-} ;;
+--language) records=(--language "${2:?postgresql.sh [--language TAG | RECORDS] [NAMES]}") names=${3:-} ;;
 ?*) records=("$(readlink -f "$1")") names=${2:-} ;;
 esac
 

@@ -9,7 +9,7 @@ top=$(cd "$(dirname "$(readlink -f "$0")")/.." && pwd)
 export LC_ALL=C
 language=sv
 if [ "${1:-}" = --language ]; then
-    language=$2
+    language=${2:?two_servers.sh [--language TAG] [NAMES]}
     shift 2
 fi
 work=$(mktemp -d)

@@ -1,5 +1,5 @@
-"""What a script of crates/tests_collation_rows is answered by an independent reading of the definitions in Python, which isn't part
-of this repository: a folder with modules `records` (`read`, `Fault`), `decode` (`decode_utf8`, `decode_utf16`, `decode_latin1`),
+"""What a script of crates/tests_collation_rows is answered by an independent reading of the definitions in Python, as
+tools/reading: a folder with modules `records` (`read`, `Fault`), `decode` (`decode_utf8`, `decode_utf16`, `decode_latin1`),
 `norm` (`composed`, `decomposed`) and `collate` (`Options`, `resolve`, `levels`, `compare`, `key`, `elements_of_list`). The
 program is `out/tests_collation_rows` of the crate's folder, where `rt run` puts it, or the one that the environment variable
 `COLLATION_ROWS` names."""

@@ -1,9 +1,9 @@
-"""Asks `collate` for the keys of texts: the executable crates/collate/out/collate, or the one that COLLATE names."""
+"""Asks `collate_unicode` for the keys of texts: the executable that it was built as, or the one that COLLATE names."""
 import os
 import subprocess
 
 ROOT = os.path.dirname(os.path.dirname(os.path.realpath(__file__)))
-PROGRAM = os.environ.get('COLLATE', os.path.join(ROOT, 'crates/collate/out/collate'))
+PROGRAM = os.environ.get('COLLATE', os.path.join(ROOT, 'crates/collate_unicode/out/collate_unicode'))
 
 
 class Refused(Exception):
@@ -16,7 +16,7 @@ def keys(records, texts, options=()):
     try:
         answer = subprocess.run([PROGRAM, records, *options], input=commands, stdout=subprocess.PIPE, stderr=subprocess.PIPE, check=False)
     except OSError as error:
-        raise Refused(f'{PROGRAM}: {error.strerror} (./collate builds it)') from error
+        raise Refused(f'{PROGRAM}: {error.strerror} (./collate --unicode builds it)') from error
     lines = answer.stdout.split(b'\n')[:-1]
     if answer.returncode or len(lines) != len(texts):
         raise Refused(answer.stderr.decode().strip() or f'{len(lines)} keys of {len(texts)} texts')

@@ -150,22 +150,34 @@ def methods(crate, path, text, names):
                 yield Call(crate, path, owner, found.group(2), head_of(body, found.end(), '    '))
 
 
-def shown(call):
-    """The lines of a call that asks something."""
+def asked_by(call):
+    """What a call asks, by the names of its clauses."""
+    return ', '.join(f'{name} `{words}`' if name else f'`{words}`' for name, words in clauses(call.head))
+
+
+def name_of(call):
+    """The name of a call with the type or the module that it stands in."""
     place = call.owner or '::'.join(call.module[-1:])
-    asked = ', '.join(f'{name} `{words}`' if name else f'`{words}`' for name, words in clauses(call.head))
-    text = f'`{place}::{call.name}`: {asked}' if place else f'`{call.name}`: {asked}'
-    return textwrap.wrap(text, 118, initial_indent='  - ', subsequent_indent='    ', break_long_words=False, break_on_hyphens=False)
+    return f'`{place}::{call.name}`' if place else f'`{call.name}`'
+
+
+def shown(calls, asked):
+    """The lines of calls that ask the same."""
+    return textwrap.wrap(f'{", ".join(map(name_of, calls))}: {asked}', 118, initial_indent='  - ', subsequent_indent='    ',
+                         break_long_words=False, break_on_hyphens=False)
 
 
 def listed():
-    """The list, as the page has it."""
+    """The list, as the page has it: calls of a crate that ask the same stand together, where the first of them stands."""
     lines = []
     for crate in libraries():
         asking = sorted({(call.owner or '', call.module, call.name): call for call in calls_of(crate)
                          if any(clauses(call.head))}.items())
+        alike = {}
+        for _, call in asking:
+            alike.setdefault(asked_by(call), []).append(call)
         if asking:
-            lines += [f'- `{crate}`', *(line for _, call in asking for line in shown(call))]
+            lines += [f'- `{crate}`', *(line for asked, calls in alike.items() for line in shown(calls, asked))]
     return '\n'.join(lines)
 
 

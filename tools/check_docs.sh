@@ -78,11 +78,17 @@ check_pages_named() {
         [ -e "${found#*:}" ] || complain "${found%%:*}: no page ${found#*:}"
     done < <(git grep -oE '\bdocs/[A-Za-z_]+\.(md|1|tsv)\b|\bCONTRIBUTING\.md\b' -- ':!*.md' | sort -u)
 }
-# The table of rules in the page, as docs/rules.tsv has it: a rule and a sentence, the rule again where a row has none.
+# The table of rules in the page, as docs/rules.tsv has it: a rule and a sentence, the rule again where a line has none. What
+# stands two columns further in belongs to the line before.
 rules_of_page() {
-    awk -F ' *[|] *' '
+    awk '
         /^## / { inside = $0 == "## Rules" }
-        inside && /^\| / && $2 != "Rule" { gsub(/`/, "", $2); if ($2 != "") rule = $2; print rule "\t" $3 }' docs/RECORDS.md
+        !inside || !/^    / { next }
+        /^               / { sub(/^ +/, ""); says[count] = says[count] " " $0; next }
+        { count++ }
+        /^    [A-Za-z0-9]/ { rule = $1; sub(/^ +[A-Za-z0-9]+/, "") }
+        { sub(/^ +/, ""); says[count] = rule "\t" $0 }
+        END { for (place = 1; place <= count; place++) print says[place] }' docs/RECORDS.md
 }
 check_rules() {
     local found
@@ -113,12 +119,20 @@ check_limits() {
         grep -qF "at most $number" docs/RECORDS.md || complain "docs/RECORDS.md: not at most $number, as tools/launcher.sh has it"
     done
 }
-# The records files that the gate runs are those of records/.
+# The records files that the gate runs are those of records/. The root of crates/tests_languages is lines of the root alone.
 check_copies() {
-    local file
+    local file root=crates/tests_languages/data/root.records
     for file in crates/examples_alphabets/data/*.records crates/tests_root/data/*.records; do
         cmp -s "$file" "records/${file##*/}" || complain "$file: not the file of records/"
     done
+    for file in crates/tests_languages/data/*.records; do
+        [ "$file" = "$root" ] || cmp -s "$file" "records/languages/${file##*/}" ||
+            complain "$file: not the file of records/languages/"
+    done
+    file=$(grep -n . "$root" | grep -vE '^[0-9]+:#' | awk -F : '
+        FNR == NR { stands[$0]; next }
+        !(substr($0, length($1) + 2) in stands) { print $1; exit }' records/root.records -)
+    [ -z "$file" ] || complain "$root:$file: no line of records/root.records"
 }
 check_version() {
     grep -q "^## $(cat VERSION)," CHANGELOG.md || complain "CHANGELOG.md: no heading of version $(cat VERSION)"

@@ -6,7 +6,7 @@
 # without --quick, the real one, which builds the unproved programs and those of README.md and docs/CALLING.md. PART is
 # one of the functions walk_PART, in a checkout without proofs but for with_rt. A line for each thing that isn't as it
 # should be; the status is 0 only where there is none, else 1, and 2 where it could not be walked. EDIT='FILE
-# SED-COMMAND' changes the checkout first, as tools/wrong_first_minutes.sh does.
+# SED-COMMAND' changes the checkout first, as tools/wrong_first_minutes.sh does; the walk then ends with the first line.
 set -u
 here=$(cd "$(dirname "$(readlink -f "${BASH_SOURCE[0]}")")/.." && pwd) || exit 1
 parts='without_executable foreign_executable with_executable faults languages broken_records room installed with_stand_in'
@@ -57,6 +57,7 @@ complain() {
     echo "$1"
     [ -z "${2:-}" ] || sed 's/^/    /' <<<"$2"
     status=1
+    [ -z "${EDIT:-}" ] || exit 1
 }
 
 # Runs the command behind -- and looks whether its status is $1 and whether what it says, on both outputs, has each
@@ -177,6 +178,7 @@ walk_with_executable() {
     put $out/collate $large/collate_unicode
     says 0 $'names 2\na\nb' "!$nothing" -- given 'add b\nadd a\nlist\n' ./collate $latin
     says 0 $'Zetterlund\nÅkesson\nÖberg' '!:' -- given "$swedish" ./sort_names records/swedish.records
+    says 0 = -- ./sort_names records/swedish.records
     # times alone change nothing, nor does a crate of one's own
     find crates -name '*.rt' -exec touch {} +
     says 0 added -- given 'add a\n' ./collate $latin
@@ -213,7 +215,12 @@ walk_faults() {
     says 2 "usage: collate FILE" "not understood: strength=on" "values of strength: primary" -- \
         ./collate $latin strength=on
     says 2 "usage: collate FILE" "given twice: numeric" -- ./collate $latin numeric=on numeric=off
-    says 2 "usage: sort_names" "not understood: strength" "values of strength: primary" -- ./sort_names $latin strength
+    says 2 "usage: sort_names" "not understood: strength" "values of strength: primary" -- \
+        given 'b\n' ./sort_names $latin strength
+    # at once, whether names come or not
+    says 2 "usage: sort_names" "given twice: numeric" -- \
+        timeout 10 bash -c './sort_names "$1" numeric=on numeric=off < <(exec sleep 15 2>/dev/null)' - $latin
+    says 1 "sort_names: " "no/collate: No such file" -- given 'b\n' env COLLATE=no/collate ./sort_names $latin
     says 2 "not understood: examples" -- ./collate strength=primary $latin
     says 2 "not understood: --numeric; before FILE stand --unproved, --unicode," -- ./collate --numeric $latin
     says 1 "cannot read --numeric" "no such file; before FILE stand --unproved, --unicode," -- ./collate --numeric
@@ -255,6 +262,13 @@ reader_away() {
 
 walk_installed() {
     local prefix=$work/usr name
+    # what is not proved isn't installed, nor packed
+    rm -rf $out $large
+    put $out/collate.unproved $large/collate_unicode.unproved
+    says 2 "no 'rt' on the path to build collate with" -- make install PREFIX="$prefix"
+    says 2 "no 'rt' on the path to build collate with" -- make dist
+    [ -z "$(find "$prefix" dist ! -type d 2>/dev/null)" ] || complain "what is not proved was installed or packed"
+    rm -r $out $large
     put $out/collate $large/collate_unicode
     { small && seq -f 'w %.0f ;' 3001 3200; } >"$work/more.records"
     says 0 -- make
@@ -308,7 +322,7 @@ walk_installed() {
 # The root and what languages put over it lie in the prefix $1, and are joined there.
 look_at_languages() {
     local folder=$1/share/leekclamp/records
-    [ -s "$folder/languages/README.md" ] || complain "no list of languages"
+    [ -s "$folder/languages/list.tsv" ] || complain "no list of languages"
     says 0 = -- bash -c '"$1/bin/join_records" "$2/languages/sv.records" >"$3"' - "$1" "$folder" "$work/joined.records"
     [ "$(grep -vc '^#' "$work/joined.records")" -gt 60000 ] || complain "the languages are not joined to the root"
     says 0 $'Zetterlund\nÅkesson\nÖberg' -- given "$swedish" "$1/bin/sort_names" --language sv
@@ -321,7 +335,7 @@ make_stand_in() {
     cat >"$work/fake/rt" <<TEXT
 #!/usr/bin/env bash
 [ "\$1" = run ] || exit 1
-[ ! -e "$work/fails" ] || { echo "error: not proved"; exit 1; }
+[ ! -e "$work/fails" ] || { cat "$work/fails"; exit 1; }
 crate=\$(basename "\$PWD")
 for name in \$("$top/tools/below.sh" "\$crate" | sed 's/:.*//'); do
     [ "\$name" != "\$crate" ] || continue
@@ -330,8 +344,8 @@ for name in \$("$top/tools/below.sh" "\$crate" | sed 's/:.*//'); do
 done
 [ ! -e "$work/edits" ] || echo '// while it is built' >>"$top/crates/collate_names/src/lib.rt"
 case \$crate in
-collate) cp "${executable[collate]}" out ;;
-collate_unicode) cp "${executable[collate_unicode]}" out ;;
+collate) cp "${executable[collate]}" out/collate ;;
+collate_unicode) cp "${executable[collate_unicode]}" out/collate_unicode ;;
 esac
 TEXT
     chmod +x "$work/fake/rt"
@@ -344,8 +358,10 @@ walk_with_stand_in() {
     make_stand_in
     count=$(($(tools/below.sh collate | wc -l) - 1))
     says 1 "cannot read nothing" "there is no such file" '!building' -- ./collate nothing
-    : >"$work/fails"
-    says 1 "building, see $out/build.log" "error: not proved" '!all is proved' -- ./collate $latin
+    echo 'error: not proved' >"$work/fails"
+    says 1 "building, see $out/build.log" "error: not proved" '!all is proved' '!memory' -- ./collate $latin
+    echo 'rt: mend these first' >"$work/fails" # as where a process was killed
+    says 1 "rt: mend these first" "no error is told: memory may have been short" -- ./collate $latin
     rm "$work/fails"
     : >"$work/edits"
     says 0 "collate: $count libraries to prove, and the program" "icu_packed_vector is proved, $((count - 1)) left" \

@@ -1,17 +1,19 @@
 #!/usr/bin/env bash
-# Runs the recipes of docs/DATABASES.md and examples/postgresql.sh over names that are made to break out of them, beside the
-# gate: quotes, NULs, damaged bytes, SQL, commands of the engines' shells and of this one, an empty name, a very long one.
+# Runs the recipes of docs/DATABASES.md, examples/postgresql.sh and examples/two_servers.sh over names that are made to
+# break out of them, beside the gate: quotes, NULs, damaged bytes, SQL, commands of the engines' shells and of this one,
+# an empty name, a very long one.
 #     tools/check_recipes.sh
 # What SQLite and PostgreSQL give back has to be what sort_names and collate answer, byte by byte; no other file may be
 # there, nor any other table; and where this runs as root another user must not reach the server. Then a million names go
 # into SQLite, within a minute on a quiet machine. A line each is printed of what is otherwise, and the status is 1 then.
-# COLLATE names another executable than that of collate_unicode, RECIPES another page, POSTGRESQL another script,
-# RECIPES_NAMES another number of names, RECIPES_SECONDS how long they may take.
+# COLLATE names another executable than that of collate_unicode, RECIPES another page, POSTGRESQL and TWO_SERVERS other
+# scripts, RECIPES_NAMES another number of names, RECIPES_SECONDS how long they may take.
 set -uo pipefail
 export LC_ALL=C
 top=$(cd "$(dirname "$(readlink -f "$0")")/.." && pwd)
 page=$(readlink -f "${RECIPES:-$top/docs/DATABASES.md}")
 script=$(readlink -f "${POSTGRESQL:-$top/examples/postgresql.sh}")
+two_servers=$(readlink -f "${TWO_SERVERS:-$top/examples/two_servers.sh}")
 words=(--language fr)
 if [ -n "${COLLATE:-}" ]; then
     export COLLATE=$(readlink -f "$COLLATE")
@@ -95,6 +97,15 @@ check_postgresql() {
     [ -z "$(find "$work/here" -mindepth 1)" ] || complain 'PostgreSQL: files are there'
 }
 
+# Half of the names is kept by each of two servers.
+check_two_servers() {
+    cd "$work/here" || exit 1
+    TMPDIR=$work/tmp "$two_servers" --language fr "$work/names" >"$work/given" 2>&1 || complain "two servers: it ended with $?"
+    [ "$(cat "$work/given")" = "$(wc -l <"$work/names") names on two servers: in the order of sort_names" ] ||
+        complain "two servers: $(tail -c 500 "$work/given")"
+    [ -z "$(find "$work/here" -mindepth 1)" ] || complain 'two servers: files are there'
+}
+
 # A great many names go into SQLite.
 check_many() {
     local count=${RECIPES_NAMES:-1000000} began=$SECONDS
@@ -114,6 +125,7 @@ recipe >"$work/recipe"
 "${COLLATE:-$top/collate}" "${words[@]}" </dev/null || complain 'collate failed'
 check_sqlite
 check_postgresql
+check_two_servers
 check_many
 [ "$status" != 0 ] || echo "SQLite and PostgreSQL: $(wc -l <"$work/names") hostile names came back as they were"
 exit "$status"

@@ -173,7 +173,11 @@ class Parser:
         start = self.place
         name, _, value = self.bracket().partition(' ')
         if name == 'import':
-            self.said += self.load(value, self.where)
+            said = self.load(value)
+            if said is None:
+                self.place = start
+                raise self.fault('an import of what is not there')
+            self.said += said
         elif name == 'suppressContractions':
             self.said.append(Suppress(self.characters(value)))
         elif name in SETTINGS and (SETTINGS[name] is None or value in SETTINGS[name]):
@@ -232,20 +236,25 @@ def languages():
     return found
 
 
-def imported(tag, where):
-    """What an imported collation says: a tag, with the type behind -u-co-."""
+def imported(tag):
+    """What an imported collation says: a tag, with the type behind -u-co-. None where there is no such collation."""
     name, _, kind = tag.partition('-u-co-')
     name = 'root' if name == 'und' else name.replace('-', '_')
+    if name not in languages():
+        return None
     default, rules = collations(name)
     kind = SHORT.get(kind, kind) or default
-    if kind not in rules:
-        raise Fault(where, f'an import of what is not there: {tag}')
-    return rules_of(name, kind)
+    return rules_of(name, kind) if kind in rules else None
+
+
+def place_of(name, kind):
+    """How a fault calls the place of a collation."""
+    return f'{os.path.join(FOLDER, name)}.xml, collation {kind}'
 
 
 def rules_of(name, kind):
     """What the rules of a collation say."""
-    where = f'{os.path.join(FOLDER, name)}.xml, collation {kind}'
+    where = place_of(name, kind)
     rules = collations(name)[1]
     if kind not in rules:
         raise Fault(where, 'there is no such collation')

@@ -1,9 +1,9 @@
 #!/usr/bin/env python3
 """Compares what is answered to pairs of records files with another program: what they say differently, and what texts reach.
 
-  compare_changes.py ORACLE [PAIRS [SEED [PROCESSES]]]
+  compare_changes.py READING [PAIRS [SEED [PROCESSES]]]
 
-ORACLE is a folder with an independent reading of the format in Python, which isn't part of this repository: a module `records`
+READING is a folder with an independent reading of the format in Python, as tools/reading: a module `records`
 (`read`, `Fault`). There are 5,000 pairs unless PAIRS says otherwise, of accepted files most of which differ in a few lines
 (tools/random_changes.py), with some 50 questions each. crates/tests_records_rows has to be built (`rt run` in its folder;
 RECORDS_ROWS names another executable, and `none` none: then the answers are only counted). How often each answer is right is

@@ -1,9 +1,9 @@
 #!/usr/bin/env python3
 """Compares collation elements with those of another program, on random records and random texts.
 
-  compare_elements.py ORACLE [TEXTS [SETS [SEED]]]
+  compare_elements.py READING [TEXTS [SETS [SEED]]]
 
-ORACLE is a folder with an independent reading of the definitions (tools/answers.py). There are 3,000 texts over 60 sets of records
+READING is a folder with an independent reading of the definitions (tools/answers.py). There are 3,000 texts over 60 sets of records
 unless TEXTS and SETS say otherwise, half of them with numbers read by value. The records have contractions to eight characters, prefixes of one to
 three, digits, dots above, jamo, ranges and tailorings. crates/tests_collation_rows compiles each set, with fast and with small tries,
 and answers the elements of each text, as the reader of elements reads them (`read`) and as they are read slowly by the rules

@@ -1,9 +1,9 @@
 #!/usr/bin/env python3
 """Compares normal forms with those of another program, on random records and random texts in three encodings.
 
-  compare_forms.py ORACLE [TEXTS [SEED]]
+  compare_forms.py READING [TEXTS [SEED]]
 
-ORACLE is a folder with an independent reading of the definitions in Python, which isn't part of this repository: modules
+READING is a folder with an independent reading of the definitions in Python, as tools/reading: modules
 `records` (`read`, `Fault`), `norm` (`form`) and `decode` (`decode_utf8`, `decode_utf16`). There are 5,000 texts unless
 TEXTS says otherwise, 100 over each records file; as UTF-8 and as UTF-16 most of them are damaged. For each text, form and
 encoding the form is compared, whether the text is in the form, and the two parts that it is split in: the prefix is

@@ -5,7 +5,7 @@
 
 Of each language it takes the characters of its alphabet (exemplar characters of Debian's unicode-cldr-core), one by one and in
 pairs, the texts of its tailoring, alone and before and behind letters, and the names of countries, languages and currencies in
-the language, with some of each other language (iso-codes). They are sorted by keys of `collate` (COLLATE names another
+the language, with some of each other language (iso-codes). They are sorted by keys of `collate_unicode` (COLLATE names another
 executable) and by those of ICU4C (python3-icu) from the rules of CLDR 41, and neighbours in both lists have to compare alike.
 The program reads of the joined records the lines about characters of these texts alone. Pairs with a text that is left out are
 counted by themselves, as are those with Han that the language does not order, and those that ICU4C's own collator of the
@@ -181,7 +181,7 @@ def main(words):
     try:
         differ = sum(compare(*names[tag], characters) for tag in words or names)
     except ask_collate.Refused as refused:
-        raise Fault('collate', str(refused)) from refused
+        raise Fault('collate_unicode', str(refused)) from refused
     return 1 if differ else 0
 
 

@@ -1,9 +1,9 @@
 #!/usr/bin/env python3
 """Compares the mapper of domain names with another program, on random canonical records, mapper tables and texts.
 
-  compare_mapper.py ORACLE [TABLES [SEED]]
+  compare_mapper.py READING [TABLES [SEED]]
 
-ORACLE is what compare_forms.py takes; of its module `norm` `uts46_map` and `uts46_validate` are called. There are 1,000
+READING is what compare_forms.py takes; of its module `norm` `uts46_map` and `uts46_validate` are called. There are 1,000
 tables unless TABLES says otherwise, each over records of its own and with 20 texts. What `map_normalize` and
 `normalize_validate` give of each text is compared. crates/speed_normal has to be built (`rt run -- none` in its folder).
 What differs is printed, and the status is then 1.

@@ -1,9 +1,9 @@
 #!/usr/bin/env python3
 """Compares orders of texts and sort keys with those of another program, on random records, options and texts.
 
-  compare_orders.py ORACLE [PAIRS [SETS [SEED]]]
+  compare_orders.py READING [PAIRS [SETS [SEED]]]
 
-ORACLE is a folder with an independent reading of the definitions (tools/answers.py). There are 20,000 pairs over 100 sets of
+READING is a folder with an independent reading of the definitions (tools/answers.py). There are 20,000 pairs over 100 sets of
 records unless PAIRS and SETS say otherwise, each set with eight choices of options. Two of three pairs are nearly equal
 (tools/random_pairs.py): a mark, a variant of a letter, a space or stop, an ignorable character, zeros before a number, or another
 normal form; some begin with the same long text. Each pair is asked in all five encodings, its bytes and units damaged at times,

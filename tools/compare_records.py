@@ -1,9 +1,9 @@
 #!/usr/bin/env python3
 """Compares what is answered to records files with another program, on random files of the whole format.
 
-  compare_records.py ORACLE [FILES [SEED [PROCESSES]]]
+  compare_records.py READING [FILES [SEED [PROCESSES]]]
 
-ORACLE is a folder with an independent reading of the format in Python, which isn't part of this repository: a module `records`
+READING is a folder with an independent reading of the format in Python, as tools/reading: a module `records`
 (`read`, `Fault`). There are 50,000 files unless FILES says otherwise, most of them near to a rule on either side
 (tools/random_files.py). Each is accepted, or refused with a line and a rule, by both. crates/tests_records_rows has to be built
 (`rt run` in its folder; RECORDS_ROWS names another executable, and `none` none: then the files are only counted). How often

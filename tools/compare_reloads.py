@@ -1,9 +1,9 @@
 #!/usr/bin/env python3
 """Compares what reloads of the program `collate` do with another program: files accepted or refused, names touched, orders.
 
-  compare_reloads.py ORACLE [FILES [SEED [PROCESSES [BYTES,CODE_POINTS,RECORDS]]]]
+  compare_reloads.py READING [FILES [SEED [PROCESSES [BYTES,CODE_POINTS,RECORDS]]]]
 
-ORACLE is a folder with an independent reading of the definitions in Python, which isn't part of this repository: a module
+READING is a folder with an independent reading of the definitions in Python, as tools/reading: a module
 `model` (`serve`, `choice`) and `records` (`read`, `Fault`). There are 20,000 files unless FILES says otherwise, fifty a
 run, under options by chance: two of three are random files of the whole format (tools/random_files.py), the others the
 last accepted one with a change or two (tools/random_changes.py). Behind each that is accepted names are added and

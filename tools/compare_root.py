@@ -2,8 +2,8 @@
 """Compares records/root.records with what CLDR, Unicode and ICU4C say, by hand: docs/ROOT.md has what it printed.
 
   compare_root.py conformance               both files of CLDR's conformance test, whole, and all Han characters in the order
-                                            of FractionalUCA.txt, by keys of `collate`
-  compare_root.py pairs [COUNT [SEED]]      200,000 random pairs of texts of all scripts but Han, by keys of `collate` and by
+                                            of FractionalUCA.txt, by keys of `collate_unicode`
+  compare_root.py pairs [COUNT [SEED]]      200,000 random pairs of texts of all scripts but Han, by keys of `collate_unicode` and by
                                             ICU4C (python3-icu), under each of OPTIONS at each of five strengths
   compare_root.py forms                     NormalizationTest.txt in four normal forms, by crates/speed_normal
 
@@ -284,7 +284,7 @@ def main(words):
     try:
         return tasks[words[0]](words[1:])
     except ask_collate.Refused as refused:
-        raise Fault('collate', str(refused)) from refused
+        raise Fault('collate_unicode', str(refused)) from refused
 
 
 if __name__ == '__main__':

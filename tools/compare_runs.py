@@ -1,9 +1,9 @@
 #!/usr/bin/env python3
 """Compares whole runs of the program `collate` with another program: what it writes, what it says is wrong, and its status.
 
-  compare_runs.py ORACLE [RUNS [SEED [PROCESSES]]]
+  compare_runs.py READING [RUNS [SEED [PROCESSES]]]
 
-ORACLE is a folder with an independent reading of the definitions in Python, which isn't part of this repository: a module
+READING is a folder with an independent reading of the definitions in Python, as tools/reading: a module
 `model` (`read`, `Fault`, `choice`, `serve`, `decode_utf8`, `Index`). There are 10,000 runs unless RUNS says otherwise, over random records files, words
 and commands (tools/random_runs.py), ten over each file. crates/collate has to be built (`./collate` at the top; COLLATE names
 another executable). How often each reply was given is printed, and what reloads did: whether a setting changed, and by how

@@ -1,9 +1,9 @@
 #!/usr/bin/env python3
 """Compares what `sort_names` writes with the order that another program gives.
 
-  compare_sorted.py ORACLE [RUNS [SEED]]
+  compare_sorted.py READING [RUNS [SEED]]
 
-ORACLE is a folder with an independent reading of the definitions in Python, which isn't part of this repository: a module
+READING is a folder with an independent reading of the definitions in Python, as tools/reading: a module
 `model` (`read`, `Fault`, `choice`, `decode_utf8`, `key`). There are 100 runs unless RUNS says otherwise, over random records
 files and words (tools/random_runs.py) and names with damaged bytes, TABs and NUL bytes: names in order, keys, and files
 with keys that are merged; in each tenth run over more than one part. Then what is refused: too long a line, wherever a part

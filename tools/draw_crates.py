@@ -114,7 +114,8 @@ def faults(groups, uses):
     parts = re.split(r'^## (.*)$', open(PAGE, encoding='utf-8').read(), flags=re.M)
     sections = {title.lower(): text for title, text in zip(parts[1::2], parts[2::2])}
     for group, names in groups.items():
-        named = re.findall(r'^- `([a-z0-9_]+)`', sections.get(group, ''), flags=re.M)
+        items = re.findall(r'^- ((?:`[a-z0-9_]+`(?:,\s+(?=`))?)+)', sections.get(group, ''), flags=re.M)
+        named = re.findall(r'`([a-z0-9_]+)`', ' '.join(items))
         for it in names:
             if it not in named:
                 yield f'crates/README.md: {it} is not under "{group}"'

@@ -2,7 +2,7 @@
 """Draws what keys and comparisons cost beside ICU4C, by the figures of bench/README.md, into bench/ratios.svg:
     tools/draw_ratios.py [--check]
 
-A row of the tables of instructions is a row of the picture, each figure `ours : theirs = ratio` a dot. With --check
+A row of the tables of instructions is a row of the picture, each figure `ours:theirs = ratio` a dot. With --check
 nothing is written: the status is 0 only where the picture is that of the page, and each ratio of the page, those of times
 too, is the quotient of its figures, as far as they are told.
 """
@@ -31,7 +31,7 @@ def rows_of(page, heading):
     if f'\n{heading}\n' not in page:
         fail(f'no heading "{heading}"')
     section = page.split(f'\n{heading}\n', 1)[1].split('\n## ', 1)[0]
-    lines = [[cell.strip() for cell in line.strip('|').split('|')] for line in section.split('\n') if line.startswith('|')]
+    lines = [re.split('  +', line.strip()) for line in section.split('\n') if line.startswith('    ')]
     rows = [(line[0], [figure_of(cell, line[0]) for cell in line[1:]]) for line in lines if ' = ' in ''.join(line)]
     if not rows:
         fail(f'no table below "{heading}"')
@@ -40,9 +40,9 @@ def rows_of(page, heading):
 
 def figure_of(cell, name):
     """What a cell tells: our figure, theirs, the ratio."""
-    found = re.fullmatch(r'([\d.,]+) : ([\d.,]+) = ([\d.]+)', cell)
+    found = re.fullmatch(r'([\d.,]+) ?: ?([\d.,]+) = ([\d.]+)', cell)
     if not found:
-        fail(f'{name}: no figure `ours : theirs = ratio`: {cell}')
+        fail(f'{name}: no figure `ours:theirs = ratio`: {cell}')
     return tuple(number.replace(',', '') for number in found.groups())
 
 
@@ -60,7 +60,7 @@ def wrong_ratios(rows, is_counted):
             low = (a - step_of(over)) / (b + step_of(under)) - step_of(ratio)
             high = (a + step_of(over)) / (b - step_of(under)) + step_of(ratio)
             if not low <= r <= high:
-                yield f'bench/README.md: {name}: {ours} : {theirs} is not {ratio}'
+                yield f'bench/README.md: {name}: {ours}:{theirs} is not {ratio}'
 
 
 def place(ratio):

@@ -54,7 +54,7 @@ install_all() {
     folder=$(records_folder)
     while IFS= read -r name; do
         copy 644 "$prefix/share/leekclamp/records/$(dirname "$name")" "$folder/$name"
-    done < <(cd "$folder" && find . -name '*.records' -o -name README.md)
+    done < <(cd "$folder" && find . -name '*.records' -o -name list.tsv -o -name README.md)
     ln -sfn ../../share/leekclamp/records "$home/records" # where join_records looks for the root
     copy 644 "$prefix/share/man/man1" docs/collate.1 docs/sort_names.1
     ln -sf collate.1 "$prefix/share/man/man1/collate_unicode.1"

@@ -49,9 +49,9 @@ refuse_language() {
 # The list of the languages, a line each: tag, language, type.
 list_languages() {
     local list
-    list=$(languages_folder)/languages/README.md
+    list=$(languages_folder)/languages/list.tsv
     [ -r "$list" ] || fail "cannot read $(shown "$list")"
-    sed -n 's/^| `\([^`]*\)` | \([^|]*\) | \([^|]*\) |.*/\1\t\2\t\3/p' "$list"
+    cat "$list"
 }
 
 # Takes a tag apart, into `name`, what says the language, in lower case, and `type`, what order of it, if any. Fails where it

@@ -213,6 +213,8 @@ build() {
     wait "$reporter"
     if [ "$status" != 0 ]; then
         tail -n 20 "$out/build.log" >&2
+        grep -q error "$out/build.log" ||
+            say "no error is told: memory may have been short, as the first build takes over 7 GB"
         return 1
     fi
     note_sources "$program" "$sum" "$out/build.began"

@@ -1,16 +1,16 @@
 #!/usr/bin/env python3
 """Drives the program `collate` with a long run of commands, and counts the memory that its index holds.
 
-  long_life.py ORACLE [COMMANDS [RELOADS [SEED]]]
+  long_life.py READING [COMMANDS [RELOADS [SEED]]]
 
-ORACLE is a folder with an independent reading of the program, a module `model` (`read`, `read_options`, `Index`, `decode_utf8`,
+READING is a folder with an independent reading of the program, a module `model` (`read`, `read_options`, `Index`, `decode_utf8`,
 `key`, `Fault`). There are 10,000,000 commands and 200 reloads unless the words say otherwise, and at most 100,000 names at a
 time: their number goes up and down, by adds and removals at random, and ten times all but a hundredth go in bulk. crates/collate
 has to be built (`./collate` at the top; COLLATE names another executable), and a C compiler has to be there (`cc`), for
 tools/count_memory.c, which is preloaded.
 
 Every reply is compared. Those to adds and removals are what a set of names gives; those to reloads, and at twenty halts the
-whole list and some of `find`, `between` and `key`, are ORACLE's. At each halt, just before a reload, and at the end a fresh
+whole list and some of `find`, `between` and `key`, are READING's. At each halt, just before a reload, and at the end a fresh
 index is made of the same names by the same records, and the bytes that were requested and not freed are printed of both. The
 status is 1 where a reply differs, or where in the end the long run holds more than twice the bytes of the fresh index.
 """
@@ -75,7 +75,7 @@ class Names:
 
 
 class Records:
-    """The records that count, by ORACLE, and what names reach by them."""
+    """The records that count, by READING, and what names reach by them."""
 
     def __init__(self, oracle, file):
         self.oracle, self.file, self.records = oracle, file, oracle.read(file)
@@ -108,7 +108,7 @@ class Records:
         return b'reloaded %d\n' % made
 
     def index(self, names):
-        """ORACLE's index over these names."""
+        """READING's index over these names."""
         index = self.oracle.Index(self.records, self.options)
         index.arrival = list(enumerate(names.arrived))
         index.held, index.next = set(names.arrived), len(names.arrived)
@@ -167,7 +167,7 @@ class Life:
             self.refused += 1
 
     def halt(self):
-        """Marks the place, and asks what ORACLE answers too."""
+        """Marks the place, and asks what READING answers too."""
         index = self.records.index(self.names)
         self.tell(MARK, b'bad\n')
         self.tell(b'list\n', lines_reply(index.list()))

@@ -2,7 +2,7 @@
 """Writes records/languages/NAME.records, what a collation of CLDR puts over records/root.records: docs/LANGUAGES.md.
 
   make_language.py LANGUAGE [TYPE]     writes one file: `sv`, `de phonebook`, `fr_CA`; without TYPE the language's default
-  make_language.py --all               writes all, and records/languages/README.md
+  make_language.py --all               writes all, their list and the page beside them
   make_language.py --check             compares all with what would be written; the status is 1 where one differs
 
 A file holds `t` lines, settings, and lines `# without CP ..` for records of the root that are left out where it is put over it.
@@ -24,13 +24,13 @@ ROOT = os.path.dirname(os.path.dirname(os.path.realpath(__file__)))
 FOLDER = os.path.join(ROOT, 'records/languages')
 
 
-def place_leads(plan, order):
-    """Where leads go under [reorder ..]: pairs of a lead and its new one."""
+def place_leads(plan, order, where):
+    """Where leads go under [reorder ..], which stands at `where`: pairs of a lead and its new one."""
     groups = [name for name in order if name != 'others']
     leads = {name: plan.leads_of({'digit': 'DIGIT'}.get(name, name)) for name in groups}
     missing = [name for name in groups if not leads[name]]
     if missing:
-        raise Fault('tools/root_leads.py', f'no leads of its own: {" ".join(missing)}')
+        raise Fault(where, f'[reorder ..]: no leads of its own in the root: {" ".join(missing)}')
     kinds = {lead: part.kind for part in plan.leads for lead in range(part.first, part.last + 1)}
     rest = [part for part in plan.leads if not part.is_free and part not in leads.values()]
     low = [part for part in rest if part.last <= TEN_DIGITS]
@@ -71,7 +71,8 @@ class Language:
         self.default, _ = cldr_rules.collations(name)
         self.made = Tailoring(base, cldr_rules.rules_of(name, kind))
         order = self.made.reorder
-        self.reorder = place_leads(base.plan, order) if order and order != ['others'] else {}
+        where = cldr_rules.place_of(name, kind)
+        self.reorder = place_leads(base.plan, order, where) if order and order != ['others'] else {}
 
     def tag(self):
         return tag_of(self.name, self.kind)
@@ -155,34 +156,22 @@ def english_names():
     return {part.get('type'): part.text for part in languages if part.get('alt') is None and part.get('type')}
 
 
-def readme(made):
-    """The page that lists the files."""
+def listed(made):
+    """The list of the files, a line each: tag, language, type."""
     names = english_names()
-    yield from README.strip('\n').split('\n')
     for language in sorted(made, key=lambda language: language.tag()):
-        tailoring = language.made
         first = language.name.split('_')[0]
         name = 'any' if first == 'root' else names.get(language.name) or f'{names[first]} ({language.name.partition("_")[2]})'
-        special = [word for word in tailoring.settings.values() if word]
-        if language.reorder:
-            special.insert(0, ' '.join(tailoring.reorder) + ' first' if 'others' not in tailoring.reorder else 'digits last')
-        if tailoring.without:
-            special.append(f'without {len(tailoring.without)} records of the root')
-        left = sum(map(len, tailoring.left.values()))
-        cells = [f'`{language.tag()}`', name, language.kind, f'{len(tailoring.made):,}', ', '.join(special), str(left or '')]
-        yield f'| {" | ".join(cells)} |'.replace('  ', ' ')
+        yield f'{language.tag()}\t{name}\t{language.kind}'
 
 
 README = """
 # Languages
 
-What the languages of CLDR 41 put over `records/root.records`, a file for each collation that is not the root's own;
-`docs/LANGUAGES.md` says more, and what is left out. Made by `tools/make_language.py --all`; `--language` puts
-one over the root. A file is named by the tag of a language, with the type behind it that is not the language's default.
-The data are under Unicode's licence (`NOTICE.md`).
-
-| Tag | Language | Type | Texts | What is special | Left out |
-|---|---|---|---|---|---|
+What the languages of CLDR 41 put over `records/root.records`, a file for each collation that is not the root's own
+(`docs/LANGUAGES.md`), made by `tools/make_language.py --all`. `list.tsv` has their tags, languages and types; a file is
+named by the tag, with the type behind it that isn't the language's default. The data are under Unicode's licence
+(`NOTICE.md`).
 """
 
 
@@ -219,7 +208,8 @@ def main(words):
     made = [Language(base, *name) for name in names]
     files = {language.path(): '\n'.join(language.lines()) + '\n' for language in made}
     if words[0].startswith('-'):
-        files[os.path.join(FOLDER, 'README.md')] = '\n'.join(readme(made)) + '\n'
+        files[os.path.join(FOLDER, 'README.md')] = README.lstrip('\n')
+        files[os.path.join(FOLDER, 'list.tsv')] = '\n'.join(listed(made)) + '\n'
     for language in made:
         language.tell()
     if words[0] == '--check':

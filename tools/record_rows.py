@@ -1,10 +1,10 @@
 #!/usr/bin/env python3
-"""Writes the stored script of crates/tests_records_rows and its answers: record_rows.py ORACLE [--check]
+"""Writes the stored script of crates/tests_records_rows and its answers: record_rows.py READING [--check]
 
-The files and their answers stand in tools/record_tables.py and, the fewest lines that break each rule, in docs/RECORDS.md;
-pairs of files, with questions and answers, in tools/record_pair_tables.py. ORACLE is a folder with an independent reading of
-the format, a module `records` (`read`, `Fault`), which has to answer the same. With --check nothing is written: the two files
-have to be what they are.
+The files and their answers stand in tools/record_tables.py and, the fewest lines that break each rule, in
+tools/fewest_lines.tsv; pairs of files, with questions and answers, in tools/record_pair_tables.py. READING is a folder
+with an independent reading of the format, a module `records` (`read`, `Fault`), which has to answer the same. With
+--check nothing is written: the two files have to be what they are.
 """
 import os
 import re
@@ -16,7 +16,7 @@ from record_tables import SECTIONS
 
 ROOT = os.path.dirname(os.path.dirname(os.path.realpath(__file__)))
 FOLDER = os.path.join(ROOT, 'crates/tests_records_rows')
-PAGE = os.path.join(ROOT, 'docs/RECORDS.md')
+FEWEST = os.path.join(ROOT, 'tools/fewest_lines.tsv')
 
 
 def spelled(line):
@@ -42,16 +42,10 @@ def file_of(lines):
 
 
 def fewest_rows():
-    """The fewest lines that break each rule, by the page's last column; each is refused in the last of them."""
-    rows = []
-    for line in open(PAGE):
-        cells = [cell.strip() for cell in re.split(r'(?<!\\)\|', line.rstrip('\n'))[1:-1]]
-        if len(cells) == 4 and re.fullmatch('`[A-Za-z0-9]+`', cells[0]):
-            rule = cells[0].strip('`')
-            lines = [found.replace('\\|', '|') for found in re.findall('`([^`]*)`', cells[3])]
-            rows.append((f'the fewest lines that break {rule}', '\n'.join(lines), f'{len(lines)} {rule}'))
-    assert len(rows) == 27, f'{len(rows)} rules on {PAGE}'
-    return rows
+    """The fewest lines that break each rule; each is refused in the last of them."""
+    rows = [line.split('\t') for line in open(FEWEST, encoding='utf-8').read().splitlines()]
+    assert len(rows) == 27, f'{len(rows)} rules in {FEWEST}'
+    return [(f'the fewest lines that break {rule}', '\n'.join(lines), f'{len(lines)} {rule}') for rule, *lines in rows]
 
 
 def fault_of(found):

@@ -1,10 +1,10 @@
 #!/usr/bin/env python3
 """Refuses two programs their requests for memory, and looks at what they answer then.
 
-  refuse_memory.py [--every N] [ORACLE]
+  refuse_memory.py [--every N] [READING]
 
 crates/collate and crates/tests_refused_memory have to be built (`rt run` in their folders; COLLATE and REFUSED_MEMORY name other
-executables), and a C compiler has to be there (`cc`), for tools/refuse_memory.c, which is preloaded. ORACLE is a folder with an
+executables), and a C compiler has to be there (`cc`), for tools/refuse_memory.c, which is preloaded. READING is a folder with an
 independent reading of `collate`, a module `model` (`choice`, `serve`); without it `tests_refused_memory` alone is asked. Each run
 is refused one request, of all that it makes each in turn; then one and all that follow it; then two at random (SEED). With --every N
 only each Nth is tried alone, and as few others.

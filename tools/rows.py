@@ -1,7 +1,7 @@
 #!/usr/bin/env python3
-"""Writes the stored script of crates/tests_collation_rows and its answers: rows.py ORACLE [--check]
+"""Writes the stored script of crates/tests_collation_rows and its answers: rows.py READING [--check]
 
-ORACLE is a folder with an independent reading of the definitions (tools/answers.py), which gives the answers. Those of worked
+READING is a folder with an independent reading of the definitions (tools/answers.py), which gives the answers. Those of worked
 rows, and all of what a provider's changed tables are refused for, stand here, and are compared with it. With --check nothing is
 written: the two files have to be what they are, and the program, which has to be built (`rt run` in its folder), has to
 answer so.

@@ -1,7 +1,7 @@
 #!/usr/bin/env python3
-"""Writes the stored script of crates/tests_run_rows and its answers: run_rows.py ORACLE [--check]
+"""Writes the stored script of crates/tests_run_rows and its answers: run_rows.py READING [--check]
 
-The runs and what is worked out of their replies stand in tools/run_tables.py. ORACLE is a folder with an independent reading of
+The runs and what is worked out of their replies stand in tools/run_tables.py. READING is a folder with an independent reading of
 the program, a module `model` (`choice`, `serve`), which gives all replies and has to agree. With --check nothing is written:
 the two files have to be what they are.
 """

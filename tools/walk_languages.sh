@@ -13,6 +13,10 @@ walk_languages() {
     for word in de-u-co-phonebk de-phonebook de-CH-u-co-phonebk; do
         says 0 $'Adler\nÄbte\nAfra' -- given "$phonebook" ./sort_names --language $word
     done
+    # an order of no language, that any has; Chinese by readings and by strokes
+    says 0 $'😀\n❤\n☎' -- given '☎\n😀\n❤\n' ./sort_names --language fr-u-co-emoji
+    says 0 $'安\n八' -- given '八\n安\n' ./sort_names --language zh
+    says 0 $'八\n安' -- given '安\n八\n' ./sort_names --language zh-TW
     says 0 $'names 3\nZetterlund\nÅkesson\nÖberg' '!:' -- \
         given 'add Öberg\nadd Zetterlund\nadd Åkesson\nlist\n' ./collate --language sv
     says 0 $'a2\na10' -- given 'a10\na2\n' ./sort_names --language sv numeric=on
@@ -34,6 +38,8 @@ walk_languages() {
     for word in 'LC_ALL=sv_SE.UTF-8@x LANG=de_DE' 'LC_ALL= LC_COLLATE=sv_FI LANG=de_DE' 'LC_ALL= LANG=sv'; do
         says 0 $'Zetterlund\nÅkesson\nÖberg' -- given "$swedish" env $word ./sort_names
     done
+    says 0 $'Cuk\nČab' -- given 'Čab\nCuk\n' env LC_ALL=sr_RS.UTF-8@latin ./sort_names
+    says 0 $'Čab\nCuk' -- given 'Čab\nCuk\n' env LC_ALL=sr_RS.UTF-8 ./sort_names
     for word in LC_ALL=C LC_ALL=POSIX 'LC_ALL= LANG=C.UTF-8 LC_MESSAGES=sv' 'LC_ALL= LC_COLLATE= LANG=' LC_ALL=en_US.UTF-8; do
         says 0 $'Åkesson\nÖberg\nZetterlund' -- given "$swedish" env $word ./sort_names
     done
@@ -41,13 +47,16 @@ walk_languages() {
     # a folder of one's own, and faults by the file that has the line
     mkdir -p "$made/languages"
     small >"$made/root.records"
-    printf '| `sv` | Swedish | standard |\n' >"$made/languages/README.md"
+    printf 'sv\tSwedish\tstandard\n' >"$made/languages/list.tsv"
     printf '# without 0301\nt 0062 ; [2A080000.0500.0.0500.0]\n' >"$made/languages/sv.records"
     says 0 $'b\na' -- given 'a\nb\n' env COLLATE_RECORDS="$made" ./sort_names --language sv
     says 0 $'a\nb' -- given 'b\na\n' env COLLATE_RECORDS="$made" ./sort_names --language de
     printf '\n# without 0303\n' >"$made/languages/sv.records"
     says 1 "collate: refused 2 without $made/languages/sv.records" "line 2: # without 0303" "  without: a line" -- \
         env COLLATE_RECORDS="$made" ./sort_names --language sv
+    printf '# without 0301 |\n' >"$made/languages/sv.records"
+    says 1 "collate: refused 1 without $made/languages/sv.records" "line 1: # without 0301 |" -- \
+        env COLLATE_RECORDS="$made" ./collate --language sv
     printf 't 0301 0062 ; [2A080000.0500.0.0500.0]\n' >"$made/languages/sv.records"
     says 1 "collate: refused 1 V8 $made/languages/sv.records" "line 1: t 0301 0062 ;" "  V8: after a mark" -- \
         env COLLATE_RECORDS="$made" ./collate --language sv

@@ -1,12 +1,18 @@
 #!/usr/bin/env bash
-# Shows that tools/check_first_minute.sh sees what is wrong: tools/wrong_first_minutes.sh [EXECUTABLE [UNICODE]]. Each line
-# below names a part of the walk, a file, and how it is changed in the checkout that is walked; the part has to complain. What
-# passed is printed; the status is 0 only where nothing did.
+# Shows that tools/check_first_minute.sh sees what is wrong:
+#     tools/wrong_first_minutes.sh [--part PART] [EXECUTABLE [UNICODE]]
+# Each line below names a part of the walk, a file, and how it is changed in the checkout that is walked; the part has to
+# complain. What passed is printed; the status is 0 only where nothing did. PART is the one that is tried alone.
 set -u
 cd "$(dirname "$(readlink -f "${BASH_SOURCE[0]}")")/.." || exit 2
-status=0 count=0
+status=0 count=0 alone=''
 tried=' '
+if [ "${1:-}" = --part ]; then
+    alone=$2
+    shift 2
+fi
 while read -r part file edit; do
+    [ "${alone:-$part}" = "$part" ] || continue
     # a part that complains of what is right sees nothing
     if [[ $tried != *" $part "* ]]; then
         tried+="$part "
@@ -34,12 +40,15 @@ with_executable tools/launcher.sh s/\[ "$sources" = .* || return 1/return 1/
 with_executable tools/launcher.sh s/\[ "$sources" = .* || return 1/true/
 with_executable tools/launcher.sh s/ LARGER=$(larger_limits)//
 with_executable collate s/^    take_word --unicode$/    true/
+with_executable sort_names s/^    \[ -e "$work.part.000000" \] || .*//
 faults collate s/ && writes_to_pipe; then/; then/
 faults collate s/ && writes_to_pipe; then/ \&\& false; then/
 faults tools/launcher.sh s/not understood: $word (values/(values/
 faults tools/launcher.sh s/echo "it is a folder"/echo "reading it failed"/
 faults tools/launcher.sh s/; there is $file//
 faults tools/launcher.sh s/^    -.) echo "; before/    --numeric=on) echo "; before/
+faults sort_names s/^    \[ -z "$wrong" \] || usage.*//
+faults sort_names s/^    ?\*) fail "$fault" ;;$//
 languages tools/languages.sh s/^nb     no$//
 languages tools/languages.sh s/name=${name%-\*}/break/
 languages tools/languages.sh s/^phonebk   phonebook$//
@@ -51,7 +60,19 @@ languages tools/languages.sh s/|| refuse_language "$2: $(shown "$1") has no orde
 languages tools/launcher.sh s/SHOWN=${file:-$1}/SHOWN=$1/
 languages tools/launcher.sh s/"${file:-${file_read:-$1}}"/"${file_read:-$1}"/
 languages sort_names s/find_language_of_environment$/find_language und LANG/
-broken_records sort_names s/explain "$fault" "$@"/explain "$fault" "$work\/records"/
+languages sort_names s/^    \[ -z "$merges" \] || usage .*//
+languages collate s/find_language "$2" --language/find_language sv --language/
+languages tools/languages.sh s/^zh-hant  stroke$//
+languages tools/languages.sh s/^zh-tw  zh-hant$//
+languages tools/languages.sh s/kinds\[und-$type\]/kinds[$type]/
+languages tools/languages.sh s/^    .@latin) .*//
+languages tools/languages.sh s/ka | kb | kc | kf | kh | kk | kn | kr/ka | kb | kc | kf | kh | kk | kr/
+languages tools/languages.sh s/${COLLATE_RECORDS:-\($(records_folder)\)}/\1/
+languages tools/languages.sh s/.t.2.t.3.p' "$list"/\\t\\2\/p' "$list"/
+languages tools/languages.sh s/|| refuse_language "there is no root.*/|| true/
+languages tools/languages.sh s/$(known_types .*)"$/"/
+broken_records sort_names s/explain "$fault" "${words\[@\]}"/explain "$fault" "$work\/records"/
+broken_records sort_names s/^    'collate: refused '\* | /    /
 broken_records docs/rules.tsv /^V5/d
 broken_records tools/explain.awk s/^FNR <= line || is_whole/FNR < line || is_whole/
 broken_records tools/explain.awk s/show_line(first_of\[key\[line\]\])/show_line(line)/
@@ -69,11 +90,23 @@ broken_records tools/explain.awk s/bare != it/0/
 installed tools/install.sh s/ LICENSE-UNICODE.txt NOTICE.md$//
 installed tools/install.sh s/docs.collate.1 docs.sort_names.1/docs\/collate.1/
 installed tools/install.sh s/rm -rf "$prefix.lib.leekclamp"/rm -rf/
-installed tools/install.sh s/tools.launcher.sh tools.explain.awk/tools\/launcher.sh/
+installed tools/install.sh s/tools.languages.sh tools.explain.awk/tools\/languages.sh/
+installed tools/install.sh s/tools.languages.sh tools.explain.awk/tools\/explain.awk/
+installed tools/install.sh s/ tools.explain_limit.awk//
+installed tools/install.sh s/ tools.root_data.py$//
+installed tools/install.sh s/^cd "$top"$/cd "$top"; unproved=unproved/
+installed tools/install.sh s/^    copy 644 "$home" VERSION$//
+installed tools/install.sh s/^    copy 644 "$home.docs" docs.rules.tsv$//
+installed tools/install.sh s/^    ln -sf collate.1 .*//
+installed tools/install.sh s/ | gzip -n >"$1/ >"$1/
+installed tools/install.sh s/sha256sum "$name.tar.gz"/& | sed s,^.....,00000,/
+installed tools/install.sh s/-name '.\.records' -o/-name root.records -o/
+installed tools/launcher.sh s/if is_installed; then/if false; then/
+installed tools/launcher.sh s/^        readlink -f "$top.*share.doc.*/        echo "$top\/docs\/$1"/
 installed tools/install.sh s/"${made\[@\]}"/"$made"/
 installed tools/install.sh s/^collate_unicode .*//
 installed tools/install.sh s/^    ln -sfn .*/    true/
-installed tools/install.sh s/ -o -name README.md//
+installed tools/install.sh s/ -o -name list.tsv//
 installed collate s/if is_installed; then/if false; then/
 installed sort_names s/is_installed || printf/printf/
 with_stand_in tools/launcher.sh s/is proved, " /proved, " /
@@ -82,9 +115,11 @@ with_stand_in tools/launcher.sh s/note_sources "$program" "$sum"/note_sources "$
 with_stand_in tools/launcher.sh s/can_read "$1" && (cd "$top" && build)/(cd "$top" \&\& build)/
 with_stand_in tools/launcher.sh s/is_current_here || \(.*build_unproved\)/\1/
 with_stand_in tools/launcher.sh s/tail -n 20 .*/true/
+with_stand_in tools/launcher.sh s/grep -q error .*/true ||/
 pages docs/RECORDS.md s/echo 'w 002B ; .05550000/echo 'w 002B ; [2B550000/
 pages docs/RECORDS.md s/      00F1 decomposes/      it decomposes/
 pages README.md s/    Ärlig$/    Arlig/
 TEXT
 echo "$count wrong ones tried"
+[ "$count" != 0 ] || status=2
 exit "$status"

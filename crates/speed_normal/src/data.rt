@@ -12,6 +12,9 @@ use std::alloc::Global;
 /// The greatest number of characters that one is mapped to.
 const LIST_LIMIT: usize = 31;
 
+/// How many characters a file may name: all.
+const CHARACTER_LIMIT: usize = 0x110000;
+
 /// The character of a number in hexadecimal digits.
 fn character(word: &str) -> Option<char> {
     char::from_u32(u32::from_str_radix(word, 16).ok()?)
@@ -151,7 +154,7 @@ fn mapper_table(alloc: Global, records: &str) -> Option<Uts46Tables<'static>> {
 
 /// A provider of the data that a records file states. It has no compatibility or mapper tables where these can't be built.
 pub fn provider(alloc: Global, records: &str) -> Option<Held<'static>> {
-    let mut builder = CanonicalDataBuilder::new(alloc);
+    let mut builder = CanonicalDataBuilder::new_within(alloc, CHARACTER_LIMIT);
     give_lines(alloc, &mut builder, records)?;
     let mut held = provider_of(builder.build().ok()?);
     held.nfkd = builder.build_nfkd().ok();
