@@ -1,14 +1,16 @@
 #!/usr/bin/env bash
-# Times normal forms by the program of crates/speed_normal, a line a measurement: bench/normal.sh [FILE:TASK..]
+# Times normal forms by the program of crates/speed_normal beside ICU4C's, a line a measurement: bench/normal.sh [FILE:TASK..]
 # The files: names, 5 MB of random names of 150 Latin letters and marks, one name a call; names16, the same in UTF-16;
 # nfc, the names in NFC; ascii, 5 MB of ASCII in one call. The tasks are those of the program. With no word all are timed.
+# NORMAL_SPEED names another executable than that of the crate, which is proved and built first where it has to be.
 set -eu
 cd "$(dirname "$(readlink -f "${BASH_SOURCE[0]}")")/.."
-program=crates/speed_normal/out/speed_normal
+program=${NORMAL_SPEED:-crates/speed_normal/out/speed_normal}
 work=$(mktemp -d)
 trap 'rm -rf "$work"' EXIT
 
-(cd crates/speed_normal && rt run -- none >/dev/null 2>&1) || true # proves and builds it, outside the times
+[ -n "${NORMAL_SPEED:-}" ] || (cd crates/speed_normal && rt run -- none >/dev/null 2>&1) || true # outside the times
+g++ -O2 bench/icu4c.cpp -o "$work/icu4c" -licui18n -licuuc
 python3 bench/names.py records >"$work/records"
 python3 bench/names.py texts 5000000 >"$work/names"
 python3 bench/names.py ascii 5000000 >"$work/ascii"
@@ -22,4 +24,4 @@ if [ $# -eq 0 ]; then
     done
     set -- "$@" names:try_new names:try_new_k
 fi
-python3 bench/turns.py "$program" "$work" "$@"
+python3 bench/turns.py "$program" "$work/icu4c" "$work" "$@"

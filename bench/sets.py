@@ -1,12 +1,15 @@
 """The sets of names that bench/collator.py measures: the names of each, the same each time, and its records.
 
 A set's names are random ones over its own letters, as long as names of its language are, with its contractions, marks and
-prefixes among them. The records of Latin names are made here; those of other scripts are crates/examples_alphabets/data/*.records,
-and those of the sets `root SCRIPT` are records/root.records.
+prefixes among them; those of `people` are real ones (bench/people.py). The records of Latin names are made here; those of
+`people` and of other scripts are crates/examples_alphabets/data/*.records, and those of the sets `root SCRIPT` are
+records/root.records.
 """
 import os
 import random
 import unicodedata
+
+from people import people
 
 ROOT = os.path.dirname(os.path.dirname(os.path.realpath(__file__)))
 MARKS = {0x300: '8600', 0x301: '8800', 0x302: '8A00', 0x303: '8C00', 0x308: '8E00', 0x327: '9000'}
@@ -15,6 +18,7 @@ LOWER = [chr(c) for c in range(0x61, 0x7B)]
 COMPOSED = 'àáâãäçèéêëìíîïñòóôõöùúûüÿÀÁÂÃÄÇÈÉÊËÌÍÎÏÑÒÓÔÕÖÙÚÛÜ'
 FORMS = {letter: [c for c in COMPOSED if unicodedata.normalize('NFD', c)[0] == letter] for letter in LOWER}
 VARIANTS = 10
+SIGNS = " -,.'"
 
 CZECH = ['ch', 'ch', *'aaaaaaáááeeeeeeéiiiiíííoooooouuuůúyyýěě', *'nnnnnllllvvvvttttssssskkkkkddddppppmmmmrrrrr',
          *'jjzzzzbbbhhhccčččřřřšššžžťďňgf']
@@ -57,6 +61,13 @@ def digit_records():
     for value in range(10):
         lines += [f'w {0x30 + value:04X} ; [11{4 + 6 * value:02X}0000.0500.0.0500.0]', f'digit {0x30 + value:04X} {value}']
     return lines
+
+
+def punctuated_records():
+    """The same as of Latin names, with a space and signs that `shifted` takes."""
+    signs = [f'w {ord(sign):04X} ; [0{4 + (sign != " ")}{4 + 6 * place:02X}0000.0500.0.0500.0]'
+             for place, sign in enumerate(SIGNS)]
+    return [*latin_records(), 'set groups 0500 0700 0C00 0E00', *signs]
 
 
 def backward_records():
@@ -106,6 +117,17 @@ def with_digits(count):
         if place % 3:
             at = source.choice([len(name), source.randint(0, len(name))])
             name = name[:at] + str(source.randint(0, 999)) + name[at:]
+        found.append(name)
+    return found
+
+
+def punctuated(count):
+    """Names with a space or another sign within, a sixth of their characters at most, and at least one."""
+    source, found = random.Random(8), []
+    for name in latin(count):
+        for _ in range(source.randint(1, max(1, len(name) // 6))):
+            at = source.randint(1, len(name) - 1)
+            name = name[:at] + source.choice(SIGNS) + name[at:]
         found.append(name)
     return found
 
@@ -184,10 +206,14 @@ def root_records():
 
 
 class Set:
-    """Names with their records, the options that they are compared with, the locale of ICU4C, and the task."""
+    """Names, at most so many, with their records, the options that they are compared with, the locale of ICU4C, the task, and
+    what is told of them beside the title.
+    """
 
-    def __init__(self, title, names, records=latin_records, locale='root', options=(), peer_options=(), task='names'):
-        self.title, self.names, self.records, self.locale = title, names, records, locale
+    def __init__(self, title, names, records=latin_records, locale='root', options=(), peer_options=(), task='names',
+                 most=200_000, told=''):
+        self.title, self.names, self.records, self.locale, self.most = title, names, records, locale, most
+        self.told = f'{title}: {told}' if told else title
         self.options, self.peer_options, self.task = list(options), [*options, *peer_options], task
 
 
@@ -205,27 +231,29 @@ SCRIPTS = {
 }
 
 SETS = [
-    Set('latin', latin),
-    Set('variants', variants),
-    Set('long', lambda count: latin(count, 60, 100)),
-    Set('digits', with_digits, digit_records),
-    alphabet('czech', words(CZECH, 4, 11, 11), 'cs'),
+    Set('latin', latin, told='5 to 30 characters, marks'),
+    Set('variants', variants, told='in case and marks'),
+    Set('long', lambda count: latin(count, 60, 100), told='60 to 100 characters'),
+    Set('digits', with_digits, digit_records, told='in two names of three'),
+    Set('people', people, lambda: records_of('latin'), most=20_000, told='"Surname, Given", real'),
     # The records are those of Canada; in France marks count from the front.
     Set('french', words(FRENCH, 4, 13, 12, ['', '', '', '', 'L’', 'l’', 'd’']),
-        lambda: records_of('french_canada', ['set backward on']), 'fr'),
+        lambda: records_of('french_canada', ['set backward on']), 'fr', told='with U+2019'),
     alphabet('greek', words(GREEK, 4, 13, 13), 'el'),
     alphabet('russian', words(RUSSIAN, 4, 12, 14), 'ru'),
+    alphabet('czech', words(CZECH, 4, 11, 11), 'cs'),
     alphabet('thai', thai, 'th'),
     alphabet('hiragana', hiragana, 'ja'),
     alphabet('katakana', katakana, 'ja'),
     alphabet('korean', korean, 'ko'),
     alphabet('han', han, 'zh'),
-    Set('utf16', latin, task='names16'),
-    Set('primary', latin, options=['strength=primary']),
-    Set('shifted', latin, options=['strength=quaternary', 'alternate=shifted', 'maxvariable=punctuation']),
-    Set('identical', latin, options=['strength=identical']),
-    Set('caselevel', latin, options=['caselevel=on']),
-    Set('upper', latin, options=['casefirst=upper']),
-    Set('backward', latin, backward_records, peer_options=['backward=on']),
-    Set('numeric', latin, digit_records, options=['numeric=on']),
+    Set('utf16', latin, task='names16', told='latin in UTF-16'),
+    Set('primary', latin, options=['strength=primary'], told='latin'),
+    Set('identical', latin, options=['strength=identical'], told='latin'),
+    Set('caselevel', latin, options=['caselevel=on'], told='latin'),
+    Set('upper', latin, options=['casefirst=upper'], told='latin, upper case first'),
+    Set('backward', latin, backward_records, peer_options=['backward=on'], told='latin'),
+    Set('numeric', with_digits, digit_records, options=['numeric=on'], told='digits by their value'),
+    Set('shifted', punctuated, punctuated_records, told='signs in each name',
+        options=['strength=quaternary', 'alternate=shifted', 'maxvariable=punctuation']),
 ] + [Set(f'root {script}', names, root_records) for script, names in SCRIPTS.items()]

@@ -1,10 +1,10 @@
 #!/usr/bin/env python3
-"""Times tasks of crates/speed_normal in turn: turns.py PROGRAM FOLDER FILE:TASK..
+"""Times tasks of crates/speed_normal in turn, and of ICU4C: turns.py PROGRAM PEER FOLDER FILE:TASK..
 
-FOLDER has `records`, and each FILE. A measurement is the user time of 21 rounds less that of 1, each the best of five; the
-tasks take turns, so that what else the machine does slows all of them alike. Prints a line a task: megabytes and, for
-tasks of UTF-16, units in a second; for tasks that load data, milliseconds a round. Tasks that the program doesn't have
-are left out.
+FOLDER has `records`, and each FILE; PEER is bench/icu4c.cpp, which reads UTF-8 for tasks of UTF-16 too. A measurement is the
+user time of 21 rounds less that of 1, each the best of five; the tasks take turns, so that what else the machine does slows
+all of them alike. Prints a line a task: megabytes in a second or, for tasks of UTF-16, million units, ours : ICU4C's = ours
+by ICU4C's; for tasks that load data, milliseconds a round. Tasks that the program doesn't have are left out.
 """
 import os
 import subprocess
@@ -14,14 +14,20 @@ TURNS = 5
 ROUNDS = 20
 
 
-def user_time(program, folder, file, task, rounds):
-    words = [program, os.path.join(folder, 'records'), os.path.join(folder, file), task, str(rounds)]
+def user_time(words):
     out = [(os.POSIX_SPAWN_OPEN, 1, os.devnull, os.O_WRONLY, 0)]
-    pid = os.posix_spawn(program, words, os.environ, file_actions=out)
+    pid = os.posix_spawn(words[0], words, os.environ, file_actions=out)
     _, status, usage = os.wait4(pid, 0)
     if status != 0:
-        sys.exit(f'{task}: status {status}')
+        sys.exit(f'{words}: status {status}')
     return usage.ru_utime
+
+
+def commands(program, peer, folder, file, task, rounds):
+    """What does a task: ours and, if it isn't to load data, ICU4C's."""
+    path = os.path.join(folder, file)
+    ours = [program, os.path.join(folder, 'records'), path, task, str(rounds)]
+    return [ours] if task.startswith('try_') else [ours, [peer, path.removesuffix('16'), 'root', task, str(rounds)]]
 
 
 def is_task(program, folder, file, task):
@@ -29,27 +35,33 @@ def is_task(program, folder, file, task):
     return not subprocess.run(words, stdout=subprocess.PIPE, check=True).stdout.startswith(b'usage')
 
 
+def show(folder, file, task, seconds):
+    """Prints what a round takes, ours and ICU4C's."""
+    if len(seconds) == 1:
+        print(f'{task:24} {1e3 * seconds[0]:8.2f} ms')
+        return
+    size = os.path.getsize(os.path.join(folder, file)) / 1e6
+    unit, size = ('million units', size / 2) if task.endswith('_utf16') else ('MB', size)
+    ours, theirs = (size / one for one in seconds)
+    print(f'{file} {task:18} {ours:.0f} : {theirs:.0f} = {ours / theirs:.2f} {unit} a second')
+
+
 def main(words):
-    if len(words) < 3 or not all(':' in word for word in words[2:]):
+    if len(words) < 4 or not all(':' in word for word in words[3:]):
         sys.stderr.write(__doc__)
         return 2
-    program, folder = words[:2]
-    tasks = [task for task in (tuple(word.split(':')) for word in words[2:]) if is_task(program, folder, *task)]
+    program, peer, folder = words[:3]
+    tasks = [task for task in (tuple(word.split(':')) for word in words[3:]) if is_task(program, folder, *task)]
     best = {}
     for _ in range(TURNS):
         for file, task in tasks:
             for rounds in (1, 1 + ROUNDS):
-                key = file, task, rounds
-                best[key] = min(best.get(key, 1e9), user_time(program, folder, file, task, rounds))
+                for who, command in enumerate(commands(program, peer, folder, file, task, rounds)):
+                    key = file, task, who, rounds
+                    best[key] = min(best.get(key, 1e9), user_time(command))
     for file, task in tasks:
-        seconds = (best[file, task, 1 + ROUNDS] - best[file, task, 1]) / ROUNDS
-        size = os.path.getsize(os.path.join(folder, file)) / 1e6
-        if task.startswith('try_'):
-            print(f'{task:24} {1e3 * seconds:8.2f} ms')
-        elif task.endswith('_utf16'):
-            print(f'{file} {task:18} {size / seconds:8.0f} MB, {size / 2 / seconds:.0f} million units a second')
-        else:
-            print(f'{file} {task:18} {size / seconds:8.0f} MB a second')
+        whos = [who for who in range(2) if (file, task, who, 1) in best]
+        show(folder, file, task, [(best[file, task, who, 1 + ROUNDS] - best[file, task, who, 1]) / ROUNDS for who in whos])
     return 0
 
 

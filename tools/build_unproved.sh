@@ -7,7 +7,7 @@
 set -eu
 cd "$(dirname "$(readlink -f "${BASH_SOURCE[0]}")")/.."
 if [ $# != 2 ]; then
-    echo "usage: tools/build_unproved.sh CRATE OUT" >&2
+    echo "usage: tools/build_unproved.sh CRATE OUT, tools/build_hinted.sh CRATE OUT" >&2
     exit 2
 fi
 crate=$1 out=$(realpath -m -- "$2")
@@ -67,7 +67,19 @@ if [ ! -e "$work/module.bc" ]; then
     fail "no module of $crate was compiled"
 fi
 mkdir -p "$(dirname "$out")"
-"$kit/toolchain/bin/clang" -O3 -march=x86-64-v2 -c -x ir "$work/module.bc" -o "$work/module.o"
+clang=$kit/toolchain/bin/clang module=$work/module.bc flags=(-O3 -march=x86-64-v2)
+if [ "${HINTED:-}" = 1 ]; then
+    "$clang" -S -emit-llvm -O1 -Xclang -disable-llvm-passes -x ir "$module" -o "$work/module.ll"
+    module=$work/hinted.ll
+    tools/inline_hints.py "$work/module.ll" "$module" >&2
+    # as the kit compiles what is proved
+    flags=(-O3 -march=x86-64 -fPIE -ffunction-sections -fdata-sections -Xclang -fmerge-functions)
+    for flag in mergefunc-use-aliases no-trap-after-noreturn trap-unreachable no-x86-call-frame-opt disable-machine-licm \
+        disable-postra-machine-licm sink-common-insts=false; do
+        flags+=(-mllvm "-$flag")
+    done
+fi
+"$clang" "${flags[@]}" -c -x ir "$module" -o "$work/module.o"
 "$kit/bin/rattle-link" --target x86_64-unknown-linux-gnu --toolchain "$kit/toolchain" -o "$out.part" \
     "$work/module.o" "$kit/c/libos_c.a" "$kit/c/liblibc_c.a" >"$work/said" 2>&1 || {
     cat "$work/said" >&2

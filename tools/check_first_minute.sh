@@ -9,7 +9,7 @@
 # SED-COMMAND' changes the checkout first, as tools/wrong_first_minutes.sh does.
 set -u
 here=$(cd "$(dirname "$(readlink -f "${BASH_SOURCE[0]}")")/.." && pwd) || exit 1
-parts='without_executable foreign_executable with_executable faults broken_records room installed with_stand_in'
+parts='without_executable foreign_executable with_executable faults languages broken_records room installed with_stand_in'
 parts+=' pages with_rt programs'
 left_out='^$' # nothing
 case ${1:-} in
@@ -131,7 +131,7 @@ walk_without_executable() {
     says 1 "the program collate_unicode is not there yet" -- ./collate --unicode $latin
     mv "$work/collate_unicode" crates
     says 2 "usage: collate FILE" "no FILE is given" -- ./collate
-    says 2 "usage: sort_names" "no RECORDS is given" -- ./sort_names
+    says 1 "sort_names: no 'rt' on the path to build collate_unicode with" -- ./sort_names
     says 2 "usage: sort_names" "not understood: --sorted" -- ./sort_names --sorted $latin
     says 2 "usage: sort_names" "no file is given that --keys wrote" -- ./sort_names --merge
     says 1 "cannot read nothing" "there is no such file" "!'rt'" -- ./collate nothing
@@ -251,6 +251,7 @@ reader_away() {
 }
 
 . "$here/tools/walk_broken_records.sh"
+. "$here/tools/walk_languages.sh"
 
 walk_installed() {
     local prefix=$work/usr name
@@ -310,6 +311,8 @@ look_at_languages() {
     [ -s "$folder/languages/README.md" ] || complain "no list of languages"
     says 0 = -- bash -c '"$1/bin/join_records" "$2/languages/sv.records" >"$3"' - "$1" "$folder" "$work/joined.records"
     [ "$(grep -vc '^#' "$work/joined.records")" -gt 60000 ] || complain "the languages are not joined to the root"
+    says 0 $'Zetterlund\nÅkesson\nÖberg' -- given "$swedish" "$1/bin/sort_names" --language sv
+    says 0 $'names 1\na' -- given 'add a\nlist\n' "$1/bin/collate_unicode" --language de
 }
 
 # A stand-in for rt, which proves nothing: `run` leaves behind what a build does, slowly.
@@ -398,7 +401,7 @@ run_of_page() {
 }
 
 walk_pages() {
-    put $out/collate
+    put $out/collate $large/collate_unicode
     walk_page README.md
     walk_page docs/RECORDS.md
     walk_page docs/CALLING.md

@@ -5,15 +5,18 @@
 # What SQLite and PostgreSQL give back has to be what sort_names and collate answer, byte by byte; no other file may be
 # there, nor any other table; and where this runs as root another user must not reach the server. Then a million names go
 # into SQLite, within a minute on a quiet machine. A line each is printed of what is otherwise, and the status is 1 then.
-# COLLATE names another executable than ./collate, RECIPES another page, POSTGRESQL another script, RECIPES_NAMES another
-# number of names, RECIPES_SECONDS how long they may take.
+# COLLATE names another executable than that of collate_unicode, RECIPES another page, POSTGRESQL another script,
+# RECIPES_NAMES another number of names, RECIPES_SECONDS how long they may take.
 set -uo pipefail
 export LC_ALL=C
 top=$(cd "$(dirname "$(readlink -f "$0")")/.." && pwd)
 page=$(readlink -f "${RECIPES:-$top/docs/DATABASES.md}")
 script=$(readlink -f "${POSTGRESQL:-$top/examples/postgresql.sh}")
-[ -z "${COLLATE:-}" ] || COLLATE=$(readlink -f "$COLLATE")
-export COLLATE=${COLLATE:-$top/collate}
+words=(--language fr)
+if [ -n "${COLLATE:-}" ]; then
+    export COLLATE=$(readlink -f "$COLLATE")
+    words=("$top/examples/latin.records") # an executable by itself knows no languages
+fi
 status=0
 work=$(mktemp -d)
 trap 'rm -rf "$work"' EXIT
@@ -54,7 +57,7 @@ run_recipe() {
 check_sqlite() {
     local files
     run_recipe "$work/names" || complain "SQLite: the recipe ended with $?: $(head -c 500 "$work/told")"
-    "$top/sort_names" "$top/examples/latin.records" <"$work/names" >"$work/wanted" || complain 'sort_names failed'
+    "$top/sort_names" --language fr <"$work/names" >"$work/wanted" || complain 'sort_names failed'
     cmp "$work/wanted" "$work/given" || complain 'SQLite: other names, or another order'
     files=$(find "$work/run" -mindepth 1 -printf '%f\n' | sort | tr '\n' ' ')
     [ "$files" = 'collate examples names names.db sort_names ' ] || complain "SQLite: files are there: $files"
@@ -78,7 +81,7 @@ check_postgresql() {
     local child socket=''
     mkdir -m 711 "$work/tmp" "$work/here"
     cd "$work/here" || exit 1
-    TMPDIR=$work/tmp "$script" "$top/examples/latin.records" "$work/names" >"$work/given" 2>&1 &
+    TMPDIR=$work/tmp "$script" "${words[@]}" "$work/names" >"$work/given" 2>&1 &
     child=$!
     while kill -0 "$child" 2>/dev/null; do
         if [ -z "$socket" ] && socket=$(compgen -G "$work/tmp/*/server/.s.PGSQL.[0-9]*[0-9]"); then
@@ -108,7 +111,7 @@ hostile_names >"$work/names"
 [ "$(sort -u "$work/names" | wc -l)" = "$(wc -l <"$work/names")" ] || complain 'two names are the same'
 recipe >"$work/recipe"
 [ "$(grep -c sqlite3 "$work/recipe")" -ge 3 ] || complain "no recipe in $page"
-"$COLLATE" "$top/examples/latin.records" </dev/null || complain 'collate failed'
+"${COLLATE:-$top/collate}" "${words[@]}" </dev/null || complain 'collate failed'
 check_sqlite
 check_postgresql
 check_many

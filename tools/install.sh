@@ -44,7 +44,7 @@ install_all() {
     build_programs "$home/programs"
     copy 755 "$home" collate sort_names
     copy 644 "$home" VERSION
-    copy 644 "$home/tools" tools/launcher.sh tools/explain.awk tools/explain_limit.awk tools/root_data.py
+    copy 644 "$home/tools" tools/launcher.sh tools/languages.sh tools/explain.awk tools/explain_limit.awk tools/root_data.py
     copy 755 "$home/tools" tools/join_records.py
     copy 644 "$home/docs" docs/rules.tsv
     install -d "$prefix/bin"

@@ -1,11 +1,12 @@
 #!/usr/bin/env python3
-"""Joins a tailoring to the root, and prints the records file of a language: docs/LANGUAGES.md.
+"""Joins a tailoring to the root, and prints the records file of a language, as collate_join does: docs/LANGUAGES.md.
 
   join_records.py TAILORING [ROOT]     ROOT is records/root.records unless it is named
 
-The lines of the root come first, but the records that lines `# without CP .. [| CP ..]` of the tailoring name, and settings
-that the tailoring sets; then those of the tailoring. A file that can't be read, a line that is no line of records and a
-`# without` that names no record of the root are told with file and line; the status is 2, and nothing is printed.
+The lines of the root come first, but those whose key a line of the tailoring has, as `set alternate`, and the records that
+lines `# without CP .. [| CP ..]` of the tailoring name; then those of the tailoring. A file that can't be read, a line that
+is no line of records and a `# without` that names no record of the root are told with file and line; the status is 2, and
+nothing is printed.
 """
 import os
 import re
@@ -19,23 +20,28 @@ KEY = re.compile(f'(?:{CP} )*(?:\\| )?(?:{CP} )*{CP}')
 LINE = re.compile(r'|#.*|(?:class|map|kmap|w|t|range|digit|set) [ -~]+')
 
 
-def without_of(path, lines):
-    """The keys that a tailoring leaves out, with the lines that say so."""
+def left_out(path, lines):
+    """What lines of a tailoring leave out: prefix and text, with the line that says so."""
     found = {}
     for number, line in lines:
         if line.startswith('# without'):
             key = line[len('# without '):]
             if not line.startswith('# without ') or not KEY.fullmatch(key):
                 raise Fault(at(path, number), f'no key: {line[:60]!r}')
-            if key in found:
-                raise Fault(at(path, number), f'left out a second time: {key}')
-            found[key] = number
+            found.setdefault(key, number)
     return found
 
 
-def key_of(line):
+def weighed(line):
     """The prefix and the text of a line of weights of the root; None of another line."""
     return line[2:].split(' ;')[0] if line.startswith('w ') else None
+
+
+def key_of(line):
+    """What a line is for: its kind with prefix and text, or with the field behind it; None where it is for nothing."""
+    if line.startswith(('w ', 't ')):
+        return line.split(';')[0]
+    return None if not line or line.startswith(('#', 'range ')) else ' '.join(line.split(' ')[:2])
 
 
 def joined(root_path, tailoring_path):
@@ -45,14 +51,14 @@ def joined(root_path, tailoring_path):
         for number, line in lines:
             if not LINE.fullmatch(line):
                 raise Fault(at(path, number), f'no line of records: {line[:60]!r}')
-    without = without_of(tailoring_path, tailoring)
-    there = {key_of(line) for _, line in root}
+    without = left_out(tailoring_path, tailoring)
+    there = {weighed(line) for _, line in root}
     for key, number in without.items():
         if key not in there:
             raise Fault(at(tailoring_path, number), f'the root has no such record: {key}')
-    settings = {' '.join(line.split(' ')[:2]) for _, line in tailoring if line.startswith('set ')}
-    kept = [line for _, line in root if key_of(line) not in without and ' '.join(line.split(' ')[:2]) not in settings]
-    return [*kept[:-1 if not kept[-1] else None], *(line for _, line in tailoring)]
+    keys = {key_of(line) for _, line in tailoring} - {None}
+    kept = [line for _, line in root if weighed(line) not in without and key_of(line) not in keys]
+    return [*kept, *(line for _, line in tailoring)]
 
 
 def main(words):

@@ -14,6 +14,8 @@ say() {
     echo "$script: $*" >&2
 }
 
+. "$top/tools/languages.sh"
+
 fail() {
     say "$*"
     exit 1
@@ -291,7 +293,8 @@ meant_by() {
     local file
     file=$(records_folder)/${1%.records}.records
     case $1 in
-    -*) echo "; before FILE stand --unproved, --unicode, --help or --version, and options behind it, as numeric=on" ;;
+    -*) echo "; before FILE stand --unproved, --unicode, --help or --version, --language TAG in its place, and options" \
+        "behind it, as numeric=on" ;;
     *) [ ! -e "$file" ] || echo "; there is $file" ;;
     esac
 }
@@ -319,7 +322,7 @@ values_of() {
 explain_words() {
     local word values seen=' '
     if [ $# = 0 ]; then
-        echo "  no FILE is given: a records file, as $(records_folder)/swedish.records" >&2
+        echo "  no FILE is given: a records file, as $(records_folder)/swedish.records, or --language TAG" >&2
         return
     elif [[ $1 == -* && ! -e $1 ]]; then
         echo "  not understood: $1$(meant_by "$1")" >&2
@@ -343,19 +346,21 @@ explain_words() {
 }
 
 # Says more of what the program said, $1, over its words behind: the line of the records, its rule and what helps, the
-# word that wasn't understood, why a file can't be read. The file that they name is read as `file_read`, if that is set.
+# word that wasn't understood, why a file can't be read. The file that they name is read as `file_read`, if that is set. Over
+# a root the program names the file.
 explain() {
-    local said=$1 line rule
+    local said=$1 line rule file
     shift
+    [ "${1:-}" != --over ] || shift 2
     case $said in
     'collate: refused '*)
-        read -r line rule <<<"${said#collate: refused }"
-        LC_ALL=C LINE=$line RULE=$rule SHOWN=$1 LIMITS=$(limits) LARGER=$(larger_limits) \
+        read -r line rule file <<<"${said#collate: refused }"
+        LC_ALL=C LINE=$line RULE=$rule SHOWN=${file:-$1} LIMITS=$(limits) LARGER=$(larger_limits) \
             awk -f "$top/tools/explain_limit.awk" -f "$top/tools/explain.awk" \
-            "$top/docs/rules.tsv" "${file_read:-$1}" >&2
+            "$top/docs/rules.tsv" "${file:-${file_read:-$1}}" >&2
         ;;
     'usage: '*) explain_words "$@" ;;
-    'collate: cannot read '*) echo "  $(why_unreadable "$1")" >&2 ;;
+    'collate: cannot read '*) echo "  $(why_unreadable "${said#collate: cannot read }")" >&2 ;;
     'collate: line too long') echo "  a line of standard input has at most 65,536 bytes" >&2 ;;
     'collate: reload cut') echo "  standard input ended before the lines that 'reload' counts" >&2 ;;
     esac

@@ -5,8 +5,9 @@
 
 ORACLE is a folder with an independent reading of the program, a module `model` (`read`, `read_options`, `Index`, `decode_utf8`,
 `key`, `Fault`). There are 10,000,000 commands and 200 reloads unless the words say otherwise, and at most 100,000 names at a
-time: their number goes up and down, by adds and removals at random. crates/collate has to be built (`./collate` at the top;
-COLLATE names another executable), and a C compiler has to be there (`cc`), for tools/count_memory.c, which is preloaded.
+time: their number goes up and down, by adds and removals at random, and ten times all but a hundredth go in bulk. crates/collate
+has to be built (`./collate` at the top; COLLATE names another executable), and a C compiler has to be there (`cc`), for
+tools/count_memory.c, which is preloaded.
 
 Every reply is compared. Those to adds and removals are what a set of names gives; those to reloads, and at twenty halts the
 whole list and some of `find`, `between` and `key`, are ORACLE's. At each halt, just before a reload, and at the end a fresh
@@ -28,6 +29,7 @@ WORDS = ['strength=secondary']
 CHARACTERS = 'abcehlot\u00e1\u1ea1\u0301\u0302\u0323'
 MOST_NAMES = 100_000
 HALTS = 20
+FALLS = 10
 QUESTIONS = 20
 MARK = b'?\n'
 # Lines that a file may have, and that it may have in place of those of LETTERS that begin alike.
@@ -124,7 +126,7 @@ class Life:
     def __init__(self, oracle, source, commands, replies):
         self.oracle, self.source, self.commands, self.replies = oracle, source, commands, replies
         self.names, self.records = Names(), Records(oracle, ''.join(f'{line}\n' for line in LETTERS).encode())
-        self.refused, self.asked = 0, 0
+        self.refused, self.asked, self.fallen = 0, 0, 0
         letters = [''.join(source.choices(CHARACTERS, k=source.randint(1, 8))) for _ in range(5 * MOST_NAMES)]
         self.known = sorted({name.encode() for name in letters})
 
@@ -144,6 +146,15 @@ class Life:
                 some = names.listed if held and draw() < 0.95 else known
                 name = some[int(draw() * len(some))]
                 self.tell(b'remove %s\n' % name, names.remove(name))
+
+    def fall(self):
+        """Removes all names but a hundredth, one behind another."""
+        gone = self.source.sample(self.names.listed, len(self.names.listed) * 99 // 100)
+        if self.source.random() < 0.5:
+            gone.sort()
+        for name in gone:
+            self.tell(b'remove %s\n' % name, self.names.remove(name))
+        self.fallen += len(gone)
 
     def reload(self):
         """A reload that is accepted, perhaps behind one that is refused."""
@@ -218,6 +229,9 @@ def write_life(oracle, numbers, room):
             if part % 4 == 0:
                 aim = life.source.randrange(MOST_NAMES + 1)
             life.live(count * (part + 1) // (reloads + 1) - count * part // (reloads + 1), aim)
+            if part % (reloads // FALLS or 1) == reloads // FALLS // 2:
+                life.fall()
+                life.live(count // 1000, aim)
             if part == reloads or part and part % (reloads // HALTS or 1) == 0:
                 life.halt()
                 halts.append((list(life.names.arrived), life.records.file))
@@ -247,8 +261,8 @@ def main(words):
             fresh = counting.counts(file, commands, os.devnull)[0][0]
             share = bytes_held / fresh
             print(f'{len(names)} names: {bytes_held} bytes, {fresh} in a fresh index, {share:.2f} times; at most {most} until then')
-    print(f'{numbers[0]} adds and removals, {numbers[1]} reloads and {life.refused} refused, {life.asked} questions:',
-          f'{seconds:.0f} s of a processor,',
+    print(f'{numbers[0]} adds and removals, {life.fallen} more removals in bulk,',
+          f'{numbers[1]} reloads and {life.refused} refused, {life.asked} questions: {seconds:.0f} s of a processor,',
           f'the first other reply is line {different}' if different else 'every reply as it is due')
     return different != 0 or share > 2
 

@@ -5,7 +5,7 @@
   make_language.py --all               writes all, and records/languages/README.md
   make_language.py --check             compares all with what would be written; the status is 1 where one differs
 
-A file holds `t` lines, settings, and lines `# without CP ..` for records of the root that tools/join_records.py leaves out.
+A file holds `t` lines, settings, and lines `# without CP ..` for records of the root that are left out where it is put over it.
 It reads common/collation of Debian's package unicode-cldr-core, and what tools/make_root.py reads. What a records file
 can't say is left out and counted, in the file's head and on standard error. A language that CLDR has none of, a rule that
 isn't understood and a damaged file are named there with file and place; the status is 2, and nothing is written.
@@ -177,9 +177,9 @@ README = """
 # Languages
 
 What the languages of CLDR 41 put over `records/root.records`, a file for each collation that is not the root's own;
-`docs/LANGUAGES.md` says more, and what is left out. Made by `tools/make_language.py --all`; joined to the root by
-`tools/join_records.py`. A file is named by the tag of a language, with the type behind it that is not the language's
-default. The data are under Unicode's licence (`NOTICE.md`).
+`docs/LANGUAGES.md` says more, and what is left out. Made by `tools/make_language.py --all`; `--language` puts
+one over the root. A file is named by the tag of a language, with the type behind it that is not the language's default.
+The data are under Unicode's licence (`NOTICE.md`).
 
 | Tag | Language | Type | Texts | What is special | Left out |
 |---|---|---|---|---|---|

@@ -4,14 +4,15 @@
   make_records.py LANGUAGE               an alphabet of tools/alphabets.py, with the rules of its language
   make_records.py CHARACTERS [RULES]     these characters, with rules as CLDR writes them (tools/tailoring.py)
 
-A word of three letters a to z or more is taken for a LANGUAGE, and where none has the name the status is 2. CHARACTERS is a
-text: a-z is a range, U+0061 or U+0061-U+007A a character or a range by code points; anything else, and a hyphen at either
-end, stands for itself. What a character decomposes to is taken with it. A file names at most 150 characters; a run of Han
+A word of three letters a to z or more, in either case, is taken for a LANGUAGE. CHARACTERS is a text: a-z is a range, U+0061
+or U+0061-U+007A a character or a range by code points; anything else, and a hyphen at either end, stands for itself. What a character decomposes to is taken with it. A file names at most 150 characters; a run of Han
 characters counts as one, and a Hangul syllable as its jamo.
 
 The order is that of the default table (allkeys.txt) but for the rules; the weights are new ones, in bytes. What is left out
-is named on standard error.
+is named on standard error. A language that isn't there, rules that aren't understood and files that lack are told there, the
+status is 2, and nothing is printed.
 """
+import difflib
 import os
 import re
 import sys
@@ -226,13 +227,22 @@ def unknown(choice):
     return f'\nA character that no line names sorts behind all that lines name, by its code point.{among}'
 
 
+def fail(why):
+    print(f'make_records.py: {why}', file=sys.stderr)
+    sys.exit(2)
+
+
 def main(words):
-    if len(words) not in (1, 2) or words[0] in ('-h', '--help'):
-        sys.exit(__doc__)
-    alphabet = alphabets.ALPHABETS.get(words[0])
-    if len(words) == 1 and re.fullmatch('[a-z_]{3,}', words[0]) and not alphabet:
-        print(f'make_records.py: no language of tools/alphabets.py: {words[0]}', file=sys.stderr)
+    if words and words[0] in ('-h', '--help'):
+        print(__doc__)
+        return
+    if len(words) not in (1, 2):
+        print(__doc__, file=sys.stderr)
         sys.exit(2)
+    alphabet = alphabets.ALPHABETS.get(words[0])
+    if len(words) == 1 and re.fullmatch('[A-Za-z_]{3,}', words[0]) and not alphabet:
+        near = difflib.get_close_matches(words[0].lower(), alphabets.ALPHABETS, 1)
+        fail(f'no language of tools/alphabets.py: {words[0]}' + (f' (there is {near[0]})' if near else ''))
     if alphabet and len(words) == 1:
         whole, rules, header = alphabet.whole, alphabet.rules, alphabet.header
         characters = alphabet.characters + alphabets.FURTHER
@@ -245,9 +255,9 @@ def main(words):
         choice = Choice(tables, chosen(characters))
         file = File(tables, choice, rules)
     except OSError as error:
-        sys.exit(f'make_records.py: {error} (Debian has it in the package unicode-data)')
+        fail(f'{error} (Debian has it in the package unicode-data)')
     except ValueError as error:
-        sys.exit(f'make_records.py: {error}')
+        fail(error)
     if alphabet:
         header += unknown(choice)
     lines = [*(f'# {line}' for line in header.split('\n')), '', *file.lines()]

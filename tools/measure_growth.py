@@ -1,12 +1,18 @@
 #!/usr/bin/env python3
 """How what a records file costs grows with its length, by instructions.
 
-    tools/measure_growth.py PROGRAM [--only KIND] [--largest N] [--rules]
+    tools/measure_growth.py PROGRAM [--only KIND].. [--largest N] [--rules]
+    tools/measure_growth.py PROGRAM --table [FILE]..
 
 PROGRAM is an executable of `collate_unicode`. For each kind of line files of 2,000, 4,000 .. lines are read and
-compiled, up to N (64,000; fewer where tables have room for fewer), and with --rules files that a rule refuses at their
-end. What an empty file costs is taken off. It fails where a file twice as long takes more than 2.3 times the
-instructions. Needs valgrind.
+compiled, up to N (64,000; fewer where tables have room for fewer); with --rules files are read instead that a rule
+refuses at their end, up to 8,000. What an empty file costs is taken off, or a short one that is refused so. It fails
+where a file twice as long takes more than 2.3 times the instructions, from 2,000 lines on, or at the most lines that
+tables have room for.
+
+With --table it prints what reading, compiling and checking take of files of weights, of 0 to 64,000 lines, and of each
+FILE: instructions, memory and time of a processor, the best of ten runs, the start in it. A call that a build has no
+function for counts 0: with inline hints compiling has none, and what is said of checking counts both. Needs valgrind.
 """
 import argparse
 import os
@@ -17,6 +23,7 @@ import tempfile
 
 MOST = 2.3
 SMALLEST = 2_000
+FEW = 2
 COMMON = '0500.0.0500.0'
 
 
@@ -90,6 +97,14 @@ def kmaps(n):
     return [f'kmap {c:04X} {d:04X}' for c, d in zip(cs[:n], cs[n:])]
 
 
+def chain_of_kmaps(n):
+    return [f'k{line}' for line in chain(n)]
+
+
+def chain_of_kmaps_upwards(n):
+    return chain_of_kmaps(n)[::-1]
+
+
 def classes(n):
     return [f'class {c:04X} {1 + i % 254}' for i, c in enumerate(characters(n))]
 
@@ -113,24 +128,39 @@ KINDS = {
     'weights': (weights, 64_000), 'alike': (alike, 64_000), 'contractions on one': (contractions_on_one, 2_400),
     'contractions': (contractions, 4_800), 'prefixes': (prefixes, 2_400), 'ranges': (ranges, 230),
     'maps': (maps, 16_000), 'pairs': (pairs, 7_900), 'chain': (chain, 1_900), 'chain upwards': (chain_upwards, 1_900),
-    'kmaps': (kmaps, 16_000), 'classes': (classes, 64_000), 'digits': (digits, 64_000), 'replaced': (replaced, 64_000),
+    'kmaps': (kmaps, 16_000), 'chain of kmaps': (chain_of_kmaps, 1_900),
+    'chain of kmaps upwards': (chain_of_kmaps_upwards, 1_900), 'classes': (classes, 64_000),
+    'digits': (digits, 64_000), 'replaced': (replaced, 64_000),
     'comments': (comments, 64_000),
 }
 
-# What stands behind many lines of a kind, and the rule that it breaks.
+# What stands behind many lines of a kind, the rule that it breaks, and how many lines from the end on the fault stands.
 REFUSED = {
-    'grammar': (weights, ['nothing']), 'V14': (weights, ['w 4E00 ;']), 'limit': (weights, ['w' + ' 0061' * 9 + ' ;']),
-    'C1': (maps, ['class 3400 230']), 'C2': (chain, None), 'C3': (classes, ['class 0061 255']),
-    'C4': (maps, ['map 0061 0301', 'class 0301 230']), 'C5': (pairs, ['map 2FA1D 24E00 0301']),
-    'C6': (pairs, ['map 2FA1D 0061 0062']), 'C7': (maps, ['map 00E1 0061 0301 x']),
-    'C8': (maps, ['class 0300 1']), 'C9': (maps, ['map 0061 AC00']),
-    'V1': (weights, ['w 0061 ; [0.0500.0.0000.0]']), 'V2': (weights, ['w 0061 ; [2A000000.0500.0.0500.0]']),
-    'V3': (weights, ['w 0061 ; [0.0501.0.0500.0]']), 'V4': (weights, ['w 0061 ; [2B030300.0500.0.0501.0]']),
-    'V5': (weights, ['w 0061 ; [2A020000.0500.0.0500.0]']), 'V6': (ranges, ['range 4E00 4E01 7A020200 1']),
-    'V7': (weights, ['w 00E1 ;', 'map 00E1 0061 0301']), 'V8': (weights, ['w 0061 0301 0062 ;', 'class 0301 230']),
-    'V9': (weights, ['class 0301 230', 'w 0061 0062 0301 ;']), 'V10': (weights, ['w 0062 | 0061 ;']),
-    'V11': (weights, ['digit 0061 1']), 'V12': (weights, ['w 1100 1161 ;']), 'V13': (weights, ['w FFFD ;']),
-    'V15': (weights, ['set dotabove on']), 'set': (weights, ['set numeric 02']),
+    'grammar': ('grammar', weights, ['nothing'], 0), 'V14': ('V14', weights, ['w 4E00 ;'], 0),
+    'limit': ('limit', weights, ['w' + ' 0061' * 9 + ' ;'], 0),
+    'C1': ('C1', maps, ['class 3400 230'], 0), 'C2': ('C2', chain, ['map {last} 4E00'], 0),
+    'C3': ('C3', classes, ['class 0061 255'], 0), 'C4': ('C4', maps, ['map 0061 0301', 'class 0301 230'], 1),
+    'C4, all lists': ('C4', chain, ['class {last} 230'], 0),
+    'C5': ('C5', pairs, ['map 2FA1D 14E00 0301'], 0), 'C6': ('C6', pairs, ['map 2FA1D 0061 0062'], 0),
+    'C7': ('C7', maps, ['map 00E1 0061 0301 x'], 0), 'C8': ('C8', maps, ['class 0300 1'], 0),
+    'C9': ('C9', maps, ['map 2FA1D AC00'], 0),
+    'V1': ('V1', weights, ['w 0061 ; [0.0500.0.0000.0]'], 0),
+    'V2': ('V2', weights, ['w 0061 ; [2A000000.0500.0.0500.0]'], 0),
+    'V2, all weights': ('V2', weights, ['set compress 2A'], 0),
+    'V3': ('V3', weights, ['w 0061 ; [0.0501.0.0500.0]'], 0),
+    'V4': ('V4', weights, ['w 0061 ; [2B030300.0500.0.0501.0]'], 0),
+    'V5': ('V5', weights, ['w 0061 ; [2A020000.0500.0.0500.0]'], 0),
+    'V6': ('V6', ranges, ['range 4E00 4E01 7A020200 1'], 0),
+    'V6, all weights': ('V6', weights, ['range E000 E001 2A020200 1'], 0),
+    'V7': ('V7', weights, ['w 00E1 ;', 'map 00E1 0061 0301'], 0),
+    'V7, first text': ('V7', contractions, ['map 4E00 0061'], 0),
+    'V8': ('V8', weights, ['w 0061 0301 0062 ;', 'class 0301 230'], 1),
+    'V8, first text': ('V8', contractions, ['class 4E00 230', 'w 0061 ;', 'w 0061 4E00 0062 ;'], 0),
+    'V9': ('V9', weights, ['class 0301 230', 'w 0061 0062 0301 ;'], 0),
+    'V10': ('V10', weights, ['w 0062 | 0061 ;'], 0), 'V10, first prefix': ('V10', prefixes, ['class 4E00 230'], 0),
+    'V11': ('V11', weights, ['digit 0061 1'], 0), 'V11, first digit': ('V11', digits, ['w 4E00 0061 ;'], 0),
+    'V12': ('V12', weights, ['w 1100 1161 ;'], 0), 'V13': ('V13', weights, ['w FFFD ;'], 0),
+    'V15': ('V15', weights, ['set dotabove on'], 0), 'set': ('set', weights, ['set numeric 02'], 0),
 }
 
 
@@ -155,53 +185,105 @@ def sizes(least, most):
         n *= 2
 
 
-def grow(program, folder, name, make, most, base, rule=None):
-    """Prints a row, and tells whether each step is within what it may be."""
-    least = min(SMALLEST, most // 8)
+def grow(program, folder, name, make, most, base, fault=None):
+    """Prints a row, and tells whether each step is within what it may be. Of a fault it is asked which rule and line it has."""
+    least = SMALLEST if most >= 2 * SMALLEST else most // 8
     last, row, good = None, [], True
     for n in sizes(least, most):
-        count, said = instructions(program, make(n), folder)
-        wanted = f'refused {len(make(n))} {rule}' if rule else 'names 0'
-        if rule and rule not in said or not rule and 'refused' in said:
-            print(f'{name}: {n} lines: {said!r} in place of {wanted!r}')
+        lines = make(n)
+        count, said = instructions(program, lines, folder)
+        wanted = f'collate: refused {len(lines) - fault[1]} {fault[0]}' if fault else ''
+        if said != wanted:
+            print(f'{name}: {n} lines: {said!r} in place of {wanted!r}', flush=True)
             return False
         count -= base
         ratio = count / last if last else 0
         row.append(f'{n}: {count / 1e6:.1f} M' + (f' ({ratio:.2f})' if last else ''))
-        good = good and ratio <= MOST
+        good = good and (ratio <= MOST or n < 2 * SMALLEST and 2 * n <= most)
         last = count
         if ratio > 2 * MOST:
+            good = False
             break
-    print(f'{name:20} {"" if good else "PAST 2.3  "}{"  ".join(row)}', flush=True)
+    print(f'{name:22} {"" if good else "PAST 2.3  "}{"  ".join(row)}', flush=True)
     return good
 
 
-def refused(rule):
-    make, end = REFUSED[rule]
-    if end is None:
-        return lambda n: make(n) + [f'map {characters(n + 1)[-1]:04X} 4E00']
-    return lambda n: make(n) + end
+# What calls of a run take, by the names of their functions: a part of the last is the one before.
+PARTS = {'read': 'collate_records::records::Records::read_within', 'compile': 'collate_records::compile::compile',
+         'made': 'collate_index::collators::collator_of'}
+
+
+def parts_of(program, name, folder):
+    """Instructions of a run over a file that adds nothing: whole, read, compiled, checked."""
+    out = os.path.join(folder, 'callgrind.out')
+    subprocess.run(['valgrind', '--tool=callgrind', f'--callgrind-out-file={out}', program, name], stdin=subprocess.DEVNULL,
+                   capture_output=True, check=True)
+    said = subprocess.run(['callgrind_annotate', '--inclusive=yes', '--threshold=100', out], capture_output=True, text=True,
+                          check=True).stdout
+    rows = re.findall(r'^ *([0-9,]+) \([^)]*\) +[^:\s]+:(\S+)', said, re.M)
+    counts = {function: int(count.replace(',', '')) for count, function in rows}
+    read, compiled, made = (counts.get(function, 0) for function in PARTS.values())
+    return int(re.search(r'([0-9,]+) \([^)]*\) +PROGRAM TOTALS', said)[1].replace(',', '')), read, compiled, made - compiled
+
+
+def spent(program, name):
+    """Seconds of a processor that a run over a file takes that adds nothing, and the most KB that it held."""
+    run = subprocess.Popen([program, name], stdin=subprocess.PIPE, stdout=subprocess.PIPE)
+    run.stdin.write(b'list\n')
+    run.stdin.flush()
+    run.stdout.readline()
+    with open(f'/proc/{run.pid}/status') as file:
+        held = int(re.search(r'VmHWM:\s*(\d+) kB', file.read())[1])
+    run.stdin.close()
+    _, status, used = os.wait4(run.pid, 0)
+    run.returncode = status
+    return used.ru_utime + used.ru_stime, held
+
+
+def table(program, folder, files):
+    """Prints what reading, compiling and checking take."""
+    print('lines: instructions whole, read, compile, check (M); KB; ms')
+    made = []
+    for n in (0, 150, 2_000, 8_000, 32_000, 64_000):
+        made.append((f'{n} weights', os.path.join(folder, f'{n}.records')))
+        with open(made[-1][1], 'w') as file:
+            file.writelines(line + '\n' for line in weights(n))
+    for title, name in made + [(name, name) for name in files]:
+        counts = ', '.join(f'{count / 1e6:.1f}' for count in parts_of(program, name, folder))
+        runs = [spent(program, name) for _ in range(10)]
+        print(f'{title:24} {counts}; {max(kb for _, kb in runs)}; {1000 * min(time for time, _ in runs):.1f}', flush=True)
+
+
+def refused(title, n):
+    """The lines of a file that is refused at its end."""
+    _, make, end, _ = REFUSED[title]
+    last = f'{characters(n + 1)[-1]:04X}'
+    return make(n) + [line.format(last=last) for line in end]
 
 
 def main():
     parser = argparse.ArgumentParser()
     parser.add_argument('program')
-    parser.add_argument('--only')
+    parser.add_argument('--only', action='append', metavar='KIND')
     parser.add_argument('--largest', type=int, default=64_000)
     parser.add_argument('--rules', action='store_true')
+    parser.add_argument('--table', nargs='*', metavar='FILE')
     given = parser.parse_args()
     good = True
     with tempfile.TemporaryDirectory() as folder:
+        if given.table is not None:
+            table(given.program, folder, given.table)
+            return
         base, _ = instructions(given.program, [], folder)
         print(f'an empty file: {base / 1e6:.1f} M instructions')
-        for name, (make, most) in KINDS.items():
-            if given.only in (None, name):
+        for name, (make, most) in {} if given.rules else KINDS.items():
+            if given.only is None or name in given.only:
                 good = grow(given.program, folder, name, make, min(most, given.largest), base) and good
-        for rule in REFUSED if given.rules else []:
-            if given.only in (None, rule):
-                most = next(m for f, m in KINDS.values() if f is REFUSED[rule][0])
-                most = min(most, given.largest, 8_000)
-                good = grow(given.program, folder, rule, refused(rule), most, base, rule) and good
+        for title, (rule, make, _, place) in REFUSED.items() if given.rules else []:
+            if given.only is None or title in given.only:
+                most = min(next(m for f, m in KINDS.values() if f is make), given.largest, 8_000)
+                base, _ = instructions(given.program, refused(title, FEW), folder)
+                good = grow(given.program, folder, title, lambda n: refused(title, n), most, base, (rule, place)) and good
     sys.exit(0 if good else 1)
 
 

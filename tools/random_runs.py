@@ -126,16 +126,35 @@ def random_reload(source, records):
     return records, reload_lines(records, count)
 
 
+def removals_in_bulk(source, names):
+    """Many names that are added, of which most are removed, and some more added then."""
+    many = [*{source.choice(names) + source.choice(names) + b'%d' % place for place in range(source.choice([40, 150, 400]))}]
+    gone = source.sample(many, len(many) * source.choice([8, 9, 10]) // 10)
+    if source.random() < 0.5:
+        gone.sort()
+    return [*(b'add ' + name for name in many), *(b'remove ' + name for name in gone), *(b'add ' + name for name in gone[:5]), b'list']
+
+
+def keys_behind(source, before, after, names):
+    """Questions for keys, by which it shows whether a reload counts for names that aren't in the index: of two names, and of
+    characters that lines speak of which the reload changes."""
+    texts = texts_of(source, [line for line in after if line not in before], [])
+    asked = [*source.sample(names, 2), *(''.join(map(chr, text)).encode() for text in texts)]
+    return [b'key ' + name.replace(b'\n', b'') for name in asked]
+
+
 def random_lines(source, names, records):
     """Commands, each a line, or a reload with its record lines, by a file's lines."""
     lines = [b'add ' + name for name in names if source.random() < 0.5]
+    if source.random() < 0.1:
+        lines += removals_in_bulk(source, names)
     for _ in range(source.randint(0, 24)):
         if source.random() < 0.93:
             lines.append(random_command(source, names))
             continue
         changed, reload = source.choice([random_reload, random_reload, touching_reload])(source, records)
+        lines += [*reload, b'list', *keys_behind(source, records, changed, names)]
         records = changed if source.random() < 0.5 else records
-        lines += [*reload, b'list']
     return lines
 
 

@@ -40,6 +40,17 @@ faults tools/launcher.sh s/not understood: $word (values/(values/
 faults tools/launcher.sh s/echo "it is a folder"/echo "reading it failed"/
 faults tools/launcher.sh s/; there is $file//
 faults tools/launcher.sh s/^    -.) echo "; before/    --numeric=on) echo "; before/
+languages tools/languages.sh s/^nb     no$//
+languages tools/languages.sh s/name=${name%-\*}/break/
+languages tools/languages.sh s/^phonebk   phonebook$//
+languages tools/languages.sh s/LC_ALL LC_COLLATE LANG; do/LANG LC_COLLATE LC_ALL; do/
+languages tools/languages.sh s/tag=${1%%\[.@\]\*}/tag=$1/
+languages tools/languages.sh s/C | POSIX | '') echo und/POSIX | '') echo und/
+languages tools/languages.sh s/^        \*=\*) ;;$/        *) ;;/
+languages tools/languages.sh s/|| refuse_language "$2: $(shown "$1") has no order.*/|| return 0/
+languages tools/launcher.sh s/SHOWN=${file:-$1}/SHOWN=$1/
+languages tools/launcher.sh s/"${file:-${file_read:-$1}}"/"${file_read:-$1}"/
+languages sort_names s/find_language_of_environment$/find_language und LANG/
 broken_records sort_names s/explain "$fault" "$@"/explain "$fault" "$work\/records"/
 broken_records docs/rules.tsv /^V5/d
 broken_records tools/explain.awk s/^FNR <= line || is_whole/FNR < line || is_whole/

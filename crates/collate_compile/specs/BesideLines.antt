@@ -1,7 +1,7 @@
 -- What lines record of a character with others beside it, gathered one line after another.
 use Rattle.std.specs.Prelude.{◌≡◌, ℕ, Bool, cond, ◌==◌, List, [], ◌∷◌, ◌++◌, Option, Some, None, bytes_eq}
+use Rattle.std.specs.BTreeSet.{BTreeSet}
 use Rattle.std.specs.Borrow.{Bor}
-use Rattle.std.specs.HashSet.{HashSet}
 use Rattle.std.specs.List.{list_any}
 use Rattle.icu_collator_types.specs.declared.elements.Element.{Element}
 use Rattle.collate_lines.specs.Record.{Layer, Record, is_same_layer, root, tailoring, weights}
@@ -14,7 +14,7 @@ abbrev pub has_beside : List SaidBeside → List ℕ → Bool
 has_beside saids characters = list_any (λ other. bytes_eq other.characters characters) saids
 
 -- a set has the texts with which something is said
-abbrev pub HasTexts : {S : Type 0} → HashSet (Bor (List ℕ)) S → List SaidBeside → Type 0
+abbrev pub HasTexts : BTreeSet (Bor (List ℕ)) → List SaidBeside → Type 0
 HasTexts texts saids =
     (characters : List ℕ) → list_any (λ text. bytes_eq text.now characters) texts.keys ≡ has_beside saids characters
 

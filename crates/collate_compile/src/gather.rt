@@ -10,7 +10,7 @@ use collate_lines::record::{Layer, Record};
 use collate_words::entry::Beside;
 use icu_collator_types::elements::Element;
 use std::alloc::{AllocError, Global};
-use std::collections::HashSet;
+use std::collections::BTreeSet;
 
 /// What a key and its elements say of a character with others behind it.
 fn suffix_of<'a>(
@@ -88,7 +88,7 @@ fn prefix_in<'a>(line: &'a Record, of_layer: Layer, c: char) -> Option<Beside<'a
 ///
 /// Errors: `AllocError` where memory is refused.
 fn add_beside<'a>(
-    texts: &mut HashSet<&'a [char]>,
+    texts: &mut BTreeSet<&'a [char]>,
     besides: &mut Vec<Beside<'a>>,
     beside: Beside<'a>,
 ) -> Result<(), AllocError>
@@ -108,7 +108,7 @@ fn add_beside<'a>(
 ///
 /// Errors: `AllocError` where memory is refused.
 fn add_found<'a>(
-    texts: &mut HashSet<&'a [char]>,
+    texts: &mut BTreeSet<&'a [char]>,
     besides: &mut Vec<Beside<'a>>,
     found: Option<Beside<'a>>,
 ) -> Result<(), AllocError>
@@ -130,7 +130,7 @@ fn add_suffixes<'a>(
     own: &[&'a Record],
     layer: Layer,
     c: char,
-    texts: &mut HashSet<&'a [char]>,
+    texts: &mut BTreeSet<&'a [char]>,
     suffixes: &mut Vec<Beside<'a>>,
 ) -> Result<(), AllocError>
     requires { HasTexts texts.old (map said_beside suffixes.old.items) }
@@ -151,7 +151,7 @@ fn add_prefixes<'a>(
     own: &[&'a Record],
     layer: Layer,
     c: char,
-    texts: &mut HashSet<&'a [char]>,
+    texts: &mut BTreeSet<&'a [char]>,
     prefixes: &mut Vec<Beside<'a>>,
 ) -> Result<(), AllocError>
     requires { HasTexts texts.old (map said_beside prefixes.old.items) }
@@ -175,7 +175,7 @@ pub(crate) fn suffixes_in<'a>(
 ) -> Result<Vec<Beside<'a>>, AllocError>
     ensures { IfOk result (λ suffixes. map said_beside suffixes.items ≡ suffixes_in (map said_by own.now) c) }
 {
-    let mut texts = HashSet::new(alloc);
+    let mut texts = BTreeSet::new(alloc);
     let mut suffixes = Vec::new(alloc);
     add_suffixes(own, Layer::Tailoring, c, &mut texts, &mut suffixes)?;
     add_suffixes(own, Layer::Root, c, &mut texts, &mut suffixes)?;
@@ -192,7 +192,7 @@ pub(crate) fn prefixes_in<'a>(
 ) -> Result<Vec<Beside<'a>>, AllocError>
     ensures { IfOk result (λ prefixes. map said_beside prefixes.items ≡ prefixes_in (map said_by own.now) c) }
 {
-    let mut texts = HashSet::new(alloc);
+    let mut texts = BTreeSet::new(alloc);
     let mut prefixes = Vec::new(alloc);
     add_prefixes(own, Layer::Tailoring, c, &mut texts, &mut prefixes)?;
     add_prefixes(own, Layer::Root, c, &mut texts, &mut prefixes)?;

@@ -1,15 +1,15 @@
 -- hashes of texts
-use Rattle.std.specs.Prelude.{ℕ, Bool, ◌+◌, ◌*◌, ◌%◌, ◌^◌, List, [], ◌∷◌, if◌then◌else◌, ◌==◌, nat_lt}
-use Rattle.collate_hashes.specs.declared.hashing.TheConstants.{FACTOR}
+use Rattle.std.specs.Prelude.{ℕ, Bool, ◌+◌, ◌*◌, ◌%◌, List, [], ◌∷◌, nat_lt}
+use Rattle.collate_hashes.specs.declared.hashing.TheConstants.{PRIME}
 
--- a hash carried on over bytes
-abbrev pub hash_from : ℕ → List ℕ → ℕ
-hash_from hash [] = hash
-hash_from hash (byte ∷ bytes) = hash_from ((hash * FACTOR + byte) % 2 ^ 64) bytes
+-- a polynomial at a point, modulo a prime, carried on over bytes; each counts one more, so that none counts nothing
+abbrev pub hash_from : ℕ → ℕ → List ℕ → ℕ
+hash_from point hash [] = hash
+hash_from point hash (byte ∷ bytes) = hash_from point ((hash * point + byte + 1) % PRIME) bytes
 
--- the hash of a text, which is never 0
-abbrev pub hash_of : List ℕ → ℕ
-hash_of bytes = let hash = hash_from 0 bytes in if hash == 0 then 1 else hash
+-- the hash of a text under a seed, which is never 0
+abbrev pub hash_of : ℕ → List ℕ → ℕ
+hash_of seed bytes = hash_from (seed % PRIME) 0 bytes + 1
 
 -- a hash stands there
 abbrev pub is_hash : ℕ → Bool

@@ -1,19 +1,24 @@
-//! The hash of a text.
+//! The hash of a text under a seed: its bytes as a polynomial, at the point that the seed chooses, modulo a prime.
 
 ghost use Rattle.std.specs.Prelude.{◌≡◌, ◌<◌};
 ghost use Rattle.collate_hashes.specs.Hashes.{hash_of};
 
-/// What a hash is multiplied by for each byte.
-pub const FACTOR: usize = 1_099_511_628_211;
+/// The greatest prime below 2^32.
+pub const PRIME: u64 = 4_294_967_291;
 
-/// The hash of a text, by its bytes. It is above 0. Texts that were chosen for it may have one hash.
-pub fn hash_of(bytes: &[u8]) -> usize
-    ensures hash { result ≡ hash_of bytes.now }
+/// The seed where none is chosen: everyone knows it.
+pub const FIXED_SEED: u64 = 6_364_136_223_846_793_005;
+
+/// The hash of a text under a seed, by its bytes. It is above 0. To who doesn't know the seed, two texts have one hash with a
+/// chance of at most their length in `PRIME`; who knows it makes as many texts of one hash as they like.
+pub fn hash_of(seed: u64, bytes: &[u8]) -> usize
+    ensures hash { result ≡ hash_of seed bytes.now }
     ensures positive { 0 < result }
 {
-    let mut hash: usize = 0;
+    let point = seed % PRIME;
+    let mut hash = 0;
     'bytes: for byte in bytes {
-        hash = hash.wrapping_mul(FACTOR).wrapping_add(*byte as usize);
+        hash = (hash * point + u64::from(*byte) + 1) % PRIME;
     }
-    if hash == 0 { 1 } else { hash }
+    hash as usize + 1
 }

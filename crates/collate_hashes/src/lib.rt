@@ -3,20 +3,22 @@
 #![tactic(auto)]
 
 ghost use Rattle.std.specs.Prelude.{◌≡◌, ℕ, ◌+◌, ◌<◌, ◌==◌, [], ◌∷◌, ◌++◌, IfNone, IfSome, OnOk, filter, length, slice_index, slice_set};
-ghost use Rattle.collate_hashes.specs.Hashes.{is_hash};
+ghost use Rattle.collate_hashes.specs.Hashes.{hash_of, is_hash};
 
 mod chains;
 pub mod hashing;
 
 use crate::chains::{Link, drop_empty, last_before, push, reserve, same_before, take_out};
+use crate::hashing::hash_of;
 use std::alloc::{AllocError, Global};
 use std::marker::Model;
 
-/// A list of hashes, each above 0; 0 stands at the places whose hash was taken out. A contract sees the list,
-/// and for how many more there is room (`Listed`).
+/// A list of hashes, each above 0; 0 stands at the places whose hash was taken out. A contract sees the list, the seed of the
+/// hashes, and for how many more there is room (`Listed`).
 #[derive(Drop)]
 pub struct HashList {
     alloc: Global,
+    seed: u64,
     /// For each bucket the last place whose hash is in it, counted from 1; 0 if there is none.
     heads: Vec<usize>,
     links: Vec<Link>,
@@ -28,21 +30,31 @@ impl Model for HashList {
 
     ghost Value = { Listed };
 
-    ghost view = { λ inside. record { hashes = hashes_of inside.links.items; room = room_in inside.heads inside.links } };
+    ghost view = { λ inside. record { seed = inside.seed; hashes = hashes_of inside.links.items; room = room_in inside.heads inside.links } };
 
     ghost invariant = { λ inside. IsLinked inside.heads.items inside.links.items };
 }
 
 impl HashList {
-    /// A list with no hashes. It asks for no memory.
-    pub fn new(alloc: Global) -> HashList
-        ensures { result.hashes ≡ [] }
+    /// A list with no hashes, of texts under a seed. It asks for no memory.
+    pub fn new(alloc: Global, seed: u64) -> HashList
+        ensures hashes { result.hashes ≡ [] }
+        ensures seed { result.seed ≡ seed }
     {
         HashList {
             alloc,
+            seed,
             heads: Vec::new(alloc),
             links: Vec::new(alloc),
         }
+    }
+
+    /// The hash of a text under the seed of the list (`hashing::hash_of`).
+    pub fn hash_of(&self, bytes: &[u8]) -> usize
+        ensures hash { result ≡ hash_of self.now.seed bytes.now }
+        ensures positive { 0 < result }
+    {
+        hash_of(self.seed, bytes)
     }
 
     /// How many places there are.
@@ -88,6 +100,7 @@ impl HashList {
     /// memory is refused; the hashes are as before either way.
     pub fn reserve(&mut self) -> Result<(), AllocError>
         ensures same { self.new.hashes ≡ self.old.hashes }
+        ensures seed { self.new.seed ≡ self.old.seed }
         ensures room { OnOk result (0 < self.new.room) }
     {
         reserve(self.alloc, &mut self.heads, &mut self.links)
@@ -97,7 +110,8 @@ impl HashList {
     pub fn push(&mut self, hash: usize)
         requires hash { 0 < hash }
         requires room { 0 < self.old.room }
-        ensures { self.new.hashes ≡ self.old.hashes ++ hash ∷ [] }
+        ensures hashes { self.new.hashes ≡ self.old.hashes ++ hash ∷ [] }
+        ensures seed { self.new.seed ≡ self.old.seed }
     {
         push(&mut self.heads, &mut self.links, hash);
     }
@@ -105,14 +119,16 @@ impl HashList {
     /// Takes the hash at a place out: 0 stands there from then on. It asks for no memory.
     pub fn take_out(&mut self, place: usize)
         requires { place < length self.old.hashes }
-        ensures { self.new.hashes ≡ slice_set self.old.hashes place 0 }
+        ensures hashes { self.new.hashes ≡ slice_set self.old.hashes place 0 }
+        ensures seed { self.new.seed ≡ self.old.seed }
     {
         take_out(&mut self.heads, &mut self.links, place);
     }
 
     /// Drops the places whose hash was taken out. It asks for no memory.
     pub fn drop_empty(&mut self)
-        ensures { self.new.hashes ≡ filter is_hash self.old.hashes }
+        ensures hashes { self.new.hashes ≡ filter is_hash self.old.hashes }
+        ensures seed { self.new.seed ≡ self.old.seed }
     {
         drop_empty(&mut self.heads, &mut self.links);
     }

@@ -1,7 +1,12 @@
--- the changed characters of two records files, as far as they are found out
-use Rattle.std.specs.Prelude.{◌≡◌, ℕ, Bool, List, MatchBool, None, Option, Some, slice_index_or}
+-- the characters that reach a changed one from one records file to another, as far as they are found out
+use Rattle.std.specs.Prelude.{◌≡◌, ℕ, Bool, List, [], ◌∷◌, MatchBool, None, Option, Some, slice_index_or}
+use Rattle.icu_normalizer_core.specs.Canonical.{Reaches}
+use Rattle.collate_laws.specs.Unchanged.{ReachesUnchanged}
 use Rattle.collate_lines.specs.Record.{Record}
-use Rattle.collate_records.specs.Changes.{IsChanged, IsUnchanged}
+use Rattle.collate_records.specs.Changes.{IsChanged}
+use Rattle.collate_rules.specs.Meaning.{step_of}
+use Rattle.collate_index.specs.declared.changes.Look.{Look}
+use Rattle.collate_index.specs.declared.changes.Look.TheVariants.{Found, Before}
 use Rattle.collate_index.specs.declared.changes.Changes.TheInside.{Inside}
 
 -- what the lines of two files say, of one and of the one that comes after it
@@ -12,14 +17,19 @@ pub record TwoRecords : Type 0 where
 abbrev pub records_inside : Inside → TwoRecords
 records_inside s = record { before = s.before.now.lines; after = s.after.now.lines }
 
--- what is known of characters is so
-abbrev pub AreKnown : List Record → List Record → List (Option Bool) → Type 0
-AreKnown before after known =
-    (c : ℕ) (is : Bool) → slice_index_or known c None ≡ Some is → MatchBool is (IsChanged before after c) (IsUnchanged before after c)
+-- a text reaches a changed character, by the steps of the first file
+abbrev pub ReachesChanged : TwoRecords → List ℕ → Type 0
+ReachesChanged files text = (c : ℕ) × Reaches (step_of files.before) text c × IsChanged files.before files.after c
 
-pub record IsKept (s : Inside) : Type 0 where
-  pub known : AreKnown s.before.now.lines s.after.now.lines s.known.items
-
--- an answer to whether a character changed is right
+-- an answer to whether a character reaches a changed one is right
 abbrev pub Tells : TwoRecords → ℕ → Bool → Type 0
-Tells files c is = MatchBool is (IsChanged files.before files.after c) (IsUnchanged files.before files.after c)
+Tells files c is = MatchBool is (ReachesChanged files (c ∷ [])) (ReachesUnchanged files.before files.after (c ∷ []))
+
+-- what a look at a character finds is right
+abbrev pub IsLook : TwoRecords → ℕ → Look → Type 0
+IsLook files c (Found is) = Tells files c is
+IsLook files c (Before d) = Unit {0}
+
+-- what is known of characters is so
+pub record IsKept (s : Inside) : Type 0 where
+  pub known : (c : ℕ) (is : Bool) → slice_index_or s.known.items c None ≡ Some is → Tells (records_inside s) c is

@@ -18,12 +18,14 @@ ghost use Rattle.collate_index.specs.Catalogue.{AreDistinct, meaning_in, opened,
 ghost use Rattle.collate_index.specs.Keys.{IsKeyOf};
 ghost use Rattle.collate_index.specs.Reloads.{AreKeysMade, IsRefused};
 
+use crate::FIXED_SEED;
 use crate::asked::Asked;
 use crate::collators::collator_of;
 use crate::names::Names;
 pub use crate::reload::ReloadError;
-use crate::reload::keys_by;
+use crate::reload::{keys_by, renew};
 use collate_keys::IndexKey;
+use collate_lines::limits::Limits;
 pub use collate_name_list::errors::AddError;
 use collate_name_list::name_list::NameList;
 use collate_records::records::Records;
@@ -78,12 +80,29 @@ impl Index {
     /// An index with no names, over records, preferences and options; what these leave open the records' settings decide.
     ///
     /// Errors: `AllocError` where memory is refused, and for nothing else.
-    #[tactic(auto, unfolding(collate_names::specs::Names::in_order))]
     pub fn new(
         alloc: Global,
         records: Records,
         preferences: &CollatorPreferences<'_>,
         options: &CollatorOptions,
+    ) -> Result<Index, AllocError>
+        ensures { IfOk result (λ index. index ≡ opened records preferences.now options.now) }
+    {
+        Index::with_seed(alloc, records, preferences, options, FIXED_SEED)
+    }
+
+    /// The index that `new` opens, but its names are looked up by hashes under this seed. No answer shows the seed: it concerns
+    /// time alone. Who doesn't know it can't choose names whose hashes are one; so take a random one where names come from
+    /// others. `new` has a seed that everyone knows.
+    ///
+    /// Errors: `AllocError` where memory is refused, and for nothing else.
+    #[tactic(auto, unfolding(collate_names::specs::Names::in_order))]
+    pub fn with_seed(
+        alloc: Global,
+        records: Records,
+        preferences: &CollatorPreferences<'_>,
+        options: &CollatorOptions,
+        seed: u64,
     ) -> Result<Index, AllocError>
         ensures { IfOk result (λ index. index ≡ opened records preferences.now options.now) }
     {
@@ -95,7 +114,7 @@ impl Index {
             records,
             asked,
             collator,
-            names: NameList::new(alloc),
+            names: NameList::new(alloc, seed),
         })
     }
 
@@ -159,8 +178,7 @@ impl Index {
             &collator,
             &mut made,
         )?;
-        let mut comparisons = 0;
-        self.names.rekey(keys, &mut comparisons)?;
+        renew(&mut self.names, keys, made)?;
         self.records = records;
         self.collator = collator;
         Ok(made)
@@ -211,6 +229,13 @@ impl Index {
         ensures { option_copied result ≡ slice_get (sorted_names self.now) i }
     {
         self.names.get(i)
+    }
+
+    /// The limits within which records files are read, reloaded ones too.
+    pub fn limits(&self) -> Limits
+        ensures { result ≡ self.now.limits }
+    {
+        self.records.limits()
     }
 
     /// The names in order, equal ones as they arrived (README.md, "The program").

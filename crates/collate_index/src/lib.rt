@@ -12,3 +12,4 @@ pub mod names;
 pub mod reload;
 
 pub use collate_keys::IndexKey;
+pub use collate_name_list::FIXED_SEED;

@@ -1,17 +1,13 @@
 //! What a reload of records asks of each name: whether its key is made anew, and the key.
 
 ghost use Rattle.std.specs.Bool.{OnFalse, OnTrue};
-ghost use Rattle.std.specs.Prelude.{◌≡◌, ◌+◌, ◌<◌, ◌∷◌, [], All, IfOk, IsTrue, MatchBool, None, OnOk, Some, if◌then◌else◌, length};
+ghost use Rattle.std.specs.Prelude.{◌≡◌, ◌+◌, ◌<◌, All, IfOk, IsTrue, MatchBool, None, OnErr, OnOk, Some, if◌then◌else◌, length};
 ghost use Rattle.icu_normalizer_core.specs.Decoding.{utf8_chars};
 ghost use Rattle.icu_collator.specs.CollatorAnswers.{key_by};
 ghost use Rattle.collate_laws.specs.OverRecords.{IsCollatorOf};
 ghost use Rattle.collate_laws.specs.Unchanged.{ReachesUnchanged};
 ghost use Rattle.collate_name_list.specs.StoredNames.{rekeyed};
-ghost use Rattle.collate_records.specs.Changes.{IsUnchanged};
-ghost use Rattle.collate_records.specs.Reaching.{ReachesOne, brought_within};
-ghost use Rattle.collate_rules.specs.Meaning.{step_of};
 ghost use Rattle.collate_index.specs.Catalogue.{meaning_in, preferences_of, reloaded};
-ghost use Rattle.collate_index.specs.Changes.{Tells};
 ghost use Rattle.collate_index.specs.Keys.{IsKeyed, catalogue};
 ghost use Rattle.collate_index.specs.Reloads.{AreKeysMade, IsTouched, error_of};
 ghost use Rattle.collate_index.specs.declared.reload.ReloadError.TheVariants.{Memory};
@@ -24,12 +20,8 @@ use collate_name_list::name_list::NameList;
 use collate_records::records::Records;
 use icu_collator::{Collator, CollatorBorrowed};
 use icu_normalizer_core::decoding::decode_utf8;
-use icu_normalizer_core::properties::Decomposed;
 use std::alloc::{AllocError, Global};
 use thiserror::Error;
-
-// No chain of mapping steps is longer than there are code points.
-const MOST_STEPS: u32 = 0x11_0000;
 
 /// Why records aren't reloaded.
 #[derive(Clone, Copy, Debug, PartialEq, Eq, Error)]
@@ -61,64 +53,34 @@ impl From<AllocError> for ReloadError {
     }
 }
 
-/// Finds out of each character of a text whether it changed.
-fn learn_all(changes: &mut Changes<'_>, text: &[u8])
-    ensures { changes.new ≡ changes.old }
-{
-    for c in decode_utf8(text) {
-        changes.learn(c);
-    }
-}
-
-/// Whether at most so many mapping steps, one after another, bring a changed character in for a character.
-fn reaches_changed(changes: &Changes<'_>, c: char, steps: u32) -> bool
-    ensures one { OnTrue result (ReachesOne (step_of changes.now.before) (Tells changes.now) (c ∷ [])) }
-    ensures none { OnFalse result (All (IsUnchanged changes.now.before changes.now.after) (brought_within (step_of changes.now.before) steps c)) }
-{
-    if changes.is_changed(c) {
-        return true;
-    }
-    if steps == 0 {
-        return false;
-    }
-    match changes.mapping(c) {
-        Decomposed::Default => false,
-        Decomposed::Singleton(d) => reaches_changed(changes, d, steps - 1),
-        Decomposed::Expansion(d, e) => {
-            reaches_changed(changes, d, steps - 1) || reaches_changed(changes, e, steps - 1)
-        }
-    }
-}
-
 /// Whether a name reaches a changed character.
-fn touches(changes: &Changes<'_>, name: &[u8]) -> bool
-    ensures { MatchBool result (IsTouched changes.now.before changes.now.after name.now) (ReachesUnchanged changes.now.before changes.now.after (utf8_chars name.now)) }
+///
+/// Errors: `AllocError` where memory is refused.
+fn is_touched(changes: &mut Changes<'_>, name: &[u8]) -> Result<bool, AllocError>
+    ensures same { changes.new ≡ changes.old }
+    ensures touched { IfOk result (λ is. MatchBool is (IsTouched changes.old.before changes.old.after name.now) (ReachesUnchanged changes.old.before changes.old.after (utf8_chars name.now))) }
 {
-    changes.keep_rules();
     for c in decode_utf8(name) {
-        if reaches_changed(changes, c, MOST_STEPS) {
-            return true;
+        if changes.reaches_changed(c)? {
+            return Ok(true);
         }
     }
-    false
-}
-
-/// The same, with what was found out kept.
-fn is_touched(changes: &mut Changes<'_>, name: &[u8]) -> bool
-    ensures same { changes.new ≡ changes.old }
-    ensures touched { MatchBool result (IsTouched changes.old.before changes.old.after name.now) (ReachesUnchanged changes.old.before changes.old.after (utf8_chars name.now)) }
-{
-    learn_all(changes, name);
-    touches(changes, name)
+    Ok(false)
 }
 
 /// Whether the key of a name is made anew: a setting changed, or the name reaches a changed character.
-fn is_due(changes: &mut Changes<'_>, is_set_alike: bool, name: &[u8]) -> bool
+///
+/// Errors: `AllocError` where memory is refused.
+fn is_due(changes: &mut Changes<'_>, is_set_alike: bool, name: &[u8]) -> Result<bool, AllocError>
     ensures same { changes.new ≡ changes.old }
-    ensures due { OnTrue result (IsTrue is_set_alike → IsTouched changes.old.before changes.old.after name.now) }
-    ensures other { OnFalse result (IsTrue is_set_alike × ReachesUnchanged changes.old.before changes.old.after (utf8_chars name.now)) }
+    ensures due { IfOk result (λ is. OnTrue is (IsTrue is_set_alike → IsTouched changes.old.before changes.old.after name.now)) }
+    ensures other { IfOk result (λ is. OnFalse is (IsTrue is_set_alike × ReachesUnchanged changes.old.before changes.old.after (utf8_chars name.now))) }
 {
-    !is_set_alike || is_touched(changes, name)
+    if is_set_alike {
+        is_touched(changes, name)
+    } else {
+        Ok(true)
+    }
 }
 
 /// The new key of a name, made where it is due, and counted.
@@ -141,8 +103,27 @@ fn renewed(
     }
 }
 
+/// Gives names their new keys, if any was made: else their order is left as it is. An error if memory is refused; the names
+/// then have their old keys.
+pub(crate) fn renew(
+    names: &mut NameList,
+    keys: Vec<Option<IndexKey>>,
+    made: usize,
+) -> Result<(), AllocError>
+    requires count { length keys.items ≡ length names.old }
+    requires kept { made ≡ 0 → rekeyed keys.items names.old ≡ names.old }
+    ensures rekeyed { OnOk result (names.new ≡ rekeyed keys.items names.old) }
+    ensures unchanged { OnErr result (names.new ≡ names.old) }
+{
+    if made == 0 {
+        return Ok(());
+    }
+    let mut comparisons = 0;
+    names.rekey(keys, &mut comparisons)
+}
+
 /// The new keys of names by other records and a collator of these, as the names arrived; none for a name whose key stays.
-/// The count goes up by one for each key that is made.
+/// The count goes up by one for each key that is made; where none is, all names keep theirs.
 pub(crate) fn keys_by(
     alloc: Global,
     before: &Records,
@@ -157,6 +138,7 @@ pub(crate) fn keys_by(
     requires none { made.old ≡ 0 }
     ensures count { IfOk result (λ keys. length keys.items ≡ length names.now) }
     ensures keyed { IfOk result (λ keys. All (IsKeyed (meaning_in (reloaded records.now.lines (catalogue before.now asked.now names.now)))) (rekeyed keys.items names.now)) }
+    ensures kept { IfOk result (λ keys. made.new ≡ 0 → rekeyed keys.items names.now ≡ names.now) }
     ensures made { OnOk result (AreKeysMade (catalogue before.now asked.now names.now) records.now.lines made.new) }
 {
     before.keep_rules();
@@ -167,7 +149,7 @@ pub(crate) fn keys_by(
     let mut keys = Vec::with_capacity(alloc, names.len())?;
     for (name, own) in names.arrived() {
         let _ = own;
-        let is_due = is_due(&mut changes, is_set_alike, name);
+        let is_due = is_due(&mut changes, is_set_alike, name)?;
         let key = renewed(alloc, &lent, name, is_due, made)?;
         keys.push(key)?;
     }

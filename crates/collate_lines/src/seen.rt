@@ -16,8 +16,8 @@ pub struct Seen {
     mappings: BTreeSet<char>,
     compatibilities: BTreeSet<char>,
     digits: BTreeSet<char>,
-    root: HashSet<Key>,
-    tailoring: HashSet<Key>,
+    root: BTreeSet<Key>,
+    tailoring: BTreeSet<Key>,
     settings: HashSet<&'static str>,
 }
 
@@ -51,8 +51,8 @@ impl Seen {
             mappings: BTreeSet::new(alloc),
             compatibilities: BTreeSet::new(alloc),
             digits: BTreeSet::new(alloc),
-            root: HashSet::new(alloc),
-            tailoring: HashSet::new(alloc),
+            root: BTreeSet::new(alloc),
+            tailoring: BTreeSet::new(alloc),
             settings: HashSet::new(alloc),
         }
     }

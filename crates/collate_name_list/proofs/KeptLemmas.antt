@@ -22,19 +22,23 @@ use Rattle.collate_name_list.proofs.NameListEntryLemmas.{distinct_from_own, own_
 use Rattle.collate_name_list.proofs.PlacesLemmas.{key_total, names_listed, length_slots, slots_push, slots_remove, all_slots, all_full, name_listed}
 use Rattle.collate_name_list.proofs.FrontedLemmas.{places-insert, places-remove, push_fronts, remove_fronts}
 
+-- the hashes of one list under the seed of another, which is the same
+pub reseeded : (t s : Inside) → t.hashes.seed ≡ s.hashes.seed → hashes_in s.hashes.seed t.slots.items ≡ hashes_in t.hashes.seed t.slots.items
+reseeded t s seeds = ap (λ seed. hashes_in seed t.slots.items) (sym seeds)
+
 -- with no names
 pub kept_none : (s : Inside) → s.slots.items ≡ [] → s.by_key ≡ [] → s.hashes.hashes ≡ [] → IsKept s
 unfolding in_order
 kept_none s e k h = record {
   by_key = ap places_of k ∙ sym (ap slots_by_key e);
   fronts = subst (AreFronted s.slots.items) (sym k) (λ i d l. absurd (omega arith));
-  hashes = h ∙ sym (ap hashes_in e);
+  hashes = h ∙ sym (ap (hashes_in s.hashes.seed) e);
   distinct = subst HaveOwnNames (sym e) (λ a b h g same. absurd (true≢false (sym h)));
 }
 
 -- one more, at its place
-pub kept_push : (o s : Inside) (n : Stored) (keyed : ℕ) (by_key : Placed) → IsKept o → s.slots.items ≡ o.slots.items ++ Some n ∷ [] → s.by_key ≡ insert o.by_key keyed by_key → s.hashes.hashes ≡ o.hashes.hashes ++ hash_of n.bytes.items ∷ [] → by_key.place ≡ length o.slots.items → IsFrontOf by_key.front n.key → keyed ≤ length (places_of o.by_key) → (Contains (names_of (entries o.slots.items)) n.bytes.items → ⊥) → IsPlaceOf (λ m. slice_cmp nat_cmp (entry_at o.slots.items m).key n.key) true (places_of o.by_key) keyed → IsKept s
-kept_push o s n keyed by_key kept es ik hs pk fk lk absent place_keyed =
+pub kept_push : (o s : Inside) (n : Stored) (keyed : ℕ) (by_key : Placed) → IsKept o → s.slots.items ≡ o.slots.items ++ Some n ∷ [] → s.by_key ≡ insert o.by_key keyed by_key → s.hashes.hashes ≡ o.hashes.hashes ++ hash_of o.hashes.seed n.bytes.items ∷ [] → s.hashes.seed ≡ o.hashes.seed → by_key.place ≡ length o.slots.items → IsFrontOf by_key.front n.key → keyed ≤ length (places_of o.by_key) → (Contains (names_of (entries o.slots.items)) n.bytes.items → ⊥) → IsPlaceOf (λ m. slice_cmp nat_cmp (entry_at o.slots.items m).key n.key) true (places_of o.by_key) keyed → IsKept s
+kept_push o s n keyed by_key kept es ik hs seeds pk fk lk absent place_keyed =
     let slots : List (Option Stored) = o.slots.items in
     let place_key : IsPlaceOf (λ m. key_order (entry_at slots m) (entry_of n)) true (slots_by_key slots) keyed =
     subst (λ ms. IsPlaceOf (λ m. slice_cmp nat_cmp (entry_at slots m).key n.key) true ms keyed) kept.by_key place_keyed in
@@ -46,13 +50,15 @@ kept_push o s n keyed by_key kept es ik hs pk fk lk absent place_keyed =
     record {
       by_key = keys ∙ slots_push key_order slots key_total n keyed key_bound place_key ∙ sym (ap slots_by_key es);
       fronts = subst (λ (ss : List (Option Stored)). AreFronted ss s.by_key) (sym es) (subst (AreFronted (slots ++ Some n ∷ [])) (sym ik) fronts);
-      hashes = hs ∙ ap (λ xs. xs ++ hash_of n.bytes.items ∷ []) kept.hashes ∙ sym (map_push hash_in slots (Some n)) ∙ sym (ap hashes_in es);
+      hashes =
+          hs ∙ ap (λ xs. xs ++ hash_of o.hashes.seed n.bytes.items ∷ []) kept.hashes ∙ sym (map_push (hash_in o.hashes.seed) slots (Some n))
+          ∙ sym (ap (hashes_in o.hashes.seed) es) ∙ reseeded s o seeds;
       distinct = subst HaveOwnNames (sym es) (own_push slots n kept.distinct absent);
     }
 
 -- one less, taken from its place
-pub kept_remove : (o s : Inside) (k keyed : ℕ) → IsKept o → s.slots.items ≡ set o.slots.items k None → s.by_key ≡ remove o.by_key keyed → s.hashes.hashes ≡ set o.hashes.hashes k 0 → IsFull o.slots.items k → slice_get (places_of o.by_key) keyed ≡ Some k → IsKept s
-kept_remove o s k keyed kept es rk hs full gk =
+pub kept_remove : (o s : Inside) (k keyed : ℕ) → IsKept o → s.slots.items ≡ set o.slots.items k None → s.by_key ≡ remove o.by_key keyed → s.hashes.hashes ≡ set o.hashes.hashes k 0 → s.hashes.seed ≡ o.hashes.seed → IsFull o.slots.items k → slice_get (places_of o.by_key) keyed ≡ Some k → IsKept s
+kept_remove o s k keyed kept es rk hs seeds full gk =
     let slots : List (Option Stored) = o.slots.items in
     let less : List (Option Stored) = set slots k None in
     let within : k < length slots = full_below slots k full in
@@ -64,16 +70,18 @@ kept_remove o s k keyed kept es rk hs full gk =
     record {
       by_key = ap places_of rk ∙ keys ∙ sym (ap slots_by_key es);
       fronts = subst (λ (ss : List (Option Stored)). AreFronted ss s.by_key) (sym es) (subst (AreFronted less) (sym rk) fronts);
-      hashes = hs ∙ ap (λ xs. set xs k 0) kept.hashes ∙ sym (map-set hash_in slots k None) ∙ sym (ap hashes_in es);
+      hashes =
+          hs ∙ ap (λ xs. set xs k 0) kept.hashes ∙ sym (map-set (hash_in o.hashes.seed) slots k None)
+          ∙ sym (ap (hashes_in o.hashes.seed) es) ∙ reseeded s o seeds;
       distinct = subst HaveOwnNames (sym es) (own_emptied slots k within kept.distinct);
     }
 
 -- the same, with the same hashes
-pub kept_same : (s t : Inside) → IsKept s → t.slots.items ≡ s.slots.items → t.by_key ≡ s.by_key → t.hashes.hashes ≡ s.hashes.hashes → IsKept t
-kept_same s t kept e k h = record {
+pub kept_same : (s t : Inside) → IsKept s → t.slots.items ≡ s.slots.items → t.by_key ≡ s.by_key → t.hashes.hashes ≡ s.hashes.hashes → t.hashes.seed ≡ s.hashes.seed → IsKept t
+kept_same s t kept e k h seeds = record {
   by_key = ap places_of k ∙ kept.by_key ∙ sym (ap slots_by_key e);
   fronts = subst (λ (ss : List (Option Stored)). AreFronted ss t.by_key) (sym e) (subst (AreFronted s.slots.items) (sym k) kept.fronts);
-  hashes = h ∙ kept.hashes ∙ sym (ap hashes_in e);
+  hashes = h ∙ kept.hashes ∙ sym (ap (hashes_in s.hashes.seed) e) ∙ reseeded t s seeds;
   distinct = subst HaveOwnNames (sym e) kept.distinct;
 }
 

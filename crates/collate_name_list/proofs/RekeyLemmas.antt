@@ -19,6 +19,7 @@ use Rattle.collate_name_list.specs.declared.name_list.NameList.TheInside.{Inside
 use Rattle.collate_name_list.proofs.SlotLemmas.{IsSlot}
 use Rattle.collate_name_list.proofs.PlacesLemmas.{all_slots, key_total, slots_push}
 use Rattle.collate_name_list.proofs.FrontedLemmas.{fronts_alike, places-insert, push_fronts}
+use Rattle.collate_name_list.proofs.KeptLemmas.{reseeded}
 
 -- ---- changed keys, slot by slot
 
@@ -125,15 +126,16 @@ changed_back (slot ∷ slots) (key ∷ keys) =
 
 -- ---- what stays, and what doesn't
 
-hash_stays : (slot : Option Stored) (key : Option (List ℕ)) → hash_in (slot_with_key slot key) ≡ hash_in slot
-hash_stays None key = refl
-hash_stays (Some s) None = refl
-hash_stays (Some s) (Some key) = refl
+hash_stays : (seed : ℕ) (slot : Option Stored) (key : Option (List ℕ)) → hash_in seed (slot_with_key slot key) ≡ hash_in seed slot
+hash_stays seed None key = refl
+hash_stays seed (Some s) None = refl
+hash_stays seed (Some s) (Some key) = refl
 
-pub hashes_stay : (slots : List (Option Stored)) (keys : List (Option (List ℕ))) → hashes_in (slots_with_keys slots keys) ≡ hashes_in slots
-hashes_stay [] keys = refl
-hashes_stay (slot ∷ slots) [] = refl
-hashes_stay (slot ∷ slots) (key ∷ keys) = ap (λ h. h ∷ hashes_in (slots_with_keys slots keys)) (hash_stays slot key) ∙ ap (λ hs. hash_in slot ∷ hs) (hashes_stay slots keys)
+pub hashes_stay : (seed : ℕ) (slots : List (Option Stored)) (keys : List (Option (List ℕ))) → hashes_in seed (slots_with_keys slots keys) ≡ hashes_in seed slots
+hashes_stay seed [] keys = refl
+hashes_stay seed (slot ∷ slots) [] = refl
+hashes_stay seed (slot ∷ slots) (key ∷ keys) =
+    ap (λ h. h ∷ hashes_in seed (slots_with_keys slots keys)) (hash_stays seed slot key) ∙ ap (λ hs. hash_in seed slot ∷ hs) (hashes_stay seed slots keys)
 
 full_stays : (slot : Option Stored) (key : Option (List ℕ)) → is_some (slot_with_key slot key) ≡ is_some slot
 full_stays None key = refl
@@ -231,10 +233,12 @@ ordered_none slots ps order fronts =
 -- ---- what a list of names keeps
 
 pub kept_changed : (s t : Inside) (slots : List (Option Stored)) (keys : List (Option (List ℕ))) → IsKept s → s.slots.items ≡ slots → t.slots.items ≡ slots_with_keys slots keys → places_of t.by_key ≡ slots_by_key t.slots.items
-    → AreFronted t.slots.items t.by_key → t.hashes.hashes ≡ s.hashes.hashes → IsKept t
-kept_changed s t slots keys kept from changed order fronts hashes = record {
+    → AreFronted t.slots.items t.by_key → t.hashes.hashes ≡ s.hashes.hashes → t.hashes.seed ≡ s.hashes.seed → IsKept t
+kept_changed s t slots keys kept from changed order fronts hashes seeds = record {
   by_key = order;
   fronts = fronts;
-  hashes = hashes ∙ kept.hashes ∙ ap hashes_in from ∙ sym (hashes_stay slots keys) ∙ sym (ap hashes_in changed);
+  hashes =
+      hashes ∙ kept.hashes ∙ ap (hashes_in s.hashes.seed) from ∙ sym (hashes_stay s.hashes.seed slots keys) ∙ sym (ap (hashes_in s.hashes.seed) changed)
+      ∙ reseeded t s seeds;
   distinct = subst HaveOwnNames (sym changed) (own_stays slots keys (subst HaveOwnNames from kept.distinct));
 }

@@ -1,14 +1,13 @@
 -- the empty slots dropped: the full ones with their new numbers stand for the same names, in the same orders
-use Rattle.std.proofs.Common.{◌≡◌, ℕ, ◌+◌, ◌<◌, List, [], ◌∷◌, ◌++◌, length, map, get_or, Option, Some, None, true, false, true≢false, cond, ◌≤◌, ⊎_elim, lt-ltb, eq-eqb, is_some, refl, sym, ap, ◌∙◌, subst, arith, append_assoc, Ordering}
+use Rattle.std.proofs.Common.{◌≡◌, ℕ, ◌+◌, ◌<◌, List, [], ◌∷◌, ◌++◌, length, map, get_or, Option, Some, None, true, false, cond, ◌≤◌, lt-ltb, is_some, refl, sym, ap, ◌∙◌, subst, arith, append_assoc, Ordering}
 use Rattle.std.specs.Prelude.{◌==◌}
 use Rattle.std.specs.List.{All, Contains, filter}
 use Rattle.std.specs.Ordering.{on}
-use Rattle.std.proofs.lemmas.Bool.{cases_lt}
 use Rattle.std.proofs.lemmas.List.{length-map, get_or-map, get_or_at, length_push}
 use Rattle.std.proofs.lemmas.List.Elements.{All-map, All-weaker, Contains-get_or}
 use Rattle.collate_names.specs.Names.{in_order}
 use Rattle.collate_names.proofs.NameChangeLemmas.{in_order_map, in_order_alike}
-use Rattle.collate_hashes.specs.Hashes.{hash_of, hash_from, is_hash}
+use Rattle.collate_hashes.specs.Hashes.{hash_of, is_hash}
 use Rattle.collate_places.specs.Fronts.{IsFrontOf}
 use Rattle.collate_places.specs.Lists.{renumbered, numbered as numbered_placed}
 use Rattle.collate_places.specs.declared.windows.Placed.{Placed}
@@ -20,6 +19,7 @@ use Rattle.collate_name_list.specs.declared.name_list.NameList.TheInside.{Inside
 use Rattle.collate_name_list.proofs.SlotLemmas.{IsSlot, contains_full, slot_from_contains}
 use Rattle.collate_name_list.proofs.PlacesLemmas.{slots_by, all_slots, all_full}
 use Rattle.collate_name_list.proofs.FrontedLemmas.{all_places}
+use Rattle.collate_name_list.proofs.KeptLemmas.{reseeded}
 
 -- ---- maps
 
@@ -135,27 +135,20 @@ fronts_dense slots ps e fronts =
     All-map (λ p. IsFrontOf p.front (entry_at (dense slots) p.place).key) (numbered_placed (numbers_from 0 slots)) ps
     (λ i d l. let p : Placed = get_or ps i d in subst (λ (n : StoredName). IsFrontOf p.front n.key) (sym (entry_stays slots p.place (contains_full slots p.place (full i d l)))) (fronts i d l))
 
-above : (hash : ℕ) → (hash == 0) ≡ false → is_hash hash ≡ true
-above hash e =
-    ⊎_elim (λ (l : 0 < hash). lt-ltb 0 hash l)
-    (λ (l : hash ≤ 0). let none : hash ≡ 0 = omega arith in absurd (true≢false (sym (eq-eqb hash 0 none) ∙ e)))
-    (cases_lt 0 hash)
-
-hash_above : (bytes : List ℕ) → is_hash (hash_of bytes) ≡ true
-hash_above bytes =
-    let hash : ℕ = hash_from 0 bytes in
-    elim (hash == 0) as (λ b. hash == 0 ≡ b → is_hash (cond b 1 hash) ≡ true) [ true ↦ λ e. refl | false ↦ λ e. above hash e ] refl
+hash_above : (seed : ℕ) (bytes : List ℕ) → is_hash (hash_of seed bytes) ≡ true
+hash_above seed bytes = lt-ltb 0 (hash_of seed bytes) (omega arith)
 
 -- the hashes of the full slots
-hashes_dense : (slots : List (Option Stored)) → hashes_in (dense slots) ≡ filter is_hash (hashes_in slots)
-hashes_dense [] = refl
-hashes_dense (None ∷ slots) = hashes_dense slots
-hashes_dense (Some s ∷ slots) =
-    ap (λ hs. hash_of s.bytes.items ∷ hs) (hashes_dense slots)
-    ∙ sym (ap (λ b. cond b (hash_of s.bytes.items ∷ filter is_hash (hashes_in slots)) (filter is_hash (hashes_in slots))) (hash_above s.bytes.items))
+hashes_dense : (seed : ℕ) (slots : List (Option Stored)) → hashes_in seed (dense slots) ≡ filter is_hash (hashes_in seed slots)
+hashes_dense seed [] = refl
+hashes_dense seed (None ∷ slots) = hashes_dense seed slots
+hashes_dense seed (Some s ∷ slots) =
+    let hash : ℕ = hash_of seed s.bytes.items in
+    ap (λ hs. hash ∷ hs) (hashes_dense seed slots)
+    ∙ sym (ap (λ b. cond b (hash ∷ filter is_hash (hashes_in seed slots)) (filter is_hash (hashes_in seed slots))) (hash_above seed s.bytes.items))
 
-pub kept_dense : (s t : Inside) (numbers : List ℕ) → IsKept s → numbers ≡ numbers_from 0 s.slots.items → t.slots.items ≡ filter is_some s.slots.items → t.by_key ≡ renumbered numbers s.by_key → t.hashes.hashes ≡ filter is_hash s.hashes.hashes → IsKept t
-kept_dense s t numbers kept n e k h =
+pub kept_dense : (s t : Inside) (numbers : List ℕ) → IsKept s → numbers ≡ numbers_from 0 s.slots.items → t.slots.items ≡ filter is_some s.slots.items → t.by_key ≡ renumbered numbers s.by_key → t.hashes.hashes ≡ filter is_hash s.hashes.hashes → t.hashes.seed ≡ s.hashes.seed → IsKept t
+kept_dense s t numbers kept n e k h seeds =
     let slots : List (Option Stored) = s.slots.items in
     let keys : t.by_key ≡ renumbered (numbers_from 0 slots) s.by_key = k ∙ ap (λ ns. renumbered ns s.by_key) n in
     record {
@@ -165,6 +158,8 @@ kept_dense s t numbers kept n e k h =
       fronts =
           subst (λ (ss : List (Option Stored)). AreFronted ss t.by_key) (sym e)
           (subst (AreFronted (dense slots)) (sym keys) (fronts_dense slots s.by_key kept.by_key kept.fronts));
-      hashes = h ∙ ap (filter is_hash) kept.hashes ∙ sym (hashes_dense slots) ∙ sym (ap hashes_in e);
+      hashes =
+          h ∙ ap (filter is_hash) kept.hashes ∙ sym (hashes_dense s.hashes.seed slots) ∙ sym (ap (hashes_in s.hashes.seed) e)
+          ∙ reseeded t s seeds;
       distinct = subst HaveOwnNames (sym e) (own_dense slots kept.distinct);
     }

@@ -57,13 +57,13 @@ lent_name lent = record { key = lent.1.now; name = lent.0.now }
 abbrev pub slots_by_key : List (Option Stored) → List ℕ
 slots_by_key slots = in_order (on (entry_at slots) key_order) (full_slots 0 slots)
 
--- the hash of a slot's name, 0 if it is empty
-abbrev pub hash_in : Option Stored → ℕ
-hash_in None = 0
-hash_in (Some s) = hash_of s.bytes.items
+-- the hash of a slot's name under a seed, 0 if it is empty
+abbrev pub hash_in : ℕ → Option Stored → ℕ
+hash_in seed None = 0
+hash_in seed (Some s) = hash_of seed s.bytes.items
 
-abbrev pub hashes_in : List (Option Stored) → List ℕ
-hashes_in slots = map hash_in slots
+abbrev pub hashes_in : ℕ → List (Option Stored) → List ℕ
+hashes_in seed slots = map (hash_in seed) slots
 
 -- how what stands at a slot compares with what is looked for
 abbrev pub compared : List (Option Stored) → Sought → ℕ → Ordering
@@ -95,7 +95,7 @@ sought_key (Slot key other) = key.now
 pub record IsKept (s : Inside) : Type 0 where
   pub by_key : places_of s.by_key ≡ slots_by_key s.slots.items
   pub fronts : AreFronted s.slots.items s.by_key
-  pub hashes : s.hashes.hashes ≡ hashes_in s.slots.items
+  pub hashes : s.hashes.hashes ≡ hashes_in s.hashes.seed s.slots.items
   pub distinct : HaveOwnNames s.slots.items
 
 -- the place that is looked for is one of these: all before them stand before it, and none behind them

@@ -8,3 +8,5 @@ mod keys;
 pub mod name_list;
 mod room;
 mod slots;
+
+pub use collate_hashes::hashing::FIXED_SEED;

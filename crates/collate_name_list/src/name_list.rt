@@ -16,7 +16,6 @@ use crate::slots::{
     Stored, key_in, place_of_key, place_of_slot, range_of_key, slot_of_name, stored_in,
 };
 use collate_hashes::HashList;
-use collate_hashes::hashing::hash_of;
 use collate_keys::IndexKey;
 use collate_places::PlaceList;
 use collate_places::windows::Placed;
@@ -64,15 +63,16 @@ impl Model for NameList {
 }
 
 impl NameList {
-    /// A list with no names. It asks for no memory.
-    pub fn new(alloc: Global) -> NameList
+    /// A list with no names. They are looked up by hashes under a seed, which no answer shows; but who knows it can choose
+    /// names so that one look-up goes through all of them. It asks for no memory.
+    pub fn new(alloc: Global, seed: u64) -> NameList
         ensures { result ≡ [] }
     {
         NameList {
             alloc,
             slots: Vec::new(alloc),
             by_key: PlaceList::new(alloc),
-            hashes: HashList::new(alloc),
+            hashes: HashList::new(alloc, seed),
         }
     }
 
@@ -94,7 +94,13 @@ impl NameList {
     pub fn contains(&self, name: &[u8]) -> bool
         ensures { IsTrue result ↔ Contains (names_of self.now) name.now }
     {
-        slot_of_name(self.slots.as_slice(), &self.hashes, hash_of(name), name).is_some()
+        slot_of_name(
+            self.slots.as_slice(),
+            &self.hashes,
+            self.hashes.hash_of(name),
+            name,
+        )
+        .is_some()
     }
 
     /// Adds a name with its key, as the newest. It is `Duplicate` if the name is there already, byte for byte, and `Memory`
@@ -117,7 +123,7 @@ impl NameList {
         ensures found { IsTrue result ↔ Contains (names_of self.old) name.now }
     {
         let slots = self.slots.as_slice();
-        match slot_of_name(slots, &self.hashes, hash_of(name), name) {
+        match slot_of_name(slots, &self.hashes, self.hashes.hash_of(name), name) {
             Some(slot) => {
                 let keyed = place_of_slot(slots, &self.by_key, slot);
                 self.by_key.remove(keyed);
@@ -160,7 +166,7 @@ impl NameList {
         ensures absent { IfNone result (¬ Contains (names_of self.now) name.now) }
     {
         let slots = self.slots.as_slice();
-        match slot_of_name(slots, &self.hashes, hash_of(name), name) {
+        match slot_of_name(slots, &self.hashes, self.hashes.hash_of(name), name) {
             Some(slot) => Some(key_in(slots, slot)),
             None => None,
         }
@@ -221,7 +227,7 @@ impl NameList {
         ensures few { (digits : ℕ) → length self.old < 2 ^ digits → count.new ≤ count.old + digits }
     {
         let slots = self.slots.as_slice();
-        let hash = hash_of(name);
+        let hash = self.hashes.hash_of(name);
         if slot_of_name(slots, &self.hashes, hash, name).is_some() {
             return Err(AddError::Duplicate);
         }

@@ -370,8 +370,8 @@ pub fn slot_of_name(
     hash: usize,
     name: &[u8],
 ) -> Option<usize>
-    requires hashes { hashes.now.hashes ≡ hashes_in slots.now }
-    requires hash { hash ≡ hash_of name.now }
+    requires hashes { hashes.now.hashes ≡ hashes_in hashes.now.seed slots.now }
+    requires hash { hash ≡ hash_of hashes.now.seed name.now }
     requires positive { 0 < hash }
     ensures full { IfSome result (IsFull slots.now) }
     ensures name { IfSome result (λ slot. (entry_at slots.now slot).name ≡ name.now) }

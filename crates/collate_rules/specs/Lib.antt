@@ -10,7 +10,6 @@ pub mod Lists
 pub mod Meaning
 pub mod Offenders
 pub mod Places
-pub mod Reached
 pub mod Rules
 pub mod RecordRules
 pub mod SettingLines

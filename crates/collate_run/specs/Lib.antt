@@ -1,3 +1,4 @@
+pub mod Over
 pub mod Reading
 pub mod Replies
 pub mod ReplyText

@@ -1,7 +1,7 @@
 -- a line, and a line with the record lines behind it, as they are read
 use Rattle.std.specs.Prelude.{◌≡◌, ◌≢◌, ℕ, Bool, true, false, ◌+◌, ◌<◌, ◌≤◌, MatchBool, ◌-◌, Option, None, Some, Result, Ok, Err, List, [], ◌∷◌, ◌++◌, length, flat_map, All, IfSome}
 use Rattle.std.specs.Io.KnownBytes.{Consumes, Keeps, IsAtEnd}
-use Rattle.collate_run.specs.Replies.{behind, ended}
+use Rattle.collate_run.specs.Replies.{AreFirst, behind, ended}
 use Rattle.collate_run.specs.Runs.{IsUnanswered, IsWithin, KeepsInputLimit, KeepsLineLimit, line_limit, lines_of, lines_read, input_limit}
 use Rattle.collate_run.specs.declared.run.Line.{Line}
 use Rattle.collate_run.specs.declared.run.Request.{Request}
@@ -51,7 +51,7 @@ pub record SpellsRequest (request : Request) (many : ℕ) (left : Option (List �
   pub all_there : length records ≡ many
   pub lines_are : lines_of bytes ≡ request.line.items ∷ records
   pub whole : MatchBool request.is_ended (AreWhole (request.line.items ∷ records) bytes) (IsAtEnd left)
-  pub kept : IfSome request.records (λ kept. kept.items ≡ spelled records)
+  pub kept : IfSome request.records (λ kept. AreFirst request.limit kept.items (spelled records))
   pub short : All IsWithin (request.line.items ∷ records)
   pub counted : after ≡ before + length bytes
   pub within : after ≤ input_limit

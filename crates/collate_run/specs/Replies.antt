@@ -1,5 +1,5 @@
 -- what a line asks for, the reply to it, and the catalogue after it
-use Rattle.std.specs.Prelude.{◌≡◌, ◌==◌, ℕ, ◌+◌, if◌then◌else◌, Option, None, Some, Result, Ok, Err, List, [], ◌∷◌, ◌++◌, ◌⊎◌, length, take, drop, codes, decimal, flat_map, bytes_eq, position}
+use Rattle.std.specs.Prelude.{◌≡◌, ◌==◌, ℕ, ◌+◌, if◌then◌else◌, Option, None, Some, Result, Ok, Err, List, [], ◌∷◌, ◌++◌, ◌⊎◌, ◌≤◌, length, take, drop, codes, decimal, flat_map, bytes_eq, position}
 use Rattle.std.specs.List.{Contains}
 use Rattle.hex.specs.Hex.{encode_lower}
 use Rattle.icu_normalizer_core.specs.Decoding.{utf8_chars}
@@ -94,6 +94,10 @@ key_of_name catalogue name = key_of_text (collation_of catalogue.records) (optio
 abbrev pub reload_reply : Result ℕ RecordFault → List ℕ
 reload_reply (Ok made) = ended (codes "reloaded " ++ decimal made)
 reload_reply (Err fault) = ended (codes "refused " ++ fault_text fault.line fault.rule)
+
+-- these are the first bytes of a file, and all of it unless they are more than a limit
+abbrev pub AreFirst : ℕ → List ℕ → List ℕ → Type 0
+AreFirst limit bytes file = (rest : List ℕ) × (file ≡ bytes ++ rest) × (length bytes ≤ limit → rest ≡ [])
 
 -- what a reload does: the records of a file that is accepted within the catalogue's limits take the place of those that were
 -- there, and keys are made; another file is refused, and nothing has changed

@@ -3,6 +3,7 @@
 //! commands alone.
 #![tactic(auto)]
 
+pub mod over;
 pub mod program;
 mod replies;
 pub mod run;

@@ -17,7 +17,7 @@ use std::io::{self, BufReader, Read, Write};
 use std::process::ExitCode;
 
 /// The words of the program, without its name. An error if one isn't UTF-8.
-fn words(rt: &HostRuntime) -> io::Result<Vec<String>> {
+pub(crate) fn words(rt: &HostRuntime) -> io::Result<Vec<String>> {
     let mut words = Vec::new(rt.alloc());
     for word in env::args(rt)?.skip(1) {
         words.push(word)?;
@@ -41,7 +41,7 @@ fn contents<F: Read + Drop>(alloc: Global, file: F, limits: Limits) -> Result<Ve
 }
 
 /// The bytes of FILE, which was opened or wasn't. Without memory for the input they are of no use.
-fn file_bytes<F: Read + Drop>(
+pub(crate) fn file_bytes<F: Read + Drop>(
     alloc: Global,
     limits: Limits,
     has_input: bool,
@@ -149,7 +149,7 @@ pub fn run_program_within(rt: &HostRuntime, setup: Setup) -> ExitCode {
     }
 }
 
-/// The program `collate`: as `run_program_within` does within the standard limits.
+/// The program `collate`: as `run_program_within` does within the standard limits, by a seed of the system's where it gives one.
 pub fn run_program(rt: &HostRuntime) -> ExitCode {
-    run_program_within(rt, Setup::STANDARD)
+    run_program_within(rt, Setup::STANDARD.seeded(rt))
 }

@@ -3,7 +3,7 @@
 ghost use Rattle.std.specs.Prelude.{◌≡◌, ◌==◌, ◌<◌, ◌≤◌, ℕ, List, length, position, slice_range, IfOk, IfSome};
 ghost use Rattle.collate_index.specs.Catalogue.{sorted_names};
 ghost use Rattle.collate_lines.specs.Grammar.{decimal_digit, decimal_number};
-ghost use Rattle.collate_run.specs.Replies.{behind, between_command, command_of, ended, key_of_name, listing, record_count, reload_of, Answers};
+ghost use Rattle.collate_run.specs.Replies.{behind, between_command, command_of, ended, key_of_name, listing, record_count, reload_of, Answers, AreFirst};
 ghost use Rattle.collate_run.specs.ReplyText.{line_command, reply_text, IsReply};
 ghost use Rattle.hex.specs.Hex.{encode_lower};
 
@@ -135,9 +135,9 @@ pub(crate) fn records_behind(line: &[u8]) -> usize
 }
 
 /// Answers one line, with the record lines behind it, from the index, which `add`, `remove` and `reload` change. `records` is
-/// `None` where memory was refused for them.
+/// what was kept of them: all, unless what was kept passes the size of a file; `None` where memory was refused for them.
 pub(crate) fn answer(alloc: Global, index: &mut Index, line: &[u8], records: Option<&[u8]>) -> Reply
-    ensures { (file : List ℕ) → IfSome records.entry (λ given. given.now ≡ file)
+    ensures { (file : List ℕ) → IfSome records.entry (λ given. AreFirst index.old.limits.bytes given.now file)
         → Answers line.now file index.old index.new (reply_text result) }
 {
     match read_command(line) {

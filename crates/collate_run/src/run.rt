@@ -1,10 +1,10 @@
 //! A run: the commands of a reader, each answered to a writer.
 
-ghost use Rattle.std.specs.Prelude.{◌≡◌, ◌+◌, ◌≤◌, ◌↔◌, ◌++◌, ℕ, List, length, flat_map, false, true, Ok, Err, IfErr, IfSome, is_err, ◌||◌};
+ghost use Rattle.std.specs.Prelude.{◌≡◌, ◌+◌, ◌≤◌, ◌↔◌, ◌++◌, ℕ, List, length, flat_map, false, true, Ok, Err, IfErr, IfOk, IfSome, OnOk, is_err, ◌||◌};
 ghost use Rattle.std.specs.Io.KnownBytes.{Consumes};
 ghost use Rattle.collate_index.specs.Catalogue.{opened};
 ghost use Rattle.collate_run.specs.Reading.{GivesByte, ReadsLine, ReadsRequest, is_read_fault};
-ghost use Rattle.collate_run.specs.Replies.{ended};
+ghost use Rattle.collate_run.specs.Replies.{AreFirst, ended};
 ghost use Rattle.collate_run.specs.ReplyText.{reply_text};
 ghost use Rattle.collate_run.specs.Runs.{Ran, input_limit};
 ghost use Rattle.collate_run.specs.Sending.{Sends};
@@ -12,11 +12,12 @@ ghost use Rattle.collate_run.specs.Watched.{watched_inner, watched_failed};
 
 use crate::replies::{Reply, answer, records_behind};
 use crate::watched::Watched;
+use collate_index::FIXED_SEED;
 use collate_index::index::Index;
 use collate_records::records::Records;
 use icu_collator_types::options::{CollatorOptions, CollatorPreferences};
 use itoa::Buffer;
-use std::alloc::Global;
+use std::alloc::{AllocError, Global};
 use std::io::{Read, Write};
 use thiserror::Error;
 
@@ -60,8 +61,10 @@ struct Line {
 #[derive(Drop)]
 struct Request {
     line: Vec<u8>,
-    /// The record lines, an LF behind each; `None` where memory for them was refused.
+    /// The record lines, an LF behind each, but for those past the limit; `None` where memory for them was refused.
     records: Option<Vec<u8>>,
+    /// The most bytes that a file of records may have. Once more than that are kept, no line more is.
+    limit: usize,
     /// Whether the last of the lines has its LF.
     is_ended: bool,
 }
@@ -142,28 +145,48 @@ fn write_whole<W: Write>(writer: &mut Watched<W>, bytes: &[u8]) -> Result<(), Ru
     Ok(())
 }
 
-/// Puts a line, ended, behind the others; gives all of them up where memory is refused.
-fn with_line(records: Option<Vec<u8>>, line: &[u8]) -> Option<Vec<u8>>
-    ensures { (before : List ℕ) → IfSome records (λ kept. kept.items ≡ before)
-        → IfSome result (λ kept. kept.items ≡ before ++ ended line.now) }
+/// Puts a line, ended, behind the others, unless they pass the limit, so that the file is refused whatever comes behind.
+///
+/// Errors: `AllocError` where memory is refused.
+fn put_line(records: &mut Vec<u8>, line: &[u8], limit: usize) -> Result<(), AllocError>
+    ensures { OnOk result ((before : List ℕ) → AreFirst limit records.old.items before
+        → AreFirst limit records.new.items (before ++ ended line.now)) }
 {
-    let mut records = records?;
-    records.extend_from_slice(line).ok()?;
-    records.push(b'\n').ok()?;
-    Some(records)
+    if records.len() > limit {
+        return Ok(());
+    }
+    records.extend_from_slice(line)?;
+    records.push(b'\n')?;
+    Ok(())
 }
 
-/// Reads the next line and the record lines behind it; `None` at the end of the input. `count` is how many bytes have been
-/// read.
+/// Puts a line, ended, behind the others, as `put_line` does; gives all of them up where memory is refused.
+fn with_line(records: Option<Vec<u8>>, line: &[u8], limit: usize) -> Option<Vec<u8>>
+    ensures { (before : List ℕ) → IfSome records (λ kept. AreFirst limit kept.items before)
+        → IfSome result (λ kept. AreFirst limit kept.items (before ++ ended line.now)) }
+{
+    match records {
+        Some(mut records) => match put_line(&mut records, line, limit) {
+            Ok(()) => Some(records),
+            Err(_) => None,
+        },
+        None => None,
+    }
+}
+
+/// Reads the next line and the record lines behind it; `None` at the end of the input. `limit` is how many bytes a file of
+/// records may have, and `count` how many have been read.
 fn next_request<R: Read>(
     alloc: Global,
     reader: &mut Watched<R>,
+    limit: usize,
     count: &mut u64,
 ) -> Result<Option<Request>, RunFault>
     requires within { count.old ≤ input_limit }
     ensures bytes { (bytes : List ℕ)
         × Consumes (R.remaining (watched_inner reader.old)) (R.remaining (watched_inner reader.new)) bytes
         × ReadsRequest result (R.remaining (watched_inner reader.new)) count.old count.new bytes }
+    ensures limit { IfOk result (λ given. IfSome given (λ request. request.limit ≡ limit)) }
     ensures failed { watched_failed reader.new ≡ watched_failed reader.old || is_read_fault result }
 {
     let Line { bytes, is_ended } = match next_line(alloc, reader, count) {
@@ -175,6 +198,7 @@ fn next_request<R: Read>(
     let mut request = Request {
         line: bytes,
         records: Some(Vec::new(alloc)),
+        limit,
         is_ended,
     };
     for _ in 0..wanted {
@@ -186,7 +210,7 @@ fn next_request<R: Read>(
             Ok(None) => return Err(RunFault::CutReload),
             Err(fault) => return Err(fault),
         };
-        request.records = with_line(request.records, &record.bytes);
+        request.records = with_line(request.records, &record.bytes, request.limit);
         request.is_ended = record.is_ended;
     }
     Ok(Some(request))
@@ -253,7 +277,8 @@ fn answer_requests<R: Read, W: Write>(
 {
     let mut count = 0;
     'requests: loop {
-        let asked = match next_request(alloc, reader, &mut count) {
+        let limit = index.limits().bytes;
+        let asked = match next_request(alloc, reader, limit, &mut count) {
             Ok(Some(asked)) => asked,
             Ok(None) => return Ok(()),
             Err(fault) => return Err(fault),
@@ -297,7 +322,37 @@ pub fn run<R: Read, W: Write>(
     ensures read { (watched_failed reader.new ≡ true) ↔ (result ≡ Err RunFault.Read) }
     ensures write { (watched_failed writer.new ≡ true) ↔ (result ≡ Err RunFault.Write) }
 {
-    match Index::new(alloc, records, preferences, options) {
+    run_with_seed(
+        alloc,
+        records,
+        preferences,
+        options,
+        FIXED_SEED,
+        reader,
+        writer,
+    )
+}
+
+/// A run as `run` does it, by an index whose names are looked up by hashes under this seed, which no reply shows
+/// (`Index::with_seed`).
+pub fn run_with_seed<R: Read, W: Write>(
+    alloc: Global,
+    records: Records,
+    preferences: &CollatorPreferences<'_>,
+    options: &CollatorOptions,
+    seed: u64,
+    reader: &mut Watched<R>,
+    writer: &mut Watched<W>,
+) -> Result<(), RunFault>
+    requires reader { watched_failed reader.old ≡ false }
+    requires writer { watched_failed writer.old ≡ false }
+    ensures ran { Ran (opened records preferences.now options.now) result
+        (R.remaining (watched_inner reader.old)) (R.remaining (watched_inner reader.new))
+        (W.contents (watched_inner writer.old)) (W.contents (watched_inner writer.new)) }
+    ensures read { (watched_failed reader.new ≡ true) ↔ (result ≡ Err RunFault.Read) }
+    ensures write { (watched_failed writer.new ≡ true) ↔ (result ≡ Err RunFault.Write) }
+{
+    match Index::with_seed(alloc, records, preferences, options, seed) {
         Ok(mut index) => answer_requests(alloc, &mut index, reader, writer),
         Err(_) => Err(RunFault::Memory),
     }

@@ -5,7 +5,7 @@ ghost use Rattle.collate_run.specs.Sending.{Sends};
 ghost use Rattle.collate_run.specs.Served.{Serves, ServesWithin, Tells, records_line, run_line};
 ghost use Rattle.collate_run.specs.Watched.{watched_failed, watched_inner};
 
-use crate::run::{RunFault, run};
+use crate::run::{RunFault, run_with_seed};
 use crate::setup::Setup;
 use crate::watched::Watched;
 use collate_choice::Choice;
@@ -47,7 +47,7 @@ fn tell_part<E: Write>(errors: &mut E, part: &[u8]) -> Result<(), Untold>
 
 /// Writes the parts of a text, one after another, up to the first call that fails or takes no
 /// byte.
-fn tell<E: Write>(errors: &mut E, parts: &[&[u8]])
+pub(crate) fn tell<E: Write>(errors: &mut E, parts: &[&[u8]])
     ensures { Tells (E.contents errors.old) (E.contents errors.new)
         (flat_map (λ part. part.now) parts.now) }
 {
@@ -156,11 +156,12 @@ pub fn serve_within<R: Read, W: Write, E: Write>(
             return 1;
         }
     };
-    match run(
+    match run_with_seed(
         alloc,
         records,
         &choice.prefs,
         &choice.options,
+        setup.seed,
         reader,
         writer,
     ) {

@@ -3,6 +3,7 @@ pub mod WeightRuleApartLemmas
 pub mod WeightRuleLeadLemmas
 pub mod WeightRuleRangeLemmas
 pub mod WeightRuleSaidLemmas
+pub mod PlacedLemmas
 pub mod StayLemmas
 mod WeightExamples
 pub mod RangeLeadLemmas

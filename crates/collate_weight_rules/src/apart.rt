@@ -1,11 +1,12 @@
 //! The rule that no weight's bytes begin another's on its level (V5).
 
-ghost use Rattle.std.specs.Prelude.{◌≡◌, ◌*◌, ◌^◌, ◌↔◌, ◌&&◌, map, IsTrue, IfOk, MatchOption};
+ghost use Rattle.std.specs.Prelude.{◌≡◌, ◌*◌, ◌^◌, ◌&&◌, map, IfOk, MatchOption};
+ghost use Rattle.std.specs.List.Sorted.{IsPermutation};
 ghost use Rattle.collate_lines.specs.Record.{said};
-ghost use Rattle.collate_rules.specs.GivenWeights.{BreakApart, are_all_apart};
 ghost use Rattle.collate_rules.specs.Offenders.{NoneOffends, IsFirstOffender};
+ghost use Rattle.collate_weight_rules.specs.PlacedWeights.{HasPlaced, are_weights_apart, weights_to};
 
-use crate::given::given_elements;
+use crate::given::placed_elements;
 use collate_lines::record::Record;
 use collate_lines::rule::Rule;
 use collate_rules::places::{PlaceTest, first_place};
@@ -15,54 +16,85 @@ use std::alloc::{AllocError, Global};
 
 /// The first line with a weight whose bytes begin those of one that it or an earlier line has, or the other way round
 /// (rule V5, docs/RECORDS.md). Takes the time of sorting the weights of all lines, and where a line offends, of as many
-/// more times as the number of lines has bits. Lines count from 0; `None` where no line offends.
+/// passes over them as the number of lines has bits. Lines count from 0; `None` where no line offends.
 ///
 /// Errors: `AllocError` where memory is refused.
 pub fn first_begun_weight(alloc: Global, records: &[Record]) -> Result<Option<usize>, AllocError>
     ensures { IfOk result (λ found. MatchOption found (NoneOffends Rule.V5 (map said records.now)) (λ i. IsFirstOffender Rule.V5 (map said records.now) i)) }
 {
-    let found = first_place(alloc, &ApartTest { records }, records.len())?;
+    let test = ApartTest::new(alloc, records)?;
+    let found = first_place(alloc, &test, records.len())?;
     Ok(found)
 }
 
-/// The test for lines up to one of which a weight begins another.
+/// The test for lines up to one of which a weight begins another: the weights of each level in order, each with its line.
 #[derive(Drop)]
-struct ApartTest<'r> {
-    records: &'r [Record],
+struct ApartTest {
+    primaries: Vec<(u32, usize)>,
+    secondaries: Vec<(u32, usize)>,
+    tertiaries: Vec<(u32, usize)>,
+    count: usize,
 }
 
-impl PlaceTest for ApartTest<'_> {
-    ghost use Rattle.std.specs.Prelude.{◌+◌, length, map, take};
-    ghost use Rattle.collate_lines.specs.Record.{said};
-    ghost use Rattle.collate_rules.specs.GivenWeights.{BreakApart};
-
-    ghost count = { λ test. length test.records.now };
-
-    ghost Holds = { λ test i. BreakApart (take (i + 1) (map said test.records.now)) };
-
-    fn holds(&self, alloc: Global, place: usize) -> Result<bool, AllocError> {
-        let yes = break_apart(alloc, &self.records[..place + 1])?;
-        Ok(yes)
+impl ApartTest {
+    /// The test for these lines. Fails only when out of memory.
+    fn new(alloc: Global, records: &[Record]) -> Result<ApartTest, AllocError>
+        ensures { IfOk result (λ test. HasPlaced (map said records.now) test) }
+    {
+        let placed = placed_elements(alloc, records)?;
+        let primaries = in_order(primaries_of(alloc, &placed)?)?;
+        let secondaries = in_order(secondaries_of(alloc, &placed)?)?;
+        let tertiaries = in_order(tertiaries_of(alloc, &placed)?)?;
+        Ok(ApartTest {
+            primaries,
+            secondaries,
+            tertiaries,
+            count: records.len(),
+        })
     }
 }
 
-/// Whether a weight of lines begins another on its level.
-fn break_apart(alloc: Global, lines: &[Record]) -> Result<bool, AllocError>
-    ensures { IfOk result (λ yes. IsTrue yes ↔ BreakApart (map said lines.now)) }
-{
-    let elements = given_elements(alloc, lines)?;
-    let apart = are_all_apart(alloc, elements.as_slice())?;
-    Ok(!apart)
+impl PlaceTest for ApartTest {
+    ghost use Rattle.std.specs.Prelude.{◌≡◌, false};
+    ghost use Rattle.collate_weight_rules.specs.PlacedWeights.{are_apart_to};
+
+    ghost count = { λ test. test.count };
+
+    ghost Holds = { λ test line. are_apart_to test line ≡ false };
+
+    fn holds(&self, alloc: Global, place: usize) -> Result<bool, AllocError> {
+        let primaries = are_apart_to(alloc, &self.primaries, place)?;
+        let secondaries = are_apart_to(alloc, &self.secondaries, place)?;
+        let tertiaries = are_apart_to(alloc, &self.tertiaries, place)?;
+        Ok(!are_all(primaries, secondaries, tertiaries))
+    }
 }
 
-/// Whether no weight of elements begins another on its level.
-fn are_all_apart(alloc: Global, elements: &[Element]) -> Result<bool, AllocError>
-    ensures { IfOk result (λ apart. apart ≡ are_all_apart elements.now) }
+/// Whether none of the weights that lines up to one give begins another one. Fails only when out of memory.
+fn are_apart_to(alloc: Global, weights: &[(u32, usize)], line: usize) -> Result<bool, AllocError>
+    ensures { IfOk result (λ apart. apart ≡ are_weights_apart (weights_to weights.now line)) }
 {
-    let primaries = are_apart(primaries_of(alloc, elements)?)?;
-    let secondaries = are_apart(secondaries_of(alloc, elements)?)?;
-    let tertiaries = are_apart(tertiaries_of(alloc, elements)?)?;
-    Ok(are_all(primaries, secondaries, tertiaries))
+    let apart = are_apart(weights_to(alloc, weights, line)?)?;
+    Ok(apart)
+}
+
+/// The weights that lines up to one give, in the order of these. Fails only when out of memory.
+fn weights_to(alloc: Global, weights: &[(u32, usize)], line: usize) -> Result<Vec<u32>, AllocError>
+    ensures { IfOk result (λ found. found.items ≡ weights_to weights.now line) }
+{
+    weights
+        .iter()
+        .filter(|placed| placed.1 <= line)
+        .map(|placed| placed.0)
+        .collect(alloc)
+}
+
+/// Weights in order, and those that are equal by their lines. Fails only when out of memory.
+fn in_order(mut weights: Vec<(u32, usize)>) -> Result<Vec<(u32, usize)>, AllocError>
+    ensures { IfOk result (λ sorted. IsPermutation weights.items sorted.items) }
+{
+    weights.sort()?;
+    Ok(weights)
 }
 
 /// Whether three answers are all yes.
@@ -72,29 +104,32 @@ fn are_all(primaries: bool, secondaries: bool, tertiaries: bool) -> bool
     primaries && secondaries && tertiaries
 }
 
-/// The primaries of elements.
-fn primaries_of(alloc: Global, elements: &[Element]) -> Result<Vec<u32>, AllocError>
-    ensures { IfOk result (λ weights. weights.items ≡ map (λ e. e.primary) elements.now) }
+/// The primaries of elements, each with its line.
+fn primaries_of(alloc: Global, placed: &[(Element, usize)]) -> Result<Vec<(u32, usize)>, AllocError>
+    ensures { IfOk result (λ weights. weights.items ≡ map (λ p. (p.0.primary, p.1)) placed.now) }
 {
-    elements.iter().map(|e| e.primary).collect(alloc)
-}
-
-/// The secondaries of elements, their leads where those of primaries are.
-fn secondaries_of(alloc: Global, elements: &[Element]) -> Result<Vec<u32>, AllocError>
-    ensures { IfOk result (λ weights. weights.items ≡ map (λ e. e.secondary * 2 ^ 16) elements.now) }
-{
-    elements
+    placed
         .iter()
-        .map(|e| e.secondary as u32 * 0x1_0000)
+        .map(|(e, line)| (e.primary, *line))
         .collect(alloc)
 }
 
-/// The tertiaries of elements, their leads where those of primaries are.
-fn tertiaries_of(alloc: Global, elements: &[Element]) -> Result<Vec<u32>, AllocError>
-    ensures { IfOk result (λ weights. weights.items ≡ map (λ e. e.tertiary * 2 ^ 16) elements.now) }
+/// The secondaries of elements, each with its line, their leads where those of primaries are.
+fn secondaries_of(alloc: Global, placed: &[(Element, usize)]) -> Result<Vec<(u32, usize)>, AllocError>
+    ensures { IfOk result (λ weights. weights.items ≡ map (λ p. (p.0.secondary * 2 ^ 16, p.1)) placed.now) }
 {
-    elements
+    placed
         .iter()
-        .map(|e| e.tertiary as u32 * 0x1_0000)
+        .map(|(e, line)| (e.secondary as u32 * 0x1_0000, *line))
+        .collect(alloc)
+}
+
+/// The tertiaries of elements, each with its line, their leads where those of primaries are.
+fn tertiaries_of(alloc: Global, placed: &[(Element, usize)]) -> Result<Vec<(u32, usize)>, AllocError>
+    ensures { IfOk result (λ weights. weights.items ≡ map (λ p. (p.0.tertiary * 2 ^ 16, p.1)) placed.now) }
+{
+    placed
+        .iter()
+        .map(|(e, line)| (e.tertiary as u32 * 0x1_0000, *line))
         .collect(alloc)
 }

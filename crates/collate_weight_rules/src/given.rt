@@ -4,6 +4,7 @@ ghost use Rattle.std.specs.Prelude.{◌≡◌, ◌++◌, map, IfOk, OnOk};
 ghost use Rattle.icu_collator_core.specs.PrimaryRanges.{range_of};
 ghost use Rattle.collate_lines.specs.Record.{said};
 ghost use Rattle.collate_rules.specs.GivenWeights.{elements_of, given_elements, given_ranges, ranges_of};
+ghost use Rattle.collate_weight_rules.specs.PlacedWeights.{placed_elements};
 
 use collate_lines::record::Record;
 use icu_collator_core::weight_rules::PrimaryRange;
@@ -31,6 +32,38 @@ pub(crate) fn given_elements(alloc: Global, lines: &[Record]) -> Result<Vec<Elem
         elements.extend_from_slice(elements_of(line))?;
     }
     Ok(elements)
+}
+
+/// The elements of lines, each with its line, which counts from 0.
+///
+/// Errors: `AllocError` where memory is refused.
+pub(crate) fn placed_elements(
+    alloc: Global,
+    lines: &[Record],
+) -> Result<Vec<(Element, usize)>, AllocError>
+    ensures { IfOk result (λ placed. placed.items ≡ placed_elements 0 (map said lines.now)) }
+{
+    let mut placed = Vec::new(alloc);
+    for line in 0..lines.len() {
+        push_placed(&mut placed, elements_of(&lines[line]), line)?;
+    }
+    Ok(placed)
+}
+
+/// Puts the elements of a line, each with the line, behind others.
+///
+/// Errors: `AllocError` where memory is refused.
+fn push_placed(
+    placed: &mut Vec<(Element, usize)>,
+    elements: &[Element],
+    line: usize,
+) -> Result<(), AllocError>
+    ensures { OnOk result (placed.new.items ≡ placed.old.items ++ map (λ e. (e, line)) elements.now) }
+{
+    for e in elements {
+        placed.push((*e, line))?;
+    }
+    Ok(())
 }
 
 /// The ranges of lines.

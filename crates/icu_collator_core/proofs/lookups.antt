@@ -3,6 +3,9 @@ pub mod AloneLemmas
 pub mod FoundTextLemmas
 pub mod JoinLemmas
 pub mod JoinedTextLemmas
+pub mod MarkRunLemmas
+pub mod MarksLeftLemmas
+pub mod MarkTextLemmas
 pub mod MatchLemmas
 pub mod MovedLemmas
 pub mod OpenTextLemmas
@@ -14,3 +17,4 @@ pub mod PrefixLemmas
 pub mod ReadMarkLemmas
 pub mod SaidLemmas
 pub mod LookedUpTextLemmas
+pub mod ToldPrefixLemmas

@@ -8,3 +8,4 @@ pub mod StatedWordLemmas
 pub mod CountingWordLemmas
 pub mod AcceptedWeightLemmas
 pub mod AcceptedPrefixLemmas
+pub mod AcceptedMarkLemmas

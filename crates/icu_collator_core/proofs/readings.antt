@@ -12,6 +12,7 @@ pub mod FlatPartLemmas
 pub mod FlatReadLemmas
 pub mod FlatStepLemmas
 pub mod CollationNoteLemmas
+pub mod MarkReadLemmas
 pub mod MovedMarkLemmas
 pub mod ReachedLemmas
 pub mod ReaderLemmas
@@ -19,5 +20,7 @@ pub mod ReadingLeftLemmas
 pub mod SamenessLemmas
 pub mod SoundElementsLemmas
 pub mod SplitAtBoundaryLemmas
+pub mod StretchLemmas
 pub mod ReadStepLemmas
 pub mod UpcomingLemmas
+pub mod ToldListLemmas

@@ -89,6 +89,13 @@ pub record IsReadInOrder (source : CollationSource) (numeric : Option ℕ) (list
   pub order : StandInOrder (canonical_by source).class 0 list
   pub last : class ≤ 255 → last_class (canonical_by source).class 0 list ≡ class
 
+-- the full list of a character begins with a boundary
+pub record BeginsApart (source : CollationSource) (numeric : Option ℕ) (c : ℕ) : Type 0 where
+  pub first : ℕ
+  pub rest : List ℕ
+  pub full : (canonical_by source).full c ≡ first ∷ rest
+  pub apart : IsBoundaryApart source numeric first
+
 -- ## Notes
 
 -- A character that stands behind others, the last with a class, has these elements, where what follows may stand behind another

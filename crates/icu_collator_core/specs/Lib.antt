@@ -25,6 +25,7 @@ pub mod WeightFaults
 pub mod WholeLeads
 pub mod ReorderingTests
 pub mod SpelledTests
+pub mod Stretches
 pub mod WordWeights
 pub mod PrefixFaults
 pub mod WeightLists
@@ -35,6 +36,7 @@ pub mod Acceptance
 pub mod ReadWords
 pub mod ReadTexts
 pub mod ElementLists
+pub mod MarkRuns
 pub mod MovedMarks
 pub mod PlainWords
 pub mod AlikeLists

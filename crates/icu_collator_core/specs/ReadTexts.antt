@@ -1,5 +1,5 @@
 -- Recorded texts that begin with a character, by what stands behind it.
-use Rattle.std.specs.Prelude.{◌≡◌, ℕ, ◌+◌, cond, ltb, List, length, take, reverse, flat_map, Option, Some, None, option_map}
+use Rattle.std.specs.Prelude.{◌≡◌, ℕ, ◌+◌, cond, ltb, ◌++◌, List, length, take, reverse, flat_map, Option, Some, None, option_map}
 use Rattle.std.specs.Int.{cast_unsigned, w32}
 use Rattle.std.specs.Option.{is_some, option_and_then, unwrap_or}
 use Rattle.icu_char16trie.specs.Cursors.{cursor_state, cursor_units, follow, units_of, value_of_key}
@@ -47,6 +47,10 @@ length_with text = unwrap_or (option_map (λ t. t.behind + 1) text) 1
 -- the characters that stand directly before a place of a list, the nearest first, as many as a prefix may have
 abbrev pub characters_before : List ℕ → ℕ → List ℕ
 characters_before list place = take longest_prefix (reverse (take place list))
+
+-- the same where others stand before the list, the nearest first
+abbrev pub characters_behind : List ℕ → List ℕ → ℕ → List ℕ
+characters_behind further list place = take longest_prefix (reverse (take place list) ++ further)
 
 -- the longest recorded prefix of a word, by the characters before its own, the nearest first
 unfoldable pub prefixed_by : TableWord → List ℕ → Option LongerText

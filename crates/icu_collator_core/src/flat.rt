@@ -5,7 +5,7 @@ ghost use Rattle.std.specs.Iterator.{IsFinite};
 ghost use Rattle.icu_normalizer_core.specs.Iter.{Spells};
 ghost use Rattle.icu_collator_core.specs.ElementLists.{unpacked};
 ghost use Rattle.icu_collator_core.specs.ElementTexts.{text_elements};
-ghost use Rattle.icu_collator_core.specs.FlatNotes.{IsPushed};
+ghost use Rattle.icu_collator_core.specs.FlatNotes.{IsFlatNote, IsPushed};
 
 mod boundaries;
 mod flat_elements;
@@ -13,6 +13,7 @@ mod listed;
 pub(crate) mod notes;
 pub(crate) mod pages;
 mod steps;
+mod stretches;
 
 use crate::checked::CheckedTables;
 pub use flat_elements::FlatElements;
@@ -58,6 +59,17 @@ impl CheckedTables<'_> {
         }
         let trail = note.push(numeric, before, elements)?;
         Some(trail)
+    }
+
+    /// By what a character is read flat.
+    #[inline(always)]
+    fn read_note(&self, c: char) -> FlatNote
+        ensures { IsFlatNote self.now c result }
+    {
+        match self.flat_note(c) {
+            Some(note) => *note,
+            None => self.find_note(c),
+        }
     }
 
     /// Reads the text that an iterator gives into an empty list, if it is flat: each of its characters has a full list (UAX 15)

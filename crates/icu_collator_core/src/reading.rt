@@ -5,6 +5,7 @@ pub(crate) mod checked_words;
 pub(crate) mod decomposing;
 pub(crate) mod digits;
 pub(crate) mod joining;
+pub(crate) mod mark_runs;
 pub(crate) mod marks;
 pub(crate) mod next;
 pub(crate) mod numbers;

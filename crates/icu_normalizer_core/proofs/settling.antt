@@ -4,4 +4,5 @@ pub mod SettledLemmas
 pub mod SettlingLemmas
 pub mod DepthLemmas
 pub mod LeftLemmas
+pub mod MappingDepthLemmas
 pub mod TripleLemmas

@@ -1,6 +1,6 @@
 -- Maps of the first mapping that is given for each character.
 use denote.Ref.{Bor}
-use Rattle.std.specs.Prelude.{◌≡◌, ℕ, List, [], Option, Some, None, option_copied}
+use Rattle.std.specs.Prelude.{◌≡◌, ℕ, ◌<◌, List, [], length, slice_get, Option, Some, None, MatchOption, option_copied}
 use Rattle.std.specs.BTreeMap.{BTreeMap, get}
 use Rattle.std.specs.Ordering.{nat_cmp}
 use Rattle.icu_normalizer_core.specs.declared.canonical.builder.GivenCompatibility.{GivenCompatibility}
@@ -15,6 +15,11 @@ HasFirstMappings mappings firsts = (c : ℕ) → get nat_cmp firsts c ≡ first_
 -- a map has the first compatibility mapping of each character
 abbrev pub HasFirstCompatibilities : List GivenCompatibility → BTreeMap ℕ (Bor GivenCompatibility) → Type 0
 HasFirstCompatibilities given firsts = (c : ℕ) → option_copied (get nat_cmp firsts c) ≡ first_given given c
+
+-- a map has the place of the first compatibility mapping of each character
+abbrev pub HasFirstPlaces : List GivenCompatibility → BTreeMap ℕ ℕ → Type 0
+HasFirstPlaces given places =
+    (c : ℕ) → MatchOption (get nat_cmp places c) (first_given given c ≡ None) (λ place. (place < length given) × (first_given given c ≡ slice_get given place))
 
 -- the characters of a compatibility mapping, none without one
 abbrev pub mapping_of : Option GivenCompatibility → List ℕ

@@ -12,11 +12,12 @@ use Rattle.icu_normalizer_core.specs.declared.canonical.check.left.Left.{Left}
 use Rattle.icu_normalizer_core.specs.BuiltIn.{built_in_compatibility_step, built_in_step, is_built_in}
 use Rattle.icu_normalizer_core.specs.Canonical.{Leaves, IsFree}
 use Rattle.icu_normalizer_core.specs.CanonicalFaults.{IsAccepted}
+use Rattle.icu_normalizer_core.specs.CanonicalMaps.{first_mapping}
 use Rattle.icu_normalizer_core.specs.CanonicalMeaning.{lists_of, meaning}
 use Rattle.icu_normalizer_core.specs.CanonicalWords.{is_word, is_inside, class_of_word, full_of_word}
 use Rattle.icu_normalizer_core.specs.CharacterWords.{HasRightWords, built_in_named, unnamed_word}
 use Rattle.icu_codepointtrie.specs.CodePointMaps.{CodePointMap}
-use Rattle.icu_normalizer_core.specs.CompatibilityMaps.{all_steps, first_given}
+use Rattle.icu_normalizer_core.specs.CompatibilityMaps.{HaveOneCompatibility, all_steps, first_given}
 use Rattle.icu_normalizer_core.specs.GivenCompatibilities.{IsOfCharacters}
 use Rattle.icu_normalizer_core.specs.ListRoom.{list_room}
 use Rattle.icu_normalizer_core.specs.Settled.{left_items, IsAmong}
@@ -29,6 +30,12 @@ steps_in over = all_steps (meaning over.tables.now).step over.given.now
 -- each mapping that is given stands on a starter, what is built in aside
 abbrev pub AreOnStarters : (ℕ → ℕ) → List GivenCompatibility → Type 0
 AreOnStarters class given = All (λ g. is_built_in g.character ≡ false → class g.character ≡ 0) given
+
+-- each character that is given has one mapping, of one kind, and stands on a starter
+pub record KeepOneMapping (mappings : List GivenMapping) (class : ℕ → ℕ) (given : List GivenCompatibility) : Type 0 where
+  pub one_mapping : HaveOneCompatibility given
+  pub apart : All (λ g. is_built_in g.character ≡ false → first_mapping mappings g.character ≡ None) given
+  pub starters : AreOnStarters class given
 
 -- mappings of characters on starters, over accepted tables
 pub record IsSound (over : Mappings) : Type 0 where

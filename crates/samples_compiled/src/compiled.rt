@@ -3,6 +3,7 @@
 use crate::held::HeldCollation;
 use collate_provider::Provider;
 use collate_records::compile::compile;
+use collate_records::limits::Limits;
 use collate_records::records::Records;
 use icu_codepointtrie::TrieType;
 use icu_collator_core::checked::CheckedTables;
@@ -10,9 +11,9 @@ use icu_collator_core::tables::CollationTables;
 use icu_normalizer_core::canonical::{CanonicalData, CanonicalTables};
 use std::alloc::Global;
 
-/// A provider of what the lines are compiled to.
+/// A provider of what the lines, read within `Limits::UNICODE`, are compiled to.
 fn compiled(alloc: Global, lines: &str, trie_type: TrieType) -> Option<Provider> {
-    match Records::read(alloc, lines.as_bytes()) {
+    match Records::read_within(alloc, lines.as_bytes(), Limits::UNICODE) {
         Ok(records) => compile(alloc, &records, trie_type).ok(),
         Err(_) => None,
     }

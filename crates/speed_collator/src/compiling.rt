@@ -2,13 +2,14 @@
 
 use crate::clock::{nanoseconds, time_between};
 use collate_records::compile::compile;
+use collate_records::limits::Limits;
 use collate_records::records::Records;
 use icu_codepointtrie::TrieType;
 
 /// The nanoseconds that reading a file takes, and letting go of what was read.
 fn read_once(rt: &HostRuntime, file: &str) -> Option<u64> {
     let before = nanoseconds(rt);
-    let is_read = Records::read(rt.alloc(), file.as_bytes()).is_ok();
+    let is_read = Records::read_within(rt.alloc(), file.as_bytes(), Limits::UNICODE).is_ok();
     let after = nanoseconds(rt);
     if is_read {
         time_between(before, after)
@@ -69,7 +70,7 @@ fn measure_compiling_records(rt: &HostRuntime, records: &Records, rounds: u32) -
 /// either type; `None` where the file is refused, or memory is.
 pub fn measure_compiling(rt: &HostRuntime, file: &str, rounds: u32) -> Option<()> {
     measure_reading(rt, file, rounds)?;
-    match Records::read(rt.alloc(), file.as_bytes()) {
+    match Records::read_within(rt.alloc(), file.as_bytes(), Limits::UNICODE) {
         Ok(records) => measure_compiling_records(rt, &records, rounds),
         Err(_) => None,
     }

@@ -3,7 +3,8 @@
 //!
 //! `speed_collator RECORDS NAMES` prints how many keys of names are written in a second (`keys`), how many pairs of names are
 //! compared, each name with one far from it (`cmp_random`), and each with the next in the order of their keys
-//! (`cmp_near`): the best of three rounds at strength Tertiary, over the lines of a file of names.
+//! (`cmp_near`): the best of three rounds at strength Tertiary, over the lines of a file of names. An empty line ends a list
+//! of names, and the next is measured in turn, over the same tables.
 //!
 //! `speed_collator RECORDS NAMES TASK ROUNDS [OPTION=VALUE]..` prints the best of so many rounds. TASK is one of:
 //!

@@ -11,6 +11,9 @@ use std::alloc::Global;
 use std::cmp::Ordering;
 
 /// The bytes of the keys of all names together, each written to the same vector.
+///
+/// (a function of its own in the executable, so that a profiler sees where a round begins and ends)
+#[inline(never)]
 fn write_keys<N: Name>(
     collator: &CollatorBorrowed<'_>,
     alloc: Global,
@@ -47,6 +50,9 @@ fn measure_keys<N: Name>(
 }
 
 /// How many of these pairs are below one another.
+///
+/// (a function of its own, as `write_keys` is)
+#[inline(never)]
 fn compare_pairs<N: Name>(
     collator: &CollatorBorrowed<'_>,
     alloc: Global,
@@ -126,7 +132,22 @@ fn measure<N: Name>(
     Some(())
 }
 
-/// The same of the lines of a file in UTF-8; of one in UTF-16, low bytes first, where the task ends in 16.
+/// The same of each list of names of a file in UTF-8.
+fn measure_lists(
+    rt: &HostRuntime,
+    collator: &CollatorBorrowed<'_>,
+    file: &str,
+    task: &str,
+    rounds: u32,
+) -> Option<()> {
+    for list in file.split("\n\n") {
+        let names: Vec<&str> = list.lines().collect(rt.alloc()).ok()?;
+        measure(rt, collator, &names, task, rounds)?;
+    }
+    Some(())
+}
+
+/// The same of the lists of a file in UTF-8; of the lines of one in UTF-16, low bytes first, where the task ends in 16.
 fn measure_lines(
     rt: &HostRuntime,
     collator: &CollatorBorrowed<'_>,
@@ -140,11 +161,7 @@ fn measure_lines(
             let names = unit_lines(rt.alloc(), &units)?;
             measure(rt, collator, &names, task, rounds)
         }
-        None => {
-            let lines = str::from_utf8(file).ok()?.lines();
-            let names: Vec<&str> = lines.collect(rt.alloc()).ok()?;
-            measure(rt, collator, &names, task, rounds)
-        }
+        None => measure_lists(rt, collator, str::from_utf8(file).ok()?, task, rounds),
     }
 }
 

@@ -13,6 +13,8 @@ mod names;
 #[cfg(test)]
 mod option_words;
 #[cfg(test)]
+mod over;
+#[cfg(test)]
 mod reloads;
 #[cfg(test)]
 mod runs;

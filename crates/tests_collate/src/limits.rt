@@ -11,6 +11,7 @@ use collate_run::setup::{Limits, Setup};
 use collate_run::watched::Watched;
 use std::alloc::{AllocError, Global};
 use std::io;
+use std::random::RandomSource;
 use std::test::Fail;
 
 /// Lines of records, each of a text of its own: of one character, or of two of few characters.
@@ -136,14 +137,18 @@ fn served(
     limits: Limits,
     file: io::Result<&[u8]>,
     has_input: bool,
+    commands: &[u8],
 ) -> Result<(u8, Vec<u8>, Vec<u8>), Fail> {
     let words = words_of(alloc, &["a.records"])?;
     let (mut written, mut told) = (Vec::new(alloc), Vec::new(alloc));
-    let mut reader = Watched::new(b"add a\nlist\n".as_slice());
+    let mut reader = Watched::new(commands);
     let mut writer = Watched::new(&mut written);
     let status = serve_words(
         alloc,
-        Setup { limits },
+        Setup {
+            limits,
+            ..Setup::STANDARD
+        },
         &words,
         |_: &str| file,
         has_input,
@@ -168,7 +173,7 @@ fn the_program_reads_one_byte_past_the_limit(rt: HostRuntime) -> Result<(), Fail
         (b"w 4E00 ;\n\n\n\nx\n", 1, b"collate: refused 4 grammar\n"),
     ];
     for (file, status, text) in rows {
-        let answer = served(alloc, limits, Ok(file), true)?;
+        let answer = served(alloc, limits, Ok(file), true, b"add a\nlist\n")?;
         assert_eq!(rt; answer.0, status);
         assert_eq!(rt; answer.2.as_slice(), text);
     }
@@ -178,15 +183,59 @@ fn the_program_reads_one_byte_past_the_limit(rt: HostRuntime) -> Result<(), Fail
 #[test]
 fn want_of_an_input_is_told_behind_faults_of_the_file(rt: HostRuntime) -> Result<(), Fail> {
     let alloc = rt.alloc();
-    let memory = served(alloc, Limits::STANDARD, Ok(LETTERS), false)?;
+    let memory = served(alloc, Limits::STANDARD, Ok(LETTERS), false, b"list\n")?;
     assert_eq!(rt; memory.0, 1);
     assert_eq!(rt; memory.2.as_slice(), b"collate: memory\n".as_slice());
     let lacking = io::Error::from(io::ErrorKind::NotFound);
-    let unreadable = served(alloc, Limits::STANDARD, Err(lacking), false)?;
+    let unreadable = served(alloc, Limits::STANDARD, Err(lacking), false, b"list\n")?;
     assert_eq!(rt; unreadable.0, 1);
     assert_eq!(rt;
         unreadable.2.as_slice(),
         b"collate: cannot read a.records\n".as_slice()
     );
     Ok(())
+}
+
+#[test]
+fn a_reload_takes_lines_past_its_limit(rt: HostRuntime) -> Result<(), Fail> {
+    let alloc = rt.alloc();
+    let limits = Limits {
+        bytes: 11,
+        code_points: 1,
+        records: 1,
+    };
+    let rows: [(&[u8], &[u8]); 3] = [
+        (b"reload 3\nw 4E00 ;\n\n\nlist\n", b"reloaded 0\nnames 0\n"),
+        (
+            b"reload 4\nw 4E00 ;\n\n\n\nlist\n",
+            b"refused 4 grammar\nnames 0\n",
+        ),
+        (
+            b"reload 7\nw 4E00 ;\n\n\n\nx\nx\nlist\nlist\n",
+            b"refused 4 grammar\nnames 0\n",
+        ),
+    ];
+    for (commands, replies) in rows {
+        let answer = served(alloc, limits, Ok(b"".as_slice()), true, commands)?;
+        assert_eq!(rt; answer.0, 0);
+        assert_eq!(rt; answer.1.as_slice(), replies);
+    }
+    Ok(())
+}
+
+/// A source that has no random bytes.
+struct NoSource;
+
+impl RandomSource for NoSource {
+    fn fill_bytes(&self, _: &mut [u8]) -> io::Result<()> {
+        Err(io::Error::from(io::ErrorKind::Unsupported))
+    }
+}
+
+#[test]
+fn ok_seeded(rt: HostRuntime) {
+    assert_eq!(rt; Setup::UNICODE.seeded(&NoSource), Setup::UNICODE);
+    let setup = Setup::UNICODE.seeded(&rt);
+    assert_eq!(rt; setup.limits, Limits::UNICODE);
+    assert!(rt; setup.seed != Setup::UNICODE.seed);
 }

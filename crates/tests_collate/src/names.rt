@@ -1,9 +1,9 @@
 //! Names over a small records file: what an index and a run answer. Expected values come from the specification's worked
 //! examples, and from an independent reading of the file format.
 
-use collate_index::IndexKey;
 use collate_index::collators::collator_of;
 use collate_index::index::{Absent, AddError, Index};
+use collate_index::{FIXED_SEED, IndexKey};
 use collate_records::records::Records;
 use icu_collator_types::options::{
     AlternateHandling, CollationNumericOrdering, CollatorOptions, CollatorPreferences, Strength,
@@ -84,6 +84,23 @@ fn ok_new(rt: HostRuntime) -> Result<(), Fail> {
     assert!(rt; index.is_empty());
     assert_eq!(rt; index.len(), 0);
     assert!(rt; lists(&index, &[]));
+    Ok(())
+}
+
+#[test]
+fn ok_with_seed(rt: HostRuntime) -> Result<(), Fail> {
+    let alloc = rt.alloc();
+    for seed in [0, FIXED_SEED, u64::MAX] {
+        let records = Records::read(alloc, LETTERS)?;
+        let mut index = Index::with_seed(alloc, records, &PREFERENCES, &PRIMARY, seed)?;
+        assert!(rt; index.add(b"ch").is_ok());
+        assert!(rt; index.add(b"ab").is_ok());
+        assert!(rt; matches!(index.add(b"ch"), Err(AddError::Duplicate)));
+        assert!(rt; lists(&index, &[b"ab", b"ch"]));
+        assert_eq!(rt; index.remove(b"ch"), Ok(()));
+        assert_eq!(rt; index.remove(b"ch"), Err(Absent));
+        assert!(rt; lists(&index, &[b"ab"]));
+    }
     Ok(())
 }
 

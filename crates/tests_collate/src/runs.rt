@@ -73,6 +73,27 @@ fn ok_run(rt: HostRuntime) {
 }
 
 #[test]
+fn ok_run_with_seed(rt: HostRuntime) -> Result<(), Fail> {
+    let alloc = rt.alloc();
+    let records = Records::read(alloc, b"")?;
+    let mut written = Vec::new(alloc);
+    let mut reader = Watched::new(TEXT);
+    let mut writer = Watched::new(&mut written);
+    let result = run::run_with_seed(
+        alloc,
+        records,
+        &PREFERENCES,
+        &OPTIONS,
+        7,
+        &mut reader,
+        &mut writer,
+    );
+    assert_eq!(rt; result, Ok(()));
+    assert_eq!(rt; written.as_slice(), REPLIES);
+    Ok(())
+}
+
+#[test]
 fn run_ends_where_a_read_fails(rt: HostRuntime) {
     let alloc = rt.alloc();
     // How many bytes are read, and how many bytes of replies their whole commands get.
@@ -185,6 +206,29 @@ fn assert_served(
     let status = serve::serve(alloc, choice, file, &mut reader, &mut writer, &mut errors);
     assert_eq!(rt; status, wanted.0);
     assert_eq!(rt; errors.as_slice(), wanted.1);
+}
+
+#[test]
+fn ok_serve(rt: HostRuntime) -> Result<(), Fail> {
+    let alloc = rt.alloc();
+    let words = words_of(alloc, &["a.records"])?;
+    let choice = Choice::read(&words);
+    let (mut written, mut errors) = (Vec::new(alloc), Vec::new(alloc));
+    let mut reader = Watched::new(TEXT);
+    let mut writer = Watched::new(&mut written);
+    let file: Result<&[u8], FileFault> = Ok(b"");
+    let status = serve::serve(
+        alloc,
+        choice.as_ref(),
+        file,
+        &mut reader,
+        &mut writer,
+        &mut errors,
+    );
+    assert_eq!(rt; status, 0);
+    assert_eq!(rt; written.as_slice(), REPLIES);
+    assert_eq!(rt; errors.as_slice(), b"".as_slice());
+    Ok(())
 }
 
 #[test]

@@ -3,19 +3,20 @@
 ghost use Rattle.std.specs.Prelude.{◌<◌};
 
 use collate_hashes::HashList;
-use collate_hashes::hashing::hash_of;
+use collate_hashes::hashing::{FIXED_SEED, hash_of};
 use std::alloc::{AllocError, Global};
 use std::test::Fail;
 
-// by powers of 1,099,511,628,211 modulo 2^64, in Python
+// by powers of the point modulo 4,294,967,291, in Python
 #[test]
 fn ok_hash_of(rt: HostRuntime) {
-    assert_eq!(rt; hash_of(b""), 1);
-    assert_eq!(rt; hash_of(b"a"), 97);
-    assert_eq!(rt; hash_of(b"ab"), 106_652_627_936_565);
+    assert_eq!(rt; hash_of(7, b""), 1);
+    assert_eq!(rt; hash_of(7, b"a"), 99);
+    assert_eq!(rt; hash_of(7, b"ab"), 786);
+    assert_eq!(rt; hash_of(FIXED_SEED, b"ab"), 1_578_635_678);
     assert_eq!(rt;
-        hash_of(b"a name of more than eight bytes"),
-        6_068_066_113_866_566_447
+        hash_of(FIXED_SEED, b"a name of more than eight bytes"),
+        3_108_687_587
     );
 }
 
@@ -30,7 +31,7 @@ fn put(list: &mut HashList, hash: usize) -> Result<(), AllocError>
 
 #[test]
 fn ok_push(rt: HostRuntime) -> Result<(), Fail> {
-    let mut list = HashList::new(rt.alloc());
+    let mut list = HashList::new(rt.alloc(), FIXED_SEED);
     assert_eq!(rt; list.last_before(7, 3), None);
     put(&mut list, 7)?;
     put(&mut list, 5)?;
@@ -52,7 +53,7 @@ fn ok_push(rt: HostRuntime) -> Result<(), Fail> {
 
 #[test]
 fn ok_reserve(rt: HostRuntime) -> Result<(), Fail> {
-    let mut list = HashList::new(rt.alloc());
+    let mut list = HashList::new(rt.alloc(), FIXED_SEED);
     list.reserve()?;
     assert!(rt; list.is_empty());
     list.push(3);
@@ -64,7 +65,7 @@ fn ok_reserve(rt: HostRuntime) -> Result<(), Fail> {
 
 #[test]
 fn ok_same_before(rt: HostRuntime) -> Result<(), Fail> {
-    let mut list = HashList::new(rt.alloc());
+    let mut list = HashList::new(rt.alloc(), FIXED_SEED);
     for hash in [7, 16, 7, 25] {
         put(&mut list, hash + 1)?;
     }
@@ -88,7 +89,7 @@ fn plain_last(plain: &[usize], hash: usize, end: usize) -> Option<usize> {
 
 /// So many hashes, of few values, some of them taken out.
 fn put_in(alloc: Global, count: usize) -> Result<(HashList, Vec<usize>), AllocError> {
-    let mut list = HashList::new(alloc);
+    let mut list = HashList::new(alloc, FIXED_SEED);
     let mut plain = Vec::new(alloc);
     for step in 0..count {
         let hash = step.wrapping_mul(step) % 37 + 1;

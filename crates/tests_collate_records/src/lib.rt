@@ -6,6 +6,8 @@ mod changes;
 #[cfg(test)]
 mod compile;
 #[cfg(test)]
+mod join;
+#[cfg(test)]
 mod limits;
 #[cfg(test)]
 mod reader;

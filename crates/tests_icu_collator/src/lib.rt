@@ -9,4 +9,10 @@ mod failing_sinks;
 #[cfg(test)]
 mod long_keys;
 #[cfg(test)]
+mod relations;
+#[cfg(test)]
+mod root_keys;
+#[cfg(test)]
+mod root_weights;
+#[cfg(test)]
 mod sinks;

@@ -33,6 +33,15 @@ fn flat(checked: &CheckedTables<'_>, numeric: Option<u8>, text: &str) -> Option<
     }
 }
 
+/// Whether elements have these bits.
+fn are(elements: &[CollationElement], expected: &[u64]) -> bool {
+    elements.len() == expected.len()
+        && elements
+            .iter()
+            .zip(expected)
+            .all(|(element, bits)| *element == CollationElement::new(*bits))
+}
+
 /// Whether a text is read flat and has these elements.
 fn has_elements(alloc: Global, numeric: Option<u8>, text: &str, expected: &[u64]) -> bool {
     let Some(checked) = checked_tables(alloc, RECORDS, TrieType::Small) else {
@@ -41,12 +50,7 @@ fn has_elements(alloc: Global, numeric: Option<u8>, text: &str, expected: &[u64]
     let Some(elements) = flat(&checked, numeric, text) else {
         return false;
     };
-    elements.as_slice().len() == expected.len()
-        && elements
-            .as_slice()
-            .iter()
-            .zip(expected)
-            .all(|(element, bits)| *element == CollationElement::new(*bits))
+    are(elements.as_slice(), expected)
 }
 
 /// Whether a text isn't read flat.
@@ -89,6 +93,43 @@ fn ok_read_flat(rt: HostRuntime) {
             &[0x2a70_0000_0500_0500, 0x8600_0500]
         )
     );
+}
+
+/// Whether a text is read by stretches into room for three, and has these elements.
+fn has_stretches(alloc: Global, text: &str, expected: &[u64]) -> bool {
+    let Some(checked) = checked_tables(alloc, RECORDS, TrieType::Small) else {
+        return false;
+    };
+    let mut elements = FlatElements::<3>::new();
+    let Ok(true) = checked.read_stretches(alloc, None, text.chars(), &mut elements) else {
+        return false;
+    };
+    are(elements.as_slice(), expected)
+}
+
+#[test]
+fn ok_read_stretches(rt: HostRuntime) {
+    let alloc = rt.alloc();
+    assert!(rt; has_stretches(alloc, "", &[]));
+    assert!(rt;
+        has_stretches(
+            alloc,
+            "abca",
+            &[
+                0x2a10_0000_0500_0500,
+                0x2a40_0000_0500_0500,
+                0x2a10_0000_0500_0500
+            ]
+        )
+    );
+    assert!(rt;
+        has_stretches(
+            alloc,
+            "a\u{300}\u{316}",
+            &[0x2a10_0000_0500_0500, 0x8800_0500, 0x8600_0500]
+        )
+    );
+    assert!(rt; !has_stretches(alloc, "bcaaa", &[0x2a40_0000_0500_0500]));
 }
 
 #[test]

@@ -1,19 +1,20 @@
 -- A set of the texts with which something is said, with one more.
 use Rattle.std.proofs.Common.{◌≡◌, ℕ, Bool, true, false, cond, not, ◌||◌, List, [], ◌∷◌, ◌++◌, refl, sym, ap, ◌∙◌, Bor}
 use Rattle.std.specs.Prelude.{bytes_eq}
-use Rattle.std.specs.HashSet.{HashSet, contains, PutsKey}
+use Rattle.std.specs.declared.cmp.Ordering.{Ordering}
+use Rattle.std.specs.declared.cmp.Ordering.TheVariants.{Equal}
+use Rattle.std.specs.BTreeSet.{BTreeSet, contains, insert_key}
+use Rattle.std.specs.Cmp.Lexicographic.{slice_cmp}
 use Rattle.std.specs.List.{list_any}
+use Rattle.std.specs.Ordering.{is_eq, nat_cmp}
 use Rattle.std.proofs.lemmas.Cmp.{nat_list_eq_equiv}
 use Rattle.std.proofs.lemmas.List.Folds.{list_any-append}
-use Rattle.std.proofs.lemmas.List.Sorted.{list_any-IsPermutation}
+use Rattle.std.proofs.lemmas.Map.Text.{is_eq-slice_cmp}
 use Rattle.std.proofs.lemmas.Slice.Eq.{bytes_eq-Decides}
 use Rattle.std.proofs.Math.Bool.{or-false, or-true}
+use Rattle.collate_lines.proofs.reading.KeyLemmas.{any_inserted}
 use Rattle.collate_words.specs.Sayings.{SaidBeside}
 use Rattle.collate_compile.specs.BesideLines.{HasTexts, has_beside, with_beside}
-
-or_turned : (a b : Bool) → (a || b) ≡ (b || a)
-or_turned true b = sym (or-true b)
-or_turned false b = sym (or-false b)
 
 any_same : {A : Type 0} (p q : A → Bool) (xs : List A) → ((x : A) → p x ≡ q x) → list_any p xs ≡ list_any q xs
 any_same p q [] same = refl
@@ -45,45 +46,26 @@ has_with saids said cs = by (has_beside saids said.characters) refl
         list_any-append (λ (other : SaidBeside). bytes_eq other.characters cs) saids (said ∷ [])
         ∙ ap (λ (b : Bool). has_beside saids cs || b) (or-false (bytes_eq said.characters cs))
 
-abbrev pub is_same_text : Bor (List ℕ) → Bor (List ℕ) → Bool
-is_same_text x y = bytes_eq x.now y.now
+-- how texts are ordered
+abbrev pub text_cmp : Bor (List ℕ) → Bor (List ℕ) → Ordering
+text_cmp x y = slice_cmp nat_cmp x.now y.now
 
-module _ {S : Type 0} (old new : HashSet (Bor (List ℕ)) S) (text : Bor (List ℕ)) (is_new : Bool)
-    (is : is_new ≡ not (contains is_same_text old text)) (puts : PutsKey old new text is_new) where
+module _ (old new : BTreeSet (Bor (List ℕ))) (text : Bor (List ℕ)) (is_new : Bool)
+    (is : is_new ≡ not (contains text_cmp old text)) (puts : new.keys ≡ insert_key text_cmp old.keys text) where
   -- whether a text is there, after one more
   there_with : (cs : List ℕ)
       → list_any (λ t. bytes_eq t.now cs) new.keys ≡ (list_any (λ t. bytes_eq t.now cs) old.keys || bytes_eq text.now cs)
-  there_with cs = by is_new is puts
+  there_with cs = ap (list_any (λ t. bytes_eq t.now cs)) puts ∙ any_inserted text_cmp (λ t. bytes_eq t.now cs) text same old.keys
     where
-      old_there : contains is_same_text old text ≡ true → bytes_eq text.now cs ≡ true → list_any (λ t. bytes_eq t.now cs) old.keys ≡ true
-      old_there h e =
-          any_same (λ t. bytes_eq t.now cs) (is_same_text text) old.keys
-          (λ t. ap (bytes_eq t.now) (sym ((bytes_eq-Decides text.now cs).0 e)) ∙ nat_list_eq_equiv.symm t.now text.now)
-          ∙ h
-
-      not_not : (b : Bool) → false ≡ not b → b ≡ true
-      not_not true e = refl
-      not_not false e = absurd (cc)
-
-      stays : contains is_same_text old text ≡ true → (b : Bool) → bytes_eq text.now cs ≡ b
-          → list_any (λ t. bytes_eq t.now cs) old.keys ≡ (list_any (λ t. bytes_eq t.now cs) old.keys || b)
-      stays h true e = old_there h e ∙ sym (or-true (list_any (λ t. bytes_eq t.now cs) old.keys))
-      stays h false e = sym (or-false (list_any (λ t. bytes_eq t.now cs) old.keys))
-
-      by : (b : Bool) → b ≡ not (contains is_same_text old text) → PutsKey old new text b
-          → list_any (λ t. bytes_eq t.now cs) new.keys ≡ (list_any (λ t. bytes_eq t.now cs) old.keys || bytes_eq text.now cs)
-      by true e moved =
-          sym (list_any-IsPermutation (λ t. bytes_eq t.now cs) (text ∷ old.keys) new.keys moved)
-          ∙ or_turned (bytes_eq text.now cs) (list_any (λ t. bytes_eq t.now cs) old.keys)
-      by false e same =
-          ap (list_any (λ t. bytes_eq t.now cs)) same
-          ∙ stays (not_not (contains is_same_text old text) e) (bytes_eq text.now cs) refl
+      same : (x : Bor (List ℕ)) → text_cmp text x ≡ Equal → bytes_eq text.now cs ≡ bytes_eq x.now cs
+      same x e = ap (λ (l : List ℕ). bytes_eq l cs) ((bytes_eq-Decides text.now x.now).0 (sym (is_eq-slice_cmp text.now x.now) ∙ ap is_eq e))
 
   module _ (saids : List SaidBeside) (said : SaidBeside) (same : text.now ≡ said.characters) (has : HasTexts old saids) where
     -- the text is new where nothing is said with it
     new_is : is_new ≡ not (has_beside saids said.characters)
     new_is =
-        is ∙ ap not (any_same (is_same_text text) (λ t. bytes_eq t.now text.now) old.keys (λ t. nat_list_eq_equiv.symm text.now t.now)
+        is ∙ ap not (any_same (λ t. is_eq (text_cmp text t)) (λ t. bytes_eq t.now text.now) old.keys
+        (λ t. is_eq-slice_cmp text.now t.now ∙ nat_list_eq_equiv.symm text.now t.now)
         ∙ ap (λ (cs : List ℕ). list_any (λ t. bytes_eq t.now cs) old.keys) same ∙ has said.characters)
 
     pub beside_with : with_beside saids said ≡ cond is_new (saids ++ said ∷ []) saids

@@ -1,19 +1,20 @@
 -- What was seen after one more line.
-use Rattle.std.proofs.Common.{◌≡◌, ℕ, Bool, true, false, not, ◌&&◌, ◌||◌, List, [], ◌∷◌, Vec, Global, Bor, refl, sym, ap, ◌∙◌, bytes_eq}
+use Rattle.std.proofs.Common.{◌≡◌, ℕ, Bool, true, false, not, ◌&&◌, ◌||◌, List, [], ◌∷◌, Bor, refl, sym, ap, ◌∙◌, bytes_eq}
 use Rattle.std.specs.List.{list_any}
+use Rattle.std.specs.BTreeSet.{insert_key}
 use Rattle.std.specs.HashSet.{HashSet, contains, PutsKey}
 use Rattle.std.specs.declared.hash.FoldHasher.{FoldHasher}
 use Rattle.std.specs.declared.hash.BuildHasherDefault.{BuildHasherDefault}
 use Rattle.std.proofs.lemmas.List.Sorted.{list_any-IsPermutation}
 use Rattle.std.proofs.lemmas.Slice.Eq.{bytes_eq-Decides}
 use Rattle.std.proofs.lemmas.Cmp.{nat_list_eq_equiv}
-use Rattle.std.proofs.lemmas.Bool.{and_parts}
 use Rattle.std.proofs.Math.Bool.{or-false, or-true}
 use Rattle.icu_collator_types.specs.declared.elements.Element.{Element}
 use Rattle.collate_lines.specs.declared.seen.Seen.{Seen}
 use Rattle.collate_lines.specs.Record.{Record, nothing, class, mapping, compatibility, weights, range, digit, setting, Setting, root, tailoring}
 use Rattle.collate_lines.specs.Repeats.{is_second, setting_name}
 use Rattle.collate_lines.specs.Seen.{is_seen}
+use Rattle.collate_lines.proofs.reading.KeyLemmas.{Key, Keys, has_key, key_cmp, key_put}
 
 not_not : (b : Bool) → false ≡ not b → b ≡ true
 not_not true e = refl
@@ -44,70 +45,47 @@ module _ {K : Type 0} (eq : K → K → Bool) (test : K → Bool) (k : K) (same 
       by true e = any_along old.keys (not_not (contains eq old k) is) e ∙ sym (ap (λ (c : Bool). list_any test old.keys || c) e ∙ or-true (list_any test old.keys))
       by false e = sym (ap (λ (c : Bool). list_any test old.keys || c) e ∙ or-false (list_any test old.keys))
 
--- a prefix and a text, as they are kept
-abbrev pub Key : Type 0
-Key = Vec ℕ Global × Vec ℕ Global
-
-abbrev pub Keys : Type 0
-Keys = HashSet Key (BuildHasherDefault FoldHasher)
-
 abbrev pub Names : Type 0
 Names = HashSet (Bor (List ℕ)) (BuildHasherDefault FoldHasher)
-
-abbrev pub is_same_key : Key → Key → Bool
-is_same_key x y = bytes_eq (x.0.items) (y.0.items) && bytes_eq (x.1.items) (y.1.items)
 
 abbrev pub is_same_name : Bor (List ℕ) → Bor (List ℕ) → Bool
 is_same_name x y = bytes_eq x.now y.now
 
-abbrev has_key : List ℕ → List ℕ → Key → Bool
-has_key prefix text key = bytes_eq prefix (key.0.items) && bytes_eq text (key.1.items)
-
-both_same : (a b c d : Bool) → a ≡ c → b ≡ d → (a && b) ≡ (c && d)
-both_same a b c d e f = ap (λ (x : Bool). x && b) e ∙ ap (λ (y : Bool). c && y) f
-
 -- a key more
-key_seen : (old new : Keys) (key : Key) (added : Bool) (prefix text p t : List ℕ) → key.0.items ≡ prefix → key.1.items ≡ text
-    → added ≡ not (contains is_same_key old key) → PutsKey old new key added
-    → list_any (has_key p t) new.keys ≡ (list_any (has_key p t) old.keys || (bytes_eq prefix p && bytes_eq text t))
-key_seen old new key added prefix text p t first second is puts =
-    puts_key is_same_key (has_key p t) key same old new added is puts
-    ∙ ap (λ (b : Bool). list_any (has_key p t) old.keys || b)
-    (both_same _ _ _ _ (nat_list_eq_equiv.symm p (key.0.items) ∙ ap (λ (l : List ℕ). bytes_eq l p) first) (nat_list_eq_equiv.symm t (key.1.items) ∙ ap (λ (l : List ℕ). bytes_eq l t) second))
-  where
-    same : (x : Key) → is_same_key key x ≡ true → has_key p t x ≡ has_key p t key
-    same x e =
-        let parts = and_parts (bytes_eq (key.0.items) (x.0.items)) _ e in
-        both_same _ _ _ _ (ap (λ (l : List ℕ). bytes_eq p l) (sym ((bytes_eq-Decides (key.0.items) (x.0.items)).0 parts.0)))
-        (ap (λ (l : List ℕ). bytes_eq t l) (sym ((bytes_eq-Decides (key.1.items) (x.1.items)).0 parts.1)))
+key_seen : (old new : Keys) (key : Key) (prefix text p t : List ℕ) → key.0.items ≡ prefix → key.1.items ≡ text → new.keys ≡ insert_key key_cmp old.keys key
+    → has_key new p t ≡ (has_key old p t || (bytes_eq prefix p && bytes_eq text t))
+key_seen old new key prefix text p t first second put =
+    key_put old new key prefix text first second put p t
+    ∙ ap (λ (b : Bool). has_key old p t || (b && bytes_eq t text)) (nat_list_eq_equiv.symm p prefix)
+    ∙ ap (λ (b : Bool). has_key old p t || (bytes_eq prefix p && b)) (nat_list_eq_equiv.symm t text)
 
 -- a w line more
-pub root_seen : (seen : Seen) (keys : Keys) (key : Key) (added : Bool) (prefix text : List ℕ) (es : List Element) → key.0.items ≡ prefix → key.1.items ≡ text
-    → added ≡ not (contains is_same_key seen.root key) → PutsKey seen.root keys key added
+pub root_seen : (seen : Seen) (keys : Keys) (key : Key) (prefix text : List ℕ) (es : List Element) → key.0.items ≡ prefix → key.1.items ≡ text
+    → keys.keys ≡ insert_key key_cmp seen.root.keys key
     → (other : Record) → is_seen (record seen { root = keys }) other ≡ (is_seen seen other || is_second (weights root prefix text es) other)
-root_seen seen keys key added prefix text es first second is puts nothing = refl
-root_seen seen keys key added prefix text es first second is puts (class c k) = sym (or-false _)
-root_seen seen keys key added prefix text es first second is puts (mapping c ds x) = sym (or-false _)
-root_seen seen keys key added prefix text es first second is puts (compatibility c ds) = sym (or-false _)
-root_seen seen keys key added prefix text es first second is puts (weights root p t fs) = key_seen seen.root keys key added prefix text p t first second is puts
-root_seen seen keys key added prefix text es first second is puts (weights tailoring p t fs) = sym (or-false _)
-root_seen seen keys key added prefix text es first second is puts (range r) = refl
-root_seen seen keys key added prefix text es first second is puts (digit c v) = sym (or-false _)
-root_seen seen keys key added prefix text es first second is puts (setting s) = sym (or-false _)
+root_seen seen keys key prefix text es first second put nothing = refl
+root_seen seen keys key prefix text es first second put (class c k) = sym (or-false _)
+root_seen seen keys key prefix text es first second put (mapping c ds x) = sym (or-false _)
+root_seen seen keys key prefix text es first second put (compatibility c ds) = sym (or-false _)
+root_seen seen keys key prefix text es first second put (weights root p t fs) = key_seen seen.root keys key prefix text p t first second put
+root_seen seen keys key prefix text es first second put (weights tailoring p t fs) = sym (or-false _)
+root_seen seen keys key prefix text es first second put (range r) = refl
+root_seen seen keys key prefix text es first second put (digit c v) = sym (or-false _)
+root_seen seen keys key prefix text es first second put (setting s) = sym (or-false _)
 
 -- a t line more
-pub tailoring_seen : (seen : Seen) (keys : Keys) (key : Key) (added : Bool) (prefix text : List ℕ) (es : List Element) → key.0.items ≡ prefix → key.1.items ≡ text
-    → added ≡ not (contains is_same_key seen.tailoring key) → PutsKey seen.tailoring keys key added
+pub tailoring_seen : (seen : Seen) (keys : Keys) (key : Key) (prefix text : List ℕ) (es : List Element) → key.0.items ≡ prefix → key.1.items ≡ text
+    → keys.keys ≡ insert_key key_cmp seen.tailoring.keys key
     → (other : Record) → is_seen (record seen { tailoring = keys }) other ≡ (is_seen seen other || is_second (weights tailoring prefix text es) other)
-tailoring_seen seen keys key added prefix text es first second is puts nothing = refl
-tailoring_seen seen keys key added prefix text es first second is puts (class c k) = sym (or-false _)
-tailoring_seen seen keys key added prefix text es first second is puts (mapping c ds x) = sym (or-false _)
-tailoring_seen seen keys key added prefix text es first second is puts (compatibility c ds) = sym (or-false _)
-tailoring_seen seen keys key added prefix text es first second is puts (weights root p t fs) = sym (or-false _)
-tailoring_seen seen keys key added prefix text es first second is puts (weights tailoring p t fs) = key_seen seen.tailoring keys key added prefix text p t first second is puts
-tailoring_seen seen keys key added prefix text es first second is puts (range r) = refl
-tailoring_seen seen keys key added prefix text es first second is puts (digit c v) = sym (or-false _)
-tailoring_seen seen keys key added prefix text es first second is puts (setting s) = sym (or-false _)
+tailoring_seen seen keys key prefix text es first second put nothing = refl
+tailoring_seen seen keys key prefix text es first second put (class c k) = sym (or-false _)
+tailoring_seen seen keys key prefix text es first second put (mapping c ds x) = sym (or-false _)
+tailoring_seen seen keys key prefix text es first second put (compatibility c ds) = sym (or-false _)
+tailoring_seen seen keys key prefix text es first second put (weights root p t fs) = sym (or-false _)
+tailoring_seen seen keys key prefix text es first second put (weights tailoring p t fs) = key_seen seen.tailoring keys key prefix text p t first second put
+tailoring_seen seen keys key prefix text es first second put (range r) = refl
+tailoring_seen seen keys key prefix text es first second put (digit c v) = sym (or-false _)
+tailoring_seen seen keys key prefix text es first second put (setting s) = sym (or-false _)
 
 -- a setting more
 name_seen : (old new : Names) (name : Bor (List ℕ)) (added : Bool) (is_name other : List ℕ) → name.now ≡ is_name

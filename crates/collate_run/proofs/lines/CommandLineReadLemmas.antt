@@ -5,7 +5,7 @@ use Rattle.std.specs.Prelude.{IfSome, option_map}
 use Rattle.std.specs.Io.KnownBytes.{Appends, Consumes, IsAtEnd}
 use Rattle.collate_index.specs.Catalogue.{Catalogue}
 use Rattle.collate_run.specs.Reading.{GivesByte, ReadsLine, ReadsRequest, SpellsLine, SpellsRequest, spelled}
-use Rattle.collate_run.specs.Replies.{Answers, behind}
+use Rattle.collate_run.specs.Replies.{Answers, AreFirst, behind}
 use Rattle.collate_run.specs.Runs.{input_limit, line_limit}
 use Rattle.collate_run.specs.Sending.{Sends}
 use Rattle.collate_run.specs.declared.run.Line.{Line}
@@ -39,18 +39,25 @@ pub unfailed : (new old : Bool) → new ≡ (old || false) → old ≡ false →
 unfailed new true h e = h ∙ e
 unfailed new false h e = h
 
-if-mapped : {V : Type 0} (view : V → List ℕ) (records : Option V) (file : List ℕ) → IfSome records (λ kept. view kept ≡ file) → IfSome (option_map view records) (λ bytes. bytes ≡ file)
-if-mapped view None file h = h
-if-mapped view (Some kept) file h = h
+if-mapped : {V : Type 0} (IsKept : List ℕ → Type 0) (view : V → List ℕ) (records : Option V) → IfSome records (λ kept. IsKept (view kept)) → IfSome (option_map view records) IsKept
+if-mapped IsKept view None h = h
+if-mapped IsKept view (Some kept) h = h
 
-if-given : (given : Option (Bor (List ℕ))) (file : List ℕ) → IfSome (option_map (λ lent. lent.now) given) (λ bytes. bytes ≡ file) → IfSome given (λ lent. lent.now ≡ file)
-if-given None file h = h
-if-given (Some lent) file h = h
+if-given : (IsKept : List ℕ → Type 0) (given : Option (Bor (List ℕ))) → IfSome (option_map (λ lent. lent.now) given) IsKept → IfSome given (λ lent. IsKept lent.now)
+if-given IsKept None h = h
+if-given IsKept (Some lent) h = h
 
 -- the record lines that are lent are those that were kept
-lent-records : {V : Type 0} (view : V → List ℕ) (records : Option V) (given : Option (Bor (List ℕ))) (file : List ℕ)
-    → option_map (λ lent. lent.now) given ≡ option_map view records → IfSome records (λ kept. view kept ≡ file) → IfSome given (λ lent. lent.now ≡ file)
-lent-records view records given file e h = if-given given file (subst (λ (o : Option (List ℕ)). IfSome o (λ bytes. bytes ≡ file)) (sym e) (if-mapped view records file h))
+lent-records : {V : Type 0} (IsKept : List ℕ → Type 0) (view : V → List ℕ) (records : Option V) (given : Option (Bor (List ℕ)))
+    → option_map (λ lent. lent.now) given ≡ option_map view records → IfSome records (λ kept. IsKept (view kept)) → IfSome given (λ lent. IsKept lent.now)
+lent-records IsKept view records given e h = if-given IsKept given (subst (λ (o : Option (List ℕ)). IfSome o IsKept) (sym e) (if-mapped IsKept view records h))
+
+-- a request has the limit with which it was read
+limit-kept : (given : Option Request) (asked : Request) (limit : ℕ) → given ≡ Some asked → IfSome given (λ request. request.limit ≡ limit) → asked.limit ≡ limit
+limit-kept given asked limit e h = subst (λ (o : Option Request). IfSome o (λ request. request.limit ≡ limit)) e h
+
+pub limit-of : (given : Option Request) (limit most : ℕ) → limit ≡ most → IfSome given (λ request. request.limit ≡ limit) → IfSome given (λ request. request.limit ≡ most)
+limit-of given limit most e h = subst (λ (n : ℕ). IfSome given (λ request. request.limit ≡ n)) e h
 
 -- a request that was read, and the answer to it: line and lent are what the answer was made of
 pub record Answered (asked : Request) (left : Option (List ℕ)) (before after : ℕ) (bytes : List ℕ) (old new : Catalogue) (text : List ℕ) : Type 0 where
@@ -60,12 +67,15 @@ pub record Answered (asked : Request) (left : Option (List ℕ)) (before after :
 pub answered : (given : Option Request) (asked : Request) (left : Option (List ℕ)) (before after : ℕ) (bytes : List ℕ) (line : List ℕ) (lent : Option (Bor (List ℕ))) (old new : Catalogue) (text : List ℕ)
     → given ≡ Some asked → ReadsRequest (Ok given) left before after bytes → line ≡ asked.line.items
     → option_map (λ records. records.now) lent ≡ option_map (λ records. records.items) asked.records
-    → ((file : List ℕ) → IfSome lent (λ records. records.now ≡ file) → Answers line file old new text)
+    → IfSome given (λ request. request.limit ≡ old.limits.bytes)
+    → ((file : List ℕ) → IfSome lent (λ records. AreFirst old.limits.bytes records.now file) → Answers line file old new text)
     → Answered asked left before after bytes old new text
-answered given asked left before after bytes line lent old new text given_is read line_is lent_is answers =
+answered given asked left before after bytes line lent old new text given_is read line_is lent_is limited answers =
     let spells = some-request given asked left before after bytes given_is read in
+    let limit : asked.limit ≡ old.limits.bytes = limit-kept given asked old.limits.bytes given_is limited in
     record {
       spells = spells;
       answers = subst (λ (xs : List ℕ). Answers xs (spelled spells.records) old new text) line_is
-          (answers (spelled spells.records) (lent-records (λ records. records.items) asked.records lent (spelled spells.records) lent_is spells.kept));
+          (answers (spelled spells.records) (lent-records (λ bytes. AreFirst old.limits.bytes bytes (spelled spells.records)) (λ records. records.items) asked.records lent lent_is
+          (subst (λ (n : ℕ). IfSome asked.records (λ records. AreFirst n records.items (spelled spells.records))) limit spells.kept)));
     }

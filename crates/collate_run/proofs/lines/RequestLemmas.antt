@@ -1,5 +1,5 @@
 -- a line and the record lines behind it, read line by line
-use Rattle.std.proofs.Common.{◌≡◌, ℕ, ◌+◌, ◌-◌, ◌<◌, ◌≤◌, Bool, true, false, not, Option, Err, List, [], ◌∷◌, ◌++◌, ◌⊎◌, inl, inr, length, take, All, refl, sym, ap, ◌∙◌, subst, length-append, arith}
+use Rattle.std.proofs.Common.{◌≡◌, ℕ, ◌+◌, ◌-◌, ◌<◌, ◌≤◌, Bool, true, false, not, Option, None, Some, Err, List, [], ◌∷◌, ◌++◌, ◌⊎◌, inl, inr, length, take, All, refl, sym, ap, ◌∙◌, subst, append_assoc, length-append, arith}
 use Rattle.std.proofs.lemmas.List.{append-nil, take-append-le, take_all}
 use Rattle.std.proofs.lemmas.List.Elements.{All-cons, All-nil, All-push, All-same}
 use Rattle.std.proofs.lemmas.Grind.{flat_map-append}
@@ -8,7 +8,7 @@ use Rattle.std.specs.Bool.{MatchBool}
 use Rattle.std.specs.Prelude.{IfSome}
 use Rattle.std.specs.Io.KnownBytes.{IsAtEnd}
 use Rattle.collate_run.specs.Reading.{AreWhole, CutsLine, CutsRequest, IsUnended, SpellsLine, SpellsRequest, spelled}
-use Rattle.collate_run.specs.Replies.{behind, ended}
+use Rattle.collate_run.specs.Replies.{AreFirst, behind, ended}
 use Rattle.collate_run.specs.Runs.{IsCutReload, IsUnanswered, IsWithin, KeepsInputLimit, KeepsLineLimit, input_limit, line_limit, lines_of, lines_read, whole_lines}
 use Rattle.collate_run.specs.declared.run.Line.{Line}
 use Rattle.collate_run.specs.declared.run.Request.{Request}
@@ -24,6 +24,11 @@ lines_of-cases false line left bytes unended h = ap lines_of h.0 ∙ lines_of-un
 whole-cases : (is_ended : Bool) (line : List ℕ) (left : Option (List ℕ)) (bytes : List ℕ) → IsUnended line → MatchBool is_ended (bytes ≡ line ++ 10 ∷ []) ((bytes ≡ line) × (0 < length bytes) × IsAtEnd left) → MatchBool is_ended (AreWhole (line ∷ []) bytes) (IsAtEnd left)
 whole-cases true line left bytes unended h = subst (λ (xs : List ℕ). AreWhole (line ∷ []) xs) (sym h) (whole-one line unended)
 whole-cases false line left bytes unended h = h.2
+
+-- what is kept of no record lines
+first-kept : {V : Type 0} (limit : ℕ) (view : V → List ℕ) (records : Option V) → IfSome records (λ kept. view kept ≡ []) → IfSome records (λ kept. AreFirst limit (view kept) [])
+first-kept limit view None h = h
+first-kept limit view (Some kept) h = ([], ap (λ (xs : List ℕ). xs ++ []) (sym h), λ _. refl)
 
 module _ (line : Line) (left : Option (List ℕ)) (bytes : List ℕ) (spells : SpellsLine line left bytes) where
   -- the bytes of a line are that line
@@ -42,7 +47,7 @@ module _ (line : Line) (left : Option (List ℕ)) (bytes : List ℕ) (spells : S
     all_there = refl;
     lines_are = rw line_is lines_of-spelled;
     whole = rw (line_is, ended_is) whole-spelled;
-    kept = kept;
+    kept = first-kept request.limit (λ kept. kept.items) request.records kept;
     short = rw line_is (All-cons IsWithin line.bytes.items [] short (All-nil IsWithin));
     counted = counted;
     within = within;
@@ -153,7 +158,7 @@ module _ (request : Request) (many : ℕ) (middle left : Option (List ℕ)) (bef
 
       -- a record line more has been read
       pub request-more : (next : Request) (after : ℕ) → next.line.items ≡ request.line.items → next.is_ended ≡ line.is_ended
-          → IfSome next.records (λ kept. kept.items ≡ spelled so_far.records ++ ended line.bytes.items)
+          → IfSome next.records (λ kept. AreFirst next.limit kept.items (spelled so_far.records ++ ended line.bytes.items))
           → after ≡ count + length bytes → after ≤ input_limit → length line.bytes.items ≤ line_limit
           → SpellsRequest next (many + 1) left before after (front ++ bytes)
       request-more next after line_is ended_is kept counted within short = record {
@@ -167,9 +172,20 @@ module _ (request : Request) (many : ℕ) (middle left : Option (List ℕ)) (bef
         within = within;
       }
 
+-- what is kept once it passes the limit, and one line more until then
+pub first-stays : (limit : ℕ) (kept before more : List ℕ) → limit < length kept → AreFirst limit kept before → AreFirst limit kept (before ++ more)
+first-stays limit kept before more long first =
+    (first.0 ++ more, ap (λ (xs : List ℕ). xs ++ more) first.1 ∙ append_assoc kept first.0 more, λ short. absurd (omega (arith, long, short)))
+
+pub first-more : (limit : ℕ) (kept before more : List ℕ) → length kept ≤ limit → AreFirst limit kept before → AreFirst limit (kept ++ more) (before ++ more)
+first-more limit kept before more short first =
+    let same : before ≡ kept = first.1 ∙ ap (λ (xs : List ℕ). kept ++ xs) (first.2 short) ∙ append-nil kept in
+    ([], ap (λ (xs : List ℕ). xs ++ more) same ∙ sym (append-nil (kept ++ more)), λ _. refl)
+
 -- what is kept when a record line more is put behind the others
-pub kept-more : {V : Type 0} (view : V → List ℕ) (kept : Option V) (front line lent : List ℕ) → lent ≡ line → IfSome kept (λ v. view v ≡ front ++ ended lent) → IfSome kept (λ v. view v ≡ front ++ ended line)
-kept-more view kept front line lent e h = subst (λ (xs : List ℕ). IfSome kept (λ v. view v ≡ front ++ ended xs)) e h
+pub kept-more : {V : Type 0} (IsKept : V → List ℕ → Type 0) (kept : Option V) (front line lent : List ℕ) → lent ≡ line
+    → IfSome kept (λ v. IsKept v (front ++ ended lent)) → IfSome kept (λ v. IsKept v (front ++ ended line))
+kept-more IsKept kept front line lent e h = subst (λ (xs : List ℕ). IfSome kept (λ v. IsKept v (front ++ ended xs))) e h
 
 -- a request that is not ended stands at the end of the input
 pub at-end : (request : Request) (many : ℕ) (left : Option (List ℕ)) (before after : ℕ) (bytes : List ℕ) (spells : SpellsRequest request many left before after bytes) → request.is_ended ≡ false → IsAtEnd left

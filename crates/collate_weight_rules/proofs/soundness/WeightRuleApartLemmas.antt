@@ -6,11 +6,11 @@ use Rattle.icu_collator_core.specs.WeightRules.{are_apart, primary_bytes}
 use Rattle.icu_collator_core.proofs.apart.LevelLemmas.{from_mapped, mapped_in}
 
 -- none of the weights begins another one
-abbrev AreAllApart : List ℕ → Type 0
+abbrev pub AreAllApart : List ℕ → Type 0
 AreAllApart weights = (v w : ℕ) → Contains weights v → Contains weights w → are_apart primary_bytes v w ≡ true
 
 -- none that elements have begins another one
-abbrev ApartBy : (Element → ℕ) → List Element → Type 0
+abbrev pub ApartBy : (Element → ℕ) → List Element → Type 0
 ApartBy weight es = (d e : Element) → Contains es d → Contains es e → are_apart primary_bytes (weight d) (weight e) ≡ true
 
 pub told_by : (weight : Element → ℕ) (es : List Element) (weights : List ℕ) (told : Bool) → weights ≡ map weight es

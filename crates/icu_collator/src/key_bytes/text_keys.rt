@@ -7,6 +7,8 @@ ghost use Rattle.icu_normalizer_core.specs.Canonical.{decomposed};
 ghost use Rattle.icu_collator_types.specs.Options.{is_at_least};
 ghost use Rattle.icu_collator_types.specs.declared.elements.Element.{Element};
 ghost use Rattle.icu_collator_types.specs.declared.options.Strength.TheVariants.{Identical};
+ghost use Rattle.icu_collator_core.specs.ElementLists.{unpacked};
+ghost use Rattle.icu_collator_core.specs.ElementTexts.{text_elements};
 ghost use Rattle.icu_collator.specs.Collators.{source_collation};
 ghost use Rattle.icu_collator.specs.KeyBytes.{key_bytes, key_of_text};
 ghost use Rattle.icu_collator.specs.LevelLists.{counted_list, has_sound_case};
@@ -70,6 +72,27 @@ fn write_exact_key<T: Characters>(
     Ok(())
 }
 
+/// Reads the elements of a text into an empty list, flat or by stretches; `false` where it can't be read so, or the list has no
+/// room, and then what the list has is not said. Fails only when out of memory.
+#[inline(always)]
+fn read_elements<T: Characters, const N: usize>(
+    alloc: Global,
+    checked: &CheckedTables<'_>,
+    numeric: Option<u8>,
+    text: T,
+    elements: &mut FlatElements<N>,
+) -> Result<bool, AllocError>
+    requires { elements.old.items ≡ [] }
+    ensures elements { IfOk result (λ is_read. is_read ≡ true → unpacked elements.new.items ≡ text_elements checked.now numeric (T.characters text)) }
+    ensures scalars { All IsScalar (T.characters text) }
+{
+    if checked.read_flat(numeric, text.chars(), elements) {
+        return Ok(true);
+    }
+    let is_read = checked.read_stretches(alloc, numeric, text.chars(), elements)?;
+    Ok(is_read)
+}
+
 /// Appends the key of a short text that is read flat to no byte; `false` for another text, and then nothing. Fails only when out
 /// of memory.
 #[inline(always)]
@@ -91,7 +114,9 @@ fn write_flat_key<T: Characters>(
         return Ok(false);
     }
     let mut flat = FlatElements::<FEW_ELEMENTS>::new();
-    if !checked.read_flat(numeric_lead(checked, options), text.chars(), &mut flat) {
+    let numeric = numeric_lead(checked, options);
+    let is_read = read_elements(alloc, checked, numeric, text, &mut flat)?;
+    if !is_read {
         return Ok(false);
     }
     if options.strength.is_at_least(Strength::Identical) {
@@ -122,7 +147,9 @@ fn write_long_key<T: Characters>(
         return Ok(false);
     }
     let mut flat = FlatElements::<MANY_ELEMENTS>::new();
-    if !checked.read_flat(numeric_lead(checked, options), text.chars(), &mut flat) {
+    let numeric = numeric_lead(checked, options);
+    let is_read = read_elements(alloc, checked, numeric, text, &mut flat)?;
+    if !is_read {
         return Ok(false);
     }
     if options.strength.is_at_least(Strength::Identical) {
@@ -214,7 +241,9 @@ fn write_shifted_key<T: Characters>(
         return Ok(false);
     }
     let mut flat = FlatElements::<FEW_ELEMENTS>::new();
-    if !checked.read_flat(numeric_lead(checked, options), text.chars(), &mut flat) {
+    let numeric = numeric_lead(checked, options);
+    let is_read = read_elements(alloc, checked, numeric, text, &mut flat)?;
+    if !is_read {
         return Ok(false);
     }
     let end = variable_end(checked, options);

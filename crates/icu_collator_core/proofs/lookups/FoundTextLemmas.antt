@@ -47,7 +47,7 @@ module _ (canonical : Canonical) (weights : Weights) (entry : TableWord) (c : �
       ∙ ap (λ b. option_and_then (elements_of_word entry.pools) (cond b (word_by (suffix_units entry) (m ∷ [])) None)) alone)
 
   -- no mark joins
-  joining_alone : (between ps : List Placed) → scalars (characters_of ps) ≡ true
+  pub joining_alone : (between ps : List Placed) → scalars (characters_of ps) ≡ true
       → joining canonical weights (c ∷ []) between ps ≡ record { text = c ∷ []; left = between ++ ps }
   unfolding joining
   joining_alone between [] ok = ap (λ ps. record { text = c ∷ []; left = ps }) (sym (append-nil between))

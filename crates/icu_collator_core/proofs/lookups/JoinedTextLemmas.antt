@@ -27,7 +27,7 @@ placed_end place old e =
     placed_drop place old (omega (arith, e)) ∙ ap (placed_behind (characters_before old place)) (drop_all place old (omega (arith, e)))
 
 -- the characters of a part of a list
-part_characters : (from place : ℕ) (list : List ℕ) → from ≤ place → characters_of (take (place - from) (drop from (placed list))) ≡ drop from (take place list)
+pub part_characters : (from place : ℕ) (list : List ℕ) → from ≤ place → characters_of (take (place - from) (drop from (placed list))) ≡ drop from (take place list)
 part_characters from place list order =
     let sum : from + (place - from) ≡ place = omega (arith, order) in
     sym (take-map (λ p. p.character) (place - from) (drop from (placed list)))

@@ -5,13 +5,13 @@ use Rattle.icu_collator_core.specs.Boundaries.{after}
 use Rattle.icu_collator_core.specs.Elements.{Placed, characters_of, longest_prefix, placed, placed_behind}
 use Rattle.icu_collator_core.specs.ReadTexts.{characters_before}
 
-take_less : (n m : ℕ) (xs : List ℕ) → n ≤ m → take n (take m xs) ≡ take n xs
+pub take_less : (n m : ℕ) (xs : List ℕ) → n ≤ m → take n (take m xs) ≡ take n xs
 take_less zero m xs le = refl
 take_less (suc n) zero xs le = absurd (omega arith)
 take_less (suc n) (suc m) [] le = refl
 take_less (suc n) (suc m) (x ∷ xs) le = ap (λ l. x ∷ l) (take_less n m xs (omega arith))
 
-take_behind : (n m : ℕ) (ys zs : List ℕ) → n ≤ m → take n (ys ++ take m zs) ≡ take n (ys ++ zs)
+pub take_behind : (n m : ℕ) (ys zs : List ℕ) → n ≤ m → take n (ys ++ take m zs) ≡ take n (ys ++ zs)
 take_behind n m [] zs le = take_less n m zs le
 take_behind zero m (y ∷ ys) zs le = refl
 take_behind (suc n) m (y ∷ ys) zs le = ap (λ l. y ∷ l) (take_behind n m ys zs (omega arith))

@@ -85,6 +85,40 @@ steady_alike weights xs ys (c ∷ cs) all s t ok =
       steady_alike weights (take longest_prefix (c ∷ xs)) (take longest_prefix (c ∷ ys)) cs all.1 (further xs s) (further ys t) parts.1,
     )
 
+-- ---- characters that are by themselves as they are behind any, before a boundary
+
+module _ (source : CollationSource) (numeric : Option ℕ) (list items : List ℕ) (ok : scalars list ≡ true)
+    (itself : (before : List ℕ) → scalars before ≡ true → elements_behind source numeric before list ≡ unpacked items) where
+  pub read_apart : AreReadBefore source numeric list 256 items
+  unfolding placed_behind
+  read_apart before [] b s fits =
+      ap (λ (l : List ℕ). elements_behind source numeric before l) (append-nil list) ∙ itself before b
+      ∙ sym (ap (λ (es : List Element). unpacked items ++ es) (nothing_within (canonical_by source) (weights_by numeric source) (is_some numeric) 0) ∙ append-nil (unpacked items))
+  read_apart before (d ∷ ds) b s fits =
+      ⊎_elim
+      (λ (e : 256 ≤ 255). absurd (omega (arith, e)))
+      (λ (apart : IsBoundaryApart source numeric d).
+      let canonical = canonical_by source in
+      let weights = weights_by numeric source in
+      let counts = is_some numeric in
+      let ps = placed_behind before list in
+      let q : Placed = record { character = d; before = after before list } in
+      let qs = placed_behind (take longest_prefix (d ∷ after before list)) ds in
+      let n = length (list ++ d ∷ ds) in
+      let split : placed_behind before (list ++ d ∷ ds) ≡ ps ++ q ∷ qs = placed_append before list (d ∷ ds) in
+      let whole : length (ps ++ q ∷ qs) ≡ n = sym (ap length split) ∙ length_placed before (list ++ d ∷ ds) in
+      let front : length ps ≡ length list = length_placed before list in
+      let rest : length (q ∷ qs) ≡ length (d ∷ ds) = length_placed (after before list) (d ∷ ds) in
+      let count = length-append list (d ∷ ds) in
+      let behind : scalars (characters_of (q ∷ qs)) ≡ true = ap scalars (characters_placed (after before list) (d ∷ ds)) ∙ s in
+      ap (λ (l : List Placed). elements_within n canonical weights counts l) split
+      ∙ split_at_boundary canonical weights counts q qs apart.0 apart.1 behind n ps (ap scalars (characters_placed before list) ∙ ok) (omega (arith, whole))
+      ∙ ap (λ (es : List Element). es ++ elements_within n canonical weights counts (q ∷ qs))
+      (any_count canonical weights counts n (length list) ps (omega (arith, front, count)) (omega (arith, front)) ∙ itself before b)
+      ∙ ap (λ (es : List Element). unpacked items ++ es)
+      (any_count canonical weights counts n (length (d ∷ ds)) (q ∷ qs) (omega (arith, rest, count)) (omega (arith, rest))))
+      fits
+
 module _ (source : CollationSource) where
   unprefixed_all : (list : List ℕ) → AllByRecursion (IsSteady source) list → AllByRecursion (IsUnprefixed (weights_by None source)) list
   unprefixed_all [] h = tt
@@ -108,31 +142,4 @@ module _ (source : CollationSource) where
 
     -- such characters, by what they are by themselves
     pub read_bounded : AreReadBefore source numeric list 256 items
-    unfolding placed_behind
-    read_bounded before [] b s fits =
-        ap (λ (l : List ℕ). elements_behind source numeric before l) (append-nil list) ∙ itself before b
-        ∙ sym (ap (λ (es : List Element). unpacked items ++ es) (nothing_within (canonical_by source) (weights_by numeric source) (is_some numeric) 0) ∙ append-nil (unpacked items))
-    read_bounded before (d ∷ ds) b s fits =
-        ⊎_elim
-        (λ (e : 256 ≤ 255). absurd (omega (arith, e)))
-        (λ (apart : IsBoundaryApart source numeric d).
-        let canonical = canonical_by source in
-        let weights = weights_by numeric source in
-        let counts = is_some numeric in
-        let ps = placed_behind before list in
-        let q : Placed = record { character = d; before = after before list } in
-        let qs = placed_behind (take longest_prefix (d ∷ after before list)) ds in
-        let n = length (list ++ d ∷ ds) in
-        let split : placed_behind before (list ++ d ∷ ds) ≡ ps ++ q ∷ qs = placed_append before list (d ∷ ds) in
-        let whole : length (ps ++ q ∷ qs) ≡ n = sym (ap length split) ∙ length_placed before (list ++ d ∷ ds) in
-        let front : length ps ≡ length list = length_placed before list in
-        let rest : length (q ∷ qs) ≡ length (d ∷ ds) = length_placed (after before list) (d ∷ ds) in
-        let count = length-append list (d ∷ ds) in
-        let behind : scalars (characters_of (q ∷ qs)) ≡ true = ap scalars (characters_placed (after before list) (d ∷ ds)) ∙ s in
-        ap (λ (l : List Placed). elements_within n canonical weights counts l) split
-        ∙ split_at_boundary canonical weights counts q qs apart.0 apart.1 behind n ps (ap scalars (characters_placed before list) ∙ ok) (omega (arith, whole))
-        ∙ ap (λ (es : List Element). es ++ elements_within n canonical weights counts (q ∷ qs))
-        (any_count canonical weights counts n (length list) ps (omega (arith, front, count)) (omega (arith, front)) ∙ itself before b)
-        ∙ ap (λ (es : List Element). unpacked items ++ es)
-        (any_count canonical weights counts n (length (d ∷ ds)) (q ∷ qs) (omega (arith, rest, count)) (omega (arith, rest))))
-        fits
+    read_bounded = read_apart source numeric list items ok itself

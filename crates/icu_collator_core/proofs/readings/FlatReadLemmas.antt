@@ -85,20 +85,25 @@ module _ (source : CollationSource) (numeric : Option ℕ) where
       subst (λ (is : List ℕ). IsReadInOrder source numeric [] 0 is) (sym none)
       (record { characters = refl; read = λ before later b s fits. refl; order = tt; last = λ small. refl })
 
+  -- characters that stand behind others
+  pub block_in_order : (list items : List ℕ) (last first : ℕ) (rest its : List ℕ) (trail : ℕ) → IsReadInOrder source numeric list last items
+      → scalars (first ∷ rest) ≡ true → MayStandBehind source numeric last (first ∷ rest) → StandInOrder class last (first ∷ rest)
+      → (trail ≤ 255 → last_class class last (first ∷ rest) ≡ trail) → AreReadBefore source numeric (first ∷ rest) trail its
+      → IsReadInOrder source numeric (list ++ first ∷ rest) trail (items ++ its)
+  block_in_order list items last first rest its trail h ok follows order end read =
+      record {
+        characters = scalars_join list (first ∷ rest) h.characters ok;
+        read = read_behind list items first rest its last trail h.characters ok h.read read follows;
+        order = order_appended class 0 list (first ∷ rest) h.order (order_behind list first rest last h.last follows order);
+        last = λ small. last_appended class 0 list (first ∷ rest) ∙ end small;
+      }
+
   pub more_in_order : (list items new : List ℕ) (last c trail : ℕ) → IsReadInOrder source numeric list last items
       → IsPushed source numeric c last items trail new → IsReadInOrder source numeric (list ++ full c) trail new
   more_in_order list items new last c trail h pushed =
       let flat = pushed.flat in
-      let first = flat.first in
-      let rest = flat.rest in
-      let here = first ∷ rest in
-      let joined : IsReadInOrder source numeric (list ++ here) trail (items ++ pushed.items) =
-      record {
-        characters = scalars_join list here h.characters flat.characters;
-        read = read_behind list items first rest pushed.items last trail h.characters flat.characters h.read flat.read flat.follows;
-        order = order_appended class 0 list here h.order (order_behind list first rest last h.last flat.follows flat.order);
-        last = λ small. last_appended class 0 list here ∙ flat.last small;
-      } in
+      let here = flat.first ∷ flat.rest in
+      let joined = block_in_order list items last flat.first flat.rest pushed.items trail h flat.characters flat.follows flat.order flat.last flat.read in
       subst (λ (l : List ℕ). IsReadInOrder source numeric (list ++ l) trail new) (sym flat.full)
       (subst (λ (l : List ℕ). IsReadInOrder source numeric (list ++ here) trail l) (sym pushed.appended) joined)
 

@@ -60,7 +60,7 @@ module _ (class : ℕ → ℕ) where
   moved_itself [] = refl
   moved_itself (c ∷ cs) = and_from _ _ (ap (λ (b : Bool). b || (not (class c == 0) && not (class c == 0))) (eq-eqb c c refl)) (moved_itself cs)
 
-  not_true : (b : Bool) → not b ≡ true → b ≡ false
+  pub not_true : (b : Bool) → not b ≡ true → b ≡ false
   not_true true h = absurd (false≢true h)
   not_true false h = refl
 

@@ -59,7 +59,7 @@ greatest_below found m (suc n) h none =
           ∙ greatest_below found m n below none
     ]
 
-pub greatest_same : (f g : ℕ → Option ℕ) (n : ℕ) → ((k : ℕ) → k ≤ n → f k ≡ g k) → at_greatest f n ≡ at_greatest g n
+pub greatest_same : {A : Type 0} (f g : ℕ → Option A) (n : ℕ) → ((k : ℕ) → k ≤ n → f k ≡ g k) → at_greatest f n ≡ at_greatest g n
 unfolding at_greatest
 greatest_same f g zero h = h zero (omega arith)
 greatest_same f g (suc n) h = cc (h (suc n) (omega arith), greatest_same f g n (λ k l. h k (omega arith)))

@@ -64,7 +64,7 @@ fn push_next(
 }
 
 /// Appends the elements of a decomposed list, whose marks may change places. Fails only when out of memory.
-fn push_all(
+pub(crate) fn push_all(
     checked: &CheckedTables<'_>,
     numeric: Option<u8>,
     list: &mut SmallVec<char, 64>,

@@ -1,6 +1,6 @@
 //! Elements in an array.
 
-ghost use Rattle.std.specs.Prelude.{◌≡◌, ◌++◌, ◌∷◌, [], true};
+ghost use Rattle.std.specs.Prelude.{◌≡◌, ◌++◌, ◌∷◌, [], length, take, true};
 
 use icu_collator_types::elements::CollationElement;
 use std::marker::Model;
@@ -41,6 +41,14 @@ impl<const N: usize> FlatElements<N> {
         &self.array[..self.count]
     }
 
+    /// How many elements there are.
+    #[inline(always)]
+    pub(crate) fn len(&self) -> usize
+        ensures { result ≡ length self.now.items }
+    {
+        self.as_slice().len()
+    }
+
     /// Appends an element, if there is room.
     #[inline(always)]
     pub(crate) fn push(&mut self, element: CollationElement) -> bool
@@ -54,5 +62,19 @@ impl<const N: usize> FlatElements<N> {
         } else {
             false
         }
+    }
+
+    /// Leaves the first elements, at most so many, and appends others, if there is room; where there isn't, some of them.
+    pub(crate) fn replace_from(&mut self, count: usize, more: &[CollationElement]) -> bool
+        ensures { result ≡ true → self.new.items ≡ take count self.old.items ++ more.now }
+    {
+        let kept = count.min(self.count);
+        self.count = kept;
+        for element in more {
+            if !self.push(*element) {
+                return false;
+            }
+        }
+        true
     }
 }

@@ -3,7 +3,7 @@
 ghost use Rattle.std.specs.Prelude.{◌≡◌, ◌∷◌, ◌≤◌, ◌==◌, ◌&&◌, ◌||◌, ℕ, [], true, IfOk, IfSome, Option, None, is_some};
 ghost use Rattle.icu_collator_core.specs.Acceptance.{CollationSource};
 ghost use Rattle.icu_collator_core.specs.Defaults.{special_primary};
-ghost use Rattle.icu_collator_core.specs.FlatNotes.{AreFlatNotes, IsFlatNote, IsPushed, IsReadFlat, IsUncounted, MayBegin, MayFollow};
+ghost use Rattle.icu_collator_core.specs.FlatNotes.{AreFlatNotes, BeginsApart, IsFlatNote, IsPushed, IsReadFlat, IsUncounted, MayBegin, MayFollow};
 ghost use Rattle.icu_collator_core.specs.ReadSources.{canonical_by};
 ghost use Rattle.icu_collator_core.specs.TableSettings.{has_bit};
 
@@ -58,6 +58,31 @@ impl FlatNote {
             return None;
         }
         self.push_other(numeric, before, elements)
+    }
+
+    /// Whether the full list of the character begins with a boundary, as far as is noted; of a digit nothing is.
+    #[inline(always)]
+    pub(crate) fn is_boundary(&self) -> bool
+        ensures { result ≡ true → (source : CollationSource) (numeric : Option ℕ) (c : ℕ) → IsFlatNote source c self.now → BeginsApart source numeric c }
+    {
+        match *self {
+            FlatNote::Boundary(_element) => true,
+            FlatNote::One(_element, lead, _trail) => lead >= BEFORE_BOUNDARY,
+            FlatNote::Two(_first, _second, lead, _trail) => lead >= BEFORE_BOUNDARY,
+            _ => false,
+        }
+    }
+
+    /// Whether the character is read flat behind one of this class.
+    #[inline(always)]
+    pub(crate) fn is_flat_behind(&self, numeric: Option<u8>, before: u16) -> bool {
+        match *self {
+            FlatNote::Other => false,
+            FlatNote::Boundary(_element) => true,
+            FlatNote::One(_element, lead, _trail) => before <= lead,
+            FlatNote::Two(_first, _second, lead, _trail) => before <= lead,
+            FlatNote::Digit(_element, lead, _trail) => numeric.is_none() && before <= lead,
+        }
     }
 
     /// The same, whatever is noted.

@@ -14,6 +14,7 @@ ghost use Rattle.icu_collator_core.specs.TableSettings.{has_bit};
 
 use super::checked_words::checked_word;
 use super::digits::read_number;
+use super::mark_runs::{begins_long_run, read_marks};
 use crate::checked::CheckedTables;
 use crate::table_words::counting_words::CountingWord;
 use crate::table_words::defaults::special_primary;
@@ -23,14 +24,14 @@ use smallvec::SmallVec;
 use std::alloc::AllocError;
 
 /// Whether a character is a grave, an acute or a tilde.
-fn is_accent(c: char) -> bool
+pub(super) fn is_accent(c: char) -> bool
     ensures { result ≡ ((c == 0x300) || (c == 0x301) || (c == 0x303)) }
 {
     c == '\u{300}' || c == '\u{301}' || c == '\u{303}'
 }
 
 /// Whether a grave, an acute or a tilde stands at a place of a list.
-fn is_accent_at(list: &[char], place: usize) -> bool
+pub(super) fn is_accent_at(list: &[char], place: usize) -> bool
     requires { place ≤ length list.now }
     ensures { result ≡ is_before_accent (drop place (placed list.now)) }
 {
@@ -153,7 +154,7 @@ fn read_ordinary(
 
 /// Reads the character at a place of a list, with what is read with it: appends its elements, and answers where what is
 /// left begins. Marks that join a text are moved in front of those left between. Fails only when out of memory.
-pub(crate) fn read_next(
+fn read_character(
     checked: &CheckedTables<'_>,
     numeric: Option<u8>,
     list: &mut SmallVec<char, 64>,
@@ -180,4 +181,30 @@ pub(crate) fn read_next(
             Ok(next)
         }
     }
+}
+
+/// Reads the character at a place of a list, with what is read with it, or all of a long run of marks: appends the
+/// elements, and answers where what is left begins. Marks that join a text are moved in front of those left between.
+/// Fails only when out of memory.
+pub(crate) fn read_next(
+    checked: &CheckedTables<'_>,
+    numeric: Option<u8>,
+    list: &mut SmallVec<char, 64>,
+    place: usize,
+    ready: &mut SmallVec<CollationElement, 32>,
+) -> Result<usize, AllocError>
+    requires inside { place < small_vec_len list.old }
+    requires characters { scalars list.old.items ≡ true }
+    ensures read { IfOk result (λ next. IsRead (canonical_by checked.now) (weights_by numeric checked.now) (is_some numeric) list.old.items place (unpacked ready.old.items) list.new.items next (unpacked ready.new.items)) }
+    ensures kept { scalars list.new.items ≡ true }
+    ensures same_length { small_vec_len list.new ≡ small_vec_len list.old }
+    ensures onward { IfOk result (λ next. place < next) }
+    ensures within { IfOk result (λ next. next ≤ small_vec_len list.old) }
+{
+    if begins_long_run(checked.canonical(), list, place) {
+        let end = read_marks(checked, list, place, ready)?;
+        return Ok(end);
+    }
+    let next = read_character(checked, numeric, list, place, ready)?;
+    Ok(next)
 }

@@ -1,12 +1,13 @@
 //! The longest recorded prefix that stands before a character.
 
-ghost use Rattle.std.specs.Prelude.{◌≡◌, ◌≤◌, ℕ, length, take, true};
+ghost use Rattle.std.specs.Prelude.{◌≡◌, ◌≤◌, ℕ, List, length, take, true};
 ghost use Rattle.std.specs.Option.{option_and_then};
 ghost use lib.Utf8.{scalars};
 ghost use Rattle.icu_char16trie.specs.Cursors.{trie_units};
+ghost use Rattle.icu_collator_core.specs.AlikeLists.{IsToldAt};
 ghost use Rattle.icu_collator_core.specs.Elements.{prefix_match};
-ghost use Rattle.icu_collator_core.specs.Pools.{elements_of_word};
-ghost use Rattle.icu_collator_core.specs.ReadTexts.{characters_before, longest_text, prefixed_by};
+ghost use Rattle.icu_collator_core.specs.Pools.{Pools, elements_of_word};
+ghost use Rattle.icu_collator_core.specs.ReadTexts.{characters_before, characters_behind, longest_text, prefixed_by};
 ghost use Rattle.icu_collator_core.specs.ReadWords.{AreSaidBy, table_word};
 ghost use Rattle.icu_collator_core.specs.TableMeaning.{pools_of};
 ghost use Rattle.icu_collator_core.specs.Weights.{Weights};
@@ -43,6 +44,25 @@ fn nearest_text(
     longest
 }
 
+/// Whether the longest text that a trie has before a place of a list is the same whatever else stands before the list.
+fn is_nearest_told(trie: &Char16Trie<'_>, list: &[char], place: usize) -> bool
+    requires { place ≤ length list.now }
+    ensures { result ≡ true → (pools : Pools) (further : List ℕ) → longest_text pools (trie_units trie.now) (characters_behind further list.now place)
+        ≡ longest_text pools (trie_units trie.now) (characters_before list.now place) }
+{
+    if place >= LONGEST_PREFIX {
+        return true;
+    }
+    let mut cursor = trie.iter();
+    for n in 0..place {
+        let answer = cursor.next(list[place - 1 - n]);
+        if is_last(answer) {
+            return true;
+        }
+    }
+    false
+}
+
 impl CountingWord<'_> {
     /// The longest recorded prefix that stands before the character of the word, by what stands before its place in a
     /// list.
@@ -67,5 +87,29 @@ impl CountingWord<'_> {
             ≡ option_and_then (λ text. elements_of_word (pools_of self.entry.source.now) text.word) result }
     {
         self.found_prefix(list, place)
+    }
+
+    /// Whether the longest recorded prefix that stands before the character of the word at a place of a list is the same whatever
+    /// else stands before the list.
+    #[tactic(auto, unfolding(crate::specs::ReadTexts::prefixed_by))]
+    fn is_prefix_told(self, list: &[char], place: usize) -> bool
+        requires { place ≤ length list.now }
+        ensures { result ≡ true → (further : List ℕ) → prefixed_by (table_word self.entry) (characters_behind further list.now place)
+            ≡ prefixed_by (table_word self.entry) (characters_before list.now place) }
+    {
+        if !has_tag(self.word, Tag::Prefix) {
+            return true;
+        }
+        let trie = context_of(self.source, self.word);
+        is_nearest_told(&trie, list, place)
+    }
+
+    /// The same: it is so by all weights that the word says.
+    pub(crate) fn is_told(self, list: &[char], place: usize) -> bool
+        requires { place ≤ length list.now }
+        ensures { result ≡ true → (weights : Weights) (c : ℕ) → AreSaidBy weights (table_word self.entry) c → scalars (take place list.now) ≡ true
+            → IsToldAt weights list.now place c }
+    {
+        self.is_prefix_told(list, place)
     }
 }

@@ -19,7 +19,7 @@ use Rattle.icu_normalizer_core.specs.SettledMappings.{AreMappingStarts, AreOnSta
 use Rattle.icu_normalizer_core.proofs.decomposed_lists.DecomposedLemmas.{left_full, left_mapped, left_one}
 use Rattle.icu_normalizer_core.proofs.settling.LeftLemmas.{left_alone, left_append}
 use Rattle.icu_normalizer_core.proofs.settling.SettledLemmas.{cut_joined}
-use Rattle.icu_normalizer_core.proofs.settling.SettlingLemmas.{among_behind, among_front, got_other, got_same, written_length, AreOpen}
+use Rattle.icu_normalizer_core.proofs.settling.SettlingLemmas.{among_behind, among_front, got_other, got_same, none_inside, written_length, AreOpen}
 use Rattle.icu_normalizer_core.proofs.builder.AllStepLemmas.{all_first, all_scalars, all_second, cases_list, given_is, step_given}
 use Rattle.icu_normalizer_core.proofs.builder.MapNumberLemmas.{found_all}
 
@@ -121,11 +121,6 @@ module _ (canonical : Canonical) (d : IsDecomposing canonical) (given : List Giv
       (among_split (canonical.full c) (flat_map canonical.full cs) o.0 o.1)
 
 -- ---- Steps of the code
-
-none_inside : {X : Type 0} (xs : List X) (i : ℕ) → i < length xs → slice_get xs i ≡ None → ⊥
-none_inside [] i h e = omega arith
-none_inside (x ∷ xs) zero h e = absurd cc
-none_inside (x ∷ xs) (suc i) h e = none_inside xs i (omega arith) e
 
 pub mapping_is : (given : List GivenCompatibility) (place : ℕ) (g : GivenCompatibility) → slice_get given place ≡ Some g → mapping_at given place ≡ g.mapping.items
 mapping_is given place g e = ap (λ (o : Option GivenCompatibility). elim o [ Some h ↦ h.mapping.items | None ↦ [] ]) e

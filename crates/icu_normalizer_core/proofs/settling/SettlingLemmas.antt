@@ -27,6 +27,11 @@ got_other (x ∷ xs) zero (suc j) y ne = refl
 got_other (x ∷ xs) (suc i) zero y ne = refl
 got_other (x ∷ xs) (suc i) (suc j) y ne = got_other xs i j y (λ e. ne (ap suc e))
 
+pub none_inside : {X : Type 0} (xs : List X) (i : ℕ) → i < length xs → slice_get xs i ≡ None → ⊥
+none_inside [] i h e = omega arith
+none_inside (x ∷ xs) zero h e = absurd cc
+none_inside (x ∷ xs) (suc i) h e = none_inside xs i (omega arith) e
+
 pub got_inside : {X : Type 0} (xs : List X) (i : ℕ) (x : X) → slice_get xs i ≡ Some x → i < length xs
 got_inside [] i x e = absurd (none-some x e)
 got_inside (y ∷ xs) zero x e = omega arith

@@ -6,6 +6,14 @@ use Rattle.collate_compile.specs.BesideLines.{HasTexts}
 use Rattle.collate_compile.proofs.gathering.TextLemmas.{beside_with, texts_with}
 use Rattle.collate_compile.proofs.gather.add_beside.Goals as goal
 
+pub returns-then-not-branch-clause-besides : goal.returns-then-not-branch-clause-besides
+returns-then-not-branch-clause-besides c =
+    let saids = map said_beside c.args.besides.now.items in
+    let said = said_beside c.args.beside in
+    sym (beside_with c.args.texts.now c.insert.new.self c.args.beside.characters c.in_ok-insert.field-0
+    c.in_ok-insert.ensures.added c.in_ok-insert.ensures.keys saids said refl c.requires
+    ∙ ap (λ (b : Bool). cond b (saids ++ said ∷ []) saids) c.if-not-branch.true)
+
 pub returns-clause-besides : goal.returns-clause-besides
 returns-clause-besides c =
     let saids = map said_beside c.args.besides.now.items in

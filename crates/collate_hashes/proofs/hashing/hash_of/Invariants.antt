@@ -1,6 +1,10 @@
-use Rattle.std.proofs.Common.{◌≡◌, drop}
+use Rattle.std.proofs.Common.{◌≡◌, ◌<◌, drop}
 use Rattle.collate_hashes.specs.Hashes.{hash_from}
+use Rattle.collate_hashes.specs.declared.hashing.TheConstants.{PRIME}
 use Rattle.collate_hashes.proofs.hashing.hash_of.Given as goal
 
 abbrev pub invariant-bytes : goal.invariant-bytes
-invariant-bytes l = hash_from l.hash (drop l.byte-index l.bytes) ≡ hash_from 0 l.bytes
+invariant-bytes l = record {
+  below : l.hash < PRIME;
+  carried : hash_from l.point l.hash (drop l.byte-index l.bytes) ≡ hash_from l.point 0 l.bytes;
+}

@@ -17,7 +17,7 @@ use Rattle.collate_index.specs.Changes.{TwoRecords}
 use Rattle.collate_index.specs.Keys.{IsKeyed, catalogue, key_of_name}
 use Rattle.collate_index.specs.Reloads.{IsTouched}
 use Rattle.collate_index.proofs.making.LentLemmas.{lent_keys}
-use Rattle.collate_index.proofs.reloading.RekeyedLemmas.{rekeyed_more, with_due}
+use Rattle.collate_index.proofs.reloading.RekeyedLemmas.{kept_more, none_made, rekeyed_more, with_due}
 use Rattle.collate_index.proofs.reloading.ReloadLemmas.{AreSoFar, all_made, none_yet, one_more, still_fewer}
 use Rattle.collate_index.proofs.reload.keys_by.Goals as goal
 
@@ -44,6 +44,7 @@ loop-name-init c =
           (All-same (IsKeyed (meaning_in old)) c.into_iter-name-iterator.result all left c.requires.keyed);
       left = left ∙ sym (ap (λ (ks : List (Option (List ℕ))). drop (length ks) all) none);
       upto = omega (arith, ap length none);
+      kept = λ nothing. let P : List (Option (List ℕ)) → Type 0 = λ ks. rekeyed ks (take (length ks) all) ≡ take (length ks) all in subst P (sym none) refl;
       changes = c.in_ok-changes.ensures;
     }
 
@@ -67,7 +68,7 @@ loop-name-preserved c =
     let later = c.next.new.self in
     let stored : StoredName = record { key = c.in-Some.own.now; name = c.in-Some.name.now } in
     let text : List ℕ = utf8_chars c.in-Some.name.now in
-    let due : Bool = c.is_due-is_due.result in
+    let due : Bool = c.in_ok-is_due.is_due in
     let made : List ℕ = key_of_name (meaning_in (reloaded new old)) c.in-Some.name.now in
     let wrote : key_by c.as_borrowed-lent.result text ≡ made =
     lent_keys (reloaded new old) c.args.collator.now c.keep_rules-2.ensures.accepted c.requires.collator
@@ -86,12 +87,16 @@ loop-name-preserved c =
           (one_more old new c.keep_rules.ensures.accepted c.keep_rules-2.ensures.accepted
           so_far later stored (if due then made else stored.key) due c.settings_equal-is_set_alike.result c.loop-name.name-iterator c.loop-name.made c.renewed.new.made
           c.loop-name.invariant.so_far first c.settings_equal-is_set_alike.ensures
-          (subst (λ (files : TwoRecords). OnTrue due (c.settings_equal-is_set_alike.result ≡ true → IsTouched files.before files.after c.in-Some.name.now)) c.loop-name.invariant.changes c.is_due-is_due.ensures.due)
-          (subst (λ (files : TwoRecords). OnFalse due ((c.settings_equal-is_set_alike.result ≡ true) × ReachesUnchanged files.before files.after text)) c.loop-name.invariant.changes c.is_due-is_due.ensures.other)
+          (subst (λ (files : TwoRecords). OnTrue due (c.settings_equal-is_set_alike.result ≡ true → IsTouched files.before files.after c.in-Some.name.now)) c.loop-name.invariant.changes c.in_ok-is_due.ensures.due)
+          (subst (λ (files : TwoRecords). OnFalse due ((c.settings_equal-is_set_alike.result ≡ true) × ReachesUnchanged files.before files.after text)) c.loop-name.invariant.changes c.in_ok-is_due.ensures.other)
           refl c.in_ok-key.ensures.made);
       left = sym (ap (λ (ks : List (Option (List ℕ))). drop (length ks) all) pushed ∙ more.1);
       upto = omega (arith, ap length pushed, ap length dropped, length-drop (length keys) all, c.loop-name.invariant.upto);
-      changes = c.is_due-is_due.ensures.same ∙ c.loop-name.invariant.changes;
+      kept = λ nothing.
+          let here = none_made due c.in_ok-key.key (key_by c.as_borrowed-lent.result text) stored c.loop-name.made c.renewed.new.made c.in_ok-key.ensures.key c.in_ok-key.ensures.made nothing in
+          let P : List (Option (List ℕ)) → Type 0 = λ ks. rekeyed ks (take (length ks) all) ≡ take (length ks) all in
+          subst P (sym pushed) (kept_more keys c.in_ok-key.key all later stored dropped here.1 (c.loop-name.invariant.kept here.0));
+      changes = c.is_due.ensures.same ∙ c.loop-name.invariant.changes;
     }
 
 pub returns-clause-count : goal.returns-clause-count
@@ -108,6 +113,14 @@ returns-clause-keyed c =
     let ended : drop (length keys) c.args.names.now ≡ [] = sym c.loop-name.invariant.left ∙ none in
     let all : take (length keys) c.args.names.now ≡ c.args.names.now = take_all (length keys) c.args.names.now (omega (arith, ap length ended, length-drop (length keys) c.args.names.now)) in
     subst (λ (names : List StoredName). All (IsKeyed (meaning_in (reloaded c.args.records.now.lines old))) (rekeyed keys names)) all c.loop-name.invariant.so_far.keyed
+
+pub returns-clause-kept : goal.returns-clause-kept
+returns-clause-kept c =
+    let keys = c.loop-name.keys.items in
+    let none : c.loop-name.name-iterator ≡ [] = none_of c.next.result c.loop-name.name-iterator c.next.new.self c.in-None.is c.next.ensures.steps in
+    let ended : drop (length keys) c.args.names.now ≡ [] = sym c.loop-name.invariant.left ∙ none in
+    let all : take (length keys) c.args.names.now ≡ c.args.names.now = take_all (length keys) c.args.names.now (omega (arith, ap length ended, length-drop (length keys) c.args.names.now)) in
+    subst (λ (names : List StoredName). c.loop-name.made ≡ 0 → rekeyed keys names ≡ names) all c.loop-name.invariant.kept
 
 pub returns-clause-made : goal.returns-clause-made
 returns-clause-made c =

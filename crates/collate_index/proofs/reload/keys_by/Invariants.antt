@@ -9,5 +9,6 @@ invariant-loop-name l = record {
   so_far : AreSoFar (catalogue l.fn.before l.fn.asked l.fn.names) l.fn.records.lines (rekeyed l.keys.items (take (length l.keys.items) l.fn.names)) l.name-iterator l.made;
   left : l.name-iterator ≡ drop (length l.keys.items) l.fn.names;
   upto : length l.keys.items ≤ length l.fn.names;
+  kept : l.made ≡ 0 → rekeyed l.keys.items (take (length l.keys.items) l.fn.names) ≡ take (length l.keys.items) l.fn.names;
   changes : l.changes ≡ record { before = l.fn.before.lines; after = l.fn.records.lines };
 }

@@ -1,4 +1,4 @@
-use Rattle.collate_rules.proofs.records.RecordedTextLemmas.{key_put}
+use Rattle.collate_lines.proofs.reading.KeyLemmas.{key_put}
 use Rattle.collate_rules.proofs.texts.put_key.Goals as goal
 
 pub returns : goal.returns

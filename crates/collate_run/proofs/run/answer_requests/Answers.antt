@@ -1,8 +1,9 @@
-use Rattle.std.proofs.Common.{Err}
+use Rattle.std.proofs.Common.{Err, ap}
+use Rattle.collate_lines.specs.declared.limits.Limits.{Limits}
 use Rattle.collate_run.specs.ReplyText.{reply_text}
 use Rattle.collate_run.specs.Watched.{watched_inner, watched_failed}
 use Rattle.collate_run.proofs.lines.CommandLineRunLemmas.{progress-none, progress-more, ran-end, ran-cut, ran-write, ran-last}
-use Rattle.collate_run.proofs.lines.CommandLineReadLemmas.{answered, no-request, sent-all, unfailed}
+use Rattle.collate_run.proofs.lines.CommandLineReadLemmas.{answered, limit-of, no-request, sent-all, unfailed}
 use Rattle.collate_run.proofs.run.answer_requests.Goals as goal
 
 pub requests-init : goal.requests-init
@@ -42,8 +43,9 @@ returns-in-Err-write_reply-clause-ran g c =
     let w1 = g.W.Write.contents (watched_inner c.requests.writer) in
     let w2 = g.W.Write.contents (watched_inner c.write_reply.new.writer) in
     let read = c.in-Ok-Some.ensures.bytes in
+    let limited = limit-of c.in-Ok-Some.field-0 c.limits-limit.result.bytes c.requests.index.limits.bytes (ap (λ (limits : Limits). limits.bytes) c.limits-limit.ensures) c.in-Ok-Some.ensures.limit in
     let got = answered c.in-Ok-Some.field-0 c.in-Ok-Some.asked r2 c.requests.count c.next_request.new.count read.0 c.deref.result.now c.as_deref.result c.requests.index c.answer-reply.new.index (reply_text c.answer-reply.result)
-    c.in-Ok-Some.field-0-is read.2 c.deref.ensures.value c.as_deref.ensures.value c.answer-reply.ensures in
+    c.in-Ok-Some.field-0-is read.2 c.deref.ensures.value c.as_deref.ensures.value limited c.answer-reply.ensures in
     ran-write c.args.index.now c.requests.index r0 r1 r2 w0 w1 w2 c.requests.count c.requests.invariant.progress c.in-Ok-Some.asked read.0 read.1 c.next_request.new.count got.spells
     c.answer-reply.new.index (reply_text c.answer-reply.result) got.answers (Err c.in-Err-write_reply.fault) c.in-Err-write_reply.fault c.in-Err-write_reply.ensures.fault c.in-Err-write_reply.ensures.bytes
 
@@ -56,8 +58,9 @@ returns-then-not-asked-clause-ran g c =
     let w1 = g.W.Write.contents (watched_inner c.requests.writer) in
     let w2 = g.W.Write.contents (watched_inner c.write_reply.new.writer) in
     let read = c.in-Ok-Some.ensures.bytes in
+    let limited = limit-of c.in-Ok-Some.field-0 c.limits-limit.result.bytes c.requests.index.limits.bytes (ap (λ (limits : Limits). limits.bytes) c.limits-limit.ensures) c.in-Ok-Some.ensures.limit in
     let got = answered c.in-Ok-Some.field-0 c.in-Ok-Some.asked r2 c.requests.count c.next_request.new.count read.0 c.deref.result.now c.as_deref.result c.requests.index c.answer-reply.new.index (reply_text c.answer-reply.result)
-    c.in-Ok-Some.field-0-is read.2 c.deref.ensures.value c.as_deref.ensures.value c.answer-reply.ensures in
+    c.in-Ok-Some.field-0-is read.2 c.deref.ensures.value c.as_deref.ensures.value limited c.answer-reply.ensures in
     ran-last c.args.index.now c.requests.index r0 r1 r2 w0 w1 w2 c.requests.count c.requests.invariant.progress c.in-Ok-Some.asked read.0 read.1 c.next_request.new.count got.spells
     c.answer-reply.new.index (reply_text c.answer-reply.result) got.answers c.if-not-asked.true (sent-all c.in-Ok.field-0 w1 w2 (reply_text c.answer-reply.result) c.in-Ok.ensures.bytes)
 
@@ -70,8 +73,9 @@ requests-preserved g c =
     let w1 = g.W.Write.contents (watched_inner c.requests.writer) in
     let w2 = g.W.Write.contents (watched_inner c.write_reply.new.writer) in
     let read = c.in-Ok-Some.ensures.bytes in
+    let limited = limit-of c.in-Ok-Some.field-0 c.limits-limit.result.bytes c.requests.index.limits.bytes (ap (λ (limits : Limits). limits.bytes) c.limits-limit.ensures) c.in-Ok-Some.ensures.limit in
     let got = answered c.in-Ok-Some.field-0 c.in-Ok-Some.asked r2 c.requests.count c.next_request.new.count read.0 c.deref.result.now c.as_deref.result c.requests.index c.answer-reply.new.index (reply_text c.answer-reply.result)
-    c.in-Ok-Some.field-0-is read.2 c.deref.ensures.value c.as_deref.ensures.value c.answer-reply.ensures in
+    c.in-Ok-Some.field-0-is read.2 c.deref.ensures.value c.as_deref.ensures.value limited c.answer-reply.ensures in
     record {
       reader = unfailed (watched_failed c.next_request.new.reader) (watched_failed c.requests.reader) c.in-Ok-Some.ensures.failed c.requests.invariant.reader;
       writer = unfailed (watched_failed c.write_reply.new.writer) (watched_failed c.requests.writer) c.in-Ok.ensures.failed c.requests.invariant.writer;
@@ -88,8 +92,9 @@ requests-preserved-else-not-asked g c =
     let w1 = g.W.Write.contents (watched_inner c.requests.writer) in
     let w2 = g.W.Write.contents (watched_inner c.write_reply.new.writer) in
     let read = c.in-Ok-Some.ensures.bytes in
+    let limited = limit-of c.in-Ok-Some.field-0 c.limits-limit.result.bytes c.requests.index.limits.bytes (ap (λ (limits : Limits). limits.bytes) c.limits-limit.ensures) c.in-Ok-Some.ensures.limit in
     let got = answered c.in-Ok-Some.field-0 c.in-Ok-Some.asked r2 c.requests.count c.next_request.new.count read.0 c.deref.result.now c.as_deref.result c.requests.index c.answer-reply.new.index (reply_text c.answer-reply.result)
-    c.in-Ok-Some.field-0-is read.2 c.deref.ensures.value c.as_deref.ensures.value c.answer-reply.ensures in
+    c.in-Ok-Some.field-0-is read.2 c.deref.ensures.value c.as_deref.ensures.value limited c.answer-reply.ensures in
     record {
       reader = unfailed (watched_failed c.next_request.new.reader) (watched_failed c.requests.reader) c.in-Ok-Some.ensures.failed c.requests.invariant.reader;
       writer = unfailed (watched_failed c.write_reply.new.writer) (watched_failed c.requests.writer) c.in-Ok.ensures.failed c.requests.invariant.writer;

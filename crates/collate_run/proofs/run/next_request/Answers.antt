@@ -1,6 +1,6 @@
 use Rattle.std.proofs.Common.{◌≡◌, ◌++◌, ◌∙◌, ℕ, refl, ap, subst, arith}
 use Rattle.collate_run.specs.Reading.{SpellsRequest, spelled}
-use Rattle.collate_run.specs.Replies.{behind}
+use Rattle.collate_run.specs.Replies.{AreFirst, behind}
 use Rattle.collate_run.specs.Watched.{watched_inner, watched_failed}
 use Rattle.collate_run.proofs.bytes.KnownBytesLemmas.{Consumes-then}
 use Rattle.collate_run.proofs.lines.CommandLineReadLemmas.{no-line, some-line, unmarked}
@@ -19,6 +19,7 @@ loop-init g c =
     let line = some-line c.in-Ok-Some.field-0 c.in-Ok-Some.line r c.args.count.now c.next_line.new.count read.0 c.in-Ok-Some.field-0-is read.2 in
     record {
       same = unmarked (watched_failed c.next_line.new.reader) (watched_failed c.args.reader.now) c.in-Ok-Some.ensures.failed;
+      limit = refl;
       asked = c.records_behind-wanted.ensures ∙ ap behind c.deref.ensures.value;
       so_far = (read.0, read.1, request-first c.in-Ok-Some.line r read.0 line.0 _ c.args.count.now c.next_line.new.count refl refl c.new.ensures.items line.1 line.2 line.3);
     }
@@ -66,13 +67,14 @@ loop-preserved g c =
     let line = some-line c.in-Ok-Some-next_line.field-0 c.in-Ok-Some-next_line.record r2 c.loop.count c.next_line-in-loop.new.count read.0 c.in-Ok-Some-next_line.field-0-is read.2 in
     record {
       same = unmarked (watched_failed c.next_line-in-loop.new.reader) (watched_failed c.loop.reader) c.in-Ok-Some-next_line.ensures.failed ∙ c.loop.invariant.same;
+      limit = c.loop.invariant.limit;
       asked = c.loop.invariant.asked;
       so_far = (
         before.0 ++ read.0,
         Consumes-then r0 r1 r2 before.0 read.0 before.1 read.1,
         request-more c.loop.request c.loop.counter r1 r2 c.args.count.now c.loop.count before.0 before.2 (is-ended c.loop.request.is_ended c.if-not-request.false)
             c.in-Ok-Some-next_line.record read.0 line.0 _ c.next_line-in-loop.new.count refl refl
-            (kept-more (λ kept. kept.items) c.with_line.result (spelled before.2.records) c.in-Ok-Some-next_line.record.bytes.items c.deref-in-loop.result.now c.deref-in-loop.ensures.value (c.with_line.ensures (spelled before.2.records) before.2.kept))
+            (kept-more (λ kept file. AreFirst c.loop.request.limit kept.items file) c.with_line.result (spelled before.2.records) c.in-Ok-Some-next_line.record.bytes.items c.deref-in-loop.result.now c.deref-in-loop.ensures.value (c.with_line.ensures (spelled before.2.records) before.2.kept))
             line.1 line.2 line.3,
       );
     }

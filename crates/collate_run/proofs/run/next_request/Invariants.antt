@@ -9,6 +9,7 @@ use Rattle.collate_run.proofs.run.next_request.Given as goal
 abbrev pub invariant-loop : goal.invariant-loop
 invariant-loop g l = record {
   same : watched_failed l.reader ≡ watched_failed l.fn.reader;
+  limit : l.request.limit ≡ l.limit;
   asked : l.wanted ≡ behind l.request.line.items;
   so_far : (bytes : List ℕ)
       × Consumes (g.R.Read.remaining (watched_inner l.fn.reader)) (g.R.Read.remaining (watched_inner l.reader)) bytes

@@ -1,6 +1,6 @@
 //! The compatibility tables of what is given, over canonical tables.
 
-ghost use Rattle.std.specs.Prelude.{◌≡◌, ◌≤◌, ◌⊎◌, [], nat_eq, IfOk, IfErr, OnOk, All};
+ghost use Rattle.std.specs.Prelude.{◌≡◌, ◌≤◌, ◌⊎◌, [], true, false, nat_eq, IfOk, IfErr, OnOk, All};
 ghost use Rattle.std.specs.Char.{IsScalar};
 ghost use Rattle.std.specs.Set.{distinct_count};
 ghost use Rattle.icu_codepointtrie.specs.Blocks.{different_blocks};
@@ -15,10 +15,10 @@ ghost use Rattle.icu_normalizer_core.specs.CompatibilityMeaning.{nfkd_lists};
 ghost use Rattle.icu_normalizer_core.specs.GivenCompatibilities.{IsOfCharacters};
 ghost use Rattle.icu_normalizer_core.specs.GivenMaps.{IsOfScalars};
 ghost use Rattle.icu_normalizer_core.specs.Named.{block_count};
-ghost use Rattle.icu_normalizer_core.specs.SettledMappings.{AreFullWords, AreOthersUnnamed, IsSound, LacksWords, steps_in};
+ghost use Rattle.icu_normalizer_core.specs.SettledMappings.{AreFullWords, AreOthersUnnamed, IsSound, KeepOneMapping, LacksWords, steps_in};
 
 use super::compatibility_words::CompatibilityWords;
-use super::mappings::{Mappings, are_on_starters};
+use super::mappings::{Mappings, are_on_starters, first_places};
 use super::names::all_characters_of;
 use super::one_mapping::{are_apart, have_one_compatibility};
 use super::trie::trie_of;
@@ -63,13 +63,34 @@ fn word_tables(
     ensures plain { IfOk result (λ made. HasPlainWords made.trie) }
     ensures refused { IfErr result (λ e. (e ≡ Memory) ⊎ ((e ≡ Rules) × LacksWords (steps_in over.entry) named.entry.now)) }
 {
-    let settled = over.settle(alloc)?;
-    let made = match over.full_words(alloc, settled.as_slice(), named) {
+    let places = first_places(alloc, over.given)?;
+    let settled = over.settle(alloc, &places)?;
+    let made = match over.full_words(alloc, &places, settled.as_slice(), named) {
         Ok(made) => made,
         Err(error) => return Err(error),
     };
     let tables = packed(alloc, &made)?;
     Ok(tables)
+}
+
+/// Whether each character that is given has one mapping, of one kind, and stands on a starter, what is built in aside. The
+/// only error is want of memory.
+fn keep_mapping_rule(
+    alloc: Global,
+    mappings: &[GivenMapping],
+    given: &[GivenCompatibility],
+    tables: &CanonicalTables<'_>,
+) -> Result<bool, AllocError>
+    ensures kept { IfOk result (λ kept. kept ≡ true → KeepOneMapping mappings.now (meaning tables.now).class given.now) }
+    ensures broken { IfOk result (λ kept. kept ≡ false → KeepOneMapping mappings.now (meaning tables.now).class given.now → ⊥) }
+{
+    if !have_one_compatibility(alloc, given)? {
+        return Ok(false);
+    }
+    if !are_apart(alloc, mappings, given)? {
+        return Ok(false);
+    }
+    Ok(are_on_starters(tables, given))
 }
 
 /// The compatibility tables of maps, over canonical tables that mean the same maps; they pass every check. `Rules` only
@@ -99,13 +120,8 @@ pub(super) fn compatibility_tables(
         Ok(characters) => characters,
         Err(error) => return Err(error),
     };
-    if !have_one_compatibility(alloc, given)? {
-        return Err(CanonicalDataBuildError::Rules);
-    }
-    if !are_apart(alloc, mappings, given)? {
-        return Err(CanonicalDataBuildError::Rules);
-    }
-    if !are_on_starters(tables, given) {
+    let kept = keep_mapping_rule(alloc, mappings, given, tables)?;
+    if !kept {
         return Err(CanonicalDataBuildError::Rules);
     }
     let made = match word_tables(alloc, Mappings { tables, given }, characters.as_slice()) {

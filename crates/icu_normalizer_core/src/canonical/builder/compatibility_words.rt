@@ -7,6 +7,7 @@ ghost use Rattle.icu_normalizer_core.specs.declared.canonical.builder.CanonicalD
 ghost use Rattle.icu_normalizer_core.specs.BuiltIn.{built_in_step, is_syllable};
 ghost use Rattle.icu_normalizer_core.specs.Canonical.{IsFree};
 ghost use Rattle.icu_normalizer_core.specs.CanonicalMeaning.{meaning};
+ghost use Rattle.icu_normalizer_core.specs.FirstMappings.{HasFirstPlaces};
 ghost use Rattle.icu_normalizer_core.specs.Settled.{left_items};
 ghost use Rattle.icu_normalizer_core.specs.SettledMappings.{AreMappingStarts, AreRightSoFar, IsAllSettled, IsSound, KeepsFullWord, LacksWords, StartsLeft, full_room, steps_in};
 
@@ -19,6 +20,7 @@ use super::trie::{set_word, unnamed_words};
 use crate::canonical::check::left::Left;
 use icu_codepointtrie::CodePointTrieBuilder;
 use std::alloc::{AllocError, Global};
+use std::collections::BTreeMap;
 
 /// The compatibility words of characters, and the characters of lists that stand apart from their words.
 #[derive(Drop)]
@@ -58,10 +60,12 @@ impl Mappings<'_> {
     pub(super) fn full_words(
         self,
         alloc: Global,
+        places: &BTreeMap<char, usize>,
         settled: &[Option<Left>],
         named: &[char],
     ) -> Result<CompatibilityWords, CanonicalDataBuildError>
         requires sound { IsSound self }
+        requires places { HasFirstPlaces self.given.now places.now }
         requires starts { AreMappingStarts (steps_in self) self.given.now settled.now }
         requires done { IsAllSettled (meaning self.tables.now).full self.given.now settled.now }
         requires scalars { All IsScalar named.now }
@@ -71,7 +75,7 @@ impl Mappings<'_> {
         let mut words = unnamed_words(alloc)?;
         let mut scalars24 = Vec::new(alloc);
         for c in named {
-            let Some(left) = self.left_of(settled, *c) else {
+            let Some(left) = self.left_of(places, settled, *c) else {
                 return Err(CanonicalDataBuildError::Rules);
             };
             if left.characters[..left.count].len() > 8 {

@@ -1,14 +1,19 @@
 //! Compatibility mappings that are given, over canonical tables.
 
-ghost use Rattle.std.specs.Prelude.{◌≡◌, ◌↔◌, ◌<◌, length, IsTrue, slice_get, None, MatchOption};
+ghost use Rattle.std.specs.Prelude.{◌≡◌, ◌↔◌, ◌==◌, ℕ, cond, IsTrue, Some, None, IfOk, OnOk};
+ghost use Rattle.std.specs.BTreeMap.{get};
+ghost use Rattle.std.specs.Option.{option_or};
+ghost use Rattle.std.specs.Ordering.{nat_cmp};
 ghost use Rattle.icu_normalizer_core.specs.BuiltIn.{is_built_in};
 ghost use Rattle.icu_normalizer_core.specs.CanonicalMeaning.{meaning};
-ghost use Rattle.icu_normalizer_core.specs.CompatibilityMaps.{first_given};
+ghost use Rattle.icu_normalizer_core.specs.FirstMappings.{HasFirstPlaces};
 ghost use Rattle.icu_normalizer_core.specs.SettledMappings.{AreOnStarters};
 
 use super::GivenCompatibility;
 use crate::built_in::is_built_in;
 use crate::canonical::tables::CanonicalTables;
+use std::alloc::{AllocError, Global};
+use std::collections::BTreeMap;
 
 /// Compatibility mappings, and the canonical tables over which they stand.
 #[derive(Clone, Copy, Debug)]
@@ -29,14 +34,30 @@ pub(super) fn are_on_starters(tables: &CanonicalTables<'_>, given: &[GivenCompat
     true
 }
 
-/// The place of the first mapping of a character, `None` without one.
-pub(super) fn place_of(given: &[GivenCompatibility], c: char) -> Option<usize>
-    ensures { MatchOption result (first_given given.now c ≡ None) (λ place. (place < length given.now) × (first_given given.now c ≡ slice_get given.now place)) }
+/// The place of the first mapping of each character. The only error is want of memory.
+pub(super) fn first_places(
+    alloc: Global,
+    given: &[GivenCompatibility],
+) -> Result<BTreeMap<char, usize>, AllocError>
+    ensures { IfOk result (HasFirstPlaces given.now) }
 {
+    let mut places = BTreeMap::new(alloc);
     for place in 0..given.len() {
-        if given[place].character == c {
-            return Some(place);
-        }
+        note_place(&mut places, given[place].character, place)?;
     }
-    None
+    Ok(places)
+}
+
+/// Notes a place as that of the first mapping of a character, unless another one is. The only error is want of memory.
+fn note_place(
+    places: &mut BTreeMap<char, usize>,
+    character: char,
+    place: usize,
+) -> Result<(), AllocError>
+    ensures { OnOk result ((c : ℕ) → get nat_cmp places.new c ≡ option_or (get nat_cmp places.old c) (cond (character == c) (Some place) None)) }
+{
+    if places.get(&character).is_none() {
+        places.insert(character, place)?;
+    }
+    Ok(())
 }

@@ -1,23 +1,26 @@
 //! What canonical and compatibility steps leave together, found mapping by mapping.
 
-ghost use Rattle.std.specs.Prelude.{◌≡◌, ◌<◌, ℕ, ◌∷◌, [], true, false, length, slice_get, List, Some, None, MatchOption, IfOk, All};
+ghost use Rattle.std.specs.Prelude.{◌≡◌, ◌<◌, ℕ, ◌∷◌, [], true, false, length, slice_get, List, Some, None, MatchOption, IfOk, IfSome, All};
 ghost use Rattle.std.specs.Char.{IsScalar};
 ghost use Rattle.icu_normalizer_core.specs.CanonicalMeaning.{meaning};
+ghost use Rattle.icu_normalizer_core.specs.FirstMappings.{HasFirstPlaces};
 ghost use Rattle.icu_normalizer_core.specs.Settled.{open_count};
 ghost use Rattle.icu_normalizer_core.specs.SettledMappings.{AreMappingStarts, HasOpen, IsAllSettled, IsOpenMapping, IsSound, StartsLeft, mapping_at, steps_in};
 
 use super::GivenCompatibility;
-use super::mappings::{Mappings, place_of};
+use super::mappings::Mappings;
 use crate::built_in::{built_in_compatibility_step, built_in_step};
 use crate::canonical::check::built_in::step_characters;
 use crate::canonical::check::left::Left;
 use crate::canonical::full_list::full_list;
 use std::alloc::{AllocError, Global};
+use std::collections::BTreeMap;
 
 impl Mappings<'_> {
     /// What steps leave of a character without a canonical mapping; `None` where that isn't settled.
-    fn listed_left(self, settled: &[Option<Left>], c: char) -> Option<Left>
+    fn listed_left(self, places: &BTreeMap<char, usize>, settled: &[Option<Left>], c: char) -> Option<Left>
         requires sound { IsSound self }
+        requires places { HasFirstPlaces self.given.now places.now }
         requires starts { AreMappingStarts (steps_in self) self.given.now settled.now }
         requires unmapped { (meaning self.tables.now).step c ≡ [] }
         ensures { MatchOption result (IsOpenMapping self.entry.given.now settled.now c) (StartsLeft (steps_in self.entry) (c ∷ [])) }
@@ -28,21 +31,22 @@ impl Mappings<'_> {
         if built_in_step(c as u32).is_some() {
             return Some(Left::one(c as u32));
         }
-        match place_of(self.given, c) {
+        match places.get(&c).copied() {
             Some(place) => settled[place],
             None => Some(Left::one(c as u32)),
         }
     }
 
     /// What steps leave of a character; `None` where that isn't settled.
-    pub(super) fn left_of(self, settled: &[Option<Left>], c: char) -> Option<Left>
+    pub(super) fn left_of(self, places: &BTreeMap<char, usize>, settled: &[Option<Left>], c: char) -> Option<Left>
         requires sound { IsSound self }
+        requires places { HasFirstPlaces self.given.now places.now }
         requires starts { AreMappingStarts (steps_in self) self.given.now settled.now }
         ensures { MatchOption result (HasOpen (meaning self.entry.tables.now).full self.entry.given.now settled.now (c ∷ [])) (StartsLeft (steps_in self.entry) (c ∷ [])) }
     {
         let mut left = Left::none();
         for d in full_list(self.tables, c) {
-            let Some(more) = self.listed_left(settled, d) else {
+            let Some(more) = self.listed_left(places, settled, d) else {
                 return None;
             };
             left = left.joined(more);
@@ -51,15 +55,16 @@ impl Mappings<'_> {
     }
 
     /// What steps leave of a mapping; `None` where that isn't settled.
-    fn mapping_left(self, settled: &[Option<Left>], mapping: &[char]) -> Option<Left>
+    fn mapping_left(self, places: &BTreeMap<char, usize>, settled: &[Option<Left>], mapping: &[char]) -> Option<Left>
         requires sound { IsSound self }
+        requires places { HasFirstPlaces self.given.now places.now }
         requires starts { AreMappingStarts (steps_in self) self.given.now settled.now }
         requires scalars { All IsScalar mapping.now }
         ensures { MatchOption result (HasOpen (meaning self.entry.tables.now).full self.entry.given.now settled.now mapping.now) (StartsLeft (steps_in self.entry) mapping.now) }
     {
         let mut left = Left::none();
         for c in mapping {
-            let Some(more) = self.left_of(settled, *c) else {
+            let Some(more) = self.left_of(places, settled, *c) else {
                 return None;
             };
             left = left.joined(more);
@@ -68,8 +73,9 @@ impl Mappings<'_> {
     }
 
     /// Settles a mapping, where it wasn't settled and can be; whether it was.
-    fn settle_at(self, settled: &mut [Option<Left>], place: usize) -> bool
+    fn settle_at(self, places: &BTreeMap<char, usize>, settled: &mut [Option<Left>], place: usize) -> bool
         requires sound { IsSound self }
+        requires places { HasFirstPlaces self.given.now places.now }
         requires starts { AreMappingStarts (steps_in self) self.given.now settled.old }
         requires inside { place < length self.given.now }
         ensures starts { AreMappingStarts (steps_in self.entry) self.entry.given.now settled.new }
@@ -80,16 +86,110 @@ impl Mappings<'_> {
         if settled[place].is_some() {
             return false;
         }
-        let Some(left) = self.mapping_left(settled, self.given[place].mapping.as_slice()) else {
+        let Some(left) = self.mapping_left(places, settled, self.given[place].mapping.as_slice()) else {
             return false;
         };
         settled[place] = Some(left);
         true
     }
 
-    /// Settles the mappings that can be, one after another; whether there was one.
-    fn settle_once(self, settled: &mut [Option<Left>]) -> bool
+    /// The place of a character's mapping, where that is neither settled nor visited.
+    fn unvisited_place(
+        self,
+        places: &BTreeMap<char, usize>,
+        settled: &[Option<Left>],
+        visited: &[bool],
+        c: char,
+    ) -> Option<usize>
         requires sound { IsSound self }
+        requires places { HasFirstPlaces self.given.now places.now }
+        requires settled { length settled.now ≡ length self.given.now }
+        requires visited { length visited.now ≡ length self.given.now }
+        ensures { IfSome result (λ place. slice_get visited.now place ≡ Some false) }
+    {
+        let place = places.get(&c).copied()?;
+        if settled[place].is_some() || visited[place] {
+            return None;
+        }
+        Some(place)
+    }
+
+    /// A mapping without which it isn't known what steps leave of a character, neither settled nor visited.
+    fn needed_by(self, places: &BTreeMap<char, usize>, settled: &[Option<Left>], visited: &[bool], c: char) -> Option<usize>
+        requires sound { IsSound self }
+        requires places { HasFirstPlaces self.given.now places.now }
+        requires settled { length settled.now ≡ length self.given.now }
+        requires visited { length visited.now ≡ length self.given.now }
+        ensures { IfSome result (λ place. slice_get visited.now place ≡ Some false) }
+    {
+        for d in full_list(self.tables, c) {
+            if let Some(needed) = self.unvisited_place(places, settled, visited, d) {
+                return Some(needed);
+            }
+        }
+        None
+    }
+
+    /// A mapping without which that at a place can't be settled, neither settled nor visited.
+    fn needed_at(self, places: &BTreeMap<char, usize>, settled: &[Option<Left>], visited: &[bool], place: usize) -> Option<usize>
+        requires sound { IsSound self }
+        requires places { HasFirstPlaces self.given.now places.now }
+        requires settled { length settled.now ≡ length self.given.now }
+        requires visited { length visited.now ≡ length self.given.now }
+        requires inside { place < length self.given.now }
+        ensures { IfSome result (λ place. slice_get visited.now place ≡ Some false) }
+    {
+        for c in self.given[place].mapping.as_slice() {
+            if let Some(needed) = self.needed_by(places, settled, visited, *c) {
+                return Some(needed);
+            }
+        }
+        None
+    }
+
+    /// The places of the mappings, the first one last. The only error is want of memory.
+    fn all_places(self, alloc: Global) -> Result<Vec<usize>, AllocError>
+        ensures { IfOk result (λ places. All (λ place. place < length self.entry.given.now) places.items) }
+    {
+        let mut places = Vec::new(alloc);
+        for place in (0..self.given.len()).rev() {
+            places.push(place)?;
+        }
+        Ok(places)
+    }
+
+    /// Settles the mappings that can be, each behind those that it needs, by a walk in depth that visits each but once. The
+    /// only error is want of memory.
+    fn settle_in_depth(
+        self,
+        alloc: Global,
+        places: &BTreeMap<char, usize>,
+        settled: &mut [Option<Left>],
+    ) -> Result<(), AllocError>
+        requires sound { IsSound self }
+        requires places { HasFirstPlaces self.given.now places.now }
+        requires starts { AreMappingStarts (steps_in self) self.given.now settled.old }
+        ensures starts { AreMappingStarts (steps_in self.entry) self.entry.given.now settled.new }
+    {
+        let mut visited = vec![in alloc; false; self.given.len()]?;
+        let mut path = self.all_places(alloc)?;
+        while let Some(place) = path.pop() {
+            if self.settle_at(places, settled, place) {
+                continue;
+            }
+            if let Some(needed) = self.needed_at(places, settled, &visited, place) {
+                visited[needed] = true;
+                path.push(place)?;
+                path.push(needed)?;
+            }
+        }
+        Ok(())
+    }
+
+    /// Settles the mappings that can be, one after another; whether there was one.
+    fn settle_once(self, places: &BTreeMap<char, usize>, settled: &mut [Option<Left>]) -> bool
+        requires sound { IsSound self }
+        requires places { HasFirstPlaces self.given.now places.now }
         requires starts { AreMappingStarts (steps_in self) self.given.now settled.old }
         ensures starts { AreMappingStarts (steps_in self.entry) self.entry.given.now settled.new }
         ensures progress { result ≡ true → open_count settled.new < open_count settled.old }
@@ -97,7 +197,7 @@ impl Mappings<'_> {
     {
         let mut more = false;
         for place in 0..self.given.len() {
-            if self.settle_at(settled, place) {
+            if self.settle_at(places, settled, place) {
                 more = true;
             }
         }
@@ -105,13 +205,16 @@ impl Mappings<'_> {
     }
 
     /// What steps leave of the mappings, where they end. The only error is want of memory.
-    pub(super) fn settle(self, alloc: Global) -> Result<Vec<Option<Left>>, AllocError>
-        requires { IsSound self }
+    pub(super) fn settle(self, alloc: Global, places: &BTreeMap<char, usize>) -> Result<Vec<Option<Left>>, AllocError>
+        requires sound { IsSound self }
+        requires places { HasFirstPlaces self.given.now places.now }
         ensures starts { IfOk result (λ settled. AreMappingStarts (steps_in self.entry) self.entry.given.now settled.items) }
         ensures done { IfOk result (λ settled. IsAllSettled (meaning self.entry.tables.now).full self.entry.given.now settled.items) }
     {
         let mut settled = all_open(alloc, self.given)?;
-        while self.settle_once(settled.as_mut_slice()) {}
+        self.settle_in_depth(alloc, places, settled.as_mut_slice())?;
+        // Now all are settled that can be, and the last look at each finds no more.
+        while self.settle_once(places, settled.as_mut_slice()) {}
         Ok(settled)
     }
 }

@@ -147,14 +147,7 @@ fn tables_over(
         Ok(lists) => lists,
         Err(error) => return Err(error),
     };
-    let tables = packed_tables(
-        alloc,
-        classes,
-        mappings,
-        steps,
-        &lists,
-        characters.as_slice(),
-    )?;
+    let tables = packed_tables(alloc, classes, mappings, steps, &lists, &characters)?;
     Ok(tables)
 }
 

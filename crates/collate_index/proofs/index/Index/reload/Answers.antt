@@ -26,8 +26,8 @@ keys_by-requires-clause-keyed c = c.self.invariant.keyed
 
 pub invariant_of-self : goal.invariant_of-self
 invariant_of-self c =
-    kept_names c.self.inside c.self.invariant c.rekey.new.self
-    (All-same (IsKeyed (meaning_in (catalogue_of c.self.inside))) c.rekey.new.self c.self.inside.names c.in_err-rekey.ensures.unchanged c.self.invariant.keyed)
+    kept_names c.self.inside c.self.invariant c.renew.new.names
+    (All-same (IsKeyed (meaning_in (catalogue_of c.self.inside))) c.renew.new.names c.self.inside.names c.in_err-renew.ensures.unchanged c.self.invariant.keyed)
 
 pub invariant_of-self-2 : goal.invariant_of-self-2
 invariant_of-self-2 c =
@@ -38,8 +38,8 @@ invariant_of-self-2 c =
           as_asked c.in_ok-records.records.lines c.self.inside.asked c.preferences-preferences.result c.in_ok-collator.collator
           c.preferences-preferences.ensures.case_first c.preferences-preferences.ensures.numeric_ordering c.in_ok-collator.ensures;
       keyed =
-          All-same (IsKeyed (meaning_in (reloaded c.in_ok-records.records.lines old))) c.rekey.new.self (rekeyed c.in_ok-keys.keys.items c.self.inside.names)
-          c.in_ok-rekey.ensures.rekeyed c.in_ok-keys.ensures.keyed;
+          All-same (IsKeyed (meaning_in (reloaded c.in_ok-records.records.lines old))) c.renew.new.names (rekeyed c.in_ok-keys.keys.items c.self.inside.names)
+          c.in_ok-renew.ensures.rekeyed c.in_ok-keys.ensures.keyed;
     }
 
 -- the limits are those that the index had
@@ -54,9 +54,9 @@ returns-clause-accepted c =
 pub returns-clause-reloaded : goal.returns-clause-reloaded
 returns-clause-reloaded c =
     let records : List Record = records_of c.args.bytes.now in
-    let names : names_of c.rekey.new.self ≡ names_of c.self.inside.names = ap names_of c.in_ok-rekey.ensures.rekeyed ∙ names_stay c.in_ok-keys.keys.items c.self.inside.names in
-    ap (λ (rs : FileRecords). record { limits = rs.limits; records = rs.lines; asked = c.self.inside.asked; arrivals = names_of c.rekey.new.self }) c.in_ok-records.ensures.1
-    ∙ ap (λ (limits : Limits). record { limits = limits; records = records; asked = c.self.inside.asked; arrivals = names_of c.rekey.new.self }) c.limits.ensures
+    let names : names_of c.renew.new.names ≡ names_of c.self.inside.names = ap names_of c.in_ok-renew.ensures.rekeyed ∙ names_stay c.in_ok-keys.keys.items c.self.inside.names in
+    ap (λ (rs : FileRecords). record { limits = rs.limits; records = rs.lines; asked = c.self.inside.asked; arrivals = names_of c.renew.new.names }) c.in_ok-records.ensures.1
+    ∙ ap (λ (limits : Limits). record { limits = limits; records = records; asked = c.self.inside.asked; arrivals = names_of c.renew.new.names }) c.limits.ensures
     ∙ ap (λ (ns : List (List ℕ)). record { limits = c.self.inside.records.limits; records = records; asked = c.self.inside.asked; arrivals = ns }) names
     ∙ ap (λ (s : Catalogue). reloaded records s) c.self.view_is
 

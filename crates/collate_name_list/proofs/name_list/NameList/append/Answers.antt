@@ -12,7 +12,7 @@ use Rattle.collate_name_list.proofs.KeptLemmas.{kept_push, told_kept, length_kep
 use Rattle.collate_name_list.proofs.name_list.NameList.append.Goals as goal
 
 pub slot_of_name-requires-clause-hashes : goal.slot_of_name-requires-clause-hashes
-slot_of_name-requires-clause-hashes c = c.self.invariant.hashes ∙ sym (ap hashes_in c.as_slice-slots.ensures.value)
+slot_of_name-requires-clause-hashes c = c.self.invariant.hashes ∙ sym (ap (hashes_in c.self.inside.hashes.seed) c.as_slice-slots.ensures.value)
 
 pub returns-then-is_some-clause-duplicate : goal.returns-then-is_some-clause-duplicate
 returns-then-is_some-clause-duplicate c = λ same.
@@ -56,7 +56,8 @@ invariant_of-self-2 c =
     kept_push c.self.inside (record { alloc = c.self.inside.alloc; slots = c.push_reserved.new.self; by_key = c.insert.new.self; hashes = c.push.new.self })
     new c.place_of_key-keyed.result keyed c.self.invariant grown
     c.in_ok-insert.ensures.inserted
-    (c.push.ensures ∙ ap (λ hs. hs ++ c.hash_of-hash.result ∷ []) c.in_ok-reserve-2.ensures.same ∙ ap (λ h. c.self.inside.hashes.hashes ++ h ∷ []) (c.hash_of-hash.ensures.hash ∙ sym (ap hash_of bytes)))
+    (c.push.ensures.hashes ∙ ap (λ hs. hs ++ c.hash_of-hash.result ∷ []) c.in_ok-reserve-2.ensures.same ∙ ap (λ h. c.self.inside.hashes.hashes ++ h ∷ []) (c.hash_of-hash.ensures.hash ∙ sym (ap (hash_of c.self.inside.hashes.seed) bytes)))
+    (c.push.ensures.seed ∙ c.in_ok-reserve-2.ensures.seed)
     newest c.front-front.ensures
     c.place_of_key-keyed.ensures.bound
     (subst (λ b. Contains (names_of (entries slots)) b → ⊥) (sym bytes) absent)

@@ -12,4 +12,4 @@ returns c =
     c.args.name.now c.slot_of_name.result c.slot_of_name.ensures.full c.slot_of_name.ensures.name c.slot_of_name.ensures.absent)
 
 pub slot_of_name-requires-clause-hashes : goal.slot_of_name-requires-clause-hashes
-slot_of_name-requires-clause-hashes c = c.self.invariant.hashes ∙ sym (ap hashes_in c.as_slice.ensures.value)
+slot_of_name-requires-clause-hashes c = c.self.invariant.hashes ∙ sym (ap (hashes_in c.self.inside.hashes.seed) c.as_slice.ensures.value)

@@ -6,7 +6,7 @@ use Rattle.collate_name_list.proofs.KeptLemmas.{stored_kept}
 use Rattle.collate_name_list.proofs.name_list.NameList.key_of.Goals as goal
 
 pub slot_of_name-requires-clause-hashes : goal.slot_of_name-requires-clause-hashes
-slot_of_name-requires-clause-hashes c = c.self.invariant.hashes ∙ sym (ap hashes_in c.as_slice-slots.ensures.value)
+slot_of_name-requires-clause-hashes c = c.self.invariant.hashes ∙ sym (ap (hashes_in c.self.inside.hashes.seed) c.as_slice-slots.ensures.value)
 
 pub returns-in-Some-clause-stored : goal.returns-in-Some-clause-stored
 returns-in-Some-clause-stored c =

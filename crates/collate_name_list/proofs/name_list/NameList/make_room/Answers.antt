@@ -16,7 +16,7 @@ invariant_of-self c =
     kept_dense c.self.inside (record { alloc = c.self.inside.alloc; slots = c.drop_empty-2.new.slots; by_key = c.renumber.new.self; hashes = c.drop_empty.new.self }) c.in-Ok.numbers.items
     c.self.invariant (c.in-Ok.ensures ∙ ap (numbers_from 0) c.as_slice.ensures.value) c.drop_empty-2.ensures
     (c.renumber.ensures ∙ ap (λ ns. renumbered ns c.self.inside.by_key) c.as_slice-2.ensures.value)
-    c.drop_empty.ensures
+    c.drop_empty.ensures.hashes c.drop_empty.ensures.seed
 
 pub returns-in-Ok : goal.returns-in-Ok
 returns-in-Ok c = ap entries c.drop_empty-2.ensures ∙ entries_dense c.self.inside.slots.items ∙ c.self.view_is

@@ -26,9 +26,9 @@ invariant_of-self c =
     let dense : Inside = record { alloc = c.self.inside.alloc; slots = c.drop_empty-2.new.slots; by_key = c.renumber.new.self; hashes = c.drop_empty.new.self } in
     let kept : IsKept dense =
     kept_dense c.self.inside dense c.in_ok-numbers.numbers.items c.self.invariant (c.in_ok-numbers.ensures ∙ ap (numbers_from 0) c.as_slice.ensures.value) c.drop_empty-2.ensures
-    (c.renumber.ensures ∙ ap (λ ns. renumbered ns c.self.inside.by_key) c.as_slice-2.ensures.value) c.drop_empty.ensures in
+    (c.renumber.ensures ∙ ap (λ ns. renumbered ns c.self.inside.by_key) c.as_slice-2.ensures.value) c.drop_empty.ensures.hashes c.drop_empty.ensures.seed in
     kept_same dense (record { alloc = c.self.inside.alloc; slots = c.reorder.new.slots; by_key = c.renumber.new.self; hashes = c.drop_empty.new.self }) kept
-    c.in_err-self-inside.ensures.unchanged refl refl
+    c.in_err-self-inside.ensures.unchanged refl refl refl
 
 pub returns-in_err-self-inside-clause-unchanged : goal.returns-in_err-self-inside-clause-unchanged
 returns-in_err-self-inside-clause-unchanged c =
@@ -40,9 +40,9 @@ invariant_of-self-2 c =
     let dense : Inside = record { alloc = c.self.inside.alloc; slots = c.drop_empty-2.new.slots; by_key = c.renumber.new.self; hashes = c.drop_empty.new.self } in
     let kept : IsKept dense =
     kept_dense c.self.inside dense c.in_ok-numbers.numbers.items c.self.invariant (c.in_ok-numbers.ensures ∙ ap (numbers_from 0) c.as_slice.ensures.value) c.drop_empty-2.ensures
-    (c.renumber.ensures ∙ ap (λ ns. renumbered ns c.self.inside.by_key) c.as_slice-2.ensures.value) c.drop_empty.ensures in
+    (c.renumber.ensures ∙ ap (λ ns. renumbered ns c.self.inside.by_key) c.as_slice-2.ensures.value) c.drop_empty.ensures.hashes c.drop_empty.ensures.seed in
     kept_changed dense (record { alloc = c.self.inside.alloc; slots = c.reorder.new.slots; by_key = c.in_ok-self-inside.field-0; hashes = c.drop_empty.new.self })
-    c.drop_empty-2.new.slots.items c.args.keys.items kept refl c.in_ok-self-inside.ensures.slots c.in_ok-self-inside.ensures.order c.in_ok-self-inside.ensures.fronts refl
+    c.drop_empty-2.new.slots.items c.args.keys.items kept refl c.in_ok-self-inside.ensures.slots c.in_ok-self-inside.ensures.order c.in_ok-self-inside.ensures.fronts refl refl
 
 pub returns-clause-rekeyed : goal.returns-clause-rekeyed
 returns-clause-rekeyed c =

@@ -13,7 +13,7 @@ use Rattle.collate_name_list.proofs.KeptLemmas.{kept_remove, without_absent}
 use Rattle.collate_name_list.proofs.name_list.NameList.remove.Goals as goal
 
 pub slot_of_name-requires-clause-hashes : goal.slot_of_name-requires-clause-hashes
-slot_of_name-requires-clause-hashes c = c.self.invariant.hashes ∙ sym (ap hashes_in c.as_slice-slots.ensures.value)
+slot_of_name-requires-clause-hashes c = c.self.invariant.hashes ∙ sym (ap (hashes_in c.self.inside.hashes.seed) c.as_slice-slots.ensures.value)
 
 pub remove-requires : goal.remove-requires
 remove-requires c = omega (arith, slice_get_within (places_of c.self.inside.by_key) c.place_of_slot-keyed.result c.in-Some.slot c.place_of_slot-keyed.ensures, length_places c.self.inside.by_key)
@@ -21,7 +21,7 @@ remove-requires c = omega (arith, slice_get_within (places_of c.self.inside.by_k
 pub take_out-requires : goal.take_out-requires
 take_out-requires c =
     let full : IsFull c.self.inside.slots.items c.in-Some.slot = subst (λ (slots : List (Option Stored)). IsFull slots c.in-Some.slot) c.as_slice-slots.ensures.value c.in-Some.ensures.full in
-    omega (arith, full_below c.self.inside.slots.items c.in-Some.slot full, length-map c.self.inside.slots.items hash_in, ap length c.self.invariant.hashes)
+    omega (arith, full_below c.self.inside.slots.items c.in-Some.slot full, length-map c.self.inside.slots.items (hash_in c.self.inside.hashes.seed), ap length c.self.invariant.hashes)
 
 pub index_mut-requires : goal.index_mut-requires
 index_mut-requires c =
@@ -32,7 +32,7 @@ pub invariant_of-self : goal.invariant_of-self
 invariant_of-self c =
     let full : IsFull c.self.inside.slots.items c.in-Some.slot = subst (λ (slots : List (Option Stored)). IsFull slots c.in-Some.slot) c.as_slice-slots.ensures.value c.in-Some.ensures.full in
     kept_remove c.self.inside (record { alloc = c.self.inside.alloc; slots = with_item c.self.inside.slots c.in-Some.slot None; by_key = c.remove.new.self; hashes = c.take_out.new.self })
-    c.in-Some.slot c.place_of_slot-keyed.result c.self.invariant refl c.remove.ensures.removed c.take_out.ensures
+    c.in-Some.slot c.place_of_slot-keyed.result c.self.invariant refl c.remove.ensures.removed c.take_out.ensures.hashes c.take_out.ensures.seed
     full c.place_of_slot-keyed.ensures
 
 pub returns-in-Some-clause-removed : goal.returns-in-Some-clause-removed

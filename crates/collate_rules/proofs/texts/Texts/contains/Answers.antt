@@ -1,5 +1,6 @@
 use Rattle.std.proofs.Common.{◌∙◌}
-use Rattle.collate_rules.proofs.records.RecordedTextLemmas.{key_found, lone_found, other_found}
+use Rattle.collate_lines.proofs.reading.KeyLemmas.{key_found}
+use Rattle.collate_rules.proofs.records.RecordedTextLemmas.{lone_found, other_found}
 use Rattle.collate_rules.proofs.texts.Texts.contains.Goals as goal
 
 pub returns-in-Some : goal.returns-in-Some

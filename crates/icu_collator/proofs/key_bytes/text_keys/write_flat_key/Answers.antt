@@ -20,12 +20,12 @@ write_exact_key-requires g c =
     let sound = accepted_weights (meaning source.canonical) source.tables c.keep_promise.ensures in
     let canonical : IsCanonical (meaning source.canonical) = subst (λ tables. IsCanonical (meaning tables)) c.canonical.ensures c.keep_promise-2.ensures in
     let unshifted : is_shifted options.alternate_handling ≡ false = search rules in
-    let whole : c.read_flat.result ≡ true = search rules in
-    let are : unpacked c.as_slice.result.now ≡ text_elements source c.numeric_lead.result text =
-    ap unpacked c.as_slice.ensures ∙ c.read_flat.ensures whole text c.chars.ensures.spelled in
-    let is = flat_read source c.numeric_lead.result options unshifted c.numeric_lead.ensures text c.as_slice.result.now
+    let whole : c.in_ok-is_read.is_read ≡ true = search rules in
+    let are : unpacked c.as_slice.result.now ≡ text_elements source c.numeric_lead-numeric.result text =
+    ap unpacked c.as_slice.ensures ∙ c.in_ok-is_read.ensures.elements whole in
+    let is = flat_read source c.numeric_lead-numeric.result options unshifted c.numeric_lead-numeric.ensures text c.as_slice.result.now
     (decomposed (source_collation source).canonical text) 0 refl are (λ exact. refl) in
-    read_is_sound (source_collation source) options text _ _ _ is canonical.decomposing sound c.chars.ensures.scalars
+    read_is_sound (source_collation source) options text _ _ _ is canonical.decomposing sound c.read_elements.ensures.scalars
 
 pub write_unshifted_key-requires : goal.write_unshifted_key-requires
 write_unshifted_key-requires g c =
@@ -35,12 +35,12 @@ write_unshifted_key-requires g c =
     let sound = accepted_weights (meaning source.canonical) source.tables c.keep_promise.ensures in
     let canonical : IsCanonical (meaning source.canonical) = subst (λ tables. IsCanonical (meaning tables)) c.canonical.ensures c.keep_promise-2.ensures in
     let unshifted : is_shifted options.alternate_handling ≡ false = search rules in
-    let whole : c.read_flat.result ≡ true = search rules in
-    let are : unpacked c.as_slice-2.result.now ≡ text_elements source c.numeric_lead.result text =
-    ap unpacked c.as_slice-2.ensures ∙ c.read_flat.ensures whole text c.chars.ensures.spelled in
-    let is = flat_read source c.numeric_lead.result options unshifted c.numeric_lead.ensures text c.as_slice-2.result.now
+    let whole : c.in_ok-is_read.is_read ≡ true = search rules in
+    let are : unpacked c.as_slice-2.result.now ≡ text_elements source c.numeric_lead-numeric.result text =
+    ap unpacked c.as_slice-2.ensures ∙ c.in_ok-is_read.ensures.elements whole in
+    let is = flat_read source c.numeric_lead-numeric.result options unshifted c.numeric_lead-numeric.ensures text c.as_slice-2.result.now
     (decomposed (source_collation source).canonical text) 0 refl are (λ exact. refl) in
-    read_is_sound (source_collation source) options text _ _ _ is canonical.decomposing sound c.chars.ensures.scalars
+    read_is_sound (source_collation source) options text _ _ _ is canonical.decomposing sound c.read_elements.ensures.scalars
 
 pub returns-then-is_at_least-clause-written : goal.returns-then-is_at_least-clause-written
 returns-then-is_at_least-clause-written g c = λ _.
@@ -48,10 +48,10 @@ returns-then-is_at_least-clause-written g c = λ _.
     let options = c.args.options.now in
     let text = g.T.Characters.characters c.args.text in
     let unshifted : is_shifted options.alternate_handling ≡ false = search rules in
-    let whole : c.read_flat.result ≡ true = search rules in
-    let are : unpacked c.as_slice.result.now ≡ text_elements source c.numeric_lead.result text =
-    ap unpacked c.as_slice.ensures ∙ c.read_flat.ensures whole text c.chars.ensures.spelled in
-    let is = flat_read source c.numeric_lead.result options unshifted c.numeric_lead.ensures text c.as_slice.result.now
+    let whole : c.in_ok-is_read.is_read ≡ true = search rules in
+    let are : unpacked c.as_slice.result.now ≡ text_elements source c.numeric_lead-numeric.result text =
+    ap unpacked c.as_slice.ensures ∙ c.in_ok-is_read.ensures.elements whole in
+    let is = flat_read source c.numeric_lead-numeric.result options unshifted c.numeric_lead-numeric.ensures text c.as_slice.result.now
     (decomposed (source_collation source).canonical text) 0 refl are
     (λ exact. refl) in
     read_key (source_collation source) options text _ _ _ is c.args.key.now.items c.write_exact_key.new.key.items c.requires c.in_ok-write_exact_key.ensures
@@ -62,10 +62,10 @@ returns-clause-written g c = λ _.
     let options = c.args.options.now in
     let text = g.T.Characters.characters c.args.text in
     let unshifted : is_shifted options.alternate_handling ≡ false = search rules in
-    let whole : c.read_flat.result ≡ true = search rules in
+    let whole : c.in_ok-is_read.is_read ≡ true = search rules in
     let never : is_at_least options.strength Identical ≡ false = sym c.is_at_least.ensures ∙ c.if-is_at_least.false in
-    let are : unpacked c.as_slice-2.result.now ≡ text_elements source c.numeric_lead.result text =
-    ap unpacked c.as_slice-2.ensures ∙ c.read_flat.ensures whole text c.chars.ensures.spelled in
-    let is = flat_read source c.numeric_lead.result options unshifted c.numeric_lead.ensures text c.as_slice-2.result.now _ 0 refl are
+    let are : unpacked c.as_slice-2.result.now ≡ text_elements source c.numeric_lead-numeric.result text =
+    ap unpacked c.as_slice-2.ensures ∙ c.in_ok-is_read.ensures.elements whole in
+    let is = flat_read source c.numeric_lead-numeric.result options unshifted c.numeric_lead-numeric.ensures text c.as_slice-2.result.now _ 0 refl are
     (λ exact. absurd (true≢false (sym exact ∙ never))) in
     read_key (source_collation source) options text _ _ _ is c.args.key.now.items c.write_unshifted_key.new.key.items c.requires c.in_ok-write_unshifted_key.ensures

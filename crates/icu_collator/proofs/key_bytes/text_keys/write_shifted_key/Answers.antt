@@ -13,7 +13,7 @@ write_counted_key-requires-clause-elements g c =
     let options = c.args.options.now in
     let text = g.T.Characters.characters c.args.text in
     let end = c.variable_end-end.result in
-    let whole : c.read_flat.result ≡ true = search rules in
-    let are = listed_elements source options c.numeric_lead.result text c.read_flat.new.elements.items c.numeric_lead.ensures (c.read_flat.ensures whole text c.chars.ensures.spelled) in
+    let whole : c.in_ok-is_read.is_read ≡ true = search rules in
+    let are = listed_elements source options c.numeric_lead-numeric.result text c.read_elements.new.elements.items c.numeric_lead-numeric.ensures (c.in_ok-is_read.ensures.elements whole) in
     ap (counted_list end) c.deref.ensures ∙ c.in_ok-elements.ensures collation options c.variable_end-end.ensures
     ∙ ap (λ items. counted collation options (unpacked items)) c.as_slice.ensures ∙ ap (counted collation options) are

@@ -18,14 +18,17 @@ use Rattle.icu_normalizer_core.proofs.builder.CompatibilityRuleLemmas.{bad_left_
 use Rattle.icu_normalizer_core.proofs.builder.UnnamedWordLemmas.{kept_on_starters, others_among, others_right}
 use Rattle.icu_normalizer_core.proofs.canonical.builder.compatibility_tables.compatibility_tables.Goals as goal
 
-pub returns-then-not-are_on_starters-clause-refused : goal.returns-then-not-are_on_starters-clause-refused
-returns-then-not-are_on_starters-clause-refused c =
+pub returns-then-not-kept-clause-refused : goal.returns-then-not-kept-clause-refused
+returns-then-not-kept-clause-refused c =
     let maps : AllMaps = record { canonical = record { classes = c.args.classes.now; mappings = c.args.mappings.now }; compatibilities = c.args.given.now } in
     inr (
       refl,
       λ rules.
-          absurd (false≢true (sym c.if-not-are_on_starters.true
-          ∙ c.are_on_starters.ensures.1 (kept_on_starters maps (meaning c.args.tables.now) c.requires.means c.requires.given (rules.0.rules, rules.1.rules)))),
+          c.in_ok-kept.ensures.broken c.if-not-kept.true (record {
+            one_mapping = rules.1.rules.one_mapping;
+            apart = rules.1.rules.apart;
+            starters = kept_on_starters maps (meaning c.args.tables.now) c.requires.means c.requires.given (rules.0.rules, rules.1.rules);
+          }),
     )
 
 pub returns-in-Err-clause-refused : goal.returns-in-Err-clause-refused
@@ -43,7 +46,7 @@ word_tables-requires-clause-scalars c = subst (All IsScalar) (sym c.as_slice.ens
 pub word_tables-requires-clause-others : goal.word_tables-requires-clause-others
 word_tables-requires-clause-others c =
     let over : Mappings = record { tables = c.args.tables; given = c.args.given } in
-    let sound : IsSound over = record { accepted = c.requires.accepted; given = c.requires.given; starters = c.are_on_starters.ensures.0 c.if-not-are_on_starters.false } in
+    let sound : IsSound over = record { accepted = c.requires.accepted; given = c.requires.given; starters = (c.in_ok-kept.ensures.kept c.if-not-kept.false).starters } in
     others_among (steps_in over) (meaning c.args.tables.now).class (named_with c.args.classes.now c.args.mappings.now c.args.given.now) c.as_slice.result.now
     (λ x h. subst (λ (xs : List ℕ). IsAmong xs x) (sym c.as_slice.ensures.value) (c.in-Ok.ensures.named x h))
     (others_right c.args.classes.now c.args.mappings.now over sound c.requires.means)
@@ -51,7 +54,7 @@ word_tables-requires-clause-others c =
 pub returns-in-Err-word_tables-clause-refused : goal.returns-in-Err-word_tables-clause-refused
 returns-in-Err-word_tables-clause-refused c =
     let over : Mappings = record { tables = c.args.tables; given = c.args.given } in
-    let sound : IsSound over = record { accepted = c.requires.accepted; given = c.requires.given; starters = c.are_on_starters.ensures.0 c.if-not-are_on_starters.false } in
+    let sound : IsSound over = record { accepted = c.requires.accepted; given = c.requires.given; starters = (c.in_ok-kept.ensures.kept c.if-not-kept.false).starters } in
     let canonical : CanonicalMaps = record { classes = c.args.classes.now; mappings = c.args.mappings.now } in
     ⊎_elim
     (λ memory. inl memory)
@@ -71,7 +74,7 @@ returns-in-Err-word_tables-clause-refused c =
 pub returns-in-None-clause-means : goal.returns-in-None-clause-means
 returns-in-None-clause-means c =
     let over : Mappings = record { tables = c.args.tables; given = c.args.given } in
-    let sound : IsSound over = record { accepted = c.requires.accepted; given = c.requires.given; starters = c.are_on_starters.ensures.0 c.if-not-are_on_starters.false } in
+    let sound : IsSound over = record { accepted = c.requires.accepted; given = c.requires.given; starters = (c.in_ok-kept.ensures.kept c.if-not-kept.false).starters } in
     let canonical : CanonicalMaps = record { classes = c.args.classes.now; mappings = c.args.mappings.now } in
     built_means canonical over sound c.requires.means (nfkd_lists c.in-Ok-word_tables.made) c.in-Ok-word_tables.ensures.built
 
@@ -84,7 +87,7 @@ returns-in-None-clause-accepted c =
 pub returns-clause-refused : goal.returns-clause-refused
 returns-clause-refused c =
     let over : Mappings = record { tables = c.args.tables; given = c.args.given } in
-    let sound : IsSound over = record { accepted = c.requires.accepted; given = c.requires.given; starters = c.are_on_starters.ensures.0 c.if-not-are_on_starters.false } in
+    let sound : IsSound over = record { accepted = c.requires.accepted; given = c.requires.given; starters = (c.in_ok-kept.ensures.kept c.if-not-kept.false).starters } in
     let canonical : CanonicalMaps = record { classes = c.args.classes.now; mappings = c.args.mappings.now } in
     inr (
       refl,

@@ -1,0 +1,264 @@
+//! Reading of texts parts of which aren't flat: from one boundary to the next such a part is read by its decomposed list, the
+//! rest by notes.
+
+ghost use Rattle.std.specs.Prelude.{◌≡◌, ◌∷◌, ◌++◌, ℕ, Option, List, [], IfOk, true};
+ghost use Rattle.std.specs.Iterator.{IsFinite};
+ghost use lib.Utf8.{scalars};
+ghost use Rattle.icu_normalizer_core.specs.Iter.{Spells};
+ghost use Rattle.icu_collator_core.specs.AlikeLists.{IsToldAlone};
+ghost use Rattle.icu_collator_core.specs.ElementLists.{unpacked};
+ghost use Rattle.icu_collator_core.specs.ElementTexts.{text_elements};
+ghost use Rattle.icu_normalizer_core.specs.Canonical.{decomposed};
+ghost use Rattle.icu_collator_core.specs.FlatNotes.{BeginsApart, IsFlatNote};
+ghost use Rattle.icu_collator_core.specs.ReadSources.{canonical_by, weights_by};
+ghost use Rattle.icu_collator_core.specs.Stretches.{HasElements, IsClosed, IsOpen};
+
+use super::flat_elements::FlatElements;
+use super::notes::{BEFORE_BOUNDARY, FlatNote};
+use crate::checked::CheckedTables;
+use crate::elements::whole_texts::push_all;
+use crate::reading::checked_words::checked_word;
+use crate::reading::decomposing::decompose_into;
+use icu_collator_types::elements::CollationElement;
+use smallvec::SmallVec;
+use std::alloc::{AllocError, Global};
+
+/// What stands behind the last boundary of a text, with that; or all of the text, where none was met.
+struct Stretch {
+    /// Its characters.
+    chars: SmallVec<char, 64>,
+    /// How many elements stand before it.
+    count: usize,
+    /// Behind what class the next character stands, 256 where a boundary has to follow; if it is read flat.
+    class: u16,
+    /// Whether it isn't read flat.
+    is_rough: bool,
+    /// Room for its decomposed list.
+    list: SmallVec<char, 64>,
+    /// Room for its elements.
+    found: SmallVec<CollationElement, 32>,
+}
+
+// (let go of as one, and not part by part, so that what owns one is proved sooner)
+impl Drop for Stretch {
+    fn drop(self) {
+        let Stretch {
+            chars: _,
+            count: _,
+            class: _,
+            is_rough: _,
+            list: _,
+            found: _,
+        } = self;
+    }
+}
+
+impl Stretch {
+    /// A stretch of no characters, at the beginning of a text.
+    fn new(alloc: Global) -> Self
+        ensures chars { result.chars.items ≡ [] }
+        ensures count { result.count ≡ 0 }
+        ensures class { result.class ≡ 0 }
+    {
+        Stretch {
+            chars: SmallVec::new(alloc),
+            count: 0,
+            class: 0,
+            is_rough: false,
+            list: SmallVec::new(alloc),
+            found: SmallVec::new(alloc),
+        }
+    }
+}
+
+impl CheckedTables<'_> {
+    /// Whether a list is read alike whatever stands before it, as its prefixes tell; `false` for some that are.
+    fn is_told_alone(&self, list: &[char]) -> bool
+        requires { scalars list.now ≡ true }
+        ensures { result ≡ true → (numeric : Option ℕ) → IsToldAlone (weights_by numeric self.now) list.now }
+    {
+        for place in 0..list.len() {
+            if !checked_word(self, list[place]).is_told(list, place) {
+                return false;
+            }
+        }
+        true
+    }
+
+    /// The elements of a stretch, found by its decomposed list; `false` where what stands before it may count. Fails only when out
+    /// of memory.
+    fn find_elements(
+        &self,
+        numeric: Option<u8>,
+        stretch: &mut Stretch,
+    ) -> Result<bool, AllocError>
+        ensures count { stretch.new.count ≡ stretch.old.count }
+        ensures found { IfOk result (λ is_found. is_found ≡ true
+            → HasElements self.now numeric (decomposed (canonical_by self.now) stretch.old.chars.items) stretch.new.found.items) }
+    {
+        let chars = stretch.chars.as_slice().iter().copied();
+        decompose_into(self.canonical(), chars, &mut stretch.list)?;
+        if !self.is_told_alone(stretch.list.as_slice()) {
+            return Ok(false);
+        }
+        stretch.found.clear();
+        push_all(self, numeric, &mut stretch.list, &mut stretch.found)?;
+        Ok(true)
+    }
+
+    /// Puts the elements of a stretch that isn't flat in their place, behind which a boundary has to follow; `false` where what
+    /// stands before it may count, it has more characters than the list has room for elements, or there is no room. Fails only
+    /// when out of memory.
+    #[inline(never)]
+    fn read_rough<const N: usize>(
+        &self,
+        numeric: Option<u8>,
+        stretch: &mut Stretch,
+        elements: &mut FlatElements<N>,
+    ) -> Result<bool, AllocError>
+        ensures { IfOk result (λ is_read. is_read ≡ true → (text : List ℕ) → IsOpen self.now numeric text stretch.old elements.old.items
+            → IsClosed self.now numeric text stretch.new.class elements.new.items) }
+    {
+        if stretch.chars.len() > N {
+            return Ok(false);
+        }
+        let is_found = self.find_elements(numeric, stretch)?;
+        if !is_found {
+            return Ok(false);
+        }
+        stretch.is_rough = false;
+        stretch.class = BEFORE_BOUNDARY;
+        Ok(elements.replace_from(stretch.count, stretch.found.as_slice()))
+    }
+
+    /// Reads a stretch to its end, behind which a boundary stands, or nothing; `false` where that can't be. Fails only when out of
+    /// memory.
+    #[inline(always)]
+    fn close<const N: usize>(
+        &self,
+        numeric: Option<u8>,
+        stretch: &mut Stretch,
+        elements: &mut FlatElements<N>,
+    ) -> Result<bool, AllocError>
+        ensures { IfOk result (λ is_read. is_read ≡ true → (text : List ℕ) → IsOpen self.now numeric text stretch.old elements.old.items
+            → IsClosed self.now numeric text stretch.new.class elements.new.items) }
+    {
+        if !stretch.is_rough {
+            return Ok(true);
+        }
+        let is_read = self.read_rough(numeric, stretch, elements)?;
+        Ok(is_read)
+    }
+
+    /// Begins a stretch with a boundary; `false` where the one before can't be read, or there is no room. Fails only when out of
+    /// memory.
+    #[inline(always)]
+    fn begin<const N: usize>(
+        &self,
+        numeric: Option<u8>,
+        c: char,
+        note: FlatNote,
+        stretch: &mut Stretch,
+        elements: &mut FlatElements<N>,
+    ) -> Result<bool, AllocError>
+        requires boundary { BeginsApart self.now numeric c }
+        requires note { IsFlatNote self.now c note }
+        ensures { IfOk result (λ is_read. is_read ≡ true → (text : List ℕ) → IsOpen self.now numeric text stretch.old elements.old.items
+            → IsOpen self.now numeric (text ++ c ∷ []) stretch.new elements.new.items) }
+    {
+        let is_read = self.close(numeric, stretch, elements)?;
+        if !is_read {
+            return Ok(false);
+        }
+        stretch.count = elements.len();
+        stretch.is_rough = false;
+        stretch.chars.clear();
+        stretch.chars.push(c)?;
+        match note.push(numeric, stretch.class, elements) {
+            Some(class) => {
+                stretch.class = class;
+                Ok(true)
+            }
+            None => Ok(false),
+        }
+    }
+
+    /// Puts a character behind those of a stretch; `false` where there is no room. Fails only when out of memory.
+    #[inline(always)]
+    fn go_on<const N: usize>(
+        &self,
+        numeric: Option<u8>,
+        c: char,
+        note: FlatNote,
+        stretch: &mut Stretch,
+        elements: &mut FlatElements<N>,
+    ) -> Result<bool, AllocError>
+        requires { IsFlatNote self.now c note }
+        ensures { IfOk result (λ is_read. is_read ≡ true → (text : List ℕ) → IsOpen self.now numeric text stretch.old elements.old.items
+            → IsOpen self.now numeric (text ++ c ∷ []) stretch.new elements.new.items) }
+    {
+        stretch.chars.push(c)?;
+        if stretch.is_rough || !note.is_flat_behind(numeric, stretch.class) {
+            stretch.is_rough = true;
+            return Ok(true);
+        }
+        match note.push(numeric, stretch.class, elements) {
+            Some(class) => {
+                stretch.class = class;
+                Ok(true)
+            }
+            None => Ok(false),
+        }
+    }
+
+    /// Reads the next character of a text; `false` where that can't be. Fails only when out of memory.
+    #[inline(always)]
+    fn read_next<const N: usize>(
+        &self,
+        numeric: Option<u8>,
+        c: char,
+        stretch: &mut Stretch,
+        elements: &mut FlatElements<N>,
+    ) -> Result<bool, AllocError>
+        ensures { IfOk result (λ is_read. is_read ≡ true → (text : List ℕ) → IsOpen self.now numeric text stretch.old elements.old.items
+            → IsOpen self.now numeric (text ++ c ∷ []) stretch.new elements.new.items) }
+    {
+        let note = self.read_note(c);
+        if note.is_boundary() {
+            self.begin(numeric, c, note, stretch, elements)
+        } else {
+            self.go_on(numeric, c, note, stretch, elements)
+        }
+    }
+
+    /// Reads the text that an iterator gives, whatever the list held, if the list has room for its elements, and for one for each
+    /// character of a part that isn't flat, from one boundary to the next, and such a part tells alone which recorded prefixes
+    /// count. `false` for another text, and for some that are so; what the list has then is not said. Where a lead byte of numbers
+    /// is given, digits that stand together are read as a number. Fails only when out of memory.
+    #[inline(never)]
+    pub fn read_stretches<I: Iterator<Item = char> + Drop, const N: usize>(
+        &self,
+        alloc: Global,
+        numeric: Option<u8>,
+        chars: I,
+        elements: &mut FlatElements<N>,
+    ) -> Result<bool, AllocError>
+        requires can { I.can_next chars }
+        requires finite { IsFinite (I.remaining chars) }
+        ensures { IfOk result (λ is_read. is_read ≡ true → (cs : List ℕ) → Spells I.next_gives chars cs
+            → unpacked elements.new.items ≡ text_elements self.now numeric cs) }
+    {
+        if !elements.replace_from(0, &[]) {
+            return Ok(false);
+        }
+        let mut stretch = Stretch::new(alloc);
+        for c in chars {
+            let is_read = self.read_next(numeric, c, &mut stretch, elements)?;
+            if !is_read {
+                return Ok(false);
+            }
+        }
+        let is_read = self.close(numeric, &mut stretch, elements)?;
+        Ok(is_read)
+    }
+}
