@@ -115,7 +115,10 @@ fn primaries_of(alloc: Global, placed: &[(Element, usize)]) -> Result<Vec<(u32, 
 }
 
 /// The secondaries of elements, each with its line, their leads where those of primaries are.
-fn secondaries_of(alloc: Global, placed: &[(Element, usize)]) -> Result<Vec<(u32, usize)>, AllocError>
+fn secondaries_of(
+    alloc: Global,
+    placed: &[(Element, usize)],
+) -> Result<Vec<(u32, usize)>, AllocError>
     ensures { IfOk result (λ weights. weights.items ≡ map (λ p. (p.0.secondary * 2 ^ 16, p.1)) placed.now) }
 {
     placed
@@ -125,7 +128,10 @@ fn secondaries_of(alloc: Global, placed: &[(Element, usize)]) -> Result<Vec<(u32
 }
 
 /// The tertiaries of elements, each with its line, their leads where those of primaries are.
-fn tertiaries_of(alloc: Global, placed: &[(Element, usize)]) -> Result<Vec<(u32, usize)>, AllocError>
+fn tertiaries_of(
+    alloc: Global,
+    placed: &[(Element, usize)],
+) -> Result<Vec<(u32, usize)>, AllocError>
     ensures { IfOk result (λ weights. weights.items ≡ map (λ p. (p.0.tertiary * 2 ^ 16, p.1)) placed.now) }
 {
     placed

@@ -42,11 +42,21 @@ fn ok_serve_over(rt: HostRuntime) -> Result<(), Fail> {
     let alloc = rt.alloc();
     let alone = served(alloc, Ok(ROOT), Ok(b""))?;
     assert_eq!(rt; alone.0, 0);
-    assert_eq!(rt; alone.1.as_slice(), b"added\nadded\nnames 2\na\nb\n".as_slice());
+    assert_eq!(rt;
+        alone.1.as_slice(),
+        b"added\nadded\nnames 2\na\nb\n".as_slice()
+    );
     // the t line has effect, and so has the setting that the root sets otherwise
-    let over = served(alloc, Ok(ROOT), Ok(b"set numeric 10\nt 0062 ; [2A080000.0500.0.0500.0]"))?;
+    let over = served(
+        alloc,
+        Ok(ROOT),
+        Ok(b"set numeric 10\nt 0062 ; [2A080000.0500.0.0500.0]"),
+    )?;
     assert_eq!(rt; over.0, 0);
-    assert_eq!(rt; over.1.as_slice(), b"added\nadded\nnames 2\nb\na\n".as_slice());
+    assert_eq!(rt;
+        over.1.as_slice(),
+        b"added\nadded\nnames 2\nb\na\n".as_slice()
+    );
     assert_eq!(rt; over.2.as_slice(), b"".as_slice());
     Ok(())
 }
@@ -56,13 +66,29 @@ fn faults_are_told_by_their_file(rt: HostRuntime) -> Result<(), Fail> {
     let alloc = rt.alloc();
     let unreadable = Err(FileFault::Unreadable);
     let rows: [(Result<&[u8], FileFault>, Result<&[u8], FileFault>, &[u8]); 8] = [
-        (unreadable, unreadable, b"collate: cannot read root.records\n"),
+        (
+            unreadable,
+            unreadable,
+            b"collate: cannot read root.records\n",
+        ),
         (Ok(ROOT), unreadable, b"collate: cannot read sv.records\n"),
         (Err(FileFault::Memory), Ok(b""), b"collate: memory\n"),
         (Ok(ROOT), Err(FileFault::Memory), b"collate: memory\n"),
-        (Ok(b"\nx"), Ok(b""), b"collate: refused 2 grammar root.records\n"),
-        (Ok(ROOT), Ok(b"\n\nx"), b"collate: refused 3 grammar sv.records\n"),
-        (Ok(ROOT), Ok(b"\n# without 0063"), b"collate: refused 2 without sv.records\n"),
+        (
+            Ok(b"\nx"),
+            Ok(b""),
+            b"collate: refused 2 grammar root.records\n",
+        ),
+        (
+            Ok(ROOT),
+            Ok(b"\n\nx"),
+            b"collate: refused 3 grammar sv.records\n",
+        ),
+        (
+            Ok(ROOT),
+            Ok(b"\n# without 0063"),
+            b"collate: refused 2 without sv.records\n",
+        ),
         // line 4 of the root, of which two lines are gone
         (
             Ok(b"w 0061 ;\nset numeric 0F\n\nw 0301 0061 ;"),

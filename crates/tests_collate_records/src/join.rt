@@ -6,7 +6,8 @@ use collate_records::rule::{RecordFault, RecordsError, Rule};
 use std::alloc::Global;
 use std::test::Fail;
 
-const ROOT: &[u8] = b"# a root\nclass 0306 230\nw 0061 ; [2A100000.0500.0.0500.0]\nw 0418 0306 ; [2A200000.0500.0.0500.0]\n\
+const ROOT: &[u8] =
+    b"# a root\nclass 0306 230\nw 0061 ; [2A100000.0500.0.0500.0]\nw 0418 0306 ; [2A200000.0500.0.0500.0]\n\
     w 0418 | 0061 ;\nset alternate nonignorable\nset numeric 0F\nrange 4E00 4E01 E0020200 1";
 
 /// Whether the join of the root and a tailoring is this file.
@@ -65,7 +66,10 @@ fn what_the_root_lacks_can_not_be_left_out(rt: HostRuntime) {
         b"\n# without 0061\n# without 0062".as_slice(),
     ] {
         let line = if tailoring.ends_with(b"62") { 3 } else { 2 };
-        assert_eq!(rt; fault_of(alloc, tailoring), Some(JoinError::NoSuchRecord(line)));
+        assert_eq!(rt;
+            fault_of(alloc, tailoring),
+            Some(JoinError::NoSuchRecord(line))
+        );
     }
     for tailoring in [
         b"# without 0061\n# without 0061".as_slice(),

@@ -38,10 +38,10 @@ module _ (weights : Weights) where
   told_from front (c ∷ cs) before b told =
       let whole = front ++ c ∷ cs in
       let here : prefix_match weights (record { character = get_or whole (length front) 0; before = take longest_prefix (reverse (take (length front) whole) ++ before) })
-          ≡ prefix_match weights (record { character = get_or whole (length front) 0; before = take longest_prefix (reverse (take (length front) whole)) }) =
+      ≡ prefix_match weights (record { character = get_or whole (length front) 0; before = take longest_prefix (reverse (take (length front) whole)) }) =
       told (length front) (omega (arith, length-append front (c ∷ cs))) before b in
       let Same : ℕ → List ℕ → Type 0 = λ d l. prefix_match weights (record { character = d; before = take longest_prefix (reverse l ++ before) })
-          ≡ prefix_match weights (record { character = d; before = take longest_prefix (reverse l) }) in
+      ≡ prefix_match weights (record { character = d; before = take longest_prefix (reverse l) }) in
       let turned : reverse (front ++ c ∷ []) ≡ c ∷ reverse front = reverse-append front (c ∷ []) in
       let near : (xs : List ℕ) → take longest_prefix (c ∷ take longest_prefix xs) ≡ take longest_prefix (c ∷ xs) =
       λ xs. take_behind longest_prefix longest_prefix (c ∷ []) xs (omega arith) in
@@ -49,9 +49,9 @@ module _ (weights : Weights) where
         refl,
         subst (λ (l : List ℕ). Same c l) (take-append_seam front (c ∷ cs)) (subst (λ (d : ℕ). Same d (take (length front) whole)) (get_or-append_seam front c cs 0) here),
         subst (λ (l : List ℕ). AreAlike weights (placed_behind l cs) (placed_behind (take longest_prefix (c ∷ take longest_prefix (reverse front))) cs))
-          (ap (λ (l : List ℕ). take longest_prefix (l ++ before)) turned ∙ sym (near (reverse front ++ before)))
-          (subst (λ (l : List ℕ). AreAlike weights (placed_behind (take longest_prefix (reverse (front ++ c ∷ []) ++ before)) cs) (placed_behind l cs))
-          (ap (take longest_prefix) turned ∙ sym (near (reverse front))) rest),
+            (ap (λ (l : List ℕ). take longest_prefix (l ++ before)) turned ∙ sym (near (reverse front ++ before)))
+            (subst (λ (l : List ℕ). AreAlike weights (placed_behind (take longest_prefix (reverse (front ++ c ∷ []) ++ before)) cs) (placed_behind l cs))
+            (ap (take longest_prefix) turned ∙ sym (near (reverse front))) rest),
       )
 
   pub told_alone : (list : List ℕ) → AreTold list → IsToldAlone weights list

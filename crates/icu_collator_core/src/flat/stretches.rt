@@ -87,11 +87,7 @@ impl CheckedTables<'_> {
 
     /// The elements of a stretch, found by its decomposed list; `false` where what stands before it may count. Fails only when out
     /// of memory.
-    fn find_elements(
-        &self,
-        numeric: Option<u8>,
-        stretch: &mut Stretch,
-    ) -> Result<bool, AllocError>
+    fn find_elements(&self, numeric: Option<u8>, stretch: &mut Stretch) -> Result<bool, AllocError>
         ensures count { stretch.new.count ≡ stretch.old.count }
         ensures found { IfOk result (λ is_found. is_found ≡ true
             → HasElements self.now numeric (decomposed (canonical_by self.now) stretch.old.chars.items) stretch.new.found.items) }

@@ -18,7 +18,12 @@ use std::collections::BTreeMap;
 
 impl Mappings<'_> {
     /// What steps leave of a character without a canonical mapping; `None` where that isn't settled.
-    fn listed_left(self, places: &BTreeMap<char, usize>, settled: &[Option<Left>], c: char) -> Option<Left>
+    fn listed_left(
+        self,
+        places: &BTreeMap<char, usize>,
+        settled: &[Option<Left>],
+        c: char,
+    ) -> Option<Left>
         requires sound { IsSound self }
         requires places { HasFirstPlaces self.given.now places.now }
         requires starts { AreMappingStarts (steps_in self) self.given.now settled.now }
@@ -38,7 +43,12 @@ impl Mappings<'_> {
     }
 
     /// What steps leave of a character; `None` where that isn't settled.
-    pub(super) fn left_of(self, places: &BTreeMap<char, usize>, settled: &[Option<Left>], c: char) -> Option<Left>
+    pub(super) fn left_of(
+        self,
+        places: &BTreeMap<char, usize>,
+        settled: &[Option<Left>],
+        c: char,
+    ) -> Option<Left>
         requires sound { IsSound self }
         requires places { HasFirstPlaces self.given.now places.now }
         requires starts { AreMappingStarts (steps_in self) self.given.now settled.now }
@@ -55,7 +65,12 @@ impl Mappings<'_> {
     }
 
     /// What steps leave of a mapping; `None` where that isn't settled.
-    fn mapping_left(self, places: &BTreeMap<char, usize>, settled: &[Option<Left>], mapping: &[char]) -> Option<Left>
+    fn mapping_left(
+        self,
+        places: &BTreeMap<char, usize>,
+        settled: &[Option<Left>],
+        mapping: &[char],
+    ) -> Option<Left>
         requires sound { IsSound self }
         requires places { HasFirstPlaces self.given.now places.now }
         requires starts { AreMappingStarts (steps_in self) self.given.now settled.now }
@@ -73,7 +88,12 @@ impl Mappings<'_> {
     }
 
     /// Settles a mapping, where it wasn't settled and can be; whether it was.
-    fn settle_at(self, places: &BTreeMap<char, usize>, settled: &mut [Option<Left>], place: usize) -> bool
+    fn settle_at(
+        self,
+        places: &BTreeMap<char, usize>,
+        settled: &mut [Option<Left>],
+        place: usize,
+    ) -> bool
         requires sound { IsSound self }
         requires places { HasFirstPlaces self.given.now places.now }
         requires starts { AreMappingStarts (steps_in self) self.given.now settled.old }
@@ -86,7 +106,8 @@ impl Mappings<'_> {
         if settled[place].is_some() {
             return false;
         }
-        let Some(left) = self.mapping_left(places, settled, self.given[place].mapping.as_slice()) else {
+        let Some(left) = self.mapping_left(places, settled, self.given[place].mapping.as_slice())
+        else {
             return false;
         };
         settled[place] = Some(left);
@@ -115,7 +136,13 @@ impl Mappings<'_> {
     }
 
     /// A mapping without which it isn't known what steps leave of a character, neither settled nor visited.
-    fn needed_by(self, places: &BTreeMap<char, usize>, settled: &[Option<Left>], visited: &[bool], c: char) -> Option<usize>
+    fn needed_by(
+        self,
+        places: &BTreeMap<char, usize>,
+        settled: &[Option<Left>],
+        visited: &[bool],
+        c: char,
+    ) -> Option<usize>
         requires sound { IsSound self }
         requires places { HasFirstPlaces self.given.now places.now }
         requires settled { length settled.now ≡ length self.given.now }
@@ -131,7 +158,13 @@ impl Mappings<'_> {
     }
 
     /// A mapping without which that at a place can't be settled, neither settled nor visited.
-    fn needed_at(self, places: &BTreeMap<char, usize>, settled: &[Option<Left>], visited: &[bool], place: usize) -> Option<usize>
+    fn needed_at(
+        self,
+        places: &BTreeMap<char, usize>,
+        settled: &[Option<Left>],
+        visited: &[bool],
+        place: usize,
+    ) -> Option<usize>
         requires sound { IsSound self }
         requires places { HasFirstPlaces self.given.now places.now }
         requires settled { length settled.now ≡ length self.given.now }
@@ -205,7 +238,11 @@ impl Mappings<'_> {
     }
 
     /// What steps leave of the mappings, where they end. The only error is want of memory.
-    pub(super) fn settle(self, alloc: Global, places: &BTreeMap<char, usize>) -> Result<Vec<Option<Left>>, AllocError>
+    pub(super) fn settle(
+        self,
+        alloc: Global,
+        places: &BTreeMap<char, usize>,
+    ) -> Result<Vec<Option<Left>>, AllocError>
         requires sound { IsSound self }
         requires places { HasFirstPlaces self.given.now places.now }
         ensures starts { IfOk result (λ settled. AreMappingStarts (steps_in self.entry) self.entry.given.now settled.items) }
