@@ -1,14 +1,15 @@
 #!/usr/bin/env python3
 """How what a records file costs grows with its length, by instructions.
 
-    tools/measure_growth.py PROGRAM [--only KIND].. [--largest N] [--rules]
+    tools/measure_growth.py PROGRAM [--only KIND].. [--largest N] [--rules | --reloads]
     tools/measure_growth.py PROGRAM --table [FILE]..
 
 PROGRAM is an executable of `collate_unicode`. For each kind of line files of 2,000, 4,000 .. lines are read and
 compiled, up to N (64,000; fewer where tables have room for fewer); with --rules files are read instead that a rule
-refuses at their end, up to 8,000. What an empty file costs is taken off, or a short one that is refused so. It fails
-where a file twice as long takes more than 2.3 times the instructions, from 2,000 lines on, or at the most lines that
-tables have room for.
+refuses at their end, up to 8,000. What an empty file costs is taken off, or a short one that is refused so. With --reloads
+the last line of a file of up to 32,000 is left out by a reload, over 10,000 names of the file's characters; what the same run
+without the reload costs is taken off. It fails where a file twice as long takes more than 2.3 times the instructions, from
+2,000 lines on, or at the most lines that tables have room for.
 
 With --table it prints what reading, compiling and checking take of files of weights, of 0 to 64,000 lines, and of each
 FILE: instructions, memory and time of a processor, the best of ten runs, the start in it. A call that a build has no
@@ -16,6 +17,7 @@ function for counts 0: with inline hints compiling has none, and what is said of
 """
 import argparse
 import os
+import random
 import re
 import subprocess
 import sys
@@ -24,6 +26,7 @@ import tempfile
 MOST = 2.3
 SMALLEST = 2_000
 FEW = 2
+NAMES = 10_000
 COMMON = '0500.0.0500.0'
 
 
@@ -134,6 +137,9 @@ KINDS = {
     'comments': (comments, 64_000),
 }
 
+# Kinds whose characters can't stand in names, or of which the last line can't be left out.
+NO_RELOADS = (comments,)
+
 # What stands behind many lines of a kind, the rule that it breaks, and how many lines from the end on the fault stands.
 REFUSED = {
     'grammar': ('grammar', weights, ['nothing'], 0), 'V14': ('V14', weights, ['w 4E00 ;'], 0),
@@ -164,13 +170,13 @@ REFUSED = {
 }
 
 
-def instructions(program, lines, folder):
-    """Instructions of a run over a file that adds nothing, and its first line of replies."""
+def instructions(program, lines, folder, commands=()):
+    """Instructions of a run over a file, and all that it says."""
     name = os.path.join(folder, 'file.records')
     with open(name, 'w') as file:
         file.writelines(line + '\n' for line in lines)
     run = subprocess.run(['valgrind', '--tool=callgrind', '--callgrind-out-file=/dev/null', program, name],
-                         stdin=subprocess.DEVNULL, capture_output=True, text=True)
+                         input=''.join(command + '\n' for command in commands), capture_output=True, text=True)
     found = re.search(r'Collected : (\d+)', run.stderr)
     if found is None:
         sys.exit(f'measure_growth: no count of instructions: {run.stderr[-300:]}')
@@ -203,6 +209,36 @@ def grow(program, folder, name, make, most, base, fault=None):
         last = count
         if ratio > 2 * MOST:
             good = False
+            break
+    print(f'{name:22} {"" if good else "PAST 2.3  "}{"  ".join(row)}', flush=True)
+    return good
+
+
+def names_of(lines):
+    """So many different names of six characters each, all of which stand in lines."""
+    cs = sorted({int(c, 16) for line in lines for c in re.split('[;[]', line)[0].split()[1:] if re.fullmatch('[0-9A-F]{4,6}', c)})
+    source = random.Random(1)
+    return list(dict.fromkeys(''.join(chr(source.choice(cs)) for _ in range(6)) for _ in range(NAMES)))
+
+
+def grow_reloads(program, folder, name, make, most):
+    """Prints a row of reloads, and tells whether each step is within what it may be."""
+    least = SMALLEST if most >= 2 * SMALLEST else most // 8
+    last, row, good = None, [], True
+    for n in sizes(least, most):
+        lines = make(n)
+        adds = [f'add {name}' for name in names_of(lines)]
+        before, _ = instructions(program, lines, folder, adds)
+        after, said = instructions(program, lines, folder, [*adds, f'reload {n - 1}', *lines[:-1]])
+        if not re.fullmatch('(added )+reloaded [0-9]+', said):
+            print(f'{name}: {n} lines: {said[-60:]!r}', flush=True)
+            return False
+        count = after - before
+        ratio = count / last if last else 0
+        row.append(f'{n}: {count / 1e6:.1f} M' + (f' ({ratio:.2f})' if last else ''))
+        good = good and (ratio <= MOST or n < 2 * SMALLEST and 2 * n <= most)
+        last = count
+        if ratio > MOST and not good:
             break
     print(f'{name:22} {"" if good else "PAST 2.3  "}{"  ".join(row)}', flush=True)
     return good
@@ -267,6 +303,7 @@ def main():
     parser.add_argument('--only', action='append', metavar='KIND')
     parser.add_argument('--largest', type=int, default=64_000)
     parser.add_argument('--rules', action='store_true')
+    parser.add_argument('--reloads', action='store_true')
     parser.add_argument('--table', nargs='*', metavar='FILE')
     given = parser.parse_args()
     good = True
@@ -274,6 +311,11 @@ def main():
         if given.table is not None:
             table(given.program, folder, given.table)
             return
+        for name, (make, most) in KINDS.items() if given.reloads else []:
+            if make not in NO_RELOADS and (given.only is None or name in given.only):
+                good = grow_reloads(given.program, folder, name, make, min(most, given.largest, 32_000)) and good
+        if given.reloads:
+            sys.exit(0 if good else 1)
         base, _ = instructions(given.program, [], folder)
         print(f'an empty file: {base / 1e6:.1f} M instructions')
         for name, (make, most) in {} if given.rules else KINDS.items():

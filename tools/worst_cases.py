@@ -203,6 +203,13 @@ def chain_of_named(scale):
     return lines, [], [*(f'add {name}' for name in names), reload([*lines, CHANGED])]
 
 
+def contractions_of_named(scale):
+    """Names of the letters of contractions, and a reload that leaves one of these out."""
+    texts = [' '.join(f'{ord(c):04X}' for c in spelled(k, LETTERS, 3)) for k in range(450 * scale)]
+    lines = records(*(f'w {text} ; [2A040000.0500.0.0500.0]' for text in texts))
+    return lines, [], [*(f'add {name}' for name in scattered(300 * scale)), reload(lines[:-1])]
+
+
 def unchanged(scale):
     """Reloads of the same records, after the names have arrived; they weigh little beside the names."""
     lines = records()
@@ -229,7 +236,7 @@ def long_file(scale):
 
 
 ATTACKS = [one_hash, one_fnv_hash, equal_keys, shared_beginnings, classes_of_marks, digits, from_the_front, as_they_arrived, expansions, full_lists,
-           over_all, chain, chain_past_the_first_plane, chain_of_named, unchanged, unnamed_changed, all_touched, long_file]
+           over_all, chain, chain_past_the_first_plane, chain_of_named, contractions_of_named, unchanged, unnamed_changed, all_touched, long_file]
 
 
 class NoAttack(Exception):

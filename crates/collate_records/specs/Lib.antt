@@ -1,8 +1,11 @@
 pub mod Changes
 pub mod CompiledOf
+pub mod Differences
 pub mod Files
 pub mod Kept
+pub mod KeptDifferences
 pub mod Maps
+pub mod NotedFile
 pub mod Phases
 pub mod Reaching
 pub use Rattle.collate_lines.specs.Grammar

@@ -30,7 +30,7 @@ pub(crate) fn are_same_mappings(a: Decomposed, b: Decomposed) -> bool
 }
 
 /// Whether two ranges, or none, are the same.
-fn are_same_ranges(a: Option<Range>, b: Option<Range>) -> bool
+pub(crate) fn are_same_ranges(a: Option<Range>, b: Option<Range>) -> bool
     ensures { IsTrue result ↔ (option_map span_of a ≡ option_map span_of b) }
 {
     a == b
@@ -44,7 +44,7 @@ fn are_same_lists(a: &[Element], b: &[Element]) -> bool
 }
 
 /// Whether two records, or none, have the same elements.
-fn are_same_elements(a: Option<&[Element]>, b: Option<&[Element]>) -> bool
+pub(crate) fn are_same_elements(a: Option<&[Element]>, b: Option<&[Element]>) -> bool
     ensures { IsTrue result ↔ (option_copied a.entry ≡ option_copied b.entry) }
 {
     match (a, b) {

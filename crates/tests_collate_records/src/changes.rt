@@ -1,5 +1,6 @@
 //! What two files say differently.
 
+use collate_records::differences::Differences;
 use collate_records::records::Records;
 use std::test::Fail;
 
@@ -26,5 +27,17 @@ fn ok_changed(rt: HostRuntime) -> Result<(), Fail> {
     assert!(rt; !before.changed(&after, 'b'));
     assert!(rt; !before.changed(&after, 'á'));
     assert!(rt; before.settings_equal(&after));
+    Ok(())
+}
+
+#[test]
+fn ok_differences(rt: HostRuntime) -> Result<(), Fail> {
+    let before = Records::read(rt.alloc(), BEFORE)?;
+    let after = Records::read(rt.alloc(), AFTER)?;
+    let differences = Differences::new(rt.alloc(), &before, &after)?;
+    assert!(rt; differences.changed('a'));
+    assert!(rt; !differences.changed('b'));
+    assert!(rt; !differences.changed('á'));
+    assert!(rt; !differences.before().changed(&before, 'a'));
     Ok(())
 }

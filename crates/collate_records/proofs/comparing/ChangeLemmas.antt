@@ -13,7 +13,7 @@ use Rattle.collate_lines.specs.Record.{Record, nothing, class, mapping, compatib
 use Rattle.collate_rules.specs.Meaning.{compress_in, elements_in, first_found, is_compressible_in, recorded_in, reorder_in, set_to}
 use Rattle.collate_records.specs.Changes.{begins_with, GivesSame, place_of}
 
-self_equal : (l : ℕ) → (l == l) ≡ true
+pub self_equal : (l : ℕ) → (l == l) ≡ true
 self_equal l = grind (arith, nat_tests)
 
 -- ---- records of a text
@@ -63,12 +63,12 @@ module _ (a b : List Record) (c : ℕ) where
       (first_found (elements_in tailoring prefix (c ∷ rest)) rs) (first_found (elements_in root prefix (c ∷ rest)) rs)
       (found_alike a b tailoring prefix c rest rs given) (found_alike a b root prefix c rest rs given)
 
-  both_alike : (prefix rest : List ℕ) → AllByRecursion (GivesSame a b c) a → AllByRecursion (GivesSame a b c) b
+  pub both_alike : (prefix rest : List ℕ) → AllByRecursion (GivesSame a b c) a → AllByRecursion (GivesSame a b c) b
       → recorded_in a prefix (c ∷ rest) ≡ recorded_in b prefix (c ∷ rest)
   both_alike prefix rest of_a of_b =
       ⊎_elim (λ none. ⊎_elim (λ other. none ∙ sym other) (λ same. same) (lines_alike prefix rest b of_b)) (λ same. same) (lines_alike prefix rest a of_a)
 
-  given_alike : (r : Record) → ((prefix rest : List ℕ) → recorded_in a prefix (c ∷ rest) ≡ recorded_in b prefix (c ∷ rest)) → GivesSame a b c r
+  pub given_alike : (r : Record) → ((prefix rest : List ℕ) → recorded_in a prefix (c ∷ rest) ≡ recorded_in b prefix (c ∷ rest)) → GivesSame a b c r
   given_alike (weights layer prefix [] es) same = λ is. absurd (cc)
   given_alike (weights layer prefix (d ∷ rest) es) same = λ is. subst (λ x. recorded_in a prefix (x ∷ rest) ≡ recorded_in b prefix (x ∷ rest)) (eqb-true c d is) (same prefix rest)
   given_alike nothing same = tt
