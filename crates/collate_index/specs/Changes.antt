@@ -4,6 +4,7 @@ use Rattle.icu_normalizer_core.specs.Canonical.{Reaches}
 use Rattle.collate_laws.specs.Unchanged.{ReachesUnchanged}
 use Rattle.collate_lines.specs.Record.{Record}
 use Rattle.collate_records.specs.Changes.{IsChanged}
+use Rattle.collate_records.specs.Differences.{TwoFiles}
 use Rattle.collate_rules.specs.Meaning.{step_of}
 use Rattle.collate_index.specs.declared.changes.Look.{Look}
 use Rattle.collate_index.specs.declared.changes.Look.TheVariants.{Found, Before}
@@ -30,6 +31,11 @@ abbrev pub IsLook : TwoRecords → ℕ → Look → Type 0
 IsLook files c (Found is) = Tells files c is
 IsLook files c (Before d) = Unit {0}
 
--- what is known of characters is so
+-- the lines of both files, as what they say differently is asked for
+abbrev pub files_inside : Inside → TwoFiles
+files_inside s = record { before = s.before.now.lines; after = s.after.now.lines }
+
+-- what they say differently is noted, and what is known of characters is so
 pub record IsKept (s : Inside) : Type 0 where
+  pub noted : s.differences ≡ files_inside s
   pub known : (c : ℕ) (is : Bool) → slice_index_or s.known.items c None ≡ Some is → Tells (records_inside s) c is

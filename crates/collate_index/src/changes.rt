@@ -4,6 +4,7 @@ ghost use Rattle.std.specs.Prelude.{◌≡◌, ◌∷◌, [], All, IfOk, IfSome,
 ghost use Rattle.collate_rules.specs.Meaning.{step_of};
 ghost use Rattle.collate_index.specs.Changes.{IsLook, Tells};
 
+use collate_records::differences::Differences;
 use collate_records::records::Records;
 use icu_normalizer_core::properties::Decomposed;
 use std::alloc::{AllocError, Global};
@@ -50,6 +51,7 @@ pub struct Changes<'a> {
     alloc: Global,
     before: &'a Records,
     after: &'a Records,
+    differences: Differences<'a>,
     /// What was found out, by code point.
     known: Vec<Option<bool>>,
 }
@@ -61,6 +63,7 @@ impl<'a> Drop for Changes<'a> {
             alloc: _,
             before: _,
             after: _,
+            differences: _,
             known: _,
         } = self;
     }
@@ -79,7 +82,7 @@ impl<'a> Model for Changes<'a> {
 }
 
 impl<'a> Changes<'a> {
-    /// Nothing is found out yet. `AllocError` where memory is refused.
+    /// Nothing is found out yet; the lines of both records are noted. `AllocError` where memory is refused.
     pub fn new(
         alloc: Global,
         before: &'a Records,
@@ -87,11 +90,13 @@ impl<'a> Changes<'a> {
     ) -> Result<Changes<'a>, AllocError>
         ensures { IfOk result (λ changes. changes ≡ record { before = before.now.lines; after = after.now.lines }) }
     {
+        let differences = Differences::new(alloc, before, after)?;
         let known = nothing_known(alloc)?;
         Ok(Changes {
             alloc,
             before,
             after,
+            differences,
             known,
         })
     }
@@ -183,6 +188,6 @@ impl<'a> Changes<'a> {
         requires { All (λ d. Tells self.now d false) (step_of self.now.before c) }
         ensures { Tells self.now c result }
     {
-        self.before.changed(self.after, c)
+        self.differences.changed(c)
     }
 }

@@ -5,6 +5,7 @@ use Rattle.collate_index.proofs.changes.Changes.keep.Goals as goal
 
 pub invariant_of-self : goal.invariant_of-self
 invariant_of-self c = record {
+  noted = c.self.invariant.noted;
   known =
       one_known (Tells (records_inside c.self.inside)) c.self.inside.known.items c.args.c c.args.is
       (omega (arith, c.if-place-len.true, c.len.ensures, c.self.inside.known.ok.0)) c.self.invariant.known
