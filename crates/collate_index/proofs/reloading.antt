@@ -3,3 +3,4 @@ pub mod AnewLemmas
 pub mod KnownLemmas
 pub mod ReloadLemmas
 pub mod RekeyedLemmas
+pub mod WalkLemmas
