@@ -1,0 +1,12 @@
+use Rattle.std.proofs.Common.{◌≡◌, ◌+◌, ◌==◌, length, not}
+use Rattle.std.specs.List.{prefix_len}
+use Rattle.sort_names.proofs.texts.len_before.Given as goal
+
+abbrev pub invariant-loop-byte : goal.invariant-loop-byte
+invariant-loop-byte l = record {
+  len : l.passed + prefix_len (λ byte. not (byte == l.end)) l.rest ≡ prefix_len (λ byte. not (byte == l.end)) l.text;
+  all : l.passed + length l.rest ≡ length l.text;
+}
+
+abbrev pub decreases-loop-byte : goal.decreases-loop-byte
+decreases-loop-byte l = length l.rest

@@ -1,0 +1,55 @@
+//! Why a run ends with status 2, as one line of standard error tells it.
+
+use crate::shown::Shown;
+use collate_lines::rule::Rule;
+use std::alloc::{AllocError, AllocFailed};
+use std::error::Error;
+use std::{fmt, io};
+
+/// Why a run ends with status 2.
+#[derive(Debug, Drop)]
+pub enum RunFault<'w> {
+    /// Memory was refused.
+    Memory,
+    /// The file of this path can't be opened or read; `-` is standard input.
+    Unreadable(&'w str, io::Error),
+    /// The file of this path has a line, counted from 1, that breaks a rule of records files.
+    Refused(usize, Rule, &'w str),
+    /// The file of this path has a line, counted from 1, that leaves out what the root doesn't weigh.
+    Without(usize, &'w str),
+    /// The file of this path can't be written; `None` is standard output.
+    Unwritable(Option<&'w str>, io::Error),
+}
+
+impl fmt::Display for RunFault<'_> {
+    fn fmt<W: fmt::Write>(&self, f: &mut fmt::Formatter<W>) -> fmt::Result {
+        match self {
+            RunFault::Memory => f.write_str("memory"),
+            RunFault::Unreadable(path, error) => {
+                write!(f, "cannot read {}: {error}", Shown(*path))
+            }
+            RunFault::Refused(line, rule, path) => {
+                write!(f, "refused {line} {rule} {}", Shown(*path))
+            }
+            RunFault::Without(line, path) => write!(f, "refused {line} without {}", Shown(*path)),
+            RunFault::Unwritable(Some(path), error) => {
+                write!(f, "cannot write {}: {error}", Shown(*path))
+            }
+            RunFault::Unwritable(None, error) => write!(f, "cannot write: {error}"),
+        }
+    }
+}
+
+impl Error for RunFault<'_> {}
+
+impl From<AllocError> for RunFault<'_> {
+    fn from(_: AllocError) -> Self {
+        RunFault::Memory
+    }
+}
+
+impl<T: Drop> From<AllocFailed<T>> for RunFault<'_> {
+    fn from(_: AllocFailed<T>) -> Self {
+        RunFault::Memory
+    }
+}

@@ -1,0 +1,136 @@
+//! The words that begin with `-`, by their names.
+
+/// A word that takes no value.
+#[derive(Clone, Copy, Debug, PartialEq, Eq)]
+pub enum Switch {
+    /// `-r`: the greatest first.
+    Reverse,
+    /// `-u`: of equal lines the first.
+    Unique,
+    /// `-s`: equal lines as they came, which is always so.
+    Stable,
+    /// `-z`: lines end in NUL.
+    ZeroEnded,
+    /// `-c`: whether the lines are in order.
+    Check,
+    /// `-C`: the same, and says nothing.
+    CheckSilently,
+    /// `--keys`: each line behind its key.
+    Keys,
+    /// `--crlf`: a CR before a line's end belongs to it.
+    CrLf,
+    /// `--quiet`: no line of what the records don't say.
+    Quiet,
+    /// `--unknown`: a list of the characters that the records don't name.
+    Unknown,
+    /// `--numeric`: digits by their value.
+    Numeric,
+    /// `--shifted`: spaces and punctuation count at the fourth level alone.
+    Shifted,
+    /// `--upper-first`: upper case before lower case.
+    UpperFirst,
+    /// `-h`, `--help`.
+    Help,
+    /// `--version`.
+    Version,
+}
+
+/// A word that takes a value.
+#[derive(Clone, Copy, Debug, PartialEq, Eq)]
+pub enum Setting {
+    /// `-o FILE`: where the lines go.
+    Output,
+    /// `-k F[,G]`: which fields are compared.
+    Key,
+    /// `-t SEP`: the byte between fields.
+    Separator,
+    /// `--records FILE`: the records.
+    Records,
+    /// `--over ROOT FILE`: the records of a root, and those that are put over it.
+    Over,
+}
+
+/// What a word that begins with `-` is.
+#[derive(Clone, Copy, Debug, PartialEq, Eq)]
+pub enum Flag {
+    /// One without a value.
+    Switch(Switch),
+    /// One with a value.
+    Setting(Setting),
+}
+
+/// The flag of a letter behind `-`.
+pub fn flag_of_letter(letter: char) -> Option<Flag> {
+    let switch = match letter {
+        'r' => Switch::Reverse,
+        'u' => Switch::Unique,
+        's' => Switch::Stable,
+        'z' => Switch::ZeroEnded,
+        'c' => Switch::Check,
+        'C' => Switch::CheckSilently,
+        'h' => Switch::Help,
+        'o' => return Some(Flag::Setting(Setting::Output)),
+        'k' => return Some(Flag::Setting(Setting::Key)),
+        't' => return Some(Flag::Setting(Setting::Separator)),
+        _ => return None,
+    };
+    Some(Flag::Switch(switch))
+}
+
+/// The switch of a name behind `--`.
+fn switch_of_name(name: &str) -> Option<Switch> {
+    let switch = match name {
+        "reverse" => Switch::Reverse,
+        "unique" => Switch::Unique,
+        "stable" => Switch::Stable,
+        "zero-terminated" => Switch::ZeroEnded,
+        "check" | "check=diagnose-first" => Switch::Check,
+        "check=quiet" | "check=silent" => Switch::CheckSilently,
+        "keys" => Switch::Keys,
+        "crlf" => Switch::CrLf,
+        "quiet" => Switch::Quiet,
+        "unknown" => Switch::Unknown,
+        "numeric" => Switch::Numeric,
+        "shifted" => Switch::Shifted,
+        "upper-first" => Switch::UpperFirst,
+        "help" => Switch::Help,
+        "version" => Switch::Version,
+        _ => return None,
+    };
+    Some(switch)
+}
+
+/// The flag of a name behind `--`, which no value follows behind `=`.
+pub fn flag_of_name(name: &str) -> Option<Flag> {
+    if let Some(switch) = switch_of_name(name) {
+        return Some(Flag::Switch(switch));
+    }
+    let setting = match name {
+        "output" => Setting::Output,
+        "key" => Setting::Key,
+        "field-separator" => Setting::Separator,
+        "records" => Setting::Records,
+        "over" => Setting::Over,
+        _ => return None,
+    };
+    Some(Flag::Setting(setting))
+}
+
+/// Whether this is the name of one of the six options.
+pub fn is_option_name(name: &str) -> bool {
+    match name {
+        "strength" | "alternate" | "maxvariable" | "caselevel" | "casefirst" | "numeric" => true,
+        _ => false,
+    }
+}
+
+/// The values that the option of a name may have.
+pub fn values_of_option(name: &str) -> &'static str {
+    match name {
+        "strength" => "primary, secondary, tertiary, quaternary, identical",
+        "alternate" => "nonignorable, shifted",
+        "maxvariable" => "space, punctuation, symbol, currency",
+        "casefirst" => "off, lower, upper",
+        _ => "off, on",
+    }
+}

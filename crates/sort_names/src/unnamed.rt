@@ -1,0 +1,199 @@
+//! What lists hold of which the records say nothing: characters, and CRs at the end of lines.
+
+use crate::request::Shape;
+use crate::shown::Character;
+use crate::texts::compared;
+use collate_sort::list::LineList;
+use collate_sort::order::LineOrder;
+use icu_normalizer_core::decoding::decode_utf8;
+use std::alloc::{AllocError, Global};
+use std::collections::BTreeMap;
+
+/// How many code points there are.
+const CODE_POINTS: usize = 0x11_0000;
+/// The least first byte of a key of a character that no record names; what records name has a lower one.
+const UNNAMED_LEAD: u8 = 0xFD;
+/// How many characters are told at most where not all are listed.
+const MOST_TOLD: usize = 5;
+
+/// A character that the records don't name.
+#[derive(Clone, Copy, Debug, PartialEq, Eq)]
+pub struct Unnamed {
+    /// The character; U+FFFD is damaged bytes too.
+    pub character: char,
+    /// How often it is there.
+    pub count: usize,
+    /// The first line that holds it, counted from 1 over all that is read.
+    pub first: usize,
+}
+
+/// What lists hold that the records don't say.
+#[derive(Drop)]
+pub struct Found {
+    /// How many lines hold characters that the records don't name.
+    pub lines: usize,
+    /// These characters, in the order of their code points.
+    pub characters: Vec<Unnamed>,
+    /// How many lines end in a CR that is compared.
+    pub with_cr: usize,
+}
+
+/// Looks at characters, by an order.
+#[derive(Drop)]
+struct Search<'o> {
+    order: &'o LineOrder,
+    /// Whether a character is known to be named.
+    named: Vec<bool>,
+    unnamed: BTreeMap<char, Unnamed>,
+    key: Vec<u8>,
+}
+
+impl<'o> Search<'o> {
+    /// A search that has looked at nothing.
+    fn new(alloc: Global, order: &'o LineOrder) -> Result<Search<'o>, AllocError> {
+        Ok(Search {
+            order,
+            named: vec![in alloc; false; CODE_POINTS]?,
+            unnamed: BTreeMap::new(alloc),
+            key: Vec::new(alloc),
+        })
+    }
+
+    /// Whether the records name a character: whether its key alone is one that they can give.
+    fn asks_named(&mut self, character: char) -> Result<bool, AllocError> {
+        let mut buffer = [0; 4];
+        let text = character.encode_utf8(&mut buffer);
+        self.key.clear();
+        self.order.write_key(text.as_bytes(), &mut self.key)?;
+        match self.key.first() {
+            Some(lead) => Ok(*lead < UNNAMED_LEAD),
+            None => Ok(true),
+        }
+    }
+
+    /// Looks at a character of a line. Answers whether the records name it.
+    fn look_at(&mut self, character: char, line: usize) -> Result<bool, AllocError> {
+        let place = character as usize;
+        if let Some(true) = self.named.get(place) {
+            return Ok(true);
+        }
+        if let Some(found) = self.unnamed.get_mut(&character) {
+            found.count = found.count.saturating_add(1);
+            return Ok(false);
+        }
+        if self.asks_named(character)? {
+            if let Some(named) = self.named.get_mut(place) {
+                *named = true;
+            }
+            return Ok(true);
+        }
+        let found = Unnamed {
+            character,
+            count: 1,
+            first: line,
+        };
+        self.unnamed.insert(character, found)?;
+        Ok(false)
+    }
+
+    /// Looks at the characters of a line. Answers whether the records name them all.
+    fn look_at_all(&mut self, text: &[u8], line: usize) -> Result<bool, AllocError> {
+        let mut all = true;
+        for character in decode_utf8(text) {
+            if !self.look_at(character, line)? {
+                all = false;
+            }
+        }
+        Ok(all)
+    }
+}
+
+/// Looks for what the lines of a list hold that the records don't say, in what of each is compared.
+///
+/// Errors: `AllocError` where memory is refused.
+pub fn find_unnamed(
+    alloc: Global,
+    order: &LineOrder,
+    shape: &Shape,
+    list: &LineList<'_>,
+) -> Result<Found, AllocError> {
+    let mut search = Search::new(alloc, order)?;
+    let mut lines: usize = 0;
+    let mut with_cr: usize = 0;
+    for place in 0..list.len() {
+        let Some(line) = list.get(place) else {
+            break;
+        };
+        if !search.look_at_all(compared(shape, line), place.saturating_add(1))? {
+            lines = lines.saturating_add(1);
+        }
+        if shape.end == b'\n' && !shape.crlf && line.last() == Some(&b'\r') {
+            with_cr = with_cr.saturating_add(1);
+        }
+    }
+    let mut characters = Vec::new(alloc);
+    for found in search.unnamed.values() {
+        characters.push(*found)?;
+    }
+    Ok(Found {
+        lines,
+        characters,
+        with_cr,
+    })
+}
+
+/// "line" or "lines", by how many there are, and the verb behind it.
+fn lines_that(count: usize, one: &'static str, more: &'static str) -> &'static str {
+    if count == 1 { one } else { more }
+}
+
+impl Found {
+    /// Puts the characters in order: the most frequent first, as frequent ones by their code points.
+    pub fn put_frequent_first(&mut self) -> Result<(), AllocError> {
+        self.characters.sort_by(|a, b| b.count.cmp(&a.count))
+    }
+
+    /// A line on the characters that the records don't name: in how many lines they are, and the first of them. `None` where
+    /// there are none.
+    ///
+    /// Errors: `AllocError` where memory is refused.
+    pub fn told_characters(&self, alloc: Global) -> Result<Option<String>, AllocError> {
+        if self.lines == 0 {
+            return Ok(None);
+        }
+        let verb = lines_that(self.lines, "line holds", "lines hold");
+        let mut text = format!(in alloc;
+            "{} {verb} characters that the records don't name:",
+            self.lines
+        )?;
+        for (place, found) in self.characters.iter().take(MOST_TOLD).enumerate() {
+            if place > 0 {
+                text.push_str(",")?;
+            }
+            let shown = Character(found.character);
+            let count = found.count;
+            text.push_str(format!(in alloc; " {shown} {count}x")?.as_str())?;
+        }
+        text.push_str(if self.characters.len() > MOST_TOLD {
+            ", and others (--unknown lists all)"
+        } else {
+            " (--unknown lists them)"
+        })?;
+        Ok(Some(text))
+    }
+
+    /// A line on CRs at the end of lines; `None` where there are none.
+    ///
+    /// Errors: `AllocError` where memory is refused.
+    pub fn told_cr(&self, alloc: Global) -> Result<Option<String>, AllocError> {
+        if self.with_cr == 0 {
+            return Ok(None);
+        }
+        let verb = lines_that(self.with_cr, "line ends", "lines end");
+        let text = format!(in alloc;
+            "{} {verb} in CR, which is compared (--crlf leaves it out)",
+            self.with_cr
+        )?;
+        Ok(Some(text))
+    }
+}

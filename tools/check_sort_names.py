@@ -1,0 +1,301 @@
+#!/usr/bin/env python3
+"""Checks what the program `sort_names` writes, over random lists and words.
+
+  check_sort_names.py PROGRAM COLLATE [CALLS [SEED]]
+
+PROGRAM is an executable of `sort_names`, COLLATE one of `collate` or `collate_unicode`, which is asked for the keys of
+texts: of the order this script knows no more. It makes CALLS random calls (2,000) of all words over random lists: empty
+ones, of one line, without a last line end, with NULs, damaged bytes, CRs, equal names in several spellings. What is
+written has to be the lines read, in order, equal ones as they came, or the first of them; what `-c` and `-C` say has to
+be true; and GNU `sort` over lines behind their keys has to write the same. Then fields: over a file whose order of single
+bytes is that of ASCII, `sort` itself by the same `-k` and `-t`. Then words that are refused. Prints each difference; the
+status is then 1.
+"""
+import collections
+import os
+import random
+import re
+import subprocess
+import sys
+import tempfile
+
+ROOT = os.path.dirname(os.path.dirname(os.path.realpath(__file__)))
+RECORDS = [os.path.join(ROOT, 'records', name) for name in ('latin.records', 'swedish.records', 'german.records')]
+OPTIONS = [(), ('numeric=on',), ('strength=primary',), ('alternate=shifted',), ('casefirst=upper',), ('strength=identical',),
+           ('strength=secondary', 'caselevel=on'), ('alternate=shifted', 'strength=quaternary', 'maxvariable=punctuation')]
+PARTS = ['a', 'A', 'b', 'z', 'Z', 'é', 'e\u0301', 'É', 'E\u0301', 'å', 'a\u030a', 'ö', 'o\u0308', 'c\u0327\u0301', 'c\u0301\u0327', 'ss', 'ß',
+         '1', '2', '10', '007', ' ', '-', "'", '\u2019', ',', '\t', '\0', '\r', 'ж', '中', '\U0001f600']
+DAMAGED = [b'\xff', b'\xc3', b'\xe2\x82', b'\xed\xa0\x80', b'\xf4\x90\x80\x80', b'\x80']
+Call = collections.namedtuple('Call', 'records options reverse unique zero crlf keys check column separator cut lines form')
+
+
+def random_name(source):
+    if source.random() < 0.04:
+        return b''
+    parts = [source.choice(PARTS).encode() for _ in range(source.randint(1, 4))]
+    if source.random() < 0.1:
+        parts.insert(source.randrange(len(parts) + 1), source.choice(DAMAGED))
+    return b''.join(parts)
+
+
+def random_lines(source, end, separator):
+    """Lines without the byte that ends them, of which some are alike."""
+    pool = [random_name(source) for _ in range(source.randint(1, 12))]
+    between = [separator or b' ', separator or source.choice([b' ', b'\t', b'  ']), separator or b' ']
+    lines = []
+    for _ in range(source.choice([0, 1, 2, 3, 10, 30])):
+        line = b''.join(source.choice(pool) + source.choice([b'', *between]) for _ in range(source.randint(1, 4)))
+        lines.append(line + source.choice([b'', b'', b'', b'\r']))
+    if end == b'\0' and separator:
+        lines = [line + separator * 3 + b'\n' if source.random() < 0.2 else line for line in lines]
+    return [line.replace(end, b'') for line in lines]
+
+
+def random_call(source):
+    zero, check = source.random() < 0.25, source.random() < 0.2
+    column = separator = None
+    if source.random() < 0.4:
+        first = source.randint(1, 3)
+        column = (first, source.choice([None, first, first + 1]))
+        separator = source.choice([None, b',', b'\t', b'-', b'a'])
+        if zero:
+            separator, column = b',', (first, first)
+    lines = random_lines(source, b'\0' if zero else b'\n', separator)
+    return Call(source.choice(RECORDS), source.choice(OPTIONS), source.random() < 0.3, source.random() < 0.3, zero, source.random() < 0.2,
+                not check and source.random() < 0.2, source.choice(['-c', '-C', '--check', '--check=silent']) if check else None,
+                column, separator, source.random() < 0.3, lines, source.random())
+
+
+def field_spans(line, separator):
+    """Where the fields of a line begin and end, as `sort` counts them."""
+    if separator is None:
+        return [match.span() for match in re.finditer(rb'[ \t\n]*[^ \t\n]+|[ \t\n]+$', line)]
+    spans, start = [], 0
+    for part in line.split(separator):
+        spans.append((start, start + len(part)))
+        start += len(part) + 1
+    return spans
+
+
+def compared(call, line):
+    """What of a line is compared."""
+    if call.crlf and line.endswith(b'\r'):
+        line = line[:-1]
+    if call.column is None:
+        return line
+    first, last = call.column
+    spans = field_spans(line, call.separator)
+    if first > len(spans):
+        return b''
+    return line[spans[first - 1][0]:len(line) if last is None or last > len(spans) else spans[last - 1][1]]
+
+
+def ask_keys(collate, wanted):
+    """The key of each text, by records and options."""
+    keys = {}
+    for (records, options), texts in wanted.items():
+        texts = sorted(texts)
+        run = subprocess.run([collate, records, *options], input=b''.join(b'key ' + text + b'\n' for text in texts), stdout=subprocess.PIPE,
+                             check=True)
+        answers = run.stdout.split(b'\n')[:-1]
+        if len(answers) != len(texts):
+            sys.exit(f'{collate}: {len(answers)} keys of {len(texts)} texts')
+        keys.update({(records, options, text): key for text, key in zip(texts, answers)})
+    return keys
+
+
+def option_words(source, option):
+    """One of the forms in which an option is given."""
+    name, value = option.split('=')
+    return source.choice([[f'--{name}', value] if name != 'numeric' else ['--numeric'], [f'--{option}'], [option]])
+
+
+def words_of(call, source, files):
+    """The words of a call, in any order and form."""
+    words = [source.choice([['--records', call.records], [f'--records={call.records}']])]
+    words += [option_words(source, option) for option in call.options]
+    flags = ''.join(letter for letter, is_given in zip('ruzs', [call.reverse, call.unique, call.zero, call.form < 0.1]) if is_given)
+    words += [[f'-{flags}']] if flags and call.form < 0.5 else [[f'-{letter}'] for letter in flags]
+    words += [['--crlf']] * call.crlf + [['--keys']] * call.keys + [['--quiet']]
+    if call.check:
+        words.append([call.check])
+    if call.column:
+        first, last = call.column
+        fields = f'{first}' if last is None else f'{first},{last}'
+        words.append(source.choice([['-k', fields], [f'-k{fields}'], [f'--key={fields}']]))
+    if call.separator:
+        sign = call.separator.decode()
+        words.append(source.choice([['-t', sign], [f'-t{sign}'], [f'--field-separator={sign}']]))
+    words += [[file] for file in files]
+    source.shuffle(words)
+    return [word for group in words for word in group]
+
+
+def place_order(call, keys):
+    """The places of a call's lines, in order of their keys."""
+    places = sorted(range(len(keys)), key=keys.__getitem__, reverse=call.reverse)
+    if call.unique:
+        places = [place for at, place in enumerate(places) if at == 0 or keys[place] != keys[places[at - 1]]]
+    return places
+
+
+def first_disorder(call, keys):
+    for at in range(1, len(keys)):
+        before, here = (keys[at], keys[at - 1]) if call.reverse else (keys[at - 1], keys[at])
+        if here < before or (call.unique and here == before):
+            return at
+    return None
+
+
+def by_sort(call, keys):
+    """What GNU `sort` makes of the lines behind their keys."""
+    flags = ['-' + letter for letter, is_given in zip('ruz', [call.reverse, call.unique, call.zero]) if is_given]
+    end = b'\0' if call.zero else b'\n'
+    data = b''.join(key + b'\t' + line + end for key, line in zip(keys, call.lines))
+    run = subprocess.run(['sort', '-s', '-t', '\t', '-k', '1,1', *flags], input=data, stdout=subprocess.PIPE, check=True,
+                         env={**os.environ, 'LC_ALL': 'C'})
+    return run.stdout if call.keys else b''.join(line.split(b'\t', 1)[1] + end for line in run.stdout.split(end)[:-1])
+
+
+def run_program(program, words, data, cwd):
+    run = subprocess.run([program, *words], input=data, stdout=subprocess.PIPE, stderr=subprocess.PIPE, check=False, cwd=cwd)
+    return run.stdout, run.stderr, run.returncode
+
+
+def lists_of(call, source, folder):
+    """The call's lines as the files of a folder and standard input: the operands, and the input."""
+    end = b'\0' if call.zero else b'\n'
+    pieces = 1 if call.check else source.randint(1, 3)
+    cuts = [0, *sorted(source.randint(0, len(call.lines)) for _ in range(pieces - 1)), len(call.lines)]
+    operands, data, has_input = [], b'', False
+    for at, (start, stop) in enumerate(zip(cuts, cuts[1:])):
+        text = b''.join(line + end for line in call.lines[start:stop])
+        if call.cut and stop > start and call.lines[stop - 1]:
+            text = text[:-1]
+        if not has_input and source.random() < 0.5:
+            operands, data, has_input = operands + ['-'], text, True
+        else:
+            with open(os.path.join(folder, f'list {at}'), 'wb') as file:
+                file.write(text)
+            operands.append(f'list {at}')
+    if operands == ['-'] and source.random() < 0.7:
+        operands = []
+    return operands, data
+
+
+def fault_of(call, program, keys, source, folder):
+    """What is wrong with the answer to a call; `None` where nothing is."""
+    end = b'\0' if call.zero else b'\n'
+    operands, data = lists_of(call, source, folder)
+    # operands keep their order
+    words = words_of(call, source, [])
+    words[len(words):] = operands
+    output = None
+    if not call.check and source.random() < 0.3:
+        output = source.choice(['written', *[operand for operand in operands if operand != '-']])
+        words = [source.choice(['-o', '--output']), output, *words]
+    out, said, status = run_program(program, words, data, folder)
+    if call.check:
+        at = first_disorder(call, keys)
+        path = (operands or ['-'])[0].encode()
+        line = b'' if at is None or call.check in ('-C', '--check=silent') else b'sort_names: %s:%d: disorder: %s\n' % (path, at + 1, call.lines[at])
+        wanted = (b'', line, 0 if at is None else 1)
+        return None if (out, said, status) == wanted else (words, data, (out, said, status), wanted)
+    if output:
+        with open(os.path.join(folder, output), 'rb') as file:
+            written = file.read()
+        if out:
+            return words, data, out, 'written to standard output'
+        out = written
+    places = place_order(call, keys)
+    wanted = b''.join((keys[place] + b'\t' if call.keys else b'') + call.lines[place] + end for place in places)
+    if (out, said, status) != (wanted, b'', 0):
+        return words, data, (out, said, status), wanted
+    if wanted != by_sort(call, keys):
+        return words, data, by_sort(call, keys), wanted
+    if [name for name in os.listdir(folder) if name.startswith('.')]:
+        return words, data, os.listdir(folder), 'a file is left'
+    return None
+
+
+def ascii_records(folder):
+    """A records file by which texts of one byte each compare as in ASCII."""
+    path = os.path.join(folder, 'ascii.records')
+    with open(path, 'w', encoding='ascii') as file:
+        for byte in [9, *range(32, 127)]:
+            file.write(f'w {byte:04X} ; [2A{byte:02X}1000.0500.0.0500.0]\n')
+    return path
+
+
+def check_fields(program, source, count, folder):
+    """How many lists differ from what `sort` makes of them by the same fields."""
+    records, faults = ascii_records(folder), 0
+    for _ in range(count):
+        separator = source.choice([None, ',', '\t', 'b', ' '])
+        alphabet = 'abc' + source.choice([' ', '  ', '\t', ' \t']) + (separator or ' ') * 2
+        lines = [''.join(source.choice(alphabet) for _ in range(source.randint(0, 9))) for _ in range(source.randint(0, 20))]
+        first = source.randint(1, 4)
+        fields = source.choice([f'{first}', f'{first},{first}', f'{first},{first + 1}', f'{first},{first + 3}'])
+        words = ['-k', fields, *(['-t', separator] if separator else []), *source.choice([[], ['-r'], ['-u'], ['-ru']])]
+        data = ''.join(line + '\n' for line in lines).encode()
+        wanted = subprocess.run(['sort', '-s', *words], input=data, stdout=subprocess.PIPE, check=True, env={**os.environ, 'LC_ALL': 'C'}).stdout
+        got = run_program(program, ['--records', records, '--quiet', *words], data, folder)
+        if got != (wanted, b'', 0):
+            faults += 1
+            print(f'{words} {data}: {got}, not {wanted}')
+    return faults
+
+
+def check_refused(program, folder):
+    """How many bad calls aren't refused by one line, status 2 and nothing written."""
+    records, faults = RECORDS[0], 0
+    with open(os.path.join(folder, 'names'), 'wb') as file:
+        file.write(b'b\na\n')
+    given = ['--records', records]
+    calls = [['-k', '0'], ['-k', '3,2'], ['-k', ''], ['-k', '1,0'], ['-k', 'x'], ['-k', '1.2'], ['-k', '1', '-k', '1'], ['-k', '99999999999999999999999'],
+             ['-t', 'ab'], ['-t', ''], ['-t', 'é'], ['-c', 'names', 'names'], ['-c', '-C'], ['-c', '-o', 'other'], ['--frob'], ['-x'], ['-rx'], ['-o'],
+             ['strength=none'], ['--strength', 'none'], ['--strength'], ['numeric=on', 'numeric=off'], ['--numeric', '--numeric=off'], ['nothing'],
+             ['names', 'nothing'], ['.'], ['--records', records], ['--over', records], [b'\xff'], ['-o', 'no/folder', 'names'], ['--records']]
+    for call in [given + call for call in calls] + [[], ['names'], ['latin.records'], ['numeric=on'], ['names', 'strength=primary'], ['--records', 'nothing'],
+                                                  ['--records', 'names'], ['--over', records, 'names'], ['--over', records, records, '--records', records]]:
+        out, said, status = run_program(program, call, b'b\na\n', folder)
+        if out or status != 2 or said.count(b'\n') != 1 or not said.startswith(b'sort_names: ') or 'other' in os.listdir(folder):
+            faults += 1
+            print(f'{call}: {out}, {said}, {status}')
+    with open('/dev/full', 'wb') as full:
+        run = subprocess.run([program, *given, 'names'], stdout=full, stderr=subprocess.PIPE, check=False, cwd=folder)
+        if run.returncode != 2 or run.stderr.count(b'\n') != 1:
+            faults += 1
+            print(f'full disk: {run}')
+    for word, said in (('--help', b'usage: sort_names'), ('-h', b'usage: sort_names'), ('--version', b'sort_names ')):
+        if not run_program(program, [word], b'', folder)[0].startswith(said):
+            faults += 1
+            print(f'{word}: another text')
+    return faults
+
+
+def main(program, collate, count=2000, seed=1):
+    source = random.Random(seed)
+    calls = [random_call(source) for _ in range(count)]
+    calls = [call for call in calls if call.zero is False or all(b'\n' not in compared(call, line) for line in call.lines)]
+    wanted = collections.defaultdict(set)
+    for call in calls:
+        wanted[call.records, call.options].update(compared(call, line) for line in call.lines)
+    keys, faults = ask_keys(collate, wanted), 0
+    for call in calls:
+        with tempfile.TemporaryDirectory() as folder:
+            own = [keys[call.records, call.options, compared(call, line)] for line in call.lines]
+            fault = fault_of(call, program, own, source, folder)
+        if fault:
+            faults += 1
+            print('{}\n  over {}\n  answers {}\n  wanted  {}'.format(*fault))
+    with tempfile.TemporaryDirectory() as folder:
+        faults += check_fields(program, source, count // 4, folder) + check_refused(program, folder)
+    print(f'{len(calls)} calls, {count // 4} lists by fields and the bad words: {faults} faults')
+    return 1 if faults else 0
+
+
+if __name__ == '__main__':
+    if len(sys.argv) not in (3, 4, 5):
+        sys.exit(__doc__)
+    sys.exit(main(os.path.realpath(sys.argv[1]), os.path.realpath(sys.argv[2]), *map(int, sys.argv[3:])))
