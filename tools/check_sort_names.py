@@ -202,6 +202,8 @@ def fault_of(call, program, keys, source, folder):
         wanted = (b'', line, 0 if at is None else 1)
         return None if (out, said, status) == wanted else (words, data, (out, said, status), wanted)
     if output:
+        if status or not os.path.exists(os.path.join(folder, output)):
+            return words, data, (out, said, status), 'a file'
         with open(os.path.join(folder, output), 'rb') as file:
             written = file.read()
         if out:

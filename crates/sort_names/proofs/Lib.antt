@@ -1,2 +1,3 @@
+pub mod OperandLemmas
 pub mod TextLemmas
 pub mod WrittenLemmas

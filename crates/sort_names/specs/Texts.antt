@@ -37,6 +37,10 @@ line_by shape line = record { line = line; text = compared shape line }
 abbrev pub listed : Shape → List ℕ → List Line
 listed shape text = map (line_by shape) (lines_of shape.end text)
 
+-- a list with the lines of texts behind its own
+abbrev pub with_texts : Shape → Listing → List (List ℕ) → Listing
+with_texts shape list texts = record list { lines = list.lines ++ flat_map (listed shape) texts }
+
 -- lines in order, equal ones as they stood, or of these the first alone
 abbrev pub sorted : Bool → LineRule → List Line → List Line
 sorted false rule lines = in_order (line_order rule) lines

@@ -1,7 +1,9 @@
 //! The files that are read, and standard input.
 
-ghost use Rattle.std.specs.Prelude.{◌≡◌, ◌++◌, IfSome, OnOk};
-ghost use Rattle.sort_names.specs.Texts.{listed};
+ghost use Rattle.std.specs.Prelude.{◌≡◌, ◌++◌, List, ℕ, IfOk, IfSome, OnOk, map};
+ghost use Rattle.std.specs.List.{AllZip};
+ghost use Rattle.sort_names.specs.Operands.{Holds};
+ghost use Rattle.sort_names.specs.Texts.{listed, with_texts};
 
 use crate::faults::RunFault;
 use crate::request::Shape;
@@ -29,21 +31,39 @@ impl<F: Read + Drop, I: Read + Drop> Read for Operand<F, I> {
     }
 }
 
-/// All that a reader gives, as lines behind those of a list.
+/// All that a reader gives.
 ///
-/// Errors: a read fails, or memory is refused; the list is of no use then.
-fn add_file<'w, F: Read + Drop>(
+/// Errors: a read fails, or memory is refused.
+fn read_text<'w, F: Read + Drop>(
     alloc: Global,
     path: &'w str,
     mut file: F,
-    shape: &Shape,
-    list: &mut LineList<'_>,
-) -> Result<(), RunFault<'w>>
-    ensures { OnOk result (IfSome (F.remaining file) (λ held. list.new ≡ record list.old { lines = list.old.lines ++ listed shape.now held })) }
+) -> Result<Vec<u8>, RunFault<'w>>
+    ensures { IfOk result (λ text. IfSome (F.remaining file) (λ held. text.items ≡ held)) }
 {
     let mut text = Vec::new(alloc);
     match file.read_to_end(&mut text) {
-        Ok(_) => {
+        Ok(_) => Ok(text),
+        Err(error) => Err(RunFault::Unreadable(path, error)),
+    }
+}
+
+/// Adds the lines of an operand behind those of a list.
+///
+/// Errors: it can't be opened or read, or memory is refused; the list is of no use then.
+fn add_operand<'w, F: Read + Drop, O: Fn(&str) -> io::Result<F>>(
+    alloc: Global,
+    path: &'w str,
+    opener: &O,
+    shape: &Shape,
+    list: &mut LineList<'_>,
+) -> Result<(), RunFault<'w>>
+    requires { O.IsAlwaysCallable opener.now }
+    ensures { OnOk result ((text : List ℕ) × Holds F.remaining O.Fn opener.now path.now text × (list.new ≡ record list.old { lines = list.old.lines ++ listed shape.now text })) }
+{
+    match opener(path) {
+        Ok(file) => {
+            let text = read_text(alloc, path, file)?;
             add_lines(list, shape, &text)?;
             Ok(())
         }
@@ -51,7 +71,7 @@ fn add_file<'w, F: Read + Drop>(
     }
 }
 
-/// The lines of all operands, one behind another, as lines behind those of a list.
+/// Adds the lines of all operands, one behind another, behind those of a list.
 ///
 /// Errors: one can't be opened or read, or memory is refused; the list is of no use then.
 pub fn add_operands<'w, F: Read + Drop, O: Fn(&str) -> io::Result<F>>(
@@ -62,12 +82,10 @@ pub fn add_operands<'w, F: Read + Drop, O: Fn(&str) -> io::Result<F>>(
     list: &mut LineList<'_>,
 ) -> Result<(), RunFault<'w>>
     requires { O.IsAlwaysCallable opener.now }
+    ensures { OnOk result ((texts : List (List ℕ)) × AllZip (Holds F.remaining O.Fn opener.now) (map (λ path. path.now) operands.now) texts × (list.new ≡ with_texts shape.now list.old texts)) }
 {
     for path in operands {
-        match opener(path) {
-            Ok(file) => add_file(alloc, path, file, shape, list)?,
-            Err(error) => return Err(RunFault::Unreadable(path, error)),
-        }
+        add_operand(alloc, path, opener, shape, list)?;
     }
     Ok(())
 }

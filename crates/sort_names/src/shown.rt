@@ -28,6 +28,8 @@ impl fmt::Display for Character {
         write!(f, "U+{code:04X}")?;
         if character.is_control() {
             Ok(())
+        } else if character == char::REPLACEMENT_CHARACTER {
+            f.write_str(" (or damaged bytes)")
         } else {
             write!(f, " {character}")
         }

@@ -41,12 +41,13 @@ fn behind(text: &[u8], len: usize) -> &[u8]
 }
 
 /// A line without a CR at its end.
-fn without_cr(line: &[u8]) -> &[u8]
+pub fn without_cr(line: &[u8]) -> &[u8]
     ensures { result.now ≡ strip_last 13 line.now }
 {
-    match line.split_last() {
-        Some((last, before)) if *last == b'\r' => before,
-        _ => line,
+    if !line.is_empty() && line[line.len() - 1] == b'\r' {
+        &line[..line.len() - 1]
+    } else {
+        line
     }
 }
 

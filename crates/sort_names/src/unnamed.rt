@@ -2,7 +2,7 @@
 
 use crate::request::Shape;
 use crate::shown::Character;
-use crate::texts::compared;
+use crate::texts::{compared, without_cr};
 use collate_sort::list::LineList;
 use collate_sort::order::LineOrder;
 use icu_normalizer_core::decoding::decode_utf8;
@@ -34,7 +34,7 @@ pub struct Found {
     pub lines: usize,
     /// These characters, in the order of their code points.
     pub characters: Vec<Unnamed>,
-    /// How many lines end in a CR that is compared.
+    /// How many lines end in a CR that is compared; it isn't among the characters.
     pub with_cr: usize,
 }
 
@@ -124,10 +124,10 @@ pub fn find_unnamed(
         let Some(line) = list.get(place) else {
             break;
         };
-        if !search.look_at_all(compared(shape, line), place.saturating_add(1))? {
+        if !search.look_at_all(without_cr(compared(shape, line)), place.saturating_add(1))? {
             lines = lines.saturating_add(1);
         }
-        if shape.end == b'\n' && !shape.crlf && line.last() == Some(&b'\r') {
+        if !shape.crlf && without_cr(line).len() < line.len() {
             with_cr = with_cr.saturating_add(1);
         }
     }

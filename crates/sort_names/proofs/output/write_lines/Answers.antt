@@ -1,4 +1,5 @@
-use Rattle.std.proofs.Common.{◌≡◌, [], Some, arith, get_or}
+use Rattle.std.proofs.Common.{◌≡◌, [], Some, arith, get_or, subst}
+use Rattle.std.specs.Io.KnownBytes.{Appends}
 use Rattle.std.specs.Prelude.{slice_get}
 use Rattle.std.proofs.lemmas.Option.{slice_get-get_or}
 use Rattle.sort_names.specs.Texts.{written}
@@ -12,7 +13,7 @@ loop-place-preserved g c =
     let place = c.loop-place.place in
     let line = get_or lines place (record { line = []; text = [] }) in
     let here : slice_get lines place ≡ Some line =
-    slice_get-get_or lines place (record { line = []; text = [] }) (omega (arith, c.len.ensures, c.loop-place-test.true)) in
+    slice_get-get_or lines place (record { line = []; text = [] }) (omega (arith, c.len-place-end.ensures, c.loop-place-test.true)) in
     text_more (written c.args.end c.args.keys c.args.list.now.rule) lines place line
     (w c.args.writer.now) (w c.loop-place.writer) (w c.send_much.new.writer)
     c.loop-place.gathered.items c.add_line.new.text.items c.send_much.new.gathered.items
@@ -23,4 +24,5 @@ returns g c =
     let w = g.W.Write.contents in
     text_all (written c.args.end c.args.keys c.args.list.now.rule) c.args.list.now.lines c.loop-place.place
     (w c.args.writer.now) (w c.loop-place.writer) (w c.write_all.new.self) c.loop-place.gathered.items
-    (omega (arith, c.len.ensures, c.loop-place-test.false)) c.loop-place.invariant c.in_ok-write_all.ensures
+    (omega (arith, c.len-place-end.ensures, c.loop-place-test.false)) c.loop-place.invariant
+    (subst (Appends (w c.loop-place.writer) (w c.write_all.new.self)) c.deref.ensures.value c.in_ok-write_all.ensures.bytes)
