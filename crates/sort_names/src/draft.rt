@@ -48,6 +48,7 @@ fn plain_request<'w>(alloc: Global) -> Request<'w> {
         },
         keys: false,
         quiet: false,
+        csv: None,
         output: None,
         operands: Vec::new(alloc),
     }
@@ -150,6 +151,7 @@ impl<'w> Draft<'w> {
                 Some(byte) => set_once(&mut self.separator, byte, "-t"),
                 None => Err(WordFault::Separator(value)),
             },
+            Setting::Csv => set_once(&mut self.request.csv, value, "--csv"),
             Setting::Records | Setting::Over => self.take_source(Source::Records(value)),
         }
     }
@@ -228,8 +230,30 @@ impl<'w> Draft<'w> {
         }
     }
 
+    /// Why words don't go together with `--csv`; `None` where they do.
+    fn csv_conflict(&self) -> Option<WordFault<'w>> {
+        self.request.csv?;
+        let other = if self.fields.is_some() || self.separator.is_some() {
+            "-k or -t"
+        } else if self.request.shape.end != b'\n' {
+            "-z"
+        } else if self.request.shape.crlf {
+            "--crlf"
+        } else if self.request.keys {
+            "--keys"
+        } else if self.request.task != Task::Sort {
+            "-c, -C or --unknown"
+        } else {
+            return None;
+        };
+        Some(WordFault::Together("--csv", other))
+    }
+
     /// Why words don't go together; `None` where they do.
     fn conflict(&self) -> Option<WordFault<'w>> {
+        if let Some(fault) = self.csv_conflict() {
+            return Some(fault);
+        }
         let name = match self.request.task {
             Task::Sort => return None,
             Task::Check { silent: false } => "-c",

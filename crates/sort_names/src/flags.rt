@@ -44,6 +44,8 @@ pub enum Setting {
     Key,
     /// `-t SEP`: the byte between fields.
     Separator,
+    /// `--csv COLUMN`: the lines are records of CSV, compared by a column.
+    Csv,
     /// `--records FILE`: the records.
     Records,
     /// `--over ROOT FILE`: the records of a root, and those that are put over it.
@@ -109,6 +111,7 @@ pub fn flag_of_name(name: &str) -> Option<Flag> {
         "output" => Setting::Output,
         "key" => Setting::Key,
         "field-separator" => Setting::Separator,
+        "csv" => Setting::Csv,
         "records" => Setting::Records,
         "over" => Setting::Over,
         _ => return None,

@@ -19,6 +19,7 @@ file, or of one that is put over another. Equal lines stay as they came. A last 
     -c, -C           says which line is the first out of order, in one FILE; -C says nothing. The status is 1 then
     -k F[,G]         compares the Fth field to the last, or to the Gth
     -t SEP           a byte between fields; without it blanks, which belong to the field behind them
+    --csv COLUMN     compares this column of CSV files: their first record names the columns and comes first
     --keys           each line behind its key, in hexadecimal digits, and a TAB
     --crlf           a CR before the end of a line isn't compared
     --numeric, --shifted, --upper-first, --strength VALUE (primary, secondary, tertiary, quaternary, identical),

@@ -1,6 +1,7 @@
 //! `sort_names`: puts the lines of files in the order of a records file (README.md).
 #![tactic(auto)]
 
+mod csv_lists;
 mod draft;
 mod faults;
 mod fields;

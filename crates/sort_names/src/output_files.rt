@@ -1,7 +1,7 @@
 //! Lists as files.
 
 use crate::faults::RunFault;
-use crate::output::{WriteFault, write_lines};
+use crate::output::{WriteFault, write_behind};
 use crate::request::Request;
 use collate_sort::list::LineList;
 use std::fs::{self, File, Metadata};
@@ -48,6 +48,7 @@ fn write_beside<'w>(
     path: &'w str,
     place: &str,
     like: Option<&Metadata>,
+    front: &[u8],
     list: &LineList<'_>,
 ) -> Result<(), RunFault<'w>> {
     let alloc = rt.alloc();
@@ -59,10 +60,24 @@ fn write_beside<'w>(
     };
     let written = match like {
         Some(like) => match take_over(rt, &beside, &file, like) {
-            Ok(()) => write_lines(alloc, &mut file, list, request.shape.end, request.keys),
+            Ok(()) => write_behind(
+                alloc,
+                &mut file,
+                front,
+                list,
+                request.shape.end,
+                request.keys,
+            ),
             Err(error) => Err(WriteFault::Write(error)),
         },
-        None => write_lines(alloc, &mut file, list, request.shape.end, request.keys),
+        None => write_behind(
+            alloc,
+            &mut file,
+            front,
+            list,
+            request.shape.end,
+            request.keys,
+        ),
     };
     let moved = match written {
         Ok(()) => match fs::rename(rt, beside.as_path(), place) {
@@ -80,18 +95,26 @@ fn write_straight<'w>(
     rt: &HostRuntime,
     request: &Request<'w>,
     path: &'w str,
+    front: &[u8],
     list: &LineList<'_>,
 ) -> Result<(), RunFault<'w>> {
     match File::create(rt, path) {
         Ok(mut file) => {
-            let written = write_lines(rt.alloc(), &mut file, list, request.shape.end, request.keys);
+            let written = write_behind(
+                rt.alloc(),
+                &mut file,
+                front,
+                list,
+                request.shape.end,
+                request.keys,
+            );
             written.map_err(|fault| unwritten(path, fault))
         }
         Err(error) => Err(RunFault::Unwritable(Some(path), error)),
     }
 }
 
-/// Writes a list to the file of a path: a regular file is written beside it and put in its place once all is written, with
+/// Writes a text and the lines of a list behind it to the file of a path: a regular file is written beside it and put in its place once all is written, with
 /// its mode, a link to one at the end of the link; what is no regular file, and a link that leads nowhere, is written
 /// straight.
 ///
@@ -100,17 +123,18 @@ pub fn write_file<'w>(
     rt: &HostRuntime,
     request: &Request<'w>,
     path: &'w str,
+    front: &[u8],
     list: &LineList<'_>,
 ) -> Result<(), RunFault<'w>> {
     match fs::metadata(rt, path) {
         Ok(like) if like.is_file() => match fs::canonicalize(rt, path) {
-            Ok(place) => write_beside(rt, request, path, place.as_str(), Some(&like), list),
+            Ok(place) => write_beside(rt, request, path, place.as_str(), Some(&like), front, list),
             Err(error) => Err(RunFault::Unwritable(Some(path), error)),
         },
-        Ok(_) => write_straight(rt, request, path, list),
+        Ok(_) => write_straight(rt, request, path, front, list),
         Err(_) => match fs::symlink_metadata(rt, path) {
-            Ok(_) => write_straight(rt, request, path, list),
-            Err(_) => write_beside(rt, request, path, path, None, list),
+            Ok(_) => write_straight(rt, request, path, front, list),
+            Err(_) => write_beside(rt, request, path, path, None, front, list),
         },
     }
 }

@@ -71,6 +71,8 @@ pub struct Request<'w> {
     pub keys: bool,
     /// Whether nothing is said of what the records don't name.
     pub quiet: bool,
+    /// The column by which records of CSV are compared, where they are that.
+    pub csv: Option<&'w str>,
     /// The file that is written; `None` for standard output.
     pub output: Option<&'w str>,
     /// The files that are read, `-` for standard input, which alone is read where the words name none.

@@ -1,8 +1,9 @@
 //! A run: lists are read, put in order or looked through, and written.
 
+use crate::csv_lists::add_records;
 use crate::faults::RunFault;
-use crate::operands::{Operand, add_operands};
-use crate::output::{WriteFault, sort_list, write_lines};
+use crate::operands::{Operand, add_operands, read_text};
+use crate::output::{WriteFault, sort_list, write_behind};
 use crate::output_files::write_file;
 use crate::records_files::order_of;
 use crate::request::{Request, Task};
@@ -10,9 +11,9 @@ use crate::shown::{Character, Shown};
 use crate::unnamed::{Found, find_unnamed};
 use collate_sort::list::LineList;
 use collate_sort::order::LineOrder;
-use std::alloc::AllocError;
+use std::alloc::{AllocError, Global};
 use std::fs::File;
-use std::io::{self, Write};
+use std::io::{self, Read, Write};
 
 /// How a run ended that no fault cut short.
 #[derive(Clone, Copy, Debug, PartialEq, Eq)]
@@ -25,12 +26,38 @@ pub enum Ended {
     Unread,
 }
 
-/// Reads the lines of all operands of a request into a list.
+/// Reads the records of CSV files into a list. Answers the text of their header.
+fn read_csv<'w, F: Read + Drop, O: Fn(&str) -> io::Result<F>>(
+    alloc: Global,
+    operands: &[&'w str],
+    column: &'w str,
+    opener: &O,
+    list: &mut LineList<'_>,
+) -> Result<Vec<u8>, RunFault<'w>>
+    requires { O.IsAlwaysCallable opener.now }
+{
+    let mut header = None;
+    for path in operands {
+        match opener(path) {
+            Ok(file) => {
+                let text = read_text(alloc, path, file)?;
+                header = add_records(alloc, path, column, header, &text, list)?;
+            }
+            Err(error) => return Err(RunFault::Unreadable(path, error)),
+        }
+    }
+    match &header {
+        Some(header) => header.text(alloc),
+        None => Ok(Vec::new(alloc)),
+    }
+}
+
+/// Reads the lines of all operands of a request into a list. Answers the text that stands before them, as they are written.
 fn read_list<'w>(
     rt: &HostRuntime,
     request: &Request<'w>,
     list: &mut LineList<'_>,
-) -> Result<(), RunFault<'w>> {
+) -> Result<Vec<u8>, RunFault<'w>> {
     let opener = |path: &str| {
         if path == "-" {
             Ok(Operand::Input(rt.reader()))
@@ -41,7 +68,13 @@ fn read_list<'w>(
             }
         }
     };
-    add_operands(rt.alloc(), &request.operands, &opener, &request.shape, list)
+    match request.csv {
+        Some(column) => read_csv(rt.alloc(), &request.operands, column, &opener, list),
+        None => {
+            add_operands(rt.alloc(), &request.operands, &opener, &request.shape, list)?;
+            Ok(Vec::new(rt.alloc()))
+        }
+    }
 }
 
 /// How a run ends where standard output can't be written.
@@ -57,16 +90,18 @@ fn write_error<'w>(error: io::Error) -> Result<Ended, RunFault<'w>> {
 fn write_list<'w>(
     rt: &HostRuntime,
     request: &Request<'w>,
+    front: &[u8],
     list: &LineList<'_>,
 ) -> Result<Ended, RunFault<'w>> {
     if let Some(path) = request.output {
-        write_file(rt, request, path, list)?;
+        write_file(rt, request, path, front, list)?;
         return Ok(Ended::Well);
     }
     let mut writer = io::writer(rt);
-    match write_lines(
+    match write_behind(
         rt.alloc(),
         &mut writer,
+        front,
         list,
         request.shape.end,
         request.keys,
@@ -132,6 +167,7 @@ fn sort<'w>(
     rt: &HostRuntime,
     request: &Request<'w>,
     order: &LineOrder,
+    front: &[u8],
     list: &mut LineList<'_>,
 ) -> Result<Ended, RunFault<'w>> {
     let found = if request.quiet {
@@ -142,7 +178,7 @@ fn sort<'w>(
         Some(found)
     };
     sort_list(list, request.order.unique)?;
-    let ended = write_list(rt, request, list)?;
+    let ended = write_list(rt, request, front, list)?;
     if let Some(found) = &found {
         tell_found(rt, found)?;
     }
@@ -159,10 +195,10 @@ pub fn run<'w>(rt: &HostRuntime, request: &Request<'w>) -> Result<Ended, RunFaul
         Err(fault) => return Err(fault),
     };
     let mut list = LineList::new(alloc, &order);
-    read_list(rt, request, &mut list)?;
+    let front = read_list(rt, request, &mut list)?;
     match request.task {
         Task::Check { silent } => Ok(check(rt, request, &list, silent)),
-        Task::Sort => sort(rt, request, &order, &mut list),
+        Task::Sort => sort(rt, request, &order, &front, &mut list),
         Task::Unknown => {
             let mut found = find_unnamed(alloc, &order, &request.shape, &list)?;
             found.put_frequent_first()?;
