@@ -8,10 +8,12 @@ texts: of the order this script knows no more. It makes CALLS random calls (2,00
 ones, of one line, without a last line end, with NULs, damaged bytes, CRs, equal names in several spellings. What is
 written has to be the lines read, in order, equal ones as they came, or the first of them; what `-c` and `-C` say has to
 be true; and GNU `sort` over lines behind their keys has to write the same. Then fields: over a file whose order of single
-bytes is that of ASCII, `sort` itself by the same `-k` and `-t`. Then words that are refused. Prints each difference; the
-status is then 1.
+bytes is that of ASCII, `sort` itself by the same `-k` and `-t`. Then words that are refused, and CSV files by a column.
+Prints each difference; the status is then 1.
 """
 import collections
+import csv
+import io
 import os
 import random
 import re
@@ -248,6 +250,42 @@ def check_fields(program, source, count, folder):
     return faults
 
 
+def csv_text(rows):
+    text = io.StringIO(newline='')
+    csv.writer(text, lineterminator='\n').writerows(rows)
+    return text.getvalue().encode()
+
+
+def check_csv(program, collate, source, count, folder):
+    """How many CSV files aren't sorted by a column, as Python reads them."""
+    faults, parts = 0, [part for part in PARTS if part not in '\0\r']
+    for _ in range(count):
+        width, place = source.randint(1, 4), source.randint(0, 3)
+        rows = [[''.join(source.choice(parts + ['"', '']) for _ in range(source.randint(0, 3))) for _ in range(width)] for _ in range(source.randint(0, 12))]
+        rows = [[field if at == place % width else field + source.choice(['', '\n', 'x\ny']) for at, field in enumerate(row)] for row in rows]
+        header, cut = [f'column {at}' for at in range(width)], source.randint(0, len(rows))
+        with open(os.path.join(folder, 'more.csv'), 'wb') as file:
+            file.write(csv_text([header, *rows[cut:]]))
+        reverse, unique = source.random() < 0.3, source.random() < 0.3
+        words = ['--records', RECORDS[0], '--quiet', f'--csv=column {place % width}', *['-r'] * reverse, *['-u'] * unique, '-', 'more.csv']
+        keys = ask_keys(collate, {(RECORDS[0], ()): {row[place % width].encode() for row in rows}}) if rows else {}
+        own = [keys[RECORDS[0], (), row[place % width].encode()] for row in rows]
+        places = sorted(range(len(rows)), key=own.__getitem__, reverse=reverse)
+        places = [at for n, at in enumerate(places) if not unique or n == 0 or own[at] != own[places[n - 1]]]
+        out, said, status = run_program(program, words, csv_text([header, *rows[:cut]]), folder)
+        got = list(csv.reader(io.StringIO(out.decode(), newline='')))
+        if (got, said, status) != ([header, *[rows[at] for at in places]], b'', 0):
+            faults += 1
+            print(f'{words} {header} {rows}: {out}, {said}, {status}')
+    for words, data in ((['--csv', 'c'], b'a,b\n1,2\n'), (['--csv', 'a'], b'a,b\n1,2\n3\n'), (['--csv', 'a', '-', 'more.csv'], b'a,b\n'),
+                        (['--csv', 'a', '-z'], b'a\n'), (['--csv', 'a', '-k', '1'], b'a\n'), (['--csv', 'a', '-c'], b'a\n')):
+        out, said, status = run_program(program, ['--records', RECORDS[0], *words], data, folder)
+        if out or status != 2 or said.count(b'\n') != 1:
+            faults += 1
+            print(f'{words}: {out}, {said}, {status}')
+    return faults
+
+
 def check_refused(program, folder):
     """How many bad calls aren't refused by one line, status 2 and nothing written."""
     records, faults = RECORDS[0], 0
@@ -293,7 +331,8 @@ def main(program, collate, count=2000, seed=1):
             print('{}\n  over {}\n  answers {}\n  wanted  {}'.format(*fault))
     with tempfile.TemporaryDirectory() as folder:
         faults += check_fields(program, source, count // 4, folder) + check_refused(program, folder)
-    print(f'{len(calls)} calls, {count // 4} lists by fields and the bad words: {faults} faults')
+        faults += check_csv(program, collate, source, count // 20, folder)
+    print(f'{len(calls)} calls, {count // 4} lists by fields, {count // 20} CSV files and the bad words: {faults} faults')
     return 1 if faults else 0
 
 
