@@ -156,7 +156,10 @@ pub fn write_behind<W: Write>(
     list: &LineList<'_>,
     end: u8,
     keys: bool,
-) -> Result<(), WriteFault> {
+) -> Result<(), WriteFault>
+    ensures { OnOk result (Appends (W.contents writer.old) (W.contents writer.new) (front.now ++ text_of end keys list.now)) }
+{
     writer.write_all(front)?;
-    write_lines(alloc, writer, list, end, keys)
+    write_lines(alloc, writer, list, end, keys)?;
+    Ok(())
 }
