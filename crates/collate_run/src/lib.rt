@@ -3,6 +3,7 @@
 //! commands alone.
 #![tactic(auto)]
 
+pub mod buffered;
 pub mod over;
 pub mod program;
 mod replies;
