@@ -1,6 +1,6 @@
 -- what a run does that takes its lines from the reader's buffer and sends replies together
-use Rattle.std.specs.Prelude.{◌≡◌, ℕ, ◌+◌, ◌<◌, ◌≤◌, ◌⊎◌, Bool, true, false, Option, Result, Ok, Err, OnOk, IfOk, List, [], ◌++◌, length, take, All, MatchResult}
-use Rattle.std.specs.Io.KnownBytes.{Appends, Consumes, IsAtEnd}
+use Rattle.std.specs.Prelude.{◌≡◌, ℕ, ◌+◌, ◌<◌, ◌≤◌, ◌⊎◌, Bool, true, false, Option, Result, Ok, Err, OnOk, List, [], ◌++◌, length, take, All, MatchResult}
+use Rattle.std.specs.Io.KnownBytes.{Appends, Consumes}
 use Rattle.collate_index.specs.Catalogue.{Catalogue}
 use Rattle.collate_run.specs.Reading.{AreWhole, IsUnended}
 use Rattle.collate_run.specs.Replies.{Replied, behind, ended}
@@ -36,9 +36,9 @@ abbrev pub is_write_fault : {T : Type 0} → Result T RunFault → Bool
 is_write_fault (Err Write) = true
 is_write_fault _ = false
 
--- Whole lines were read and answered, and the writer got a first part of the text, all of it but at `Write`. At `Read` nothing was
--- read, and at `Ok(false)` nothing is left. The counts are of the bytes before and after.
-pub record TakesReady (result : Result Bool RunFault) (old new : Catalogue) (reader_old reader_new writer_old writer_new : Option (List ℕ)) (before after : ℕ) : Type 0 where
+-- Whole lines were read and answered, and the writer got a first part of the text, all of it but at `Write`. The counts are of the
+-- bytes before and after.
+pub record TakesReady (result : Result (Unit {0}) RunFault) (old new : Catalogue) (reader_old reader_new writer_old writer_new : Option (List ℕ)) (before after : ℕ) : Type 0 where
   pub taken : List ℕ
   pub text : List ℕ
   pub unsent : List ℕ
@@ -49,6 +49,4 @@ pub record TakesReady (result : Result Bool RunFault) (old new : Catalogue) (rea
   pub text_is : text ≡ sent ++ unsent
   pub counted : after ≡ before + length taken
   pub within : after ≤ input_limit
-  pub ends : MatchResult result
-      (λ is_open. (unsent ≡ []) × (is_open ≡ false → IsAtEnd reader_new))
-      (λ fault. (fault ≡ Write) ⊎ ((fault ≡ Read) × (unsent ≡ [])))
+  pub ends : MatchResult result (λ _. unsent ≡ []) (λ fault. (fault ≡ Write) ⊎ ((fault ≡ Read) × (unsent ≡ [])))

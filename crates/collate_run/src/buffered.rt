@@ -1,9 +1,10 @@
 //! A run whose lines are taken from the reader's buffer, and whose replies are sent together where no whole line is ready.
 
-ghost use Rattle.std.specs.Prelude.{◌≡◌, ◌==◌, ◌<◌, ◌≤◌, ◌↔◌, ◌||◌, ℕ, [], List, length, take, false, true, Err, IfErr, IfOk, IfSome, OnOk, is_err, position};
+ghost use Rattle.std.specs.Prelude.{◌≡◌, ◌==◌, ◌++◌, ◌<◌, if◌then◌else◌, ◌≤◌, ◌↔◌, ◌||◌, ℕ, [], List, length, take, false, true, Err, IfErr, IfOk, IfSome, OnOk, is_err, position};
 ghost use Rattle.collate_index.specs.Catalogue.{opened};
 ghost use Rattle.collate_run.specs.Buffered.{AnswersLines, Gathers, IsReadyLine, TakesReady, is_write_fault};
 ghost use Rattle.collate_run.specs.Reading.{is_read_fault};
+ghost use Rattle.collate_run.specs.Replies.{Answers};
 ghost use Rattle.collate_run.specs.ReplyText.{reply_text};
 ghost use Rattle.collate_run.specs.Runs.{Ran, input_limit};
 ghost use Rattle.collate_run.specs.Sending.{Sends};
@@ -43,7 +44,17 @@ fn send<W: Write>(writer: &mut Watched<W>, waiting: &mut Vec<u8>) -> Result<(), 
     }
 }
 
-/// Puts bytes behind those that wait; where the room doesn't hold both, all are sent. It takes no memory within the room.
+/// Lets bytes wait where the room holds them behind those that wait, and tells whether it does. It takes no memory.
+fn waits(waiting: &mut Vec<u8>, bytes: &[u8]) -> bool
+    ensures { waiting.new.items ≡ (if result then waiting.old.items ++ bytes.now else waiting.old.items) }
+{
+    if bytes.len() > REPLY_ROOM.saturating_sub(waiting.len()) {
+        return false;
+    }
+    waiting.extend_from_slice(bytes).is_ok()
+}
+
+/// Puts bytes behind those that wait; where the room doesn't hold both, all are sent.
 fn put<W: Write>(
     writer: &mut Watched<W>,
     waiting: &mut Vec<u8>,
@@ -54,8 +65,7 @@ fn put<W: Write>(
     ensures failed { watched_failed writer.new ≡ watched_failed writer.old || is_err result }
     ensures fault { IfErr result (λ fault. fault ≡ RunFault.Write) }
 {
-    let room = REPLY_ROOM.saturating_sub(waiting.len());
-    if bytes.len() <= room && waiting.extend_from_slice(bytes).is_ok() {
+    if waits(waiting, bytes) {
         return Ok(());
     }
     match send(writer, waiting) {
@@ -116,11 +126,20 @@ fn ready_line(bytes: &[u8]) -> Option<&[u8]>
         Some(end) => &bytes[..end],
         None => return None,
     };
-    if line.len() <= LINE_LIMIT && records_behind(line) == 0 {
-        Some(line)
-    } else {
-        None
+    if line.len() > LINE_LIMIT {
+        return None;
     }
+    if records_behind(line) > 0 {
+        return None;
+    }
+    Some(line)
+}
+
+/// Answers a line with no record line behind it.
+fn answer_alone(alloc: Global, index: &mut Index, line: &[u8]) -> Reply
+    ensures { Answers line.now [] index.old index.new (reply_text result) }
+{
+    answer(alloc, index, line, Some(b""))
 }
 
 /// Answers the lines at the front of these bytes, as far as they are ready (`ready_line`), and lets the replies wait. Gives how
@@ -141,7 +160,7 @@ fn answer_lines<W: Write>(
 {
     let mut taken = 0;
     'lines: while let Some(line) = ready_line(&bytes[taken..]) {
-        let reply = answer(alloc, index, line, Some(b""));
+        let reply = answer_alone(alloc, index, line);
         taken += line.len() + 1;
         match put_reply(writer, waiting, &reply) {
             Ok(()) => {}
@@ -151,8 +170,8 @@ fn answer_lines<W: Write>(
     (taken, Ok(()))
 }
 
-/// Answers the lines that the reader has ready in its buffer, which it fills where it is empty, and sends their replies. Gives
-/// `false` at the end of the input. `count` is how many bytes have been read.
+/// Answers the lines that the reader has ready in its buffer, which it fills where it is empty, and sends their replies. `count` is
+/// how many bytes have been read.
 fn answer_ready<R: BufRead, W: Write>(
     alloc: Global,
     index: &mut Index,
@@ -160,7 +179,7 @@ fn answer_ready<R: BufRead, W: Write>(
     writer: &mut Watched<W>,
     waiting: &mut Vec<u8>,
     count: &mut u64,
-) -> Result<bool, RunFault>
+) -> Result<(), RunFault>
     requires within { count.old ≤ input_limit }
     requires none { waiting.old.items ≡ [] }
     ensures answered { TakesReady result index.old index.new
@@ -177,9 +196,6 @@ fn answer_ready<R: BufRead, W: Write>(
             return Err(RunFault::Read);
         }
     };
-    if ready.is_empty() {
-        return Ok(false);
-    }
     let most = at_most(ready.len(), INPUT_LIMIT - *count);
     let (taken, answered) = answer_lines(alloc, index, &ready[..most], writer, waiting);
     reader.inner.consume(taken);
@@ -188,10 +204,7 @@ fn answer_ready<R: BufRead, W: Write>(
         Ok(()) => {}
         Err(fault) => return Err(fault),
     }
-    match send(writer, waiting) {
-        Ok(()) => Ok(true),
-        Err(fault) => Err(fault),
-    }
+    send(writer, waiting)
 }
 
 /// A number, or a limit if that is below it.
@@ -227,8 +240,7 @@ fn answer_buffered<R: BufRead, W: Write>(
     let mut count = 0;
     'requests: loop {
         match answer_ready(alloc, index, reader, writer, waiting, &mut count) {
-            Ok(true) => {}
-            Ok(false) => return Ok(()),
+            Ok(()) => {}
             Err(fault) => return Err(fault),
         }
         let limit = index.limits().bytes;

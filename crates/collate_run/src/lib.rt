@@ -4,6 +4,7 @@
 #![tactic(auto)]
 
 pub mod buffered;
+mod fused;
 pub mod over;
 pub mod program;
 mod replies;

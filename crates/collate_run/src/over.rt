@@ -6,6 +6,7 @@ ghost use Rattle.collate_run.specs.Served.{Tells, file_line};
 ghost use Rattle.collate_run.specs.Watched.{watched_failed, watched_inner};
 
 use crate::buffered::run_buffered_with_seed;
+use crate::fused::Fused;
 use crate::program::{INPUT_ROOM, file_bytes, run_program_within, words};
 use crate::serve::{FileFault, tell, tell_run_fault};
 use crate::setup::Setup;
@@ -228,7 +229,7 @@ fn serve_paths<R: BufRead, W: Write, E: Write>(
 fn serve_host_over(rt: &HostRuntime, setup: Setup, root: &str, words: &[String]) -> u8 {
     let mut writer = Watched::new(io::writer(rt));
     let mut errors = rt.stderr();
-    match BufReader::with_capacity(rt.alloc(), INPUT_ROOM, rt.reader()) {
+    match BufReader::with_capacity(rt.alloc(), INPUT_ROOM, Fused::new(rt.reader())) {
         Ok(input) => {
             let mut reader = Watched::new(input);
             serve_paths(

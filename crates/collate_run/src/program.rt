@@ -7,6 +7,7 @@ ghost use Rattle.collate_run.specs.Served.{IsContents, ServesWords};
 ghost use Rattle.collate_run.specs.Watched.{watched_failed, watched_inner};
 
 use crate::buffered::serve_buffered;
+use crate::fused::Fused;
 use crate::serve::FileFault;
 use crate::setup::{Limits, Setup};
 use crate::watched::Watched;
@@ -110,7 +111,7 @@ fn serve_host(rt: &HostRuntime, setup: Setup, words: &[String]) -> u8 {
     let opener = |path: &str| File::open(rt, path);
     let mut writer = Watched::new(io::writer(rt));
     let mut errors = rt.stderr();
-    match BufReader::with_capacity(alloc, INPUT_ROOM, rt.reader()) {
+    match BufReader::with_capacity(alloc, INPUT_ROOM, Fused::new(rt.reader())) {
         Ok(input) => {
             let mut reader = Watched::new(input);
             serve_words(

@@ -1,14 +1,17 @@
 -- lines that are answered together, and what waits of their replies
-use Rattle.std.proofs.Common.{◌≡◌, ◌≢◌, ℕ, ◌+◌, ◌-◌, ◌<◌, ◌≤◌, Bool, true, false, eqb, Option, None, Some, Result, Ok, Err, OnOk, List, [], ◌∷◌, ◌++◌, ◌⊎◌, inl, inr, get_or, length, take, drop, All, refl, sym, ap, ◌∙◌, subst, append_assoc, length-append, length-take-le, get_or-take, take-add, take-take, eqb-true, arith}
-use Rattle.std.proofs.lemmas.List.{append-nil, take_more, take_rest}
+use Rattle.std.proofs.Common.{◌≡◌, ◌≢◌, ℕ, ◌+◌, ◌-◌, ◌<◌, ◌≤◌, Bool, true, false, Option, None, Some, Result, Ok, Err, OnOk, List, [], ◌∷◌, ◌++◌, ◌⊎◌, inl, inr, get_or, length, take, drop, All, refl, sym, ap, ◌∙◌, subst, append_assoc, length-append, length-take-le, get_or-take, take-add, take-take, eqb-true, arith}
+use Rattle.std.proofs.lemmas.List.{append-nil, length-take, take_more, take_rest}
 use Rattle.std.proofs.lemmas.List.Elements.{All-append, All-from_get_or, All-nil, All-push}
 use Rattle.std.proofs.lemmas.List.Quantifiers.{position-Some}
 use Rattle.std.proofs.lemmas.Bool.Decides.{nat_tests}
-use Rattle.std.specs.Prelude.{position, ◌==◌}
-use Rattle.std.specs.Io.KnownBytes.{Appends, Consumes, IsAtEnd}
+use Rattle.std.specs.Prelude.{position, ◌==◌, if◌then◌else◌, IfErr, IfSome, MatchResult}
+use Rattle.std.proofs.BufReadLemmas.{Consumes_shown}
+use Rattle.std.specs.Io.{StartsWith}
+use Rattle.std.specs.Io.BufRead.{DropsConsumable}
+use Rattle.std.specs.Io.KnownBytes.{Appends, Consumes, Keeps}
 use Rattle.collate_index.specs.Catalogue.{Catalogue}
 use Rattle.collate_run.specs.Buffered.{AnswersLines, Gathers, IsReadyLine, TakesReady}
-use Rattle.collate_run.specs.Reading.{IsUnended}
+use Rattle.collate_run.specs.Reading.{AreWhole, IsUnended}
 use Rattle.collate_run.specs.Replies.{Answers, Replied, behind, command, ended, nothing}
 use Rattle.collate_run.specs.Runs.{IsWithin, Ran, input_limit, lines_of}
 use Rattle.collate_run.specs.Sending.{Sends}
@@ -16,7 +19,7 @@ use Rattle.collate_run.specs.declared.run.RunFault.{RunFault}
 use Rattle.collate_run.specs.declared.run.RunFault.TheVariants.{Read, Write}
 use Rattle.collate_run.proofs.bytes.KnownBytesLemmas.{Appends-none, Appends-then, Consumes-none, Consumes-then}
 use Rattle.collate_run.proofs.lines.CommandLineReadLemmas.{sent-all}
-use Rattle.collate_run.proofs.lines.CommandLineRunLemmas.{Progress, ran-cut, ran-end}
+use Rattle.collate_run.proofs.lines.CommandLineRunLemmas.{Progress, ran-cut}
 use Rattle.collate_run.proofs.lines.CommandLineWholeLemmas.{lines_of-front, whole-none, whole-one, whole-then}
 use Rattle.collate_run.proofs.lines.RequestLemmas.{request-none}
 
@@ -39,6 +42,11 @@ ready-line bytes line end found line_is short alone =
   where
     differs : (b : ℕ) → (b == 10) ≡ false → b ≡ 10 → ⊥
     differs b no e = grind (arith, nat_tests)
+
+pub ready-bound : (all rest line : List ℕ) (taken : ℕ) → taken ≤ length all → rest ≡ take (length all - taken) (drop taken all) → IsReadyLine line rest
+    → taken + (length line + 1) ≤ length all
+ready-bound all rest line taken bound rest_is ready =
+    omega (arith, bound, ready.within, ap length rest_is, length-take (length all - taken) (drop taken all))
 
 -- ## Replies
 
@@ -63,18 +71,26 @@ module _ (start now next : Catalogue) (bytes text : List ℕ) (so_far : AnswersL
   }
 
 -- a line more of the bytes is answered
-pub answers-ready : (start now next : Catalogue) (all text line rest last : List ℕ) (taken : ℕ) → taken ≤ length all → rest ≡ drop taken all
+pub answers-ready : (start now next : Catalogue) (all text line rest last : List ℕ) (taken : ℕ) → rest ≡ take (length all - taken) (drop taken all)
     → AnswersLines start now (take taken all) text → IsReadyLine line rest → Answers line [] now next last
     → AnswersLines start next (take (taken + (length line + 1)) all) (text ++ last)
-answers-ready start now next all text line rest last taken bound rest_is so_far ready answers =
+answers-ready start now next all text line rest last taken rest_is so_far ready answers =
     subst (λ (xs : List ℕ). AnswersLines start next xs (text ++ last))
-    (sym (take-add taken (length line + 1) all ∙ ap (λ (xs : List ℕ). take taken all ++ xs) (ap (take (length line + 1)) (sym rest_is) ∙ ready.front)))
+    (sym (take-add taken (length line + 1) all ∙ ap (λ (xs : List ℕ). take taken all ++ xs) (ap (take (length line + 1)) (sym (rest_is ∙ take_rest all taken)) ∙ ready.front)))
     (answers-more start now next (take taken all) text so_far line last ready.unended ready.short ready.alone answers)
 
 -- ## What waits
 
 pub gathers-none : (writer : Option (List ℕ)) (waits : List ℕ) → Gathers {E = RunFault} (Ok tt) writer writer waits waits []
 gathers-none writer waits = record { sent = []; unsent = waits; bytes_are = append-nil waits; appends = Appends-none writer; rest = refl }
+
+pub waits-all : (fits : Bool) (waited waits bytes : List ℕ) → fits ≡ true → waits ≡ (if fits then waited ++ bytes else waited) → waits ≡ waited ++ bytes
+waits-all true waited waits bytes e h = h
+waits-all false waited waits bytes e h = absurd (search e)
+
+pub waits-none : (fits : Bool) (waited waits bytes : List ℕ) → fits ≡ false → waits ≡ (if fits then waited ++ bytes else waited) → waits ≡ waited
+waits-none true waited waits bytes e h = absurd (search e)
+waits-none false waited waits bytes e h = h
 
 pub gathers-waits : {E : Type 0} (value : Unit {0}) (writer : Option (List ℕ)) (waited waits bytes : List ℕ) → waits ≡ waited ++ bytes → Gathers {E = E} (Ok value) writer writer waited waits bytes
 gathers-waits value writer waited waits bytes e = record { sent = []; unsent = waited ++ bytes; bytes_are = refl; appends = Appends-none writer; rest = sym e }
@@ -125,10 +141,30 @@ gathers-failed fault a b waited waits bytes sends = record {
 
 -- ## A turn
 
+pub consumes-kept : (a b : Option (List ℕ)) → Keeps a b → Consumes a b []
+consumes-kept None b h = tt
+consumes-kept (Some xs) None h = absurd h
+consumes-kept (Some xs) (Some ys) h = sym h
+
+-- the front of what a reader showed was consumed
+pub consumes-front : (a b c : Option (List ℕ)) (buffered : Option ℕ) (shown : List ℕ) (most taken : ℕ) → most ≤ length shown → taken ≤ length (take most shown)
+    → IfSome a (λ xs. StartsWith xs shown) → IfSome a (λ xs. length shown ≡ 0 → xs ≡ []) → Keeps a b
+    → IfSome a (λ _. IfSome buffered (λ k. length shown ≤ k)) → DropsConsumable b c buffered taken
+    → Consumes a c (take taken (take most shown))
+consumes-front a b c buffered shown most taken most_in taken_in front end kept fits drops =
+    let long : length (take most shown) ≡ most = length-take-le most shown most_in in
+    subst (λ (xs : List ℕ). Consumes a c xs) (sym (take-take taken most shown (omega (arith, taken_in, long))))
+    (Consumes_shown a b c buffered shown taken (omega (arith, taken_in, long, most_in)) front end kept fits drops).0
+
+ends-sent : (result : Result (Unit {0}) RunFault) (unsent : List ℕ) → IfErr result (λ fault. fault ≡ Write) → OnOk result (unsent ≡ [])
+    → MatchResult result (λ _. unsent ≡ []) (λ fault. (fault ≡ Write) ⊎ ((fault ≡ Read) × (unsent ≡ [])))
+ends-sent (Ok done) unsent e whole = whole
+ends-sent (Err fault) unsent e whole = inl e
+
 module _ (old new : Catalogue) (r0 r1 w0 w1 : Option (List ℕ)) (before after : ℕ) (taken text : List ℕ) (answers : AnswersLines old new taken text)
     (consumes : Consumes r0 r1 taken) (counted : after ≡ before + length taken) (within : after ≤ input_limit) where
-  pub takes-all : {E : Type 0} (value : Unit {0}) → Sends {E = E} (Ok value) w0 w1 text → TakesReady (Ok true) old new r0 r1 w0 w1 before after
-  takes-all value sends = record {
+  pub takes-sent : (result : Result (Unit {0}) RunFault) → IfErr result (λ fault. fault ≡ Write) → Sends result w0 w1 text → TakesReady result old new r0 r1 w0 w1 before after
+  takes-sent result fault sends = record {
     taken = taken;
     text = text;
     unsent = sends.unsent;
@@ -139,77 +175,53 @@ module _ (old new : Catalogue) (r0 r1 w0 w1 : Option (List ℕ)) (before after :
     text_is = sends.bytes_are;
     counted = counted;
     within = within;
-    ends = (sends.whole, λ no. absurd (search no));
+    ends = ends-sent result sends.unsent fault sends.whole;
   }
 
-  pub takes-failed : {E : Type 0} (error : E) (fault : RunFault) → fault ≡ Write → (sent unsent : List ℕ) → text ≡ sent ++ unsent → Appends w0 w1 sent
-      → TakesReady (Err fault) old new r0 r1 w0 w1 before after
-  takes-failed error fault e sent unsent text_is appends = record {
-    taken = taken;
-    text = text;
-    unsent = unsent;
-    sent = sent;
-    answers = answers;
-    consumes = consumes;
-    appends = appends;
-    text_is = text_is;
-    counted = counted;
-    within = within;
-    ends = inl e;
-  }
-
--- nothing is ready
-module _ (now : Catalogue) (r0 r1 w : Option (List ℕ)) (count : ℕ) (consumes : Consumes r0 r1 []) (within : count ≤ input_limit) where
-  pub takes-none : IsAtEnd r1 → TakesReady (Ok false) now now r0 r1 w w count count
-  takes-none end = record {
-    taken = [];
-    text = [];
-    unsent = [];
-    sent = [];
-    answers = answers-none now;
-    consumes = consumes;
-    appends = Appends-none w;
-    text_is = refl;
-    counted = omega arith;
-    within = within;
-    ends = (refl, λ _. end);
-  }
-
-  pub takes-fault : TakesReady (Err Read) now now r0 r1 w w count count
-  takes-fault = record {
-    taken = [];
-    text = [];
-    unsent = [];
-    sent = [];
-    answers = answers-none now;
-    consumes = consumes;
-    appends = Appends-none w;
-    text_is = refl;
-    counted = omega arith;
-    within = within;
-    ends = inr (refl, refl);
-  }
+-- the reader couldn't fill its buffer
+pub takes-fault : (now : Catalogue) (r0 r1 w : Option (List ℕ)) (count : ℕ) → Keeps r0 r1 → count ≤ input_limit → TakesReady (Err Read) now now r0 r1 w w count count
+takes-fault now r0 r1 w count kept within = record {
+  taken = [];
+  text = [];
+  unsent = [];
+  sent = [];
+  answers = answers-none now;
+  consumes = consumes-kept r0 r1 kept;
+  appends = Appends-none w;
+  text_is = refl;
+  counted = omega arith;
+  within = within;
+  ends = inr (refl, refl);
+}
 
 module _ (start mid now : Catalogue) (r0 r1 r2 w0 w1 w2 : Option (List ℕ)) (count more : ℕ) (p : Progress start mid r0 r1 w0 w1 count) where
-  module _ (result : Result Bool RunFault) (t : TakesReady result mid now r1 r2 w1 w2 count more) where
+  module _ (result : Result (Unit {0}) RunFault) (t : TakesReady result mid now r1 r2 w1 w2 count more) where
+    whole : AreWhole (p.lines ++ t.answers.lines) (p.taken ++ t.taken)
+    whole = whole-then p.lines t.answers.lines p.taken t.taken p.whole t.answers.whole
+
+    short : All IsWithin (p.lines ++ t.answers.lines)
+    short = All-append IsWithin p.lines t.answers.lines p.short t.answers.short
+
+    replied : Replied start (p.lines ++ t.answers.lines) (p.out ++ t.text) now
+    replied = replied-then start mid p.lines p.out p.replied t.answers.lines t.text now t.answers.replied
+
     pub progress-ready : t.unsent ≡ [] → Progress start now r0 r2 w0 w2 more
     progress-ready all_sent = record {
       lines = p.lines ++ t.answers.lines;
       taken = p.taken ++ t.taken;
       out = p.out ++ t.sent;
-      whole = whole-then p.lines t.answers.lines p.taken t.taken p.whole t.answers.whole;
-      short = All-append IsWithin p.lines t.answers.lines p.short t.answers.short;
+      whole = whole;
+      short = short;
       consumes = Consumes-then r0 r1 r2 p.taken t.taken p.consumes t.consumes;
       appends = Appends-then w0 w1 w2 p.out t.sent p.appends t.appends;
       replied = subst (λ (xs : List ℕ). Replied start (p.lines ++ t.answers.lines) (p.out ++ xs) now)
-          (t.text_is ∙ ap (λ (xs : List ℕ). t.sent ++ xs) all_sent ∙ append-nil t.sent)
-          (replied-then start mid p.lines p.out p.replied t.answers.lines t.text now t.answers.replied);
+          (t.text_is ∙ ap (λ (xs : List ℕ). t.sent ++ xs) all_sent ∙ append-nil t.sent) replied;
       counted = omega (arith, length-append p.taken t.taken, p.counted, t.counted);
       within = t.within;
     }
 
     lines_are : lines_of (p.taken ++ t.taken) ≡ p.lines ++ t.answers.lines
-    lines_are = lines_of-front (p.lines ++ t.answers.lines) (p.taken ++ t.taken) (whole-then p.lines t.answers.lines p.taken t.taken p.whole t.answers.whole)
+    lines_are = lines_of-front (p.lines ++ t.answers.lines) (p.taken ++ t.taken) whole
 
     pub ran-unsent : Ran start (Err Write) r0 r2 w0 w2
     ran-unsent = record {
@@ -222,10 +234,9 @@ module _ (start mid now : Catalogue) (r0 r1 r2 w0 w1 w2 : Option (List ℕ)) (co
         now,
         subst (λ (ls : List (List ℕ)). Replied start ls ((p.out ++ t.sent) ++ t.unsent) now) (sym lines_are)
             (subst (λ (xs : List ℕ). Replied start (p.lines ++ t.answers.lines) xs now)
-            (ap (λ (xs : List ℕ). p.out ++ xs) t.text_is ∙ sym (append_assoc p.out t.sent t.unsent))
-            (replied-then start mid p.lines p.out p.replied t.answers.lines t.text now t.answers.replied)),
+            (ap (λ (xs : List ℕ). p.out ++ xs) t.text_is ∙ sym (append_assoc p.out t.sent t.unsent)) replied),
       );
-      line_limit_kept = subst (λ (ls : List (List ℕ)). All IsWithin ls) (sym lines_are) (All-append IsWithin p.lines t.answers.lines p.short t.answers.short);
+      line_limit_kept = subst (λ (ls : List (List ℕ)). All IsWithin ls) (sym lines_are) short;
       input_limit_kept = omega (arith, length-append p.taken t.taken, p.counted, t.counted, t.within);
     }
 
@@ -242,6 +253,6 @@ module _ (start mid now : Catalogue) (r0 r1 r2 w0 w1 w2 : Option (List ℕ)) (co
       by (inl e) = rw e (ran-unsent (Err fault) t)
       by (inr (e, all_sent)) = rw e (ran-unread (Err fault) t all_sent)
 
-  -- a turn at the end of the input
-  pub ran-done : (is_open : Bool) → is_open ≡ false → TakesReady (Ok is_open) mid now r1 r2 w1 w2 count more → Ran start (Ok tt) r0 r2 w0 w2
-  ran-done is_open e t = ran-end start now r0 r2 r2 w0 w2 w2 more (progress-ready (Ok is_open) t t.ends.0) [] (Consumes-none r2) refl (t.ends.1 e)
+  -- a turn in which all replies were sent
+  pub progress-turn : (value : Unit {0}) → TakesReady (Ok value) mid now r1 r2 w1 w2 count more → Progress start now r0 r2 w0 w2 more
+  progress-turn value t = progress-ready (Ok value) t t.ends
