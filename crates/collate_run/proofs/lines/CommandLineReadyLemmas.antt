@@ -41,7 +41,7 @@ ready-line bytes line end found line_is short alone =
     }
   where
     differs : (b : ℕ) → (b == 10) ≡ false → b ≡ 10 → ⊥
-    differs b no e = grind (arith, nat_tests)
+    differs b other e = grind (arith, nat_tests)
 
 pub ready-bound : (all rest line : List ℕ) (taken : ℕ) → taken ≤ length all → rest ≡ take (length all - taken) (drop taken all) → IsReadyLine line rest
     → taken + (length line + 1) ≤ length all
@@ -85,12 +85,10 @@ pub gathers-none : (writer : Option (List ℕ)) (waits : List ℕ) → Gathers {
 gathers-none writer waits = record { sent = []; unsent = waits; bytes_are = append-nil waits; appends = Appends-none writer; rest = refl }
 
 pub waits-all : (fits : Bool) (waited waits bytes : List ℕ) → fits ≡ true → waits ≡ (if fits then waited ++ bytes else waited) → waits ≡ waited ++ bytes
-waits-all true waited waits bytes e h = h
-waits-all false waited waits bytes e h = absurd (search e)
+waits-all fits waited waits bytes e h = rw e at h
 
 pub waits-none : (fits : Bool) (waited waits bytes : List ℕ) → fits ≡ false → waits ≡ (if fits then waited ++ bytes else waited) → waits ≡ waited
-waits-none true waited waits bytes e h = absurd (search e)
-waits-none false waited waits bytes e h = h
+waits-none fits waited waits bytes e h = rw e at h
 
 pub gathers-waits : {E : Type 0} (value : Unit {0}) (writer : Option (List ℕ)) (waited waits bytes : List ℕ) → waits ≡ waited ++ bytes → Gathers {E = E} (Ok value) writer writer waited waits bytes
 gathers-waits value writer waited waits bytes e = record { sent = []; unsent = waited ++ bytes; bytes_are = refl; appends = Appends-none writer; rest = sym e }
@@ -137,6 +135,16 @@ gathers-failed fault a b waited waits bytes sends = record {
   bytes_are = ap (λ (xs : List ℕ). xs ++ bytes) sends.bytes_are ∙ append_assoc sends.sent sends.unsent bytes;
   appends = sends.appends;
   rest = tt;
+}
+
+-- what was gathered until a write failed
+pub sends-failed : {E : Type 0} (fault : E) (a b : Option (List ℕ)) (waited waits text : List ℕ) → waited ≡ [] → Gathers (Err fault) a b waited waits text → Sends (Err fault) a b text
+sends-failed fault a b waited waits text none gathers = record {
+  sent = gathers.sent;
+  unsent = gathers.unsent;
+  bytes_are = ap (λ (xs : List ℕ). xs ++ text) (sym none) ∙ gathers.bytes_are;
+  appends = gathers.appends;
+  whole = tt;
 }
 
 -- ## A turn
@@ -231,10 +239,12 @@ module _ (start mid now : Catalogue) (r0 r1 r2 w0 w1 w2 : Option (List ℕ)) (co
       appends = Appends-then w0 w1 w2 p.out t.sent p.appends t.appends;
       does = (
         t.unsent,
-        now,
-        subst (λ (ls : List (List ℕ)). Replied start ls ((p.out ++ t.sent) ++ t.unsent) now) (sym lines_are)
-            (subst (λ (xs : List ℕ). Replied start (p.lines ++ t.answers.lines) xs now)
-            (ap (λ (xs : List ℕ). p.out ++ xs) t.text_is ∙ sym (append_assoc p.out t.sent t.unsent)) replied),
+        (
+          now,
+          subst (λ (ls : List (List ℕ)). Replied start ls ((p.out ++ t.sent) ++ t.unsent) now) (sym lines_are)
+              (subst (λ (xs : List ℕ). Replied start (p.lines ++ t.answers.lines) xs now)
+              (ap (λ (xs : List ℕ). p.out ++ xs) t.text_is ∙ sym (append_assoc p.out t.sent t.unsent)) replied),
+        ),
       );
       line_limit_kept = subst (λ (ls : List (List ℕ)). All IsWithin ls) (sym lines_are) short;
       input_limit_kept = omega (arith, length-append p.taken t.taken, p.counted, t.counted, t.within);

@@ -1,4 +1,4 @@
-use Rattle.std.proofs.Common.{subst}
+use Rattle.std.proofs.Common.{Err, subst}
 use Rattle.collate_run.specs.Buffered.{Gathers}
 use Rattle.collate_run.specs.Watched.{watched_inner}
 use Rattle.collate_run.proofs.lines.CommandLineReadLemmas.{sent-all}
@@ -29,4 +29,4 @@ returns-in-Err-clause-bytes g c =
     let bytes = c.args.bytes.now in
     let waited = c.waits.new.waiting.items in
     let same = waits-none c.waits.result c.args.waiting.now.items waited bytes c.if-waits.false c.waits.ensures in
-    subst (λ waits. Gathers _ w0 w1 waits c.send.new.waiting.items bytes) same (gathers-failed c.in-Err.fault w0 w1 waited c.send.new.waiting.items bytes c.in-Err.ensures.bytes)
+    subst (λ waits. Gathers (Err c.in-Err.fault) w0 w1 waits c.send.new.waiting.items bytes) same (gathers-failed c.in-Err.fault w0 w1 waited c.send.new.waiting.items bytes c.in-Err.ensures.bytes)
