@@ -1,5 +1,5 @@
 -- what a run does that takes its lines from the reader's buffer and sends replies together
-use Rattle.std.specs.Prelude.{◌≡◌, ℕ, ◌+◌, ◌<◌, ◌≤◌, ◌⊎◌, Bool, true, false, Option, Result, Ok, Err, OnOk, List, [], ◌++◌, length, take, All, MatchResult}
+use Rattle.std.specs.Prelude.{◌≡◌, ℕ, ◌+◌, ◌<◌, ◌≤◌, ◌⊎◌, Bool, true, false, Option, Result, Err, OnOk, List, [], ◌++◌, length, take, All, MatchResult}
 use Rattle.std.specs.Io.KnownBytes.{Appends, Consumes}
 use Rattle.collate_index.specs.Catalogue.{Catalogue}
 use Rattle.collate_run.specs.Reading.{AreWhole, IsUnended}

@@ -18,7 +18,6 @@ use Rattle.collate_run.specs.Sending.{Sends}
 use Rattle.collate_run.specs.declared.run.RunFault.{RunFault}
 use Rattle.collate_run.specs.declared.run.RunFault.TheVariants.{Read, Write}
 use Rattle.collate_run.proofs.bytes.KnownBytesLemmas.{Appends-none, Appends-then, Consumes-none, Consumes-then}
-use Rattle.collate_run.proofs.lines.CommandLineReadLemmas.{sent-all}
 use Rattle.collate_run.proofs.lines.CommandLineRunLemmas.{Progress, ran-cut}
 use Rattle.collate_run.proofs.lines.CommandLineWholeLemmas.{lines_of-front, whole-none, whole-one, whole-then}
 use Rattle.collate_run.proofs.lines.RequestLemmas.{request-none}

@@ -1,4 +1,4 @@
-use Rattle.std.proofs.Common.{◌≡◌, ◌-◌, ◌+◌, ℕ, Ok, Err, List, length, take, subst, sym, refl, length-take-le, arith}
+use Rattle.std.proofs.Common.{◌≡◌, ◌+◌, Err, length, take, subst, length-take-le, arith}
 use Rattle.std.specs.Prelude.{IfErr}
 use Rattle.std.specs.Io.BufRead.{FillKeeps}
 use Rattle.collate_run.specs.declared.run.RunFault.TheVariants.{Write}
