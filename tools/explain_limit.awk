@@ -9,7 +9,7 @@ function explain_limit(    at, chars, parts, part) {
     tell_passed(total["wide"], 700, "blocks of 512 code points, each range counted as three")
     tell_passed(total["narrow"], 11000, "blocks of 16 code points from 10000 on, each range counted as three")
     tell_passed(total["elements"], 520000, "elements, one more for each w, t, range and digit line")
-    tell_passed(total["beside"], 2600, "texts of several characters or with a prefix")
+    tell_passed(total["beside"], 3600, "texts of several characters or with a prefix")
     tell_passed(total["map"], 16000, "characters of full lists, by map lines")
     tell_passed(total["kmap"], 16000, "characters of full lists, by map and kmap lines")
     chars = split(says[line] == "kmap" ? rest[line] : own[line], part, " ")

@@ -1,15 +1,17 @@
 #!/usr/bin/env python3
 """How what a records file costs grows with its length, by instructions.
 
-    tools/measure_growth.py PROGRAM [--only KIND].. [--largest N] [--rules | --reloads]
+    tools/measure_growth.py PROGRAM [--only KIND].. [--largest N] [--rules | --places | --reloads]
     tools/measure_growth.py PROGRAM --table [FILE]..
 
 PROGRAM is an executable of `collate_unicode`. For each kind of line files of 2,000, 4,000 .. lines are read and
 compiled, up to N (64,000; fewer where tables have room for fewer); with --rules files are read instead that a rule
-refuses at their end, up to 8,000. What an empty file costs is taken off, or a short one that is refused so. With --reloads
-the last line of a file of up to 32,000 is left out by a reload, over 10,000 names of the file's characters; what the same run
-without the reload costs is taken off. It fails where a file twice as long takes more than 2.3 times the instructions, from
-2,000 lines on, or at the most lines that tables have room for.
+refuses at their end, up to 8,000, and with --places those that a rule refuses elsewhere, which looks at beginnings of a
+file. What an empty file costs is taken off, or a short one that is refused so. With --reloads the last line of a file of up
+to 32,000 is left out by a reload, over 10,000 names of the file's characters; what the same run without the reload costs is
+taken off. It fails where a file twice as long takes more than 2.3 times the instructions, from 2,000 lines on, or at the
+most lines that tables have room for. Of places it only prints the two at which the most beginnings are looked at, and
+chains, which are never as long.
 
 With --table it prints what reading, compiling and checking take of files of weights, of 0 to 64,000 lines, and of each
 FILE: instructions, memory and time of a processor, the best of ten runs, the start in it. A call that a build has no
@@ -128,8 +130,8 @@ def comments(n):
 
 # Each kind of line, and the most of them that tables have room for.
 KINDS = {
-    'weights': (weights, 64_000), 'alike': (alike, 64_000), 'contractions on one': (contractions_on_one, 2_400),
-    'contractions': (contractions, 4_800), 'prefixes': (prefixes, 2_400), 'ranges': (ranges, 230),
+    'weights': (weights, 64_000), 'alike': (alike, 64_000), 'contractions on one': (contractions_on_one, 3_600),
+    'contractions': (contractions, 7_200), 'prefixes': (prefixes, 3_600), 'ranges': (ranges, 230),
     'maps': (maps, 16_000), 'pairs': (pairs, 7_900), 'chain': (chain, 1_900), 'chain upwards': (chain_upwards, 1_900),
     'kmaps': (kmaps, 16_000), 'chain of kmaps': (chain_of_kmaps, 1_900),
     'chain of kmaps upwards': (chain_of_kmaps_upwards, 1_900), 'classes': (classes, 64_000),
@@ -169,6 +171,25 @@ REFUSED = {
     'V15': ('V15', weights, ['set dotabove on'], 0), 'set': ('set', weights, ['set numeric 02'], 0),
 }
 
+# What breaks a rule wherever it stands among lines of a kind, and how many lines behind its first the fault stands.
+PLACED = {
+    'C1': ('C1', maps, ['class 3400 230'], 0), 'C2': ('C2', maps, ['map 2FA1C 2FA1D', 'map 2FA1D 2FA1C'], 1),
+    'C2, chain': ('C2', chain, ['map 2FA1C 2FA1D', 'map 2FA1D 2FA1C'], 1),
+    'C4': ('C4', maps, ['map 0061 0301'], 0), 'C4, chain': ('C4', chain, ['map 0061 0301'], 0),
+    'C7': ('C7', maps, ['map 00E1 0061 0301 x'], 0), 'V2': ('V2', weights, ['w 0061 ; [2A000000.0500.0.0500.0]'], 0),
+    'V5': ('V5', weights, ['w 0061 ; [2A020000.0500.0.0500.0]'], 0),
+    'V6': ('V6', weights, ['range E000 E001 2A020200 1'], 0), 'V7': ('V7', weights, ['map 00E1 0061 0301', 'w 00E1 ;'], 1),
+    'V8': ('V8', weights, ['class 0301 230', 'w 0061 0301 0062 ;'], 1),
+    'V10': ('V10', weights, ['w 0062 | 0061 ;'], 0), 'V11': ('V11', weights, ['digit 0061 1'], 0),
+    'V15': ('V15', weights, ['set dotabove on'], 0),
+}
+
+# Where it stands in a file of n lines of the kind, and whether growth is judged there.
+PLACES = {
+    'front': (lambda n: 1, True), 'middle': (lambda n: n // 2, True), 'behind 15 of 16': (lambda n: n // 16 * 15, False),
+    '50 before the end': (lambda n: n - 50, False),
+}
+
 
 def instructions(program, lines, folder, commands=()):
     """Instructions of a run over a file, and all that it says."""
@@ -191,21 +212,20 @@ def sizes(least, most):
         n *= 2
 
 
-def grow(program, folder, name, make, most, base, fault=None):
-    """Prints a row, and tells whether each step is within what it may be. Of a fault it is asked which rule and line it has."""
+def grow(program, folder, name, make, most, base, answer=lambda n: '', is_judged=True):
+    """Prints a row, and tells whether each step is within what it may be, and the program says of n lines what it should."""
     least = SMALLEST if most >= 2 * SMALLEST else most // 8
     last, row, good = None, [], True
     for n in sizes(least, most):
         lines = make(n)
         count, said = instructions(program, lines, folder)
-        wanted = f'collate: refused {len(lines) - fault[1]} {fault[0]}' if fault else ''
-        if said != wanted:
-            print(f'{name}: {n} lines: {said!r} in place of {wanted!r}', flush=True)
+        if said != answer(n):
+            print(f'{name}: {n} lines: {said!r} in place of {answer(n)!r}', flush=True)
             return False
         count -= base
         ratio = count / last if last else 0
         row.append(f'{n}: {count / 1e6:.1f} M' + (f' ({ratio:.2f})' if last else ''))
-        good = good and (ratio <= MOST or n < 2 * SMALLEST and 2 * n <= most)
+        good = good and (ratio <= MOST or not is_judged or n < 2 * SMALLEST and 2 * n <= most)
         last = count
         if ratio > 2 * MOST:
             good = False
@@ -297,12 +317,38 @@ def refused(title, n):
     return make(n) + [line.format(last=last) for line in end]
 
 
+def placed(title, place, n):
+    """The lines of a file that is refused at a place."""
+    _, make, lines, _ = PLACED[title]
+    first, whole = place_in(place, n), make(n)
+    return whole[:first] + lines + whole[first:]
+
+
+def place_in(place, n):
+    return min(max(PLACES[place][0](n), 1), n)
+
+
+def grow_at_places(program, folder, given):
+    """Prints a row for each rule and place, and tells whether each step is within what it may be."""
+    good = True
+    for title, (rule, make, _, behind) in PLACED.items():
+        most = min(next(m for f, m in KINDS.values() if f is make), given.largest, 8_000)
+        for place, (_, is_judged) in PLACES.items() if given.only is None or title in given.only else []:
+            base, _ = instructions(program, placed(title, place, FEW), folder)
+            wanted = lambda n: f'collate: refused {place_in(place, n) + behind + 1} {rule}'
+            lines = lambda n: placed(title, place, n)
+            is_judged = is_judged and most >= 2 * SMALLEST
+            good = grow(program, folder, f'{title}, {place}', lines, most, base, wanted, is_judged) and good
+    return good
+
+
 def main():
     parser = argparse.ArgumentParser()
     parser.add_argument('program')
     parser.add_argument('--only', action='append', metavar='KIND')
     parser.add_argument('--largest', type=int, default=64_000)
     parser.add_argument('--rules', action='store_true')
+    parser.add_argument('--places', action='store_true')
     parser.add_argument('--reloads', action='store_true')
     parser.add_argument('--table', nargs='*', metavar='FILE')
     given = parser.parse_args()
@@ -316,6 +362,8 @@ def main():
                 good = grow_reloads(given.program, folder, name, make, min(most, given.largest, 32_000)) and good
         if given.reloads:
             sys.exit(0 if good else 1)
+        if given.places:
+            sys.exit(0 if grow_at_places(given.program, folder, given) else 1)
         base, _ = instructions(given.program, [], folder)
         print(f'an empty file: {base / 1e6:.1f} M instructions')
         for name, (make, most) in {} if given.rules else KINDS.items():
@@ -325,7 +373,8 @@ def main():
             if given.only is None or title in given.only:
                 most = min(next(m for f, m in KINDS.values() if f is make), given.largest, 8_000)
                 base, _ = instructions(given.program, refused(title, FEW), folder)
-                good = grow(given.program, folder, title, lambda n: refused(title, n), most, base, (rule, place)) and good
+                wanted = lambda n: f'collate: refused {len(refused(title, n)) - place} {rule}'
+                good = grow(given.program, folder, title, lambda n: refused(title, n), most, base, wanted) and good
     sys.exit(0 if good else 1)
 
 

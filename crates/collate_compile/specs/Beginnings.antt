@@ -38,7 +38,7 @@ pub record IsWithinLines (lines : List Record) (c : ℕ) (saying : Saying) : Typ
 -- Of all these characters and of all ranges there are few elements and few texts, and lines name each character.
 pub record AreFew (lines : List Record) (cs : List ℕ) : Type 0 where
   pub elements : sum_by (λ c. 1 + elements_begun lines c) cs + count_by is_range lines ≤ 520000
-  pub texts : sum_by (texts_begun lines) cs ≤ 2600
+  pub texts : sum_by (texts_begun lines) cs ≤ 3600
   pub are_named : (c : ℕ) → list_any (λ d. c == d) cs ≡ true → list_any (λ d. c == d) (flat_map named lines) ≡ true
 
 -- ## How they are gathered

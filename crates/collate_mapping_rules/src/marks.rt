@@ -4,13 +4,13 @@ ghost use Rattle.std.specs.Prelude.{All, ◌≡◌, ℕ, ◌↔◌, map, true, I
 ghost use Rattle.collate_lines.specs.Record.{said};
 ghost use Rattle.collate_rules.specs.CanonicalParts.{in_full, IsShort};
 ghost use Rattle.collate_rules.specs.Rules.{IsMappedMark, MapsMark};
-ghost use Rattle.collate_rules.specs.Breaches.{AnswersBreach, AnswersClear, earlier};
+ghost use Rattle.collate_rules.specs.Breaches.{AnswersBreach, earlier};
 ghost use Rattle.collate_rules.specs.Offenders.{NoneOffends, IsFirstOffender};
 
 use collate_lines::record::Record;
 use collate_lines::rule::Rule;
 use collate_rules::canonical_parts::CanonicalParts;
-use collate_rules::parts::first_breach;
+use collate_rules::parts::first_breach_from;
 use icu_normalizer_core::built_in::is_built_in;
 use std::alloc::{AllocError, Global};
 
@@ -22,12 +22,14 @@ pub fn first_mapped_mark(alloc: Global, records: &[Record]) -> Result<Option<usi
     requires { All IsShort (map said records.now) }
     ensures { IfOk result (λ found. MatchOption found (NoneOffends Rule.C1 (map said records.now)) (λ i. IsFirstOffender Rule.C1 (map said records.now) i)) }
 {
-    first_breach(
+    let parts = CanonicalParts::of_lines(alloc, records)?;
+    if !map_any_mark(&parts) {
+        return Ok(None);
+    }
+    first_breach_from(
         alloc,
         records,
-        |parts: &CanonicalParts|
-            ensures { AnswersClear Rule.C1 parts.now.list.items result }
-        { Ok(false) },
+        0,
         |parts: &CanonicalParts|
             ensures { AnswersBreach Rule.C1 parts.now.list.items result }
         { Ok(maps_mark(parts)) },

@@ -37,7 +37,7 @@ pub record AreSmall (counts : Counts) : Type 0 where
   pub ranges : counts.ranges ≤ 11001
   pub records : counts.records + 1 < 0x10000000000000000
   pub elements : counts.elements ≤ 520000
-  pub beside : counts.beside ≤ 2600
+  pub beside : counts.beside ≤ 3600
   pub canonical : counts.canonical ≤ 16000
   pub mappings : counts.mappings ≤ 16000
 
@@ -47,7 +47,7 @@ PassRoom counts =
     (700 < btree_set_len counts.names.wide + 3 * counts.ranges)
     ⊎ ((11000 < btree_set_len counts.names.narrow + 3 * counts.ranges)
     ⊎ ((520000 < counts.elements)
-    ⊎ ((2600 < counts.beside)
+    ⊎ ((3600 < counts.beside)
     ⊎ ((16000 < counts.canonical)
     ⊎ (16000 < counts.mappings)))))
 

@@ -78,7 +78,7 @@ LackRoom records lines =
     (700 < blocks_in wide_block lines)
     ⊎ ((11000 < blocks_in narrow_block lines)
     ⊎ ((520000 < sum_by element_room lines)
-    ⊎ ((2600 < count_by is_beside lines)
+    ⊎ ((3600 < count_by is_beside lines)
     ⊎ ((16000 < sum_by (canonical_room records) lines)
     ⊎ (16000 < sum_by (mapping_room records) lines)))))
 

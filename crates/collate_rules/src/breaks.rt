@@ -4,6 +4,7 @@ ghost use Rattle.std.specs.Prelude.{map, IfOk, MatchOption};
 ghost use Rattle.collate_lines.specs.Record.{said};
 ghost use Rattle.collate_rules.specs.Breaks.{IsFirstBreak, IsLasting, NoneBreak};
 
+use crate::places::next_place;
 use collate_lines::record::Record;
 use std::alloc::{AllocError, Global};
 
@@ -23,7 +24,8 @@ pub trait LinesTest {
 /// The first line with which those up to it break a rule that further lines don't heal. Lines count from 0; `None` where they never do. Fails only when
 /// out of memory.
 ///
-/// The lines up to the middle of what is left are tested, so that a test of all lines is made a few times at most.
+/// Besides all lines few beginnings of them are tested: where one of the last two lines breaks the rule three, however
+/// many lines there are, else at most three more than the number of lines has bits.
 pub fn first_to_break<T: LinesTest>(
     alloc: Global,
     records: &[Record],
@@ -40,13 +42,13 @@ pub fn first_to_break<T: LinesTest>(
     }
     let mut low = 0;
     let mut high = last;
-    'halving: while low < high {
-        let middle = low + (high - low) / 2;
-        let is_broken = test.breaks(alloc, &records[..middle + 1])?;
+    'narrowing: while low < high {
+        let line = next_place(low, high, last);
+        let is_broken = test.breaks(alloc, &records[..line + 1])?;
         if is_broken {
-            high = middle;
+            high = line;
         } else {
-            low = middle + 1;
+            low = line + 1;
         }
     }
     Ok(Some(low))

@@ -24,7 +24,7 @@ const NARROW_BLOCK_LIMIT: usize = 11_000;
 const ELEMENT_LIMIT: usize = 520_000;
 
 /// The most texts of several characters or behind a prefix.
-const BESIDE_LIMIT: usize = 2_600;
+const BESIDE_LIMIT: usize = 3_600;
 
 /// The most characters of full lists, of one kind.
 const FULL_LIST_LIMIT: usize = 16_000;

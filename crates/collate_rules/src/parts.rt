@@ -8,6 +8,7 @@ ghost use Rattle.collate_rules.specs.Breaches.{AsksForSaid, Breach, IsFirstToBre
 
 use crate::canonical_part::canonical_part;
 use crate::canonical_parts::CanonicalParts;
+use crate::places::next_place;
 use collate_lines::record::Record;
 use collate_lines::rule::Rule;
 use std::alloc::{AllocError, Global};
@@ -15,8 +16,8 @@ use std::alloc::{AllocError, Global};
 /// The first line with which the classes and mappings so far break a rule. Lines count from 0; `None` where they never do.
 ///
 /// `clears` may tell of classes and mappings that no beginning of them breaks the rule. As far as it tells so of the lines' own,
-/// found by halving, the lines aren't asked one by one. `breaks` is asked from there on, after each line that adds a class or a
-/// mapping, which then stands last.
+/// found by looking at a few beginnings of them, the lines aren't asked one by one. `breaks` is asked from there on, after
+/// each line that adds a class or a mapping, which then stands last.
 ///
 /// Errors: `AllocError` where memory is refused.
 pub fn first_breach<
@@ -32,7 +33,9 @@ pub fn first_breach<
     first_breach_from(alloc, records, count, breaks)
 }
 
-/// How many lines are cleared of a rule: all, or some that are cleared before one with which they aren't.
+/// How many lines are cleared of a rule: all, or some that are cleared before one with which they aren't. Where that is one
+/// of the last two, `clears` is asked of four beginnings, however many lines there are; else at most of three more than
+/// the number of lines has bits.
 fn lines_cleared<C: Fn(&CanonicalParts) -> Result<bool, AllocError>>(
     alloc: Global,
     records: &[Record],
@@ -50,21 +53,25 @@ fn lines_cleared<C: Fn(&CanonicalParts) -> Result<bool, AllocError>>(
     }
     let mut low = 0;
     let mut high = records.len();
-    'halving: while low + 1 < high {
-        let middle = low + (high - low) / 2;
-        let front = CanonicalParts::of_lines(alloc, &records[..middle])?;
+    'narrowing: while low + 1 < high {
+        let count = next_place(low + 1, high, records.len());
+        let front = CanonicalParts::of_lines(alloc, &records[..count])?;
         let is_front_clear = clears(&front)?;
         if is_front_clear {
-            low = middle;
+            low = count;
         } else {
-            high = middle;
+            high = count;
         }
     }
     Ok(low)
 }
 
-/// The first line with which the classes and mappings so far break a rule, where those of `count` lines don't.
-fn first_breach_from<B: Fn(&CanonicalParts) -> Result<bool, AllocError>>(
+/// The first line with which the classes and mappings so far break a rule, where those of `count` lines don't. Lines count
+/// from 0; `None` where they never do. `breaks` is asked after each further line that adds a class or a mapping, which then
+/// stands last.
+///
+/// Errors: `AllocError` where memory is refused.
+pub fn first_breach_from<B: Fn(&CanonicalParts) -> Result<bool, AllocError>>(
     alloc: Global,
     records: &[Record],
     count: usize,

@@ -1,6 +1,6 @@
-//! The first place from which on a test answers yes, found by halving.
+//! The first place from which on a test answers yes, found by looking at a few.
 
-ghost use Rattle.std.specs.Prelude.{◌≡◌, IfOk};
+ghost use Rattle.std.specs.Prelude.{◌≡◌, ◌<◌, ◌≤◌, IfOk};
 ghost use Rattle.collate_rules.specs.Places.{TellsFirstPlace};
 
 use std::alloc::{AllocError, Global};
@@ -22,7 +22,8 @@ pub trait PlaceTest {
 }
 
 /// The first place at which a test answers yes, `None` where it does at none. The test is asked of the last place, and
-/// where it answers yes there, of as many others as the number of places has bits.
+/// where it answers yes there, of a few others where the first place is one of the last two, and else at most of three
+/// more than the number of places has bits.
 ///
 /// Errors: `AllocError` where memory is refused.
 pub fn first_place<T: PlaceTest>(
@@ -44,13 +45,36 @@ pub fn first_place<T: PlaceTest>(
     let mut low = 0;
     let mut high = last;
     while low < high {
-        let middle = low + (high - low) / 2;
-        let holds = test.holds(alloc, middle)?;
+        let place = next_place(low, high, last);
+        let holds = test.holds(alloc, place)?;
         if holds {
-            high = middle;
+            high = place;
         } else {
-            low = middle + 1;
+            low = place + 1;
         }
     }
     Ok(Some(low))
+}
+
+/// The place to be asked next of those from `low` to before `high`, where a test answers no before `low`, and yes from
+/// `high` to `last`: the middle one. But where the first half answered no, and all behind `high` are asked, the one 2
+/// before it is asked first, and then the one 32 before that: so it takes as many questions for one of the last two
+/// places, however many there are.
+pub(crate) fn next_place(low: usize, high: usize, last: usize) -> usize
+    requires between { low < high }
+    requires within { high ≤ last }
+    ensures from { low ≤ result }
+    ensures below { result < high }
+{
+    let half = (high - low) / 2;
+    let back = match last - high {
+        0 => 2,
+        2 => 32,
+        _ => 0,
+    };
+    if 0 < back && back <= half && half < low {
+        high - back
+    } else {
+        low + half
+    }
 }

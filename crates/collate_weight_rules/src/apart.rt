@@ -15,8 +15,8 @@ use icu_collator_types::elements::Element;
 use std::alloc::{AllocError, Global};
 
 /// The first line with a weight whose bytes begin those of one that it or an earlier line has, or the other way round
-/// (rule V5, docs/RECORDS.md). Takes the time of sorting the weights of all lines, and where a line offends, of as many
-/// passes over them as the number of lines has bits. Lines count from 0; `None` where no line offends.
+/// (rule V5, docs/RECORDS.md). Takes the time of sorting the weights of all lines, and where a line offends, of a few
+/// passes over them. Lines count from 0; `None` where no line offends.
 ///
 /// Errors: `AllocError` where memory is refused.
 pub fn first_begun_weight(alloc: Global, records: &[Record]) -> Result<Option<usize>, AllocError>

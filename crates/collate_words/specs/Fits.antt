@@ -52,9 +52,9 @@ pub record IsFit (saying : Saying) : Type 0 where
   -- a character with prefixes has elements of its own
   pub prefixed : saying.prefixes ≢ [] → IsTrue (is_some saying.own)
 
--- Room for so many elements, and for so many texts beside characters: each of these takes at most 200 units of contexts, and
+-- Room for so many elements, and for so many texts beside characters: each of these takes at most 145 units of contexts, and
 -- a word names 2 ^ 19 places.
 pub record HasRoom (pools : Pools) (elements texts : ℕ) : Type 0 where
   pub ces : length pools.ces + elements ≤ 2 ^ 19
   pub ce32s : length pools.ce32s + elements ≤ 2 ^ 19
-  pub contexts : length pools.contexts + 200 * texts ≤ 2 ^ 19
+  pub contexts : length pools.contexts + 145 * texts ≤ 2 ^ 19

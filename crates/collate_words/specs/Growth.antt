@@ -11,8 +11,8 @@ pub record Grows (pools larger : Pools) : Type 0 where
   pub ce32s : IsFrontOf pools.ce32s larger.ce32s
   pub contexts : IsFrontOf pools.contexts larger.contexts
 
--- by no more than so many elements take, and 200 units of contexts for each of so many texts beside characters
+-- by no more than so many elements take, and 145 units of contexts for each of so many texts beside characters
 pub record GrowsFor (elements texts : ℕ) (pools larger : Pools) : Type 0 where
   pub ces : length larger.ces ≤ length pools.ces + elements
   pub ce32s : length larger.ce32s ≤ length pools.ce32s + elements
-  pub contexts : length larger.contexts ≤ length pools.contexts + 200 * texts
+  pub contexts : length larger.contexts ≤ length pools.contexts + 145 * texts

@@ -142,8 +142,8 @@ fn counts_elements(rt: HostRuntime) -> Result<(), Fail> {
 
 #[test]
 fn counts_texts_beside(rt: HostRuntime) -> Result<(), Fail> {
-    assert!(rt; is_most(rt.alloc(), "w 0061", 1, " ;", 2_600)?);
-    assert!(rt; is_most(rt.alloc(), "t 0061 |", 1, " ;", 2_600)?);
+    assert!(rt; is_most(rt.alloc(), "w 0061", 1, " ;", 3_600)?);
+    assert!(rt; is_most(rt.alloc(), "t 0061 |", 1, " ;", 3_600)?);
     Ok(())
 }
 

@@ -124,7 +124,7 @@ grown_within done used total texts old new grown few short = record {
 
 -- lists with nothing in them have room for whatever lines may take
 pub room_at_first : (pools : Pools) (elements texts : ℕ) → pools ≡ record { ces = []; ce32s = []; contexts = [] }
-    → elements ≤ 520000 → texts ≤ 2600 → HasRoom pools elements texts
+    → elements ≤ 520000 → texts ≤ 3600 → HasRoom pools elements texts
 room_at_first pools elements texts empty few short =
     subst (λ (p : Pools). HasRoom p elements texts) (sym empty)
     (record { ces = omega (arith, few); ce32s = omega (arith, few); contexts = omega (arith, short) })

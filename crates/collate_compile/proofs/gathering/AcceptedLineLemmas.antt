@@ -158,9 +158,9 @@ accepted_elements records accepted =
     within (sum_by element_room) 520000 (omega arith) records
     (λ i lt over. accepted.keep_rules Limit i lt (inl (inr (inr (inl over)))))
 
-pub accepted_texts : (records : List Record) → AreAccepted records → count_by is_beside records ≤ 2600
+pub accepted_texts : (records : List Record) → AreAccepted records → count_by is_beside records ≤ 3600
 accepted_texts records accepted =
-    within (count_by is_beside) 2600 (omega arith) records
+    within (count_by is_beside) 3600 (omega arith) records
     (λ i lt over. accepted.keep_rules Limit i lt (inl (inr (inr (inr (inl over))))))
 
 no_block : (block_of : ℕ → ℕ) → blocks_in block_of [] ≡ 0

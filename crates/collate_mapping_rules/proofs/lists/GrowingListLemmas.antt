@@ -1,13 +1,13 @@
 -- Full lists as more and more parts say the mappings, where these map no mark: a bad one stays bad.
-use Rattle.std.proofs.Common.{◌≡◌, ◌≢◌, ℕ, zero, suc, ◌≤◌, List, [], ◌∷◌, ◌++◌, length, map, take, drop, flat_map, refl, sym, ap, ◌∙◌, subst, arith, ◌⊎◌, inl, inr, ⊎_elim, Bool, true, false, cond, not, ◌||◌, ◌==◌, Option, Some, None, length-append}
+use Rattle.std.proofs.Common.{◌≡◌, ◌≢◌, ℕ, zero, suc, ◌≤◌, List, [], ◌∷◌, ◌++◌, length, map, take, drop, flat_map, refl, sym, ap, ◌∙◌, subst, arith, ◌⊎◌, inl, inr, ⊎_elim, Bool, true, false, cond, not, ◌&&◌, ◌||◌, ◌==◌, Option, Some, None, length-append}
 use Rattle.std.specs.List.{slice_get}
 use Rattle.std.specs.Option.{is_some, option_or, unwrap_or}
-use Rattle.std.proofs.lemmas.Bool.{false≢true, not-true, eq-eqb}
+use Rattle.std.proofs.lemmas.Bool.{false≢true, not-true, eq-eqb, ne_eqb}
 use Rattle.icu_normalizer_core.specs.BuiltIn.{built_in_class, built_in_step, built_in_compatibility_step, is_built_in}
 use Rattle.collate_lines.specs.Record.{Record}
 use Rattle.collate_rules.specs.declared.canonical_part.CanonicalPart.{CanonicalPart}
 use Rattle.collate_rules.specs.Meaning.{any_step, class_in, class_of, compatibility_in, else_mapped, expanded, first_found, mapping_in, step_of}
-use Rattle.collate_rules.specs.Rules.{begins_with_mark, HasBadList, IsBadList, is_mapped, MapsMark}
+use Rattle.collate_rules.specs.Rules.{begins_with_mark, HasBadList, IsBadList, is_mapped, is_mapped_twice, MapsMark}
 use Rattle.collate_rules.specs.CanonicalParts.{in_full}
 use Rattle.collate_rules.proofs.lists.RuleFullListLemmas.{by_first, expanded-suc, expanded_none, expanded_unmapped}
 use Rattle.collate_rules.proofs.lookups.RuleLookupLemmas.{first_found-append}
@@ -129,6 +129,19 @@ mapped_stays lines more c e =
     ∙ ap (λ (o : Option (List ℕ)). is_some (option_or (first_found (mapping_in c) lines) (first_found (mapping_in c) more)) || is_some o) g
     ∙ either_or (first_found (mapping_in c) lines) (first_found (compatibility_in c) lines) (first_found (mapping_in c) more) (first_found (compatibility_in c) more) e
 
+both_or : (m n p q : Option (List ℕ)) → (is_some m && is_some n) ≡ true → (is_some (option_or m p) && is_some (option_or n q)) ≡ true
+both_or (Some x) (Some y) p q e = refl
+both_or (Some x) None p q e = absurd (false≢true e)
+both_or None n p q e = absurd (false≢true e)
+
+twice_stays : (lines more : List Record) (c : ℕ) → is_mapped_twice lines c ≡ true → is_mapped_twice (lines ++ more) c ≡ true
+twice_stays lines more c e =
+    let f = first_found-append (mapping_in c) lines more in
+    let g = first_found-append (compatibility_in c) lines more in
+    ap (λ (o : Option (List ℕ)). is_some o && is_some (first_found (compatibility_in c) (lines ++ more))) f
+    ∙ ap (λ (o : Option (List ℕ)). is_some (option_or (first_found (mapping_in c) lines) (first_found (mapping_in c) more)) && is_some o) g
+    ∙ both_or (first_found (mapping_in c) lines) (first_found (compatibility_in c) lines) (first_found (mapping_in c) more) (first_found (compatibility_in c) more) e
+
 -- a step that is new is said by a line
 canonical_new_by : (b : Bool) (own : List ℕ) (o p n : Option (List ℕ)) → cond b own (unwrap_or o []) ≡ [] → cond b own (unwrap_or p []) ≢ []
     → (b ≡ false) × ((is_some p || is_some n) ≡ true)
@@ -167,6 +180,21 @@ first_marked lines (g ∷ gs) f e t = let same : g ≡ f = cc in ap (λ (x : ℕ
 mark_apart : (k : ℕ) → not (k == 0) ≡ true → k ≢ 0
 mark_apart k t e = false≢true (sym (not-true (k == 0) t) ∙ eq-eqb k 0 e)
 
+-- a mapped mark stays one
+marks_stay : (lines more : List Record) → MapsMark lines → MapsMark (lines ++ more)
+marks_stay lines more maps =
+    let c = maps.0 in (
+      c,
+      (
+        mapped_stays lines more c maps.1.0,
+        maps.1.1,
+        ⊎_elim
+            (λ mark. inl (mark_apart (class_of (lines ++ more) c) (mark_stays lines more c (ap not (ne_eqb (class_of lines c) 0 mark)))))
+            (λ twice. inr (twice_stays lines more c twice))
+            maps.1.2,
+      ),
+    )
+
 -- a bad list stays bad, where no mark is mapped
 bad_stays : (lines more : List Record) (before after : ℕ → List ℕ) (n c : ℕ) → Grows before after
     → ((f : ℕ) → before f ≡ [] → after f ≢ [] → (is_built_in f ≡ false) × (is_mapped (lines ++ more) f ≡ true)) → (MapsMark (lines ++ more) → ⊥)
@@ -195,6 +223,11 @@ list_stays_bad lines more unmarked bad =
             bad.1.2,
       ),
     )
+
+-- where parts map no mark, no beginning of them maps one
+pub marks_cleared : (parts : List CanonicalPart) → (MapsMark (map in_full parts) → ⊥) → (k : ℕ) → MapsMark (map in_full (take k parts)) → ⊥
+marks_cleared parts unmarked k maps =
+    unmarked (subst MapsMark (parts_split parts k) (marks_stay (map in_full (take k parts)) (map in_full (drop k parts)) maps))
 
 -- where parts map no mark and have no bad list, no beginning of them has one
 pub lists_cleared : (parts : List CanonicalPart) → (MapsMark (map in_full parts) → ⊥) → (HasBadList (map in_full parts) → ⊥)

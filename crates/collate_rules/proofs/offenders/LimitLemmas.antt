@@ -24,7 +24,7 @@ pub record AreWithin (limits : Limits) (records : List Record) (i : ℕ) (counts
   pub counted : AreCounted records (take i records) counts
   pub ranges : counts.ranges ≤ 11000
   pub elements : counts.elements ≤ 520000
-  pub beside : counts.beside ≤ 2600
+  pub beside : counts.beside ≤ 3600
   pub canonical : counts.canonical ≤ 16000
   pub mappings : counts.mappings ≤ 16000
   pub before : (k : ℕ) → k < i → IsOverLimit limits records k → ⊥
@@ -128,14 +128,14 @@ module _ (records lines : List Record) (counts : Counts) (counted : AreCounted r
   room_lacks = either (more_than 700 _ _ wide_same)
       (either (more_than 11000 _ _ narrow_same)
       (either (more_than 520000 _ _ counted.elements)
-      (either (more_than 2600 _ _ counted.beside)
+      (either (more_than 3600 _ _ counted.beside)
       (either (more_than 16000 _ _ counted.canonical) (more_than 16000 _ _ counted.mappings)))))
 
   room_passed : LackRoom records lines → PassRoom counts
   room_passed = either (more_than 700 _ _ (sym wide_same))
       (either (more_than 11000 _ _ (sym narrow_same))
       (either (more_than 520000 _ _ (sym counted.elements))
-      (either (more_than 2600 _ _ (sym counted.beside))
+      (either (more_than 3600 _ _ (sym counted.beside))
       (either (more_than 16000 _ _ (sym counted.canonical)) (more_than 16000 _ _ (sym counted.mappings))))))
 
 module _ (limits : Limits) (lines : List Line) (i : ℕ) (x : Line) (h : i < length lines) (is : x ≡ get_or lines i x) (counts : Counts)
@@ -162,7 +162,7 @@ module _ (limits : Limits) (lines : List Line) (i : ℕ) (x : Line) (h : i < len
         counted = here;
         ranges = at_most 11000 counts.ranges (λ past. room (inr (inl (omega (arith, past)))));
         elements = at_most 520000 counts.elements (λ past. room (inr (inr (inl past))));
-        beside = at_most 2600 counts.beside (λ past. room (inr (inr (inr (inl past)))));
+        beside = at_most 3600 counts.beside (λ past. room (inr (inr (inr (inl past)))));
         canonical = at_most 16000 counts.canonical (λ past. room (inr (inr (inr (inr (inl past))))));
         mappings = at_most 16000 counts.mappings (λ past. room (inr (inr (inr (inr (inr past))))));
         before = below_more (λ k. IsOverLimit limits (map said lines) k → ⊥) i within.before (λ over. unpassed (passed_at over));

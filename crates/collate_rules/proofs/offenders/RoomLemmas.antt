@@ -13,7 +13,7 @@ pub record FitTables (all lines : List Record) : Type 0 where
   pub wide : blocks_in wide_block lines ≤ 700
   pub narrow : blocks_in narrow_block lines ≤ 11000
   pub elements : sum_by element_room lines ≤ 520000
-  pub beside : count_by is_beside lines ≤ 2600
+  pub beside : count_by is_beside lines ≤ 3600
   pub canonical : sum_by (canonical_room all) lines ≤ 16000
   pub mappings : sum_by (mapping_room all) lines ≤ 16000
 
@@ -22,7 +22,7 @@ fit_room all lines fit lacks =
     ⊎_elim (λ (past : 700 < blocks_in wide_block lines). omega (arith, past, fit.wide))
     (λ w. ⊎_elim (λ (past : 11000 < blocks_in narrow_block lines). omega (arith, past, fit.narrow))
     (λ v. ⊎_elim (λ (past : 520000 < sum_by element_room lines). omega (arith, past, fit.elements))
-    (λ u. ⊎_elim (λ (past : 2600 < count_by is_beside lines). omega (arith, past, fit.beside))
+    (λ u. ⊎_elim (λ (past : 3600 < count_by is_beside lines). omega (arith, past, fit.beside))
     (λ t. ⊎_elim (λ (past : 16000 < sum_by (canonical_room all) lines). omega (arith, past, fit.canonical))
     (λ (past : 16000 < sum_by (mapping_room all) lines). omega (arith, past, fit.mappings))
     t) u) v) w) lacks
@@ -38,7 +38,7 @@ all_fit records keep = record {
   wide = none_over_together (blocks_in wide_block) 700 (no_blocks wide_block 700) records (λ i lt past. keep i lt (inl (inl past)));
   narrow = none_over_together (blocks_in narrow_block) 11000 (no_blocks narrow_block 11000) records (λ i lt past. keep i lt (inl (inr (inl past))));
   elements = none_over_together (sum_by element_room) 520000 (omega arith) records (λ i lt past. keep i lt (inl (inr (inr (inl past)))));
-  beside = none_over_together (count_by is_beside) 2600 (omega arith) records (λ i lt past. keep i lt (inl (inr (inr (inr (inl past))))));
+  beside = none_over_together (count_by is_beside) 3600 (omega arith) records (λ i lt past. keep i lt (inl (inr (inr (inr (inl past))))));
   canonical = none_over_together (sum_by (canonical_room records)) 16000 (omega arith) records (λ i lt past. keep i lt (inl (inr (inr (inr (inr (inl past)))))));
   mappings = none_over_together (sum_by (mapping_room records)) 16000 (omega arith) records (λ i lt past. keep i lt (inl (inr (inr (inr (inr (inr past)))))));
 }

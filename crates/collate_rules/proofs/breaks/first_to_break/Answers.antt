@@ -6,25 +6,23 @@ pub returns-then-not-is_broken : goal.returns-then-not-is_broken
 returns-then-not-is_broken g c = λ lasting.
     whole_unbroken (g.T.LinesTest.breach c.args.test.now) lasting c.args.records.now c.in_ok-is_broken.is_broken c.in_ok-is_broken.ensures c.if-not-is_broken.true
 
-pub halving-preserved-then-is_broken : goal.halving-preserved-then-is_broken
-halving-preserved-then-is_broken g c =
-    let middle = c.halving.low + (c.halving.high - c.halving.low) / 2 in
+pub narrowing-preserved-then-is_broken : goal.narrowing-preserved-then-is_broken
+narrowing-preserved-then-is_broken g c =
     record {
       order = omega arith;
       within = omega arith;
-      below = c.halving.invariant.below;
+      below = c.narrowing.invariant.below;
       broken =
-          sym (part_tested (g.T.LinesTest.breach c.args.test.now) c.args.records.now _ middle c.in_ok-is_broken-2.is_broken c.in_ok-is_broken-2.ensures
+          sym (part_tested (g.T.LinesTest.breach c.args.test.now) c.args.records.now _ c.next_place-line.result c.in_ok-is_broken-2.is_broken c.in_ok-is_broken-2.ensures
           (ap (λ (n : ℕ). take n c.args.records.now) (omega arith))) ∙ c.if-is_broken.true;
     }
 
-pub halving-preserved : goal.halving-preserved
-halving-preserved g c =
-    let middle = c.halving.low + (c.halving.high - c.halving.low) / 2 in
+pub narrowing-preserved : goal.narrowing-preserved
+narrowing-preserved g c =
     record {
       order = omega arith;
-      within = c.halving.invariant.within;
-      below = λ lasting. none_up_to (g.T.LinesTest.breach c.args.test.now) lasting c.args.records.now _ middle c.in_ok-is_broken-2.is_broken c.in_ok-is_broken-2.ensures
+      within = c.narrowing.invariant.within;
+      below = λ lasting. none_up_to (g.T.LinesTest.breach c.args.test.now) lasting c.args.records.now _ c.next_place-line.result c.in_ok-is_broken-2.is_broken c.in_ok-is_broken-2.ensures
           (ap (λ (n : ℕ). take n c.args.records.now) (omega arith)) c.if-is_broken.false;
-      broken = c.halving.invariant.broken;
+      broken = c.narrowing.invariant.broken;
     }
