@@ -2,6 +2,7 @@ pub mod Catalogue
 pub mod Changes
 pub mod Index
 pub mod Keys
+pub mod KeptChanges
 pub mod Listing
 pub mod Meaning
 pub mod Reloads

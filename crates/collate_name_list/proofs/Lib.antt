@@ -8,3 +8,4 @@ pub mod FrontedLemmas
 pub mod HashLemmas
 pub mod SpanLemmas
 pub mod RekeyLemmas
+pub mod SettledLemmas

@@ -125,7 +125,7 @@ module _ (S : StoredName → StoredName → Ordering) (slots : List (Option Stor
 
 -- ---- a slot that is looked for
 
-then_last : (r t : Ordering) → ordering_then r t ≡ Equal → t ≡ Equal
+pub then_last : (r t : Ordering) → ordering_then r t ≡ Equal → t ≡ Equal
 then_last Less t h = cc
 then_last Equal t h = h
 then_last Greater t h = cc

@@ -1,24 +1,14 @@
--- slots that change keys with others, and the order that is made anew
-use Rattle.std.proofs.Common.{◌≡◌, ℕ, zero, suc, ◌+◌, ◌<◌, ◌≤◌, true, List, [], ◌∷◌, ◌++◌, length, get_or, set, take, Option, Some, None, is_some, ◌⊎◌, inl, inr, ⊎_elim, refl, sym, ap, ◌∙◌, subst, arith, nat_cmp}
-use Rattle.std.specs.List.{All, filter, insert}
+-- slots that change keys with others, and what stays then
+use Rattle.std.proofs.Common.{◌≡◌, ℕ, zero, suc, ◌+◌, ◌<◌, ◌≤◌, List, [], ◌∷◌, length, get_or, set, Option, Some, None, is_some, ◌⊎◌, inl, inr, ⊎_elim, refl, sym, ap, ◌∙◌, subst, arith}
+use Rattle.std.specs.List.{filter}
 use Rattle.std.specs.Prelude.{Result, Ok, Err, OnErr, OnOk}
-use Rattle.std.specs.Cmp.Lexicographic.{slice_cmp}
-use Rattle.std.specs.Ordering.{on}
 use Rattle.std.proofs.lemmas.Bool.{cases_eq}
 use Rattle.std.proofs.lemmas.List.{same_lists, get_or_default, get_or-set_same, get_or-set_other, length-set}
-use Rattle.collate_names.specs.Names.{in_order}
-use Rattle.collate_names.specs.Search.{IsPlaceOf}
-use Rattle.collate_names.proofs.NameChangeLemmas.{in_order_alike}
-use Rattle.collate_places.specs.Fronts.{IsFrontOf}
-use Rattle.collate_places.specs.declared.windows.Placed.{Placed}
-use Rattle.collate_name_list.specs.StoredNames.{key_order, rekeyed}
+use Rattle.collate_name_list.specs.StoredNames.{rekeyed}
 use Rattle.collate_name_list.specs.Keys.{key_before, keys_before, slot_with_key, slots_with_keys}
-use Rattle.collate_name_list.specs.Slots.{AreFronted, HaveOwnNames, IsFull, IsKept, entry_at, entry_of, entry_or_none, full_slots, hash_in, hashes_in, names_in, places_of, slots_by_key}
+use Rattle.collate_name_list.specs.Slots.{AreFronted, HaveOwnNames, IsFull, IsKept, entry_at, entry_of, entry_or_none, hash_in, hashes_in, names_in, places_of, slots_by_key}
 use Rattle.collate_name_list.specs.declared.slots.Stored.{Stored}
 use Rattle.collate_name_list.specs.declared.name_list.NameList.TheInside.{Inside}
-use Rattle.collate_name_list.proofs.SlotLemmas.{IsSlot}
-use Rattle.collate_name_list.proofs.PlacesLemmas.{all_slots, key_total, slots_push}
-use Rattle.collate_name_list.proofs.FrontedLemmas.{fronts_alike, places-insert, push_fronts}
 use Rattle.collate_name_list.proofs.KeptLemmas.{reseeded}
 
 -- ---- changed keys, slot by slot
@@ -33,7 +23,7 @@ length-before [] keys h = refl
 length-before (slot ∷ slots) [] h = refl
 length-before (slot ∷ slots) (key ∷ keys) h = omega (arith, length-before slots keys (omega arith))
 
-changed_at : (slots : List (Option Stored)) (keys : List (Option (List ℕ))) (k : ℕ) → get_or (slots_with_keys slots keys) k None ≡ slot_with_key (get_or slots k None) (get_or keys k None)
+pub changed_at : (slots : List (Option Stored)) (keys : List (Option (List ℕ))) (k : ℕ) → get_or (slots_with_keys slots keys) k None ≡ slot_with_key (get_or slots k None) (get_or keys k None)
 changed_at [] keys k = refl
 changed_at (None ∷ slots) [] zero = refl
 changed_at (Some s ∷ slots) [] zero = refl
@@ -173,18 +163,7 @@ length_full [] = refl
 length_full (None ∷ slots) = length_full slots
 length_full (Some s ∷ slots) = omega (arith, length_full slots)
 
--- ---- the order made anew
-
-pub take_one : (slots : List (Option Stored)) (place : ℕ) → place < length slots → take (place + 1) slots ≡ take place slots ++ get_or slots place None ∷ []
-take_one [] place h = absurd (omega arith)
-take_one (slot ∷ slots) zero h = refl
-take_one (slot ∷ slots) (suc place) h =
-    let next : suc place + 1 ≡ suc (place + 1) = omega arith in
-    ap (λ n. take n (slot ∷ slots)) next ∙ ap (λ ss. slot ∷ ss) (take_one slots place (omega arith))
-
-pub ordered_first : (ps : List Placed) → ps ≡ [] → (places_of ps ≡ slots_by_key []) × AreFronted [] ps
-unfolding in_order
-ordered_first ps none = (ap places_of none, subst (AreFronted []) (sym none) (λ i d l. absurd (omega arith)))
+-- ---- what calls leave
 
 -- what a call that is done leaves
 pub ok_then : {X E : Type 0} {P Q : Type 0} (r : Result X E) → OnOk r P → (P → Q) → OnOk r Q
@@ -194,41 +173,6 @@ ok_then (Err e) h f = tt
 pub on_err_from : {X E : Type 0} {P : Type 0} (r : Result X E) → P → OnErr r P
 on_err_from (Ok x) h = tt
 on_err_from (Err e) h = h
-
-pub ordered_more : (slots : List (Option Stored)) (s : Stored) (ps : List Placed) (at : ℕ) (p : Placed) → places_of ps ≡ slots_by_key slots → AreFronted slots ps → at ≤ length (places_of ps)
-    → IsPlaceOf (λ m. slice_cmp nat_cmp (entry_at slots m).key s.key) true (places_of ps) at → p.place ≡ length slots → IsFrontOf p.front s.key
-    → (places_of (insert ps at p) ≡ slots_by_key (slots ++ Some s ∷ [])) × AreFronted (slots ++ Some s ∷ []) (insert ps at p)
-ordered_more slots s ps at p order fronts bound place newest front =
-    let here : IsPlaceOf (λ m. key_order (entry_at slots m) (entry_of s)) true (slots_by_key slots) at =
-    subst (λ ms. IsPlaceOf (λ m. slice_cmp nat_cmp (entry_at slots m).key s.key) true ms at) order place in
-    let within : at ≤ length (slots_by_key slots) = omega (arith, ap length order) in
-    let slots_are : All (IsSlot slots) (places_of ps) = subst (All (IsSlot slots)) (sym order) (all_slots key_order slots) in (
-      places-insert ps at p ∙ ap (λ ms. insert ms at p.place) order ∙ ap (λ m. insert (slots_by_key slots) at m) newest ∙ slots_push key_order slots key_total s at within here,
-      push_fronts slots s ps at p slots_are fronts newest front,
-    )
-
-none_behind : (slots : List (Option Stored)) (k : ℕ) → get_or (slots ++ None ∷ []) k None ≡ get_or slots k None
-none_behind [] zero = refl
-none_behind [] (suc k) = refl
-none_behind (slot ∷ slots) zero = refl
-none_behind (slot ∷ slots) (suc k) = none_behind slots k
-
-full_none : (from : ℕ) (slots : List (Option Stored)) → full_slots from (slots ++ None ∷ []) ≡ full_slots from slots
-full_none from [] = refl
-full_none from (None ∷ slots) = full_none (from + 1) slots
-full_none from (Some s ∷ slots) = ap (λ ms. from ∷ ms) (full_none (from + 1) slots)
-
-pub ordered_none : (slots : List (Option Stored)) (ps : List Placed) → places_of ps ≡ slots_by_key slots → AreFronted slots ps
-    → (places_of ps ≡ slots_by_key (slots ++ None ∷ [])) × AreFronted (slots ++ None ∷ []) ps
-ordered_none slots ps order fronts =
-    let more : List (Option Stored) = slots ++ None ∷ [] in
-    let same : (m : ℕ) → entry_at more m ≡ entry_at slots m = λ m. ap entry_or_none (none_behind slots m) in (
-      order
-          ∙ sym (ap (in_order (on (entry_at more) key_order)) (full_none 0 slots)
-          ∙ in_order_alike (on (entry_at more) key_order) (on (entry_at slots) key_order) (full_slots 0 slots) (λ x y hx hy.
-          ap (λ e. key_order e (entry_at more y)) (same x) ∙ ap (λ e. key_order (entry_at slots x) e) (same y))),
-      fronts_alike slots more ps (λ i d l. same (get_or ps i d).place) fronts,
-    )
 
 -- ---- what a list of names keeps
 

@@ -1,5 +1,11 @@
--- slots that change keys with others
-use Rattle.std.specs.Prelude.{ℕ, List, [], ◌∷◌, Option, Some, None}
+-- slots that change keys with others, and the order of which some have
+use Rattle.std.specs.Prelude.{ℕ, Bool, not, List, [], ◌∷◌, ◌++◌, Option, Some, None, drop, filter, is_some, slice_index_or, take}
+use Rattle.std.specs.Ordering.{nat_cmp, on, then_cmp}
+use Rattle.std.specs.declared.cmp.Ordering.{Ordering}
+use Rattle.collate_names.specs.Names.{in_order}
+use Rattle.collate_places.specs.declared.windows.Placed.{Placed}
+use Rattle.collate_name_list.specs.StoredNames.{key_order}
+use Rattle.collate_name_list.specs.Slots.{entry_at, full_slots}
 use Rattle.collate_name_list.specs.declared.slots.Stored.{Stored}
 
 -- a slot with another key, if it is full and one is given; and the key that it had then
@@ -23,3 +29,23 @@ abbrev pub keys_before : List (Option Stored) → List (Option (List ℕ)) → L
 keys_before [] keys = keys
 keys_before (slot ∷ slots) [] = []
 keys_before (slot ∷ slots) (key ∷ keys) = key_before slot key ∷ keys_before slots keys
+
+-- a slot has the key that it had: none is among those that others had
+abbrev pub has_kept : List (Option (List ℕ)) → ℕ → Bool
+has_kept keys slot = not (is_some (slice_index_or keys slot None))
+
+-- a place is that of such a slot
+abbrev pub is_at_kept : List (Option (List ℕ)) → Placed → Bool
+is_at_kept keys placed = has_kept keys placed.place
+
+-- slots compare as their keys do, and those of one key as they arrived
+abbrev pub key_and_slot : List (Option Stored) → ℕ → ℕ → Ordering
+key_and_slot slots = then_cmp (on (entry_at slots) key_order) nat_cmp
+
+-- the full slots but for those from a place on that haven't the keys that they had
+abbrev pub settled : List (Option Stored) → List (Option (List ℕ)) → ℕ → List ℕ
+settled slots keys place = full_slots 0 (take place slots) ++ filter (has_kept keys) (full_slots place (drop place slots))
+
+-- the same in order
+abbrev pub settled_by_key : List (Option Stored) → List (Option (List ℕ)) → ℕ → List ℕ
+settled_by_key slots keys place = in_order (key_and_slot slots) (settled slots keys place)

@@ -1,10 +1,10 @@
-//! Keys among slots: changed for others, and the order made anew.
+//! Keys among slots: changed for others, and the slots with other keys put among those that keep their order.
 
-ghost use Rattle.std.specs.Prelude.{◌≡◌, ◌+◌, ◌<◌, IfOk, OnErr, OnOk, length, take};
-ghost use Rattle.collate_name_list.specs.Keys.{key_before, keys_before, slot_with_key, slots_with_keys};
+ghost use Rattle.std.specs.Prelude.{◌≡◌, ◌+◌, ◌++◌, ◌<◌, ◌∷◌, [], IfOk, OnErr, OnOk, filter, length};
+ghost use Rattle.collate_name_list.specs.Keys.{has_kept, is_at_kept, key_before, keys_before, settled_by_key, slot_with_key, slots_with_keys};
 ghost use Rattle.collate_name_list.specs.Slots.{AreFronted, places_of, slots_by_key};
 
-use crate::slots::{Stored, place_of_key, stored_in};
+use crate::slots::{Sought, Stored, place_of, placed_in, stored_in, window_around};
 use collate_keys::IndexKey;
 use collate_places::PlaceList;
 use collate_places::windows::Placed;
@@ -34,22 +34,67 @@ fn swap_keys(slots: &mut Vec<Option<Stored>>, keys: &mut Vec<Option<IndexKey>>)
     }
 }
 
-/// Puts a slot into the order of those before it, if it is full. An error if memory is refused.
+/// Whether a slot has the key that it had, where the keys are given that others had.
+fn has_kept(keys: &[Option<IndexKey>], slot: usize) -> bool
+    ensures { result ≡ has_kept keys.now slot }
+{
+    match keys.get(slot) {
+        Some(key) => key.is_none(),
+        None => true,
+    }
+}
+
+/// Puts a place behind others, if its slot has the key that it had. An error if memory is refused.
+fn keep(places: &mut PlaceList, placed: Placed, keys: &[Option<IndexKey>]) -> Result<(), AllocError>
+    ensures { OnOk result (places.new ≡ places.old ++ filter (is_at_kept keys.now) (placed ∷ [])) }
+{
+    if has_kept(keys, placed.place) {
+        places.push(placed)
+    } else {
+        Ok(())
+    }
+}
+
+/// The places of the slots that have the keys that they had, in their order. An error if memory is refused.
+fn kept_places(
+    alloc: Global,
+    by_key: &PlaceList,
+    keys: &[Option<IndexKey>],
+) -> Result<PlaceList, AllocError>
+    ensures { IfOk result (λ places. places ≡ filter (is_at_kept keys.now) by_key.now) }
+{
+    let mut places = PlaceList::new(alloc);
+    let mut window = by_key.around(0, 0, usize::MAX);
+    'ranks: for rank in 0..by_key.len() {
+        window = window_around(by_key, window, rank, window.part, usize::MAX);
+        let placed = placed_in(window.places, window.start, rank);
+        keep(&mut places, placed, keys)?;
+    }
+    Ok(places)
+}
+
+/// Puts a slot among others in the order of their keys and themselves, if it is full and hasn't the key that it had. An error
+/// if memory is refused.
 fn put_in_order(
     slots: &[Option<Stored>],
     place: usize,
+    keys: &[Option<IndexKey>],
     places: &mut PlaceList,
     count: &mut usize,
 ) -> Result<(), AllocError>
     requires within { place < length slots.now }
-    requires order { places_of places.old ≡ slots_by_key (take place slots.now) }
-    requires fronts { AreFronted (take place slots.now) places.old }
-    ensures order { OnOk result (places_of places.new ≡ slots_by_key (take (place + 1) slots.now)) }
-    ensures fronts { OnOk result (AreFronted (take (place + 1) slots.now) places.new) }
+    requires order { places_of places.old ≡ settled_by_key slots.now keys.now place }
+    requires fronts { AreFronted slots.now places.old }
+    ensures order { OnOk result (places_of places.new ≡ settled_by_key slots.now keys.now (place + 1)) }
+    ensures fronts { OnOk result (AreFronted slots.now places.new) }
 {
+    if has_kept(keys, place) {
+        return Ok(());
+    }
     match stored_in(slots, place) {
         Some(stored) => {
-            let rank = place_of_key(&slots[..place], places, &stored.key, true, count);
+            let sought = Sought::Slot(&stored.key, place);
+            let rank = place_of(slots, places, &sought, true, count);
             let front = stored.key.front();
             places.insert(rank, Placed { front, place })
         }
@@ -57,32 +102,40 @@ fn put_in_order(
     }
 }
 
-/// The full slots in order of their keys. An error if memory is refused. The count goes up by one for each comparison of
-/// keys.
+/// The full slots in order of their keys, where that order is given which they had when some had other keys, which are given
+/// too. Slots are compared with those alone whose keys changed. An error if memory is refused. The count goes up by one for
+/// each comparison of keys.
 fn ordered(
     alloc: Global,
     slots: &[Option<Stored>],
+    keys: &[Option<IndexKey>],
+    by_key: &PlaceList,
     count: &mut usize,
 ) -> Result<PlaceList, AllocError>
+    requires order { places_of by_key.now ≡ slots_by_key (slots_with_keys slots.now keys.now) }
+    requires fronts { AreFronted (slots_with_keys slots.now keys.now) by_key.now }
     ensures order { IfOk result (λ places. places_of places ≡ slots_by_key slots.now) }
     ensures fronts { IfOk result (λ places. AreFronted slots.now places) }
 {
-    let mut places = PlaceList::new(alloc);
+    let mut places = kept_places(alloc, by_key, keys)?;
     'slots: for place in 0..slots.len() {
-        put_in_order(slots, place, &mut places, count)?;
+        put_in_order(slots, place, keys, &mut places, count)?;
     }
     Ok(places)
 }
 
-/// Gives slots the keys that are given for them, and answers the new order. An error if memory is refused; the slots are
-/// then as before.
+/// Gives slots the keys that are given for them, and answers their new order, which is made beside the old one. An error if
+/// memory is refused; the slots are then as before.
 pub fn reorder(
     alloc: Global,
     slots: &mut Vec<Option<Stored>>,
     keys: Vec<Option<IndexKey>>,
+    by_key: &PlaceList,
     count: &mut usize,
 ) -> Result<PlaceList, AllocError>
-    requires { length slots.old.items ≡ length keys.items }
+    requires length { length slots.old.items ≡ length keys.items }
+    requires order { places_of by_key.now ≡ slots_by_key slots.old.items }
+    requires fronts { AreFronted slots.old.items by_key.now }
     ensures slots { OnOk result (slots.new.items ≡ slots_with_keys slots.old.items keys.items) }
     ensures order { IfOk result (λ places. places_of places ≡ slots_by_key slots.new.items) }
     ensures fronts { IfOk result (λ places. AreFronted slots.new.items places) }
@@ -90,7 +143,7 @@ pub fn reorder(
 {
     let mut keys = keys;
     swap_keys(slots, &mut keys);
-    match ordered(alloc, slots.as_slice(), count) {
+    match ordered(alloc, slots.as_slice(), keys.as_slice(), by_key, count) {
         Ok(places) => Ok(places),
         Err(error) => {
             swap_keys(slots, &mut keys);

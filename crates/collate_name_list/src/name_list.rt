@@ -191,8 +191,8 @@ impl NameList {
     }
 
     /// Gives names other keys, in the order of their arrival: where there is one, in the place of the old one. The new order
-    /// is made beside the old one. An error if memory is refused; the names then have their old keys. The count goes up by
-    /// one for each comparison of keys.
+    /// is made beside the old one: names that keep their keys stand as they stood, and only the others are looked for. An
+    /// error if memory is refused; the names then have their old keys. The count goes up by one for each comparison of keys.
     pub fn rekey(
         &mut self,
         keys: Vec<Option<IndexKey>>,
@@ -206,7 +206,7 @@ impl NameList {
         self.by_key.renumber(numbers.as_slice());
         self.hashes.drop_empty();
         drop_empty(&mut self.slots);
-        self.by_key = reorder(self.alloc, &mut self.slots, keys, count)?;
+        self.by_key = reorder(self.alloc, &mut self.slots, keys, &self.by_key, count)?;
         Ok(())
     }
 

@@ -131,7 +131,7 @@ pub fn compare(
 }
 
 /// The part of places in which a rank is: this one, if the rank is in it.
-fn window_around<'a>(
+pub fn window_around<'a>(
     places: &'a PlaceList,
     window: Window<'a>,
     rank: usize,
@@ -152,7 +152,7 @@ fn window_around<'a>(
 }
 
 /// The place at a rank that is in a part of places, which begins at another rank.
-fn placed_in(part: &[Placed], start: usize, rank: usize) -> Placed
+pub fn placed_in(part: &[Placed], start: usize, rank: usize) -> Placed
     requires from { start ≤ rank }
     requires before { rank < start + length part.now }
     ensures { slice_get part.now (rank - start) ≡ Some result }
@@ -241,7 +241,7 @@ fn whole(places: &PlaceList) -> Span
 }
 
 /// The first place of a slot that isn't below what is looked for, or, past equal ones, of one above it.
-fn place_of(
+pub fn place_of(
     slots: &[Option<Stored>],
     places: &PlaceList,
     sought: &Sought<'_>,

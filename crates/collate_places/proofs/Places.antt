@@ -1,18 +1,19 @@
 -- Ranks, and the lists in which they are.
-use Rattle.std.proofs.Common.{◌≡◌, ℕ, ◌+◌, ◌-◌, ◌<◌, ◌≤◌, List, [], ◌∷◌, All, length, set, take, drop, sym, ap, ◌∙◌, inl, inr, subst, arith, length-set, get_or-set_same}
+use Rattle.std.proofs.Common.{◌≡◌, ℕ, ◌+◌, ◌-◌, ◌<◌, ◌≤◌, List, [], ◌∷◌, ◌++◌, All, get_or, length, set, take, drop, refl, sym, ap, ◌∙◌, inl, inr, subst, arith, append-nil, length-set, get_or-set_same}
 use Rattle.std.proofs.Math.Nat.{zero-add}
-use Rattle.std.proofs.lemmas.List.{length-map, take_all}
+use Rattle.std.proofs.Math.Seq.{get_or-append_seam}
+use Rattle.std.proofs.lemmas.List.{length-map, length_push, take_all, take_at}
 use Rattle.std.proofs.lemmas.Bool.{cases_lt}
-use Rattle.std.proofs.lemmas.List.Edits.{length-insert, get_or-insert_below, get_or-insert_at}
-use Rattle.std.proofs.lemmas.List.Elements.{All-drop, All-weaker}
-use Rattle.std.specs.Prelude.{insert, slice_index}
+use Rattle.std.proofs.lemmas.List.Edits.{length-insert, get_or-insert_below, get_or-insert_at, insert_end}
+use Rattle.std.proofs.lemmas.List.Elements.{All-drop, All-push, All-weaker}
+use Rattle.std.specs.Prelude.{insert, slice_index, vec_capacity}
 use Rattle.std.specs.Global.{Vec}
 use Rattle.collate_places.specs.declared.list_rows.TheConstants.{FULL}
 use Rattle.collate_places.specs.declared.windows.Placed.{Placed}
-use Rattle.collate_places.specs.Lists.{joined, lengths, starts_from, starts_of}
+use Rattle.collate_places.specs.Lists.{joined, lengths, starts_from, starts_of, AreRoomy}
 use Rattle.collate_places.specs.Parts.{IsPlaceOf, IsFreeFor}
 use Rattle.collate_places.specs.Starts.{IsAround}
-use Rattle.collate_places.proofs.Rows.{start_at, start_next, length-starts_from, starts_from_high, starts_from_low, drop-starts_from}
+use Rattle.collate_places.proofs.Rows.{joined-append, length_at, start_at, start_next, length-starts_from, starts_from-append, starts_from_high, starts_from_low, drop-starts_from}
 
 -- where there are values there are lists
 pub some_list : (lists : List (Vec Placed)) → 0 < length (joined lists) → 0 < length lists
@@ -69,6 +70,43 @@ free_in_halves lists new part place rank half small full starts long at =
       λ h. record { at = record { within = omega arith; upto = omega arith; ranked = omega (arith, at.ranked) }; space = omega arith },
       λ h. record { at = record { within = omega arith; upto = omega (arith, at.upto); ranked = omega (arith, at.ranked) }; space = omega arith },
     )
+
+-- an empty list behind all others
+module _ (lists : List (Vec Placed)) (empty : Vec Placed) (none : empty.items ≡ []) where
+  pub joined_behind : joined (lists ++ empty ∷ []) ≡ joined lists
+  joined_behind = joined-append lists (empty ∷ []) ∙ ap (λ xs. joined lists ++ (xs ++ [])) none ∙ append-nil (joined lists)
+
+  pub starts_behind : (count : ℕ) → count ≡ length (joined lists) → insert (starts_of lists) (length lists) count ≡ starts_of (lists ++ empty ∷ [])
+  starts_behind count e =
+      let start : 0 + length (joined lists) ≡ count = omega (arith, e) in
+      ap (λ n. insert (starts_of lists) n count) (sym (length-starts_from 0 lists))
+      ∙ insert_end (starts_of lists) count
+      ∙ sym (starts_from-append 0 lists (empty ∷ []) ∙ ap (λ n. starts_of lists ++ n ∷ []) start)
+
+  pub roomy_behind : AreRoomy lists → FULL ≤ vec_capacity empty → AreRoomy (lists ++ empty ∷ [])
+  roomy_behind roomy memory =
+      All-push (λ (list : Vec Placed). (length list.items ≤ FULL) × (FULL ≤ vec_capacity list)) lists empty roomy (omega (arith, ap length none), memory)
+
+  pub free_behind : (count : ℕ) → count ≡ length (joined lists) → IsFreeFor (lists ++ empty ∷ []) count (length lists) 0
+  free_behind count e =
+      let more : List (Vec Placed) = lists ++ empty ∷ [] in
+      let longer : length more ≡ length lists + 1 = length_push lists empty in
+      let held : slice_index (lengths more) (length lists) ≡ 0 =
+      length_at more (length lists) empty (omega arith) (sym (get_or-append_seam lists empty [] empty)) ∙ ap length none in
+      let start : length (joined (take (length lists) more)) ≡ length (joined lists) =
+      ap (λ (ls : List (Vec Placed)). length (joined ls)) (take_at lists (empty ∷ []) (length lists) refl) in
+      record { at = record { within = omega arith; upto = omega arith; ranked = omega (arith, e) }; space = omega arith }
+
+-- the place behind the values of the last list
+pub free_last : (lists : List (Vec Placed)) (part : ℕ) (list : Vec Placed) (count : ℕ) → part + 1 ≡ length lists → list ≡ get_or lists part list → length list.items < FULL → count ≡ length (joined lists)
+    → IsFreeFor lists count part (length list.items)
+free_last lists part list count last is space e =
+    let held : slice_index (lengths lists) part ≡ length list.items = length_at lists part list (omega arith) is in
+    let all : length (joined (take (part + 1) lists)) ≡ length (joined lists) = ap (λ (ls : List (Vec Placed)). length (joined ls)) (take_all (part + 1) lists (omega arith)) in
+    record {
+      at = record { within = omega arith; upto = omega (arith, held); ranked = omega (arith, held, all, e, start_next lists part (omega arith)) };
+      space = omega (arith, held);
+    }
 
 -- the ranks behind a place can be moved
 pub raise_ready : (lists : List (Vec Placed)) (n bound : ℕ) → length (joined lists) < bound → All (λ start. start < bound) (drop n (starts_of lists))

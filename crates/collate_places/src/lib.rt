@@ -2,7 +2,7 @@
 //! behind it.
 #![tactic(auto)]
 
-ghost use Rattle.std.specs.Prelude.{◌≡◌, ◌+◌, ◌<◌, ◌≤◌, ◌↔◌, [], All, length, Some, OnOk, OnErr, IsTrue, slice_get, insert, remove};
+ghost use Rattle.std.specs.Prelude.{◌≡◌, ◌+◌, ◌++◌, ◌<◌, ◌≤◌, ◌↔◌, ◌∷◌, [], All, length, Some, OnOk, OnErr, IsTrue, slice_get, insert, remove};
 ghost use Rattle.collate_places.specs.Lists.{renumbered};
 ghost use Rattle.collate_places.specs.Windows.{shows};
 
@@ -98,6 +98,18 @@ impl PlaceList {
         self.parts.shrink();
         self.parts.reserve()?;
         self.parts.insert(rank, value);
+        Ok(())
+    }
+
+    /// Puts a place behind all others, into a part of its own where the last one is full: so places that are pushed in order
+    /// fill their parts. An error if memory is refused, or if the places are as many as a `usize` counts; the list is then as
+    /// before.
+    pub fn push(&mut self, value: Placed) -> Result<(), AllocError>
+        ensures pushed { OnOk result (self.new ≡ self.old ++ value ∷ []) }
+        ensures unchanged { OnErr result (self.new ≡ self.old) }
+    {
+        self.parts.reserve()?;
+        self.parts.push(value);
         Ok(())
     }
 

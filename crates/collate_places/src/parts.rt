@@ -1,7 +1,7 @@
 //! Lists in a row that are seen as one, with the rank at which each begins.
 
-ghost use Rattle.std.specs.Prelude.{◌≡◌, ℕ, ◌+◌, ◌-◌, ◌<◌, ◌≤◌, [], All, IsTrue, length, Some, OnOk, insert, remove, slice_get, slice_index};
-ghost use Rattle.collate_places.specs.Lists.{joined, lengths, renumbered};
+ghost use Rattle.std.specs.Prelude.{◌≡◌, ℕ, ◌+◌, ◌-◌, ◌++◌, ◌<◌, ◌≤◌, ◌∷◌, [], All, IsTrue, length, Some, OnOk, insert, remove, slice_get, slice_index};
+ghost use Rattle.collate_places.specs.Lists.{joined, lengths, rank_of, renumbered};
 ghost use Rattle.collate_places.specs.Parts.{IsSound, HasRoom, IsSame, IsPlaceOf, IsFreeFor, AreJoinable};
 ghost use Rattle.collate_places.specs.Windows.{shows};
 
@@ -107,19 +107,19 @@ impl Parts {
         }
     }
 
-    /// Takes the spare list for the first.
-    fn begin(&mut self)
+    /// Takes the spare list for the last.
+    fn append(&mut self)
         requires sound { IsSound self.old }
         requires room { HasRoom self.old }
-        requires none { self.old.lists.items ≡ [] }
         ensures sound { IsSound self.new }
         ensures values { joined self.new.lists.items ≡ joined self.old.lists.items }
-        ensures free { IsFreeFor self.new.lists.items 0 0 0 }
+        ensures free { IsFreeFor self.new.lists.items self.old.count (length self.old.lists.items) 0 }
         ensures count { self.new.count ≡ self.old.count }
     {
         let list = mem::replace(&mut self.spare, Vec::new(*self.lists.allocator()));
-        let _ = self.lists.push(list);
-        self.starts.insert(0, 0);
+        let part = self.lists.len();
+        self.lists.push_reserved(list);
+        self.starts.insert(part, self.count);
     }
 
     /// Makes a full list two, the second of them the spare one.
@@ -151,7 +151,7 @@ impl Parts {
         ensures count { self.new.count ≡ self.old.count }
     {
         if self.lists.is_empty() {
-            self.begin();
+            self.append();
             return (0, 0);
         }
         let (part, place) = self.find(rank);
@@ -166,6 +166,20 @@ impl Parts {
         }
     }
 
+    /// Puts a value at a place of a list, which isn't full.
+    fn put_at(&mut self, part: usize, place: usize, value: Placed)
+        requires sound { IsSound self.old }
+        requires count { self.old.count < usize.MAX }
+        requires rank { rank_of self.old.lists.items part place ≤ self.old.count }
+        requires free { IsFreeFor self.old.lists.items (rank_of self.old.lists.items part place) part place }
+        ensures sound { IsSound self.new }
+        ensures values { joined self.new.lists.items ≡ insert (joined self.old.lists.items) (rank_of self.old.lists.items part place) value }
+    {
+        put(&mut self.lists, part, place, value);
+        self.starts.raise(part + 1);
+        self.count += 1;
+    }
+
     /// Puts a value at a rank. There is room.
     pub(crate) fn insert(&mut self, rank: usize, value: Placed)
         requires sound { IsSound self.old }
@@ -175,9 +189,39 @@ impl Parts {
         ensures values { joined self.new.lists.items ≡ insert (joined self.old.lists.items) rank value }
     {
         let (part, place) = self.free_place(rank);
-        put(&mut self.lists, part, place, value);
-        self.starts.raise(part + 1);
-        self.count += 1;
+        self.put_at(part, place, value);
+    }
+
+    /// The last list and the place in it where a value goes behind all others. That list isn't full: where the last is, it
+    /// is a new one.
+    fn last_place(&mut self) -> (usize, usize)
+        requires sound { IsSound self.old }
+        requires room { HasRoom self.old }
+        ensures sound { IsSound self.new }
+        ensures values { joined self.new.lists.items ≡ joined self.old.lists.items }
+        ensures free { IsFreeFor self.new.lists.items self.new.count result.0 result.1 }
+        ensures count { self.new.count ≡ self.old.count }
+    {
+        let lists = self.lists.len();
+        if lists > 0 {
+            let place = self.lists[lists - 1].len();
+            if place < FULL {
+                return (lists - 1, place);
+            }
+        }
+        self.append();
+        (lists, 0)
+    }
+
+    /// Puts a value behind all others. There is room.
+    pub(crate) fn push(&mut self, value: Placed)
+        requires sound { IsSound self.old }
+        requires room { HasRoom self.old }
+        ensures sound { IsSound self.new }
+        ensures values { joined self.new.lists.items ≡ joined self.old.lists.items ++ value ∷ [] }
+    {
+        let (part, place) = self.last_place();
+        self.put_at(part, place, value);
     }
 
     /// Takes the value at a rank out, and answers it.

@@ -115,6 +115,19 @@ fn take_out(list: &mut PlaceList, plain: &mut Vec<usize>, count: usize) -> bool 
 }
 
 #[test]
+fn ok_push(rt: HostRuntime) -> Result<(), Fail> {
+    let mut list = PlaceList::new(rt.alloc());
+    let mut plain = Vec::new(rt.alloc());
+    for place in 0..2000 {
+        list.push(placed(place))?;
+        plain.push(place)?;
+    }
+    assert!(rt; are_same(&list, plain.as_slice()));
+    assert_eq!(rt; count_parts(&list), 4);
+    Ok(())
+}
+
+#[test]
 fn lists_are_split_and_let_go(rt: HostRuntime) -> Result<(), Fail> {
     let (mut list, mut plain) = put_in(rt.alloc(), 3000)?;
     assert!(rt; are_same(&list, &plain));

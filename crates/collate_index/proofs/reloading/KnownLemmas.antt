@@ -1,8 +1,7 @@
 -- What is known of characters stays right as more is found out, and what a character reaches by what its mapping brings in.
-use Rattle.std.proofs.Common.{◌≡◌, ℕ, ◌<◌, ◌≤◌, Bool, true, false, List, [], ◌∷◌, ◌++◌, Option, None, Some, length, get_or, set, refl, sym, ap, ◌∙◌, subst, arith, ⊎_elim}
+use Rattle.std.proofs.Common.{◌≡◌, ℕ, ◌<◌, ◌≤◌, Bool, true, false, List, [], ◌∷◌, Option, None, Some, length, get_or, set, refl, sym, ap, ◌∙◌, subst, arith, ⊎_elim}
 use Rattle.std.specs.List.{All, Contains}
-use Rattle.std.specs.Option.{ok_or}
-use Rattle.std.specs.Prelude.{IfOk, IfSome, MatchBool, Result}
+use Rattle.std.specs.Prelude.{MatchBool}
 use Rattle.std.proofs.lemmas.Bool.{cases_eq, cases_lt}
 use Rattle.std.proofs.lemmas.List.{get_or-set_other, get_or-set_same, get_or_past}
 use Rattle.std.proofs.lemmas.List.Elements.{All-contains, Contains-append_left, Contains-push, Contains-push_cases}
@@ -12,38 +11,28 @@ use Rattle.collate_laws.specs.Unchanged.{ReachesUnchanged}
 use Rattle.collate_records.specs.Changes.{IsChanged, IsUnchanged}
 use Rattle.collate_records.proofs.comparing.ReachingLemmas.{one_first, one_itself, one_of_text, one_second}
 use Rattle.collate_rules.specs.Meaning.{step_of}
-use Rattle.collate_index.specs.Changes.{TwoRecords, ReachesChanged, Tells}
+use Rattle.collate_records.specs.Differences.{TwoFiles}
+use Rattle.collate_index.specs.Changes.{AreKnown, ReachesChanged, Tells}
 
 -- ---- a list of what is known
 
-module _ (Tell : ℕ → Bool → Type 0) where
-  abbrev pub AreKnown : List (Option Bool) → Type 0
-  AreKnown known = (c : ℕ) (is : Bool) → get_or known c None ≡ Some is → Tell c is
-
-  pub none_known : (known : List (Option Bool)) → All (λ (is : Option Bool). is ≡ None) known → AreKnown known
+module _ (files : TwoFiles) where
+  pub none_known : (known : List (Option Bool)) → All (λ (is : Option Bool). is ≡ None) known → AreKnown files known
   none_known known none c is found =
       let here : get_or known c None ≡ None =
       ⊎_elim (λ (within : c < length known). none c None within) (λ (past : length known ≤ c). get_or_past known c None past) (cases_lt c (length known)) in
       absurd (none-some is (sym here ∙ found))
 
-  pub one_known : (known : List (Option Bool)) (place : ℕ) (is : Bool) → place < length known → AreKnown known → Tell place is → AreKnown (set known place (Some is))
+  pub one_known : (known : List (Option Bool)) (place : ℕ) (is : Bool) → place < length known → AreKnown files known → Tells files place is
+      → AreKnown files (set known place (Some is))
   one_known known place is within so_far here c other found =
       ⊎_elim
       (λ (same : c ≡ place).
       let read : Some is ≡ Some other =
       sym (get_or-set_same known place (Some is) None within) ∙ ap (λ (k : ℕ). get_or (set known place (Some is)) k None) (sym same) ∙ found in
-      subst (λ (b : Bool). Tell c b) (same_Some is other read) (subst (λ (k : ℕ). Tell k is) (sym same) here))
+      subst (λ (b : Bool). Tells files c b) (same_Some is other read) (subst (λ (k : ℕ). Tells files k is) (sym same) here))
       (λ (apart : c ≡ place → ⊥). so_far c other (sym (get_or-set_other known place c (Some is) None apart) ∙ found))
       (cases_eq c place)
-
-  pub known_tells : (known : List (Option Bool)) (c : ℕ) (found : Option Bool) → AreKnown known → found ≡ get_or known c None → IfSome found (Tell c)
-  known_tells known c None kept is = tt
-  known_tells known c (Some b) kept is = kept c b (sym is)
-
--- what is found, or an error where nothing is
-pub told_ok : {E : Type 0} (Tell : Bool → Type 0) (found : Option Bool) (error : E) (answer : Result Bool E) → answer ≡ ok_or found error → IfSome found Tell → IfOk answer Tell
-told_ok {E} Tell None error answer is tells = subst (λ (r : Result Bool E). IfOk r Tell) (sym is) tt
-told_ok {E} Tell (Some b) error answer is tells = subst (λ (r : Result Bool E). IfOk r Tell) (sym is) tells
 
 -- ---- what is reached, by what a mapping brings in
 
@@ -75,7 +64,7 @@ module _ (step : ℕ → List ℕ) (Q : ℕ → Type 0) where
 
 -- ---- whether a character reaches a changed one
 
-module _ (files : TwoRecords) where
+module _ (files : TwoFiles) where
   abbrev Answers : ℕ → Bool → Type 0
   Answers c is = MatchBool is (IsChanged files.before files.after c) (IsUnchanged files.before files.after c)
 

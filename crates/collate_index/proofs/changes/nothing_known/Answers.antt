@@ -1,4 +1,5 @@
-use Rattle.std.proofs.Common.{◌≡◌, Bool, Option, None, [], ◌∷◌, ◌++◌, refl}
+use Rattle.std.proofs.Common.{◌≡◌, Bool, Option, None, [], ◌∷◌, ◌++◌, ap, arith, length, refl}
+use Rattle.std.proofs.lemmas.List.{length_push}
 use Rattle.std.proofs.lemmas.List.Elements.{All-nil, All-push, All-same}
 use Rattle.collate_index.proofs.changes.nothing_known.Goals as goal
 
@@ -7,10 +8,24 @@ IsNone is = is ≡ None
 
 pub places-init : goal.places-init
 unfolding IsNone
-places-init c = All-same IsNone c.in_ok-known.known.items [] c.in_ok-known.ensures.items (All-nil IsNone)
+places-init c = record {
+  nothing = All-same IsNone c.in_ok-known.known.items [] c.in_ok-known.ensures.items (All-nil IsNone);
+  room = ap length c.in_ok-known.ensures.items;
+  upto = omega arith;
+}
 
 pub places-preserved : goal.places-preserved
 unfolding IsNone
-places-preserved c =
-    All-same IsNone c.push.new.self.items (c.places.known.items ++ None ∷ []) c.in_ok-push.ensures.items
-    (All-push IsNone c.places.known.items None c.places.invariant refl)
+places-preserved c = record {
+  nothing =
+      All-same IsNone c.push.new.self.items (c.places.known.items ++ None ∷ []) c.in_ok-push.ensures.items
+      (All-push IsNone c.places.known.items None c.places.invariant.nothing refl);
+  room = omega (arith, ap length c.in_ok-push.ensures.items, length_push c.places.known.items None, c.places.invariant.room);
+  upto = omega (arith, c.places-test.true);
+}
+
+pub returns-clause-nothing : goal.returns-clause-nothing
+returns-clause-nothing c = c.places.invariant.nothing
+
+pub returns-clause-room : goal.returns-clause-room
+returns-clause-room c = omega (arith, c.places.invariant.room, c.places.invariant.upto, c.places-test.false)

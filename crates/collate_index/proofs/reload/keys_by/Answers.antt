@@ -1,4 +1,4 @@
-use Rattle.std.proofs.Common.{◌≡◌, ◌↔◌, ◌<◌, ◌≤◌, ℕ, List, [], ◌∷◌, ◌++◌, Bor, Bool, true, Option, None, Some, drop, length, take, refl, arith, sym, ap, ◌∙◌, subst}
+use Rattle.std.proofs.Common.{◌≡◌, ℕ, List, [], ◌∷◌, ◌++◌, Bor, Bool, true, Option, None, Some, drop, length, take, refl, arith, sym, ap, ◌∙◌, subst}
 use Rattle.std.specs.Bool.{OnFalse, OnTrue}
 use Rattle.std.specs.Prelude.{if◌then◌else◌}
 use Rattle.std.specs.Iterator.{YieldsFirstBy}
@@ -9,11 +9,10 @@ use Rattle.icu_normalizer_core.specs.Decoding.{utf8_chars}
 use Rattle.icu_normalizer_core.proofs.decoded.DecodedLemmas.{utf8_scalars}
 use Rattle.icu_collator.specs.CollatorAnswers.{key_by}
 use Rattle.collate_laws.specs.Unchanged.{ReachesUnchanged}
-use Rattle.collate_records.specs.Changes.{AreSettingsEqual}
 use Rattle.collate_name_list.specs.Slots.{lent_name}
 use Rattle.collate_name_list.specs.StoredNames.{StoredName, names_of, rekeyed, with_key}
 use Rattle.collate_index.specs.Catalogue.{Catalogue, meaning_in, reloaded}
-use Rattle.collate_index.specs.Changes.{TwoRecords}
+use Rattle.collate_records.specs.Differences.{TwoFiles}
 use Rattle.collate_index.specs.Keys.{IsKeyed, catalogue, key_of_name}
 use Rattle.collate_index.specs.Reloads.{IsTouched}
 use Rattle.collate_index.proofs.making.LentLemmas.{lent_keys}
@@ -87,8 +86,8 @@ loop-name-preserved c =
           (one_more old new c.keep_rules.ensures.accepted c.keep_rules-2.ensures.accepted
           so_far later stored (if due then made else stored.key) due c.settings_equal-is_set_alike.result c.loop-name.name-iterator c.loop-name.made c.renewed.new.made
           c.loop-name.invariant.so_far first c.settings_equal-is_set_alike.ensures
-          (subst (λ (files : TwoRecords). OnTrue due (c.settings_equal-is_set_alike.result ≡ true → IsTouched files.before files.after c.in-Some.name.now)) c.loop-name.invariant.changes c.in_ok-is_due.ensures.due)
-          (subst (λ (files : TwoRecords). OnFalse due ((c.settings_equal-is_set_alike.result ≡ true) × ReachesUnchanged files.before files.after text)) c.loop-name.invariant.changes c.in_ok-is_due.ensures.other)
+          (subst (λ (files : TwoFiles). OnTrue due (c.settings_equal-is_set_alike.result ≡ true → IsTouched files.before files.after c.in-Some.name.now)) c.loop-name.invariant.changes c.in_ok-is_due.ensures.due)
+          (subst (λ (files : TwoFiles). OnFalse due ((c.settings_equal-is_set_alike.result ≡ true) × ReachesUnchanged files.before files.after text)) c.loop-name.invariant.changes c.in_ok-is_due.ensures.other)
           refl c.in_ok-key.ensures.made);
       left = sym (ap (λ (ks : List (Option (List ℕ))). drop (length ks) all) pushed ∙ more.1);
       upto = omega (arith, ap length pushed, ap length dropped, length-drop (length keys) all, c.loop-name.invariant.upto);

@@ -17,9 +17,25 @@ renumber-requires c =
     numbers_within key_order c.self.inside.slots.items c.self.inside.by_key c.as_slice-2.result.now c.self.invariant.by_key
     (c.as_slice-2.ensures.value ∙ c.in_ok-numbers.ensures ∙ ap (numbers_from 0) c.as_slice.ensures.value)
 
-pub reorder-requires : goal.reorder-requires
-reorder-requires c =
+pub reorder-requires-clause-length : goal.reorder-requires-clause-length
+reorder-requires-clause-length c =
     ap length c.drop_empty-2.ensures ∙ length_full c.self.inside.slots.items ∙ ap length (entries_are c.self.inside.slots.items ∙ c.self.view_is) ∙ sym c.requires
+
+pub reorder-requires-clause-order : goal.reorder-requires-clause-order
+reorder-requires-clause-order c =
+    let dense : Inside = record { alloc = c.self.inside.alloc; slots = c.drop_empty-2.new.slots; by_key = c.renumber.new.self; hashes = c.drop_empty.new.self } in
+    let kept : IsKept dense =
+    kept_dense c.self.inside dense c.in_ok-numbers.numbers.items c.self.invariant (c.in_ok-numbers.ensures ∙ ap (numbers_from 0) c.as_slice.ensures.value) c.drop_empty-2.ensures
+    (c.renumber.ensures ∙ ap (λ ns. renumbered ns c.self.inside.by_key) c.as_slice-2.ensures.value) c.drop_empty.ensures.hashes c.drop_empty.ensures.seed in
+    kept.by_key
+
+pub reorder-requires-clause-fronts : goal.reorder-requires-clause-fronts
+reorder-requires-clause-fronts c =
+    let dense : Inside = record { alloc = c.self.inside.alloc; slots = c.drop_empty-2.new.slots; by_key = c.renumber.new.self; hashes = c.drop_empty.new.self } in
+    let kept : IsKept dense =
+    kept_dense c.self.inside dense c.in_ok-numbers.numbers.items c.self.invariant (c.in_ok-numbers.ensures ∙ ap (numbers_from 0) c.as_slice.ensures.value) c.drop_empty-2.ensures
+    (c.renumber.ensures ∙ ap (λ ns. renumbered ns c.self.inside.by_key) c.as_slice-2.ensures.value) c.drop_empty.ensures.hashes c.drop_empty.ensures.seed in
+    kept.fronts
 
 pub invariant_of-self : goal.invariant_of-self
 invariant_of-self c =

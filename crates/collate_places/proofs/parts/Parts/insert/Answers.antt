@@ -1,14 +1,11 @@
-use Rattle.std.proofs.Common.{◌+◌, ◌<◌, All, length, drop, sym, ap, subst, arith}
-use Rattle.collate_places.proofs.Rows.{length-starts_from}
-use Rattle.collate_places.proofs.Places.{raise_ready}
+use Rattle.std.proofs.Common.{ℕ, sym, subst, arith}
+use Rattle.collate_places.specs.Parts.{IsFreeFor}
 use Rattle.collate_places.proofs.parts.Parts.insert.Goals as goal
 
-pub raise-requires-clause-within : goal.raise-requires-clause-within
-raise-requires-clause-within c =
-    omega (arith, c.free_place-part.ensures.free.at.within, ap length c.free_place-part.ensures.sound.starts, length-starts_from 0 c.free_place-part.new.self.lists.items)
+pub put_at-requires-clause-free : goal.put_at-requires-clause-free
+put_at-requires-clause-free c =
+    let free = c.free_place-part.ensures.free in
+    subst (λ (rank : ℕ). IsFreeFor c.free_place-part.new.self.lists.items rank c.free_place-part.result.0 c.free_place-part.result.1) (sym free.at.ranked) free
 
-pub raise-requires-clause-space : goal.raise-requires-clause-space
-raise-requires-clause-space c =
-    let next = c.free_place-part.result.0 + 1 in
-    subst (λ xs. All (λ start. start < 18446744073709551615) (drop next xs)) (sym c.free_place-part.ensures.sound.starts)
-    (raise_ready c.free_place-part.new.self.lists.items next 18446744073709551615 (omega (arith, c.free_place-part.ensures.sound.count, c.free_place-part.ensures.count)))
+pub put_at-requires-clause-rank : goal.put_at-requires-clause-rank
+put_at-requires-clause-rank c = omega (arith, c.free_place-part.ensures.free.at.ranked, c.requires.rank, c.free_place-part.ensures.count)
