@@ -34,6 +34,7 @@ static void answer(const icu::Collator &collator, Names &names, std::unordered_s
 
 int main() {
     std::ios::sync_with_stdio(false);
+    std::cin.tie(nullptr);
     UErrorCode status = U_ZERO_ERROR;
     const icu::Collator *collator = icu::Collator::createInstance(icu::Locale::getRoot(), status);
     if (U_FAILURE(status)) return 1;
@@ -41,6 +42,7 @@ int main() {
     std::unordered_set<std::string> bytes;
     for (std::string line; std::getline(std::cin, line);) {
         answer(*collator, names, bytes, line);
-        std::cout.flush(); // as `collate`, which writes each reply before it reads on
+        // as `collate`, which writes together the replies to what it has read
+        if (std::cin.rdbuf()->in_avail() <= 0) std::cout.flush();
     }
 }

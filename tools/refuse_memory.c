@@ -4,7 +4,7 @@
  *     refused REQUEST LINES BYTES WRITTEN    how many lines had been read whole from standard input, how many bytes of the
  *                                            next one, and how many lines had been written
  *     ended REQUESTS HELD                    how many requests were made, and how many blocks nobody gave back
- * So that this can be told, a read from standard input gives one byte. */
+ * So that this can be told, a read from standard input gives one byte, or, if BY_LINE is set, one line. */
 #define _GNU_SOURCE
 #include <errno.h>
 #include <fcntl.h>
@@ -19,7 +19,7 @@ extern void __libc_free(void *block);
 
 enum { MOST = 64 };
 static unsigned long refused[MOST], requests, lines, bytes, written;
-static int count, goes_on, file = -1;
+static int count, goes_on, by_line, file = -1;
 static long held;
 
 __attribute__((constructor)) static void begin(void) {
@@ -30,6 +30,7 @@ __attribute__((constructor)) static void begin(void) {
         goes_on = *end == '+';
         text = *end == ',' ? end + 1 : NULL;
     }
+    by_line = getenv("BY_LINE") != NULL;
     file = name ? open(name, O_WRONLY | O_CREAT | O_TRUNC, 0600) : -1;
     requests = lines = bytes = written = 0;
     held = 0;
@@ -97,16 +98,21 @@ void free(void *block) {
 }
 
 ssize_t read(int from, void *buffer, size_t size) {
-    ssize_t read_bytes = syscall(SYS_read, from, buffer, from == 0 && size > 1 ? 1 : size);
-    if (from != 0)
-        return read_bytes;
-    if (read_bytes == 1 && *(char *)buffer != '\n') {
-        bytes++;
-    } else if (read_bytes == 1 || (read_bytes == 0 && bytes != 0)) {
+    if (from != 0 || size == 0)
+        return syscall(SYS_read, from, buffer, size);
+    char *text = buffer;
+    size_t taken = 0;
+    ssize_t given;
+    do
+        given = syscall(SYS_read, from, text + taken, 1);
+    while (given == 1 && text[taken++] != '\n' && by_line && taken < size);
+    if (taken ? text[taken - 1] == '\n' : given == 0 && bytes != 0) {
         lines++;
         bytes = 0;
+    } else {
+        bytes += taken;
     }
-    return read_bytes;
+    return taken ? (ssize_t)taken : given;
 }
 
 ssize_t write(int to, const void *buffer, size_t size) {

@@ -10,7 +10,8 @@ is refused one request, of all that it makes each in turn; then one and all that
 only each Nth is tried alone, and as few others.
 
 For each refusal it is known at which line of the input it came, within the line or behind it, and how many lines had been written.
-A run of `collate` that is refused one before the first line, or while it reads a line, either ends there with `collate: memory`,
+`collate` reads a byte at a time, and then, in runs of their own, a line at a time, where a line that is being read is one that is
+there. A run of `collate` that is refused one before the first line, or while it reads a line, either ends there with `collate: memory`,
 behind the replies to the commands before, or replies to all. One that is refused while it answers a command either replies
 `memory` to this command, where that is one that takes memory, and to the others as if it weren't there; or replies to it. A run of
 `tests_refused_memory`, which makes each call of the libraries that takes memory, prints for each call what is stored in its
@@ -66,7 +67,8 @@ def stored_run(name):
 class Commands:
     """A run of `collate`, and what the other reading answers to it."""
 
-    def __init__(self, oracle, file, words, commands):
+    def __init__(self, oracle, file, words, commands, is_by_line):
+        self.is_by_line = is_by_line
         self.commands, self.data = commands, ''.join(f'{command}\n' for command in commands).encode()
         served = functools.lru_cache(maxsize=None)(
             lambda asked: oracle.serve(oracle.choice(['records', *words]), file, ''.join(f'{c}\n' for c in asked).encode()))
@@ -96,8 +98,9 @@ class Commands:
         if has_ended and not answer.out and opening and not reading and not answering:
             return 'ended before the first line'
         place, left_out = 0, []
+        ending = answering if self.is_by_line else reading
         for number, command in enumerate(self.commands):
-            if has_ended and place == len(answer.out) and number in reading and max(reading | answering) == number:
+            if has_ended and place == len(answer.out) and number in ending and max(reading | answering) == number:
                 return f'ended at a line, {len(left_out)} times replied memory'
             before, through = self.served(number, left_out)[0], self.served(number + 1, left_out)[0]
             reply = through[len(before):]
@@ -246,10 +249,12 @@ class Refusing:
         with open(os.path.join(self.folder, 'records'), 'wb') as records:
             records.write(file)
 
-    def answer(self, command, data, refused):
-        """What a run answers that is refused these requests."""
+    def answer(self, command, data, refused, is_by_line=False):
+        """What a run answers that is refused these requests, and reads a line at a time or a byte."""
         told = os.path.join(self.folder, f'told{refused}')
         environment = {**os.environ, 'LD_PRELOAD': self.library, 'REFUSED': refused, 'REFUSALS': told}
+        if is_by_line:
+            environment['BY_LINE'] = '1'
         run = subprocess.run(command, input=data, cwd=self.folder, env=environment, capture_output=True, check=False)
         with open(told, encoding='ascii') as lines:
             words = [line.split() for line in lines]
@@ -259,9 +264,9 @@ class Refusing:
         return Answer(run.stdout, run.stderr, run.returncode, refusals, requests, held)
 
 
-def refused_runs(refusing, command, data, kind_of, title):
+def refused_runs(refusing, command, data, kind_of, title, is_by_line=False):
     """Refuses a program its requests, prints how often each kind of answer is given, and how many answers are others."""
-    whole = refusing.answer(command, data, '0')
+    whole = refusing.answer(command, data, '0', is_by_line)
     counts, others = collections.Counter(), []
     draw = random.Random(SEED)
     some, each = range(1, whole.requests + 1, refusing.step), range(1, whole.requests + 1)
@@ -271,7 +276,7 @@ def refused_runs(refusing, command, data, kind_of, title):
     with concurrent.futures.ThreadPoolExecutor(SIDE_BY_SIDE) as pool:
         for way, refused in {'none': ['0'], **ways}.items():
             counts.clear()
-            for numbers, answer in pool.map(lambda numbers: (numbers, refusing.answer(command, data, numbers)), refused):
+            for numbers, answer in pool.map(lambda numbers: (numbers, refusing.answer(command, data, numbers, is_by_line)), refused):
                 kind = kind_of(answer) if answer.held == 0 and (answer.refusals or numbers == '0') else None
                 counts[kind or 'ANOTHER ANSWER'] += 1
                 if not kind:
@@ -287,9 +292,10 @@ def refuse_commands(oracle, refusing):
     file, differ = ''.join(f'{line}\n' for line in LETTERS).encode(), 0
     for records, options, commands in [*map(stored_run, STORED), *((file, *run) for run in RUNS)]:
         refusing.put(records)
-        asked = Commands(oracle, records, options, commands)
-        title = f'collate, {len(commands)} commands {" ".join(options)}'
-        differ += refused_runs(refusing, [PROGRAM, 'records', *options], asked.data, asked.kind, title)
+        for is_by_line in (False, True):
+            asked = Commands(oracle, records, options, commands, is_by_line)
+            title = f'collate, {len(commands)} commands {" ".join(options)}, by {"line" if is_by_line else "byte"}'
+            differ += refused_runs(refusing, [PROGRAM, 'records', *options], asked.data, asked.kind, title, is_by_line)
     return differ
 
 

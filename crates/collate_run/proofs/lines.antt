@@ -2,6 +2,7 @@
 pub mod CommandLineExampleLemmas
 pub mod CommandLineLemmas
 pub mod CommandLineReadLemmas
+pub mod CommandLineReadyLemmas
 pub mod RequestLemmas
 pub mod CommandLineRunLemmas
 pub mod CommandLineWholeLemmas

@@ -1,3 +1,4 @@
+pub mod Buffered
 pub mod Over
 pub mod Reading
 pub mod Replies

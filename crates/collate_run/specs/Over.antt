@@ -1,5 +1,5 @@
 -- What the program does where FILE is put over a root: it serves the join of both, and tells a fault by the file that has its line.
-use Rattle.std.specs.Prelude.{ℕ, ◌-◌, Option, Result, List, ◌++◌, codes, MatchOption, MatchResult}
+use Rattle.std.specs.Prelude.{ℕ, Option, Result, List, ◌++◌, codes, MatchOption, MatchResult}
 use denote.Bor.{Bor}
 use Rattle.collate_join.specs.Join.{IsJoin, origin_of}
 use Rattle.collate_join.specs.declared.Joined.{Joined}

@@ -3,6 +3,8 @@
 //! commands alone.
 #![tactic(auto)]
 
+pub mod buffered;
+mod fused;
 pub mod over;
 pub mod program;
 mod replies;

@@ -5,8 +5,9 @@ ghost use Rattle.collate_run.specs.Over.{ServesJoined, ServesOver, join_line, pl
 ghost use Rattle.collate_run.specs.Served.{Tells, file_line};
 ghost use Rattle.collate_run.specs.Watched.{watched_failed, watched_inner};
 
-use crate::program::{file_bytes, run_program_within, words};
-use crate::run::run_with_seed;
+use crate::buffered::run_buffered_with_seed;
+use crate::fused::Fused;
+use crate::program::{INPUT_ROOM, file_bytes, run_program_within, words};
 use crate::serve::{FileFault, tell, tell_run_fault};
 use crate::setup::Setup;
 use crate::watched::Watched;
@@ -17,7 +18,7 @@ use collate_records::rule::{RecordsError, Rule};
 use itoa::Buffer;
 use std::alloc::Global;
 use std::fs::File;
-use std::io::{self, BufReader, Read, Write};
+use std::io::{self, BufRead, BufReader, Write};
 use std::process::ExitCode;
 
 /// Tells which line of a file breaks which rule, all as they are printed.
@@ -83,7 +84,7 @@ fn tell_file_fault<E: Write>(errors: &mut E, path: &str, fault: FileFault)
 }
 
 /// Serves a join: a run over its records. Answers the status of the program.
-fn serve_joined<R: Read, W: Write, E: Write>(
+fn serve_joined<R: BufRead, W: Write, E: Write>(
     alloc: Global,
     setup: Setup,
     choice: &Choice<'_>,
@@ -108,7 +109,7 @@ fn serve_joined<R: Read, W: Write, E: Write>(
             return 1;
         }
     };
-    match run_with_seed(
+    match run_buffered_with_seed(
         alloc,
         records,
         &choice.prefs,
@@ -125,13 +126,13 @@ fn serve_joined<R: Read, W: Write, E: Write>(
     }
 }
 
-/// Serves the words of the program, the bytes of a root and those of FILE, which is put over it, as `serve_within` serves
+/// Serves the words of the program, the bytes of a root and those of FILE, which is put over it, as `serve_buffered` serves
 /// a FILE that holds the join of both. `root_path` is the path of the root. Answers the status of the program.
 ///
-/// Status and messages are those of `serve_within`, but that a fault of the root comes before one of FILE, and that behind
+/// Status and messages are those of `serve_buffered`, but that a fault of the root comes before one of FILE, and that behind
 /// `refused LINE RULE` stands the path of the file that has the line; `refused LINE without PATH` says that FILE leaves
 /// out in that line what the root doesn't weigh.
-pub fn serve_over<R: Read, W: Write, E: Write>(
+pub fn serve_over<R: BufRead, W: Write, E: Write>(
     alloc: Global,
     setup: Setup,
     choice: Option<&Choice<'_>>,
@@ -181,7 +182,7 @@ pub fn serve_over<R: Read, W: Write, E: Write>(
 
 /// Serves the words behind ROOT, which are FILE and options, over the files of these names. `has_input` is whether there
 /// was memory for the reader. Answers the status of the program.
-fn serve_paths<R: Read, W: Write, E: Write>(
+fn serve_paths<R: BufRead, W: Write, E: Write>(
     rt: &HostRuntime,
     setup: Setup,
     root_path: &str,
@@ -228,7 +229,7 @@ fn serve_paths<R: Read, W: Write, E: Write>(
 fn serve_host_over(rt: &HostRuntime, setup: Setup, root: &str, words: &[String]) -> u8 {
     let mut writer = Watched::new(io::writer(rt));
     let mut errors = rt.stderr();
-    match BufReader::new(rt.alloc(), rt.reader()) {
+    match BufReader::with_capacity(rt.alloc(), INPUT_ROOM, Fused::new(rt.reader())) {
         Ok(input) => {
             let mut reader = Watched::new(input);
             serve_paths(

@@ -6,14 +6,16 @@ ghost use Rattle.std.specs.Result.{result_map_both};
 ghost use Rattle.collate_run.specs.Served.{IsContents, ServesWords};
 ghost use Rattle.collate_run.specs.Watched.{watched_failed, watched_inner};
 
-use crate::serve::{FileFault, serve_within};
+use crate::buffered::serve_buffered;
+use crate::fused::Fused;
+use crate::serve::FileFault;
 use crate::setup::{Limits, Setup};
 use crate::watched::Watched;
 use collate_choice::Choice;
 use std::alloc::Global;
 use std::env;
 use std::fs::File;
-use std::io::{self, BufReader, Read, Write};
+use std::io::{self, BufRead, BufReader, Read, Write};
 use std::process::ExitCode;
 
 /// The words of the program, without its name. An error if one isn't UTF-8.
@@ -61,11 +63,11 @@ pub(crate) fn file_bytes<F: Read + Drop>(
 /// Serves the words of the program: a run over the records of FILE, which is opened by its path, from the reader to the
 /// writer. `has_input` is whether there was memory for the reader; else nothing is run. Answers the status of the program.
 ///
-/// Status and messages are those of `serve_within`; want of memory for the reader is told where FILE itself has no fault.
+/// Status and messages are those of `serve_buffered`; want of memory for the reader is told where FILE itself has no fault.
 pub fn serve_words<
     F: Read + Drop,
     O: FnOnce(&str) -> io::Result<F> + Drop,
-    R: Read,
+    R: BufRead,
     W: Write,
     E: Write,
 >(
@@ -90,15 +92,18 @@ pub fn serve_words<
 {
     let Some(choice) = Choice::read(words) else {
         let file = Err(FileFault::Unreadable);
-        return serve_within(alloc, setup, None, file, reader, writer, errors);
+        return serve_buffered(alloc, setup, None, file, reader, writer, errors);
     };
     let file = file_bytes(alloc, setup.limits, has_input, opener(choice.file));
     let bytes = match &file {
         Ok(bytes) => Ok(bytes.as_slice()),
         Err(fault) => Err(*fault),
     };
-    serve_within(alloc, setup, Some(&choice), bytes, reader, writer, errors)
+    serve_buffered(alloc, setup, Some(&choice), bytes, reader, writer, errors)
 }
+
+/// How many bytes of the input a read asks for.
+pub(crate) const INPUT_ROOM: usize = 65_536;
 
 /// Serves the words of the program from standard input to standard output. Answers its status.
 fn serve_host(rt: &HostRuntime, setup: Setup, words: &[String]) -> u8 {
@@ -106,7 +111,7 @@ fn serve_host(rt: &HostRuntime, setup: Setup, words: &[String]) -> u8 {
     let opener = |path: &str| File::open(rt, path);
     let mut writer = Watched::new(io::writer(rt));
     let mut errors = rt.stderr();
-    match BufReader::new(alloc, rt.reader()) {
+    match BufReader::with_capacity(alloc, INPUT_ROOM, Fused::new(rt.reader())) {
         Ok(input) => {
             let mut reader = Watched::new(input);
             serve_words(

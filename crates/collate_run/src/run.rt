@@ -22,10 +22,10 @@ use std::io::{Read, Write};
 use thiserror::Error;
 
 /// The most bytes that a line may have, its LF not counted.
-const LINE_LIMIT: usize = 65_536;
+pub(crate) const LINE_LIMIT: usize = 65_536;
 
 /// The most bytes that a run reads.
-const INPUT_LIMIT: u64 = 4_294_967_295;
+pub(crate) const INPUT_LIMIT: u64 = 4_294_967_295;
 
 /// Why a run ended before its input did.
 #[derive(Clone, Copy, Debug, PartialEq, Eq, Error)]
@@ -59,14 +59,14 @@ struct Line {
 
 /// A line that was read, and the record lines behind it.
 #[derive(Drop)]
-struct Request {
-    line: Vec<u8>,
+pub(crate) struct Request {
+    pub(crate) line: Vec<u8>,
     /// The record lines, an LF behind each, but for those past the limit; `None` where memory for them was refused.
-    records: Option<Vec<u8>>,
+    pub(crate) records: Option<Vec<u8>>,
     /// The most bytes that a file of records may have. Once more than that are kept, no line more is.
     limit: usize,
     /// Whether the last of the lines has its LF.
-    is_ended: bool,
+    pub(crate) is_ended: bool,
 }
 
 /// Reads one byte; `None` at the end of the input.
@@ -129,7 +129,7 @@ fn next_line<R: Read>(
 }
 
 /// Writes all bytes, up to the first call that fails, an interrupted one too, or takes no byte.
-fn write_whole<W: Write>(writer: &mut Watched<W>, bytes: &[u8]) -> Result<(), RunFault>
+pub(crate) fn write_whole<W: Write>(writer: &mut Watched<W>, bytes: &[u8]) -> Result<(), RunFault>
     ensures bytes { Sends result
         (W.contents (watched_inner writer.old)) (W.contents (watched_inner writer.new)) bytes.now }
     ensures failed { watched_failed writer.new ≡ watched_failed writer.old || is_err result }
@@ -176,7 +176,7 @@ fn with_line(records: Option<Vec<u8>>, line: &[u8], limit: usize) -> Option<Vec<
 
 /// Reads the next line and the record lines behind it; `None` at the end of the input. `limit` is how many bytes a file of
 /// records may have, and `count` how many have been read.
-fn next_request<R: Read>(
+pub(crate) fn next_request<R: Read>(
     alloc: Global,
     reader: &mut Watched<R>,
     limit: usize,
@@ -233,7 +233,7 @@ fn write_parts<W: Write>(writer: &mut Watched<W>, parts: &[&[u8]]) -> Result<(),
 }
 
 /// Writes a reply, with the LF of each of its lines. It takes no memory.
-fn write_reply<W: Write>(writer: &mut Watched<W>, reply: &Reply) -> Result<(), RunFault>
+pub(crate) fn write_reply<W: Write>(writer: &mut Watched<W>, reply: &Reply) -> Result<(), RunFault>
     ensures bytes { Sends result
         (W.contents (watched_inner writer.old)) (W.contents (watched_inner writer.new)) (reply_text reply.now) }
     ensures failed { watched_failed writer.new ≡ watched_failed writer.old || is_err result }

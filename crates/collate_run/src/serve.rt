@@ -60,7 +60,7 @@ pub(crate) fn tell<E: Write>(errors: &mut E, parts: &[&[u8]])
 }
 
 /// Tells why records were refused.
-fn tell_refusal<E: Write>(errors: &mut E, error: RecordsError)
+pub(crate) fn tell_refusal<E: Write>(errors: &mut E, error: RecordsError)
     ensures { Tells (E.contents errors.old) (E.contents errors.new) (records_line error) }
 {
     match error {

@@ -10,8 +10,8 @@ use std::io::{self, Read, Write};
 /// took no byte.
 #[derive(Drop)]
 pub struct Watched<T> {
-    inner: T,
-    failed: bool,
+    pub(crate) inner: T,
+    pub(crate) failed: bool,
 }
 
 impl<T> Watched<T> {

@@ -15,19 +15,19 @@ use std::io::{self, Read, Write};
 use std::process::Abort;
 use std::test::Fail;
 
-const TEXT: &[u8] = b"add b\nadd b\nlist\nfind b\n\nreload 1\nremove b\nadd\nfind";
+pub(crate) const TEXT: &[u8] = b"add b\nadd b\nlist\nfind b\n\nreload 1\nremove b\nadd\nfind";
 
-const REPLIES: &[u8] =
+pub(crate) const REPLIES: &[u8] =
     b"added\nduplicate\nnames 1\nb\nnames 1\nb\nbad\nrefused 1 grammar\nbad\nbad\n";
 
-const OPTIONS: CollatorOptions = CollatorOptions {
+pub(crate) const OPTIONS: CollatorOptions = CollatorOptions {
     strength: Some(Strength::Primary),
     alternate_handling: None,
     max_variable: None,
     case_level: None,
 };
 
-const PREFERENCES: CollatorPreferences<'static> = CollatorPreferences {
+pub(crate) const PREFERENCES: CollatorPreferences<'static> = CollatorPreferences {
     locale: "",
     collation_type: None,
     case_first: None,

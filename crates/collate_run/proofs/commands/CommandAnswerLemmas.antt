@@ -1,5 +1,5 @@
 -- the outcomes of a reload
-use Rattle.std.proofs.Common.{◌≡◌, ◌∙◌, ◌+◌, ◌<◌, ◌≤◌, ◌++◌, ℕ, Option, Some, Result, Ok, Err, List, [], length, take, inl, refl, sym, ap, subst, arith, append-nil, ⊎_elim, Bor}
+use Rattle.std.proofs.Common.{◌≡◌, ◌∙◌, ◌+◌, ◌<◌, ◌≤◌, ◌++◌, ℕ, Option, Some, Result, Ok, Err, List, length, take, inl, refl, sym, ap, subst, arith, append-nil, ⊎_elim, Bor}
 use Rattle.std.specs.Prelude.{IfSome}
 use Rattle.std.proofs.lemmas.Bool.{cases_lt}
 use Rattle.std.proofs.lemmas.List.{take-append-le}

@@ -1,8 +1,8 @@
 -- a line, read byte by byte, and a request, read line by line
-use Rattle.std.proofs.Common.{◌≡◌, Bool, true, false, ◌||◌, ℕ, ◌+◌, ◌≤◌, Option, None, Some, Ok, List, [], ◌∷◌, ◌++◌, length, subst, sym, ap, ◌∙◌, Bor}
+use Rattle.std.proofs.Common.{◌≡◌, Bool, true, false, ◌||◌, ℕ, ◌+◌, ◌≤◌, Option, None, Some, Result, Ok, Err, List, [], ◌∷◌, ◌++◌, length, refl, subst, sym, ap, ◌∙◌, Bor}
 use Rattle.std.proofs.lemmas.List.{append-nil}
 use Rattle.std.specs.Prelude.{IfSome, option_map}
-use Rattle.std.specs.Io.KnownBytes.{Appends, Consumes, IsAtEnd}
+use Rattle.std.specs.Io.KnownBytes.{Appends, Consumes, IsAtEnd, Keeps}
 use Rattle.collate_index.specs.Catalogue.{Catalogue}
 use Rattle.collate_run.specs.Reading.{GivesByte, ReadsLine, ReadsRequest, SpellsLine, SpellsRequest, spelled}
 use Rattle.collate_run.specs.Replies.{Answers, AreFirst, behind}
@@ -10,6 +10,7 @@ use Rattle.collate_run.specs.Runs.{input_limit, line_limit}
 use Rattle.collate_run.specs.Sending.{Sends}
 use Rattle.collate_run.specs.declared.run.Line.{Line}
 use Rattle.collate_run.specs.declared.run.Request.{Request}
+use Rattle.collate_run.proofs.bytes.KnownBytesLemmas.{Appends-kept}
 
 pub byte-consumed : (old new : Option (List ℕ)) (given : Option ℕ) (byte : ℕ) → given ≡ Some byte → GivesByte old new (Ok given) → Consumes old new (byte ∷ [])
 byte-consumed old new given byte e h = subst (λ (o : Option ℕ). GivesByte old new (Ok o)) e h
@@ -30,6 +31,23 @@ pub sent-all : {E : Type 0} (value : Unit {0}) (old new : Option (List ℕ)) (by
 sent-all value old new bytes sends =
     let e : bytes ≡ sends.sent = sends.bytes_are ∙ ap (λ (xs : List ℕ). sends.sent ++ xs) sends.whole ∙ append-nil sends.sent in
     subst (λ (xs : List ℕ). Appends old new xs) (sym e) sends.appends
+
+-- all was sent, and nothing came behind it
+pub sent-kept : {E F : Type 0} (value : Unit {0}) (result : Result (Unit {0}) F) (a b c : Option (List ℕ)) (bytes : List ℕ) → Sends {E = E} (Ok value) a b bytes → Keeps b c → Sends result a c bytes
+sent-kept value (Ok done) a b c bytes sends keeps = record {
+  sent = bytes;
+  unsent = [];
+  bytes_are = sym (append-nil bytes);
+  appends = Appends-kept a b c bytes (sent-all value a b bytes sends) keeps;
+  whole = refl;
+}
+sent-kept value (Err fault) a b c bytes sends keeps = record {
+  sent = bytes;
+  unsent = [];
+  bytes_are = sym (append-nil bytes);
+  appends = Appends-kept a b c bytes (sent-all value a b bytes sends) keeps;
+  whole = tt;
+}
 
 pub unmarked : (new old : Bool) → new ≡ (old || false) → new ≡ old
 unmarked new true h = h
