@@ -3,19 +3,20 @@
 # There are 200,000 random names unless NAMES says otherwise, of 5 to 30 letters and marks, and the records of
 # bench/collator.py. Printed are seconds by the clock, and those of a processor, starts included, the least of three rounds
 # in turn, of what is there of
-#   sort_names     ./sort_names
+#   sort_names     the program, over the records (SORT_NAMES, or what ./sort_names runs, which is built first)
 #   ICU4C          the same commands over keys that ICU4C makes in its root order (bench/keys.cpp; g++, libicu-dev)
 #   glibc          `sort` under en_US.UTF-8, which is made here (Debian's package `locales`)
 #   PostgreSQL     an index by ICU's root order over a table of the names, the one statement (`postgresql`)
 #   PyICU, node, ICU4J, JDK, Perl    bench/sorts (`python3-icu`; `nodejs`; `libicu4j-java`; a JDK; `perl`)
 #   bytes          `sort` by bytes
-# `collate` is built first where it has to be (COLLATE names another executable). ICU4J names another jar.
+# Then what the program alone takes, the least of five rounds: ten names, 100,000 in order, a million, and five million in
+# at most 500 MB (`-S 500M`), with the most memory that it held. ICU4J names another jar.
 set -euo pipefail
 cd "$(dirname "$(readlink -f "$0")")/.."
 count=${1:-200000}
 work=$(mktemp -d)
 trap 'stop_server; rm -rf "$work"' EXIT
-export COLLATE=${COLLATE:-$PWD/collate} TMPDIR=$work LOCPATH=$work TIMEFORMAT='%R %U %S' ICU4J=${ICU4J:-/usr/share/java/icu4j.jar}
+export SORT_NAMES=${SORT_NAMES:-$PWD/crates/sort_names/out/sort_names} TMPDIR=$work LOCPATH=$work TIMEFORMAT='%R %U %S' ICU4J=${ICU4J:-/usr/share/java/icu4j.jar}
 postgres=$(printf '%s\n' /usr/lib/postgresql/*/bin | sort -V | tail -n 1)
 
 PYTHONPATH=bench python3 - "$count" "$work" <<'PY'
@@ -27,8 +28,8 @@ for name, lines in (('records', records()), ('names', names(int(sys.argv[1])))):
 PY
 
 # Each way: what it asks for, made outside the times (`has_`), and its sorting.
-has_sort_names() { "$COLLATE" "$work/records" </dev/null; }
-by_sort_names() { ./sort_names "$work/records"; }
+has_sort_names() { [ -x "$SORT_NAMES" ] || ./sort_names --records "$work/records" </dev/null; }
+by_sort_names() { "$SORT_NAMES" --records "$work/records"; }
 has_ICU4C() { g++ -O2 bench/keys.cpp -o "$work/keys" -licui18n -licuuc; }
 by_ICU4C() {
     "$work/keys" | paste - "$work/names" |
@@ -112,3 +113,35 @@ awk '{
     if (!($1 in wall) || $2 < wall[$1]) wall[$1] = $2
     if (!($1 in own) || $3 < own[$1]) own[$1] = $3
 } END { for (i = 1; i <= n; i++) printf "%-12s %6.2f s, %6.2f s of a processor\n", order[i], wall[order[i]], own[order[i]] }' "$work/times"
+
+# The program alone: $1 says what it sorts, the file $2, by the words behind.
+alone() {
+    python3 - "$@" <<'PY'
+import os, resource, subprocess, sys
+title, file, *words = sys.argv[1:]
+least = most = None
+for _ in range(1 if os.path.getsize(file) > 50_000_000 else 5):
+    before = resource.getrusage(resource.RUSAGE_CHILDREN)
+    with open(file, 'rb') as names, open(file + '.sorted', 'wb') as out:
+        subprocess.run(words, stdin=names, stdout=out, check=True)
+    after = resource.getrusage(resource.RUSAGE_CHILDREN)
+    spent = after.ru_utime + after.ru_stime - before.ru_utime - before.ru_stime
+    least, most = min(spent, least or spent), after.ru_maxrss
+print(f'{title:32} {least:7.3f} s of a processor, {most / 1024:5.0f} MiB at most')
+PY
+}
+
+PYTHONPATH=bench python3 - "$work" <<'PY'
+import sys
+from sets import latin as names
+made = names(5_000_000)
+for name, lines in (('ten', made[:10]), ('million', made[:1_000_000]), ('five', made)):
+    with open(f'{sys.argv[1]}/{name}', 'w', encoding='utf-8') as file:
+        file.writelines(line + '\n' for line in lines)
+PY
+head -n 100000 "$work/million" | "$SORT_NAMES" --records "$work/records" >"$work/ordered"
+alone 'ten names' "$work/ten" "$SORT_NAMES" --records "$work/records"
+alone '100,000 names in order' "$work/ordered" "$SORT_NAMES" --records "$work/records"
+alone '1,000,000 names' "$work/million" "$SORT_NAMES" --records "$work/records"
+alone '5,000,000 names, -S 500M' "$work/five" "$SORT_NAMES" --records "$work/records" -S 500M
+"$SORT_NAMES" --records "$work/records" <"$work/five" | cmp - "$work/five.sorted" || { echo "bench: parts in another order" >&2; exit 1; }

@@ -9,11 +9,13 @@
 set -euo pipefail
 top=$(cd "$(dirname "$(readlink -f "$0")")/.." && pwd)
 collate=${COLLATE:-$top/collate}
-records=(--language fr) names=''
+records=(--language fr) order=(--language fr) names=''
 export LC_ALL=C
 case ${1:-} in
---language) records=(--language "${2:?postgresql.sh [--language TAG | RECORDS] [NAMES]}") names=${3:-} ;;
-?*) records=("$(readlink -f "$1")") names=${2:-} ;;
+--language)
+    records=(--language "${2:?postgresql.sh [--language TAG | RECORDS] [NAMES]}") order=("${records[@]}") names=${3:-}
+    ;;
+?*) records=("$(readlink -f "$1")") order=(--records "${records[@]}") names=${2:-} ;;
 esac
 
 work=$(mktemp -d)
@@ -66,7 +68,7 @@ sql --command="SELECT encode(name, 'hex') FROM person ORDER BY sort_key, id" | c
 # a range between two of the names: a third and two thirds down, of those without TAB, which `between` splits at
 grep --text --invert-match $'\t' "$work/names" >"$work/plain"
 count=$(wc -l <"$work/plain")
-sed -n "$((count / 3 + 1))p; $((count * 2 / 3 + 1))p" "$work/plain" | "$top/sort_names" --keys "${records[@]}" >"$work/ends"
+sed -n "$((count / 3 + 1))p; $((count * 2 / 3 + 1))p" "$work/plain" | "$top/sort_names" --keys "${order[@]}" >"$work/ends"
 mapfile -t ends < <(cut -f 1 "$work/ends")
 { printf 'between ' && cut -f 2- "$work/ends" | paste -s; } >"$work/command"
 range="SELECT encode(name, 'hex') FROM person WHERE sort_key BETWEEN '\\x${ends[0]}' AND '\\x${ends[1]}' ORDER BY sort_key, id"

@@ -3,7 +3,7 @@
 # TAG is that of a language (sv), NAMES a file of names, a line each (a million that are made up). Each half of them gets its
 # keys by itself, as on a machine of its own, and goes to a server of its own; on the first a table has both, the other one's
 # part as a foreign table, and puts them in order by the bytes of the keys. That order is compared with the one of
-# sort_names; the status is 1 where it differs. COLLATE names another executable than that of collate_unicode.
+# sort_names; the status is 1 where it differs.
 set -euo pipefail
 top=$(cd "$(dirname "$(readlink -f "$0")")/.." && pwd)
 export LC_ALL=C

@@ -7,8 +7,9 @@
 programs='
 -         collate          1048576   150      1000
 --unicode collate_unicode  67108864  1114112  1114112
+-         sort_names       67108864  1114112  1114112
 '
-crate=collate unproved=''
+crate=collate unproved='' trouble=1 # the status of a fault
 
 say() {
     echo "$script: $*" >&2
@@ -18,7 +19,7 @@ say() {
 
 fail() {
     say "$*"
-    exit 1
+    exit "$trouble"
 }
 
 # Takes a word that chooses a program, or says how it is built; no other.
@@ -198,17 +199,24 @@ report() {
     done
 }
 
+# The words by which the program takes the records file $1.
+words_for() {
+    [ "$crate" != sort_names ] || echo --records
+    echo "$1"
+}
+
 # Proves and builds the program, and runs it once on an empty records file, which is accepted.
 build() {
     has_rt || return 1
-    local out=crates/$crate/out reporter status=0 sum
+    local out=crates/$crate/out reporter status=0 sum words
+    mapfile -t words < <(words_for /dev/null)
     mkdir -p "$out" || return 1
     say "building, see crates/$crate/out/build.log"
     : >"$out/build.began"
     sum=$(sum_of_sources)
     report "$out/build.began" &
     reporter=$!
-    (cd "crates/$crate" && rt run -- /dev/null </dev/null) >"$out/build.log" 2>&1 || status=1
+    (cd "crates/$crate" && rt run -- "${words[@]}" </dev/null) >"$out/build.log" 2>&1 || status=1
     kill "$reporter"
     wait "$reporter"
     if [ "$status" != 0 ]; then
@@ -250,14 +258,14 @@ prepare() {
         return
     fi
     [ -d "$top/crates/$crate" ] || fail "the program $crate is not there yet: no folder crates/$crate"
-    below=$("$top/tools/below.sh" "$crate") || exit 1
+    below=$("$top/tools/below.sh" "$crate") || exit "$trouble"
     program=$top/crates/$crate/out/$crate
     if [ -n "$unproved" ]; then
         program+=.unproved
         say "unproved: NOTHING is proved of this run"
-        is_current_here || { can_read "$1" && (cd "$top" && build_unproved); } || exit 1
+        is_current_here || { can_read "$1" && (cd "$top" && build_unproved); } || exit "$trouble"
     else
-        is_current_here || { can_read "$1" && (cd "$top" && build); } || exit 1
+        is_current_here || { can_read "$1" && (cd "$top" && build); } || exit "$trouble"
     fi
 }
 
@@ -294,11 +302,12 @@ why_unreadable() {
 meant_by() {
     local file
     file=$(records_folder)/${1%.records}.records
-    case $1 in
-    -*) echo "; before FILE stand --unproved, --unicode, --help or --version, --language TAG in its place, and options" \
-        "behind it, as numeric=on" ;;
-    *) [ ! -e "$file" ] || echo "; there is $file" ;;
-    esac
+    if [[ $1 == -* && $script != sort_names ]]; then
+        echo "; before FILE stand --unproved, --unicode, --help or --version, --language TAG in its place, and options" \
+            "behind it, as numeric=on"
+    elif [ -e "$file" ]; then
+        echo "; there is $file"
+    fi
 }
 
 # Whether the file $1 can be read; says so else, as the program does, and why.
@@ -327,17 +336,17 @@ explain_words() {
         echo "  no FILE is given: a records file, as $(records_folder)/swedish.records, or --language TAG" >&2
         return
     elif [[ $1 == -* && ! -e $1 ]]; then
-        echo "  not understood: $1$(meant_by "$1")" >&2
+        echo "  not understood: $(shown "$1")$(meant_by "$1")" >&2
         return
     fi
     shift
     for word in "$@"; do
         values=$(values_of "${word%%=*}")
         if [ -z "$values" ]; then
-            echo "  not understood: $word (options: $option_names)" >&2
+            echo "  not understood: $(shown "$word") (options: $option_names)" >&2
             return
         elif [[ $word != *=* || ", $values," != *", ${word#*=},"* ]]; then
-            echo "  not understood: $word (values of ${word%%=*}: $values)" >&2
+            echo "  not understood: $(shown "$word") (values of ${word%%=*}: $values)" >&2
             return
         elif [[ $seen == *" ${word%%=*} "* ]]; then
             echo "  given twice: ${word%%=*}" >&2
@@ -355,8 +364,11 @@ explain() {
     shift
     [ "${1:-}" != --over ] || shift 2
     case $said in
-    'collate: refused '*)
-        read -r line rule file <<<"${said#collate: refused }"
+    *': refused '*)
+        said=${said#*: refused } # LINE RULE, and over a root FILE, any bytes
+        line=${said%% *} said=${said#* }
+        rule=${said%% *} file=''
+        [ "$said" = "$rule" ] || file=${said#* }
         LC_ALL=C LINE=$line RULE=$rule SHOWN=${file:-$1} LIMITS=$(limits) LARGER=$(larger_limits) \
             awk -f "$top/tools/explain_limit.awk" -f "$top/tools/explain.awk" \
             "$top/docs/rules.tsv" "${file:-${file_read:-$1}}" >&2

@@ -4,7 +4,7 @@ phonebook='Afra\nÄbte\nAdler\n'
 
 walk_languages() {
     local word made=$work/made
-    put $out/collate $large/collate_unicode
+    put $out/collate $large/collate_unicode $sorting/sort_names
     says 0 $'Zetterlund\nÅkesson\nÖberg' '!:' -- given "$swedish" ./sort_names --language sv
     says 0 $'Zetterlund\nÅkesson\nÖberg' -- given "$swedish" ./sort_names --language SV-fi
     says 0 $'Zetterlund\nÖberg\nÅkesson' -- given "$swedish" ./sort_names --language nb
@@ -20,7 +20,8 @@ walk_languages() {
     says 0 $'names 3\nZetterlund\nÅkesson\nÖberg' '!:' -- \
         given 'add Öberg\nadd Zetterlund\nadd Åkesson\nlist\n' ./collate --language sv
     says 0 $'a2\na10' -- given 'a10\na2\n' ./sort_names --language sv numeric=on
-    says 0 $'a2\na10' -- given 'a10\na2\n' ./sort_names numeric=on
+    says 0 $'a2\na10' -- given 'a10\na2\n' ./sort_names --numeric
+    says 0 $'Öberg\nÅkesson\nZetterlund' -- given "$swedish" ./sort_names -ru - --language=sv
     says 0 $'3d\ta' -- bash -c 'printf "a\n" | ./sort_names --keys --language fr | sed "s/^[0-9a-f]*/3d/"'
     for word in collate sort_names; do
         says 0 $'sv\tSwedish\treformed' $'zh-stroke\tChinese\tstroke' -- ./$word --list-languages
@@ -28,12 +29,15 @@ walk_languages() {
         says 2 "$word: --language: sv-u-co-phonebk has no order 'phonebook'; there are: sv-standard" -- \
             ./$word --language sv-u-co-phonebk
         says 2 "$word: in a tag -u-kn is not understood" -- ./$word --language sv-u-kn
-        says 2 "usage: $word" "no TAG is given" -- ./$word --language
-        says 2 "usage: $word" "no FILE is given: $latin" -- ./$word --language sv $latin
-        says 2 "usage: $word" "values of strength: primary" -- ./$word --language sv strength=on
+        says 2 "values of strength: primary" -- ./$word --language sv strength=on
         says 2 "there is no root.records in docs" -- env COLLATE_RECORDS=docs ./$word --language sv
     done
-    says 2 "usage: sort_names" "a language is given, and --merge" -- ./sort_names --language sv --merge $latin
+    says 2 "usage: collate" "no TAG is given" -- ./collate --language
+    says 2 "usage: collate" "no FILE is given: $latin" -- ./collate --language sv $latin
+    says 2 "no value is given behind --language" -- ./sort_names --language
+    says 2 "given twice: --records or --language" -- ./sort_names --language sv --language sv
+    # by a language each operand is a list
+    says 0 "class" -- ./sort_names --quiet --language sv $latin
     # the environment, by the first variable that is set
     for word in 'LC_ALL=sv_SE.UTF-8@x LANG=de_DE' 'LC_ALL= LC_COLLATE=sv_FI LANG=de_DE' 'LC_ALL= LANG=sv'; do
         says 0 $'Zetterlund\nÅkesson\nÖberg' -- given "$swedish" env $word ./sort_names
@@ -52,7 +56,7 @@ walk_languages() {
     says 0 $'b\na' -- given 'a\nb\n' env COLLATE_RECORDS="$made" ./sort_names --language sv
     says 0 $'a\nb' -- given 'b\na\n' env COLLATE_RECORDS="$made" ./sort_names --language de
     printf '\n# without 0303\n' >"$made/languages/sv.records"
-    says 1 "collate: refused 2 without $made/languages/sv.records" "line 2: # without 0303" "  without: a line" -- \
+    says 2 "sort_names: refused 2 without $made/languages/sv.records" "line 2: # without 0303" "  without: a line" -- \
         env COLLATE_RECORDS="$made" ./sort_names --language sv
     printf '# without 0301 |\n' >"$made/languages/sv.records"
     says 1 "collate: refused 1 without $made/languages/sv.records" "line 1: # without 0301 |" -- \

@@ -2,3 +2,4 @@
 #![tactic(auto)]
 
 pub mod column;
+pub mod part;

@@ -2,7 +2,7 @@
 use Rattle.std.proofs.Common.{◌≡◌, ℕ, List, refl, ap, ◌∙◌}
 use Rattle.std.specs.Cmp.{IsTotalOrder}
 use Rattle.std.proofs.lemmas.Cmp.{nat_list_cmp_total, on_total}
-use Rattle.collate_columns.specs.Columns.{column_of}
+use Rattle.collate_columns.specs.LineParts.{part_of}
 use Rattle.collate_keyed_lines.specs.KeyedLines.{KeyedLine, key_order, turned}
 use Rattle.collate_keyed_lines.specs.declared.direction.Direction.{Direction}
 use Rattle.collate_keyed_lines.specs.declared.direction.Direction.TheVariants.{Ascending, Descending}
@@ -15,7 +15,7 @@ use Rattle.collate_merge.specs.Sources.{key_in, source_order}
 use Rattle.collate_merge.specs.declared.sources.Source.{Source}
 
 pub order_total : (m : Merge) → IsTotalOrder (order_in m)
-order_total m = on_total (line_by m.column) (line_order_total m.rule)
+order_total m = on_total (line_by m.part) (line_order_total m.rule)
 
 pub sources_total : {R : Type 0} (d : Direction) → IsTotalOrder (source_order {R = R} d)
 sources_total {R} d = on_total (λ (s : Source R). s.key.items) (turned_total byte_order nat_list_cmp_total d)
@@ -26,7 +26,7 @@ same_keys Descending a b = refl
 
 module _ (m : Merge) (accepted : AreAccepted m.rule.records.lines) where
   keyed : List ℕ → KeyedLine
-  keyed line = record { line = line; text = column_of m.column line; key = key_in m line }
+  keyed line = record { line = line; text = part_of m.part line; key = key_in m line }
 
   keys_compare : (a b : List ℕ) → turned m.rule.direction byte_order (key_in m a) (key_in m b) ≡ order_in m a b
   unfolding keyed

@@ -1,8 +1,8 @@
 -- a source that reads its next line, and goes on to it
 use Rattle.std.proofs.Common.{◌≡◌, ℕ, suc, ◌+◌, Bool, true, false, Option, Some, List, [], ◌∷◌, length, refl, sym, ap, ◌∙◌, subst, arith}
 use Rattle.std.specs.Prelude.{IfSome, MatchBool}
-use Rattle.collate_columns.specs.Columns.{column_of}
-use Rattle.collate_columns.specs.declared.column.Column.{Column}
+use Rattle.collate_columns.specs.LineParts.{part_of}
+use Rattle.collate_columns.specs.declared.part.LinePart.{LinePart}
 use Rattle.collate_keyed_lines.specs.KeyedLines.{turned}
 use Rattle.collate_keyed_lines.specs.declared.direction.Direction.{Direction}
 use Rattle.collate_names.specs.Names.{is_greater}
@@ -36,11 +36,11 @@ module _ {R : Type 0} (remaining : R → Option (List ℕ)) (m : Merge) (all : �
   left_none left t done h = subst (λ (b : Bool). MatchBool b (left ≡ []) ((more : List (List ℕ)) × (left ≡ t.line.items ∷ more) × HasLine remaining m all more t)) (sym done) h
 
   -- a line was read, and its key made
-  pub read_more : (rest : List ℕ) (s t : Source R) (more : Bool) (rule : LineRule) (column : Column) → IsBehind remaining m all rest s → m.rule ≡ rule → m.column ≡ column
-      → t.is_done ≡ false → more ≡ true → separator_of t.lines ≡ separator_of s.lines → t.count ≡ s.count + 1 → t.key.items ≡ key_by_rule rule (column_of column t.line.items)
+  pub read_more : (rest : List ℕ) (s t : Source R) (more : Bool) (rule : LineRule) (part : LinePart) → IsBehind remaining m all rest s → m.rule ≡ rule → m.part ≡ part
+      → t.is_done ≡ false → more ≡ true → separator_of t.lines ≡ separator_of s.lines → t.count ≡ s.count + 1 → t.key.items ≡ key_by_rule rule (part_of part t.line.items)
       → IfSome (remaining (reader_inside s.lines)) (λ bytes. ReadsLine (separator_of s.lines) bytes more t.line.items (remaining (reader_inside t.lines)))
       → HasLeft remaining m all (lines_in m.separator rest) t
-  read_more rest s t more rule column behind by_rule by_column here there separator count key told =
+  read_more rest s t more rule part behind by_rule by_part here there separator count key told =
       let read : ReadsLine m.separator rest true t.line.items (remaining (reader_inside t.lines)) =
       subst (λ (b : Bool). ReadsLine m.separator rest b t.line.items (remaining (reader_inside t.lines))) there
       (line_read rest s behind more t.line.items (remaining (reader_inside t.lines)) told) in
@@ -53,7 +53,7 @@ module _ {R : Type 0} (remaining : R → Option (List ℕ)) (m : Merge) (all : �
           behind = record { known = read.1; separator = separator ∙ behind.separator; counted = omega (arith, count, behind.counted, long) };
           more_is = refl;
           key_is =
-              key ∙ sym (ap (λ (r : LineRule). key_by_rule r (column_of m.column t.line.items)) by_rule ∙ ap (λ (c : Column). key_by_rule rule (column_of c t.line.items)) by_column);
+              key ∙ sym (ap (λ (r : LineRule). key_by_rule r (part_of m.part t.line.items)) by_rule ∙ ap (λ (c : LinePart). key_by_rule rule (part_of c t.line.items)) by_part);
         },
       )
 

@@ -2,8 +2,8 @@
 use Rattle.std.specs.Prelude.{◌≡◌, ℕ, ◌-◌, ◌<◌, Bool, false, Option, Some, List, [], ◌∷◌, ◌++◌, flat_map, length, map, slice_index_or, ⊤}
 use Rattle.std.specs.Io.KnownBytes.{Appends}
 use Rattle.std.specs.declared.cmp.Ordering.{Ordering}
-use Rattle.collate_columns.specs.Columns.{column_of}
-use Rattle.collate_columns.specs.declared.column.Column.{Column}
+use Rattle.collate_columns.specs.LineParts.{part_of}
+use Rattle.collate_columns.specs.declared.part.LinePart.{LinePart}
 use Rattle.collate_keyed_lines.specs.KeyedLines.{AreInOrder, IsFirstUnordered}
 use Rattle.collate_sort.specs.Orders.{Line, LineRule, line_order}
 use Rattle.collate_merge.specs.Lines.{lines_in}
@@ -11,24 +11,24 @@ use Rattle.collate_merge.specs.Merged.{merged, ordered_parts_merged}
 use Rattle.collate_merge.specs.declared.merge.MergeError.{MergeError}
 use Rattle.collate_merge.specs.declared.merge.MergeError.TheVariants.{Read, Unordered}
 
--- by which rule lines compare, by what column of them, whether of equal ones the first alone is wanted, and what ends a line
+-- by which rule lines compare, what of them is compared, whether of equal ones the first alone is wanted, and what ends a line
 pub record Merge : Type 0 where
   pub rule : LineRule
-  pub column : Column
+  pub part : LinePart
   pub unique : Bool
   pub separator : ℕ
 
 -- what is asked for, of these
-abbrev pub merge_of : LineRule → Column → Bool → ℕ → Merge
-merge_of rule column unique separator = record { rule = rule; column = column; unique = unique; separator = separator }
+abbrev pub merge_of : LineRule → LinePart → Bool → ℕ → Merge
+merge_of rule part unique separator = record { rule = rule; part = part; unique = unique; separator = separator }
 
--- a line, with what the column holds of it
-abbrev pub line_by : Column → List ℕ → Line
-line_by column line = record { line = line; text = column_of column line }
+-- a line, with what of it is compared
+abbrev pub line_by : LinePart → List ℕ → Line
+line_by part line = record { line = line; text = part_of part line }
 
 -- how two lines compare
 abbrev pub order_in : Merge → List ℕ → List ℕ → Ordering
-order_in m a b = line_order m.rule (line_by m.column a) (line_by m.column b)
+order_in m a b = line_order m.rule (line_by m.part a) (line_by m.part b)
 
 -- lines, what ends a line behind each
 abbrev pub text_of : ℕ → List (List ℕ) → List ℕ

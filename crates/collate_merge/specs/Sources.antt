@@ -2,7 +2,7 @@
 use Rattle.std.specs.Prelude.{◌≡◌, ℕ, ◌+◌, ◌<◌, All, false, true, IfErr, MatchBool, Option, None, Some, Result, OnOk, List, [], ◌∷◌, length, slice_index_or, ⊤}
 use Rattle.std.specs.Io.KnownBytes.{Appends}
 use Rattle.std.specs.declared.cmp.Ordering.{Ordering}
-use Rattle.collate_columns.specs.Columns.{column_of}
+use Rattle.collate_columns.specs.LineParts.{part_of}
 use Rattle.collate_keyed_lines.specs.KeyedLines.{turned}
 use Rattle.collate_keyed_lines.specs.declared.direction.Direction.{Direction}
 use Rattle.collate_names.specs.Names.{is_greater}
@@ -20,7 +20,7 @@ use Rattle.collate_merge.specs.declared.sources.Source.{Source}
 
 -- the key of a line
 abbrev pub key_in : Merge → List ℕ → List ℕ
-key_in m line = key_by_rule m.rule (column_of m.column line)
+key_in m line = key_by_rule m.rule (part_of m.part line)
 
 -- how sources compare by their keys
 abbrev pub source_order : {R : Type 0} → Direction → Source R → Source R → Ordering

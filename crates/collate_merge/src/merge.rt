@@ -7,7 +7,7 @@ ghost use Rattle.collate_merge.specs.Sources.{AreLeft, Goes, HasLine, IsOutput, 
 
 use crate::output::Output;
 use crate::sources::{Source, least};
-use collate_columns::column::Column;
+use collate_columns::part::LinePart;
 use collate_sort::order::LineOrder;
 use std::alloc::Global;
 use std::io::{self, BufRead, Write};
@@ -35,7 +35,7 @@ pub enum MergeError {
 }
 
 /// Writes the lines of readers, each of which is in order, in order: equal lines in the order of the readers, and then
-/// as they stood. Compared is what the column holds of a line, by the order; a line ends at a separator, the last one
+/// as they stood. Compared is that part of a line, by the order; a line ends at a separator, the last one
 /// there or at the end, and each is written with one. With `unique`, of equal lines the first alone is written. At no
 /// time it holds more of a reader than a line and two keys. It doesn't flush the writer.
 ///
@@ -45,7 +45,7 @@ pub enum MergeError {
 pub fn merge_lines<R, W>(
     alloc: Global,
     order: &LineOrder,
-    column: Column,
+    part: LinePart,
     unique: bool,
     separator: u8,
     readers: Vec<R>,
@@ -55,38 +55,38 @@ where
     R: BufRead + Drop,
     W: Write,
     ensures merged { (files : List (List ℕ)) → HaveLeft R.remaining readers.items files
-        → OnOk result (Appends (W.contents writer.old) (W.contents writer.new) (merged_text (merge_of order.now column unique separator) files)) }
+        → OnOk result (Appends (W.contents writer.old) (W.contents writer.new) (merged_text (merge_of order.now part unique separator) files)) }
     ensures ordered { (files : List (List ℕ)) → HaveLeft R.remaining readers.items files
-        → OnOk result (All (IsOrdered (merge_of order.now column unique separator)) files) }
+        → OnOk result (All (IsOrdered (merge_of order.now part unique separator)) files) }
     ensures first_part { (files : List (List ℕ)) → HaveLeft R.remaining readers.items files
-        → GotFirstPart (W.contents writer.old) (W.contents writer.new) (ordered_text (merge_of order.now column unique separator) files) }
+        → GotFirstPart (W.contents writer.old) (W.contents writer.new) (ordered_text (merge_of order.now part unique separator) files) }
     ensures told { (files : List (List ℕ)) → HaveLeft R.remaining readers.items files
-        → IfErr result (IsTrueOf (merge_of order.now column unique separator) files) }
+        → IfErr result (IsTrueOf (merge_of order.now part unique separator) files) }
 {
-    let mut sources = match open_all(alloc, order, column, separator, readers) {
+    let mut sources = match open_all(alloc, order, part, separator, readers) {
         Ok(sources) => sources,
         Err(error) => return Err(error),
     };
     let mut output = Output::new(alloc, order.direction(), unique, separator);
-    merge_sources(order, column, &mut sources, &mut output, writer)
+    merge_sources(order, part, &mut sources, &mut output, writer)
 }
 
 /// Reads the first line of each reader.
 fn open_all<R: BufRead + Drop>(
     alloc: Global,
     order: &LineOrder,
-    column: Column,
+    part: LinePart,
     separator: u8,
     readers: Vec<R>,
 ) -> Result<Vec<Source<R>>, MergeError>
-    ensures opened { (m : Merge) (files : List (List ℕ)) → (m.rule ≡ order.now) × (m.column ≡ column) × (m.separator ≡ separator) → HaveLeft R.remaining readers.items files
+    ensures opened { (m : Merge) (files : List (List ℕ)) → (m.rule ≡ order.now) × (m.part ≡ part) × (m.separator ≡ separator) → HaveLeft R.remaining readers.items files
         → IfOk result (λ sources. AreLeft R.remaining m files (parts_of m files) sources.items) }
     ensures told { (m : Merge) (files : List (List ℕ)) → HaveLeft R.remaining readers.items files → IfErr result (IsTrueOf m files) }
 {
     let mut sources = Vec::new(alloc);
     for reader in readers {
         let place = sources.len();
-        let source = match Source::open(alloc, order, column, place, reader, separator) {
+        let source = match Source::open(alloc, order, part, place, reader, separator) {
             Ok(source) => source,
             Err(error) => return Err(error),
         };
@@ -101,12 +101,12 @@ fn open_all<R: BufRead + Drop>(
 /// Writes the lines that sources have left, in order.
 fn merge_sources<R: BufRead + Drop, W: Write>(
     order: &LineOrder,
-    column: Column,
+    part: LinePart,
     sources: &mut Vec<Source<R>>,
     output: &mut Output,
     writer: &mut W,
 ) -> Result<(), MergeError>
-    ensures { (m : Merge) (files : List (List ℕ)) → (m.rule ≡ order.now) × (m.column ≡ column) → AreLeft R.remaining m files (parts_of m files) sources.old.items
+    ensures { (m : Merge) (files : List (List ℕ)) → (m.rule ≡ order.now) × (m.part ≡ part) → AreLeft R.remaining m files (parts_of m files) sources.old.items
         → IsOutput m None output.old → Merges m files result (W.contents writer.old) (W.contents writer.new) }
 {
     order.keep_rules();
@@ -115,7 +115,7 @@ fn merge_sources<R: BufRead + Drop, W: Write>(
             Some(place) => place,
             None => return Ok(()),
         };
-        match step(order, column, place, &mut sources[place], output, writer) {
+        match step(order, part, place, &mut sources[place], output, writer) {
             Ok(()) => {}
             Err(error) => return Err(error),
         }
@@ -126,20 +126,20 @@ fn merge_sources<R: BufRead + Drop, W: Write>(
 /// Writes the first line that a source has left, and goes on to the next.
 fn step<R: BufRead, W: Write>(
     order: &LineOrder,
-    column: Column,
+    part: LinePart,
     place: usize,
     source: &mut Source<R>,
     output: &mut Output,
     writer: &mut W,
 ) -> Result<(), MergeError>
-    ensures { (m : Merge) (all : ℕ) (more : List (List ℕ)) (last : Option (List ℕ)) → (m.rule ≡ order.now) × (m.column ≡ column)
+    ensures { (m : Merge) (all : ℕ) (more : List (List ℕ)) (last : Option (List ℕ)) → (m.rule ≡ order.now) × (m.part ≡ part)
         → HasLine R.remaining m all more source.old → IsOutput m last output.old
         → Goes R.remaining m all source.old.line.items more last place result source.new output.new (W.contents writer.old) (W.contents writer.new) }
 {
     order.keep_rules();
     let (line, key) = source.line();
     match output.put(writer, line, key) {
-        Ok(()) => source.advance(order, column, place),
+        Ok(()) => source.advance(order, part, place),
         Err(error) => Err(error),
     }
 }

@@ -9,7 +9,7 @@ ghost use Rattle.collate_merge.specs.Sources.{Advances, HasLeft, HasLine, IsBehi
 use crate::compare::is_above;
 use crate::lines::{LineReader, ReadLineError};
 use crate::merge::MergeError;
-use collate_columns::column::Column;
+use collate_columns::part::LinePart;
 use collate_keyed_lines::direction::Direction;
 use collate_sort::order::LineOrder;
 use std::alloc::Global;
@@ -49,14 +49,14 @@ impl<R: BufRead> Source<R> {
     pub fn open(
         alloc: Global,
         order: &LineOrder,
-        column: Column,
+        part: LinePart,
         place: usize,
         reader: R,
         separator: u8,
     ) -> Result<Source<R>, MergeError>
     where
         R: Drop,
-        ensures opened { (m : Merge) (file : List ℕ) → (m.rule ≡ order.now) × (m.column ≡ column) × (m.separator ≡ separator) → R.remaining reader ≡ Some file
+        ensures opened { (m : Merge) (file : List ℕ) → (m.rule ≡ order.now) × (m.part ≡ part) × (m.separator ≡ separator) → R.remaining reader ≡ Some file
             → IfOk result (HasLeft R.remaining m (length (lines_in m.separator file)) (lines_in m.separator file)) }
         ensures fault { IfErr result (IsOfReading place) }
     {
@@ -68,15 +68,15 @@ impl<R: BufRead> Source<R> {
             count: 0,
             is_done: false,
         };
-        match source.read(order, column, place) {
+        match source.read(order, part, place) {
             Ok(()) => Ok(source),
             Err(error) => Err(error),
         }
     }
 
     /// Reads the next line, and makes its key.
-    fn read(&mut self, order: &LineOrder, column: Column, place: usize) -> Result<(), MergeError>
-        ensures read { (m : Merge) (all : ℕ) (rest : List ℕ) → (m.rule ≡ order.now) × (m.column ≡ column) → IsBehind R.remaining m all rest self.old
+    fn read(&mut self, order: &LineOrder, part: LinePart, place: usize) -> Result<(), MergeError>
+        ensures read { (m : Merge) (all : ℕ) (rest : List ℕ) → (m.rule ≡ order.now) × (m.part ≡ part) → IsBehind R.remaining m all rest self.old
             → OnOk result (HasLeft R.remaining m all (lines_in m.separator rest) self.new) }
         ensures previous { self.new.previous.items ≡ self.old.previous.items }
         ensures fault { IfErr result (IsOfReading place) }
@@ -98,7 +98,7 @@ impl<R: BufRead> Source<R> {
             Some(count) => count,
             None => return Err(MergeError::TooManyLines),
         };
-        match order.write_key(column.of(self.line.as_slice()), &mut self.key) {
+        match order.write_key(part.of(self.line.as_slice()), &mut self.key) {
             Ok(()) => Ok(()),
             Err(_) => Err(MergeError::Memory),
         }
@@ -110,15 +110,15 @@ impl<R: BufRead> Source<R> {
     pub fn advance(
         &mut self,
         order: &LineOrder,
-        column: Column,
+        part: LinePart,
         place: usize,
     ) -> Result<(), MergeError>
-        ensures { (m : Merge) (all : ℕ) (more : List (List ℕ)) → (m.rule ≡ order.now) × (m.column ≡ column) → HasLine R.remaining m all more self.old
+        ensures { (m : Merge) (all : ℕ) (more : List (List ℕ)) → (m.rule ≡ order.now) × (m.part ≡ part) → HasLine R.remaining m all more self.old
             → Advances R.remaining m all self.old.line.items more place result self.new }
     {
         order.keep_rules();
         mem::swap(&mut self.key, &mut self.previous);
-        match self.read(order, column, place) {
+        match self.read(order, part, place) {
             Ok(()) => {}
             Err(error) => return Err(error),
         }

@@ -1,9 +1,9 @@
 -- The lines of texts, what of each is compared, and lists of them in order and as they are written.
 use Rattle.std.specs.Prelude.{◌==◌, ℕ, Bool, true, false, not, List, [], ◌∷◌, ◌++◌, flat_map, if◌then◌else◌, map}
 use Rattle.std.specs.List.{prefix_len}
-use Rattle.std.specs.Io.BufRead.{strip_last}
 use Rattle.hex.specs.Hex.{encode_lower}
-use Rattle.collate_columns.specs.Columns.{column_of}
+use Rattle.collate_columns.specs.LineParts.{part_of}
+use Rattle.collate_columns.specs.declared.part.LinePart.{LinePart}
 use Rattle.collate_keyed_lines.specs.KeyedLines.{first_of_equals}
 use Rattle.collate_names.specs.Names.{in_order}
 use Rattle.collate_sort.specs.Keys.{key_by_rule}
@@ -25,9 +25,13 @@ unfoldable pub lines_of : ℕ → List ℕ → List (List ℕ)
 lines_of end [] = []
 lines_of end (byte ∷ text) = if byte == end then [] ∷ lines_of end text else onto byte (lines_of end text)
 
+-- what of each line is compared
+abbrev pub part_in : Shape → LinePart
+part_in shape = record { column = shape.column; crlf = shape.crlf }
+
 -- what of a line is compared
 abbrev pub compared : Shape → List ℕ → List ℕ
-compared shape line = column_of shape.column (if shape.crlf then strip_last 13 line else line)
+compared shape line = part_of (part_in shape) line
 
 -- a line, and what of it is compared
 abbrev pub line_by : Shape → List ℕ → Line

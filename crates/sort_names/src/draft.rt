@@ -1,6 +1,6 @@
 //! A request as the words give it, one after another.
 
-use crate::fields::{Fields, fields_of, separator_of};
+use crate::fields::{Fields, fields_of, separator_of, size_of};
 use crate::flags::{Setting, Switch, is_option_name};
 use crate::request::{OrderChoice, Request, Shape, Source, Task};
 use crate::word_faults::WordFault;
@@ -15,6 +15,8 @@ use std::alloc::{AllocError, Global};
 pub struct Draft<'w> {
     alloc: Global,
     source: Option<Source<'w>>,
+    /// Where the order comes from if no other word says so.
+    default: Option<Source<'w>>,
     /// The words that give options, behind an empty one.
     option_words: Vec<String>,
     /// The first operand that gives an option.
@@ -47,7 +49,11 @@ fn plain_request<'w>(alloc: Global) -> Request<'w> {
             column: Column::Line,
         },
         keys: false,
+        size: None,
+        folder: None,
+        progress: false,
         quiet: false,
+        csv: None,
         output: None,
         operands: Vec::new(alloc),
     }
@@ -88,6 +94,7 @@ impl<'w> Draft<'w> {
         Ok(Draft {
             alloc,
             source: None,
+            default: None,
             option_words,
             option_operand: None,
             fields: None,
@@ -105,6 +112,7 @@ impl<'w> Draft<'w> {
             }
             Task::Check { silent: false } => "-c",
             Task::Check { silent: true } => "-C",
+            Task::Merge => "-m",
             Task::Unknown => "--unknown",
         };
         if self.request.task == task {
@@ -125,7 +133,9 @@ impl<'w> Draft<'w> {
             Switch::ZeroEnded => self.request.shape.end = 0,
             Switch::Check => return self.take_task(Task::Check { silent: false }, "-c"),
             Switch::CheckSilently => return self.take_task(Task::Check { silent: true }, "-C"),
+            Switch::Merge => return self.take_task(Task::Merge, "-m"),
             Switch::Keys => self.request.keys = true,
+            Switch::Progress => self.request.progress = true,
             Switch::CrLf => self.request.shape.crlf = true,
             Switch::Quiet => self.request.quiet = true,
             Switch::Unknown => return self.take_task(Task::Unknown, "--unknown"),
@@ -136,7 +146,7 @@ impl<'w> Draft<'w> {
         Ok(())
     }
 
-    /// Takes a word with its value. `Over` has a second one, and isn't taken here.
+    /// Takes a word with its value. `Over` and `DefaultOver` have a second one, and aren't taken here.
     ///
     /// Errors: the word was given before, or the value is none that it may have.
     pub fn take_setting(&mut self, setting: Setting, value: &'w str) -> Result<(), WordFault<'w>> {
@@ -150,7 +160,16 @@ impl<'w> Draft<'w> {
                 Some(byte) => set_once(&mut self.separator, byte, "-t"),
                 None => Err(WordFault::Separator(value)),
             },
+            Setting::Csv => set_once(&mut self.request.csv, value, "--csv"),
+            Setting::Size => match size_of(value) {
+                Some(size) => set_once(&mut self.request.size, size, "-S"),
+                None => Err(WordFault::Size(value)),
+            },
+            Setting::Folder => set_once(&mut self.request.folder, value, "-T"),
             Setting::Records | Setting::Over => self.take_source(Source::Records(value)),
+            Setting::DefaultRecords | Setting::DefaultOver => {
+                self.take_default(Source::Records(value))
+            }
         }
     }
 
@@ -165,6 +184,17 @@ impl<'w> Draft<'w> {
             }
             Some(_) => Err(WordFault::Twice("--records or --language")),
         }
+    }
+
+    /// Takes where the order comes from if no other word says so.
+    ///
+    /// Errors: it was given before.
+    pub fn take_default(&mut self, source: Source<'w>) -> Result<(), WordFault<'w>> {
+        set_once(
+            &mut self.default,
+            source,
+            "--default-records or --default-over",
+        )
     }
 
     /// Takes the value of an option.
@@ -215,23 +245,67 @@ impl<'w> Draft<'w> {
         }
     }
 
-    /// Why there are no records: by the operand that was meant for them, if there is one.
-    fn without_records(&self) -> WordFault<'w> {
+    /// Where the order comes from.
+    ///
+    /// Errors: no word says it, or none but a default does and an operand has the form of records or of an option.
+    fn chosen_source(&self) -> Result<Source<'w>, WordFault<'w>> {
+        if let Some(source) = self.source {
+            return Ok(source);
+        }
         for operand in &self.request.operands {
             if operand.ends_with(".records") && !operand.starts_with("./") {
-                return WordFault::RecordsAsOperand(*operand);
+                return Err(WordFault::RecordsAsOperand(*operand));
             }
         }
-        match self.option_operand {
-            Some(word) => WordFault::OptionAsOperand(word),
-            None => WordFault::NoRecords,
+        if let Some(word) = self.option_operand {
+            return Err(WordFault::OptionAsOperand(word));
+        }
+        self.default.ok_or(WordFault::NoRecords)
+    }
+
+    /// Why words don't go together with `--csv`; `None` where they do.
+    fn csv_conflict(&self) -> Option<WordFault<'w>> {
+        self.request.csv?;
+        let other = if self.fields.is_some() || self.separator.is_some() {
+            "-k or -t"
+        } else if self.request.shape.end != b'\n' {
+            "-z"
+        } else if self.request.shape.crlf {
+            "--crlf"
+        } else if self.request.keys {
+            "--keys"
+        } else if self.request.size.is_some() {
+            "-S"
+        } else if self.request.progress {
+            "--progress"
+        } else if self.request.task != Task::Sort {
+            "-c, -C, -m or --unknown"
+        } else {
+            return None;
+        };
+        Some(WordFault::Together("--csv", other))
+    }
+
+    /// Why keys can't be written where readers are merged; `None` where none are, or no keys are wanted.
+    fn keys_conflict(&self) -> Option<WordFault<'w>> {
+        if !self.request.keys {
+            None
+        } else if self.request.task == Task::Merge {
+            Some(WordFault::Together("-m", "--keys"))
+        } else if self.request.size.is_some() {
+            Some(WordFault::Together("-S", "--keys"))
+        } else {
+            None
         }
     }
 
     /// Why words don't go together; `None` where they do.
     fn conflict(&self) -> Option<WordFault<'w>> {
+        if let Some(fault) = self.csv_conflict() {
+            return Some(fault);
+        }
         let name = match self.request.task {
-            Task::Sort => return None,
+            Task::Sort | Task::Merge => return self.keys_conflict(),
             Task::Check { silent: false } => "-c",
             Task::Check { silent: true } => "-C",
             Task::Unknown => "--unknown",
@@ -250,19 +324,18 @@ impl<'w> Draft<'w> {
         }
     }
 
-    /// The request that all words gave.
+    /// The request that all words gave; parts are kept in the folder `temporary` where none gave another.
     ///
     /// Errors: words don't go together, there are no records, or memory is refused.
-    pub fn finish(self) -> Result<Request<'w>, WordFault<'w>> {
+    pub fn finish(self, temporary: &'w str) -> Result<Request<'w>, WordFault<'w>> {
         if let Some(fault) = self.conflict() {
             return Err(fault);
         }
-        let Some(source) = self.source else {
-            return Err(self.without_records());
-        };
+        let source = self.chosen_source()?;
         let Draft {
             alloc: _,
             source: _,
+            default: _,
             option_words: _,
             option_operand: _,
             fields,
@@ -274,6 +347,9 @@ impl<'w> Draft<'w> {
         request.order = order;
         if request.operands.is_empty() {
             request.operands.push("-")?;
+        }
+        if request.folder.is_none() && request.size.is_some() {
+            request.folder = Some(temporary);
         }
         if let Some(fields) = fields {
             let mut shape = request.shape;

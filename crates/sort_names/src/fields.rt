@@ -1,4 +1,4 @@
-//! The values of `-k` and `-t`.
+//! The values of `-k`, `-t` and `-S`.
 
 use collate_columns::column::{Column, Separator};
 
@@ -64,4 +64,22 @@ pub fn separator_of(text: &str) -> Option<u8> {
         b"\\0" => Some(0),
         _ => None,
     }
+}
+
+/// How many bytes of memory a word gives: a number of KiB, or one behind which the letter of another unit stands: `b` for
+/// bytes, `K`, `M`, `G` or `T`. `None` for any other, and past all numbers.
+pub fn size_of(text: &str) -> Option<usize> {
+    let units: [(char, usize); 5] = [
+        ('b', 1),
+        ('K', 1 << 10),
+        ('M', 1 << 20),
+        ('G', 1 << 30),
+        ('T', 1 << 40),
+    ];
+    for (letter, unit) in units {
+        if let Some(digits) = text.strip_suffix(letter) {
+            return number_of(digits)?.checked_mul(unit);
+        }
+    }
+    number_of(text)?.checked_mul(1 << 10)
 }

@@ -15,12 +15,16 @@ pub enum Switch {
     Check,
     /// `-C`: the same, and says nothing.
     CheckSilently,
+    /// `-m`: files that are in order are merged.
+    Merge,
     /// `--keys`: each line behind its key.
     Keys,
     /// `--crlf`: a CR before a line's end belongs to it.
     CrLf,
     /// `--quiet`: no line of what the records don't say.
     Quiet,
+    /// `--progress`: how far the run is.
+    Progress,
     /// `--unknown`: a list of the characters that the records don't name.
     Unknown,
     /// `--numeric`: digits by their value.
@@ -44,10 +48,20 @@ pub enum Setting {
     Key,
     /// `-t SEP`: the byte between fields.
     Separator,
+    /// `--csv COLUMN`: the lines are records of CSV, compared by a column.
+    Csv,
+    /// `-S SIZE`: how much memory lines may fill before they are kept in parts.
+    Size,
+    /// `-T DIR`: the folder that parts are kept in.
+    Folder,
     /// `--records FILE`: the records.
     Records,
     /// `--over ROOT FILE`: the records of a root, and those that are put over it.
     Over,
+    /// `--default-records FILE`: the records, where no other word gives any.
+    DefaultRecords,
+    /// `--default-over ROOT FILE`: the same of a root, and of what is put over it.
+    DefaultOver,
 }
 
 /// What a word that begins with `-` is.
@@ -68,10 +82,13 @@ pub fn flag_of_letter(letter: char) -> Option<Flag> {
         'z' => Switch::ZeroEnded,
         'c' => Switch::Check,
         'C' => Switch::CheckSilently,
+        'm' => Switch::Merge,
         'h' => Switch::Help,
         'o' => return Some(Flag::Setting(Setting::Output)),
         'k' => return Some(Flag::Setting(Setting::Key)),
         't' => return Some(Flag::Setting(Setting::Separator)),
+        'S' => return Some(Flag::Setting(Setting::Size)),
+        'T' => return Some(Flag::Setting(Setting::Folder)),
         _ => return None,
     };
     Some(Flag::Switch(switch))
@@ -86,9 +103,11 @@ fn switch_of_name(name: &str) -> Option<Switch> {
         "zero-terminated" => Switch::ZeroEnded,
         "check" | "check=diagnose-first" => Switch::Check,
         "check=quiet" | "check=silent" => Switch::CheckSilently,
+        "merge" => Switch::Merge,
         "keys" => Switch::Keys,
         "crlf" => Switch::CrLf,
         "quiet" => Switch::Quiet,
+        "progress" => Switch::Progress,
         "unknown" => Switch::Unknown,
         "numeric" => Switch::Numeric,
         "shifted" => Switch::Shifted,
@@ -109,8 +128,13 @@ pub fn flag_of_name(name: &str) -> Option<Flag> {
         "output" => Setting::Output,
         "key" => Setting::Key,
         "field-separator" => Setting::Separator,
+        "csv" => Setting::Csv,
+        "buffer-size" => Setting::Size,
+        "temporary-directory" => Setting::Folder,
         "records" => Setting::Records,
         "over" => Setting::Over,
+        "default-records" => Setting::DefaultRecords,
+        "default-over" => Setting::DefaultOver,
         _ => return None,
     };
     Some(Flag::Setting(setting))

@@ -1,6 +1,8 @@
 //! `sort_names`: puts the lines of files in the order of a records file (README.md).
 #![tactic(auto)]
 
+mod content;
+mod csv_lists;
 mod draft;
 mod faults;
 mod fields;
@@ -9,6 +11,8 @@ mod help;
 mod operands;
 mod output;
 mod output_files;
+mod parts;
+mod progress;
 mod records_files;
 mod request;
 mod run;
@@ -39,18 +43,17 @@ fn given_words(rt: &HostRuntime) -> io::Result<Vec<String>> {
 fn print_text(rt: &HostRuntime, text: &str) -> u8 {
     match print!(rt; "{text}") {
         Ok(()) => 0,
+        Err(error) if error.kind() == io::ErrorKind::BrokenPipe => 0,
         Err(error) => {
-            if error.kind() != io::ErrorKind::BrokenPipe {
-                let _ = eprintln!(rt; "sort_names: cannot write: {error}");
-            }
+            let _ = eprintln!(rt; "sort_names: cannot write: {error}");
             2
         }
     }
 }
 
-/// Does what the words ask for. Answers the status.
-fn serve(rt: &HostRuntime, alloc: Global, words: &[String]) -> u8 {
-    let request = match read_words(alloc, words) {
+/// Does what the words ask for; parts are kept in the folder `temporary`, if no other is given. Answers the status.
+fn serve(rt: &HostRuntime, alloc: Global, words: &[String], temporary: &str) -> u8 {
+    let request = match read_words(alloc, words, temporary) {
         Ok(Asked::Help) => return print_text(rt, HELP),
         Ok(Asked::Version) => return print_text(rt, VERSION),
         Ok(Asked::Run(request)) => request,
@@ -62,7 +65,6 @@ fn serve(rt: &HostRuntime, alloc: Global, words: &[String]) -> u8 {
     match run(rt, &request) {
         Ok(Ended::Well) => 0,
         Ok(Ended::OutOfOrder) => 1,
-        Ok(Ended::Unread) => 2,
         Err(fault) => {
             let _ = eprintln!(rt; "sort_names: {fault}");
             2
@@ -71,8 +73,17 @@ fn serve(rt: &HostRuntime, alloc: Global, words: &[String]) -> u8 {
 }
 
 fn main(rt: HostRuntime) -> ExitCode {
-    match given_words(&rt) {
-        Ok(words) => ExitCode::from(serve(&rt, rt.alloc(), &words)),
+    let given = match given_words(&rt) {
+        Ok(words) => match env::temp_dir(&rt) {
+            Ok(temporary) => Ok((words, temporary)),
+            Err(error) => Err(error),
+        },
+        Err(error) => Err(error),
+    };
+    match given {
+        Ok((words, temporary)) => {
+            ExitCode::from(serve(&rt, rt.alloc(), &words, temporary.as_str()))
+        }
         Err(error) if error.kind() == io::ErrorKind::OutOfMemory => {
             let _ = eprintln!(rt; "sort_names: memory");
             ExitCode::from(2)

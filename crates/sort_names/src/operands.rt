@@ -34,7 +34,7 @@ impl<F: Read + Drop, I: Read + Drop> Read for Operand<F, I> {
 /// All that a reader gives.
 ///
 /// Errors: a read fails, or memory is refused.
-fn read_text<'w, F: Read + Drop>(
+pub fn read_text<'w, F: Read + Drop>(
     alloc: Global,
     path: &'w str,
     mut file: F,

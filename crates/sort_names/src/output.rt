@@ -145,3 +145,21 @@ pub fn write_lines<W: Write>(
     writer.write_all(&gathered)?;
     Ok(())
 }
+
+/// Writes a text, and behind it the lines of a list, as `write_lines` does.
+///
+/// Errors: those of `write_lines`.
+pub fn write_behind<W: Write>(
+    alloc: Global,
+    writer: &mut W,
+    front: &[u8],
+    list: &LineList<'_>,
+    end: u8,
+    keys: bool,
+) -> Result<(), WriteFault>
+    ensures { OnOk result (Appends (W.contents writer.old) (W.contents writer.new) (front.now ++ text_of end keys list.now)) }
+{
+    writer.write_all(front)?;
+    write_lines(alloc, writer, list, end, keys)?;
+    Ok(())
+}

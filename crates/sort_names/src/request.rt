@@ -1,6 +1,10 @@
 //! What the words of the program ask for.
 
+ghost use Rattle.std.specs.Prelude.{◌≡◌};
+ghost use Rattle.sort_names.specs.Texts.{part_in};
+
 use collate_columns::column::Column;
+use collate_columns::part::LinePart;
 use collate_sort::Direction;
 use icu_collator_types::options::{CollatorOptions, CollatorPreferences};
 
@@ -28,6 +32,8 @@ pub enum Task {
         /// Whether the first line out of order is told by the status alone.
         silent: bool,
     },
+    /// Files that are in order are merged.
+    Merge,
     /// The characters that the records don't name are listed.
     Unknown,
 }
@@ -41,6 +47,18 @@ pub struct Shape {
     pub crlf: bool,
     /// What of a line is compared.
     pub column: Column,
+}
+
+impl Shape {
+    /// What of a line is compared.
+    pub fn part(&self) -> LinePart
+        ensures { result ≡ part_in self.now }
+    {
+        LinePart {
+            column: self.column,
+            crlf: self.crlf,
+        }
+    }
 }
 
 /// How lines are put in order.
@@ -69,8 +87,16 @@ pub struct Request<'w> {
     pub shape: Shape,
     /// Whether each line is written behind its key.
     pub keys: bool,
+    /// How many bytes of memory the lines may fill before they are kept in parts; `None` for any.
+    pub size: Option<usize>,
+    /// The folder that parts are kept in; `None` for that of temporary files.
+    pub folder: Option<&'w str>,
+    /// Whether it is said how far the run is.
+    pub progress: bool,
     /// Whether nothing is said of what the records don't name.
     pub quiet: bool,
+    /// The column by which records of CSV are compared, where they are that.
+    pub csv: Option<&'w str>,
     /// The file that is written; `None` for standard output.
     pub output: Option<&'w str>,
     /// The files that are read, `-` for standard input, which alone is read where the words name none.

@@ -3,7 +3,6 @@
 ghost use Rattle.std.specs.Prelude.{◌≡◌, ◌+◌, ◌<◌, ◌≤◌, ◌==◌, ◌++◌, OnErr, OnOk, drop, length, not, take, unwrap_or};
 ghost use Rattle.std.specs.List.{prefix_len};
 ghost use Rattle.std.specs.Option.{option_copied};
-ghost use Rattle.std.specs.Io.BufRead.{strip_last};
 ghost use Rattle.sort_names.specs.Texts.{compared, line_len, listed};
 
 use crate::request::Shape;
@@ -12,7 +11,7 @@ use collate_sort::list::LineList;
 use std::alloc::AllocError;
 
 /// How many bytes a text has before a byte.
-fn len_before(end: u8, text: &[u8]) -> usize
+pub fn len_before(end: u8, text: &[u8]) -> usize
     ensures len { result ≡ line_len end text.now }
     ensures within { result ≤ length text.now }
 {
@@ -40,30 +39,15 @@ fn behind(text: &[u8], len: usize) -> &[u8]
     }
 }
 
-/// A line without a CR at its end.
-pub fn without_cr(line: &[u8]) -> &[u8]
-    ensures { result.now ≡ strip_last 13 line.now }
-{
-    if !line.is_empty() && line[line.len() - 1] == b'\r' {
-        &line[..line.len() - 1]
-    } else {
-        line
-    }
-}
-
 /// What of a line is compared.
 pub fn compared<'l>(shape: &Shape, line: &'l [u8]) -> &'l [u8]
     ensures { result.now ≡ compared shape.now line.now }
 {
-    if shape.crlf {
-        shape.column.of(without_cr(line))
-    } else {
-        shape.column.of(line)
-    }
+    shape.part().of(line)
 }
 
 /// What of a line is compared, where that may not be all of it.
-fn part<'l>(shape: &Shape, line: &'l [u8]) -> Option<&'l [u8]>
+pub fn part<'l>(shape: &Shape, line: &'l [u8]) -> Option<&'l [u8]>
     ensures { unwrap_or (option_copied result) line.now ≡ compared shape.now line.now }
 {
     match shape.column {

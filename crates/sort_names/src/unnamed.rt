@@ -2,7 +2,8 @@
 
 use crate::request::Shape;
 use crate::shown::Character;
-use crate::texts::{compared, without_cr};
+use crate::texts::compared;
+use collate_columns::part::without_cr;
 use collate_sort::list::LineList;
 use collate_sort::order::LineOrder;
 use icu_normalizer_core::decoding::decode_utf8;
@@ -32,27 +33,37 @@ pub struct Unnamed {
 pub struct Found {
     /// How many lines hold characters that the records don't name.
     pub lines: usize,
-    /// These characters, in the order of their code points.
+    /// These characters, the most frequent first.
     pub characters: Vec<Unnamed>,
     /// How many lines end in a CR that is compared; it isn't among the characters.
     pub with_cr: usize,
 }
 
-/// Looks at characters, by an order.
+/// Looks for what lines hold that the records don't say, by an order, in one list after another.
 #[derive(Drop)]
-struct Search<'o> {
+pub struct Finder<'o> {
     order: &'o LineOrder,
+    /// How many lines were looked at.
+    seen: usize,
+    /// How many of them hold characters that the records don't name.
+    lines: usize,
+    with_cr: usize,
     /// Whether a character is known to be named.
     named: Vec<bool>,
     unnamed: BTreeMap<char, Unnamed>,
     key: Vec<u8>,
 }
 
-impl<'o> Search<'o> {
-    /// A search that has looked at nothing.
-    fn new(alloc: Global, order: &'o LineOrder) -> Result<Search<'o>, AllocError> {
-        Ok(Search {
+impl<'o> Finder<'o> {
+    /// One that has looked at nothing.
+    ///
+    /// Errors: `AllocError` where memory is refused.
+    pub fn new(alloc: Global, order: &'o LineOrder) -> Result<Finder<'o>, AllocError> {
+        Ok(Finder {
             order,
+            seen: 0,
+            lines: 0,
+            with_cr: 0,
             named: vec![in alloc; false; CODE_POINTS]?,
             unnamed: BTreeMap::new(alloc),
             key: Vec::new(alloc),
@@ -106,40 +117,50 @@ impl<'o> Search<'o> {
         }
         Ok(all)
     }
-}
 
-/// Looks for what the lines of a list hold that the records don't say, in what of each is compared.
-///
-/// Errors: `AllocError` where memory is refused.
-pub fn find_unnamed(
-    alloc: Global,
-    order: &LineOrder,
-    shape: &Shape,
-    list: &LineList<'_>,
-) -> Result<Found, AllocError> {
-    let mut search = Search::new(alloc, order)?;
-    let mut lines: usize = 0;
-    let mut with_cr: usize = 0;
-    for place in 0..list.len() {
-        let Some(line) = list.get(place) else {
-            break;
-        };
-        if !search.look_at_all(without_cr(compared(shape, line)), place.saturating_add(1))? {
-            lines = lines.saturating_add(1);
+    /// Looks at what is compared of one line more.
+    ///
+    /// Errors: `AllocError` where memory is refused.
+    pub fn look_at_text(&mut self, text: &[u8]) -> Result<(), AllocError> {
+        self.seen = self.seen.saturating_add(1);
+        let line = self.seen;
+        if !self.look_at_all(text, line)? {
+            self.lines = self.lines.saturating_add(1);
         }
-        if !shape.crlf && without_cr(line).len() < line.len() {
-            with_cr = with_cr.saturating_add(1);
+        Ok(())
+    }
+
+    /// Looks at the lines of a list, at what of each is compared.
+    ///
+    /// Errors: `AllocError` where memory is refused.
+    pub fn look(&mut self, shape: &Shape, list: &LineList<'_>) -> Result<(), AllocError> {
+        for place in 0..list.len() {
+            let Some(line) = list.get(place) else {
+                break;
+            };
+            self.look_at_text(without_cr(compared(shape, line)))?;
+            if !shape.crlf && without_cr(line).len() < line.len() {
+                self.with_cr = self.with_cr.saturating_add(1);
+            }
         }
+        Ok(())
     }
-    let mut characters = Vec::new(alloc);
-    for found in search.unnamed.values() {
-        characters.push(*found)?;
+
+    /// What was found, the most frequent characters first, as frequent ones by their code points.
+    ///
+    /// Errors: `AllocError` where memory is refused.
+    pub fn found(&self, alloc: Global) -> Result<Found, AllocError> {
+        let mut characters = Vec::new(alloc);
+        for found in self.unnamed.values() {
+            characters.push(*found)?;
+        }
+        characters.sort_by(|a, b| b.count.cmp(&a.count))?;
+        Ok(Found {
+            lines: self.lines,
+            characters,
+            with_cr: self.with_cr,
+        })
     }
-    Ok(Found {
-        lines,
-        characters,
-        with_cr,
-    })
 }
 
 /// "line" or "lines", by how many there are, and the verb behind it.
@@ -148,11 +169,6 @@ fn lines_that(count: usize, one: &'static str, more: &'static str) -> &'static s
 }
 
 impl Found {
-    /// Puts the characters in order: the most frequent first, as frequent ones by their code points.
-    pub fn put_frequent_first(&mut self) -> Result<(), AllocError> {
-        self.characters.sort_by(|a, b| b.count.cmp(&a.count))
-    }
-
     /// A line on the characters that the records don't name: in how many lines they are, and the first of them. `None` where
     /// there are none.
     ///

@@ -23,13 +23,15 @@ pub enum WordFault<'w> {
     Fields(&'w str),
     /// This is no byte between fields.
     Separator(&'w str),
+    /// This is no size.
+    Size(&'w str),
     /// These words don't go together.
     Together(&'static str, &'static str),
     /// This second file stands beside `-c` or `-C`.
     SecondFile(&'w str),
     /// This operand is a records file, which `--records` gives.
     RecordsAsOperand(&'w str),
-    /// This operand gives an option, and no records are given.
+    /// This operand gives an option as a word of its own does, and no records are given.
     OptionAsOperand(&'w str),
     /// No records are given.
     NoRecords,
@@ -51,6 +53,11 @@ impl fmt::Display for WordFault<'_> {
             WordFault::Separator(word) => write!(
                 f,
                 "not understood: -t {} (what stands between fields is one byte)",
+                Shown(word)
+            ),
+            WordFault::Size(word) => write!(
+                f,
+                "not understood: -S {} (a number of KiB, or of the unit behind it: b, K, M, G, T)",
                 Shown(word)
             ),
             WordFault::Together(a, b) => write!(f, "{a} and {b} don't go together"),
@@ -89,7 +96,7 @@ fn write_new_form<W: fmt::Write>(f: &mut fmt::Formatter<W>, word: &str) -> fmt::
 fn write_new_option<W: fmt::Write>(f: &mut fmt::Formatter<W>, word: &str) -> fmt::Result {
     write!(
         f,
-        "no records are given: --records FILE --{} (./NAME is a list that is so called)",
+        "an option is given by --{} (./NAME is a list that is so called)",
         Shown(word)
     )
 }

@@ -49,7 +49,7 @@ fn take_switch<'w>(draft: &mut Draft<'w>, switch: Switch) -> Result<Taken, WordF
     }
 }
 
-/// Takes a setting: its value is `attached`, or the next word. That of `--over` is two.
+/// Takes a setting: its value is `attached`, or the next word. Where it names what is put over a root, there are two.
 fn take_setting<'w>(
     draft: &mut Draft<'w>,
     setting: Setting,
@@ -61,11 +61,16 @@ fn take_setting<'w>(
         Some(value) => value,
         None => words.value_of(word)?,
     };
-    if setting == Setting::Over {
-        let file = words.value_of(word)?;
-        draft.take_source(Source::Over { root: value, file })?;
-    } else {
-        draft.take_setting(setting, value)?;
+    match setting {
+        Setting::Over => {
+            let file = words.value_of(word)?;
+            draft.take_source(Source::Over { root: value, file })?;
+        }
+        Setting::DefaultOver => {
+            let file = words.value_of(word)?;
+            draft.take_default(Source::Over { root: value, file })?;
+        }
+        _ => draft.take_setting(setting, value)?,
     }
     Ok(Taken::Part)
 }
@@ -146,11 +151,15 @@ fn take_word<'w>(
     }
 }
 
-/// Reads the words of the program, without its name. Those that begin with `-` may stand behind the files, up to a word
+/// Reads the words of the program, without its name; parts are kept in the folder `temporary` where no word names one. Those that begin with `-` may stand behind the files, up to a word
 /// `--`, behind which all are files.
 ///
 /// Errors: the first word that isn't understood, words that don't go together, or want of memory.
-pub fn read_words<'w>(alloc: Global, words: &'w [String]) -> Result<Asked<'w>, WordFault<'w>> {
+pub fn read_words<'w>(
+    alloc: Global,
+    words: &'w [String],
+    temporary: &'w str,
+) -> Result<Asked<'w>, WordFault<'w>> {
     let mut draft = Draft::new(alloc)?;
     let mut left = Words { rest: words };
     for _ in 0..words.len() {
@@ -169,5 +178,5 @@ pub fn read_words<'w>(alloc: Global, words: &'w [String]) -> Result<Asked<'w>, W
             Taken::Version => return Ok(Asked::Version),
         }
     }
-    Ok(Asked::Run(draft.finish()?))
+    Ok(Asked::Run(draft.finish(temporary)?))
 }

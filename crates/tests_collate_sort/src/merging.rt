@@ -3,6 +3,7 @@
 use crate::failing::{FailingReader, FailingWriter, Failure};
 use crate::letters::order_of;
 use collate_columns::column::{Column, Separator};
+use collate_columns::part::LinePart;
 use collate_merge::merge::{MergeError, merge_lines};
 use collate_sort::Direction;
 use std::alloc::Global;
@@ -31,7 +32,7 @@ fn merged(
     let result = merge_lines(
         alloc,
         &order,
-        Column::Line,
+        LinePart::LINE,
         unique,
         b'\n',
         readers,
@@ -124,14 +125,35 @@ fn fields_are_compared(rt: HostRuntime) -> Result<(), Fail> {
     let mut readers: Vec<&[u8]> = Vec::new(alloc);
     readers.push(b"co\0co;ab\0tb;ba\0")?;
     readers.push(b"ab;b\xC3\xA1\0ab;ba\xCC\x81")?;
-    let column = Column::Fields {
-        separator: Separator::Byte(b';'),
-        before: 1,
-        count: Some(1),
+    let part = LinePart {
+        column: Column::Fields {
+            separator: Separator::Byte(b';'),
+            before: 1,
+            count: Some(1),
+        },
+        crlf: false,
     };
     let mut written = Vec::new(alloc);
-    merge_lines(alloc, &order, column, false, b'\0', readers, &mut written)?;
+    merge_lines(alloc, &order, part, false, b'\0', readers, &mut written)?;
     let expected: &[u8] = b"co\0co;ab\0tb;ba\0ab;b\xC3\xA1\0ab;ba\xCC\x81\0";
+    assert_eq!(rt; written.as_slice(), expected);
+    Ok(())
+}
+
+#[test]
+fn a_carriage_return_before_the_end_isnt_compared(rt: HostRuntime) -> Result<(), Fail> {
+    let alloc = rt.alloc();
+    let order = order_of(alloc, Direction::Ascending)?;
+    let mut readers: Vec<&[u8]> = Vec::new(alloc);
+    readers.push(b"ab\r\nb\n")?;
+    readers.push(b"ab\nb\r\n")?;
+    let part = LinePart {
+        column: Column::Line,
+        crlf: true,
+    };
+    let mut written = Vec::new(alloc);
+    merge_lines(alloc, &order, part, false, b'\n', readers, &mut written)?;
+    let expected: &[u8] = b"ab\r\nab\nb\nb\r\n";
     assert_eq!(rt; written.as_slice(), expected);
     Ok(())
 }
@@ -162,7 +184,7 @@ fn read_fault_is_told(rt: HostRuntime) -> Result<(), Fail> {
     let result = merge_lines(
         alloc,
         &order,
-        Column::Line,
+        LinePart::LINE,
         false,
         b'\n',
         readers,
@@ -199,7 +221,7 @@ fn write_fault_is_told(rt: HostRuntime) -> Result<(), Fail> {
         let result = merge_lines(
             alloc,
             &order,
-            Column::Line,
+            LinePart::LINE,
             false,
             b'\n',
             readers,
