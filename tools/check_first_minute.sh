@@ -1,8 +1,8 @@
 #!/usr/bin/env bash
 # Walks what a new user does, in a bare checkout, and looks at each message:
-#     tools/check_first_minute.sh [--quick | --part PART] [EXECUTABLE [UNICODE]]
-# EXECUTABLE stands for the proved program `collate`, UNICODE for `collate_unicode`; left out, they are those in out of
-# their crates, proved or not. First there is no `rt` on the path, then a stand-in that proves nothing, and at the end,
+#     tools/check_first_minute.sh [--quick | --part PART] [EXECUTABLE [UNICODE [SORT_NAMES]]]
+# EXECUTABLE stands for the proved program `collate`, UNICODE for `collate_unicode`, SORT_NAMES for that of its name; left
+# out, they are those in out of their crates, proved or not. First there is no `rt` on the path, then a stand-in that proves nothing, and at the end,
 # without --quick, the real one, which builds the unproved programs and those of README.md and docs/CALLING.md. PART is
 # one of the functions walk_PART, in a checkout without proofs but for with_rt. A line for each thing that isn't as it
 # should be; the status is 0 only where there is none, else 1, and 2 where it could not be walked. EDIT='FILE
@@ -35,6 +35,7 @@ find_executable() {
 declare -A executable
 executable[collate]=$(find_executable collate "${1:-}") || exit 2
 executable[collate_unicode]=$(find_executable collate_unicode "${2:-}") || exit 2
+executable[sort_names]=$(find_executable sort_names "${3:-}") || exit 2
 real_path=$PATH
 rt_folder=$(dirname "$(command -v rt || echo /)")
 export PATH=/usr/bin:/bin LC_ALL=C.UTF-8
@@ -50,7 +51,7 @@ if [ -n "${EDIT:-}" ]; then
     cp "${EDIT%% *}" "$work/before"
     sed -i "${EDIT#* }" "${EDIT%% *}" && ! cmp -s "$work/before" "${EDIT%% *}" || exit 2
 fi
-out=crates/collate/out large=crates/collate_unicode/out
+out=crates/collate/out large=crates/collate_unicode/out sorting=crates/sort_names/out
 status=0 looks=0
 
 complain() {
@@ -116,29 +117,38 @@ walk_without_executable() {
     for word in '' '--unicode'; do
         name=collate${word:+_unicode}
         says 1 "collate: no 'rt' on the path to build $name with" "make dist" -- ./collate $word $latin
-        says 1 "sort_names: no 'rt' on the path to build $name with" -- ./sort_names $word $latin
         says 1 "collate: unproved: $nothing" "to build $name with" -- ./collate --unproved $word $latin
-        says 1 "sort_names: unproved: $nothing" "to build $name with" -- ./sort_names $word --unproved $latin
         says 0 "collate $(cat VERSION)" -- ./collate $word --version
-        says 0 "sort_names $(cat VERSION)" -- ./sort_names $word --version
         says 0 "collate FILE" -- ./collate $word -h
     done
+    for word in --records=$latin "--records $latin" '--language sv'; do
+        says 2 "sort_names: no 'rt' on the path to build sort_names with" -- ./sort_names $word
+        says 2 "sort_names: unproved: $nothing" "to build sort_names with" -- ./sort_names -u $word --unproved
+    done
+    says 0 "sort_names $(cat VERSION)" -- ./sort_names -u --version
+    # what stands behind a word that takes a value, or behind --, is no word
+    says 2 "to build sort_names with" "!sort_names $(cat VERSION)" -- ./sort_names -uo --version
+    says 2 "to build sort_names with" "!sort_names $(cat VERSION)" -- ./sort_names -u -- --version
     for word in -h --help; do
         says 0 "--unproved" "--unicode" "proved and built" "strength=primary" "$top/docs/RECORDS.md" "!'rt'" -- \
             ./collate $word
-        says 0 "--merge" "--unproved" "--unicode" "proved and built" "$top/records" -- ./sort_names $word
+        says 0 "--language TAG" "--records FILE" "--unproved" "proved and built" "$top/records" -- ./sort_names $word
     done
     mv crates/collate_unicode "$work"
     says 1 "the program collate_unicode is not there yet" -- ./collate --unicode $latin
     mv "$work/collate_unicode" crates
     says 2 "usage: collate FILE" "no FILE is given" -- ./collate
-    says 1 "sort_names: no 'rt' on the path to build collate_unicode with" -- ./sort_names
-    says 2 "usage: sort_names" "not understood: --sorted" -- ./sort_names --sorted $latin
-    says 2 "usage: sort_names" "no file is given that --keys wrote" -- ./sort_names --merge
+    says 2 "sort_names: no 'rt' on the path to build sort_names with" -- ./sort_names
+    mv crates/sort_names "$work"
+    says 2 "the program sort_names is not there yet" -- ./sort_names
+    mv "$work/sort_names" crates
     says 1 "cannot read nothing" "there is no such file" "!'rt'" -- ./collate nothing
     says 2 "no 'rt' on the path to build collate with" -- make install PREFIX="$work/none"
     put $out/collate
     says 2 "no 'rt' on the path to build collate_unicode with" -- make install PREFIX="$work/none"
+    put $large/collate_unicode
+    says 2 "no 'rt' on the path to build sort_names with" -- make install PREFIX="$work/none"
+    rm -r $large
     [ ! -e "$work/none" ] || complain "something was installed without a program"
     rm -r $out
 }
@@ -166,7 +176,9 @@ walk_foreign_executable() {
     says 1 "no 'rt' on the path" -- ./collate $latin
     rm $out/collate $out/collate.sources
     says 0 "collate: unproved: $nothing" "names 1" -- given 'add a\nlist\n' ./collate --unproved $latin
-    says 0 "sort_names: unproved: $nothing" $'a\nb' -- given 'b\na\n' ./sort_names --unproved $latin
+    put $sorting/sort_names.unproved
+    says 0 "sort_names: unproved: $nothing" $'a\nb' -- given 'b\na\n' ./sort_names --unproved --records $latin
+    says 2 "no 'rt' on the path to build sort_names with" -- ./sort_names --records $latin
     echo '// one more line' >>crates/collate_names/src/lib.rt
     says 1 "$nothing" "no 'rt' on the path" -- ./collate --unproved $latin
     sed -i '$d' crates/collate_names/src/lib.rt
@@ -175,10 +187,13 @@ walk_foreign_executable() {
 }
 
 walk_with_executable() {
-    put $out/collate $large/collate_unicode
+    put $out/collate $large/collate_unicode $sorting/sort_names
     says 0 $'names 2\na\nb' "!$nothing" -- given 'add b\nadd a\nlist\n' ./collate $latin
-    says 0 $'Zetterlund\nÅkesson\nÖberg' '!:' -- given "$swedish" ./sort_names records/swedish.records
-    says 0 = -- ./sort_names records/swedish.records
+    says 0 $'Zetterlund\nÅkesson\nÖberg' '!:' -- given "$swedish" ./sort_names --records records/swedish.records
+    says 0 = -- ./sort_names --records records/swedish.records
+    says 0 $'Öberg\nÅkesson\nZetterlund' '!:' -- given "$swedish" ./sort_names -r - --records=records/swedish.records
+    says 0 $'Zetterlund\nÅkesson\nÖberg' '!:' -- \
+        given "$swedish" ./sort_names --over records/root.records records/languages/sv.records
     # times alone change nothing, nor does a crate of one's own
     find crates -name '*.rt' -exec touch {} +
     says 0 added -- given 'add a\n' ./collate $latin
@@ -200,7 +215,10 @@ walk_with_executable() {
     says 1 "refused 153 limit" "these are 151 code points" "150 may be (1114112 with --unicode)" -- \
         ./collate "$work/more.records"
     says 0 $'names 2\na\nb' "!$nothing" -- given 'add b\nadd a\nlist\n' ./collate --unicode "$work/more.records"
-    says 0 $'a\nb' '!:' -- given 'b\na\n' ./sort_names --unicode "$work/more.records"
+    says 0 $'a\nb' '!:' -- given 'b\na\n' ./sort_names --records "$work/more.records"
+    says 2 "sort_names: cannot read --version: " -- ./sort_names --records $latin -- --version
+    ln -s "$top/sort_names" "$work/sorts"
+    says 0 $'a\nb' '!:' -- given 'b\na\n' "$work/sorts" --records $latin
     ln -s "$top/collate" "$work/collate_unicode"
     says 0 added -- given 'add a\n' "$work/collate_unicode" "$work/more.records"
     says 0 "collate_unicode $(cat VERSION)" -- "$work/collate_unicode" --version
@@ -210,42 +228,47 @@ walk_with_executable() {
 
 walk_faults() {
     local word
-    put $out/collate
+    put $out/collate $sorting/sort_names
     says 2 "usage: collate FILE" "not understood: strenght=on" "options: strength" -- ./collate $latin strenght=on
     says 2 "usage: collate FILE" "not understood: strength=on" "values of strength: primary" -- \
         ./collate $latin strength=on
     says 2 "usage: collate FILE" "given twice: numeric" -- ./collate $latin numeric=on numeric=off
-    says 2 "usage: sort_names" "not understood: strength" "values of strength: primary" -- \
-        given 'b\n' ./sort_names $latin strength
+    says 2 "sort_names: not understood: strength=none" "values of strength: primary" -- \
+        given 'b\n' ./sort_names --records $latin strength=none
     # at once, whether names come or not
-    says 2 "usage: sort_names" "given twice: numeric" -- \
-        timeout 10 bash -c './sort_names "$1" numeric=on numeric=off < <(exec sleep 15 2>/dev/null)' - $latin
-    says 1 "sort_names: " "no/collate: No such file" -- given 'b\n' env COLLATE=no/collate ./sort_names $latin
+    says 2 "sort_names: given twice: numeric" -- \
+        timeout 10 bash -c './sort_names --records "$1" numeric=on numeric=off < <(exec sleep 15 2>/dev/null)' - $latin
+    says 2 "sort_names: not understood: --sorted" -- ./sort_names --sorted
+    says 2 "a records file is given by --records $latin (./NAME is" -- ./sort_names $latin
+    says 2 "an option is given by --numeric=on (./NAME is" -- ./sort_names numeric=on
+    says 2 "sort_names: cannot read docs: " '!it is a folder' -- ./sort_names --records $latin docs
+    says 2 "sort_names: given twice: --records or --language" -- ./sort_names --language sv --records $latin
     says 2 "not understood: examples" -- ./collate strength=primary $latin
     says 2 "not understood: --numeric; before FILE stand --unproved, --unicode," -- ./collate --numeric $latin
     says 1 "cannot read --numeric" "no such file; before FILE stand --unproved, --unicode," -- ./collate --numeric
-    for word in ./collate ./sort_names; do
-        says 1 "cannot read nothing" "there is no such file" -- $word nothing
-        says 1 "cannot read swedish" "there is no such file; there is $top/records/swedish.records" -- $word swedish
-        says 1 "cannot read $work/no/file" "there is no folder $work/no" -- $word "$work/no/file"
-        says 1 "cannot read docs" "it is a folder" -- $word docs
+    for word in '1 ./collate' '2 ./sort_names --records'; do
+        set -- ${word#* }
+        says ${word%% *} "cannot read nothing" "there is no such file" -- "$@" nothing
+        says ${word%% *} "cannot read swedish" "there is no such file; there is $top/records/swedish.records" -- "$@" swedish
+        says ${word%% *} "cannot read $work/no/file" "there is no folder $work/no" -- "$@" "$work/no/file"
+        says ${word%% *} "cannot read docs" "it is a folder" -- "$@" docs
         ln -sf nowhere "$work/nowhere"
         ln -sf nothing "$work/nowhere"
-        says 1 "cannot read $work/nowhere" "it is a link that leads nowhere" -- $word "$work/nowhere"
+        says ${word%% *} "cannot read $work/nowhere" "it is a link that leads nowhere" -- "$@" "$work/nowhere"
         if [ "$(id -u)" != 0 ]; then # root reads all
             cp -f $latin "$work/closed" && chmod 0 "$work/closed"
-            says 1 "cannot read $work/closed" "it may not be read by" -- $word "$work/closed"
+            says ${word%% *} "cannot read $work/closed" "it may not be read by" -- "$@" "$work/closed"
         fi
     done
-    says 1 "cannot read nothing, or it is no file" "there is no such file" -- ./sort_names --merge nothing
     head -c 70000 /dev/zero | tr '\0' a >"$work/long"
-    says 1 "line 1: longer than 65532 bytes" -- given "$(cat "$work/long")\n" ./sort_names $latin
+    says 0 aaaa '!:' -- given "$(cat "$work/long")\n" ./sort_names --records $latin
     says 1 "collate: line too long" "at most 65,536 bytes" -- given "add $(cat "$work/long")\n" ./collate $latin
     says 1 "collate: reload cut" "standard input ended before" -- given 'reload 2\n\n' ./collate $latin
     says 0 "refused 1 grammar" '!  ' -- given 'reload 1\nw 61 ;\n' ./collate $latin
     says 1 "collate: write" -- full_disk
     says 0 = -- reader_away ./collate 'add a'
-    says 0 = -- reader_away ./sort_names a
+    says 2 "sort_names: cannot write: " -- bash -c 'yes | head -n 100000 | ./sort_names --records "$1" >/dev/full' - $latin
+    says 0 = -- reader_away './sort_names --records' a
 }
 
 full_disk() {
@@ -254,7 +277,7 @@ full_disk() {
 }
 
 reader_away() {
-    yes "$2" | head -n 100000 | "$1" $latin | head -n 1 >/dev/null
+    yes "$2" | head -n 100000 | $1 $latin | head -n 1 >/dev/null
 }
 
 . "$here/tools/walk_broken_records.sh"
@@ -263,29 +286,30 @@ reader_away() {
 walk_installed() {
     local prefix=$work/usr name
     # what is not proved isn't installed, nor packed
-    rm -rf $out $large
-    put $out/collate.unproved $large/collate_unicode.unproved
+    rm -rf $out $large $sorting
+    put $out/collate.unproved $large/collate_unicode.unproved $sorting/sort_names.unproved
     says 2 "no 'rt' on the path to build collate with" -- make install PREFIX="$prefix"
     says 2 "no 'rt' on the path to build collate with" -- make dist
     [ -z "$(find "$prefix" dist ! -type d 2>/dev/null)" ] || complain "what is not proved was installed or packed"
-    rm -r $out $large
-    put $out/collate $large/collate_unicode
+    rm -r $out $large $sorting
+    put $out/collate $large/collate_unicode $sorting/sort_names
     { small && seq -f 'w %.0f ;' 3001 3200; } >"$work/more.records"
     says 0 -- make
     says 0 -- make install PREFIX="$prefix"
-    says 0 $'a\nb' "!'rt'" -- given 'b\na\n' "$prefix/bin/sort_names" "$prefix/share/leekclamp/records/latin.records"
+    says 0 $'a\nb' "!'rt'" -- \
+        given 'b\na\n' "$prefix/bin/sort_names" --records "$prefix/share/leekclamp/records/latin.records"
     says 0 "names 1" -- given 'add b\nlist\n' "$prefix/bin/collate" "$prefix/share/leekclamp/records/latin.records"
     says 0 "$prefix/share/leekclamp/records" "$prefix/share/doc/leekclamp/RECORDS.md" "!proved and built" -- \
         "$prefix/bin/collate" -h
     says 0 "$prefix/share/leekclamp/records" "!proved and built" "!--unproved" -- "$prefix/bin/sort_names" -h
     says 0 "names 1" -- given 'add b\nlist\n' "$prefix/bin/collate" --unicode "$work/more.records"
     says 0 "names 1" -- given 'add b\nlist\n' "$prefix/bin/collate_unicode" "$work/more.records"
-    says 0 $'a\nb' -- given 'b\na\n' "$prefix/bin/sort_names" --unicode "$work/more.records"
+    says 0 $'a\nb' -- given 'b\na\n' "$prefix/bin/sort_names" --records "$work/more.records"
     says 0 "collate_unicode $(cat VERSION)" -- "$prefix/bin/collate_unicode" --version
     says 1 "refused 153 limit" "150 may be (1114112 with --unicode)" -- "$prefix/bin/collate" "$work/more.records"
     look_at_languages "$prefix"
     says 0 "$(cat VERSION)" -- "$prefix/bin/sort_names" --version
-    says 1 "there is $prefix/share/leekclamp/records/greek.records" -- "$prefix/bin/sort_names" greek
+    says 2 "there is $prefix/share/leekclamp/records/greek.records" -- "$prefix/bin/sort_names" --records greek
     mv "$prefix/lib/leekclamp/programs/collate_unicode" "$work"
     says 1 "the program collate_unicode is not installed here" -- "$prefix/bin/collate" --unicode $latin
     mv "$work/collate_unicode" "$prefix/lib/leekclamp/programs"
@@ -301,7 +325,7 @@ walk_installed() {
     says 0 -- make uninstall PREFIX="$prefix"
     [ -z "$(find "$prefix" ! -type d)" ] || complain "left by uninstall:" "$(find "$prefix" ! -type d)"
     says 0 -- make install PREFIX=/usr DESTDIR="$work/staged"
-    says 0 $'a\nb' -- given 'b\na\n' "$work/staged/usr/bin/sort_names" $latin
+    says 0 $'a\nb' -- given 'b\na\n' "$work/staged/usr/bin/sort_names" --records $latin
     says 0 "packed dist/leekclamp-$(cat VERSION)-" -- make dist
     mkdir "$work/unpacked"
     (cd dist && sha256sum --check --quiet ./*.sha256) || complain "the checksum is another"
@@ -309,7 +333,7 @@ walk_installed() {
     name=$work/unpacked/leekclamp-$(cat VERSION)-$(uname -m)-linux
     mv "$top" "$top.away" # nothing of the repository is needed
     cd "$work" || exit 2
-    says 0 $'a\nb' -- given 'b\na\n' "$name/bin/sort_names" "$name/share/leekclamp/records/latin.records"
+    says 0 $'a\nb' -- given 'b\na\n' "$name/bin/sort_names" --records "$name/share/leekclamp/records/latin.records"
     says 0 "names 1" -- given 'add b\nlist\n' "$name/bin/collate" --unicode "$work/more.records"
     look_at_languages "$name"
     for file in LICENSE LICENSE-UNICODE.txt NOTICE.md; do
@@ -346,6 +370,7 @@ done
 case \$crate in
 collate) cp "${executable[collate]}" out/collate ;;
 collate_unicode) cp "${executable[collate_unicode]}" out/collate_unicode ;;
+sort_names) [ "\$*" != 'run -- --records /dev/null' ] || cp "${executable[sort_names]}" out/sort_names ;;
 esac
 TEXT
     chmod +x "$work/fake/rt"
@@ -375,6 +400,8 @@ walk_with_stand_in() {
     says 0 "collate: 0 libraries to prove, and the program" "see $large/build.log" "all is proved" added -- \
         given 'add a\n' ./collate --unicode $latin
     says 0 '!building' added -- given 'add a\n' ./collate --unicode $latin
+    says 0 "libraries to prove, and the program" "see $sorting/build.log" "all is proved" $'a\nb' -- \
+        given 'b\na\n' ./sort_names --records $latin
     says 0 '!building' -- make
     # the unproved one, whose builder is a stand-in here
     cp tools/build_unproved.sh "$work/builder"
@@ -382,7 +409,6 @@ walk_with_stand_in() {
     says 0 "$nothing" "in a minute or two" "kept as $out/collate.unproved" added -- \
         given 'add a\n' ./collate --unproved $latin
     says 0 "$nothing" '!in a minute' added -- given 'add a\n' ./collate --unproved $latin
-    says 0 "$nothing" '!in a minute' $'a\nb' -- given 'b\na\n' ./sort_names --unproved $latin
     echo '// one more' >>crates/collate_names/src/lib.rt
     says 0 "$nothing" "in a minute or two" added -- given 'add a\n' ./collate --unproved $latin
     cp "$work/builder" tools/build_unproved.sh
@@ -417,7 +443,7 @@ run_of_page() {
 }
 
 walk_pages() {
-    put $out/collate $large/collate_unicode
+    put $out/collate $large/collate_unicode $sorting/sort_names
     walk_page README.md
     walk_page docs/RECORDS.md
     walk_page docs/CALLING.md
@@ -456,8 +482,8 @@ walk_with_rt() {
     began=$(date +%s%N)
     says 0 "collate: unproved: $nothing" '!in a minute' added -- given 'add a\n' ./collate --unproved $latin
     [ $(($(date +%s%N) - began)) -lt 5000000000 ] || complain "the kept program took over five seconds"
-    says 0 "sort_names: unproved: $nothing" "kept as $large/collate_unicode.unproved" $'a\nb' -- \
-        given 'b\na\n' ./sort_names --unproved --unicode $latin
+    says 0 "sort_names: unproved: $nothing" "kept as $sorting/sort_names.unproved" $'a\nb' -- \
+        given 'b\na\n' ./sort_names --unproved --records $latin
 }
 
 # With it: the programs of the pages, which are compiled and run.

@@ -2,8 +2,8 @@
 # Runs programs on their stored input under valgrind, beside the gate: tools/check_memory.sh [NAME..]
 # NAME is a crate with a `main` whose executable is built (`rt run` in its folder); without a name it is the crates of `usual`.
 # Each run has to write what is stored and end with the stored status, with 0 errors, and with 0 bytes in use at its end, so
-# that none are lost. A line is printed for each; the status is 1 where one is otherwise. PROGRAMS names a folder that has
-# other executables, by the crates' names.
+# that none are lost; and valgrind has to see it allocate. A line is printed for each; the status is 1 where one is otherwise.
+# PROGRAMS names a folder that has other executables, by the crates' names.
 set -uo pipefail
 top=$(cd "$(dirname "$(readlink -f "$0")")/.." && pwd)
 usual=(collate collate_reload tests_run_rows tests_refused_memory examples_address_book)
@@ -34,6 +34,7 @@ faults_of() {
     [ "$given" = "${wanted:-0}" ] || echo "status $given"
     stored "$folder" stdout | cmp - "$work/stdout" || echo 'other output'
     grep -q 'in use at exit: 0 bytes in 0 blocks' "$work/log" || grep 'in use at exit' "$work/log" || echo 'no summary'
+    ! grep -q 'total heap usage: 0 allocs' "$work/log" || echo 'no allocation is seen'
     grep -q 'ERROR SUMMARY: 0 errors' "$work/log" || grep -A 12 '^==[0-9]*== [A-Z][a-z].*' "$work/log" | tail -n 20
 }
 

@@ -6,7 +6,7 @@
 # What SQLite and PostgreSQL give back has to be what sort_names and collate answer, byte by byte; no other file may be
 # there, nor any other table; and where this runs as root another user must not reach the server. Then a million names go
 # into SQLite, within a minute on a quiet machine. A line each is printed of what is otherwise, and the status is 1 then.
-# COLLATE names another executable than that of collate_unicode, RECIPES another page, POSTGRESQL and TWO_SERVERS other
+# COLLATE names another executable than ./collate, for PostgreSQL, RECIPES another page, POSTGRESQL and TWO_SERVERS other
 # scripts, RECIPES_NAMES another number of names, RECIPES_SECONDS how long they may take.
 set -uo pipefail
 export LC_ALL=C

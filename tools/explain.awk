@@ -44,7 +44,7 @@ FNR <= line || is_whole { text[FNR] = $0; lines = FNR; next }
 { exit }
 
 END {
-    if (line in text) print "  " ENVIRON["SHOWN"] ", line " line ": " shown(text[line])
+    if (line in text) print "  " printable(ENVIRON["SHOWN"]) ", line " line ": " shown(text[line])
     for (place = 1; place <= sentences; place++) print "  " rule ": " sentence[place]
     if (!(line in text)) exit
     if (rule == "grammar") explain_grammar(text[line])
@@ -65,16 +65,24 @@ END {
 
 # ## Texts
 
-# A line as it may be printed: bytes of control as \r, \t or \x1B, and not more than 160 bytes.
-function shown(it,    place, one, made) {
-    for (place = 1; place <= length(it) && place <= 160; place++) {
+# A line as it may be printed, and not more than 160 bytes of it.
+function shown(it) {
+    return printable(substr(it, 1, 160)) (length(it) > 160 ? " .. (" length(it) " bytes)" : "")
+}
+
+# A text as it may be printed: bytes of control as \r, \t or \x1B, and both of U+0080 to U+009F.
+function printable(it,    place, one, next_one, made) {
+    for (place = 1; place <= length(it); place++) {
         one = substr(it, place, 1)
+        next_one = substr(it, place + 1, 1)
         if (one == "\t") made = made "\\t"
         else if (one == "\r") made = made "\\r"
         else if (one < " " || one == "\177") made = made sprintf("\\x%02X", byte_value[one])
-        else made = made one
+        else if (one == "\302" && "\200" <= next_one && next_one <= "\237") {
+            made = made sprintf("\\xC2\\x%02X", byte_value[next_one])
+            place++
+        } else made = made one
     }
-    if (length(it) > 160) made = made " .. (" length(it) " bytes)"
     return made
 }
 
@@ -116,7 +124,7 @@ function explain_grammar(it,    found) {
     found = fault_of_bytes(it)
     if (found == "") found = fault_of_spaces(it)
     if (found == "") found = fault_of_fields(it)
-    if (found != "") print "  " found
+    if (found != "") print "  " printable(found)
     if (form_used != "") print "  its form: " form_used
 }
 

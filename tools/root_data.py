@@ -42,8 +42,13 @@ def run(tool, main):
     try:
         return main(sys.argv[1:])
     except Fault as fault:
-        print(f'{tool}: {fault}', file=sys.stderr)
+        print(f'{tool}: {printable(str(fault))}', file=sys.stderr)
         return 2
+
+
+def printable(text):
+    """A text as it may be printed: what is no printable character of it, as a control character, as \\x1b or \\n."""
+    return ''.join(c if c.isprintable() else c.encode('unicode_escape', 'surrogatepass').decode('ascii') for c in text)
 
 
 def lines_of(path, package=None):

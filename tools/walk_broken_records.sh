@@ -9,8 +9,8 @@ small() {
 }
 
 walk_broken_records() {
-    local add fault texts text command=() count=0 broken=$work/my.records
-    put $out/collate $large/collate_unicode
+    local add fault texts text command=() said count=0 broken=$work/my.records
+    put $out/collate $large/collate_unicode $sorting/sort_names
     small >"$work/small.records"
     says 0 = -- ./collate "$work/small.records"
     while IFS=$'\t' read -r add fault texts; do
@@ -29,17 +29,20 @@ walk_broken_records() {
             [[ $texts == *' & '* ]] || break
             texts=${texts#* & }
         done
-        # sort_names says it by the same function, over names and over none
-        command=(./collate)
-        [ $((count % 8)) != 0 ] || command=(./sort_names)
-        [ $((count % 16)) != 0 ] || command=(given 'b\na\n' ./sort_names)
-        says 1 "collate: refused $fault"$'\n' "  $broken, line ${fault% *}: " "  ${fault#* }: " "${text[@]}" -- \
-            "${command[@]}" "$broken"
+        # sort_names says it by the same function, over names and over none, but for what is past the limits of collate alone
+        command=(1 "collate: refused $fault"$'\n' -- ./collate "$broken")
+        if [[ $fault != *' limit' ]]; then
+            said="sort_names: refused $fault $broken"$'\n'
+            [ $((count % 8)) != 0 ] || command=(2 "$said" -- ./sort_names --records "$broken")
+            [ $((count % 16)) != 0 ] || command=(2 "$said" -- given 'b\na\n' ./sort_names --records "$broken")
+        fi
+        says "${command[@]:0:2}" "  $broken, line ${fault% *}: " "  ${fault#* }: " "${text[@]}" "${command[@]:2}"
     done <tools/broken_records.tsv
     [ "$count" -ge 60 ] || complain "only $count broken files"
     seq -f 'class %05.0f 230' 10001 10151 >"$broken"
     says 1 "refused 151 limit" "these are 151 code points, each range counted as one, and 150 may be" -- \
-        ./sort_names "$broken"
+        ./collate "$broken"
+    says 0 = -- ./sort_names --records "$broken"
     { small && seq -f 'set numeric %02.0f' 11 11 && yes 'range 4E00 4E00 E0020200 1' | head -n 1000; } >"$broken"
     says 1 "refused 154 limit" "these are 151 code points" -- ./collate "$broken"
     { small && for count in $(seq 1000); do echo "w$(combination "$count") ;"; done; } >"$broken"
@@ -54,7 +57,14 @@ walk_broken_records() {
     printf '# \033[31m\n%s\n' x >"$broken"
     says 1 "refused 2 grammar" '!\x1B' -- ./collate "$broken"
     printf '\033[31m\n' >"$broken"
-    says 1 "refused 1 grammar" '\x1B[31m' -- ./collate "$broken"
+    says 1 "refused 1 grammar" '\x1B[31m' $'!\033' -- ./collate "$broken"
+    printf 'w 0061 ; \033\n' >"$broken"
+    says 1 "refused 1 grammar" '  \x1B is no element' $'!\033' -- ./collate "$broken"
+    # the name of a file too
+    cp "$broken" "$work"/$'\033[31m.records'
+    says 1 "refused 1 grammar" '/\x1B[31m.records, line 1: ' $'!\033' -- ./collate "$work"/$'\033[31m.records'
+    says 1 "cannot read \$'\\E[31m'" $'!\033' -- ./collate $'\033[31m'
+    says 1 "refused 1 grammar \$'" $'!\033' -- ./collate --unicode --over "$work/small.records" "$work"/$'\033[31m.records'
 }
 
 # What tables have room for, of files for all of Unicode.
@@ -65,7 +75,7 @@ walk_room() {
         < <(lines_of 700 512 'w & ;'; echo 'range F0000 F0001 E0020200 1')
     over_room 11001 '11001 blocks of 16 code points from 10000 on, each range counted as three, and 11000' \
         < <(lines_of 11001 16 'w & ;')
-    over_room 2601 '2601 texts of several characters or with a prefix, and 2600' < <(lines_of 2601 1 'w & & ;')
+    over_room 3601 '3601 texts of several characters or with a prefix, and 3600' < <(lines_of 3601 1 'w & & ;')
     over_room 2001 '16008 characters of full lists, by map lines, and 16000' < <(lines_of 2001 1 'map & 0344')
     # 0061 is mapped behind the fault
     over_room 2001 '16008 characters of full lists, by map and kmap lines, and 16000' \

@@ -1,6 +1,6 @@
 #!/usr/bin/env bash
 # Shows that tools/check_first_minute.sh sees what is wrong:
-#     tools/wrong_first_minutes.sh [--part PART] [EXECUTABLE [UNICODE]]
+#     tools/wrong_first_minutes.sh [--part PART] [EXECUTABLE [UNICODE [SORT_NAMES]]]
 # Each line below names a part of the walk, a file, and how it is changed in the checkout that is walked; the part has to
 # complain. What passed is printed; the status is 0 only where nothing did. PART is the one that is tried alone.
 set -u
@@ -31,7 +31,9 @@ without_executable tools/launcher.sh s/^--unicode collate_unicode/--unicode coll
 without_executable tools/launcher.sh s/to build $crate with/to build it with/
 without_executable tools/install.sh s/made+=("$program")/[ $# = 0 ] || copy 755 "$1" "$program"/
 without_executable collate s/-h | --help)/--help)/
-without_executable sort_names s/usage "not understood: $1"/usage "no"/
+without_executable sort_names s/^    -h | --help)/    --help)/
+without_executable sort_names s/trouble=2/trouble=1/
+without_executable sort_names s/^    --\*) return 1 ;;/    -*) return 1 ;;/
 foreign_executable tools/launcher.sh s/\[ "$sum $kind" = .* \] || return 1/true/
 foreign_executable tools/launcher.sh s/= "$(sum_of "$1") ${unproved:-proved}"/= "$(sum_of "$1") $kind"/
 foreign_executable tools/launcher.sh s/&& $(cat "$1.stamp" 2>.dev.null) == .*"$(sum_of "$1")" \]\]/]]/
@@ -40,15 +42,15 @@ with_executable tools/launcher.sh s/\[ "$sources" = .* || return 1/return 1/
 with_executable tools/launcher.sh s/\[ "$sources" = .* || return 1/true/
 with_executable tools/launcher.sh s/ LARGER=$(larger_limits)//
 with_executable collate s/^    take_word --unicode$/    true/
-with_executable sort_names s/^    \[ -e "$work.part.000000" \] || .*//
+with_executable sort_names s/^        words+=("$@")$/        words+=("$1")/
 faults collate s/ && writes_to_pipe; then/; then/
 faults collate s/ && writes_to_pipe; then/ \&\& false; then/
 faults tools/launcher.sh s/not understood: $word (values/(values/
 faults tools/launcher.sh s/echo "it is a folder"/echo "reading it failed"/
 faults tools/launcher.sh s/; there is $file//
 faults tools/launcher.sh s/^    -.) echo "; before/    --numeric=on) echo "; before/
-faults sort_names s/^    \[ -z "$wrong" \] || usage.*//
-faults sort_names s/^    ?\*) fail "$fault" ;;$//
+faults sort_names s/^    source_words default-$/    source_words ''/
+faults sort_names s/^            echo "  $(why_unreadable "$file")" >&2$//
 languages tools/languages.sh s/^nb     no$//
 languages tools/languages.sh s/name=${name%-\*}/break/
 languages tools/languages.sh s/^phonebk   phonebook$//
@@ -60,7 +62,9 @@ languages tools/languages.sh s/|| refuse_language "$2: $(shown "$1") has no orde
 languages tools/launcher.sh s/SHOWN=${file:-$1}/SHOWN=$1/
 languages tools/launcher.sh s/"${file:-${file_read:-$1}}"/"${file_read:-$1}"/
 languages sort_names s/find_language_of_environment$/find_language und LANG/
-languages sort_names s/^    \[ -z "$merges" \] || usage .*//
+languages sort_names s/^    --language=\*) .*//
+languages sort_names s/^    \[ ${#sources\[@\]} = 0 \] || refuse_language .*//
+languages sort_names s/ ${over:+"$over"}//
 languages collate s/find_language "$2" --language/find_language sv --language/
 languages tools/languages.sh s/^zh-hant  stroke$//
 languages tools/languages.sh s/^zh-tw  zh-hant$//
@@ -71,8 +75,8 @@ languages tools/languages.sh s/${COLLATE_RECORDS:-\($(records_folder)\)}/\1/
 languages tools/languages.sh s/.t.2.t.3.p' "$list"/\\t\\2\/p' "$list"/
 languages tools/languages.sh s/|| refuse_language "there is no root.*/|| true/
 languages tools/languages.sh s/$(known_types .*)"$/"/
-broken_records sort_names s/explain "$fault" "${words\[@\]}"/explain "$fault" "$work\/records"/
-broken_records sort_names s/^    'collate: refused '\* | /    /
+broken_records sort_names s/|| explain "$said"$/|| true/
+broken_records tools/launcher.sh s/^    \*': refused '\*)$/    'collate: refused '*)/
 broken_records docs/rules.tsv /^V5/d
 broken_records tools/explain.awk s/^FNR <= line || is_whole/FNR < line || is_whole/
 broken_records tools/explain.awk s/show_line(first_of\[key\[line\]\])/show_line(line)/
@@ -87,6 +91,11 @@ room tools/explain_limit.awk s/ || is_built_in(.*)) return/) return/
 broken_records tools/explain_limit.awk s/larger.place + 1./larger[place]/
 broken_records tools/explain.awk s/else if (one < " " /else if (one < "" /
 broken_records tools/explain.awk s/bare != it/0/
+broken_records collate s/as_printed "$said" >&2/printf "%s\\n" "$said" >\&2/
+broken_records collate s/echo "collate: cannot read .*;;/printf '%s\\n' "$1" ;;/
+broken_records collate s/$(shown "${rest#\* }")"$/${rest#* }"/
+broken_records tools/explain.awk s/printable(ENVIRON\["SHOWN"\])/ENVIRON["SHOWN"]/
+broken_records tools/explain.awk s/printable(found)/found/
 installed tools/install.sh s/ LICENSE-UNICODE.txt NOTICE.md$//
 installed tools/install.sh s/docs.collate.1 docs.sort_names.1/docs\/collate.1/
 installed tools/install.sh s/rm -rf "$prefix.lib.leekclamp"/rm -rf/
@@ -108,7 +117,10 @@ installed tools/install.sh s/^collate_unicode .*//
 installed tools/install.sh s/^    ln -sfn .*/    true/
 installed tools/install.sh s/ -o -name list.tsv//
 installed collate s/if is_installed; then/if false; then/
-installed sort_names s/is_installed || printf/printf/
+installed sort_names s/is_installed || echo 'The/echo 'The/
+installed tools/install.sh s/^sort_names       sort_names$//
+installed tools/launcher.sh s/^-         sort_names .*//
+with_stand_in tools/launcher.sh s/^    \[ "$crate" != sort_names \] || echo --records$//
 with_stand_in tools/launcher.sh s/is proved, " /proved, " /
 with_stand_in tools/launcher.sh s/cd "crates.$crate" && rt run/cd crates\/collate \&\& rt run/
 with_stand_in tools/launcher.sh s/note_sources "$program" "$sum"/note_sources "$program" "$(sum_of_sources)"/
