@@ -25,4 +25,5 @@ pub mod KeyCodes
 pub mod LevelLists
 pub mod TextsRead
 pub mod FlatOrders
+pub mod StretchedOrders
 pub mod ReadingPlaces

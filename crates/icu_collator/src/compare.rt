@@ -7,6 +7,7 @@ mod levels;
 mod listed;
 mod orders;
 mod shifted;
+mod stretched;
 mod weights;
 
 pub(crate) use encoded::{common_place, compare_texts};

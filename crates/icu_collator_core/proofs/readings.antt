@@ -20,7 +20,9 @@ pub mod ReadingLeftLemmas
 pub mod SamenessLemmas
 pub mod SoundElementsLemmas
 pub mod SplitAtBoundaryLemmas
+pub mod PairLemmas
 pub mod StretchLemmas
+pub mod StretchedLemmas
 pub mod ReadStepLemmas
 pub mod UpcomingLemmas
 pub mod ToldListLemmas

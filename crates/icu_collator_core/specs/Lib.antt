@@ -26,6 +26,8 @@ pub mod WholeLeads
 pub mod ReorderingTests
 pub mod SpelledTests
 pub mod Stretches
+pub mod Stretched
+pub mod Pairs
 pub mod WordWeights
 pub mod PrefixFaults
 pub mod WeightLists

@@ -6,6 +6,7 @@ ghost use Rattle.icu_normalizer_core.specs.CanonicalMeaning.{meaning};
 ghost use Rattle.icu_collator_core.specs.Acceptance.{IsAccepted, IsRefusal};
 ghost use Rattle.icu_collator_core.specs.FlatNotes.{IsFlatNote};
 ghost use Rattle.icu_collator_core.specs.CollationNotes.{IsNoted, IsOwnBeginning, IsPlainCharacter};
+ghost use Rattle.icu_collator_core.specs.Pairs.{IsPair, noted_elements};
 ghost use Rattle.icu_collator_core.specs.PlainWords.{IsUnprefixed};
 ghost use Rattle.icu_collator_core.specs.ReadSources.{IsAloneAnywhere};
 ghost use Rattle.icu_collator_core.specs.TableMeaning.{weights_of};
@@ -17,6 +18,7 @@ use crate::check::faults::judge;
 use crate::collation_notes::{CollationNote, collation_notes};
 use crate::flat::notes::{FlatNote, flat_notes};
 use crate::flat::pages::{NotePage, note_pages};
+use crate::flat::pairs::{PairNote, PairNotes, pair_notes};
 use crate::reading::checked_words::checked_word;
 use crate::reading::next::alone_at;
 use crate::tables::CollationTables;
@@ -39,6 +41,8 @@ pub struct CheckedTables<'a> {
     flat: Vec<FlatNote>,
     /// The same of those behind them, in pages.
     pages: Vec<NotePage>,
+    /// The same of pairs of characters.
+    pairs: PairNotes,
 }
 
 // (let go of as one, and not part by part, so that what owns one is proved sooner)
@@ -51,6 +55,7 @@ impl Drop for CheckedTables<'_> {
             low: _,
             flat: _,
             pages: _,
+            pairs: _,
         } = self;
     }
 }
@@ -61,6 +66,7 @@ impl<'a> Model for CheckedTables<'a> {
     ghost use Rattle.icu_collator_core.specs.FlatNotes.{AreFlatNotes};
     ghost use Rattle.icu_collator_core.specs.CollationNotes.{AreNoted};
     ghost use Rattle.icu_collator_core.specs.NotePages.{AreNotePages};
+    ghost use Rattle.icu_collator_core.specs.Pairs.{ArePairNotes};
     ghost use Rattle.icu_collator_core.specs.TableMeaning.{weights_of};
     ghost use Rattle.icu_collator_core.specs.UnsafeWords.{AreUnsafeByRecords};
 
@@ -72,7 +78,8 @@ impl<'a> Model for CheckedTables<'a> {
         × AreUnsafeByRecords (weights_of (meaning inside.canonical) inside.tables) inside.unsafe_characters.items
         × AreNoted (record { canonical = inside.canonical; tables = inside.tables }) inside.low.items
         × AreFlatNotes (record { canonical = inside.canonical; tables = inside.tables }) inside.flat.items
-        × AreNotePages (record { canonical = inside.canonical; tables = inside.tables }) inside.pages.items };
+        × AreNotePages (record { canonical = inside.canonical; tables = inside.tables }) inside.pages.items
+        × ArePairNotes (record { canonical = inside.canonical; tables = inside.tables }) inside.pairs };
 }
 
 /// The characters that tables make unsafe, where they pass every check; else what they are refused for.
@@ -99,7 +106,7 @@ fn first_of_full(canonical: CanonicalBorrowed<'_>, c: char) -> Option<char>
 }
 
 /// Whether one read tells that a character is its own full list.
-fn is_own_list(canonical: CanonicalBorrowed<'_>, c: char) -> bool
+pub(crate) fn is_own_list(canonical: CanonicalBorrowed<'_>, c: char) -> bool
     ensures { IsTrue result → (borrowed_meaning canonical.entry).full c ≡ c ∷ [] }
 {
     match canonical.reading(c) {
@@ -129,8 +136,9 @@ impl<'a> CheckedTables<'a> {
                     low: Vec::new(alloc),
                     flat: Vec::new(alloc),
                     pages: Vec::new(alloc),
+                    pairs: PairNotes::new(alloc),
                 };
-                Ok(checked.with_low(alloc)?)
+                Ok(checked.with_low(alloc)?.with_pairs(alloc)?)
             }
             Err(fault) => Err(fault),
         }
@@ -146,6 +154,15 @@ impl<'a> CheckedTables<'a> {
         self.low = low;
         self.flat = flat;
         self.pages = pages;
+        Ok(self)
+    }
+
+    /// The same tables, with notes of pairs of characters, which those of characters tell.
+    fn with_pairs(mut self, alloc: Global) -> Result<CheckedTables<'a>, AllocError>
+        ensures { IfOk result (λ checked. checked ≡ self.entry) }
+    {
+        let pairs = pair_notes(alloc, &self, self.unsafe_characters.as_slice())?;
+        self.pairs = pairs;
         Ok(self)
     }
 
@@ -243,6 +260,15 @@ impl<'a> CheckedTables<'a> {
         let page = self.pages.get(code / 64)?;
         let note = page.get(code % 64)?;
         Some(note)
+    }
+
+    /// What is noted of two characters that stand together; `None` of most.
+    #[inline(always)]
+    pub(crate) fn pair(&self, first: char, second: char) -> Option<&PairNote>
+        ensures { IfSome result (λ pair. IsPair self.now first second (noted_elements pair.now) pair.now.trail) }
+    {
+        let pair = self.pairs.get(first, second)?;
+        Some(pair)
     }
 
     /// Whether a character is its own full list, and reading may begin at it, by the tables alone.

@@ -12,13 +12,16 @@ mod flat_elements;
 mod listed;
 pub(crate) mod notes;
 pub(crate) mod pages;
+pub(crate) mod pairs;
 mod steps;
+pub(crate) mod stretched;
 mod stretches;
 
 use crate::checked::CheckedTables;
 pub use flat_elements::FlatElements;
 use notes::FlatNote;
 pub use steps::FlatStep;
+pub use stretched::StretchedElements;
 
 impl CheckedTables<'_> {
     /// Appends the elements of a character that stands behind one of this class, if it is read so, its marks stand in order, and

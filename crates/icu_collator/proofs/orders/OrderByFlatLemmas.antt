@@ -131,7 +131,7 @@ module _ (source : CollationSource) where
         ∙ ap (λ (ps : List ℕ). ps ++ of (counted collation options more)) (whole_primaries items)
 
   module _ (numeric : Option ℕ) (options : ResolvedCollatorOptions) (is : numeric ≡ numeric_by source options) where
-    by_options : (text : List ℕ) → elements_of_text collation options text ≡ text_elements source numeric text
+    pub by_options : (text : List ℕ) → elements_of_text collation options text ≡ text_elements source numeric text
     by_options text = sym (ap (λ (n : Option ℕ). text_elements source n text) is ∙ elements_by_options source options text)
 
   module _ (numeric : Option ℕ) (options : ResolvedCollatorOptions) (is : numeric ≡ numeric_by source options) (least : ℕ) (within : variable_end_of collation options ≤ least) where

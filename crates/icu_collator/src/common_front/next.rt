@@ -70,6 +70,18 @@ fn own_element(checked: &CheckedTables<'_>, c: char) -> Option<CollationElement>
     Some(element)
 }
 
+/// The element of a plain character other than U+0307 that is its own full list, where a page of notes tells it.
+#[inline]
+fn paged_element(checked: &CheckedTables<'_>, c: char) -> Option<CollationElement>
+    ensures { IfSome result (λ bits. IsPlain (source_collation checked.now) c bits) }
+{
+    if c == '\u{307}' {
+        return None;
+    }
+    let element = checked.boundary_element(c)?;
+    Some(element)
+}
+
 /// The element of a plain character, by its full list; `None` for one that isn't plain, and for some that are.
 fn find_plain_element(checked: &CheckedTables<'_>, c: char) -> Option<CollationElement>
     ensures { IfSome result (λ bits. IsPlain (source_collation checked.now) c bits) }
@@ -89,6 +101,9 @@ fn plain_element(checked: &CheckedTables<'_>, c: char) -> Option<CollationElemen
 {
     checked.canonical().keep_promise();
     if let Some(element) = noted_element(checked, c) {
+        return Some(element);
+    }
+    if let Some(element) = paged_element(checked, c) {
         return Some(element);
     }
     match own_element(checked, c) {

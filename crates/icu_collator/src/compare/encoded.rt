@@ -11,6 +11,7 @@ use super::flat::compare_flat;
 use super::iterators::compare_characters;
 use super::listed::compare_listed;
 use super::shifted::compare_shifted;
+use super::stretched::compare_stretched;
 use crate::common_front::{
     FirstDifference, behind, first_difference, order_by_difference, reading_place,
 };
@@ -76,7 +77,7 @@ fn compare_behind<T: Characters, U: Characters>(
 {
     match compare_flat_behind(alloc, checked, options, left, right, place)? {
         Some(order) => Ok(order),
-        None => match compare_listed(alloc, checked, options, left, right, place)? {
+        None => match compare_stretched(alloc, checked, options, left, right, place)? {
             Some(order) => Ok(order),
             None => {
                 let order = compare_whole_behind(alloc, checked, options, left, right, place)?;

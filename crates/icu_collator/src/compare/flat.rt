@@ -31,7 +31,7 @@ const KEPT: usize = 64;
 
 /// What the next primaries of two texts say.
 #[derive(Clone, Copy)]
-enum Meeting {
+pub(super) enum Meeting {
     /// They are alike, as they are reordered.
     Alike,
     /// Both texts end.
@@ -72,7 +72,7 @@ fn meet_primaries(checked: &CheckedTables<'_>, first: u32, second: u32) -> Meeti
 
 /// What comes next in two texts, as it is before reordering.
 #[inline(always)]
-fn meet(checked: &CheckedTables<'_>, first: FlatStep, second: FlatStep) -> Meeting
+pub(super) fn meet(checked: &CheckedTables<'_>, first: FlatStep, second: FlatStep) -> Meeting
     ensures { IsMeeting checked.now first second result }
 {
     match first {

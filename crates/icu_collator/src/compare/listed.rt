@@ -56,7 +56,7 @@ fn compare_counted(
 
 /// The order of two texts by all their elements, below `Identical`: where some may be variable, those that count are kept.
 /// Fails only when out of memory.
-fn compare_elements(
+pub(super) fn compare_elements(
     alloc: Global,
     checked: &CheckedTables<'_>,
     options: &ResolvedCollatorOptions,

@@ -65,7 +65,7 @@ fn group_end(checked: &CheckedTables<'_>, group: MaxVariable) -> u32
 }
 
 /// Whether an element with this primary is variable.
-fn is_variable(primary: u32, variable_end: u32) -> bool
+pub(crate) fn is_variable(primary: u32, variable_end: u32) -> bool
     ensures { result ≡ (ltb 0x02000000 primary && ltb primary variable_end) }
 {
     SEGMENT_END_PRIMARY < primary && primary < variable_end

@@ -1,16 +1,19 @@
 //! Reading of texts parts of which aren't flat: from one boundary to the next such a part is read by its decomposed list, the
 //! rest by notes.
 
-ghost use Rattle.std.specs.Prelude.{◌≡◌, ◌∷◌, ◌++◌, ℕ, Option, List, [], IfOk, true};
+ghost use Rattle.std.specs.Char.{IsScalar};
+ghost use Rattle.std.specs.Prelude.{◌≡◌, ◌≤◌, ◌∷◌, ◌++◌, ℕ, All, Option, List, [], IfOk, length, take, true};
 ghost use Rattle.std.specs.Iterator.{IsFinite};
 ghost use lib.Utf8.{scalars};
 ghost use Rattle.icu_normalizer_core.specs.Iter.{Spells};
+ghost use Rattle.icu_collator_core.specs.Acceptance.{CollationSource};
 ghost use Rattle.icu_collator_core.specs.AlikeLists.{IsToldAlone};
 ghost use Rattle.icu_collator_core.specs.ElementLists.{unpacked};
 ghost use Rattle.icu_collator_core.specs.ElementTexts.{text_elements};
-ghost use Rattle.icu_normalizer_core.specs.Canonical.{decomposed};
+ghost use Rattle.icu_normalizer_core.specs.Canonical.{IsDecomposing, decomposed};
 ghost use Rattle.icu_collator_core.specs.FlatNotes.{BeginsApart, IsFlatNote};
 ghost use Rattle.icu_collator_core.specs.ReadSources.{canonical_by, weights_by};
+ghost use Rattle.icu_collator_core.specs.Stretched.{BeginsWithElements};
 ghost use Rattle.icu_collator_core.specs.Stretches.{HasElements, IsClosed, IsOpen};
 
 use super::flat_elements::FlatElements;
@@ -24,7 +27,7 @@ use smallvec::SmallVec;
 use std::alloc::{AllocError, Global};
 
 /// What stands behind the last boundary of a text, with that; or all of the text, where none was met.
-struct Stretch {
+pub(super) struct Stretch {
     /// Its characters.
     chars: SmallVec<char, 64>,
     /// How many elements stand before it.
@@ -55,7 +58,7 @@ impl Drop for Stretch {
 
 impl Stretch {
     /// A stretch of no characters, at the beginning of a text.
-    fn new(alloc: Global) -> Self
+    pub(super) fn new(alloc: Global) -> Self
         ensures chars { result.chars.items ≡ [] }
         ensures count { result.count ≡ 0 }
         ensures class { result.class ≡ 0 }
@@ -69,11 +72,26 @@ impl Stretch {
             found: SmallVec::new(alloc),
         }
     }
+
+    /// How many of the elements that were read stand, whatever follows.
+    #[inline(always)]
+    pub(super) fn settled<const N: usize>(&self, elements: &FlatElements<N>) -> usize
+        ensures stands { (source : CollationSource) (numeric : Option ℕ) (text rest : List ℕ) → IsDecomposing (canonical_by source) → All IsScalar (text ++ rest)
+            → IsOpen source numeric text self.now elements.now.items → BeginsWithElements source numeric (text ++ rest) (take result elements.now.items) }
+        ensures within { (source : CollationSource) (numeric : Option ℕ) (text : List ℕ)
+            → IsOpen source numeric text self.now elements.now.items → result ≤ length elements.now.items }
+    {
+        if !self.is_rough && self.class == 0 {
+            elements.len()
+        } else {
+            self.count
+        }
+    }
 }
 
 impl CheckedTables<'_> {
     /// Whether a list is read alike whatever stands before it, as its prefixes tell; `false` for some that are.
-    fn is_told_alone(&self, list: &[char]) -> bool
+    pub(super) fn is_told_alone(&self, list: &[char]) -> bool
         requires { scalars list.now ≡ true }
         ensures { result ≡ true → (numeric : Option ℕ) → IsToldAlone (weights_by numeric self.now) list.now }
     {
@@ -130,7 +148,7 @@ impl CheckedTables<'_> {
     /// Reads a stretch to its end, behind which a boundary stands, or nothing; `false` where that can't be. Fails only when out of
     /// memory.
     #[inline(always)]
-    fn close<const N: usize>(
+    pub(super) fn close<const N: usize>(
         &self,
         numeric: Option<u8>,
         stretch: &mut Stretch,
@@ -179,6 +197,30 @@ impl CheckedTables<'_> {
         }
     }
 
+    /// Puts a character behind those of a stretch that isn't read flat there: it is read with the first, where both are noted as a
+    /// pair and no other stands between; else the stretch is rough. `false` where there is no room. Fails only when out of memory.
+    #[inline(never)]
+    fn pair_up<const N: usize>(
+        &self,
+        c: char,
+        stretch: &mut Stretch,
+        elements: &mut FlatElements<N>,
+    ) -> Result<bool, AllocError>
+        ensures { IfOk result (λ is_read. is_read ≡ true → (numeric : Option ℕ) (text : List ℕ) → IsOpen self.now numeric text stretch.old elements.old.items
+            → IsOpen self.now numeric (text ++ c ∷ []) stretch.new elements.new.items) }
+    {
+        if !stretch.is_rough && stretch.chars.len() == 1 {
+            if let Some(pair) = self.pair(stretch.chars[0], c) {
+                stretch.chars.push(c)?;
+                stretch.class = pair.trail();
+                return Ok(elements.replace_from(stretch.count, pair.elements()));
+            }
+        }
+        stretch.chars.push(c)?;
+        stretch.is_rough = true;
+        Ok(true)
+    }
+
     /// Puts a character behind those of a stretch; `false` where there is no room. Fails only when out of memory.
     #[inline(always)]
     fn go_on<const N: usize>(
@@ -193,11 +235,11 @@ impl CheckedTables<'_> {
         ensures { IfOk result (λ is_read. is_read ≡ true → (text : List ℕ) → IsOpen self.now numeric text stretch.old elements.old.items
             → IsOpen self.now numeric (text ++ c ∷ []) stretch.new elements.new.items) }
     {
-        stretch.chars.push(c)?;
         if stretch.is_rough || !note.is_flat_behind(numeric, stretch.class) {
-            stretch.is_rough = true;
-            return Ok(true);
+            let is_read = self.pair_up(c, stretch, elements)?;
+            return Ok(is_read);
         }
+        stretch.chars.push(c)?;
         match note.push(numeric, stretch.class, elements) {
             Some(class) => {
                 stretch.class = class;
@@ -209,7 +251,7 @@ impl CheckedTables<'_> {
 
     /// Reads the next character of a text; `false` where that can't be. Fails only when out of memory.
     #[inline(always)]
-    fn read_next<const N: usize>(
+    pub(super) fn read_next<const N: usize>(
         &self,
         numeric: Option<u8>,
         c: char,

@@ -1,0 +1,185 @@
+//! The comparison of two texts that are read by stretches side by side, as far as their primaries are the same; where these are so
+//! to the end, by the elements that were read.
+
+ghost use Rattle.std.specs.Prelude.{◌≡◌, ◌≤◌, ◌∷◌, ◌++◌, ◌==◌, ◌&&◌, ◌||◌, ℕ, All, IfNone, IfOk, IfSome, List, [], drop, false, length, ltb, not, take};
+ghost use Rattle.std.specs.Char.{IsScalar};
+ghost use Rattle.std.specs.Iterator.{IsFinite};
+ghost use Rattle.icu_normalizer_core.specs.Iter.{Spells};
+ghost use Rattle.icu_collator_core.specs.Stretched.{IsUnread, settled_in};
+ghost use Rattle.icu_collator_core.specs.declared.flat.steps.FlatStep.TheVariants.{Primary};
+ghost use Rattle.icu_collator.specs.Collators.{source_collation};
+ghost use Rattle.icu_collator.specs.Order.{collation_order};
+ghost use Rattle.icu_collator.specs.StretchedOrders.{IsNextSettled, IsRun, counted_primaries};
+
+use super::flat::{Meeting, meet};
+use super::listed::compare_elements;
+use crate::common_front::behind;
+use crate::encodings::Characters;
+use crate::levels::counted_elements::{is_variable, variable_end};
+use crate::read_texts::numeric_lead;
+use icu_collator_core::checked::CheckedTables;
+use icu_collator_core::flat::{FlatStep, StretchedElements};
+use icu_collator_types::elements::CollationElement;
+use icu_collator_types::options::{ResolvedCollatorOptions, Strength};
+use std::alloc::{AllocError, Global};
+use std::cmp::Ordering;
+
+/// How many elements of each text are read so.
+const KEPT: usize = 64;
+
+/// Whether a primary counts: it is none, or that of a variable element.
+#[inline(always)]
+fn counts(primary: u32, variable_end: u32) -> bool
+    ensures { result ≡ not ((primary == 0) || (ltb 0x02000000 primary && ltb primary variable_end)) }
+{
+    primary != 0 && !is_variable(primary, variable_end)
+}
+
+/// The first primary from a place on that counts, and the place behind its element.
+#[inline(always)]
+fn first_primary(
+    elements: &[CollationElement],
+    place: usize,
+    variable_end: u32,
+) -> Option<(u32, usize)>
+    requires { place ≤ length elements.now }
+    ensures within { IfSome result (λ found. found.1 ≤ length elements.now) }
+    ensures primary { IfSome result (λ found. counted_primaries variable_end (take found.1 elements.now) ≡ counted_primaries variable_end (take place elements.now) ++ found.0 ∷ []) }
+    ensures none { IfNone result (counted_primaries variable_end elements.now ≡ counted_primaries variable_end (take place elements.now)) }
+{
+    for at in place..elements.len() {
+        let primary = elements[at].primary();
+        if counts(primary, variable_end) {
+            return Some((primary, at + 1));
+        }
+    }
+    None
+}
+
+/// Reads on in a text, of whose elements so many were met, up to the next with a primary that counts: answers that, what is left of
+/// the text, and how many elements were met then. Fails only when out of memory.
+#[inline(never)]
+fn next_settled<I: Iterator<Item = char> + Drop>(
+    checked: &CheckedTables<'_>,
+    numeric: Option<u8>,
+    variable_end: u32,
+    chars: I,
+    text: &mut StretchedElements,
+    met: usize,
+) -> Result<(FlatStep, I, usize), AllocError>
+    requires met { met ≤ length (settled_in text.old) }
+    requires can { text.old.is_ended ≡ false → I.can_next chars }
+    requires finite { text.old.is_ended ≡ false → IsFinite (I.remaining chars) }
+    ensures next { IfOk result (λ answer. IsNextSettled checked.now numeric I.next_gives variable_end chars text.old met answer.0 answer.1 text.new answer.2) }
+    ensures can { IfOk result (λ answer. (p : ℕ) → answer.0 ≡ Primary p → text.new.is_ended ≡ false → I.can_next answer.1) }
+    ensures finite { IfOk result (λ answer. (p : ℕ) → answer.0 ≡ Primary p → text.new.is_ended ≡ false → IsFinite (I.remaining answer.1)) }
+    ensures within { IfOk result (λ answer. (p : ℕ) → answer.0 ≡ Primary p → answer.2 ≤ length (settled_in text.new)) }
+{
+    let mut chars = chars;
+    for _turn in 0..KEPT {
+        let settled = text.settled();
+        if met > settled.len() {
+            return Ok((FlatStep::Other, chars, met));
+        }
+        if let Some((primary, place)) = first_primary(settled, met, variable_end) {
+            return Ok((FlatStep::Primary(primary), chars, place));
+        }
+        if text.is_ended() {
+            return Ok((FlatStep::End, chars, met));
+        }
+        let (is_read, left) = checked.read_on(numeric, chars, text)?;
+        chars = left;
+        if !is_read {
+            return Ok((FlatStep::Other, chars, met));
+        }
+    }
+    Ok((FlatStep::Other, chars, met))
+}
+
+/// Reads two texts side by side, of which nothing was read, as far as their primaries are the same: how they part, that both end, or
+/// that one can't be read so. Fails only when out of memory.
+#[inline(never)]
+fn race<I: Iterator<Item = char> + Drop, J: Iterator<Item = char> + Drop>(
+    checked: &CheckedTables<'_>,
+    options: &ResolvedCollatorOptions,
+    left: I,
+    right: J,
+    lefts: &mut StretchedElements,
+    rights: &mut StretchedElements,
+) -> Result<Meeting, AllocError>
+    requires left { I.can_next left }
+    requires left_ends { IsFinite (I.remaining left) }
+    requires right { J.can_next right }
+    requires right_ends { IsFinite (J.remaining right) }
+    requires left_unread { IsUnread lefts.old }
+    requires right_unread { IsUnread rights.old }
+    ensures { IfOk result (λ meeting. (a b : List ℕ) → All IsScalar a → All IsScalar b → Spells I.next_gives left a → Spells J.next_gives right b
+        → IsRun (source_collation checked.now) options.now a b lefts.new rights.new meeting) }
+{
+    let numeric = numeric_lead(checked, options);
+    let end = variable_end(checked, options);
+    let mut left = left;
+    let mut right = right;
+    let mut left_met = 0;
+    let mut right_met = 0;
+    for _turn in 0..KEPT + 1 {
+        let (first, left_rest, left_next) = next_settled(
+            checked, numeric, end, left, lefts, left_met,
+        )?;
+        let (second, right_rest, right_next) = next_settled(
+            checked, numeric, end, right, rights, right_met,
+        )?;
+        let meeting = meet(checked, first, second);
+        left = left_rest;
+        right = right_rest;
+        left_met = left_next;
+        right_met = right_next;
+        match meeting {
+            Meeting::Alike => {}
+            Meeting::Parted(order) => return Ok(Meeting::Parted(order)),
+            Meeting::Stopped => return Ok(Meeting::Stopped),
+            Meeting::BothEnd => return Ok(Meeting::BothEnd),
+        }
+    }
+    Ok(Meeting::Stopped)
+}
+
+/// The order of what stands in two texts behind so many characters, if both can be read by stretches as far as it takes, and have few
+/// elements: `None` for others, and at `Identical`. Fails only when out of memory.
+#[inline(never)]
+pub(super) fn compare_stretched<T: Characters, U: Characters>(
+    alloc: Global,
+    checked: &CheckedTables<'_>,
+    options: &ResolvedCollatorOptions,
+    left: T,
+    right: U,
+    place: usize,
+) -> Result<Option<Ordering>, AllocError>
+    requires left_reaches { place ≤ length (T.characters left) }
+    requires right_reaches { place ≤ length (U.characters right) }
+    ensures { IfOk result (λ answer. IfSome answer (λ order.
+        order ≡ collation_order (source_collation checked.now) options.now (drop place (T.characters left)) (drop place (U.characters right)))) }
+{
+    if options.strength.is_at_least(Strength::Identical) {
+        return Ok(None);
+    }
+    let mut lefts = StretchedElements::new(alloc);
+    let mut rights = StretchedElements::new(alloc);
+    let left = behind(left.chars(), place);
+    let right = behind(right.chars(), place);
+    match race(checked, options, left, right, &mut lefts, &mut rights)? {
+        Meeting::Parted(order) => Ok(Some(order)),
+        Meeting::BothEnd => {
+            let order = compare_elements(
+                alloc,
+                checked,
+                options,
+                lefts.settled(),
+                rights.settled(),
+            )?;
+            Ok(Some(order))
+        }
+        Meeting::Alike => Ok(None),
+        Meeting::Stopped => Ok(None),
+    }
+}
