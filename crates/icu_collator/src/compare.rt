@@ -2,6 +2,7 @@
 
 mod encoded;
 mod flat;
+mod fronts;
 mod iterators;
 mod levels;
 mod listed;

@@ -8,6 +8,7 @@ ghost use Rattle.icu_collator.specs.Order.{collation_order};
 ghost use Rattle.icu_collator.specs.ReadingPlaces.{IsCommonPlace};
 
 use super::flat::compare_flat;
+use super::fronts::compare_behind_boundary;
 use super::iterators::compare_characters;
 use super::listed::compare_listed;
 use super::shifted::compare_shifted;
@@ -103,6 +104,12 @@ fn compare_past<T: Characters, U: Characters>(
     ensures { IfOk result (λ order. order ≡ collation_order (source_collation checked.now) options.now (T.characters left) (U.characters right)) }
 {
     let place = reading_place(checked, options, left, difference.common);
+    if place == 0 {
+        let answer = compare_behind_boundary(alloc, checked, options, left, right, difference)?;
+        if let Some(order) = answer {
+            return Ok(order);
+        }
+    }
     let order = compare_behind(alloc, checked, options, left, right, place)?;
     Ok(order)
 }

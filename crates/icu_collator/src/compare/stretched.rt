@@ -99,7 +99,7 @@ fn next_settled<I: Iterator<Item = char> + Drop>(
 /// Reads two texts side by side, of which nothing was read, as far as their primaries are the same: how they part, that both end, or
 /// that one can't be read so. Fails only when out of memory.
 #[inline(never)]
-fn race<I: Iterator<Item = char> + Drop, J: Iterator<Item = char> + Drop>(
+pub(super) fn race<I: Iterator<Item = char> + Drop, J: Iterator<Item = char> + Drop>(
     checked: &CheckedTables<'_>,
     options: &ResolvedCollatorOptions,
     left: I,
