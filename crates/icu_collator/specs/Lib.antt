@@ -2,7 +2,6 @@ pub mod Shifted
 pub mod Levels
 pub mod Order
 pub mod Strengths
-pub mod AskedLeads
 pub mod PlainPrimaries
 pub mod KeyBuffers
 pub mod KeyBytes

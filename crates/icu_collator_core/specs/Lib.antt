@@ -15,6 +15,7 @@ pub mod Sameness
 pub mod SameSettings
 pub mod Pools
 pub mod TableSettings
+pub mod CompressibleLeads
 pub mod TableMeaning
 pub mod WordForms
 pub mod WordPlaces

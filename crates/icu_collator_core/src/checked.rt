@@ -9,12 +9,14 @@ ghost use Rattle.icu_collator_core.specs.CollationNotes.{IsNoted, IsOwnBeginning
 ghost use Rattle.icu_collator_core.specs.PlainWords.{IsUnprefixed};
 ghost use Rattle.icu_collator_core.specs.ReadSources.{IsAloneAnywhere};
 ghost use Rattle.icu_collator_core.specs.TableMeaning.{weights_of};
+ghost use Rattle.icu_collator_core.specs.TableSettings.{is_compressible_in};
 ghost use Rattle.icu_collator_core.specs.UnsafeWords.{AreUnsafeByRecords};
 ghost use Rattle.icu_collator_core.specs.UnsafeCharacters.{IsUnsafe, IsUnsafeItself};
 
 use crate::check::TableFault;
 use crate::check::faults::judge;
 use crate::collation_notes::{CollationNote, collation_notes};
+use crate::compressible_leads::{compressible_leads, is_compressible_by};
 use crate::flat::notes::{FlatNote, flat_notes};
 use crate::flat::pages::{NotePage, note_pages};
 use crate::reading::checked_words::checked_word;
@@ -39,6 +41,8 @@ pub struct CheckedTables<'a> {
     flat: Vec<FlatNote>,
     /// The same of those behind them, in pages.
     pages: Vec<NotePage>,
+    /// For each lead byte whether it is compressible.
+    compressible: [bool; 256],
 }
 
 // (let go of as one, and not part by part, so that what owns one is proved sooner)
@@ -51,6 +55,7 @@ impl Drop for CheckedTables<'_> {
             low: _,
             flat: _,
             pages: _,
+            compressible: _,
         } = self;
     }
 }
@@ -60,6 +65,7 @@ impl<'a> Model for CheckedTables<'a> {
     ghost use Rattle.icu_collator_core.specs.Acceptance.{CollationSource, IsAccepted};
     ghost use Rattle.icu_collator_core.specs.FlatNotes.{AreFlatNotes};
     ghost use Rattle.icu_collator_core.specs.CollationNotes.{AreNoted};
+    ghost use Rattle.icu_collator_core.specs.CompressibleLeads.{AreCompressibleLeads};
     ghost use Rattle.icu_collator_core.specs.NotePages.{AreNotePages};
     ghost use Rattle.icu_collator_core.specs.TableMeaning.{weights_of};
     ghost use Rattle.icu_collator_core.specs.UnsafeWords.{AreUnsafeByRecords};
@@ -72,7 +78,8 @@ impl<'a> Model for CheckedTables<'a> {
         × AreUnsafeByRecords (weights_of (meaning inside.canonical) inside.tables) inside.unsafe_characters.items
         × AreNoted (record { canonical = inside.canonical; tables = inside.tables }) inside.low.items
         × AreFlatNotes (record { canonical = inside.canonical; tables = inside.tables }) inside.flat.items
-        × AreNotePages (record { canonical = inside.canonical; tables = inside.tables }) inside.pages.items };
+        × AreNotePages (record { canonical = inside.canonical; tables = inside.tables }) inside.pages.items
+        × AreCompressibleLeads inside.tables.special_primaries.last_primaries inside.compressible };
 }
 
 /// The characters that tables make unsafe, where they pass every check; else what they are refused for.
@@ -122,6 +129,7 @@ impl<'a> CheckedTables<'a> {
     {
         match judge_unsafe(alloc, canonical.as_borrowed(), &tables) {
             Ok(unsafe_characters) => {
+                let compressible = compressible_leads(&tables.special_primaries);
                 let checked = CheckedTables {
                     canonical,
                     tables,
@@ -129,6 +137,7 @@ impl<'a> CheckedTables<'a> {
                     low: Vec::new(alloc),
                     flat: Vec::new(alloc),
                     pages: Vec::new(alloc),
+                    compressible,
                 };
                 Ok(checked.with_low(alloc)?)
             }
@@ -210,6 +219,14 @@ impl<'a> CheckedTables<'a> {
         ensures { result ≡ true → IsUnprefixed (weights_of (meaning self.now.canonical) self.now.tables) c }
     {
         checked_word(self, c).is_unprefixed()
+    }
+
+    /// Whether a lead byte is left out of a key after a primary with the same lead. It takes one read and no memory.
+    #[inline(always)]
+    pub fn is_compressible(&self, lead: u8) -> bool
+        ensures { result ≡ is_compressible_in self.now.tables.special_primaries.last_primaries lead }
+    {
+        is_compressible_by(&self.compressible, lead)
     }
 
     /// What is noted of a character; `None` for one behind the low characters.

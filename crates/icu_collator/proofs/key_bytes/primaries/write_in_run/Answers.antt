@@ -4,20 +4,15 @@ use Rattle.icu_collator.specs.Collators.{source_collation}
 use Rattle.icu_collator.specs.KeyBytes.{was_compressible}
 use Rattle.icu_collator.specs.KeyCodes.{IsRun, IsWrittenUpTo}
 use Rattle.icu_collator.proofs.key_writing.PlainLevelLemmas.{run_up_to}
-use Rattle.icu_collator.proofs.key_bytes.primaries.write_plain_front.Goals as goal
+use Rattle.icu_collator.proofs.key_bytes.primaries.write_in_run.Goals as goal
 
-pub returns-in_ok-behind-in-None : goal.returns-in_ok-behind-in-None
-returns-in_ok-behind-in-None c =
-    subst (λ (run : Option ℕ). IsWrittenUpTo (source_collation c.args.checked.now) c.args.variable_end c.args.elements.now run c.args.from c.args.key.now.items
-    c.in_ok-behind-in-None.behind c.write_plain_ones.new.key.items) (sym c.in-None.is) c.in_ok-behind-in-None.ensures
-
-pub returns-in-None-reordering : goal.returns-in-None-reordering
-returns-in-None-reordering c =
+pub returns-in-None : goal.returns-in-None
+returns-in-None c =
     let source = c.args.checked.now in
     let put = c.put_short_primaries.ensures in
-    let lead = c.from-lead.result in
-    let is : c.args.run ≡ Some lead = c.in-Some.is ∙ ap Some (sym c.from-lead.ensures) in
-    let unmoved : source.tables.reordering ≡ None = ap (λ (t : CollationTables). t.reordering) (sym c.tables.ensures) ∙ c.in-None-reordering.is in
+    let lead = c.from-own.result in
+    let is : Some c.args.lead ≡ Some lead = ap Some (sym c.from-own.ensures) in
+    let unmoved : source.tables.reordering ≡ None = ap (λ (t : CollationTables). t.reordering) (sym c.tables.ensures) ∙ c.in-None.is in
     subst (λ (run : Option ℕ). IsWrittenUpTo (source_collation source) c.args.variable_end c.args.elements.now run c.args.from c.args.key.now.items
     c.put_short_primaries.result c.put_short_primaries.new.self.items) (sym is)
     (run_up_to source lead c.args.variable_end c.keep_promise.ensures unmoved (subst (IsRun (was_compressible (source_collation source))) is c.requires.run)
