@@ -21,6 +21,7 @@ pub mod SamenessLemmas
 pub mod SoundElementsLemmas
 pub mod SplitAtBoundaryLemmas
 pub mod StretchLemmas
+pub mod SyllablePartLemmas
 pub mod ReadStepLemmas
 pub mod UpcomingLemmas
 pub mod ToldListLemmas

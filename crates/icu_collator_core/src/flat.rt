@@ -14,9 +14,11 @@ pub(crate) mod notes;
 pub(crate) mod pages;
 mod steps;
 mod stretches;
+mod syllables;
 
 use crate::checked::CheckedTables;
 pub use flat_elements::FlatElements;
+use icu_normalizer_core::built_in::is_syllable;
 use notes::FlatNote;
 pub use steps::FlatStep;
 
@@ -42,7 +44,7 @@ impl CheckedTables<'_> {
         }
     }
 
-    /// The same of a character behind the low ones: by its note, or by those of its full list.
+    /// The same of a character behind the low ones: by its note, or by those of its full list, as of a syllable's letters.
     #[inline(never)]
     fn push_found<const N: usize>(
         &self,
@@ -53,6 +55,9 @@ impl CheckedTables<'_> {
     ) -> Option<u16>
         ensures { IfSome result (λ trail. IsPushed self.now numeric c before elements.old.items trail elements.new.items) }
     {
+        if is_syllable(c as u32) {
+            return self.push_syllable(numeric, c, before, elements);
+        }
         let note = self.find_note(c);
         if let FlatNote::Other = note {
             return self.push_listed(numeric, c, before, elements);

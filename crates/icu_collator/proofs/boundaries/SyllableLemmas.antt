@@ -5,11 +5,11 @@ use Rattle.std.specs.Prelude.{All, IfSome, flat_map}
 use Rattle.std.proofs.lemmas.List.{length-append}
 use Rattle.std.proofs.lemmas.List.Concat.{flat_map-append}
 use Rattle.std.proofs.lemmas.List.Elements.{recursion_from_All, All-from_recursion}
-use Rattle.icu_normalizer_core.specs.BuiltIn.{built_in_step, is_syllable}
+use Rattle.icu_normalizer_core.specs.BuiltIn.{is_syllable}
 use Rattle.icu_normalizer_core.specs.Canonical.{Canonical, IsDecomposing, Leaves, nothing, unmapped, decomposed, marks_in_order}
 use Rattle.icu_normalizer_core.specs.CanonicalWords.{syllable_letters}
-use Rattle.icu_normalizer_core.proofs.built.BuiltInFacts.{syllable_left}
 use Rattle.icu_normalizer_core.proofs.decomposed_lists.DecomposedLemmas.{AreScalar, AreUnmapped, all_append, full_scalars, left_full, left_one, unmapped_left}
+use Rattle.icu_collator_core.proofs.readings.SyllablePartLemmas.{full_letters}
 use Rattle.icu_collator.specs.Fronts.{PartAt}
 use Rattle.icu_collator.specs.Syllables.{DifferInLetters, EquivalentPartAt}
 
@@ -24,14 +24,6 @@ left_alike canonical [] h = nothing
 left_alike canonical (x ∷ xs) h = unmapped x xs xs h.0 (left_alike canonical xs h.1)
 
 module _ (canonical : Canonical) (d : IsDecomposing canonical) where
-  -- the full list of a syllable is its letters
-  full_letters : (c : ℕ) → IsScalar c → is_syllable c ≡ true → canonical.full c ≡ syllable_letters c
-  full_letters c s e =
-      let step = canonical.step
-      in let built : (x : ℕ) (ds : List ℕ) → built_in_step x ≡ Some ds → step x ≡ ds =
-      λ x ds is. subst (λ (o : Option (List ℕ)). IfSome o (λ ys. step x ≡ ys)) is (d.built_in_steps x)
-      in left_one step (c ∷ []) (canonical.full c) (syllable_letters c) (d.ends c s) (syllable_left step built c e)
-
   full_alone_scalars : (c : ℕ) → IsScalar c → AreScalar (canonical.full c)
   full_alone_scalars c s = subst AreScalar (append-nil (canonical.full c)) (full_scalars canonical (c ∷ []) d (s, tt))
 
@@ -71,7 +63,7 @@ module _ (canonical : Canonical) (d : IsDecomposing canonical) where
   spell text front before letters rest c x h e is spelled =
       let scalars : AreScalar (front ++ c ∷ rest) = subst AreScalar is (recursion_from_All IsScalar text h)
       in let scalar : IsScalar c = (all_split front (c ∷ rest) scalars).1.0
-      in let full : canonical.full c ≡ before ++ x ∷ letters = full_letters c scalar e ∙ spelled
+      in let full : canonical.full c ≡ before ++ x ∷ letters = full_letters canonical d c scalar e ∙ spelled
       in record {
         spelled = front ++ (canonical.full c ++ rest);
         same = decomposed_spelled front rest c scalar ∙ ap (decomposed canonical) (sym is);
