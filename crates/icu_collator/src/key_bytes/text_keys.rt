@@ -19,7 +19,7 @@ ghost use Rattle.icu_collator.specs.Sinks.{IsRefusedKey};
 use super::buffer::KeyBytes;
 use super::whole::{write_unshifted_key, write_whole_key};
 use crate::encodings::Characters;
-use crate::levels::counted_elements::{kept, variable_end};
+use crate::levels::counted_elements::{do_all_count, kept, variable_end};
 use crate::read_texts::{is_unshifted, numeric_lead, read_text};
 use crate::sinks::whole::write_key;
 use crate::sinks::{CollationKeySink, KeyError};
@@ -247,7 +247,12 @@ fn write_shifted_key<T: Characters>(
         return Ok(false);
     }
     let end = variable_end(checked, options);
-    let elements = kept(alloc, flat.as_slice(), end)?;
+    let read = flat.as_slice();
+    if do_all_count(read, end) {
+        write_counted_key(alloc, checked, options, read, end, text, key)?;
+        return Ok(true);
+    }
+    let elements = kept(alloc, read, end)?;
     write_counted_key(alloc, checked, options, &elements, end, text, key)?;
     Ok(true)
 }

@@ -13,8 +13,9 @@ ghost use Rattle.icu_collator.specs.Shifted.{counted};
 
 use super::buffer::KeyBytes;
 use super::levels::{
-    write_case_level, write_forward_level, write_identical_level, write_quaternary_level,
-    write_secondary_level, write_tertiary_level,
+    is_shifted, write_case_level, write_forward_level, write_identical_level,
+    write_quaternary_level, write_secondary_level, write_shifted_quaternaries,
+    write_tertiary_level,
 };
 use super::primaries::write_primaries;
 use crate::levels::level_lists::{cases, quaternaries, secondaries};
@@ -148,6 +149,10 @@ fn add_listed_quaternaries(
     ensures { OnOk result (key.new.items ≡ key.old.items
         ++ 0x01 ∷ (quaternary_level options.now (filter_map (quaternary_at (source_collation checked.now)) (counted_list variable_end elements.now)) ++ 0x01 ∷ [])) }
 {
+    if is_shifted(options.alternate_handling) {
+        write_shifted_quaternaries(checked, options, elements, variable_end, key)?;
+        return Ok(());
+    }
     let ranks = quaternaries(key.allocator(), checked, elements, variable_end)?;
     write_quaternary_level(options, &ranks, key)?;
     Ok(())

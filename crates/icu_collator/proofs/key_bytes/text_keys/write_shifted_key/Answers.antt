@@ -15,5 +15,17 @@ write_counted_key-requires-clause-elements g c =
     let end = c.variable_end-end.result in
     let whole : c.in_ok-is_read.is_read ≡ true = search rules in
     let are = listed_elements source options c.numeric_lead-numeric.result text c.read_elements.new.elements.items c.numeric_lead-numeric.ensures (c.in_ok-is_read.ensures.elements whole) in
+    c.do_all_count.ensures c.if-do_all_count.true collation options c.variable_end-end.ensures
+    ∙ ap (λ items. counted collation options (unpacked items)) c.as_slice-read.ensures ∙ ap (counted collation options) are
+
+pub write_counted_key-requires-2-clause-elements : goal.write_counted_key-requires-2-clause-elements
+write_counted_key-requires-2-clause-elements g c =
+    let source = c.args.checked.now in
+    let collation = source_collation source in
+    let options = c.args.options.now in
+    let text = g.T.Characters.characters c.args.text in
+    let end = c.variable_end-end.result in
+    let whole : c.in_ok-is_read.is_read ≡ true = search rules in
+    let are = listed_elements source options c.numeric_lead-numeric.result text c.read_elements.new.elements.items c.numeric_lead-numeric.ensures (c.in_ok-is_read.ensures.elements whole) in
     ap (counted_list end) c.deref.ensures ∙ c.in_ok-elements.ensures collation options c.variable_end-end.ensures
-    ∙ ap (λ items. counted collation options (unpacked items)) c.as_slice.ensures ∙ ap (counted collation options) are
+    ∙ ap (λ items. counted collation options (unpacked items)) c.as_slice-read.ensures ∙ ap (counted collation options) are
