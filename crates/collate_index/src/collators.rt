@@ -7,7 +7,7 @@ ghost use Rattle.icu_collator_core.specs.Acceptance.{IsAccepted};
 ghost use Rattle.icu_collator_core.specs.declared.check.TableFault.TheVariants.{Memory};
 ghost use Rattle.collate_laws.specs.OverRecords.{IsCollatorOf};
 
-use collate_records::compile::compile;
+use collate_records::compile::compile_collation;
 use collate_records::records::Records;
 use icu_codepointtrie::TrieType;
 use icu_collator::Collator;
@@ -31,7 +31,7 @@ pub fn collator_of(
     ensures { IfOk result (IsCollatorOf records.now.lines options preferences.entry) }
 {
     records.keep_rules();
-    let (canonical, collation) = compile(alloc, records, TrieType::Fast)?.into_tables();
+    let (canonical, collation) = compile_collation(alloc, records, TrieType::Fast)?;
     let canonical = canonical_data(alloc, canonical)?;
     let tables = checked_tables(alloc, canonical, collation)?;
     Ok(Collator::from_tables(tables, preferences, options))

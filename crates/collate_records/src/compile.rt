@@ -2,13 +2,15 @@
 
 ghost use Rattle.std.specs.Prelude.{IfOk};
 ghost use Rattle.collate_compile.specs.Compiled.{HaveTrieType};
-ghost use Rattle.collate_records.specs.CompiledOf.{IsCompiledOf};
+ghost use Rattle.collate_records.specs.CompiledOf.{AreOrderedBy, IsCompiledOf};
 
 use crate::compatibility_data::compatibility_data;
 use crate::records::Records;
 use collate_compile::tables::compile_tables;
 use collate_provider::Provider;
 use icu_codepointtrie::TrieType;
+use icu_collator_core::tables::CollationTables;
+use icu_normalizer_core::canonical::CanonicalTables;
 use std::alloc::{AllocError, Global};
 
 /// The tables of a records file, with collation tries of this type: a small one takes less memory, a fast one less time a
@@ -22,8 +24,23 @@ pub fn compile(
     ensures compiled { IfOk result (IsCompiledOf records.now.lines) }
     ensures trie_type { IfOk result (λ provided. HaveTrieType trie_type provided.collation) }
 {
-    let canonical = records.copied_tables(alloc)?;
+    let (canonical, collation) = compile_collation(alloc, records, trie_type)?;
     let compatibility = compatibility_data(alloc, records.lines(), records.limits().code_points)?;
-    let collation = compile_tables(alloc, records.lines(), &records.canonical(), trie_type)?;
     Ok(Provider::of_tables(canonical, compatibility, collation))
+}
+
+/// The tables of a records file that a collator asks: those that `compile` makes, canonical and of the collation, without
+/// the ones of compatibility mappings, which take as long to make. `AllocError` where memory is refused, and for nothing
+/// else.
+pub fn compile_collation(
+    alloc: Global,
+    records: &Records,
+    trie_type: TrieType,
+) -> Result<(CanonicalTables<'static>, CollationTables<'static>), AllocError>
+    ensures ordered { IfOk result (λ made. AreOrderedBy records.now.lines made.0 made.1) }
+    ensures trie_type { IfOk result (λ made. HaveTrieType trie_type made.1) }
+{
+    let canonical = records.copied_tables(alloc)?;
+    let collation = compile_tables(alloc, records.lines(), &records.canonical(), trie_type)?;
+    Ok((canonical, collation))
 }

@@ -2,6 +2,7 @@
 use Rattle.std.proofs.Common.{◌≡◌, List, Option, ap, ◌∙◌, ⊎_elim}
 use Rattle.icu_normalizer_core.specs.Canonical.{Canonical}
 use Rattle.icu_normalizer_core.specs.CanonicalMeaning.{meaning}
+use Rattle.icu_normalizer_core.specs.declared.canonical.tables.CanonicalTables.{CanonicalTables}
 use Rattle.icu_collator_types.specs.Options.{resolved_options}
 use Rattle.icu_collator_types.specs.declared.options.CollationCaseFirst.{CollationCaseFirst}
 use Rattle.icu_collator_types.specs.declared.options.CollationNumericOrdering.{CollationNumericOrdering}
@@ -15,8 +16,7 @@ use Rattle.icu_collator_core.specs.declared.check.TableFault.TheVariants.{Memory
 use Rattle.icu_collator_core.specs.declared.tables.CollationTables.{CollationTables}
 use Rattle.icu_collator.specs.Collators.{CollatorParts}
 use Rattle.collate_lines.specs.Record.{Record}
-use Rattle.collate_provider.specs.Provided.{Provided}
-use Rattle.collate_records.specs.CompiledOf.{IsCompiledOf}
+use Rattle.collate_records.specs.CompiledOf.{AreOrderedBy}
 use Rattle.collate_records.proofs.maps.AcceptedAllMapsLemmas.{accepted_pairs, accepted_same}
 use Rattle.collate_rules.specs.Accepted.{AreAccepted}
 use Rattle.collate_rules.specs.Meaning.{settings_of}
@@ -30,15 +30,16 @@ pub refused_for_memory : (canonical : Canonical) (tables : CollationTables) (fau
 refused_for_memory canonical tables fault refused accepted = ⊎_elim (λ memory. memory) (λ first. absurd (table_fault_refutes canonical tables fault first accepted)) refused
 
 -- a collator over compiled tables
-pub collator_of_compiled : (records : List Record) (provided : Provided) (options : CollatorOptions) (preferences : CollatorPreferences) (collator : CollatorParts)
-    → AreAccepted records → IsCompiledOf records provided
-    → collator.source ≡ record { canonical = provided.canonical; tables = provided.collation }
-    → collator.options ≡ resolved_options options preferences (settings_of_metadata provided.collation.metadata)
+pub collator_of_compiled : (records : List Record) (canonical : CanonicalTables) (tables : CollationTables) (options : CollatorOptions)
+    (preferences : CollatorPreferences) (collator : CollatorParts)
+    → AreAccepted records → AreOrderedBy records canonical tables
+    → collator.source ≡ record { canonical = canonical; tables = tables }
+    → collator.options ≡ resolved_options options preferences (settings_of_metadata tables.metadata)
     → IsCollatorOf records options preferences collator
-collator_of_compiled records provided options preferences collator accepted is same resolved = record {
+collator_of_compiled records canonical tables options preferences collator accepted is same resolved = record {
   canonical = rw same (record {
-    same = accepted_same records (meaning provided.canonical) accepted is.canonical.meant;
-    pair = accepted_pairs records (meaning provided.canonical) accepted is.canonical.meant;
+    same = accepted_same records (meaning canonical) accepted is.canonical.meant;
+    pair = accepted_pairs records (meaning canonical) accepted is.canonical.meant;
   });
   weights = rw same is.collation.weights;
   settings = rw same is.collation.settings;

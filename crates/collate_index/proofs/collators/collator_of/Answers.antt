@@ -9,12 +9,12 @@ use Rattle.collate_index.proofs.collators.collator_of.Goals as goal
 
 pub returns : goal.returns
 returns c =
-    let provided = c.in_ok-compile.field-0 in
-    let checked : c.in_ok-tables.tables ≡ record { canonical = provided.canonical; tables = provided.collation } =
-    c.in_ok-tables.ensures
-    ∙ ap (λ (canonical : CanonicalTables). record { canonical = canonical; tables = c.into_tables-canonical.result.1 }) (c.in_ok-canonical.ensures ∙ c.into_tables-canonical.ensures.canonical)
-    ∙ ap (λ (tables : CollationTables). record { canonical = provided.canonical; tables = tables }) c.into_tables-canonical.ensures.collation in
-    collator_of_compiled c.args.records.now.lines provided c.args.options c.args.preferences c.from_tables.result c.keep_rules.ensures.accepted c.in_ok-compile.ensures.compiled
+    let given = c.in_ok-canonical.field-0 in
+    let collation = c.in_ok-canonical.field-1 in
+    let checked : c.in_ok-tables.tables ≡ record { canonical = given; tables = collation } =
+    c.in_ok-tables.ensures ∙ ap (λ (canonical : CanonicalTables). record { canonical = canonical; tables = collation }) c.in_ok-canonical-2.ensures in
+    collator_of_compiled c.args.records.now.lines given collation c.args.options c.args.preferences c.from_tables.result c.keep_rules.ensures.accepted
+    c.in_ok-canonical.ensures.ordered
     (c.from_tables.ensures.source ∙ checked)
     (c.from_tables.ensures.resolved
     ∙ ap (λ (source : CollationSource). resolved_options c.args.options c.args.preferences (settings_of source.tables.metadata)) checked)
