@@ -8,6 +8,7 @@ pub mod equivalence
 pub mod tables
 pub mod lists
 pub mod ThreeByteLemmas
+pub mod SurrogateLemmas
 pub mod CollatorSinkLemmas
 pub mod MakingLemmas
 pub mod CollatorLawLemmas

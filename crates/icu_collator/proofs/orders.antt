@@ -1,6 +1,9 @@
 pub mod OrderSamenessLemmas
 pub mod StrengthsLemmas
 pub mod TotalOrderLemmas
+pub mod CountedPrimaryLemmas
 pub mod OrderByFlatLemmas
+pub mod StretchedOrderLemmas
+pub mod BoundaryOrderLemmas
 pub mod FlatListLemmas
 pub mod WeightOrderLemmas

@@ -1,15 +1,15 @@
 -- How texts that are read flat compare: by their primaries, then by the weights of their elements.
-use Rattle.std.specs.Prelude.{◌≡◌, ◌≢◌, ◌≤◌, ℕ, false, true, List, filter_map, map, Option, Some, option_map}
-use Rattle.std.specs.List.{AllByRecursion}
+use Rattle.std.specs.Prelude.{◌≡◌, ◌≢◌, ℕ, ◌==◌, ◌&&◌, Bool, cond, ltb, not, false, true, List, filter_map, map, Option, Some, None, option_map}
 use Rattle.std.specs.Ordering.{nat_cmp, ordering_then}
 use Rattle.std.specs.declared.cmp.Ordering.{Ordering}
 use Rattle.std.specs.declared.cmp.Ordering.TheVariants.{Less, Equal, Greater}
+use Rattle.icu_collator_types.specs.declared.elements.Element.{Element}
 use Rattle.icu_collator_types.specs.declared.options.ResolvedCollatorOptions.{ResolvedCollatorOptions}
 use Rattle.icu_collator_types.specs.declared.options.Strength.TheVariants.{Tertiary, Quaternary}
-use Rattle.icu_collator_types.specs.Options.{has_case_level, is_at_least, is_shifted}
+use Rattle.icu_collator_types.specs.Options.{has_case_level, is_at_least}
 use Rattle.icu_collator_core.specs.Acceptance.{CollationSource}
 use Rattle.icu_collator_core.specs.Collation.{Collation}
-use Rattle.icu_collator_core.specs.FlatSteps.{IsReadUpTo, IsSettled, primaries_in}
+use Rattle.icu_collator_core.specs.FlatSteps.{IsNextPrimary, IsReadUpTo, IsSettled}
 use Rattle.icu_collator_core.specs.Pools.{element_of}
 use Rattle.icu_collator_core.specs.declared.flat.steps.FlatStep.{FlatStep}
 use Rattle.icu_collator_core.specs.declared.flat.steps.FlatStep.TheVariants.{Primary, End, Other}
@@ -45,51 +45,65 @@ AreSettled source numeric a b lefts rights first second (Parted order) =
     IsSettled source numeric a lefts first × IsSettled source numeric b rights second
 AreSettled source numeric a b lefts rights first second meeting = Unit {0}
 
--- the primaries of elements of 64 bits, as they are reordered
-abbrev pub moved_primaries : CollationSource → List ℕ → List ℕ
-moved_primaries source items = map (reordered_by source) (primaries_in items)
+-- whether a primary counts, where variable ones end before this one: it is none of these, nor 0
+abbrev pub does_count : ℕ → ℕ → Bool
+does_count end p = not (p == 0) && not (ltb 0x02000000 p && ltb p end)
 
--- none of these primaries is below this one
-abbrev pub AreFrom : ℕ → List ℕ → Type 0
-AreFrom least ps = AllByRecursion (λ p. least ≤ p) ps
+-- the primary of an element, before it is reordered, if it counts
+abbrev pub primary_that_counts : ℕ → Element → Option ℕ
+primary_that_counts end e = cond (does_count end e.primary) (Some e.primary) None
 
--- Two texts were read up to primaries that are alike so far and not below the least, each behind a character of a class; these
--- elements were read.
-pub record AreReadAlike {I J : Type 0} (source : CollationSource) (least : ℕ) (numeric : Option ℕ) (left_steps : I → Option ℕ → I → Type 0) (right_steps : J → Option ℕ → J → Type 0) (a b : List ℕ) (left : I) (right : J) (left_class right_class : ℕ) (lefts rights : List ℕ) : Type 0 where
+-- those of elements of 64 bits
+abbrev pub counted_primary : ℕ → ℕ → Option ℕ
+counted_primary end bits = primary_that_counts end (element_of bits)
+
+abbrev pub counted_primaries : ℕ → List ℕ → List ℕ
+counted_primaries end items = filter_map (counted_primary end) items
+
+-- the same, as they are reordered
+abbrev pub moved_primaries : CollationSource → ℕ → List ℕ → List ℕ
+moved_primaries source end items = map (reordered_by source) (counted_primaries end items)
+
+-- What comes next of a text of which these elements were read: a primary that counts, or none. Those between don't count.
+abbrev pub IsNextCounted : {I : Type 0} → CollationSource → ℕ → Option ℕ → (I → Option ℕ → I → Type 0) → List ℕ → List ℕ → FlatStep → I → ℕ → Type 0
+IsNextCounted source end numeric steps text old result chars class =
+    (before : List ℕ) × (counted_primaries end before ≡ counted_primaries end old) × IsNextPrimary source numeric steps text before result chars class
+
+-- Two texts were read up to primaries that are alike so far, where they count, each behind a character of a class; these elements were
+-- read.
+pub record AreReadAlike {I J : Type 0} (source : CollationSource) (end : ℕ) (numeric : Option ℕ) (left_steps : I → Option ℕ → I → Type 0) (right_steps : J → Option ℕ → J → Type 0) (a b : List ℕ) (left : I) (right : J) (left_class right_class : ℕ) (lefts rights : List ℕ) : Type 0 where
   pub left_read : IsReadUpTo source numeric left_steps a left left_class lefts
   pub right_read : IsReadUpTo source numeric right_steps b right right_class rights
-  pub same : moved_primaries source lefts ≡ moved_primaries source rights
-  pub left_from : AreFrom least (primaries_in lefts)
-  pub right_from : AreFrom least (primaries_in rights)
+  pub same : moved_primaries source end lefts ≡ moved_primaries source end rights
 
 -- the same, with some elements
 abbrev pub AreAlikeSoFar : {I J : Type 0} → CollationSource → ℕ → Option ℕ → (I → Option ℕ → I → Type 0) → (J → Option ℕ → J → Type 0) → List ℕ → List ℕ → I → J → ℕ → ℕ → Type 0
-AreAlikeSoFar source least numeric left_steps right_steps a b left right left_class right_class =
-    (lefts : List ℕ) × (rights : List ℕ) × AreReadAlike source least numeric left_steps right_steps a b left right left_class right_class lefts rights
+AreAlikeSoFar source end numeric left_steps right_steps a b left right left_class right_class =
+    (lefts : List ℕ) × (rights : List ℕ) × AreReadAlike source end numeric left_steps right_steps a b left right left_class right_class lefts rights
 
 -- two texts have the same primaries, as they are reordered
 abbrev pub HaveSamePrimaries : Collation → ResolvedCollatorOptions → List ℕ → List ℕ → Type 0
 HaveSamePrimaries collation options a b =
     (levels_of_text collation options a).primaries ≡ (levels_of_text collation options b).primaries
 
--- What the primaries of two texts say, where numbers have this lead byte: the order of the texts, if variable elements end at this
--- least primary or below it; or that they are the same, if nothing is shifted.
+-- What the primaries of two texts say, where numbers have this lead byte, and variable elements end before this primary: the order
+-- of the texts, or that those that count are the same.
 abbrev pub IsByPrimaries : CollationSource → ℕ → Option ℕ → List ℕ → List ℕ → ByPrimaries → Type 0
-IsByPrimaries source least numeric a b (Decided order) =
-    (options : ResolvedCollatorOptions) → variable_end_of (source_collation source) options ≤ least → numeric ≡ numeric_by source options
+IsByPrimaries source end numeric a b (Decided order) =
+    (options : ResolvedCollatorOptions) → end ≡ variable_end_of (source_collation source) options → numeric ≡ numeric_by source options
     → order ≡ collation_order (source_collation source) options a b
-IsByPrimaries source least numeric a b Same =
-    (options : ResolvedCollatorOptions) → is_shifted options.alternate_handling ≡ false → numeric ≡ numeric_by source options
+IsByPrimaries source end numeric a b Same =
+    (options : ResolvedCollatorOptions) → end ≡ variable_end_of (source_collation source) options → numeric ≡ numeric_by source options
     → HaveSamePrimaries (source_collation source) options a b
-IsByPrimaries source least numeric a b NotFlat = Unit {0}
+IsByPrimaries source end numeric a b NotFlat = Unit {0}
 
 -- what the next primaries of two texts that were read so say, and what is left of both
 abbrev pub IsMet : {I J : Type 0} → CollationSource → ℕ → Option ℕ → (I → Option ℕ → I → Type 0) → (J → Option ℕ → J → Type 0) → List ℕ → List ℕ → Meeting → I → J → ℕ → ℕ → Type 0
-IsMet source least numeric left_steps right_steps a b Alike left right left_class right_class =
-    AreAlikeSoFar source least numeric left_steps right_steps a b left right left_class right_class
-IsMet source least numeric left_steps right_steps a b BothEnd left right left_class right_class = IsByPrimaries source least numeric a b Same
-IsMet source least numeric left_steps right_steps a b (Parted order) left right left_class right_class = IsByPrimaries source least numeric a b (Decided order)
-IsMet source least numeric left_steps right_steps a b Stopped left right left_class right_class = Unit {0}
+IsMet source end numeric left_steps right_steps a b Alike left right left_class right_class =
+    AreAlikeSoFar source end numeric left_steps right_steps a b left right left_class right_class
+IsMet source end numeric left_steps right_steps a b BothEnd left right left_class right_class = IsByPrimaries source end numeric a b Same
+IsMet source end numeric left_steps right_steps a b (Parted order) left right left_class right_class = IsByPrimaries source end numeric a b (Decided order)
+IsMet source end numeric left_steps right_steps a b Stopped left right left_class right_class = Unit {0}
 
 -- ## Elements that count whole, by their secondaries and tertiaries
 

@@ -2,7 +2,6 @@ pub mod Shifted
 pub mod Levels
 pub mod Order
 pub mod Strengths
-pub mod AskedLeads
 pub mod PlainPrimaries
 pub mod KeyBuffers
 pub mod KeyBytes
@@ -25,4 +24,6 @@ pub mod KeyCodes
 pub mod LevelLists
 pub mod TextsRead
 pub mod FlatOrders
+pub mod CommonBoundaries
+pub mod StretchedOrders
 pub mod ReadingPlaces

@@ -1,6 +1,13 @@
 -- Primaries whose bytes follow one another in a key: those with one lead byte, where no run goes on, or the run of that lead.
-use Rattle.std.specs.Prelude.{◌≡◌, ◌≢◌, ℕ, ◌-◌, ◌/◌, ◌^◌, ◌<◌, ◌≤◌, ◌==◌, cond, List, [], drop, take}
+use Rattle.std.specs.Prelude.{◌≡◌, ◌≢◌, ℕ, ◌-◌, ◌/◌, ◌^◌, ◌<◌, ◌≤◌, ◌==◌, cond, false, List, [], drop, take, None}
+use Rattle.icu_collator_core.specs.Acceptance.{CollationSource}
+use Rattle.icu_collator_core.specs.TableSettings.{is_compressible_in}
 use Rattle.icu_collator_core.specs.WeightRules.{primary_bytes}
+
+-- no primary with this lead byte begins a run, and none is reordered
+abbrev pub IsWrittenWhole : CollationSource → ℕ → Type 0
+IsWrittenWhole source lead =
+    (is_compressible_in source.tables.special_primaries.last_primaries lead ≡ false) × (source.tables.reordering ≡ None)
 
 -- it has this lead byte, and variable primaries end below it
 pub record IsPlain (lead end primary : ℕ) : Type 0 where

@@ -1,12 +1,14 @@
 //! The comparison of two texts.
 
+mod common;
 mod encoded;
 mod flat;
+mod fronts;
 mod iterators;
 mod levels;
 mod listed;
 mod orders;
-mod shifted;
+mod stretched;
 mod weights;
 
 pub(crate) use encoded::{common_place, compare_texts};

@@ -6,33 +6,26 @@ ghost use Rattle.std.specs.Iterator.{IsFinite};
 ghost use Rattle.icu_normalizer_core.specs.Decoding.{latin1_chars, utf16_chars, utf8_chars};
 ghost use Rattle.icu_normalizer_core.specs.Iter.{Spells};
 
+mod latin1;
+mod utf16;
 mod utf8;
 
-use icu_normalizer_core::decoding::{Latin1Chars, Utf16Chars, decode_latin1, decode_utf16};
+use latin1::Latin1Steps;
 use utf8::Utf8Steps;
+use utf16::Utf16Steps;
 
-/// Characters one after another, the next of which may be told by a look.
+/// Characters one after another, the next of which may be told by a look, and that can be given more than once.
 pub(crate) trait PeekLow: Iterator<Item = char> {
     ghost use Rattle.std.specs.Prelude.{◌≡◌, ◌<◌, ℕ, Option, Some};
+
+    /// The same characters.
+    fn again(&self) -> Self
+        ensures { result ≡ self.now };
 
     /// The next character if it is below U+0080 and a look tells it; from 80 (hex) on for another, at the end, and where none
     /// tells. Nothing is taken.
     fn peek_low(&self) -> u8
         ensures { result < 0x80 → (next : Option ℕ) (rest : Self) → Self.next_gives self.now next rest → next ≡ Some result };
-}
-
-impl<'a> PeekLow for Utf16Chars<'a> {
-    #[inline(always)]
-    fn peek_low(&self) -> u8 {
-        u8::MAX
-    }
-}
-
-impl<'a> PeekLow for Latin1Chars<'a> {
-    #[inline(always)]
-    fn peek_low(&self) -> u8 {
-        u8::MAX
-    }
 }
 
 /// A text that can be read more than once: it gives its characters anew each time.
@@ -85,12 +78,13 @@ pub(crate) struct Utf16Text<'a> {
 }
 
 impl<'a> Characters for Utf16Text<'a> {
-    type Chars = Utf16Chars<'a>;
+    type Chars = Utf16Steps<'a>;
 
     ghost characters = { λ text. utf16_chars text.units.now };
 
-    fn chars(self) -> Utf16Chars<'a> {
-        decode_utf16(self.units)
+    #[inline(always)]
+    fn chars(self) -> Utf16Steps<'a> {
+        Utf16Steps::new(self.units)
     }
 
     #[inline(always)]
@@ -107,12 +101,13 @@ pub(crate) struct Latin1Text<'a> {
 }
 
 impl<'a> Characters for Latin1Text<'a> {
-    type Chars = Latin1Chars<'a>;
+    type Chars = Latin1Steps<'a>;
 
     ghost characters = { λ text. latin1_chars text.bytes.now };
 
-    fn chars(self) -> Latin1Chars<'a> {
-        decode_latin1(self.bytes)
+    #[inline(always)]
+    fn chars(self) -> Latin1Steps<'a> {
+        Latin1Steps::new(self.bytes)
     }
 
     #[inline(always)]

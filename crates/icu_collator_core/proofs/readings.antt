@@ -20,7 +20,10 @@ pub mod ReadingLeftLemmas
 pub mod SamenessLemmas
 pub mod SoundElementsLemmas
 pub mod SplitAtBoundaryLemmas
+pub mod PairLemmas
 pub mod StretchLemmas
+pub mod StretchedLemmas
+pub mod SyllablePartLemmas
 pub mod ReadStepLemmas
 pub mod UpcomingLemmas
 pub mod ToldListLemmas

@@ -15,6 +15,7 @@ pub mod Sameness
 pub mod SameSettings
 pub mod Pools
 pub mod TableSettings
+pub mod CompressibleLeads
 pub mod TableMeaning
 pub mod WordForms
 pub mod WordPlaces
@@ -26,6 +27,8 @@ pub mod WholeLeads
 pub mod ReorderingTests
 pub mod SpelledTests
 pub mod Stretches
+pub mod Stretched
+pub mod Pairs
 pub mod WordWeights
 pub mod PrefixFaults
 pub mod WeightLists

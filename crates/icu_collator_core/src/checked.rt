@@ -6,17 +6,21 @@ ghost use Rattle.icu_normalizer_core.specs.CanonicalMeaning.{meaning};
 ghost use Rattle.icu_collator_core.specs.Acceptance.{IsAccepted, IsRefusal};
 ghost use Rattle.icu_collator_core.specs.FlatNotes.{IsFlatNote};
 ghost use Rattle.icu_collator_core.specs.CollationNotes.{IsNoted, IsOwnBeginning, IsPlainCharacter};
+ghost use Rattle.icu_collator_core.specs.Pairs.{IsPair, noted_elements};
 ghost use Rattle.icu_collator_core.specs.PlainWords.{IsUnprefixed};
 ghost use Rattle.icu_collator_core.specs.ReadSources.{IsAloneAnywhere};
 ghost use Rattle.icu_collator_core.specs.TableMeaning.{weights_of};
+ghost use Rattle.icu_collator_core.specs.TableSettings.{is_compressible_in};
 ghost use Rattle.icu_collator_core.specs.UnsafeWords.{AreUnsafeByRecords};
 ghost use Rattle.icu_collator_core.specs.UnsafeCharacters.{IsUnsafe, IsUnsafeItself};
 
 use crate::check::TableFault;
 use crate::check::faults::judge;
 use crate::collation_notes::{CollationNote, collation_notes};
+use crate::compressible_leads::{compressible_leads, is_compressible_by};
 use crate::flat::notes::{FlatNote, flat_notes};
 use crate::flat::pages::{NotePage, note_pages};
+use crate::flat::pairs::{PairNote, PairNotes, pair_notes};
 use crate::reading::checked_words::checked_word;
 use crate::reading::next::alone_at;
 use crate::tables::CollationTables;
@@ -39,6 +43,10 @@ pub struct CheckedTables<'a> {
     flat: Vec<FlatNote>,
     /// The same of those behind them, in pages.
     pages: Vec<NotePage>,
+    /// The same of pairs of characters.
+    pairs: PairNotes,
+    /// For each lead byte whether it is compressible.
+    compressible: [bool; 256],
 }
 
 // (let go of as one, and not part by part, so that what owns one is proved sooner)
@@ -51,6 +59,8 @@ impl Drop for CheckedTables<'_> {
             low: _,
             flat: _,
             pages: _,
+            pairs: _,
+            compressible: _,
         } = self;
     }
 }
@@ -60,7 +70,9 @@ impl<'a> Model for CheckedTables<'a> {
     ghost use Rattle.icu_collator_core.specs.Acceptance.{CollationSource, IsAccepted};
     ghost use Rattle.icu_collator_core.specs.FlatNotes.{AreFlatNotes};
     ghost use Rattle.icu_collator_core.specs.CollationNotes.{AreNoted};
+    ghost use Rattle.icu_collator_core.specs.CompressibleLeads.{AreCompressibleLeads};
     ghost use Rattle.icu_collator_core.specs.NotePages.{AreNotePages};
+    ghost use Rattle.icu_collator_core.specs.Pairs.{ArePairNotes};
     ghost use Rattle.icu_collator_core.specs.TableMeaning.{weights_of};
     ghost use Rattle.icu_collator_core.specs.UnsafeWords.{AreUnsafeByRecords};
 
@@ -72,7 +84,9 @@ impl<'a> Model for CheckedTables<'a> {
         × AreUnsafeByRecords (weights_of (meaning inside.canonical) inside.tables) inside.unsafe_characters.items
         × AreNoted (record { canonical = inside.canonical; tables = inside.tables }) inside.low.items
         × AreFlatNotes (record { canonical = inside.canonical; tables = inside.tables }) inside.flat.items
-        × AreNotePages (record { canonical = inside.canonical; tables = inside.tables }) inside.pages.items };
+        × AreNotePages (record { canonical = inside.canonical; tables = inside.tables }) inside.pages.items
+        × ArePairNotes (record { canonical = inside.canonical; tables = inside.tables }) inside.pairs
+        × AreCompressibleLeads inside.tables.special_primaries.last_primaries inside.compressible };
 }
 
 /// The characters that tables make unsafe, where they pass every check; else what they are refused for.
@@ -99,7 +113,7 @@ fn first_of_full(canonical: CanonicalBorrowed<'_>, c: char) -> Option<char>
 }
 
 /// Whether one read tells that a character is its own full list.
-fn is_own_list(canonical: CanonicalBorrowed<'_>, c: char) -> bool
+pub(crate) fn is_own_list(canonical: CanonicalBorrowed<'_>, c: char) -> bool
     ensures { IsTrue result → (borrowed_meaning canonical.entry).full c ≡ c ∷ [] }
 {
     match canonical.reading(c) {
@@ -122,6 +136,7 @@ impl<'a> CheckedTables<'a> {
     {
         match judge_unsafe(alloc, canonical.as_borrowed(), &tables) {
             Ok(unsafe_characters) => {
+                let compressible = compressible_leads(&tables.special_primaries);
                 let checked = CheckedTables {
                     canonical,
                     tables,
@@ -129,8 +144,10 @@ impl<'a> CheckedTables<'a> {
                     low: Vec::new(alloc),
                     flat: Vec::new(alloc),
                     pages: Vec::new(alloc),
+                    pairs: PairNotes::new(alloc),
+                    compressible,
                 };
-                Ok(checked.with_low(alloc)?)
+                Ok(checked.with_low(alloc)?.with_pairs(alloc)?)
             }
             Err(fault) => Err(fault),
         }
@@ -146,6 +163,15 @@ impl<'a> CheckedTables<'a> {
         self.low = low;
         self.flat = flat;
         self.pages = pages;
+        Ok(self)
+    }
+
+    /// The same tables, with notes of pairs of characters, which those of characters tell.
+    fn with_pairs(mut self, alloc: Global) -> Result<CheckedTables<'a>, AllocError>
+        ensures { IfOk result (λ checked. checked ≡ self.entry) }
+    {
+        let pairs = pair_notes(alloc, &self, self.unsafe_characters.as_slice())?;
+        self.pairs = pairs;
         Ok(self)
     }
 
@@ -212,6 +238,14 @@ impl<'a> CheckedTables<'a> {
         checked_word(self, c).is_unprefixed()
     }
 
+    /// Whether a lead byte is left out of a key after a primary with the same lead. It takes one read and no memory.
+    #[inline(always)]
+    pub fn is_compressible(&self, lead: u8) -> bool
+        ensures { result ≡ is_compressible_in self.now.tables.special_primaries.last_primaries lead }
+    {
+        is_compressible_by(&self.compressible, lead)
+    }
+
     /// What is noted of a character; `None` for one behind the low characters.
     #[inline]
     pub(crate) fn collation_note(&self, c: char) -> Option<CollationNote>
@@ -243,6 +277,15 @@ impl<'a> CheckedTables<'a> {
         let page = self.pages.get(code / 64)?;
         let note = page.get(code % 64)?;
         Some(note)
+    }
+
+    /// What is noted of two characters that stand together; `None` of most.
+    #[inline(always)]
+    pub(crate) fn pair(&self, first: char, second: char) -> Option<&PairNote>
+        ensures { IfSome result (λ pair. IsPair self.now first second (noted_elements pair.now) pair.now.trail) }
+    {
+        let pair = self.pairs.get(first, second)?;
+        Some(pair)
     }
 
     /// Whether a character is its own full list, and reading may begin at it, by the tables alone.

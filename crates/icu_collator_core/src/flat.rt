@@ -12,13 +12,18 @@ mod flat_elements;
 mod listed;
 pub(crate) mod notes;
 pub(crate) mod pages;
+pub(crate) mod pairs;
 mod steps;
+pub(crate) mod stretched;
 mod stretches;
+mod syllables;
 
 use crate::checked::CheckedTables;
 pub use flat_elements::FlatElements;
+use icu_normalizer_core::built_in::is_syllable;
 use notes::FlatNote;
 pub use steps::FlatStep;
+pub use stretched::StretchedElements;
 
 impl CheckedTables<'_> {
     /// Appends the elements of a character that stands behind one of this class, if it is read so, its marks stand in order, and
@@ -42,7 +47,7 @@ impl CheckedTables<'_> {
         }
     }
 
-    /// The same of a character behind the low ones: by its note, or by those of its full list.
+    /// The same of a character behind the low ones: by its note, or by those of its full list, as of a syllable's letters.
     #[inline(never)]
     fn push_found<const N: usize>(
         &self,
@@ -53,6 +58,9 @@ impl CheckedTables<'_> {
     ) -> Option<u16>
         ensures { IfSome result (λ trail. IsPushed self.now numeric c before elements.old.items trail elements.new.items) }
     {
+        if is_syllable(c as u32) {
+            return self.push_syllable(numeric, c, before, elements);
+        }
         let note = self.find_note(c);
         if let FlatNote::Other = note {
             return self.push_listed(numeric, c, before, elements);

@@ -6,6 +6,7 @@ pub mod check;
 mod check_weights;
 pub mod checked;
 mod collation_notes;
+mod compressible_leads;
 pub mod elements;
 pub mod flat;
 pub mod laws;

@@ -3,8 +3,8 @@
 use icu_codepointtrie::TrieType;
 use icu_collator::{Collator, CollatorBorrowed};
 use icu_collator_types::options::{CollatorOptions, CollatorPreferences};
-use samples_compiled::compiled::held_tables;
-use samples_compiled::held::HeldCollation;
+use samples_icu_collator::compiled::held_tables;
+use samples_icu_collator::held::HeldCollation;
 use std::alloc::Global;
 use std::cmp::Ordering;
 

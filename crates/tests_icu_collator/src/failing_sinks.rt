@@ -10,7 +10,7 @@ use crate::calls::{KEY, LETTERS};
 use icu_codepointtrie::TrieType;
 use icu_collator::options::CollatorOptions;
 use icu_collator::{CollationKeySink, Collator, CollatorBorrowed, CollatorPreferences, KeyError};
-use samples_compiled::compiled::checked_tables;
+use samples_icu_collator::compiled::checked_tables;
 use std::alloc::Global;
 
 /// Why a sink takes no more.

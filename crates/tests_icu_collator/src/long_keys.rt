@@ -5,8 +5,8 @@ use icu_collator::Collator;
 use icu_collator_types::options::{
     AlternateHandling, CollatorOptions, CollatorPreferences, Strength,
 };
-use samples_compiled::compiled::held_tables;
-use samples_compiled::held::HeldCollation;
+use samples_icu_collator::compiled::held_tables;
+use samples_icu_collator::held::HeldCollation;
 use std::alloc::Global;
 
 /// The records of three letters, the last with a primary of three bytes, of an accent, and of a space that may be variable.

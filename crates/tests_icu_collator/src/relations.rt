@@ -7,8 +7,8 @@ use icu_collator::Collator;
 use icu_collator_types::options::{
     AlternateHandling, CaseLevel, CollatorOptions, CollatorPreferences, Strength,
 };
-use samples_compiled::compiled::held_tables;
-use samples_compiled::held::HeldCollation;
+use samples_icu_collator::compiled::held_tables;
+use samples_icu_collator::held::HeldCollation;
 use std::alloc::Global;
 use std::cmp::Ordering;
 use std::cmp::Ordering::{Equal, Less};

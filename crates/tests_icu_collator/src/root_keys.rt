@@ -4,8 +4,8 @@ use crate::root_weights::ROOT_WEIGHTS;
 use icu_codepointtrie::TrieType;
 use icu_collator::{Collator, KeyError, TooSmall};
 use icu_collator_types::options::{CaseLevel, CollatorOptions, CollatorPreferences, Strength};
-use samples_compiled::compiled::held_tables;
-use samples_compiled::held::HeldCollation;
+use samples_icu_collator::compiled::held_tables;
+use samples_icu_collator::held::HeldCollation;
 use std::alloc::Global;
 
 /// All levels, and the characters.

@@ -5,7 +5,7 @@ use icu_collator_core::checked::CheckedTables;
 use icu_collator_core::elements::CollationElements;
 use icu_collator_core::elements::whole_texts::{decomposed_list, list_elements};
 use icu_collator_types::elements::CollationElement;
-use samples_compiled::compiled::checked_tables;
+use samples_icu_collator::compiled::checked_tables;
 use std::alloc::Global;
 use std::str::Chars;
 

@@ -2,7 +2,7 @@
 
 use icu_codepointtrie::TrieType;
 use icu_collator_core::checked::CheckedTables;
-use samples_compiled::compiled::checked_tables;
+use samples_icu_collator::compiled::checked_tables;
 use std::alloc::Global;
 
 /// Records of four letters; the third stands behind the first as its suffix too, and the fourth behind the second as what

@@ -4,7 +4,7 @@ use icu_codepointtrie::TrieType;
 use icu_collator_core::checked::CheckedTables;
 use icu_collator_core::flat::FlatElements;
 use icu_collator_types::elements::CollationElement;
-use samples_compiled::compiled::checked_tables;
+use samples_icu_collator::compiled::checked_tables;
 use std::alloc::Global;
 
 /// Records of letters, marks of two classes, a letter with a mark, a digit, a text of two letters, and a letter that has its note

@@ -11,12 +11,13 @@ use Rattle.icu_collator_types.specs.Options.{is_numeric, is_shifted}
 use Rattle.icu_collator_core.specs.Collation.{Collation}
 use Rattle.icu_collator_core.specs.Pools.{element_of}
 use Rattle.icu_collator_core.specs.Boundaries.{IsApart}
+use Rattle.icu_collator.specs.CommonBoundaries.{CountApart}
 use Rattle.icu_collator.specs.Boundaries.{IsOwnBoundary, IsPlain}
 use Rattle.icu_collator.specs.Levels.{elements_of_text}
 use Rattle.icu_collator.specs.Order.{collation_order}
 use Rattle.icu_collator.proofs.boundaries.BehindBoundaryLemmas.{boundary_unprefixed}
 use Rattle.icu_collator.proofs.boundaries.DecidingCharacterLemmas.{plain_apart, text_begins}
-use Rattle.icu_collator.proofs.boundaries.LevelFrontLemmas.{CountApart, primary_apart, unshifted_apart}
+use Rattle.icu_collator.proofs.boundaries.LevelFrontLemmas.{primary_apart, unshifted_apart}
 use Rattle.icu_collator.proofs.boundaries.SkippingLemmas.{IsFront, front_skipped}
 use Rattle.icu_collator.proofs.orders.TotalOrderLemmas.{collation_order_total}
 
@@ -24,7 +25,7 @@ use Rattle.icu_collator.proofs.orders.TotalOrderLemmas.{collation_order_total}
 pub equal_itself : (collation : Collation) (options : ResolvedCollatorOptions) (a : List ℕ) → collation_order collation options a a ≡ Equal
 equal_itself collation options a = tied_itself (collation_order_total collation options) a
 
-rest_scalars : (xs ys : List ℕ) → All IsScalar (xs ++ ys) → All IsScalar ys
+pub rest_scalars : (xs ys : List ℕ) → All IsScalar (xs ++ ys) → All IsScalar ys
 rest_scalars [] ys h = h
 rest_scalars (x ∷ xs) ys h = rest_scalars xs ys (All-tail IsScalar x (xs ++ ys) h)
 

@@ -11,6 +11,7 @@ use Rattle.icu_collator_types.specs.declared.options.ResolvedCollatorOptions.{Re
 use Rattle.icu_collator_types.specs.declared.options.Strength.TheVariants.{Secondary, Tertiary, Quaternary, Identical}
 use Rattle.icu_collator_types.specs.Options.{has_case_level, is_at_least, is_shifted}
 use Rattle.icu_collator_core.specs.Collation.{Collation}
+use Rattle.icu_collator.specs.CommonBoundaries.{CountApart}
 use Rattle.icu_collator.specs.Levels.{levels_of, primary_at, secondary_at, case_at, tertiary_at, quaternary_at, secondaries_of}
 use Rattle.icu_collator.specs.Order.{list_order, levels_order, where_in_force, secondary_rank, quaternary_rank, character_rank}
 use Rattle.icu_collator.specs.Shifted.{Counted, counted, counted_behind, is_variable}
@@ -38,11 +39,6 @@ level_behind rank weight us xs ys =
     ap (λ w. list_order rank w (filter_map weight (us ++ ys))) (filter_map-append weight us xs)
     ∙ ap (λ w. list_order rank (filter_map weight us ++ filter_map weight xs) w) (filter_map-append weight us ys)
     ∙ ranks_behind rank (filter_map weight us) (filter_map weight xs) (filter_map weight ys)
-
--- elements that count behind others as they do alone
-abbrev pub CountApart : Collation → ResolvedCollatorOptions → List Element → Type 0
-CountApart collation options fs =
-    (es : List Element) → counted collation options (es ++ fs) ≡ counted collation options es ++ counted collation options fs
 
 module _ (collation : Collation) (options : ResolvedCollatorOptions) where
   -- where nothing is shifted, all do

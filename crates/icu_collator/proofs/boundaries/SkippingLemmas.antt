@@ -19,12 +19,13 @@ use Rattle.icu_collator_core.specs.Elements.{Placed, characters_of, elements_of_
 use Rattle.icu_collator_core.proofs.readings.AlikeLemmas.{elements_alike}
 use Rattle.icu_collator_core.proofs.readings.CountLemmas.{any_count}
 use Rattle.icu_collator_core.specs.Boundaries.{IsApart, IsBoundary, after}
+use Rattle.icu_collator.specs.CommonBoundaries.{CountApart}
 use Rattle.icu_collator.specs.Boundaries.{GoesOn}
 use Rattle.icu_collator.specs.Levels.{elements_of_text}
 use Rattle.icu_collator.specs.Order.{collation_order}
 use Rattle.icu_collator.proofs.boundaries.BehindBoundaryLemmas.{boundary_unprefixed, front_alike}
 use Rattle.icu_collator.proofs.boundaries.DecomposedAtLemmas.{behind_first, decomposed_three, three_behind, three_full, three_full_all, three_full_count}
-use Rattle.icu_collator.proofs.boundaries.LevelFrontLemmas.{CountApart, levels_behind}
+use Rattle.icu_collator.proofs.boundaries.LevelFrontLemmas.{levels_behind}
 use Rattle.icu_collator_core.proofs.readings.SplitAtBoundaryLemmas.{after_scalars, split_at_boundary}
 use Rattle.icu_collator_core.proofs.lookups.PlacedLemmas.{characters_placed, length_placed, placed_append}
 

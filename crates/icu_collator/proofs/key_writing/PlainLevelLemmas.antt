@@ -9,13 +9,12 @@ use Rattle.icu_collator_core.specs.Acceptance.{CollationSource, IsAccepted}
 use Rattle.icu_collator_core.specs.Collation.{Collation}
 use Rattle.icu_collator_core.specs.Pools.{element_of}
 use Rattle.icu_collator_core.specs.WeightRules.{primary_bytes, primary_rest}
-use Rattle.icu_collator.specs.AskedLeads.{IsWrittenWhole}
 use Rattle.icu_collator.specs.Collators.{source_collation}
 use Rattle.icu_collator.specs.KeyBytes.{codes_from, primary_code, primary_run, was_compressible}
 use Rattle.icu_collator.specs.KeyCodes.{AddsPrimary, IsRun, IsWrittenUpTo}
 use Rattle.icu_collator.specs.LevelLists.{counted_by, counted_list, primaries_by}
 use Rattle.icu_collator.specs.Levels.{primary_at}
-use Rattle.icu_collator.specs.PlainPrimaries.{GivesPlain, IsPlain, between, own_bytes}
+use Rattle.icu_collator.specs.PlainPrimaries.{GivesPlain, IsPlain, IsWrittenWhole, between, own_bytes}
 use Rattle.icu_collator.specs.Shifted.{Counted, whole, variable}
 use Rattle.icu_collator.proofs.key_writing.GivenLevelLemmas.{adds_no_primary}
 use Rattle.icu_collator.proofs.key_writing.PrimaryRunLemmas.{adds_in_run, adds_plain}

@@ -8,10 +8,10 @@ use Rattle.icu_collator_core.specs.TableSettings.{is_compressible_in, reordered_
 use Rattle.icu_collator_core.specs.declared.tables.CollationTables.{CollationTables}
 use Rattle.icu_collator_core.specs.WeightRules.{primary_bytes, primary_rest}
 use Rattle.icu_collator_core.specs.declared.tables.reordering.CollationReordering.{CollationReordering}
-use Rattle.icu_collator.specs.AskedLeads.{IsWrittenWhole}
 use Rattle.icu_collator.specs.Collators.{source_collation}
 use Rattle.icu_collator.specs.KeyBytes.{primary_code, primary_run, was_compressible}
 use Rattle.icu_collator.specs.KeyCodes.{AddsPrimary, IsRun}
+use Rattle.icu_collator.specs.PlainPrimaries.{IsWrittenWhole}
 use Rattle.icu_collator.proofs.key_writing.GivenLevelLemmas.{adds_primary}
 use Rattle.icu_collator.proofs.key_writing.WeightWrittenLemmas.{inside_run}
 use Rattle.icu_collator.proofs.keys.CompressedLemmas.{accepted_alike, lead_before, run_goes_on}

@@ -31,7 +31,7 @@ module _ (collation : Collation) (options : ResolvedCollatorOptions) (end : ℕ)
   variable_by e = shifted_tests (is_shifted options.alternate_handling) e.primary _ end at
 
   -- the first element, where it is variable, where it counts whole, and where it doesn't count
-  first_variable : (behind : Bool) (e : Element) (es : List Element) → (ltb 0x02000000 e.primary && ltb e.primary end) ≡ true
+  pub first_variable : (behind : Bool) (e : Element) (es : List Element) → (ltb 0x02000000 e.primary && ltb e.primary end) ≡ true
       → counted_behind collation options behind (e ∷ es) ≡ variable e.primary ∷ counted_behind collation options true es
   unfolding counted_behind
   first_variable behind e es test = rw (variable_by e ∙ test) refl
@@ -42,7 +42,7 @@ module _ (collation : Collation) (options : ResolvedCollatorOptions) (end : ℕ)
   unfolding counted_behind
   first_whole behind e es test counts = rw (variable_by e ∙ test, counts) refl
 
-  first_ignored : (behind : Bool) (e : Element) (es : List Element) → (ltb 0x02000000 e.primary && ltb e.primary end) ≡ false
+  pub first_ignored : (behind : Bool) (e : Element) (es : List Element) → (ltb 0x02000000 e.primary && ltb e.primary end) ≡ false
       → (behind && (e.primary == 0)) ≡ true
       → counted_behind collation options behind (e ∷ es) ≡ counted_behind collation options true es
   unfolding counted_behind

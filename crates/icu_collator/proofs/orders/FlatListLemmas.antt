@@ -7,7 +7,7 @@ use Rattle.icu_collator_core.specs.ElementTexts.{text_elements}
 use Rattle.icu_collator.specs.Collators.{source_collation}
 use Rattle.icu_collator.specs.Levels.{elements_of_text}
 use Rattle.icu_collator.specs.TextsRead.{numeric_by}
-use Rattle.icu_collator.proofs.orders.OrderByFlatLemmas.{elements_by_options}
+use Rattle.icu_collator.proofs.orders.CountedPrimaryLemmas.{elements_by_options}
 
 -- the elements of a text that was read by the lead byte of numbers that the options ask for
 pub listed_elements : (source : CollationSource) (options : ResolvedCollatorOptions) (numeric : Option ℕ) (text items : List ℕ) → numeric ≡ numeric_by source options

@@ -70,6 +70,28 @@ fn own_element(checked: &CheckedTables<'_>, c: char) -> Option<CollationElement>
     Some(element)
 }
 
+/// The element of a plain character other than U+0307 that is its own full list, where a page of notes tells it.
+#[inline]
+fn paged_element(checked: &CheckedTables<'_>, c: char) -> Option<CollationElement>
+    ensures { IfSome result (λ bits. IsPlain (source_collation checked.now) c bits) }
+{
+    if c == '\u{307}' {
+        return None;
+    }
+    let element = checked.boundary_element(c)?;
+    Some(element)
+}
+
+/// The element of a plain character below U+0800 that is its own full list.
+#[inline]
+fn low_element(checked: &CheckedTables<'_>, c: char) -> Option<CollationElement>
+    ensures { IfSome result (λ bits. IsPlain (source_collation checked.now) c bits) }
+{
+    checked.canonical().keep_promise();
+    let element = noted_element(checked, c)?;
+    Some(element)
+}
+
 /// The element of a plain character, by its full list; `None` for one that isn't plain, and for some that are.
 fn find_plain_element(checked: &CheckedTables<'_>, c: char) -> Option<CollationElement>
     ensures { IfSome result (λ bits. IsPlain (source_collation checked.now) c bits) }
@@ -88,8 +110,14 @@ fn plain_element(checked: &CheckedTables<'_>, c: char) -> Option<CollationElemen
     ensures { IfSome result (λ bits. IsPlain (source_collation checked.now) c bits) }
 {
     checked.canonical().keep_promise();
-    if let Some(element) = noted_element(checked, c) {
+    if c < '\u{800}' {
+        return low_element(checked, c);
+    }
+    if let Some(element) = paged_element(checked, c) {
         return Some(element);
+    }
+    if checked.is_noted_dependent(c) {
+        return None;
     }
     match own_element(checked, c) {
         Some(element) => Some(element),

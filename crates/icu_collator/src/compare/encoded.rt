@@ -8,9 +8,9 @@ ghost use Rattle.icu_collator.specs.Order.{collation_order};
 ghost use Rattle.icu_collator.specs.ReadingPlaces.{IsCommonPlace};
 
 use super::flat::compare_flat;
+use super::fronts::difference_and_boundary;
 use super::iterators::compare_characters;
-use super::listed::compare_listed;
-use super::shifted::compare_shifted;
+use super::stretched::compare_stretched;
 use crate::common_front::{
     FirstDifference, behind, first_difference, order_by_difference, reading_place,
 };
@@ -39,28 +39,6 @@ fn compare_whole_behind<T: Characters, U: Characters>(
     Ok(order)
 }
 
-/// The same, where what stands there is read flat; `None` where it isn't, and at the beginning, where that was tried. Fails only
-/// when out of memory.
-fn compare_flat_behind<T: Characters, U: Characters>(
-    alloc: Global,
-    checked: &CheckedTables<'_>,
-    options: &ResolvedCollatorOptions,
-    left: T,
-    right: U,
-    place: usize,
-) -> Result<Option<Ordering>, AllocError>
-    requires left_reaches { place ≤ length (T.characters left) }
-    requires right_reaches { place ≤ length (U.characters right) }
-    ensures { IfOk result (λ answer. IfSome answer (λ order.
-        order ≡ collation_order (source_collation checked.now) options.now (drop place (T.characters left)) (drop place (U.characters right)))) }
-{
-    if place == 0 {
-        return Ok(None);
-    }
-    let answer = compare_flat(alloc, checked, options, left, right, place)?;
-    Ok(answer)
-}
-
 /// The order of what stands in two texts behind so many characters. Fails only when out of memory.
 fn compare_behind<T: Characters, U: Characters>(
     alloc: Global,
@@ -74,16 +52,14 @@ fn compare_behind<T: Characters, U: Characters>(
     requires right_reaches { place ≤ length (U.characters right) }
     ensures { IfOk result (λ order. order ≡ collation_order (source_collation checked.now) options.now (drop place (T.characters left)) (drop place (U.characters right))) }
 {
-    match compare_flat_behind(alloc, checked, options, left, right, place)? {
-        Some(order) => Ok(order),
-        None => match compare_listed(alloc, checked, options, left, right, place)? {
-            Some(order) => Ok(order),
-            None => {
-                let order = compare_whole_behind(alloc, checked, options, left, right, place)?;
-                Ok(order)
-            }
-        },
+    if place != 0 {
+        let answer = compare_flat(alloc, checked, options, left, right, place)?;
+        if let Some(order) = answer {
+            return Ok(order);
+        }
     }
+    let order = compare_whole_behind(alloc, checked, options, left, right, place)?;
+    Ok(order)
 }
 
 /// The order of two texts that first differ there, where that doesn't decide it: what they have in common is left out
@@ -106,8 +82,7 @@ fn compare_past<T: Characters, U: Characters>(
     Ok(order)
 }
 
-/// The order of two texts: where variable elements are shifted and none is met, the primaries decide it; else where the texts first
-/// differ, or both are read from a place before that. Fails only when out of memory.
+/// The order of two texts, where they first differ, or by reading both from a place before that. Fails only when out of memory.
 #[inline(never)]
 fn compare_by_difference<T: Characters, U: Characters>(
     alloc: Global,
@@ -118,11 +93,11 @@ fn compare_by_difference<T: Characters, U: Characters>(
 ) -> Result<Ordering, AllocError>
     ensures { IfOk result (λ order. order ≡ collation_order (source_collation checked.now) options.now (T.characters left) (U.characters right)) }
 {
-    if let Some(order) = compare_shifted(checked, options, left, right) {
+    let (difference, boundary) = difference_and_boundary(checked, left.chars(), right.chars());
+    if let Some(order) = order_by_difference(checked, options, difference) {
         return Ok(order);
     }
-    let difference = first_difference(left.chars(), right.chars());
-    match order_by_difference(checked, options, difference) {
+    match compare_stretched(alloc, checked, options, boundary, difference)? {
         Some(order) => Ok(order),
         None => {
             let order = compare_past(alloc, checked, options, left, right, difference)?;

@@ -2,22 +2,22 @@
 
 ghost use Rattle.std.specs.Char.{IsScalar};
 ghost use Rattle.std.specs.Iterator.{IsFinite, IsNearerEnd};
-ghost use Rattle.std.specs.Ordering.{nat_cmp};
-ghost use Rattle.std.specs.Prelude.{◌≡◌, ◌≤◌, ◌==◌, ℕ, All, List, IfOk, IfSome, None, Option, drop, false, length, true};
+ghost use Rattle.std.specs.Prelude.{◌≡◌, ◌≤◌, ℕ, All, List, IfOk, IfSome, drop, false, length, true};
 ghost use Rattle.icu_normalizer_core.specs.Iter.{Spells};
 ghost use Rattle.icu_collator_core.specs.FlatSteps.{IsNextPrimary, IsReadUpTo, IsSettled};
 ghost use Rattle.icu_collator_core.specs.declared.flat.steps.FlatStep.TheVariants.{Primary};
 ghost use Rattle.icu_collator.specs.Collators.{source_collation};
 ghost use Rattle.icu_collator_types.specs.Options.{is_at_least, is_shifted};
 ghost use Rattle.icu_collator_types.specs.declared.options.Strength.TheVariants.{Identical};
-ghost use Rattle.icu_collator.specs.FlatOrders.{AreAlikeSoFar, AreSettled, HaveSamePrimaries, IsByPrimaries, IsMeeting, IsMet, reordered_by};
+ghost use Rattle.icu_collator.specs.FlatOrders.{AreAlikeSoFar, AreSettled, HaveSamePrimaries, IsByPrimaries, IsMeeting, IsMet, IsNextCounted, does_count};
 ghost use Rattle.icu_collator.specs.Order.{collation_order};
-ghost use Rattle.icu_collator.specs.declared.compare.flat.ByPrimaries.TheVariants.{Decided};
 ghost use Rattle.icu_collator.specs.declared.compare.flat.Meeting.TheVariants.{Alike};
 
+use super::common::{counts, order_by_low, pass_common, pass_low};
 use super::weights::compare_behind_primaries;
 use crate::common_front::behind;
 use crate::encodings::{Characters, PeekLow};
+use crate::levels::counted_elements::variable_end;
 use crate::levels::weights::reordered;
 use crate::read_texts::{ReadText, is_unshifted, numeric_lead};
 use icu_collator_core::checked::CheckedTables;
@@ -31,7 +31,7 @@ const KEPT: usize = 64;
 
 /// What the next primaries of two texts say.
 #[derive(Clone, Copy)]
-enum Meeting {
+pub(super) enum Meeting {
     /// They are alike, as they are reordered.
     Alike,
     /// Both texts end.
@@ -72,7 +72,7 @@ fn meet_primaries(checked: &CheckedTables<'_>, first: u32, second: u32) -> Meeti
 
 /// What comes next in two texts, as it is before reordering.
 #[inline(always)]
-fn meet(checked: &CheckedTables<'_>, first: FlatStep, second: FlatStep) -> Meeting
+pub(super) fn meet(checked: &CheckedTables<'_>, first: FlatStep, second: FlatStep) -> Meeting
     ensures { IsMeeting checked.now first second result }
 {
     match first {
@@ -93,31 +93,30 @@ fn meet(checked: &CheckedTables<'_>, first: FlatStep, second: FlatStep) -> Meeti
 /// What the primaries of two texts say.
 #[derive(Clone, Copy)]
 pub(super) enum ByPrimaries {
-    /// They differ: this is the order.
+    /// Those that count differ: this is the order.
     Decided(Ordering),
-    /// They are the same.
+    /// Those that count are the same.
     Same,
-    /// A text isn't read flat, or has a primary below the least, as far as it was read.
+    /// A text isn't read flat, as far as it was read.
     NotFlat,
 }
 
-/// Reads a text flat, from the place to which it was read so, behind a character of a class, up to its next primary: answers
-/// that, if it isn't below the least, the text behind it, and the class of the last character that was read, 256 where a boundary
-/// has to follow. No memory is taken.
+/// Reads a text flat, from the place to which it was read so, behind a character of a class, up to its next primary that counts, where
+/// variable ones end before this one: answers that, the text behind it, and the class of the last character that was read, 256 where
+/// a boundary has to follow. No memory is taken.
 #[inline(always)]
 fn next_primary<I: Iterator<Item = char> + Drop>(
     checked: &CheckedTables<'_>,
-    least: u32,
+    end: u32,
     numeric: Option<u8>,
     chars: I,
     class: u32,
 ) -> (FlatStep, I, u32)
-    requires least { 1 ≤ least }
     requires can { I.can_next chars }
     requires finite { IsFinite (I.remaining chars) }
     ensures next { (text items : List ℕ) → IsReadUpTo checked.now numeric I.next_gives text chars class items
-        → IsNextPrimary checked.now numeric I.next_gives text items result.0 result.1 result.2 }
-    ensures least { (p : ℕ) → result.0 ≡ Primary p → least ≤ p }
+        → IsNextCounted checked.now end numeric I.next_gives text items result.0 result.1 result.2 }
+    ensures counts { (p : ℕ) → result.0 ≡ Primary p → does_count end p ≡ true }
     ensures nearer { (p : ℕ) → result.0 ≡ Primary p → IsNearerEnd I.can_next I.remaining chars result.1 }
 {
     checked.canonical().keep_promise();
@@ -125,21 +124,15 @@ fn next_primary<I: Iterator<Item = char> + Drop>(
     let mut class = class;
     'reading: while let Some(c) = chars.next() {
         let boundary = checked.boundary_primary(c);
-        if boundary >= least {
+        if counts(boundary, end) {
             return (FlatStep::Primary(boundary), chars, 0);
-        }
-        if boundary != 0 {
-            return (FlatStep::Other, chars, class);
         }
         let Some((primary, trail)) = checked.flat_primary(numeric, c, class) else {
             return (FlatStep::Other, chars, class);
         };
         class = trail;
-        if primary >= least {
+        if counts(primary, end) {
             return (FlatStep::Primary(primary), chars, class);
-        }
-        if primary != 0 {
-            return (FlatStep::Other, chars, class);
         }
     }
     (FlatStep::End, chars, class)
@@ -224,153 +217,64 @@ fn meet_settled<I: Iterator<Item = char> + Drop, J: Iterator<Item = char> + Drop
     }
 }
 
-/// What the next primaries of two texts say, that were read up to primaries that are alike, each behind a character of a class, and
-/// that stop below the least; with the texts behind these primaries, and the classes of the last characters. No memory is taken.
+/// What the next primaries that count say of two texts that were read up to such that are alike, each behind a character of a class;
+/// with the texts behind these primaries, and the classes of the last characters. No memory is taken.
 #[inline(always)]
 fn meet_next<I: Iterator<Item = char> + Drop, J: Iterator<Item = char> + Drop>(
     checked: &CheckedTables<'_>,
-    least: u32,
+    end: u32,
     numeric: Option<u8>,
     left: I,
     right: J,
     left_class: u32,
     right_class: u32,
 ) -> (Meeting, I, J, u32, u32)
-    requires least { 1 ≤ least }
     requires left { I.can_next left }
     requires left_ends { IsFinite (I.remaining left) }
     requires right { J.can_next right }
     requires right_ends { IsFinite (J.remaining right) }
     ensures next { (a b : List ℕ) → All IsScalar a → All IsScalar b
-        → AreAlikeSoFar checked.now least numeric I.next_gives J.next_gives a b left right left_class right_class
-        → IsMet checked.now least numeric I.next_gives J.next_gives a b result.0 result.1 result.2 result.3 result.4 }
+        → AreAlikeSoFar checked.now end numeric I.next_gives J.next_gives a b left right left_class right_class
+        → IsMet checked.now end numeric I.next_gives J.next_gives a b result.0 result.1 result.2 result.3 result.4 }
     ensures left_nearer { result.0 ≡ Alike → IsNearerEnd I.can_next I.remaining left result.1 }
     ensures right_nearer { result.0 ≡ Alike → IsNearerEnd J.can_next J.remaining right result.2 }
 {
-    let (one, left_rest, left_last) = next_primary(checked, least, numeric, left, left_class);
-    let (two, right_rest, right_last) = next_primary(checked, least, numeric, right, right_class);
+    let (one, left_rest, left_last) = next_primary(checked, end, numeric, left, left_class);
+    let (two, right_rest, right_last) = next_primary(checked, end, numeric, right, right_class);
     let (meeting, left_rest, right_rest) = meet_settled(
         checked, numeric, one, two, left_rest, right_rest, left_last, right_last,
     );
     (meeting, left_rest, right_rest, left_last, right_last)
 }
 
-/// The order of two primaries, as they are reordered.
+/// Reads two texts, that were read up to primaries that are alike, each behind a character of a class, on side by side as long as their
+/// primaries that count are alike. No memory is taken.
 #[inline(always)]
-fn order_of_primaries(checked: &CheckedTables<'_>, first: u32, second: u32) -> Ordering
-    ensures { result ≡ nat_cmp (reordered_by checked.now first) (reordered_by checked.now second) }
-{
-    if first == second {
-        return Ordering::Equal;
-    }
-    reordered(checked.tables(), first).cmp(&reordered(checked.tables(), second))
-}
-
-/// Reads two texts side by side as long as their next characters are the same boundary below U+0080, whose primary isn't below the
-/// least, and a look tells so. No memory is taken.
-#[inline(always)]
-fn pass_common<I: PeekLow + Drop, J: PeekLow + Drop>(
+fn by_further_primaries<I: PeekLow + Drop, J: PeekLow + Drop>(
     checked: &CheckedTables<'_>,
-    least: u32,
-    left: I,
-    right: J,
-) -> (I, J)
-    requires least { 1 ≤ least }
-    requires left { I.can_next left }
-    requires left_ends { IsFinite (I.remaining left) }
-    requires right { J.can_next right }
-    requires right_ends { IsFinite (J.remaining right) }
-    ensures alike { (numeric : Option ℕ) (a b : List ℕ) → All IsScalar a → All IsScalar b → Spells I.next_gives left a → Spells J.next_gives right b
-        → AreAlikeSoFar checked.now least numeric I.next_gives J.next_gives a b result.0 result.1 0 0 }
-    ensures left { I.can_next result.0 }
-    ensures left_ends { IsFinite (I.remaining result.0) }
-    ensures right { J.can_next result.1 }
-    ensures right_ends { IsFinite (J.remaining result.1) }
-{
-    checked.canonical().keep_promise();
-    let mut left = left;
-    let mut right = right;
-    'common: loop {
-        let low = left.peek_low();
-        if low >= 0x80 || right.peek_low() != low {
-            return (left, right);
-        }
-        if checked.boundary_primary(low as char) < least {
-            return (left, right);
-        }
-        let _first = left.next();
-        let _second = right.next();
-    }
-}
-
-/// The order of two texts that were read up to primaries that are alike, where looks tell the next characters of both, and these
-/// are boundaries with primaries that differ and aren't below the least; `None` for others. With the texts, which are as they were
-/// where there is none.
-#[inline(always)]
-fn order_by_low<I: PeekLow + Drop, J: PeekLow + Drop>(
-    checked: &CheckedTables<'_>,
-    least: u32,
-    left: I,
-    right: J,
-) -> (Option<Ordering>, I, J)
-    requires least { 1 ≤ least }
-    requires left { I.can_next left }
-    requires right { J.can_next right }
-    ensures order { IfSome result.0 (λ order. (numeric : Option ℕ) (a b : List ℕ) → All IsScalar a → All IsScalar b
-        → AreAlikeSoFar checked.now least numeric I.next_gives J.next_gives a b left right 0 0 → IsByPrimaries checked.now least numeric a b (Decided order)) }
-    ensures left_kept { result.0 ≡ None → result.1 ≡ left }
-    ensures right_kept { result.0 ≡ None → result.2 ≡ right }
-{
-    checked.canonical().keep_promise();
-    let low = left.peek_low();
-    let other = right.peek_low();
-    if low >= 0x80 || other >= 0x80 {
-        return (None, left, right);
-    }
-    let first = checked.boundary_primary(low as char);
-    let second = checked.boundary_primary(other as char);
-    if first < least || second < least {
-        return (None, left, right);
-    }
-    let order = order_of_primaries(checked, first, second);
-    if order == Ordering::Equal {
-        return (None, left, right);
-    }
-    let mut behind_left = left;
-    let mut behind_right = right;
-    let _first = behind_left.next();
-    let _second = behind_right.next();
-    (Some(order), behind_left, behind_right)
-}
-
-/// Reads two texts side by side as long as their primaries are alike and not below the least. No memory is taken.
-#[inline(always)]
-pub(super) fn by_primaries<I: PeekLow + Drop, J: PeekLow + Drop>(
-    checked: &CheckedTables<'_>,
-    least: u32,
+    end: u32,
     numeric: Option<u8>,
     left: I,
     right: J,
+    left_class: u32,
+    right_class: u32,
 ) -> ByPrimaries
-    requires least { 1 ≤ least }
     requires left { I.can_next left }
     requires left_ends { IsFinite (I.remaining left) }
     requires right { J.can_next right }
     requires right_ends { IsFinite (J.remaining right) }
-    ensures { (a b : List ℕ) → All IsScalar a → All IsScalar b → Spells I.next_gives left a → Spells J.next_gives right b
-        → IsByPrimaries checked.now least numeric a b result }
+    ensures { (a b : List ℕ) → All IsScalar a → All IsScalar b
+        → AreAlikeSoFar checked.now end numeric I.next_gives J.next_gives a b left right left_class right_class
+        → IsByPrimaries checked.now end numeric a b result }
 {
-    let (left, right) = pass_common(checked, least, left, right);
-    let (order, mut left, mut right) = order_by_low(checked, least, left, right);
-    if let Some(order) = order {
-        return ByPrimaries::Decided(order);
-    }
-    let mut left_class = 0;
-    let mut right_class = 0;
+    let mut left = left;
+    let mut right = right;
+    let mut left_class = left_class;
+    let mut right_class = right_class;
     'primaries: loop {
         let (meeting, left_rest, right_rest, left_last, right_last) = meet_next(
             checked,
-            least,
+            end,
             numeric,
             left,
             right,
@@ -383,11 +287,37 @@ pub(super) fn by_primaries<I: PeekLow + Drop, J: PeekLow + Drop>(
             Meeting::Parted(order) => return ByPrimaries::Decided(order),
             Meeting::Stopped => return ByPrimaries::NotFlat,
         }
-        left = left_rest;
-        right = right_rest;
-        left_class = left_last;
-        right_class = right_last;
+        let (left_here, right_here, left_before, right_before) = pass_common(
+            checked, numeric, left_rest, right_rest, left_last, right_last,
+        );
+        left = left_here;
+        right = right_here;
+        left_class = left_before;
+        right_class = right_before;
     }
+}
+
+/// Reads two texts side by side as long as their primaries that count are alike. No memory is taken.
+#[inline(always)]
+fn by_primaries<I: PeekLow + Drop, J: PeekLow + Drop>(
+    checked: &CheckedTables<'_>,
+    end: u32,
+    numeric: Option<u8>,
+    left: I,
+    right: J,
+) -> ByPrimaries
+    requires left { I.can_next left }
+    requires left_ends { IsFinite (I.remaining left) }
+    requires right { J.can_next right }
+    requires right_ends { IsFinite (J.remaining right) }
+    ensures { (a b : List ℕ) → All IsScalar a → All IsScalar b → Spells I.next_gives left a → Spells J.next_gives right b
+        → IsByPrimaries checked.now end numeric a b result }
+{
+    let (left, right, class) = pass_low(checked, left, right, 0);
+    if let Some(order) = order_by_low(checked, end, &left, &right) {
+        return ByPrimaries::Decided(order);
+    }
+    by_further_primaries(checked, end, numeric, left, right, class, class)
 }
 
 /// The order of what stands in two texts with the same primaries behind so many characters, by the levels behind these, if both
@@ -456,6 +386,32 @@ fn compare_same<T: Characters, U: Characters>(
     Ok(answer)
 }
 
+/// The order of what stands in two texts behind so many characters, if both are read flat up to primaries that count and differ, where
+/// variable elements are shifted: `None` for others. No memory is taken.
+#[inline(never)]
+fn compare_shifted<T: Characters, U: Characters>(
+    checked: &CheckedTables<'_>,
+    options: &ResolvedCollatorOptions,
+    left: T,
+    right: U,
+    place: usize,
+) -> Option<Ordering>
+    requires left_reaches { place ≤ length (T.characters left) }
+    requires right_reaches { place ≤ length (U.characters right) }
+    ensures { IfSome result (λ order.
+        order ≡ collation_order (source_collation checked.now) options.now (drop place (T.characters left)) (drop place (U.characters right))) }
+{
+    let numeric = numeric_lead(checked, options);
+    let end = variable_end(checked, options);
+    let lefts = behind(left.chars(), place);
+    let rights = behind(right.chars(), place);
+    match by_primaries(checked, end, numeric, lefts, rights) {
+        ByPrimaries::Decided(order) => Some(order),
+        ByPrimaries::NotFlat => None,
+        ByPrimaries::Same => None,
+    }
+}
+
 /// The order of what stands in two texts behind so many characters, if both are read flat as far as it takes: `None` for
 /// others. Fails only when out of memory.
 #[inline(always)]
@@ -473,12 +429,12 @@ pub(super) fn compare_flat<T: Characters, U: Characters>(
         order ≡ collation_order (source_collation checked.now) options.now (drop place (T.characters left)) (drop place (U.characters right)))) }
 {
     if !is_unshifted(options) {
-        return Ok(None);
+        return Ok(compare_shifted(checked, options, left, right, place));
     }
     let numeric = numeric_lead(checked, options);
     let lefts = behind(left.chars(), place);
     let rights = behind(right.chars(), place);
-    match by_primaries(checked, 1, numeric, lefts, rights) {
+    match by_primaries(checked, 0, numeric, lefts, rights) {
         ByPrimaries::Decided(order) => Ok(Some(order)),
         ByPrimaries::NotFlat => Ok(None),
         ByPrimaries::Same => {

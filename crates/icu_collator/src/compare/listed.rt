@@ -1,31 +1,27 @@
-//! The comparison of texts that are read flat whole: by the lists of their elements, at all levels.
+//! The comparison of texts by the lists of their elements, at all levels.
 
-ghost use Rattle.std.specs.Prelude.{◌≡◌, ◌≤◌, ℕ, [], List, IfOk, IfSome, drop, false, length, true};
+ghost use Rattle.std.specs.Prelude.{◌≡◌, ℕ, [], List, IfOk, IfSome, false, true};
 ghost use Rattle.icu_collator_types.specs.Options.{is_at_least};
+ghost use Rattle.icu_collator_types.specs.declared.elements.Element.{Element};
 ghost use Rattle.icu_collator_types.specs.declared.options.Strength.TheVariants.{Identical};
+ghost use Rattle.icu_collator_core.specs.Collation.{Collation};
 ghost use Rattle.icu_collator_core.specs.ElementLists.{unpacked};
 ghost use Rattle.icu_collator.specs.Collators.{source_collation};
+ghost use Rattle.icu_collator.specs.CommonBoundaries.{AreElementsBehind, CountApart, elements_order};
 ghost use Rattle.icu_collator.specs.LevelLists.{counted_list};
-ghost use Rattle.icu_collator.specs.Levels.{elements_of_text};
 ghost use Rattle.icu_collator.specs.Order.{collation_order};
 ghost use Rattle.icu_collator.specs.Shifted.{counted};
 
 use super::orders::compare_read;
-use crate::common_front::behind;
-use crate::encodings::Characters;
 use crate::levels::counted_elements::{kept, variable_end};
-use crate::read_texts::{ReadText, numeric_lead};
+use crate::read_texts::{ReadText, is_unshifted};
 use icu_collator_core::checked::CheckedTables;
-use icu_collator_core::flat::FlatElements;
 use icu_collator_types::elements::CollationElement;
 use icu_collator_types::options::{ResolvedCollatorOptions, Strength};
 use std::alloc::{AllocError, Global};
 use std::cmp::Ordering;
 
-/// How many elements of each text are kept.
-const KEPT: usize = 64;
-
-/// The order of two texts by their elements that count, below `Identical`. Fails only when out of memory.
+/// The order of two lists of elements by those that count, below `Identical`. Fails only when out of memory.
 fn compare_counted(
     alloc: Global,
     checked: &CheckedTables<'_>,
@@ -35,10 +31,10 @@ fn compare_counted(
     variable_end: u32,
 ) -> Result<Ordering, AllocError>
     requires inexact { is_at_least options.now.strength Identical ≡ false }
-    ensures { IfOk result (λ order. (a b : List ℕ)
-        → counted_list variable_end lefts.now ≡ counted (source_collation checked.now) options.now (elements_of_text (source_collation checked.now) options.now a)
-        → counted_list variable_end rights.now ≡ counted (source_collation checked.now) options.now (elements_of_text (source_collation checked.now) options.now b)
-        → order ≡ collation_order (source_collation checked.now) options.now a b) }
+    ensures { IfOk result (λ order. (es fs : List Element)
+        → counted_list variable_end lefts.now ≡ counted (source_collation checked.now) options.now es
+        → counted_list variable_end rights.now ≡ counted (source_collation checked.now) options.now fs
+        → order ≡ elements_order (source_collation checked.now) options.now es fs) }
 {
     let left = ReadText {
         elements: lefts,
@@ -54,8 +50,8 @@ fn compare_counted(
     Ok(order)
 }
 
-/// The order of two texts by all their elements, below `Identical`: where some may be variable, those that count are kept.
-/// Fails only when out of memory.
+/// The order of two lists of elements, below `Identical`: where some may be variable, those that count are kept. Fails only when
+/// out of memory.
 fn compare_elements(
     alloc: Global,
     checked: &CheckedTables<'_>,
@@ -64,10 +60,7 @@ fn compare_elements(
     rights: &[CollationElement],
 ) -> Result<Ordering, AllocError>
     requires inexact { is_at_least options.now.strength Identical ≡ false }
-    ensures { IfOk result (λ order. (a b : List ℕ)
-        → unpacked lefts.now ≡ elements_of_text (source_collation checked.now) options.now a
-        → unpacked rights.now ≡ elements_of_text (source_collation checked.now) options.now b
-        → order ≡ collation_order (source_collation checked.now) options.now a b) }
+    ensures { IfOk result (λ order. order ≡ elements_order (source_collation checked.now) options.now (unpacked lefts.now) (unpacked rights.now)) }
 {
     let end = variable_end(checked, options);
     if end == 0 {
@@ -80,51 +73,65 @@ fn compare_elements(
     Ok(order)
 }
 
-/// Reads what stands in a text behind so many characters into an empty list, if it is flat and the list has room for its
-/// elements; `false` for others, and what the list has then is not said. No memory is taken.
-#[inline(always)]
-fn read_behind<T: Characters>(
-    checked: &CheckedTables<'_>,
-    options: &ResolvedCollatorOptions,
-    text: T,
-    place: usize,
-    elements: &mut FlatElements<KEPT>,
-) -> bool
-    requires reaches { place ≤ length (T.characters text) }
-    requires empty { elements.old.items ≡ [] }
-    ensures { result ≡ true → unpacked elements.new.items ≡ elements_of_text (source_collation checked.now) options.now (drop place (T.characters text)) }
+/// Whether elements count as they do by themselves, whatever stands before them: none is shifted, or the first has a primary.
+fn counts_apart(options: &ResolvedCollatorOptions, elements: &[CollationElement]) -> bool
+    ensures { result ≡ true → (collation : Collation) → CountApart collation options.now (unpacked elements.now) }
 {
-    let numeric = numeric_lead(checked, options);
-    checked.read_flat(numeric, behind(text.chars(), place), elements)
+    if is_unshifted(options) {
+        return true;
+    }
+    match elements.first() {
+        Some(first) => first.primary() != 0,
+        None => true,
+    }
 }
 
-/// The order of what stands in two texts behind so many characters, if both are read flat and have few elements: `None` for
-/// others, and at `Identical`. Fails only when out of memory.
+/// Whether the levels of texts with a front in common compare as those of what stands behind it, where these are its elements.
+fn may_leave_front(
+    checked: &CheckedTables<'_>,
+    options: &ResolvedCollatorOptions,
+    lefts: &[CollationElement],
+    rights: &[CollationElement],
+) -> bool
+    ensures forward { result ≡ true → (source_collation checked.now).backward ≡ false }
+    ensures left { result ≡ true → CountApart (source_collation checked.now) options.now (unpacked lefts.now) }
+    ensures right { result ≡ true → CountApart (source_collation checked.now) options.now (unpacked rights.now) }
+{
+    if checked.tables().metadata.backward_second_level() {
+        return false;
+    }
+    if !counts_apart(options, lefts) {
+        return false;
+    }
+    counts_apart(options, rights)
+}
+
+/// The order of two texts that end with these elements behind a front that they have in common, which is empty where they are
+/// whole: `None` at `Identical`, and where the front counts. Fails only when out of memory.
 #[inline(never)]
-pub(super) fn compare_listed<T: Characters, U: Characters>(
+pub(super) fn compare_elements_behind(
     alloc: Global,
     checked: &CheckedTables<'_>,
     options: &ResolvedCollatorOptions,
-    left: T,
-    right: U,
-    place: usize,
+    lefts: &[CollationElement],
+    rights: &[CollationElement],
+    is_whole: bool,
 ) -> Result<Option<Ordering>, AllocError>
-    requires left_reaches { place ≤ length (T.characters left) }
-    requires right_reaches { place ≤ length (U.characters right) }
-    ensures { IfOk result (λ answer. IfSome answer (λ order.
-        order ≡ collation_order (source_collation checked.now) options.now (drop place (T.characters left)) (drop place (U.characters right)))) }
+    ensures { IfOk result (λ answer. IfSome answer (λ order. (front a b : List ℕ) → (is_whole ≡ true → front ≡ [])
+        → AreElementsBehind (source_collation checked.now) options.now front a lefts.now
+        → AreElementsBehind (source_collation checked.now) options.now front b rights.now
+        → order ≡ collation_order (source_collation checked.now) options.now a b)) }
 {
     if options.strength.is_at_least(Strength::Identical) {
         return Ok(None);
     }
-    let mut lefts = FlatElements::<KEPT>::new();
-    if !read_behind(checked, options, left, place, &mut lefts) {
+    if is_whole {
+        let order = compare_elements(alloc, checked, options, lefts, rights)?;
+        return Ok(Some(order));
+    }
+    if !may_leave_front(checked, options, lefts, rights) {
         return Ok(None);
     }
-    let mut rights = FlatElements::<KEPT>::new();
-    if !read_behind(checked, options, right, place, &mut rights) {
-        return Ok(None);
-    }
-    let order = compare_elements(alloc, checked, options, lefts.as_slice(), rights.as_slice())?;
+    let order = compare_elements(alloc, checked, options, lefts, rights)?;
     Ok(Some(order))
 }

@@ -137,6 +137,11 @@ impl<'a> Iterator for Utf8Steps<'a> {
 
 impl<'a> PeekLow for Utf8Steps<'a> {
     #[inline(always)]
+    fn again(&self) -> Self {
+        Utf8Steps { bytes: self.bytes }
+    }
+
+    #[inline(always)]
     fn peek_low(&self) -> u8 {
         match self.bytes.split_first() {
             Some((lead, _rest)) => *lead,

@@ -106,6 +106,12 @@ impl KeyBytes {
         true
     }
 
+    /// Whether there is room for two bytes without memory.
+    #[inline(always)]
+    pub(crate) fn has_room(&self) -> bool {
+        self.length <= ROOM - 2
+    }
+
     /// Appends two bytes, where there is room for both without memory; else nothing.
     #[inline(always)]
     pub(crate) fn put_two(&mut self, first: u8, second: u8) -> bool

@@ -3,16 +3,17 @@
 ghost use Rattle.std.specs.Prelude.{◌≡◌, ◌<◌, ◌≤◌, ◌+◌, ◌^◌, [], ◌∷◌, ◌++◌, List, false, filter_map, map, true, All, OnOk};
 ghost use Rattle.std.specs.List.{list_all};
 ghost use Rattle.icu_collator_types.specs.Options.{is_shifted, is_upper_first};
+ghost use Rattle.icu_collator.specs.Collators.{source_collation};
 ghost use Rattle.icu_collator.specs.KeyBytes.{case_halves, character_level, paired_halves, quaternary_level, secondary_code, tertiary_code_of, with_runs};
 ghost use Rattle.icu_collator.specs.KeyCodes.{code_of, is_small_place, rank_limit};
 ghost use Rattle.icu_collator.specs.LevelLists.{counted_list, has_sound_case, tertiaries_by, tertiary_bound};
-ghost use Rattle.icu_collator.specs.Levels.{QuaternaryPlace, SecondaryPlace, secondary_at};
+ghost use Rattle.icu_collator.specs.Levels.{QuaternaryPlace, SecondaryPlace, quaternary_at, secondary_at};
 ghost use Rattle.icu_collator.specs.Order.{quaternary_rank, secondary_rank};
 
 use super::buffer::KeyBytes;
 use super::cases::write_cases;
 use super::identical_level::write_characters;
-use super::quaternaries::write_quaternaries;
+use super::quaternaries::{write_given_quaternaries, write_quaternaries};
 use super::run_level::RunLevel;
 use super::runs::{write_given_runs, write_runs};
 use crate::levels::counted_elements::CountedElement;
@@ -20,6 +21,7 @@ use crate::levels::weights::{
     has_case_bits, has_common_secondary, has_common_tertiary, plain_tertiary_at, secondary_rank_at,
     tertiary_at,
 };
+use icu_collator_core::checked::CheckedTables;
 use icu_collator_types::elements::CollationElement;
 use icu_collator_types::options::{
     AlternateHandling, CaseLevel, CollationCaseFirst, ResolvedCollatorOptions,
@@ -43,7 +45,7 @@ pub(super) fn write_secondary_level(ranks: &[u32], key: &mut KeyBytes) -> Result
 
 /// Appends the secondary level in the order of the text. Fails only when out of memory.
 #[inline(always)]
-fn write_forward_by(
+pub(super) fn write_forward_level(
     elements: &[CollationElement],
     variable_end: u32,
     key: &mut KeyBytes,
@@ -62,40 +64,6 @@ fn write_forward_by(
         key,
     )?;
     key.push(LEVEL_SEPARATOR)?;
-    Ok(())
-}
-
-/// The same where no element is variable.
-#[inline(never)]
-fn write_unshifted_forward(
-    elements: &[CollationElement],
-    key: &mut KeyBytes,
-) -> Result<(), AllocError>
-    requires { list_all has_sound_case (counted_list 0 elements.now) ≡ true }
-    ensures { OnOk result (key.new.items ≡ key.old.items
-        ++ 0x01 ∷ (with_runs secondary_code (filter_map secondary_at (counted_list 0 elements.now)) ++ 0x01 ∷ [])) }
-{
-    write_forward_by(elements, 0, key)?;
-    Ok(())
-}
-
-/// Appends the secondary level in the order of the text: where no element is variable, by a loop that asks for none. Fails only
-/// when out of memory.
-#[inline(always)]
-pub(super) fn write_forward_level(
-    elements: &[CollationElement],
-    variable_end: u32,
-    key: &mut KeyBytes,
-) -> Result<(), AllocError>
-    requires { list_all has_sound_case (counted_list variable_end elements.now) ≡ true }
-    ensures { OnOk result (key.new.items ≡ key.old.items
-        ++ 0x01 ∷ (with_runs secondary_code (filter_map secondary_at (counted_list variable_end elements.now)) ++ 0x01 ∷ [])) }
-{
-    if variable_end == 0 {
-        write_unshifted_forward(elements, key)?;
-        return Ok(());
-    }
-    write_forward_by(elements, variable_end, key)?;
     Ok(())
 }
 
@@ -180,7 +148,7 @@ fn write_tertiaries(
 
 /// Appends the tertiary level. Fails only when out of memory.
 #[inline(always)]
-fn write_tertiary_by(
+pub(super) fn write_tertiary_level(
     options: &ResolvedCollatorOptions,
     elements: &[CollationElement],
     variable_end: u32,
@@ -196,43 +164,8 @@ fn write_tertiary_by(
     Ok(())
 }
 
-/// The same where no element is variable.
-#[inline(never)]
-fn write_unshifted_tertiaries(
-    options: &ResolvedCollatorOptions,
-    elements: &[CollationElement],
-    key: &mut KeyBytes,
-) -> Result<(), AllocError>
-    requires { list_all has_sound_case (counted_list 0 elements.now) ≡ true }
-    ensures { OnOk result (key.new.items ≡ key.old.items
-        ++ 0x01 ∷ (with_runs (tertiary_code_of options.now) (tertiaries_by options.now (counted_list 0 elements.now)) ++ 0x01 ∷ [])) }
-{
-    write_tertiary_by(options, elements, 0, key)?;
-    Ok(())
-}
-
-/// Appends the tertiary level: where no element is variable, by a loop that asks for none. Fails only when out of memory.
-#[inline(always)]
-pub(super) fn write_tertiary_level(
-    options: &ResolvedCollatorOptions,
-    elements: &[CollationElement],
-    variable_end: u32,
-    key: &mut KeyBytes,
-) -> Result<(), AllocError>
-    requires { list_all has_sound_case (counted_list variable_end elements.now) ≡ true }
-    ensures { OnOk result (key.new.items ≡ key.old.items
-        ++ 0x01 ∷ (with_runs (tertiary_code_of options.now) (tertiaries_by options.now (counted_list variable_end elements.now)) ++ 0x01 ∷ [])) }
-{
-    if variable_end == 0 {
-        write_unshifted_tertiaries(options, elements, key)?;
-        return Ok(());
-    }
-    write_tertiary_by(options, elements, variable_end, key)?;
-    Ok(())
-}
-
 /// Whether something can be shifted.
-fn is_shifted(handling: AlternateHandling) -> bool
+pub(super) fn is_shifted(handling: AlternateHandling) -> bool
     ensures { result ≡ is_shifted handling }
 {
     match handling {
@@ -253,6 +186,24 @@ pub(super) fn write_quaternary_level(
 {
     key.push(LEVEL_SEPARATOR)?;
     write_quaternaries(is_shifted(options.alternate_handling), ranks, key)?;
+    key.push(LEVEL_SEPARATOR)?;
+    Ok(())
+}
+
+/// Appends the quaternary level of elements, where something can be shifted. Fails only when out of memory.
+pub(super) fn write_shifted_quaternaries(
+    checked: &CheckedTables<'_>,
+    options: &ResolvedCollatorOptions,
+    elements: &[CollationElement],
+    variable_end: u32,
+    key: &mut KeyBytes,
+) -> Result<(), AllocError>
+    requires { is_shifted options.now.alternate_handling ≡ true }
+    ensures { OnOk result (key.new.items ≡ key.old.items
+        ++ 0x01 ∷ (quaternary_level options.now (filter_map (quaternary_at (source_collation checked.now)) (counted_list variable_end elements.now)) ++ 0x01 ∷ [])) }
+{
+    key.push(LEVEL_SEPARATOR)?;
+    write_given_quaternaries(checked, elements, variable_end, key)?;
     key.push(LEVEL_SEPARATOR)?;
     Ok(())
 }

@@ -55,7 +55,7 @@ fn write_filled_run(
 /// Appends a run of so many common weights, before a higher weight or before a lower one or the end. Fails only when out
 /// of memory.
 #[inline(always)]
-fn write_run(
+pub(super) fn write_run(
     level: RunLevel,
     is_below_next: bool,
     count: usize,
@@ -111,6 +111,27 @@ fn write_given(
         return Ok(pending);
     };
     let now = write_next(level, common, u64::from(rank), pending, key)?;
+    Ok(now)
+}
+
+/// The same of a rank that may pass 32 bits.
+#[inline(always)]
+pub(super) fn write_wide_given(
+    level: RunLevel,
+    common: u64,
+    rank: Option<u64>,
+    pending: usize,
+    key: &mut KeyBytes,
+) -> Result<usize, AllocError>
+    requires common { common ≡ (code_of level).common }
+    requires rank { IfSome rank (λ r. r < rank_limit level) }
+    requires room { pending + 1 < 2 ^ 64 }
+    ensures { IfOk result (λ now. AddsGiven (code_of level) rank pending key.old.items now key.new.items) }
+{
+    let Some(rank) = rank else {
+        return Ok(pending);
+    };
+    let now = write_next(level, common, rank, pending, key)?;
     Ok(now)
 }
 

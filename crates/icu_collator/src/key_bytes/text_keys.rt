@@ -1,26 +1,27 @@
-//! The key of a text.
+//! The key of a text. Its elements are read into an array, flat or by stretches, or else it is read by its decomposed list.
+//!
+//! The array has one of three sizes, each with a copy of the code, in a function of its own: of an ordinary key's 1,800 instructions
+//! 40 clear 64 elements, 240 would take 110, and 512 take 4,100.
 
 ghost use Rattle.std.specs.Prelude.{◌≡◌, [], ◌++◌, All, List, IfErr, IfOk, OnOk, false, true};
 ghost use Rattle.std.specs.Char.{IsScalar};
 ghost use Rattle.std.specs.List.{list_all};
 ghost use Rattle.icu_normalizer_core.specs.Canonical.{decomposed};
-ghost use Rattle.icu_collator_types.specs.Options.{is_at_least};
 ghost use Rattle.icu_collator_types.specs.declared.elements.Element.{Element};
-ghost use Rattle.icu_collator_types.specs.declared.options.Strength.TheVariants.{Identical};
 ghost use Rattle.icu_collator_core.specs.ElementLists.{unpacked};
 ghost use Rattle.icu_collator_core.specs.ElementTexts.{text_elements};
 ghost use Rattle.icu_collator.specs.Collators.{source_collation};
 ghost use Rattle.icu_collator.specs.KeyBytes.{key_bytes, key_of_text};
-ghost use Rattle.icu_collator.specs.LevelLists.{counted_list, has_sound_case};
+ghost use Rattle.icu_collator.specs.LevelLists.{counted_list, has_sound_case, variable_end_of};
 ghost use Rattle.icu_collator.specs.Levels.{elements_of_text, levels_of};
 ghost use Rattle.icu_collator.specs.Shifted.{counted};
 ghost use Rattle.icu_collator.specs.Sinks.{IsRefusedKey};
 
 use super::buffer::KeyBytes;
-use super::whole::{write_unshifted_key, write_whole_key};
+use super::whole::write_whole_key;
 use crate::encodings::Characters;
-use crate::levels::counted_elements::{kept, variable_end};
-use crate::read_texts::{is_unshifted, numeric_lead, read_text};
+use crate::levels::counted_elements::{do_all_count, kept, variable_end};
+use crate::read_texts::{numeric_lead, read_text};
 use crate::sinks::whole::write_key;
 use crate::sinks::{CollationKeySink, KeyError};
 use icu_collator_core::checked::CheckedTables;
@@ -34,10 +35,16 @@ use std::alloc::{AllocError, Global};
 /// A text of at most so many bytes or units is short.
 const SHORT: usize = 60;
 
-/// How many elements a short text may have that is read without memory.
+/// One of more, but at most so many, is of middle length.
+const MIDDLE: usize = 220;
+
+/// How many elements of a short text are kept without memory.
 const FEW_ELEMENTS: usize = 64;
 
-/// The same of a longer one.
+/// How many of one of middle length.
+const SOME_ELEMENTS: usize = 240;
+
+/// How many of a longer one.
 const MANY_ELEMENTS: usize = 512;
 
 /// The decomposed list of a text. Fails only when out of memory.
@@ -52,23 +59,73 @@ fn listed_characters<T: Characters>(
     Ok(list)
 }
 
-/// Appends the key of the elements of a text none of which is variable, at `Identical`. Fails only when out of memory.
+/// Appends the key of a text of strength `Identical`, given as its elements that count. Fails only when out of memory.
 #[inline(never)]
 fn write_exact_key<T: Characters>(
     alloc: Global,
     checked: &CheckedTables<'_>,
     options: &ResolvedCollatorOptions,
     elements: &[CollationElement],
+    variable_end: u32,
     text: T,
     key: &mut KeyBytes,
 ) -> Result<(), AllocError>
-    requires { list_all has_sound_case (counted_list 0 elements.now) ≡ true }
-    ensures { OnOk result ((es : List Element) → counted_list 0 elements.now ≡ counted (source_collation checked.now) options.now es
+    requires { list_all has_sound_case (counted_list variable_end elements.now) ≡ true }
+    ensures { OnOk result ((es : List Element) → counted_list variable_end elements.now ≡ counted (source_collation checked.now) options.now es
         → key.new.items ≡ key.old.items ++ key_bytes (source_collation checked.now) options.now
         (levels_of (source_collation checked.now) options.now es (decomposed (source_collation checked.now).canonical (T.characters text)))) }
 {
     let characters = listed_characters(alloc, checked, text)?;
-    write_unshifted_key(checked, options, elements, &characters, key)?;
+    write_whole_key(checked, options, elements, variable_end, &characters, key)?;
+    Ok(())
+}
+
+/// Appends the key of a text, given as its elements that count, to no byte. Fails only when out of memory.
+#[inline(always)]
+fn write_counted_key<T: Characters>(
+    alloc: Global,
+    checked: &CheckedTables<'_>,
+    options: &ResolvedCollatorOptions,
+    elements: &[CollationElement],
+    variable_end: u32,
+    text: T,
+    key: &mut KeyBytes,
+) -> Result<(), AllocError>
+    requires empty { key.old.items ≡ [] }
+    requires scalars { All IsScalar (T.characters text) }
+    requires elements { counted_list variable_end elements.now
+        ≡ counted (source_collation checked.now) options.now (elements_of_text (source_collation checked.now) options.now (T.characters text)) }
+    ensures { OnOk result (key.new.items ≡ key_of_text (source_collation checked.now) options.now (T.characters text)) }
+{
+    checked.keep_promise();
+    checked.canonical().keep_promise();
+    if options.strength.is_at_least(Strength::Identical) {
+        write_exact_key(alloc, checked, options, elements, variable_end, text, key)?;
+        return Ok(());
+    }
+    write_whole_key(checked, options, elements, variable_end, &[], key)?;
+    Ok(())
+}
+
+/// The same of all elements of a text, some of which count nowhere. Fails only when out of memory.
+#[inline(never)]
+fn write_kept_key<T: Characters>(
+    alloc: Global,
+    checked: &CheckedTables<'_>,
+    options: &ResolvedCollatorOptions,
+    elements: &[CollationElement],
+    variable_end: u32,
+    text: T,
+    key: &mut KeyBytes,
+) -> Result<(), AllocError>
+    requires empty { key.old.items ≡ [] }
+    requires scalars { All IsScalar (T.characters text) }
+    requires elements { unpacked elements.now ≡ elements_of_text (source_collation checked.now) options.now (T.characters text) }
+    requires end { variable_end ≡ variable_end_of (source_collation checked.now) options.now }
+    ensures { OnOk result (key.new.items ≡ key_of_text (source_collation checked.now) options.now (T.characters text)) }
+{
+    let counted = kept(alloc, elements, variable_end)?;
+    write_counted_key(alloc, checked, options, &counted, variable_end, text, key)?;
     Ok(())
 }
 
@@ -93,10 +150,41 @@ fn read_elements<T: Characters, const N: usize>(
     Ok(is_read)
 }
 
-/// Appends the key of a short text that is read flat to no byte; `false` for another text, and then nothing. Fails only when out
-/// of memory.
+/// Appends the key of a text that is read flat or by stretches, into an empty list with room for it, to no byte; `false` for another
+/// text, and then nothing. Fails only when out of memory.
 #[inline(always)]
-fn write_flat_key<T: Characters>(
+fn write_noted_key<T: Characters, const N: usize>(
+    alloc: Global,
+    checked: &CheckedTables<'_>,
+    options: &ResolvedCollatorOptions,
+    text: T,
+    read: &mut FlatElements<N>,
+    key: &mut KeyBytes,
+) -> Result<bool, AllocError>
+    requires unread { read.old.items ≡ [] }
+    requires empty { key.old.items ≡ [] }
+    ensures written { IfOk result (λ is_written. is_written ≡ true
+        → key.new.items ≡ key_of_text (source_collation checked.now) options.now (T.characters text)) }
+    ensures unwritten { IfOk result (λ is_written. is_written ≡ false → key.new.items ≡ []) }
+{
+    let numeric = numeric_lead(checked, options);
+    let is_read = read_elements(alloc, checked, numeric, text, read)?;
+    if !is_read {
+        return Ok(false);
+    }
+    let elements = read.as_slice();
+    let end = variable_end(checked, options);
+    if do_all_count(elements, end) {
+        write_counted_key(alloc, checked, options, elements, end, text, key)?;
+        return Ok(true);
+    }
+    write_kept_key(alloc, checked, options, elements, end, text, key)?;
+    Ok(true)
+}
+
+/// The same with room for few elements, in a function of its own: at its beginning one clears all arrays that it has.
+#[inline(never)]
+fn write_short_key<T: Characters>(
     alloc: Global,
     checked: &CheckedTables<'_>,
     options: &ResolvedCollatorOptions,
@@ -108,26 +196,31 @@ fn write_flat_key<T: Characters>(
         → key.new.items ≡ key_of_text (source_collation checked.now) options.now (T.characters text)) }
     ensures unwritten { IfOk result (λ is_written. is_written ≡ false → key.new.items ≡ []) }
 {
-    checked.keep_promise();
-    checked.canonical().keep_promise();
-    if !is_unshifted(options) {
-        return Ok(false);
-    }
-    let mut flat = FlatElements::<FEW_ELEMENTS>::new();
-    let numeric = numeric_lead(checked, options);
-    let is_read = read_elements(alloc, checked, numeric, text, &mut flat)?;
-    if !is_read {
-        return Ok(false);
-    }
-    if options.strength.is_at_least(Strength::Identical) {
-        write_exact_key(alloc, checked, options, flat.as_slice(), text, key)?;
-        return Ok(true);
-    }
-    write_unshifted_key(checked, options, flat.as_slice(), &[], key)?;
-    Ok(true)
+    let mut read = FlatElements::<FEW_ELEMENTS>::new();
+    let is_written = write_noted_key(alloc, checked, options, text, &mut read, key)?;
+    Ok(is_written)
 }
 
-/// The same of a longer text: short ones don't pay for clearing as much room.
+/// The same with room for more.
+#[inline(never)]
+fn write_middle_key<T: Characters>(
+    alloc: Global,
+    checked: &CheckedTables<'_>,
+    options: &ResolvedCollatorOptions,
+    text: T,
+    key: &mut KeyBytes,
+) -> Result<bool, AllocError>
+    requires { key.old.items ≡ [] }
+    ensures written { IfOk result (λ is_written. is_written ≡ true
+        → key.new.items ≡ key_of_text (source_collation checked.now) options.now (T.characters text)) }
+    ensures unwritten { IfOk result (λ is_written. is_written ≡ false → key.new.items ≡ []) }
+{
+    let mut read = FlatElements::<SOME_ELEMENTS>::new();
+    let is_written = write_noted_key(alloc, checked, options, text, &mut read, key)?;
+    Ok(is_written)
+}
+
+/// The same with room for many.
 #[inline(never)]
 fn write_long_key<T: Characters>(
     alloc: Global,
@@ -141,91 +234,13 @@ fn write_long_key<T: Characters>(
         → key.new.items ≡ key_of_text (source_collation checked.now) options.now (T.characters text)) }
     ensures unwritten { IfOk result (λ is_written. is_written ≡ false → key.new.items ≡ []) }
 {
-    checked.keep_promise();
-    checked.canonical().keep_promise();
-    if !is_unshifted(options) {
-        return Ok(false);
-    }
-    let mut flat = FlatElements::<MANY_ELEMENTS>::new();
-    let numeric = numeric_lead(checked, options);
-    let is_read = read_elements(alloc, checked, numeric, text, &mut flat)?;
-    if !is_read {
-        return Ok(false);
-    }
-    if options.strength.is_at_least(Strength::Identical) {
-        write_exact_key(alloc, checked, options, flat.as_slice(), text, key)?;
-        return Ok(true);
-    }
-    write_unshifted_key(checked, options, flat.as_slice(), &[], key)?;
-    Ok(true)
-}
-
-/// The same with as much room as the text wants.
-fn write_roomy_key<T: Characters>(
-    alloc: Global,
-    checked: &CheckedTables<'_>,
-    options: &ResolvedCollatorOptions,
-    text: T,
-    key: &mut KeyBytes,
-) -> Result<bool, AllocError>
-    requires { key.old.items ≡ [] }
-    ensures written { IfOk result (λ is_written. is_written ≡ true
-        → key.new.items ≡ key_of_text (source_collation checked.now) options.now (T.characters text)) }
-    ensures unwritten { IfOk result (λ is_written. is_written ≡ false → key.new.items ≡ []) }
-{
-    if text.size() > SHORT {
-        let is_written = write_long_key(alloc, checked, options, text, key)?;
-        return Ok(is_written);
-    }
-    let is_written = write_flat_key(alloc, checked, options, text, key)?;
+    let mut read = FlatElements::<MANY_ELEMENTS>::new();
+    let is_written = write_noted_key(alloc, checked, options, text, &mut read, key)?;
     Ok(is_written)
 }
 
-/// The decomposed list of a text, at strength `Identical`. Fails only when out of memory.
-fn exact_characters<T: Characters>(
-    alloc: Global,
-    checked: &CheckedTables<'_>,
-    strength: Strength,
-    text: T,
-) -> Result<SmallVec<char, 64>, AllocError>
-    ensures { IfOk result (λ list. is_at_least strength Identical ≡ true
-        → list.items ≡ decomposed (source_collation checked.now).canonical (T.characters text)) }
-{
-    if strength.is_at_least(Strength::Identical) {
-        let list = listed_characters(alloc, checked, text)?;
-        Ok(list)
-    } else {
-        Ok(SmallVec::new(alloc))
-    }
-}
-
-/// Appends the key of a text by its elements that count to no byte. Fails only when out of memory.
-fn write_counted_key<T: Characters>(
-    alloc: Global,
-    checked: &CheckedTables<'_>,
-    options: &ResolvedCollatorOptions,
-    elements: &[CollationElement],
-    variable_end: u32,
-    text: T,
-    key: &mut KeyBytes,
-) -> Result<(), AllocError>
-    requires empty { key.old.items ≡ [] }
-    requires scalars { All IsScalar (T.characters text) }
-    requires elements { counted_list variable_end elements.now
-        ≡ counted (source_collation checked.now) options.now (elements_of_text (source_collation checked.now) options.now (T.characters text)) }
-    ensures { OnOk result (key.new.items ≡ key_of_text (source_collation checked.now) options.now (T.characters text)) }
-{
-    checked.keep_promise();
-    checked.canonical().keep_promise();
-    let characters = exact_characters(alloc, checked, options.strength, text)?;
-    write_whole_key(checked, options, elements, variable_end, &characters, key)?;
-    Ok(())
-}
-
-/// Appends the key of a text of few elements that is read flat, where elements may be variable, to no byte; `false` for another
-/// text and where nothing is shifted, and then nothing. Fails only when out of memory.
-#[inline(never)]
-fn write_shifted_key<T: Characters>(
+/// The same with as much room as the text wants.
+fn write_read_key<T: Characters>(
     alloc: Global,
     checked: &CheckedTables<'_>,
     options: &ResolvedCollatorOptions,
@@ -237,24 +252,19 @@ fn write_shifted_key<T: Characters>(
         → key.new.items ≡ key_of_text (source_collation checked.now) options.now (T.characters text)) }
     ensures unwritten { IfOk result (λ is_written. is_written ≡ false → key.new.items ≡ []) }
 {
-    if is_unshifted(options) {
-        return Ok(false);
-    }
-    let mut flat = FlatElements::<FEW_ELEMENTS>::new();
-    let numeric = numeric_lead(checked, options);
-    let is_read = read_elements(alloc, checked, numeric, text, &mut flat)?;
-    if !is_read {
-        return Ok(false);
-    }
-    let end = variable_end(checked, options);
-    let elements = kept(alloc, flat.as_slice(), end)?;
-    write_counted_key(alloc, checked, options, &elements, end, text, key)?;
-    Ok(true)
+    let is_written = if text.size() <= SHORT {
+        write_short_key(alloc, checked, options, text, key)?
+    } else if text.size() <= MIDDLE {
+        write_middle_key(alloc, checked, options, text, key)?
+    } else {
+        write_long_key(alloc, checked, options, text, key)?
+    };
+    Ok(is_written)
 }
 
-/// Appends the key of a text to no byte. Fails only when out of memory.
+/// Appends the key of a text of any kind, by its decomposed list, to no byte. Fails only when out of memory.
 #[inline(never)]
-fn write_read_key<T: Characters>(
+fn write_listed_key<T: Characters>(
     alloc: Global,
     checked: &CheckedTables<'_>,
     options: &ResolvedCollatorOptions,
@@ -278,7 +288,7 @@ fn write_read_key<T: Characters>(
     Ok(())
 }
 
-/// The same, by one read a character where the text is read flat.
+/// Appends the key of a text to no byte. Fails only when out of memory.
 fn write_key_bytes<T: Characters>(
     alloc: Global,
     checked: &CheckedTables<'_>,
@@ -289,13 +299,10 @@ fn write_key_bytes<T: Characters>(
     requires { key.old.items ≡ [] }
     ensures { OnOk result (key.new.items ≡ key_of_text (source_collation checked.now) options.now (T.characters text)) }
 {
-    if write_roomy_key(alloc, checked, options, text, key)? {
+    if write_read_key(alloc, checked, options, text, key)? {
         return Ok(());
     }
-    if write_shifted_key(alloc, checked, options, text, key)? {
-        return Ok(());
-    }
-    write_read_key(alloc, checked, options, text, key)?;
+    write_listed_key(alloc, checked, options, text, key)?;
     Ok(())
 }
 

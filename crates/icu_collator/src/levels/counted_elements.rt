@@ -1,6 +1,6 @@
 //! The elements that count under alternate shifted (UTS 10, variable weighting).
 
-ghost use Rattle.std.specs.Prelude.{◌≡◌, ◌*◌, ◌^◌, ◌&&◌, ◌==◌, IfOk, get_or, ltb};
+ghost use Rattle.std.specs.Prelude.{◌≡◌, ◌*◌, ◌^◌, ◌&&◌, ◌==◌, IfOk, get_or, ltb, true};
 ghost use Rattle.icu_collator_types.specs.Options.{group_index};
 ghost use Rattle.icu_collator_types.specs.declared.options.ResolvedCollatorOptions.{ResolvedCollatorOptions};
 ghost use Rattle.icu_collator_core.specs.Collation.{Collation};
@@ -65,7 +65,7 @@ fn group_end(checked: &CheckedTables<'_>, group: MaxVariable) -> u32
 }
 
 /// Whether an element with this primary is variable.
-fn is_variable(primary: u32, variable_end: u32) -> bool
+pub(crate) fn is_variable(primary: u32, variable_end: u32) -> bool
     ensures { result ≡ (ltb 0x02000000 primary && ltb primary variable_end) }
 {
     SEGMENT_END_PRIMARY < primary && primary < variable_end
@@ -90,6 +90,29 @@ pub(crate) fn counted_element(element: CollationElement, variable_end: u32) -> C
     } else {
         CountedElement::Whole(element)
     }
+}
+
+/// Whether all elements count, as they do where none is variable.
+#[inline(always)]
+pub(crate) fn do_all_count(elements: &[CollationElement], variable_end: u32) -> bool
+    ensures { result ≡ true → (collation : Collation) (options : ResolvedCollatorOptions) → variable_end ≡ variable_end_of collation options
+        → counted_list variable_end elements.now ≡ counted collation options (unpacked elements.now) }
+{
+    if variable_end == 0 {
+        return true;
+    }
+    let mut is_behind = false;
+    for element in elements {
+        let primary = element.primary();
+        if is_variable(primary, variable_end) {
+            is_behind = true;
+        } else if is_ignored(is_behind, primary) {
+            return false;
+        } else {
+            is_behind = false;
+        }
+    }
+    true
 }
 
 /// The elements that count, where some may be variable. After a variable element, those without a primary count nowhere, up

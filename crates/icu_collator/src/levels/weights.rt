@@ -226,7 +226,8 @@ pub(crate) fn tertiary_at(options: &ResolvedCollatorOptions, element: CountedEle
 
 /// The rank at the quaternary level: the primary of a variable element, as it is reordered, or above all these the
 /// quaternary of one that has a tertiary.
-pub(super) fn quaternary_rank_at(
+#[inline(always)]
+pub(crate) fn quaternary_rank_at(
     checked: &CheckedTables<'_>,
     element: CountedElement,
 ) -> Option<u64>

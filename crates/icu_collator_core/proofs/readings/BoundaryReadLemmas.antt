@@ -85,19 +85,14 @@ steady_alike weights xs ys (c ∷ cs) all s t ok =
       steady_alike weights (take longest_prefix (c ∷ xs)) (take longest_prefix (c ∷ ys)) cs all.1 (further xs s) (further ys t) parts.1,
     )
 
--- ---- characters that are by themselves as they are behind any, before a boundary
+-- ---- characters before a boundary, and what stands from it on
 
-module _ (source : CollationSource) (numeric : Option ℕ) (list items : List ℕ) (ok : scalars list ≡ true)
-    (itself : (before : List ℕ) → scalars before ≡ true → elements_behind source numeric before list ≡ unpacked items) where
-  pub read_apart : AreReadBefore source numeric list 256 items
+module _ (source : CollationSource) (numeric : Option ℕ) where
+  pub behind_boundary : (before list : List ℕ) (d : ℕ) (ds : List ℕ) → IsBoundaryApart source numeric d → scalars list ≡ true → scalars (d ∷ ds) ≡ true
+      → elements_behind source numeric before (list ++ d ∷ ds)
+      ≡ elements_behind source numeric before list ++ elements_behind source numeric (after before list) (d ∷ ds)
   unfolding placed_behind
-  read_apart before [] b s fits =
-      ap (λ (l : List ℕ). elements_behind source numeric before l) (append-nil list) ∙ itself before b
-      ∙ sym (ap (λ (es : List Element). unpacked items ++ es) (nothing_within (canonical_by source) (weights_by numeric source) (is_some numeric) 0) ∙ append-nil (unpacked items))
-  read_apart before (d ∷ ds) b s fits =
-      ⊎_elim
-      (λ (e : 256 ≤ 255). absurd (omega (arith, e)))
-      (λ (apart : IsBoundaryApart source numeric d).
+  behind_boundary before list d ds apart ok s =
       let canonical = canonical_by source in
       let weights = weights_by numeric source in
       let counts = is_some numeric in
@@ -114,9 +109,25 @@ module _ (source : CollationSource) (numeric : Option ℕ) (list items : List �
       ap (λ (l : List Placed). elements_within n canonical weights counts l) split
       ∙ split_at_boundary canonical weights counts q qs apart.0 apart.1 behind n ps (ap scalars (characters_placed before list) ∙ ok) (omega (arith, whole))
       ∙ ap (λ (es : List Element). es ++ elements_within n canonical weights counts (q ∷ qs))
-      (any_count canonical weights counts n (length list) ps (omega (arith, front, count)) (omega (arith, front)) ∙ itself before b)
-      ∙ ap (λ (es : List Element). unpacked items ++ es)
-      (any_count canonical weights counts n (length (d ∷ ds)) (q ∷ qs) (omega (arith, rest, count)) (omega (arith, rest))))
+      (any_count canonical weights counts n (length list) ps (omega (arith, front, count)) (omega (arith, front)))
+      ∙ ap (λ (es : List Element). elements_within (length list) canonical weights counts ps ++ es)
+      (any_count canonical weights counts n (length (d ∷ ds)) (q ∷ qs) (omega (arith, rest, count)) (omega (arith, rest)))
+
+-- ---- characters that are by themselves as they are behind any, before a boundary
+
+module _ (source : CollationSource) (numeric : Option ℕ) (list items : List ℕ) (ok : scalars list ≡ true)
+    (itself : (before : List ℕ) → scalars before ≡ true → elements_behind source numeric before list ≡ unpacked items) where
+  pub read_apart : AreReadBefore source numeric list 256 items
+  unfolding placed_behind
+  read_apart before [] b s fits =
+      ap (λ (l : List ℕ). elements_behind source numeric before l) (append-nil list) ∙ itself before b
+      ∙ sym (ap (λ (es : List Element). unpacked items ++ es) (nothing_within (canonical_by source) (weights_by numeric source) (is_some numeric) 0) ∙ append-nil (unpacked items))
+  read_apart before (d ∷ ds) b s fits =
+      ⊎_elim
+      (λ (e : 256 ≤ 255). absurd (omega (arith, e)))
+      (λ (apart : IsBoundaryApart source numeric d).
+      behind_boundary source numeric before list d ds apart ok s
+      ∙ ap (λ (es : List Element). es ++ elements_behind source numeric (after before list) (d ∷ ds)) (itself before b))
       fits
 
 module _ (source : CollationSource) where

@@ -1,5 +1,5 @@
 -- Characters whose marks stand in order.
-use Rattle.std.proofs.Common.{◌≡◌, ℕ, Bool, false, ltb, ◌&&◌, cond, List, [], ◌∷◌, ◌++◌, ◌⊎◌, ⊎_elim, refl, sym, ◌∙◌, ap, ◌≤◌}
+use Rattle.std.proofs.Common.{◌≡◌, ℕ, Bool, false, ltb, ◌&&◌, cond, List, [], ◌∷◌, ◌++◌, ◌⊎◌, ⊎_elim, refl, sym, ◌∙◌, ap, ◌≤◌, arith}
 use Rattle.std.proofs.lemmas.Bool.{and_left, and_right, le-ltb}
 use Rattle.icu_normalizer_core.specs.Canonical.{marks_in_order, put_in_order}
 use Rattle.icu_collator_core.specs.FlatNotes.{MayFollow, StandInOrder, last_class}
@@ -27,3 +27,20 @@ module _ (class : ℕ → ℕ) where
   pub last_appended : (before : ℕ) (xs ys : List ℕ) → last_class class before (xs ++ ys) ≡ last_class class (last_class class before xs) ys
   last_appended before [] ys = refl
   last_appended before (x ∷ xs) ys = last_appended (class x) xs ys
+
+  starter_kept : (a : ℕ) → class a ≡ 0 → (ds : List ℕ) → put_in_order class a ds ≡ a ∷ ds
+  unfolding put_in_order
+  starter_kept a starter [] = refl
+  starter_kept a starter (d ∷ ds) =
+      ap (λ (t : Bool). cond t (d ∷ put_in_order class a ds) (a ∷ d ∷ ds))
+      (and_right (ltb 0 (class d)) (ltb (class d) (class a)) (le-ltb (class d) (class a) (omega (arith, starter))))
+
+  -- what stands behind a starter doesn't move in front of it
+  pub order_closed : (before : ℕ) (list rest : List ℕ) → StandInOrder class before list → last_class class before list ≡ 0
+      → marks_in_order class (list ++ rest) ≡ list ++ marks_in_order class rest
+  unfolding marks_in_order put_in_order
+  order_closed before [] rest h end = refl
+  order_closed before (a ∷ []) rest h end = starter_kept a end (marks_in_order class rest)
+  order_closed before (a ∷ b ∷ cs) rest h end =
+      ap (put_in_order class a) (order_closed (class a) (b ∷ cs) rest h.1 end)
+      ∙ ap (λ (t : Bool). cond t (b ∷ put_in_order class a (cs ++ marks_in_order class rest)) (a ∷ b ∷ (cs ++ marks_in_order class rest))) (not_below (class a) (class b) h.1.0)

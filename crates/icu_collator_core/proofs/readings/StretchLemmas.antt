@@ -1,9 +1,10 @@
 -- Texts that are read by stretches: the elements of a text are those of its stretches, one after another.
-use Rattle.std.proofs.Common.{◌≡◌, ℕ, ◌+◌, ◌<◌, ◌≤◌, ltb, Bool, true, false, ◌&&◌, List, [], ◌∷◌, ◌++◌, ◌⊎◌, ⊎_elim, inl, inr, flat_map, length, take, Option, Some, None, refl, sym, ◌∙◌, ap, subst, arith, append_assoc, append-nil, length-append}
+use Rattle.std.proofs.Common.{◌≡◌, ℕ, zero, suc, ◌+◌, ◌<◌, ◌≤◌, ltb, Bool, true, false, ◌&&◌, List, [], ◌∷◌, ◌++◌, ◌⊎◌, ⊎_elim, inl, inr, flat_map, length, take, Option, Some, None, refl, sym, ◌∙◌, ap, subst, arith, append_assoc, append-nil, length-append}
 use Rattle.std.specs.Option.{is_some}
+use Rattle.std.specs.Prelude.{slice_index}
 use Rattle.std.proofs.lemmas.Bool.{and_from, and_parts, cases_lt, cond_both, lt-ltb, ltb-true, true≢false}
 use Rattle.std.proofs.lemmas.Grind.{flat_map-append}
-use Rattle.std.proofs.lemmas.List.{take-append-le}
+use Rattle.std.proofs.lemmas.List.{length-take-le, take-append-le}
 use Rattle.icu_normalizer_core.specs.Canonical.{decomposed, marks_in_order, put_in_order}
 use Rattle.icu_normalizer_core.specs.Iter.{Spells}
 use Rattle.icu_normalizer_core.proofs.decomposed_lists.DecomposedLemmas.{order_before}
@@ -13,12 +14,21 @@ use Rattle.icu_collator_core.specs.ElementLists.{unpacked}
 use Rattle.icu_collator_core.specs.Elements.{elements_within, placed_behind}
 use Rattle.icu_collator_core.specs.ElementTexts.{text_elements}
 use Rattle.icu_collator_core.specs.FlatNotes.{AreReadBefore, BeginsApart, IsBoundaryApart, IsFlat, IsPushed, IsReadInOrder, MayFollow, MayStandBehind, StandInOrder, elements_behind, last_class}
+use Rattle.icu_collator_core.specs.Pairs.{IsPair}
 use Rattle.icu_collator_core.specs.ReadSources.{canonical_by, weights_by}
 use Rattle.icu_collator_core.specs.Stretches.{BeginsWithBoundary, HasElements, IsClosed, IsReadUpToStretch}
 use Rattle.icu_collator_core.proofs.readings.AlikeLemmas.{elements_alike}
 use Rattle.icu_collator_core.proofs.readings.BoundaryReadLemmas.{read_apart}
 use Rattle.icu_collator_core.proofs.readings.FlatOrderLemmas.{order_stands}
 use Rattle.icu_collator_core.proofs.readings.FlatReadLemmas.{block_in_order, more_in_order, nothing_in_order}
+
+-- ---- lists
+
+-- a list of one
+pub only_one : (xs : List ℕ) (x : ℕ) → length xs ≡ 1 → x ≡ slice_index xs 0 → xs ≡ x ∷ []
+only_one [] x l e = absurd (omega (arith, l))
+only_one (a ∷ []) x l e = ap (λ (y : ℕ). y ∷ []) (sym e)
+only_one (a ∷ b ∷ more) x l e = absurd (omega (arith, l))
 
 -- ---- marks that were put in order stand in order
 
@@ -50,12 +60,12 @@ module _ (class : ℕ → ℕ) where
   sorted_stands [] = tt
   sorted_stands (c ∷ cs) = put_stands 0 c (marks_in_order class cs) (inr (omega arith)) (sorted_stands cs)
 
-  order_behind_front : (before : ℕ) (xs ys : List ℕ) → StandInOrder class before (xs ++ ys) → StandInOrder class (last_class class before xs) ys
+  pub order_behind_front : (before : ℕ) (xs ys : List ℕ) → StandInOrder class before (xs ++ ys) → StandInOrder class (last_class class before xs) ys
   order_behind_front before [] ys h = h
   order_behind_front before (x ∷ xs) ys h = order_behind_front (class x) xs ys h.1
 
   -- marks are put in order behind a starter as by themselves
-  starter_first : (d : ℕ) (ms : List ℕ) → class d ≡ 0 → marks_in_order class (d ∷ ms) ≡ d ∷ marks_in_order class ms
+  pub starter_first : (d : ℕ) (ms : List ℕ) → class d ≡ 0 → marks_in_order class (d ∷ ms) ≡ d ∷ marks_in_order class ms
   unfolding marks_in_order
   starter_first d ms starter = order_before class d [] ms starter
 
@@ -252,6 +262,33 @@ module _ (source : CollationSource) (numeric : Option ℕ) where
         begins = begins_still h.before chars c h.begins;
         same = same_still text chars h.done c h.same;
         flat = λ smooth. absurd (true≢false smooth);
+      }
+
+  front_kept : (n : ℕ) (xs ys : List ℕ) → n ≤ length xs → take n (take n xs ++ ys) ≡ take n xs
+  front_kept zero xs ys h = refl
+  front_kept (suc n) [] ys h = absurd (omega (arith, h))
+  front_kept (suc n) (x ∷ xs) ys h = ap (λ (l : List ℕ). x ∷ l) (front_kept n xs ys (omega (arith, h)))
+
+  -- a character that is a pair with the only one of a stretch
+  pub pair_more : (text : List ℕ) (c count last : ℕ) (is_rough : Bool) (items its new : List ℕ) (d trail : ℕ) → IsUpTo text (c ∷ []) count last is_rough items
+      → IsPair source c d its trail → new ≡ take count items ++ its → IsUpTo (text ++ d ∷ []) (c ∷ d ∷ []) count trail is_rough new
+  pair_more text c count last is_rough items its new d trail h pair is =
+      let apart = pair.begins numeric in
+      let kept : take count new ≡ take count items = ap (take count) is ∙ front_kept count items its h.counted in
+      let both : flat_map full (c ∷ d ∷ []) ≡ c ∷ d ∷ [] =
+      ap (λ (l : List ℕ). l ++ (full d ++ [])) pair.first_own ∙ ap (λ (l : List ℕ). c ∷ (l ++ [])) pair.second_own in
+      let joined = block_in_order source numeric h.done (take count items) h.before c (d ∷ []) its trail h.closed pair.characters (inr apart)
+      (inl apart.0.starter, (inr (omega (arith, apart.0.starter)), tt)) pair.last (pair.read numeric) in
+      record {
+        done = h.done;
+        before = h.before;
+        closed = subst (IsReadInOrder source numeric h.done h.before) (sym kept) h.closed;
+        counted = omega (arith, h.counted, ap (λ (l : List ℕ). length l) is, length-append (take count items) its, length-take-le count items h.counted);
+        begins = begins_still h.before (c ∷ []) d h.begins;
+        same = same_still text (c ∷ []) h.done d h.same;
+        flat = λ _.
+            subst (λ (l : List ℕ). IsReadInOrder source numeric (h.done ++ l) trail new) (sym both)
+            (subst (λ (l : List ℕ). IsReadInOrder source numeric (h.done ++ c ∷ d ∷ []) trail l) (sym is) joined);
       }
 
   -- a text that is read to its end

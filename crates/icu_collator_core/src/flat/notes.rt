@@ -73,6 +73,15 @@ impl FlatNote {
         }
     }
 
+    /// Whether behind the character a boundary has to follow, as far as is noted.
+    pub(super) fn asks_boundary(&self) -> bool {
+        match *self {
+            FlatNote::One(_element, _lead, trail) => trail >= BEFORE_BOUNDARY,
+            FlatNote::Two(_first, _second, _lead, trail) => trail >= BEFORE_BOUNDARY,
+            _ => false,
+        }
+    }
+
     /// Whether the character is read flat behind one of this class.
     #[inline(always)]
     pub(crate) fn is_flat_behind(&self, numeric: Option<u8>, before: u16) -> bool {
@@ -124,7 +133,7 @@ impl FlatNote {
 }
 
 /// Whether a character is special, or a dot above that may be dropped.
-fn is_kept_apart(checked: &CheckedTables<'_>, c: char) -> bool
+pub(super) fn is_kept_apart(checked: &CheckedTables<'_>, c: char) -> bool
     ensures { result ≡ (is_some (special_primary c) || (has_bit 6 checked.now.tables.metadata.bits && (c == 0x307))) }
 {
     special_primary(c as u32).is_some()

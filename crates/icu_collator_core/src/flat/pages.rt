@@ -53,14 +53,14 @@ impl NotePage {
     }
 }
 
-/// Whether a word leaves its characters to a range, to their code points, or to another's tables.
+/// Whether a word leaves its characters to their code points, or to another's tables.
 #[inline]
 fn is_left(word: u32) -> bool {
-    word == FALLBACK || has_tag(word, Tag::Implicit) || has_tag(word, Tag::Offset)
+    word == FALLBACK || has_tag(word, Tag::Implicit)
 }
 
-/// Whether tables name a character: say more of it than that it is a starter and its own full list, and that a range or its
-/// code gives its element.
+/// Whether tables name a character: say more of it than that it is a starter and its own full list, and that its code gives its
+/// element.
 #[inline]
 fn is_named(checked: &CheckedTables<'_>, c: char) -> bool {
     let Reading::Itself(0) = checked.canonical().reading(c) else {

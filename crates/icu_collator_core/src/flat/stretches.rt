@@ -1,16 +1,19 @@
 //! Reading of texts parts of which aren't flat: from one boundary to the next such a part is read by its decomposed list, the
 //! rest by notes.
 
-ghost use Rattle.std.specs.Prelude.{◌≡◌, ◌∷◌, ◌++◌, ℕ, Option, List, [], IfOk, true};
+ghost use Rattle.std.specs.Char.{IsScalar};
+ghost use Rattle.std.specs.Prelude.{◌≡◌, ◌≤◌, ◌∷◌, ◌++◌, ℕ, All, Option, List, [], IfOk, IfSome, length, take, true};
 ghost use Rattle.std.specs.Iterator.{IsFinite};
 ghost use lib.Utf8.{scalars};
 ghost use Rattle.icu_normalizer_core.specs.Iter.{Spells};
+ghost use Rattle.icu_collator_core.specs.Acceptance.{CollationSource};
 ghost use Rattle.icu_collator_core.specs.AlikeLists.{IsToldAlone};
 ghost use Rattle.icu_collator_core.specs.ElementLists.{unpacked};
 ghost use Rattle.icu_collator_core.specs.ElementTexts.{text_elements};
-ghost use Rattle.icu_normalizer_core.specs.Canonical.{decomposed};
+ghost use Rattle.icu_normalizer_core.specs.Canonical.{IsDecomposing, decomposed};
 ghost use Rattle.icu_collator_core.specs.FlatNotes.{BeginsApart, IsFlatNote};
 ghost use Rattle.icu_collator_core.specs.ReadSources.{canonical_by, weights_by};
+ghost use Rattle.icu_collator_core.specs.Stretched.{BeginsWithElements, EndsApart};
 ghost use Rattle.icu_collator_core.specs.Stretches.{HasElements, IsClosed, IsOpen};
 
 use super::flat_elements::FlatElements;
@@ -24,7 +27,7 @@ use smallvec::SmallVec;
 use std::alloc::{AllocError, Global};
 
 /// What stands behind the last boundary of a text, with that; or all of the text, where none was met.
-struct Stretch {
+pub(super) struct Stretch {
     /// Its characters.
     chars: SmallVec<char, 64>,
     /// How many elements stand before it.
@@ -33,10 +36,6 @@ struct Stretch {
     class: u16,
     /// Whether it isn't read flat.
     is_rough: bool,
-    /// Room for its decomposed list.
-    list: SmallVec<char, 64>,
-    /// Room for its elements.
-    found: SmallVec<CollationElement, 32>,
 }
 
 // (let go of as one, and not part by part, so that what owns one is proved sooner)
@@ -47,15 +46,13 @@ impl Drop for Stretch {
             count: _,
             class: _,
             is_rough: _,
-            list: _,
-            found: _,
         } = self;
     }
 }
 
 impl Stretch {
     /// A stretch of no characters, at the beginning of a text.
-    fn new(alloc: Global) -> Self
+    pub(super) fn new(alloc: Global) -> Self
         ensures chars { result.chars.items ≡ [] }
         ensures count { result.count ≡ 0 }
         ensures class { result.class ≡ 0 }
@@ -65,15 +62,41 @@ impl Stretch {
             count: 0,
             class: 0,
             is_rough: false,
-            list: SmallVec::new(alloc),
-            found: SmallVec::new(alloc),
         }
+    }
+
+    /// How many of the elements that were read stand, whatever follows.
+    #[inline(always)]
+    pub(super) fn settled<const N: usize>(&self, elements: &FlatElements<N>) -> usize
+        ensures stands { (source : CollationSource) (numeric : Option ℕ) (text rest front : List ℕ) → IsDecomposing (canonical_by source)
+            → IsOpen source numeric text self.now elements.now.items → EndsApart source numeric front (text ++ rest) → All IsScalar (front ++ (text ++ rest))
+            → BeginsWithElements source numeric front (text ++ rest) (take result elements.now.items) }
+        ensures within { (source : CollationSource) (numeric : Option ℕ) (text : List ℕ)
+            → IsOpen source numeric text self.now elements.now.items → result ≤ length elements.now.items }
+    {
+        if self.is_rough || self.class != 0 {
+            return self.count;
+        }
+        elements.len()
+    }
+
+    /// Its character, where it has one alone, and isn't rough.
+    #[inline(always)]
+    #[tactic(auto, using(crate::proofs::readings::StretchLemmas::only_one))]
+    fn only(&self) -> Option<char>
+        ensures { IfSome result (λ c. self.now.chars.items ≡ c ∷ []) }
+    {
+        let chars = self.chars.as_slice();
+        if self.is_rough || chars.len() != 1 {
+            return None;
+        }
+        Some(chars[0])
     }
 }
 
 impl CheckedTables<'_> {
     /// Whether a list is read alike whatever stands before it, as its prefixes tell; `false` for some that are.
-    fn is_told_alone(&self, list: &[char]) -> bool
+    pub(super) fn is_told_alone(&self, list: &[char]) -> bool
         requires { scalars list.now ≡ true }
         ensures { result ≡ true → (numeric : Option ℕ) → IsToldAlone (weights_by numeric self.now) list.now }
     {
@@ -85,20 +108,25 @@ impl CheckedTables<'_> {
         true
     }
 
-    /// The elements of a stretch, found by its decomposed list; `false` where what stands before it may count. Fails only when out
-    /// of memory.
-    fn find_elements(&self, numeric: Option<u8>, stretch: &mut Stretch) -> Result<bool, AllocError>
-        ensures count { stretch.new.count ≡ stretch.old.count }
-        ensures found { IfOk result (λ is_found. is_found ≡ true
-            → HasElements self.now numeric (decomposed (canonical_by self.now) stretch.old.chars.items) stretch.new.found.items) }
+    /// Puts the elements of a stretch of these characters into an empty list, found by its decomposed list; `false` where what stands
+    /// before it may count. Fails only when out of memory.
+    fn find_elements(
+        &self,
+        numeric: Option<u8>,
+        chars: &[char],
+        found: &mut SmallVec<CollationElement, 32>,
+    ) -> Result<bool, AllocError>
+        requires { found.old.items ≡ [] }
+        ensures { IfOk result (λ is_found. is_found ≡ true
+            → HasElements self.now numeric (decomposed (canonical_by self.now) chars.now) found.new.items) }
     {
-        let chars = stretch.chars.as_slice().iter().copied();
-        decompose_into(self.canonical(), chars, &mut stretch.list)?;
-        if !self.is_told_alone(stretch.list.as_slice()) {
+        let mut list = SmallVec::new(*found.allocator());
+        let chars = chars.iter().copied();
+        decompose_into(self.canonical(), chars, &mut list)?;
+        if !self.is_told_alone(list.as_slice()) {
             return Ok(false);
         }
-        stretch.found.clear();
-        push_all(self, numeric, &mut stretch.list, &mut stretch.found)?;
+        push_all(self, numeric, &mut list, found)?;
         Ok(true)
     }
 
@@ -118,19 +146,20 @@ impl CheckedTables<'_> {
         if stretch.chars.len() > N {
             return Ok(false);
         }
-        let is_found = self.find_elements(numeric, stretch)?;
+        let mut found = SmallVec::new(*stretch.chars.allocator());
+        let is_found = self.find_elements(numeric, stretch.chars.as_slice(), &mut found)?;
         if !is_found {
             return Ok(false);
         }
         stretch.is_rough = false;
         stretch.class = BEFORE_BOUNDARY;
-        Ok(elements.replace_from(stretch.count, stretch.found.as_slice()))
+        Ok(elements.replace_from(stretch.count, found.as_slice()))
     }
 
     /// Reads a stretch to its end, behind which a boundary stands, or nothing; `false` where that can't be. Fails only when out of
     /// memory.
     #[inline(always)]
-    fn close<const N: usize>(
+    pub(super) fn close<const N: usize>(
         &self,
         numeric: Option<u8>,
         stretch: &mut Stretch,
@@ -179,6 +208,30 @@ impl CheckedTables<'_> {
         }
     }
 
+    /// Puts a character behind those of a stretch that isn't read flat there: it is read with the first, where both are noted as a
+    /// pair and no other stands between; else the stretch is rough. `false` where there is no room. Fails only when out of memory.
+    #[inline(never)]
+    fn pair_up<const N: usize>(
+        &self,
+        c: char,
+        stretch: &mut Stretch,
+        elements: &mut FlatElements<N>,
+    ) -> Result<bool, AllocError>
+        ensures { IfOk result (λ is_read. is_read ≡ true → (numeric : Option ℕ) (text : List ℕ) → IsOpen self.now numeric text stretch.old elements.old.items
+            → IsOpen self.now numeric (text ++ c ∷ []) stretch.new elements.new.items) }
+    {
+        if let Some(first) = stretch.only() {
+            if let Some(pair) = self.pair(first, c) {
+                stretch.chars.push(c)?;
+                stretch.class = pair.trail();
+                return Ok(elements.replace_from(stretch.count, pair.elements()));
+            }
+        }
+        stretch.chars.push(c)?;
+        stretch.is_rough = true;
+        Ok(true)
+    }
+
     /// Puts a character behind those of a stretch; `false` where there is no room. Fails only when out of memory.
     #[inline(always)]
     fn go_on<const N: usize>(
@@ -193,11 +246,11 @@ impl CheckedTables<'_> {
         ensures { IfOk result (λ is_read. is_read ≡ true → (text : List ℕ) → IsOpen self.now numeric text stretch.old elements.old.items
             → IsOpen self.now numeric (text ++ c ∷ []) stretch.new elements.new.items) }
     {
-        stretch.chars.push(c)?;
         if stretch.is_rough || !note.is_flat_behind(numeric, stretch.class) {
-            stretch.is_rough = true;
-            return Ok(true);
+            let is_read = self.pair_up(c, stretch, elements)?;
+            return Ok(is_read);
         }
+        stretch.chars.push(c)?;
         match note.push(numeric, stretch.class, elements) {
             Some(class) => {
                 stretch.class = class;
@@ -209,7 +262,7 @@ impl CheckedTables<'_> {
 
     /// Reads the next character of a text; `false` where that can't be. Fails only when out of memory.
     #[inline(always)]
-    fn read_next<const N: usize>(
+    pub(super) fn read_next<const N: usize>(
         &self,
         numeric: Option<u8>,
         c: char,

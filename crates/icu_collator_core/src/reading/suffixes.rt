@@ -32,7 +32,7 @@ pub(crate) struct LongerText {
 }
 
 /// Whether no longer text begins with what a cursor was given.
-pub(super) fn is_last(answer: TrieResult) -> bool
+pub(crate) fn is_last(answer: TrieResult) -> bool
     ensures { IsTrue result → IsLast answer }
 {
     matches!(answer, TrieResult::NoMatch | TrieResult::FinalValue(_))

@@ -5,13 +5,6 @@ use Rattle.icu_normalizer_core.specs.CanonicalMeaning.{meaning}
 use Rattle.icu_collator.proofs.boundaries.SafeCharacterLemmas.{noted_plain}
 use Rattle.icu_collator.proofs.common_front.next.plain_element.Goals as goal
 
-pub returns-in-Some : goal.returns-in-Some
-returns-in-Some c =
-    let source = c.args.checked.now in
-    let scalar : IsScalar c.args.c = search rules in
-    let decomposing : IsDecomposing (meaning source.canonical) = subst (λ tables. IsDecomposing (meaning tables)) c.canonical.ensures c.keep_promise.ensures.decomposing in
-    noted_plain source c.args.c c.in-Some.element decomposing scalar c.in-Some.ensures.other c.in-Some.ensures.plain
-
 pub returns-in-Some-own_element : goal.returns-in-Some-own_element
 returns-in-Some-own_element c =
     let source = c.args.checked.now in

@@ -1,6 +1,6 @@
-use Rattle.std.proofs.Common.{◌≡◌, subst, sym}
+use Rattle.std.proofs.Common.{◌≡◌, ◌∙◌, ap, map, subst, sym}
 use Rattle.std.specs.Iterator.{IsNearerEnd}
-use Rattle.icu_collator.specs.FlatOrders.{IsMeeting}
+use Rattle.icu_collator.specs.FlatOrders.{IsMeeting, reordered_by}
 use Rattle.icu_collator.specs.declared.compare.flat.Meeting.{Meeting}
 use Rattle.icu_collator.proofs.orders.OrderByFlatLemmas.{alike_left, alike_right, met, met_left}
 use Rattle.icu_collator.proofs.compare.flat.meet_next.Goals as goal
@@ -14,11 +14,12 @@ returns-clause-next g c = λ a b ok scalars alike.
     let left_next = one.ensures.next a alike.0 alike.2.left_read in
     let right_next = two.ensures.next b alike.1 alike.2.right_read in
     let meeting = c.meet_settled-meeting in
-    met_left source g.I.Iterator.next_gives g.J.Iterator.next_gives c.args.least numeric a b meeting.result.0 one.result.1 meeting.result.1 two.result.1 meeting.result.2 one.result.2 two.result.2
+    let same = ap (map (reordered_by source)) left_next.1 ∙ alike.2.same ∙ sym (ap (map (reordered_by source)) right_next.1) in
+    met_left source g.I.Iterator.next_gives g.J.Iterator.next_gives c.args.end numeric a b meeting.result.0 one.result.1 meeting.result.1 two.result.1 meeting.result.2 one.result.2 two.result.2
     meeting.ensures.left_kept meeting.ensures.right_kept
-    (met source g.I.Iterator.next_gives g.J.Iterator.next_gives c.args.least numeric a b alike.0 alike.1 alike.2.same alike.2.left_from alike.2.right_from
+    (met source g.I.Iterator.next_gives g.J.Iterator.next_gives c.args.end numeric a b left_next.0 right_next.0 same
     one.result.1 two.result.1 one.result.2 two.result.2 one.result.0 two.result.0 meeting.result.0 meeting.ensures.meets
-    left_next right_next one.ensures.least two.ensures.least (meeting.ensures.settled a b alike.0 alike.1 left_next right_next) ok scalars)
+    left_next.2 right_next.2 one.ensures.counts two.ensures.counts (meeting.ensures.settled a b left_next.0 right_next.0 left_next.2 right_next.2) ok scalars)
 
 pub returns-clause-left_nearer : goal.returns-clause-left_nearer
 returns-clause-left_nearer g c = λ alike.

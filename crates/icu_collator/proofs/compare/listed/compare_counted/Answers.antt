@@ -1,11 +1,11 @@
-use Rattle.std.proofs.Common.{◌∙◌, sym}
+use Rattle.std.proofs.Common.{◌∙◌, [], sym}
 use mathlib.Core.Bool.{true≢false}
 use Rattle.icu_collator.specs.Collators.{source_collation}
-use Rattle.icu_collator.proofs.lists.CompareLemmas.{texts_read}
+use Rattle.icu_collator.proofs.lists.CompareLemmas.{elements_read}
 use Rattle.icu_collator.proofs.compare.listed.compare_counted.Goals as goal
 
 pub returns : goal.returns
-returns c = λ a b lefts rights.
-    c.in_ok-order.ensures ∙ texts_read (source_collation c.args.checked.now) c.args.options.now a b _ _
-    (record { elements = lefts; characters = λ exact. absurd (true≢false (sym exact ∙ c.requires.inexact)) })
-    (record { elements = rights; characters = λ exact. absurd (true≢false (sym exact ∙ c.requires.inexact)) })
+returns c = λ es fs lefts rights.
+    c.in_ok-order.ensures
+    ∙ elements_read (source_collation c.args.checked.now) c.args.options.now es fs [] [] _ _ lefts rights
+    (λ exact. absurd (true≢false (sym exact ∙ c.requires.inexact))) (λ exact. absurd (true≢false (sym exact ∙ c.requires.inexact)))

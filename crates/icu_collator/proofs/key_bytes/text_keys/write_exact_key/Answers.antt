@@ -8,5 +8,5 @@ pub returns : goal.returns
 returns g c = λ es are.
     let collation = source_collation c.args.checked.now in
     let options = c.args.options.now in
-    c.in_ok-write_unshifted_key.ensures es are
+    c.in_ok-write_whole_key.ensures es are
     ∙ ap (λ (l : List ℕ). c.args.key.now.items ++ key_bytes collation options (levels_of collation options es l)) (c.deref.ensures ∙ c.in_ok-characters.ensures)

@@ -1,28 +1,18 @@
-use Rattle.std.proofs.Common.{◌≡◌, ℕ, ◌+◌, ◌<◌, Bool, true, Option, List, [], ◌∷◌, ◌++◌, filter_map, length, take, get_or, refl, sym, ap, ◌∙◌}
+use Rattle.std.proofs.Common.{◌≡◌, ℕ, ◌+◌, ◌<◌, Option, List, [], ◌∷◌, ◌++◌, filter_map, length, take, get_or, refl, sym, ap, ◌∙◌}
 use Rattle.std.specs.List.{cons_option, list_all}
-use Rattle.std.proofs.lemmas.List.Folds.{list_all-append}
-use Rattle.std.proofs.lemmas.List.{take_more, append-nil, take_all, map-append}
+use Rattle.std.proofs.lemmas.List.{append-nil, take_all}
 use Rattle.std.proofs.lemmas.List.Elements.{filter_map-append}
 use Rattle.icu_collator.specs.LevelLists.{counted_by, counted_list}
 use Rattle.icu_collator.specs.Shifted.{Counted}
+use Rattle.icu_collator.proofs.lists.ListGivenLemmas.{counted_more, more_pass}
 use Rattle.icu_collator.proofs.levels.level_lists.listed.Goals.{in-Some+in_ok-push, in_default}
 use Rattle.icu_collator.proofs.levels.level_lists.listed.Goals as goal
-
--- the items up to one more place
-counted_more : (end : ℕ) (xs : List ℕ) (i x : ℕ) → i < length xs → x ≡ get_or xs i x
-    → counted_list end (take (i + 1) xs) ≡ counted_list end (take i xs) ++ counted_by end x ∷ []
-counted_more end xs i x within is =
-    ap (counted_list end) (take_more xs i x within) ∙ map-append (counted_by end) (take i xs) (get_or xs i x ∷ [])
-    ∙ ap (λ y. counted_list end (take i xs) ++ counted_by end y ∷ []) (sym is)
 
 -- what they give
 given_more : {Y : Type 0} (at : Counted → Option Y) (end : ℕ) (xs : List ℕ) (i x : ℕ) (y : Option Y) → i < length xs → x ≡ get_or xs i x → y ≡ at (counted_by end x)
     → filter_map at (counted_list end (take (i + 1) xs)) ≡ filter_map at (counted_list end (take i xs)) ++ cons_option y []
 given_more at end xs i x y within is e =
     rw (e, counted_more end xs i x within is) (filter_map-append at (counted_list end (take i xs)) (counted_by end x ∷ []))
-
-more_pass : {X : Type 0} (test : X → Bool) (xs ys : List X) (x : X) → ys ≡ xs ++ x ∷ [] → list_all test xs ≡ true → test x ≡ true → list_all test ys ≡ true
-more_pass test xs ys x e all here = rw (e, list_all-append test xs (x ∷ []), all, here) refl
 
 pub loop-element-preserved : goal.loop-element-preserved
 loop-element-preserved g c =

@@ -10,4 +10,4 @@ invariant_of-self c =
     let noted = subst (λ (source : CollationSource). AreNoted source c.in_ok-low.low.items) (sym c.self.view_is) c.in_ok-low.ensures in
     let flat = subst (λ (source : CollationSource). AreFlatNotes source c.in_ok-flat.flat.items) (sym c.self.view_is) c.in_ok-flat.ensures in
     let pages = subst (λ (source : CollationSource). AreNotePages source c.in_ok-pages.pages.items) (sym c.self.view_is) c.in_ok-pages.ensures in
-    (c.self.invariant.0, c.self.invariant.1, noted, flat, pages)
+    (c.self.invariant.0, c.self.invariant.1, noted, flat, pages, c.self.invariant.5, c.self.invariant.6)

@@ -1,0 +1,13 @@
+use Rattle.std.proofs.Common.{rules, subst}
+use Rattle.std.specs.Char.{IsScalar}
+use Rattle.icu_normalizer_core.specs.Canonical.{IsDecomposing}
+use Rattle.icu_normalizer_core.specs.CanonicalMeaning.{meaning}
+use Rattle.icu_collator.proofs.boundaries.SafeCharacterLemmas.{noted_plain}
+use Rattle.icu_collator.proofs.common_front.next.low_element.Goals as goal
+
+pub returns : goal.returns
+returns c =
+    let source = c.args.checked.now in
+    let scalar : IsScalar c.args.c = search rules in
+    let decomposing : IsDecomposing (meaning source.canonical) = subst (λ tables. IsDecomposing (meaning tables)) c.canonical.ensures c.keep_promise.ensures.decomposing in
+    noted_plain source c.args.c c.in_ok-element.element decomposing scalar c.in_ok-element.ensures.other c.in_ok-element.ensures.plain

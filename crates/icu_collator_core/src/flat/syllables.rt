@@ -1,0 +1,68 @@
+//! Flat reading of Hangul syllables by their letters, each by its note.
+
+ghost use Rattle.std.specs.Prelude.{◌≡◌, ◌<◌, ◌≤◌, true, IfSome};
+ghost use Rattle.icu_normalizer_core.specs.BuiltIn.{is_syllable};
+ghost use Rattle.icu_collator_core.specs.FlatNotes.{IsPushed};
+
+use super::flat_elements::FlatElements;
+use super::notes::BEFORE_BOUNDARY;
+use crate::checked::CheckedTables;
+
+/// A Hangul letter, by its code point.
+#[inline(always)]
+fn letter(code: u32) -> char
+    requires { code < 0xd800 }
+    ensures { result ≡ code }
+{
+    char::from_u32(code).unwrap()
+}
+
+impl CheckedTables<'_> {
+    /// Appends the elements of a letter that stands behind a character of this class, by its note, if it is read alone, and there
+    /// is room; answers its class.
+    #[inline(always)]
+    fn push_letter<const N: usize>(
+        &self,
+        numeric: Option<u8>,
+        c: char,
+        before: u16,
+        elements: &mut FlatElements<N>,
+    ) -> Option<u16>
+        ensures alone { IfSome result (λ class. class ≤ 255) }
+        ensures pushed { IfSome result (λ class. IsPushed self.now numeric c before elements.old.items class elements.new.items) }
+    {
+        let note = self.paged_note(c)?;
+        let class = note.push(numeric, before, elements)?;
+        if class >= BEFORE_BOUNDARY {
+            return None;
+        }
+        Some(class)
+    }
+
+    /// Appends the elements of a syllable that stands behind a character of this class, if each of its letters is read alone, and
+    /// there is room; answers the class of the last letter.
+    #[inline(never)]
+    pub(super) fn push_syllable<const N: usize>(
+        &self,
+        numeric: Option<u8>,
+        c: char,
+        before: u16,
+        elements: &mut FlatElements<N>,
+    ) -> Option<u16>
+        requires { is_syllable c ≡ true }
+        ensures { IfSome result (λ trail. IsPushed self.now numeric c before elements.old.items trail elements.new.items) }
+    {
+        self.canonical().keep_promise();
+        let place = c as u32 - 0xac00;
+        let leading = letter(0x1100 + place / 588);
+        let first = self.push_letter(numeric, leading, before, elements)?;
+        let vowel = letter(0x1161 + place % 588 / 28);
+        let second = self.push_letter(numeric, vowel, first, elements)?;
+        if place % 28 == 0 {
+            return Some(second);
+        }
+        let trailing = letter(0x11a7 + place % 28);
+        let third = self.push_letter(numeric, trailing, second, elements)?;
+        Some(third)
+    }
+}
