@@ -7,14 +7,14 @@ from UTF-8.
 
 With --instructions: instructions of each, by callgrind over 2,000 names, in the second of two rounds, ours:ICU4C's =
 ICU4C's by ours. Else millions a second of a processor, ours:ICU4C's = ours by ICU4C's, of 200,000 names unless NAMES
-says otherwise (fewer where the set has no more): the program of crates/speed_collator and ICU4C (bench/icu4c.cpp) take
+says otherwise (fewer where the set has no more): the program of crates/speed and ICU4C (bench/icu4c.cpp) take
 turns, five times, each with ten rounds over 200,000 names and more over fewer; the best round of a turn counts, since on a
 host with other guests most rounds are slow, and of the turns the median. Above 1 is ahead in both.
 
 With --requests: how often a round of keys and comparisons asks for memory, as valgrind counts: eleven rounds less one, over
 2,000 Latin names of 5 to 30 characters, and, so that it is seen to count, over as many of 100 characters.
 
-The program is built first where it has to be, but where COLLATOR_SPEED names one, as tools/build_hinted.sh makes it;
+The program is built first where it has to be, but where SPEED names one, as tools/build_hinted.sh makes it;
 ICU4C's by g++, with libicu-dev.
 """
 import glob
@@ -28,8 +28,8 @@ import tempfile
 
 from sets import ROOT, SETS, latin, latin_records, root_records
 
-FOLDER = os.path.join(ROOT, 'crates/speed_collator')
-PROGRAM = os.environ.get('COLLATOR_SPEED', os.path.join(FOLDER, 'out/speed_collator'))
+FOLDER = os.path.join(ROOT, 'crates/speed')
+PROGRAM = os.environ.get('SPEED', os.path.join(FOLDER, 'out/speed'))
 TASKS = ['keys', 'cmp_random', 'cmp_near']
 TITLES = ['keys', 'keys, from UTF-16', 'random pairs', 'neighbours']
 # The functions that are a round of ours and of ICU4C's, and what both call before and after one.
@@ -71,7 +71,7 @@ class Measured:
     def commands(self, rounds):
         """What measures the sets: ours, and ICU4C's for each."""
         first = self.chosen[0]
-        return ([PROGRAM, self.records, self.names, first.task, str(rounds), *first.options],
+        return ([PROGRAM, 'collator', self.records, self.names, first.task, str(rounds), *first.options],
                 [[self.peer, names, one.locale, one.task, str(rounds), *one.peer_options]
                  for one, names in zip(self.chosen, self.peers_names)])
 
@@ -147,7 +147,7 @@ def show_instructions(folder, measured):
 
 def requests(said, given, rounds):
     """How often the program asks for memory in so many rounds."""
-    line = ['valgrind', PROGRAM, said, given, 'names', str(rounds)]
+    line = ['valgrind', PROGRAM, 'collator', said, given, 'names', str(rounds)]
     shown = subprocess.run(line, stdout=subprocess.DEVNULL, stderr=subprocess.PIPE, check=True).stderr.decode()
     return int(re.search(r'total heap usage: ([\d,]+) allocs', shown).group(1).replace(',', ''))
 

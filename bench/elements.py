@@ -1,5 +1,5 @@
 #!/usr/bin/env python3
-"""Times the reading of collation elements and the check of tables, by the program of crates/speed_collator: elements.py [NAMES]
+"""Times the reading of collation elements and the check of tables, by the program of crates/speed: elements.py [NAMES]
 
 The elements are read over the letters of the worked rows: 200,000 random names unless NAMES says otherwise, of 5 to 30
 characters each, eight letters with weights, other Latin letters, and marks in and behind letters. The tables that are
@@ -17,8 +17,8 @@ import sys
 import tempfile
 
 ROOT = os.path.dirname(os.path.dirname(os.path.realpath(__file__)))
-FOLDER = os.path.join(ROOT, 'crates/speed_collator')
-PROGRAM = os.environ.get('COLLATOR_SPEED', os.path.join(FOLDER, 'out/speed_collator'))
+FOLDER = os.path.join(ROOT, 'crates/speed')
+PROGRAM = os.environ.get('SPEED', os.path.join(FOLDER, 'out/speed'))
 LETTERS = [('0061', '2A10'), ('0062', '2A20'), ('0063', '2A30'), ('0065', '2A50'), ('0068', '2A80'), ('006C', '2AC0'),
            ('006F', '2AF0'), ('0074', '2B40')]
 MARKS = [('0301', '8800', 230), ('0302', '8A00', 230), ('0323', '8C00', 220)]
@@ -70,7 +70,7 @@ def write(folder, name, lines):
 def requests(folder, file, rounds):
     """How often the program asks for memory while it reads elements."""
     line = [os.path.join(folder, 'letters'), os.path.join(folder, file), 'elements', str(rounds)]
-    shown = subprocess.run(['valgrind', PROGRAM, *line], stdout=subprocess.DEVNULL, stderr=subprocess.PIPE, check=True).stderr.decode()
+    shown = subprocess.run(['valgrind', PROGRAM, 'collator', *line], stdout=subprocess.DEVNULL, stderr=subprocess.PIPE, check=True).stderr.decode()
     return int(re.search(r'total heap usage: ([\d,]+) allocs', shown).group(1).replace(',', ''))
 
 
@@ -85,14 +85,14 @@ def main(words):
         sys.stderr.write(__doc__)
         return 2
     if PROGRAM.startswith(FOLDER):
-        subprocess.run(['rt', 'run', '--', 'none'], cwd=FOLDER, stdout=subprocess.DEVNULL, stderr=subprocess.DEVNULL)
+        subprocess.run(['rt', 'run'], cwd=FOLDER, stdout=subprocess.DEVNULL, stderr=subprocess.DEVNULL)
     with tempfile.TemporaryDirectory() as folder:
         write(folder, 'letters', letters())
         write(folder, 'many', many())
         write(folder, 'names', names(int(words[0]) if words else 200000))
         for records, task in (('letters', 'elements'), ('letters', 'numeric_elements'), ('letters', 'try_new'), ('many', 'try_new')):
             line = [os.path.join(folder, records), os.path.join(folder, 'names'), task, str(ROUNDS)]
-            shown = subprocess.run([PROGRAM, *line], stdout=subprocess.PIPE, check=True).stdout.decode()
+            shown = subprocess.run([PROGRAM, 'collator', *line], stdout=subprocess.PIPE, check=True).stdout.decode()
             print(records, shown.strip())
         write(folder, 'short_names', names(COUNTED_NAMES))
         write(folder, 'long_names', names(COUNTED_NAMES, 100, 100))

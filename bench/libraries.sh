@@ -1,8 +1,8 @@
 #!/usr/bin/env bash
-# Times sets of code points, code point tries and unit tries by the program of crates/speed_collections,
+# Times sets of code points, code point tries and unit tries by the program of crates/speed,
 # and prints a line a measurement: bench/libraries.sh.
 set -eu
-cd "$(dirname "$(readlink -f "${BASH_SOURCE[0]}")")/../crates/speed_collections"
+cd "$(dirname "$(readlink -f "${BASH_SOURCE[0]}")")/../crates/speed"
 rt run >/dev/null 2>&1 || true # proves and builds it, outside the times
 
 # Prints the time of a task, given by its words, under the heading $1.
@@ -10,7 +10,7 @@ measure() {
     local heading=$1 began ended
     shift
     began=$(date +%s%N)
-    out/speed_collections "$@" >/dev/null
+    out/speed collections "$@" >/dev/null
     ended=$(date +%s%N)
     printf '%-50s %8d ms\n' "$heading" $(((ended - began) / 1000000))
 }

@@ -1,5 +1,5 @@
 #!/usr/bin/env python3
-"""Times tasks of crates/speed_normal in turn, and of ICU4C: turns.py PROGRAM PEER FOLDER FILE:TASK..
+"""Times tasks of crates/speed in turn, and of ICU4C: turns.py PROGRAM PEER FOLDER FILE:TASK..
 
 FOLDER has `records`, and each FILE; PEER is bench/icu4c.cpp, which reads UTF-8 for tasks of UTF-16 too. A measurement is the
 user time of 21 rounds less that of 1, each the best of five; the tasks take turns, so that what else the machine does slows
@@ -26,12 +26,12 @@ def user_time(words):
 def commands(program, peer, folder, file, task, rounds):
     """What does a task: ours and, if it isn't to load data, ICU4C's."""
     path = os.path.join(folder, file)
-    ours = [program, os.path.join(folder, 'records'), path, task, str(rounds)]
+    ours = [program, 'normal', os.path.join(folder, 'records'), path, task, str(rounds)]
     return [ours] if task.startswith('try_') else [ours, [peer, path.removesuffix('16'), 'root', task, str(rounds)]]
 
 
 def is_task(program, folder, file, task):
-    words = [program, os.path.join(folder, 'records'), os.path.join(folder, file), task, '1']
+    words = [program, 'normal', os.path.join(folder, 'records'), os.path.join(folder, file), task, '1']
     return not subprocess.run(words, stdout=subprocess.PIPE, check=True).stdout.startswith(b'usage')
 
 

@@ -189,6 +189,7 @@ walk_foreign_executable() {
 walk_with_executable() {
     put $out/collate $large/collate_unicode $sorting/sort_names
     says 0 $'names 2\na\nb' "!$nothing" -- given 'add b\nadd a\nlist\n' ./collate $latin
+    says 0 "$(cat examples/latin.expected)" "!$nothing" -- given "$(cat examples/latin.commands)\n" ./collate $latin
     says 0 $'Zetterlund\nÅkesson\nÖberg' '!:' -- given "$swedish" ./sort_names --records records/swedish.records
     says 0 = -- ./sort_names --records records/swedish.records
     says 0 $'Öberg\nÅkesson\nZetterlund' '!:' -- given "$swedish" ./sort_names -r - --records=records/swedish.records
@@ -395,7 +396,7 @@ walk_with_stand_in() {
     touch crates/*/out/rlib/stamp
     says 0 "building, see" added -- given 'add a\n' ./collate $latin
     says 0 '!building' added -- given 'add a\n' ./collate $latin
-    echo '// one more' >>crates/tests_collate_words/src/lib.rt
+    echo '// one more' >>crates/tests_collate_records/src/lib.rt
     says 0 '!building' added -- given 'add a\n' ./collate $latin
     says 0 "collate: 0 libraries to prove, and the program" "see $large/build.log" "all is proved" added -- \
         given 'add a\n' ./collate --unicode $latin

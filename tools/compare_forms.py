@@ -9,7 +9,7 @@ TEXTS says otherwise, 100 over each records file; as UTF-8 and as UTF-16 most of
 encoding the form is compared, whether the text is in the form, and the two parts that it is split in: the prefix is
 undamaged, the two parts are the text, the prefix and the form of the rest are the form of the text, the rest is empty
 exactly where the text is undamaged and in the form, and the prefix holds what stands before the last low character at or
-before the first difference. crates/speed_normal has to be built (`rt run -- none` in its folder). What differs is
+before the first difference. crates/speed has to be built (`rt run -- collator` in its folder). What differs is
 printed, and the status is then 1.
 """
 import json
@@ -23,7 +23,7 @@ import tempfile
 from random_records import RESERVED, pairs_of, random_characters, random_records
 
 ROOT = os.path.dirname(os.path.dirname(os.path.realpath(__file__)))
-PROGRAM = os.path.join(ROOT, 'crates/speed_normal/out/speed_normal')
+PROGRAM = os.path.join(ROOT, 'crates/speed/out/speed')
 FORMS = ('nfd', 'nfc', 'nfkd', 'nfkc')
 # below these characters none is changed by any text before it
 LOW = {'nfd': 0xC0, 'nfc': 0x300, 'nfkd': 0xA0, 'nfkc': 0xA0}
@@ -106,7 +106,7 @@ def encodings(oracle):
 
 def run(folder, task):
     """The lines that a task prints, without the last, which counts; None where there is no such task."""
-    words = [PROGRAM, os.path.join(folder, 'records'), os.path.join(folder, 'texts'), task, '1']
+    words = [PROGRAM, 'normal', os.path.join(folder, 'records'), os.path.join(folder, 'texts'), task, '1']
     out = subprocess.run(words, stdout=subprocess.PIPE, check=True).stdout
     return None if out.startswith(b'usage') else out.split(b'\n')[:-2]
 

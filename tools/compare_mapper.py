@@ -5,7 +5,7 @@
 
 READING is what compare_forms.py takes; of its module `norm` `uts46_map` and `uts46_validate` are called. There are 1,000
 tables unless TABLES says otherwise, each over records of its own and with 20 texts. What `map_normalize` and
-`normalize_validate` give of each text is compared. crates/speed_normal has to be built (`rt run -- none` in its folder).
+`normalize_validate` give of each text is compared. crates/speed has to be built (`rt run -- collator` in its folder).
 What differs is printed, and the status is then 1.
 """
 import os

@@ -5,9 +5,9 @@
                                             of FractionalUCA.txt, by keys of `collate_unicode`
   compare_root.py pairs [COUNT [SEED]]      200,000 random pairs of texts of all scripts but Han, by keys of `collate_unicode` and by
                                             ICU4C (python3-icu), under each of OPTIONS at each of five strengths
-  compare_root.py forms                     NormalizationTest.txt in four normal forms, by crates/speed_normal
+  compare_root.py forms                     NormalizationTest.txt in four normal forms, by crates/speed
 
-COLLATE and SPEED_NORMAL name other executables, RECORDS another file. What is set aside is counted and named; what differs
+COLLATE and SPEED name other executables, RECORDS another file. What is set aside is counted and named; what differs
 otherwise is printed, and the status is then 1. Where a file or a program lacks it is named, and the status is 2.
 """
 import bz2
@@ -23,7 +23,7 @@ from root_data import (BUILT_IN_CLASSES, BUILT_IN_COMPATIBLE, BUILT_IN_MAPPINGS,
 
 ROOT = os.path.dirname(os.path.dirname(os.path.realpath(__file__)))
 RECORDS = os.environ.get('RECORDS', os.path.join(ROOT, 'records/root.records'))
-SPEED_NORMAL = os.environ.get('SPEED_NORMAL', os.path.join(ROOT, 'crates/speed_normal/out/speed_normal'))
+SPEED = os.environ.get('SPEED', os.path.join(ROOT, 'crates/speed/out/speed'))
 BUILT_IN = BUILT_IN_CLASSES | BUILT_IN_MAPPINGS | BUILT_IN_COMPATIBLE
 STRENGTHS = ('primary', 'secondary', 'tertiary', 'quaternary', 'identical')
 # options of `collate`, and the settings that say the same to ICU4C
@@ -206,17 +206,17 @@ def pairs_alike(words):
 # ---- normal forms
 
 def forms_of(texts, form):
-    """The normal forms of texts, by crates/speed_normal."""
+    """The normal forms of texts, by crates/speed."""
     with tempfile.NamedTemporaryFile('w', encoding='utf-8', newline='') as file:
         file.write(''.join(f'{text}\n' for text in texts))
         file.flush()
         try:
-            answer = subprocess.run([SPEED_NORMAL, RECORDS, file.name, f'show_{form}', '1'], stdout=subprocess.PIPE, check=True)
+            answer = subprocess.run([SPEED, 'normal', RECORDS, file.name, f'show_{form}', '1'], stdout=subprocess.PIPE, check=True)
         except (OSError, subprocess.CalledProcessError) as error:
-            raise Fault(SPEED_NORMAL, f'{error} (`rt run -- none` in crates/speed_normal builds it)') from error
+            raise Fault(SPEED, f'{error} (`rt run -- collator` in crates/speed builds it)') from error
     lines = answer.stdout.decode('utf-8').split('\n')[:-2]
     if len(lines) != len(texts):
-        raise Fault(SPEED_NORMAL, f'{len(lines)} forms of {len(texts)} texts')
+        raise Fault(SPEED, f'{len(lines)} forms of {len(texts)} texts')
     return lines
 
 
@@ -251,7 +251,7 @@ def forms(_):
     for form in FORMS:
         differ += form_differs(form, rows, newer, untold if form.startswith('nfk') else set())
     listed = {ord(row[0]) for row in rows if len(row[0]) == 1}
-    # speed_normal reads lines, which a line feed ends, or a carriage return and one
+    # speed reads lines, which a line feed ends, or a carriage return and one
     others = [chr(c) for c in sorted(named - listed - newer - untold - {0xA, 0xD})]
     for form in FORMS:
         wrong = [text for text, made in zip(others, forms_of(others, form)) if text != made]

@@ -3,7 +3,8 @@
 
 A crate stands above all that it uses; a line is left out where a longer way says the same. With --check nothing is
 written: the status is 0 only where the picture is that of crates.txt, no library and no part of the program stands on a
-crate of tests or measurement, and crates/README.md names each crate under the heading of its group, and no other.
+crate of tests or measurement, and crates/README.md names each crate under the heading of its group, and no other; those
+of tests and examples have a line each in CONTRIBUTING.md.
 """
 import os
 import re
@@ -12,6 +13,7 @@ import sys
 ROOT = os.path.join(os.path.dirname(os.path.abspath(__file__)), '..')
 PICTURE = os.path.join(ROOT, 'crates/crates.svg')
 PAGE = os.path.join(ROOT, 'crates/README.md')
+TABLE, TESTS = os.path.join(ROOT, 'CONTRIBUTING.md'), 'tests and examples'
 DRAWN = ('libraries', 'program')
 BOX_HEIGHT, LAYER_HEIGHT, LETTER, GAP, EDGE = 24, 62, 6.7, 16, 12
 
@@ -115,13 +117,16 @@ def faults(groups, uses):
     sections = {title.lower(): text for title, text in zip(parts[1::2], parts[2::2])}
     for group, names in groups.items():
         items = re.findall(r'^- ((?:`[a-z0-9_]+`(?:,\s+(?=`))?)+)', sections.get(group, ''), flags=re.M)
-        named = re.findall(r'`([a-z0-9_]+)`', ' '.join(items))
+        page, named = 'crates/README.md', re.findall(r'`([a-z0-9_]+)`', ' '.join(items))
+        if group == TESTS:
+            page = 'CONTRIBUTING.md'
+            named = re.findall(r'^    ((?:tests|samples|examples)_[a-z0-9_]+)', open(TABLE, encoding='utf-8').read(), flags=re.M)
         for it in names:
             if it not in named:
-                yield f'crates/README.md: {it} is not under "{group}"'
+                yield f'{page}: {it} is not under "{group}"'
         for it in named:
             if it not in names:
-                yield f'crates/README.md: {it} is under "{group}", and not so in crates.txt'
+                yield f'{page}: {it} is under "{group}", and not so in crates.txt'
 
 
 def main():

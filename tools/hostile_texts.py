@@ -3,7 +3,7 @@
 
     tools/hostile_texts.py COLLATE [SPEED] [--only SHAPE..] [--seconds N]
 
-COLLATE is an executable of `collate`: a name of 16, 32 and 64 KB is asked for its key. SPEED is one of `speed_collator`: two
+COLLATE is an executable of `collate`: a name of 16, 32 and 64 KB is asked for its key. SPEED is one of `speed`: two
 such names are compared, alike but for their last character (`alike`), and with an ignorable character before one of them, so
 that both are read from there on (`apart`); and the elements of one are read. It fails where a name twice as long takes more
 than 2.4 times the instructions, or a run more than N seconds (100) under valgrind, or answers otherwise than with a key, an
@@ -130,7 +130,7 @@ class Measured:
         """What one round of a task takes."""
         task, lines, answer = TASKS[title]
         names = self.write('names', ''.join(f'{line}\n' for line in lines(name)))
-        asked = [self.instructions([self.given.speed, records, names, task, str(n)], '', answer + rb'.*\n') for n in ROUNDS]
+        asked = [self.instructions([self.given.speed, 'collator', records, names, task, str(n)], '', answer + rb'.*\n') for n in ROUNDS]
         return None if None in asked else (asked[1] - asked[0]) / (ROUNDS[1] - ROUNDS[0])
 
     def grows(self, title, ask):

@@ -42,6 +42,7 @@ with_executable tools/launcher.sh s/\[ "$sources" = .* || return 1/return 1/
 with_executable tools/launcher.sh s/\[ "$sources" = .* || return 1/true/
 with_executable tools/launcher.sh s/ LARGER=$(larger_limits)//
 with_executable collate s/^    take_word --unicode$/    true/
+with_executable examples/latin.expected s/^names /name /
 with_executable sort_names s/^        words+=("$@")$/        words+=("$1")/
 faults collate s/ && writes_to_pipe; then/; then/
 faults collate s/ && writes_to_pipe; then/ \&\& false; then/

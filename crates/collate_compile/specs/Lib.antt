@@ -5,4 +5,5 @@ pub mod LayerBuilds
 pub mod Layers
 pub mod LineSayings
 pub mod NotedLines
+pub mod Provided
 pub mod SettingBits

@@ -1,4 +1,4 @@
-//! Collation tables, compiled of the lines of a records file.
+//! Collation tables, compiled of the lines of a records file, and a provider of the tables of one file.
 #![tactic(auto)]
 
 mod beginnings;
@@ -11,6 +11,7 @@ pub mod laws;
 mod layer_builder;
 mod layers;
 mod noted_lines;
+pub mod provider;
 mod reordering;
 pub mod set_lines;
 mod settings;

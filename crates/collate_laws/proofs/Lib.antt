@@ -6,3 +6,11 @@ pub mod LawKeyLemmas
 pub mod MadeLemmas
 pub mod LawSoundLemmas
 pub mod UnchangedLemmas
+pub mod FileLemmas
+pub mod FileLawFormLemmas
+pub mod FileLawLineOrderLemmas
+pub mod FileLawSplitLemmas
+pub mod CutFileLemmas
+pub mod NumberLawApartLemmas
+pub mod DotAboveLemmas
+pub mod FileNumberLemmas

@@ -27,7 +27,7 @@ use Rattle.icu_collator.specs.declared.comparison.error.CollatorError.TheVariant
 use Rattle.icu_collator.specs.Loading.{loaded_choices, loaded_local, loaded_shared, loaded_source, loaded_tables, loaded_where}
 use Rattle.icu_collator_types.specs.Options.{resolved_options}
 use Rattle.collate_lines.specs.Record.{Record}
-use Rattle.collate_provider.specs.Provided.{Provided}
+use Rattle.collate_compile.specs.Provided.{Provided}
 use Rattle.collate_records.specs.CompiledOf.{IsCompiledOf}
 use Rattle.collate_records.proofs.maps.AcceptedAllMapsLemmas.{accepted_pairs, accepted_same}
 use Rattle.collate_rules.specs.Accepted.{AreAccepted}

@@ -9,7 +9,7 @@ use Rattle.icu_normalizer_core.specs.CompatibilityMeaning.{CompatibilityTables}
 use Rattle.icu_normalizer_core.specs.Loading.{loaded}
 use Rattle.icu_collator_core.specs.declared.tables.data.CollationData.{CollationData}
 use Rattle.icu_collator_core.specs.declared.tables.reordering.CollationReordering.{CollationReordering}
-use Rattle.collate_provider.specs.Provided.{Provided}
+use Rattle.collate_compile.specs.Provided.{Provided}
 
 -- what the load of a tailoring gives
 abbrev pub tailoring_load : Option CollationData → Result CollationData DataError

@@ -1,4 +1,5 @@
-//! Laws of records files: collators and normalisers over compiled tables are made, and answer straight from the file. Each
+//! Laws of records files: collators and normalisers over compiled tables are made, and answer straight from the file; and,
+//! in the words of the file alone (`files`, `forms`, `line_order`, `numbers`), what an accepted file says of texts. Each
 //! function's contract is the law, and its body is empty.
 #![tactic(auto)]
 
@@ -17,7 +18,7 @@ ghost use Rattle.icu_collator.specs.Order.{collation_order};
 ghost use Rattle.icu_collator.specs.declared.comparison.error.CollatorError.{CollatorError};
 ghost use Rattle.icu_collator.specs.declared.comparison.error.CollatorError.TheVariants.{Memory};
 ghost use Rattle.collate_lines.specs.Record.{Record};
-ghost use Rattle.collate_provider.specs.Provided.{Provided};
+ghost use Rattle.collate_compile.specs.Provided.{Provided};
 ghost use Rattle.collate_records.specs.CompiledOf.{IsCompiledOf};
 ghost use Rattle.collate_rules.specs.Accepted.{AreAccepted};
 ghost use Rattle.collate_rules.specs.Meaning.{collation_of, settings_of};
@@ -25,7 +26,11 @@ ghost use Rattle.collate_laws.specs.Loads.{canonical_loads, compatibility_loads,
 ghost use Rattle.collate_laws.specs.OverRecords.{IsCanonicalNormalizerOf, IsCollatorOf, IsCompatibilityNormalizerOf};
 
 pub mod alike;
+pub mod files;
+pub mod forms;
 pub mod keys;
+pub mod line_order;
+pub mod numbers;
 pub mod unchanged;
 
 /// `Collator::try_new_unstable` over a provider of compiled tables is refused for want of memory alone; else the collator

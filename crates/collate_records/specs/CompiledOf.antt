@@ -12,7 +12,7 @@ use Rattle.icu_collator_core.specs.TableMeaning.{collation_of as collation_of_ta
 use Rattle.icu_collator_core.specs.TableSettings.{has_bit}
 use Rattle.icu_collator_core.specs.WholeLeads.{MovesOnlyWholeLeads}
 use Rattle.collate_lines.specs.Record.{Record}
-use Rattle.collate_provider.specs.Provided.{Provided}
+use Rattle.collate_compile.specs.Provided.{Provided}
 use Rattle.collate_records.specs.Maps.{AreWordsOf, maps_of}
 use Rattle.collate_rules.specs.Meaning.{collation_of, weights_of}
 

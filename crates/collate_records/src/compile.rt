@@ -6,8 +6,8 @@ ghost use Rattle.collate_records.specs.CompiledOf.{IsCompiledOf};
 
 use crate::compatibility_data::compatibility_data;
 use crate::records::Records;
+use collate_compile::provider::Provider;
 use collate_compile::tables::compile_tables;
-use collate_provider::Provider;
 use icu_codepointtrie::TrieType;
 use std::alloc::{AllocError, Global};
 

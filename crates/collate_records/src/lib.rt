@@ -4,8 +4,8 @@
 //! `collate_weight_rules` and `collate_record_rules`.
 #![tactic(auto)]
 
+pub use collate_compile::provider;
 pub use collate_lines::{limits, record, rule};
-pub use collate_provider as provider;
 
 mod canonical_data;
 mod changes;

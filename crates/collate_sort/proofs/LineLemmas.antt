@@ -11,7 +11,7 @@ use Rattle.icu_collator_types.specs.declared.options.CollatorOptions.{CollatorOp
 use Rattle.icu_collator_types.specs.declared.options.CollatorPreferences.{CollatorPreferences}
 use Rattle.icu_collator.specs.KeyBytes.{key_of_text}
 use Rattle.icu_collator.specs.Order.{collation_order}
-use Rattle.collate_file_laws.specs.Files.{HasPlainLeads, file_options, file_order}
+use Rattle.collate_laws.specs.Files.{HasPlainLeads, file_options, file_order}
 use Rattle.collate_index.specs.Meaning.{meaning_of, name_order, order_by}
 use Rattle.collate_index.proofs.order.NameOrderLemmas.{keys_order_in_index, order_total}
 use Rattle.collate_keyed_lines.specs.KeyedLines.{KeyedLine, key_order, turned}

@@ -6,7 +6,7 @@ ghost use Rattle.std.specs.List.Sorted.{IsPermutation, IsSorted, IsStable};
 ghost use Rattle.icu_normalizer_core.specs.Decoding.{utf8_chars};
 ghost use Rattle.icu_collator_types.specs.declared.options.CollatorOptions.{CollatorOptions};
 ghost use Rattle.icu_collator_types.specs.declared.options.CollatorPreferences.{CollatorPreferences};
-ghost use Rattle.collate_file_laws.specs.Files.{HasPlainLeads, file_order};
+ghost use Rattle.collate_laws.specs.Files.{HasPlainLeads, file_order};
 ghost use Rattle.collate_keyed_lines.specs.KeyedLines.{turned};
 ghost use Rattle.collate_keyed_lines.specs.declared.direction.Direction.{Direction};
 ghost use Rattle.collate_lines.specs.Lines.{records_of};

@@ -31,7 +31,7 @@ use Rattle.collate_rules.specs.Meaning.{collation_of, settings_of}
 use Rattle.collate_laws.specs.OverRecords.{IsCollatorOf}
 use Rattle.collate_laws.proofs.LawAnswerLemmas.{keys, orders}
 use Rattle.collate_laws.proofs.LawFormLemmas.{accepted_canonical}
-use Rattle.collate_file_laws.specs.Files.{IsAsGood, file_canonical, file_order}
+use Rattle.collate_laws.specs.Files.{IsAsGood, file_canonical, file_order}
 use Rattle.examples_uses.proofs.UseAnswerLemmas.{ok_gives}
 
 -- records that were read are those of an accepted file

@@ -1,13 +1,13 @@
 //! Texts of every encoding, compared by the bytes of a records file.
 ghost use Rattle.std.specs.Prelude.{◌≡◌, IfSome};
 ghost use Rattle.icu_normalizer_core.specs.Decoding.{latin1_chars, utf16_chars, utf8_chars};
-ghost use Rattle.collate_file_laws.specs.Files.{file_order};
+ghost use Rattle.collate_laws.specs.Files.{file_order};
 ghost use Rattle.collate_laws.specs.OverRecords.{IsCollatorOf};
 ghost use Rattle.collate_lines.specs.Lines.{records_of};
 ghost use Rattle.collate_records.specs.Files.{IsAccepted};
 
-use collate_file_laws::files::collators_answer_as_the_file_says;
 use collate_index::collators::collator_of;
+use collate_laws::files::collators_answer_as_the_file_says;
 use collate_records::records::Records;
 use icu_collator::laws::collators::characters_are_scalars;
 use icu_collator::options::CollatorOptions;

@@ -3,14 +3,14 @@
 ghost use Rattle.std.specs.Prelude.{◌≡◌, ◌↔◌, IfSome, IsTrue};
 ghost use Rattle.icu_normalizer.specs.Equivalence.{IsEquivalent};
 ghost use Rattle.icu_normalizer_core.specs.Decoding.{latin1_chars, utf16_chars, utf8_chars};
-ghost use Rattle.collate_file_laws.specs.Files.{file_canonical, with_strength};
+ghost use Rattle.collate_laws.specs.Files.{file_canonical, with_strength};
 ghost use Rattle.collate_records.specs.Files.{IsAccepted};
 
 use crate::collations::order_by_file;
 use crate::comparisons::{
     bytes_order_by_file, latin1_order_by_file, latin1_units_order_by_file, units_order_by_file,
 };
-use collate_file_laws::files::equal_by_a_file_is_equivalence;
+use collate_laws::files::equal_by_a_file_is_equivalence;
 use icu_collator::CollatorPreferences;
 use icu_collator::laws::collators::characters_are_scalars;
 use icu_collator::options::CollatorOptions;

@@ -4,11 +4,11 @@ ghost use Rattle.std.specs.Cmp.Lexicographic.{slice_cmp};
 ghost use Rattle.std.specs.Ordering.{nat_cmp};
 ghost use Rattle.icu_normalizer_core.specs.Decoding.{utf8_chars};
 ghost use Rattle.icu_collator.specs.CollatorAnswers.{key_by};
-ghost use Rattle.collate_file_laws.specs.Files.{HasPlainLeads, file_order};
+ghost use Rattle.collate_laws.specs.Files.{HasPlainLeads, file_order};
 ghost use Rattle.collate_records.specs.Files.{IsAccepted};
 
 use crate::comparisons::collator_by_file;
-use collate_file_laws::files::{collators_answer_as_the_file_says, file_keys_order_as_texts};
+use collate_laws::files::{collators_answer_as_the_file_says, file_keys_order_as_texts};
 use icu_collator::laws::collators::characters_are_scalars;
 use icu_collator::options::CollatorOptions;
 use icu_collator::{CollatorBorrowed, CollatorPreferences};

@@ -5,13 +5,13 @@ ghost use Rattle.icu_normalizer.specs.TextForms.{composed_text, decomposed_text}
 ghost use Rattle.icu_collator_types.specs.Options.{resolved_options};
 ghost use Rattle.icu_collator.specs.KeyBytes.{key_of_text};
 ghost use Rattle.icu_collator.specs.Order.{collation_order};
-ghost use Rattle.collate_file_laws.specs.Files.{file_key, file_order};
+ghost use Rattle.collate_laws.specs.Files.{file_key, file_order};
 ghost use Rattle.collate_records.specs.Files.{IsAccepted};
 ghost use Rattle.collate_rules.specs.Meaning.{canonical_of, collation_of, settings_of};
 
-use collate_file_laws::files::normalising_first_is_as_good;
 use collate_index::collators::collator_of;
 use collate_laws::alike::normalizers_give_forms_of_records;
+use collate_laws::files::normalising_first_is_as_good;
 use collate_laws::{
     collators_order_as_records_say, collators_write_keys_of_records,
     compiled_tables_make_canonical_normalizers,

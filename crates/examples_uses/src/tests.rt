@@ -236,6 +236,14 @@ fn ok_are_equivalent_by_file(rt: HostRuntime) {
         &split,
     );
     assert_eq!(rt; units, Some(true));
+}
+
+#[test]
+fn ok_latin1_are_equivalent_by_file(rt: HostRuntime) {
+    let alloc = rt.alloc();
+    let preferences = CollatorPreferences::default();
+    let options = CollatorOptions::default();
+    let split = [0x61, 0x301];
     let latin1 = equivalence::latin1_are_equivalent_by_file(
         alloc,
         FILE,

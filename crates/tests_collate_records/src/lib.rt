@@ -6,6 +6,8 @@ mod changes;
 #[cfg(test)]
 mod compile;
 #[cfg(test)]
+mod first_lines;
+#[cfg(test)]
 mod join;
 #[cfg(test)]
 mod limits;
@@ -15,3 +17,5 @@ mod reader;
 mod records;
 #[cfg(test)]
 mod rules;
+#[cfg(test)]
+mod written_words;

@@ -18,7 +18,7 @@ use crate::script::halves;
 use crate::sinks::sink_of;
 use icu_collator::{Collator, CollatorBorrowed};
 use icu_collator_types::options::{CollatorOptions, CollatorPreferences};
-use samples_compiled::held::HeldCollation;
+use samples_icu_collator::held::HeldCollation;
 use std::alloc::Global;
 
 /// The answer how two texts order.

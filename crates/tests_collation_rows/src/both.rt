@@ -1,8 +1,8 @@
 //! What is compiled with tries of both types, and answers over both.
 
 use icu_codepointtrie::TrieType;
-use samples_compiled::compiled::held_tables;
-use samples_compiled::held::HeldCollation;
+use samples_icu_collator::compiled::held_tables;
+use samples_icu_collator::held::HeldCollation;
 use std::alloc::Global;
 
 /// Providers of the tables of the same records.

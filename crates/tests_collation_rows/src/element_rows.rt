@@ -10,10 +10,10 @@ use crate::both::print_answers;
 use crate::script::halves;
 use icu_codepointtrie::TrieType;
 use icu_collator_core::checked::CheckedTables;
-use samples_compiled::compiled::checked_tables;
-use samples_compiled::plain::plain_elements;
-use samples_compiled::plain::recorded::Tables;
-use samples_compiled::read::read_elements;
+use samples_icu_collator::compiled::checked_tables;
+use samples_icu_collator::plain::plain_elements;
+use samples_icu_collator::plain::recorded::Tables;
+use samples_icu_collator::read::read_elements;
 use std::alloc::Global;
 
 /// Elements, or a stroke for none.

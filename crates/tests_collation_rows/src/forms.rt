@@ -5,7 +5,7 @@ use crate::asked_texts::{bytes, shown, units};
 use crate::both::{Both, held_both, print_answers};
 use icu_normalizer::composing::{ComposingNormalizer, ComposingNormalizerBorrowed};
 use icu_normalizer::decomposing::{DecomposingNormalizer, DecomposingNormalizerBorrowed};
-use samples_compiled::held::HeldCollation;
+use samples_icu_collator::held::HeldCollation;
 use std::alloc::Global;
 
 /// Units in hexadecimal.

@@ -17,7 +17,7 @@ use icu_collator_core::tables::{CollationJamo, CollationReordering, CollationTab
 use icu_collator_types::options::{CollatorOptions, CollatorPreferences};
 use icu_normalizer_core::canonical::CanonicalTables;
 use icu_packed_vector::PackedVec;
-use samples_compiled::held::{HeldCollation, Lacking};
+use samples_icu_collator::held::{HeldCollation, Lacking};
 use std::alloc::Global;
 
 /// The number that a word is.

@@ -7,10 +7,10 @@ use icu_collator::{Collator, CollatorBorrowed, CollatorError};
 use icu_collator_core::checked::CheckedTables;
 use icu_collator_core::tables::CollationTables;
 use icu_normalizer_core::canonical::{CanonicalData, CanonicalTables};
-use samples_compiled::held::HeldCollation;
-use samples_plain_forms::encoded_texts::{Encoded, LATIN1_TEXTS, TEXTS};
-use samples_plain_orders::levels::order_of_levels;
-use samples_plain_orders::unsafe_characters::{Both, is_plainly_unsafe, unsafe_by_records};
+use samples_icu_collator::held::HeldCollation;
+use samples_icu_collator::levels::order_of_levels;
+use samples_icu_collator::unsafe_characters::{Both, is_plainly_unsafe, unsafe_by_records};
+use samples_icu_normalizer::encoded_texts::{Encoded, LATIN1_TEXTS, TEXTS};
 use std::alloc::Global;
 use std::cmp::Ordering;
 

@@ -5,9 +5,9 @@ use icu_normalizer::composing::{ComposingNormalizer, ComposingNormalizerBorrowed
 use icu_normalizer::decomposing::{DecomposingNormalizer, DecomposingNormalizerBorrowed};
 use icu_normalizer_core::canonical::CanonicalTables;
 use icu_normalizer_core::provider::DataError;
-use samples_compiled::held::HeldCollation;
-use samples_plain_forms::canonical::{composed, decomposed};
-use samples_plain_forms::encoded_texts::{Encoded, TEXTS, characters, in_each_encoding};
+use samples_icu_collator::held::HeldCollation;
+use samples_icu_normalizer::canonical::{composed, decomposed};
+use samples_icu_normalizer::encoded_texts::{Encoded, TEXTS, characters, in_each_encoding};
 use std::alloc::Global;
 
 /// A text, and its forms by what the tables mean.

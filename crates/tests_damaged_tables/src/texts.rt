@@ -4,15 +4,15 @@ use crate::choices::Choice;
 use icu_collator_core::checked::CheckedTables;
 use icu_collator_core::tables::CollationTables;
 use icu_normalizer_core::canonical::CanonicalTables;
-use samples_compiled::plain::plain_elements;
-use samples_compiled::plain::recorded::Tables;
-use samples_compiled::read::read_elements;
-use samples_plain_forms::canonical::decomposed;
-use samples_plain_forms::encoded_texts::{
+use samples_icu_collator::keys::key_of_levels;
+use samples_icu_collator::levels::{Levels, levels_of};
+use samples_icu_collator::plain::plain_elements;
+use samples_icu_collator::plain::recorded::Tables;
+use samples_icu_collator::read::read_elements;
+use samples_icu_normalizer::canonical::decomposed;
+use samples_icu_normalizer::encoded_texts::{
     Encoded, LATIN1_TEXTS, TEXTS, characters, in_each_encoding, latin1_characters,
 };
-use samples_plain_orders::keys::key_of_levels;
-use samples_plain_orders::levels::{Levels, levels_of};
 use std::alloc::Global;
 
 /// A text as it is read by tables.

@@ -6,8 +6,8 @@ use icu_codepointtrie::{CodePointTrie, TrieType};
 use icu_collator_core::tables::{CollationData, CollationReordering, CollationTables};
 use icu_normalizer_core::canonical::CanonicalTables;
 use icu_packed_vector::{PackedItem, PackedVec};
-use samples_compiled::compiled::held_tables;
-use samples_compiled::held::HeldCollation;
+use samples_icu_collator::compiled::held_tables;
+use samples_icu_collator::held::HeldCollation;
 use std::alloc::Global;
 
 /// Records with each form of word, in the root and in a tailoring: of one element in three ways, of more in two, digits, a

@@ -6,9 +6,9 @@ use icu_collator_core::check::TableFault;
 use icu_collator_core::checked::CheckedTables;
 use icu_collator_core::tables::CollationTables;
 use icu_normalizer_core::canonical::{CanonicalBorrowed, CanonicalData, CanonicalDataError};
-use samples_compiled::plain::plain_elements;
-use samples_compiled::plain::recorded::Tables;
-use samples_compiled::read::read_elements;
+use samples_icu_collator::plain::plain_elements;
+use samples_icu_collator::plain::recorded::Tables;
+use samples_icu_collator::read::read_elements;
 use std::alloc::Global;
 
 /// Texts that read all that the good tables say.

@@ -5,7 +5,7 @@ use crate::forms::tell_forms;
 use crate::keys::tell_keys;
 use crate::orders::tell_orders;
 use crate::told::made;
-use collate_provider::Provider;
+use collate_compile::provider::Provider;
 use collate_records::compile::compile;
 use collate_records::records::Records;
 use icu_codepointtrie::TrieType;

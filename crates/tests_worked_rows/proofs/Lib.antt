@@ -13,3 +13,7 @@ pub mod Settings
 pub mod Defaults
 pub mod Damaged
 pub mod Lists
+pub mod KeyRowComputing
+pub mod KeyWeightRows
+pub mod KeyRowNumbers
+pub mod SoundEmpty

@@ -15,7 +15,7 @@ use Rattle.icu_collator_core.specs.declared.check.TableFault.TheVariants.{Memory
 use Rattle.icu_collator_core.specs.declared.tables.CollationTables.{CollationTables}
 use Rattle.icu_collator.specs.Collators.{CollatorParts}
 use Rattle.collate_lines.specs.Record.{Record}
-use Rattle.collate_provider.specs.Provided.{Provided}
+use Rattle.collate_compile.specs.Provided.{Provided}
 use Rattle.collate_records.specs.CompiledOf.{IsCompiledOf}
 use Rattle.collate_records.proofs.maps.AcceptedAllMapsLemmas.{accepted_pairs, accepted_same}
 use Rattle.collate_rules.specs.Accepted.{AreAccepted}

@@ -6,7 +6,7 @@ use Rattle.icu_normalizer_core.specs.CanonicalMeaning.{lists_of, meaning}
 use Rattle.icu_normalizer_core.specs.CompatibilityMaps.{AreAcceptedOver}
 use Rattle.icu_normalizer_core.specs.CompatibilityMeaning.{nfkd_lists}
 use Rattle.collate_lines.specs.Record.{Record}
-use Rattle.collate_provider.specs.Provided.{Provided}
+use Rattle.collate_compile.specs.Provided.{Provided}
 use Rattle.collate_rules.specs.Accepted.{AreAccepted}
 use Rattle.collate_compile.specs.Compiled.{AreCompiledFrom}
 use Rattle.collate_compile.proofs.laws.AcceptedLemmas.{compiled_accepted}

@@ -3,7 +3,7 @@ use Rattle.std.proofs.Common.{◌≡◌, ◌∙◌, ◌+◌, ◌<◌, ◌≤◌,
 use Rattle.std.specs.Prelude.{IfSome}
 use Rattle.std.proofs.lemmas.Bool.{cases_lt}
 use Rattle.std.proofs.lemmas.List.{take-append-le}
-use Rattle.collate_file_laws.proofs.CutFileLemmas.{cut_read}
+use Rattle.collate_laws.proofs.CutFileLemmas.{cut_read}
 use Rattle.collate_lines.specs.Lines.{records_of}
 use Rattle.collate_lines.specs.Record.{Record}
 use Rattle.collate_lines.specs.declared.limits.Limits.{Limits}

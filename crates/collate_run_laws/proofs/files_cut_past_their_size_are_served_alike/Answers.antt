@@ -1,4 +1,4 @@
-use Rattle.collate_file_laws.proofs.CutFileLemmas.{cut_read}
+use Rattle.collate_laws.proofs.CutFileLemmas.{cut_read}
 use Rattle.collate_run_laws.proofs.files_cut_past_their_size_are_served_alike.Goals as goal
 
 pub returns : goal.returns

@@ -4,7 +4,7 @@ use Rattle.icu_normalizer_core.specs.Decoding.{latin1_chars}
 use Rattle.icu_normalizer.specs.Equivalence.{IsEquivalent}
 use Rattle.icu_collator_types.specs.declared.options.CollatorOptions.{CollatorOptions}
 use Rattle.collate_lines.specs.Limits.{standard}
-use Rattle.collate_file_laws.specs.Files.{file_canonical, file_options, file_order}
+use Rattle.collate_laws.specs.Files.{file_canonical, file_options, file_order}
 use Rattle.examples_uses.proofs.UseAnswerLemmas.{tells_equal}
 use Rattle.examples_uses.proofs.equivalence.latin1_are_equivalent_by_file.Goals as goal
 

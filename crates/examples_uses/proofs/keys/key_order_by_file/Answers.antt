@@ -4,7 +4,7 @@ use Rattle.std.specs.Ordering.{nat_cmp}
 use Rattle.icu_normalizer_core.specs.Decoding.{utf8_chars}
 use Rattle.icu_collator.specs.CollatorAnswers.{key_by}
 use Rattle.collate_lines.specs.Limits.{standard}
-use Rattle.collate_file_laws.specs.Files.{file_key}
+use Rattle.collate_laws.specs.Files.{file_key}
 use Rattle.examples_uses.proofs.keys.key_order_by_file.Goals as goal
 
 pub returns-clause-accepted : goal.returns-clause-accepted

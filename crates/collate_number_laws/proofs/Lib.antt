@@ -1,3 +1,0 @@
-pub mod NumberLawApartLemmas
-pub mod DotAboveLemmas
-pub mod FileNumberLemmas

@@ -1,4 +1,0 @@
-pub mod KeyRowComputing
-pub mod KeyWeightRows
-pub mod KeyRowNumbers
-pub mod SoundEmpty
