@@ -2,7 +2,7 @@
 
 use icu_codepointtrie::TrieType;
 use icu_collator_core::checked::CheckedTables;
-use icu_collator_core::flat::FlatElements;
+use icu_collator_core::flat::{FlatElements, StretchedElements};
 use icu_collator_types::elements::CollationElement;
 use samples_icu_collator::compiled::checked_tables;
 use std::alloc::Global;
@@ -130,6 +130,50 @@ fn ok_read_stretches(rt: HostRuntime) {
         )
     );
     assert!(rt; !has_stretches(alloc, "bcaaa", &[0x2a40_0000_0500_0500]));
+}
+
+/// Whether a text is read on in two steps, with these elements behind the first, and these at its end.
+fn is_read_on(alloc: Global, text: &str, first: &[u64], whole: &[u64]) -> bool {
+    let Some(checked) = checked_tables(alloc, RECORDS, TrieType::Small) else {
+        return false;
+    };
+    let mut elements = StretchedElements::new(alloc);
+    let Ok((true, rest)) = checked.read_on(None, text.chars(), &mut elements) else {
+        return false;
+    };
+    if elements.is_ended() || !are(elements.settled(), first) {
+        return false;
+    }
+    let Ok((true, _rest)) = checked.read_on(None, rest, &mut elements) else {
+        return false;
+    };
+    elements.is_ended() && are(elements.settled(), whole)
+}
+
+#[test]
+fn ok_read_on(rt: HostRuntime) {
+    let alloc = rt.alloc();
+    assert!(rt;
+        is_read_on(
+            alloc,
+            "abc",
+            &[0x2a10_0000_0500_0500],
+            &[0x2a10_0000_0500_0500, 0x2a40_0000_0500_0500]
+        )
+    );
+    assert!(rt;
+        is_read_on(
+            alloc,
+            "a\u{300}\u{316}a",
+            &[0x2a10_0000_0500_0500, 0x8800_0500, 0x8600_0500],
+            &[
+                0x2a10_0000_0500_0500,
+                0x8800_0500,
+                0x8600_0500,
+                0x2a10_0000_0500_0500
+            ]
+        )
+    );
 }
 
 #[test]
