@@ -132,7 +132,7 @@ fn ok_read_stretches(rt: HostRuntime) {
     assert!(rt; !has_stretches(alloc, "bcaaa", &[0x2a40_0000_0500_0500]));
 }
 
-/// Whether a text is read on in two steps, with these elements behind the first, and these at its end.
+/// Whether a text is read on in three steps: these elements stand behind the first, these behind the second, and at its end.
 fn is_read_on(alloc: Global, text: &str, first: &[u64], whole: &[u64]) -> bool {
     let Some(checked) = checked_tables(alloc, RECORDS, TrieType::Small) else {
         return false;
@@ -142,6 +142,12 @@ fn is_read_on(alloc: Global, text: &str, first: &[u64], whole: &[u64]) -> bool {
         return false;
     };
     if elements.is_ended() || !are(elements.settled(), first) {
+        return false;
+    }
+    let Ok((true, rest)) = checked.read_on(None, rest, &mut elements) else {
+        return false;
+    };
+    if elements.is_ended() || !are(elements.settled(), whole) {
         return false;
     }
     let Ok((true, _rest)) = checked.read_on(None, rest, &mut elements) else {
@@ -165,7 +171,7 @@ fn ok_read_on(rt: HostRuntime) {
         is_read_on(
             alloc,
             "a\u{300}\u{316}a",
-            &[0x2a10_0000_0500_0500, 0x8800_0500, 0x8600_0500],
+            &[0x2a10_0000_0500_0500],
             &[
                 0x2a10_0000_0500_0500,
                 0x8800_0500,
