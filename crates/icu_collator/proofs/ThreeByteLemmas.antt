@@ -1,5 +1,5 @@
 -- Characters that three bytes of UTF-8 spell.
-use Rattle.std.proofs.Common.{◌≡◌, ℕ, ◌+◌, ◌-◌, ◌*◌, ◌/◌, ◌%◌, ◌<◌, ◌≤◌, true, List, [], ◌∷◌, ◌++◌, le-ltb, lt-ltb, refl, sym, ap, ap₂, ◌∙◌, arith, append-nil}
+use Rattle.std.proofs.Common.{◌≡◌, ℕ, ◌+◌, ◌-◌, ◌*◌, ◌/◌, ◌%◌, ◌<◌, ◌≤◌, true, List, [], ◌∷◌, ◌++◌, le-ltb, lt-ltb, refl, sym, ap, ap₂, drop, ◌∙◌, arith, append-nil}
 use Rattle.std.proofs.lemmas.Bool.{and_from, cond-false, cond-true}
 use Rattle.std.specs.Char.{IsScalar, encode_utf8}
 use lib.Utf8.{scalar}
@@ -26,3 +26,11 @@ three_spell lead next last c after a b d f g h e low known =
     let high : c < 0x1_0000 = omega (arith, e) in
     ap (λ l. utf8_chars (l ++ after)) (sym (append-nil (encode_utf8 c) ∙ three_bytes lead next last c a d f g h e low high))
     ∙ lossy_chars-front (c ∷ []) after (and_from (scalar c) true known refl)
+
+-- bytes whose first three, one behind another, spell a character: this one, and those of the bytes behind
+pub three_begin : (bytes rest behind after : List ℕ) (lead next last c : ℕ) → bytes ≡ lead ∷ rest → rest ≡ next ∷ behind → behind ≡ last ∷ after
+    → 0xE0 ≤ lead → lead < 0xF0 → 0x80 ≤ next → next < 0xC0 → 0x80 ≤ last → last < 0xC0
+    → c ≡ ((lead - 0xE0) * 0x40 + (next - 0x80)) * 0x40 + (last - 0x80) → 0x800 ≤ c → IsScalar c → utf8_chars bytes ≡ c ∷ utf8_chars (drop 3 bytes)
+three_begin bytes rest behind after lead next last c first_is second_is third_is a b d f g h e low known =
+    let whole : bytes ≡ lead ∷ next ∷ last ∷ after = first_is ∙ ap (λ l. lead ∷ l) (second_is ∙ ap (λ l. next ∷ l) third_is) in
+    ap utf8_chars whole ∙ three_spell lead next last c after a b d f g h e low known ∙ ap (λ l. c ∷ utf8_chars l) (sym (ap (drop 3) whole))
